@@ -1,0 +1,45 @@
+-- The flags of a mode are different bits, so that joining them adds them.
+use Rattle.std.proofs.Common.{◌≡◌, ℕ, ◌+◌, Bool, true, false, bit_or, refl}
+use Rattle.attr_glob.specs.Patterns.{set_where, no_sub_dir, ends_with, must_be_dir, negative, absolute}
+
+abbrev joined : Bool → Bool → Bool → Bool → Bool → ℕ
+joined a b c d e =
+    bit_or (bit_or (bit_or (bit_or (set_where a no_sub_dir) (set_where b ends_with)) (set_where c must_be_dir)) (set_where d negative)) (set_where e absolute)
+
+abbrev added : Bool → Bool → Bool → Bool → Bool → ℕ
+added a b c d e =
+    set_where a no_sub_dir + set_where b ends_with + set_where c must_be_dir + set_where d negative + set_where e absolute
+
+pub joined_flags : (a b c d e : Bool) → joined a b c d e ≡ added a b c d e
+joined_flags true true true true true = refl
+joined_flags true true true true false = refl
+joined_flags true true true false true = refl
+joined_flags true true true false false = refl
+joined_flags true true false true true = refl
+joined_flags true true false true false = refl
+joined_flags true true false false true = refl
+joined_flags true true false false false = refl
+joined_flags true false true true true = refl
+joined_flags true false true true false = refl
+joined_flags true false true false true = refl
+joined_flags true false true false false = refl
+joined_flags true false false true true = refl
+joined_flags true false false true false = refl
+joined_flags true false false false true = refl
+joined_flags true false false false false = refl
+joined_flags false true true true true = refl
+joined_flags false true true true false = refl
+joined_flags false true true false true = refl
+joined_flags false true true false false = refl
+joined_flags false true false true true = refl
+joined_flags false true false true false = refl
+joined_flags false true false false true = refl
+joined_flags false true false false false = refl
+joined_flags false false true true true = refl
+joined_flags false false true true false = refl
+joined_flags false false true false true = refl
+joined_flags false false true false false = refl
+joined_flags false false false true true = refl
+joined_flags false false false true false = refl
+joined_flags false false false false true = refl
+joined_flags false false false false false = refl

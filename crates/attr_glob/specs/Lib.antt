@@ -1,0 +1,5 @@
+pub mod Bytes
+pub mod Patterns
+pub mod Quotes
+pub mod Refusals
+pub mod Views

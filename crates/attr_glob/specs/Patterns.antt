@@ -1,0 +1,111 @@
+-- How a pattern text is read (own, within the forms of the gitignore page).
+use Rattle.std.specs.Prelude.{ℕ, ◌+◌, ◌-◌, Bool, not, ◌&&◌, ◌||◌, ◌==◌, List, [], ◌∷◌, ◌++◌, length, take, drop, slice_index, Option, Some, None, if◌then◌else◌, position}
+use Rattle.std.specs.List.{list_all, list_any}
+use Rattle.std.specs.Int.RustNames.{bit_and}
+use Rattle.attr_glob.specs.Bytes.{backslash, slash, star, question_mark, bracket, bang, hash}
+
+-- what is read of a pattern text: the text that is left, the sum of the mode's flags, and the place of the first wildcard
+pub record Reading : Type 0 where
+  pub text : List ℕ
+  pub mode : ℕ
+  pub wildcard : Option ℕ
+
+-- the flags of a mode: no slash is left in the text
+abbrev pub no_sub_dir : ℕ
+no_sub_dir = 1
+
+-- the text is a star and bytes without a wildcard
+abbrev pub ends_with : ℕ
+ends_with = 2
+
+-- a slash stood at the end
+abbrev pub must_be_dir : ℕ
+must_be_dir = 4
+
+-- an exclamation mark stood in front
+abbrev pub negative : ℕ
+negative = 8
+
+-- a slash stood in front
+abbrev pub absolute : ℕ
+absolute = 16
+
+-- a space, a tab, a line feed, a form feed or a carriage return
+abbrev pub is_space : ℕ → Bool
+is_space byte = byte == 32 || byte == 9 || byte == 10 || byte == 12 || byte == 13
+
+-- `*`, `?`, `[` or a backslash
+abbrev pub is_wildcard : ℕ → Bool
+is_wildcard byte = byte == star || byte == question_mark || byte == bracket || byte == backslash
+
+abbrev pub is_slash : ℕ → Bool
+is_slash byte = byte == slash
+
+-- the byte in front, and 0 of an empty text
+abbrev pub first : List ℕ → ℕ
+first text = slice_index text 0
+
+-- a `!` stands in front
+abbrev pub is_negated : List ℕ → Bool
+is_negated text = first text == bang
+
+-- `\!` or `\#` stands in front
+abbrev pub is_escaped : List ℕ → Bool
+is_escaped text = first text == backslash && (slice_index text 1 == bang || slice_index text 1 == hash)
+
+-- without the `!` in front, or without the backslash of `\!` or `\#`
+abbrev pub without_negation : List ℕ → List ℕ
+without_negation text = if is_negated text || is_escaped text then drop 1 text else text
+
+-- without the `/` in front
+abbrev pub without_root : List ℕ → List ℕ
+without_root text = if is_slash (first text) then drop 1 text else text
+
+abbrev pub ends_in_slash : List ℕ → Bool
+ends_in_slash text = is_slash (slice_index text (length text - 1))
+
+-- without the `/` at the end
+abbrev pub without_end : List ℕ → List ℕ
+without_end text = if ends_in_slash text then take (length text - 1) text else text
+
+-- a `*`, and behind it no wildcard
+abbrev pub is_suffix : List ℕ → Bool
+is_suffix text = first text == star && not (list_any is_wildcard (drop 1 text))
+
+-- a flag where it is set, and nothing else
+abbrev pub set_where : Bool → ℕ → ℕ
+set_where is_set flag = if is_set then flag else 0
+
+-- what is read behind the negation
+abbrev pub read_rest : Bool → List ℕ → Reading
+read_rest negated rest =
+    let below = without_root rest in
+    let text = without_end below in
+    record {
+      text = text;
+      mode = set_where (not (list_any is_slash text)) no_sub_dir
+          + set_where (is_suffix text) ends_with
+          + set_where (ends_in_slash below) must_be_dir
+          + set_where negated negative
+          + set_where (is_slash (first rest)) absolute;
+      wildcard = position is_wildcard text;
+    }
+
+-- what is read of a pattern text, and none of one that has nothing but space behind its negation
+abbrev pub reading : List ℕ → Option Reading
+reading text =
+    if list_all is_space (without_negation text) then None
+    else Some (read_rest (is_negated text) (without_negation text))
+
+-- a flag is set in a mode
+abbrev pub has_flag : ℕ → ℕ → Bool
+has_flag mode flag = bit_and mode flag == flag
+
+-- a byte where its flag is set
+abbrev pub mark_where : Bool → ℕ → List ℕ
+mark_where is_set byte = if is_set then byte ∷ [] else []
+
+-- a pattern as a pattern text: the marks that its mode stands for, around its text
+abbrev pub written : Reading → List ℕ
+written r =
+    mark_where (has_flag r.mode negative) bang ++ mark_where (has_flag r.mode absolute) slash ++ r.text ++ mark_where (has_flag r.mode must_be_dir) slash

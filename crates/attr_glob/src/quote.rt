@@ -1,0 +1,3 @@
+//! Quoted texts.
+
+pub mod ansi_c;

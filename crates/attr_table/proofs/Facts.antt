@@ -1,0 +1,131 @@
+-- What holds at each point of a walk.
+use Rattle.std.proofs.Common.{◌≡◌, ℕ, ◌⊎◌, List, Option, Some, None, refl, inl, inr, ⊎_elim, Bool, false}
+use Rattle.std.specs.Prelude.{Contains}
+use Rattle.attr_table.specs.Setting.{Item, Setting, Answer}
+use Rattle.attr_table.specs.Table.{Occurrence, Root, Inside, Table, Slots, item_at, IsEarlier, IsReached, IsLive, IsStable}
+use Rattle.attr_table.specs.Cut.{full_answer}
+use Rattle.attr_table.proofs.Listed.{Mem, IsOrdered}
+use Rattle.attr_table.proofs.Order.{Below}
+use Rattle.attr_table.proofs.Stable.{some_or_none, entry_is, answered}
+use Rattle.attr_table.proofs.Nodes.{Node, IsNode, PartsAt, nodes_of, root_in, root_node, roots_ordered}
+
+-- a node stands at an occurrence
+abbrev pub Waits : Occurrence → List Node → Type 0
+Waits o nodes = (n : Node) × Mem n nodes × (n.place ≡ o)
+
+-- a node stands at an occurrence, or above it
+abbrev pub Covers : List Node → Occurrence → Type 0
+Covers nodes o = (n : Node) × Mem n nodes × ((n.place ≡ o) ⊎ Below n.place o)
+
+-- an attribute is settled by the start, or by an entry that is not later than an occurrence
+abbrev pub IsSettled : Slots → Table → Occurrence → ℕ → Type 0
+IsSettled start table o a =
+    ((x : Answer) × (start a ≡ Some x))
+    ⊎ ((p : Occurrence) × (table a ≡ Some p) × ((p ≡ o) ⊎ IsEarlier p o))
+
+-- an entry is live, was free at the start, and comes before all that waits
+pub record IsEntry (s : Setting) (start : Slots) (table : Table) (nodes : List Node) (a : ℕ) (o : Occurrence) : Type 0 where
+  pub item : Item
+  pub live : IsLive s table o item
+  pub of : item.attribute ≡ a
+  pub free : start a ≡ None
+  pub first : (n : Node) → Mem n nodes → IsEarlier o n.place
+
+-- all entries are in another table
+abbrev pub IsWithin : Table → Table → Type 0
+IsWithin table other = (a : ℕ) (o : Occurrence) → table a ≡ Some o → other a ≡ Some o
+
+-- what is known of each stable table: it has the entries so far, and what waits covers its others
+pub record Agrees (other table : Table) (nodes : List Node) : Type 0 where
+  pub within : IsWithin table other
+  pub covered : (a : ℕ) (o : Occurrence) → other a ≡ Some o → (table a ≡ Some o) ⊎ Covers nodes o
+
+-- the walk is not done, or has no entry yet, or its latest entry is that of a wanted attribute
+abbrev pub IsLast : (Slots → Bool) → List ℕ → Table → Slots → Type 0
+IsLast done wanted table slots =
+    (done slots ≡ false)
+    ⊎ (((a : ℕ) → table a ≡ None)
+    ⊎ ((w : ℕ) × (p : Occurrence) × Contains wanted w × (table w ≡ Some p)
+    × ((a : ℕ) (o : Occurrence) → table a ≡ Some o → (o ≡ p) ⊎ IsEarlier o p)))
+
+pub record Facts (s : Setting) (start : Slots) (done : Slots → Bool) (wanted : List ℕ) (table : Table) (nodes : List Node) (slots : Slots) : Type 0 where
+  pub nodes_are : (n : Node) → Mem n nodes → IsNode s n
+  pub reached : (n : Node) → Mem n nodes → IsReached s table n.place
+  pub ordered : IsOrdered PartsAt nodes
+  pub entries : (a : ℕ) (o : Occurrence) → table a ≡ Some o → IsEntry s start table nodes a o
+  pub met : (o : Occurrence) (i : Item) → IsLive s table o i → Waits o nodes ⊎ IsSettled start table o i.attribute
+  pub others : (other : Table) → IsStable s start other → Agrees other table nodes
+  pub shown : (a : ℕ) → slots a ≡ full_answer s (start a) (table a)
+  pub last : IsLast done wanted table slots
+
+-- an empty slot was empty at the start and has no entry
+pub empty_parts : (s : Setting) (start : Slots) (done : Slots → Bool) (wanted : List ℕ) (table : Table) (nodes : List Node) (slots : Slots) →
+    Facts s start done wanted table nodes slots → (a : ℕ) → slots a ≡ None → (start a ≡ None) × (table a ≡ None)
+empty_parts s start done wanted table nodes slots facts a empty = (free, no_entry)
+  where
+    e : slots a ≡ full_answer s (start a) (table a)
+    e = facts.shown a
+
+    free : start a ≡ None
+    free =
+        ⊎_elim
+        (λ (r : (x : Answer) × (start a ≡ Some x)). let d = r.1 in let f = rw d at e in absurd (cc))
+        (λ (n : start a ≡ None). n)
+        (some_or_none (start a))
+
+    no_entry : table a ≡ None
+    no_entry =
+        ⊎_elim
+        (λ (r : (p : Occurrence) × (table a ≡ Some p)).
+        let d = r.1 in
+        let f = free in
+        let g = rw (f, d) at e in
+        let entry = facts.entries a r.0 d in
+        let x = (answered s r.0 entry.item entry.live.item).1 in
+        absurd (cc))
+        (λ (n : table a ≡ None). n)
+        (some_or_none (table a))
+
+-- no entry
+abbrev pub no_entries : Table
+no_entries a = None
+
+pub root_above : (s : Setting) (o : Occurrence) (i : Item) → item_at s o ≡ Some i → Covers (nodes_of s.lists) o
+root_above s (Root list line item) i e =
+    let r = root_in s list line item i e in (r.0, r.1, inl r.2)
+root_above s (Inside parent place) i e =
+    ⊎_elim
+    (λ (r : (j : Item) × (item_at s parent ≡ Some j)).
+    let c = root_above s parent r.0 r.1 in
+    (c.0, c.1, ⊎_elim (λ d. inr (inl d)) (λ b. inr (inr b)) c.2))
+    (λ (n : item_at s parent ≡ None). let d = rw n at e in absurd (cc))
+    (some_or_none (item_at s parent))
+
+-- as a walk over all roots begins
+pub at_start : (s : Setting) (start : Slots) (done : Slots → Bool) (wanted : List ℕ) →
+    Facts s start done wanted no_entries (nodes_of s.lists) start
+at_start s start done wanted =
+    record {
+      nodes_are = λ n m. (root_node s n m).4;
+      reached = λ n m. let e = (root_node s n m).3 in rw e tt;
+      ordered = roots_ordered s.lists;
+      entries = λ a o e. absurd (cc);
+      met = met;
+      others = λ other stable. record {
+        within = λ a o e. absurd (cc);
+        covered = λ a o e.
+            let entry = (entry_is s start other stable a o e).0 in
+            inr (root_above s o entry.0 entry.1.item);
+      };
+      shown = λ a. shown (start a);
+      last = inr (inl (λ a. refl));
+    }
+  where
+    met : (o : Occurrence) (i : Item) → IsLive s no_entries o i →
+        Waits o (nodes_of s.lists) ⊎ IsSettled start no_entries o i.attribute
+    met (Root list line item) i live = inl (root_in s list line item i live.item)
+    met (Inside parent place) i live = absurd (let e = live.reached.3 in cc)
+
+    shown : (x : Option Answer) → x ≡ full_answer s x None
+    shown None = refl
+    shown (Some x) = refl

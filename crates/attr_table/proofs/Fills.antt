@@ -1,0 +1,318 @@
+-- A walk fills the slot of a task whose attribute has no answer.
+use Rattle.std.proofs.Common.{◌≡◌, ℕ, ◌⊎◌, List, [], ◌∷◌, ◌++◌, Some, None, refl, sym, ap, ◌∙◌, inl, inr, ⊎_elim, Bool, true, eqb}
+use Rattle.std.specs.Prelude.{Contains, if◌then◌else◌}
+use Rattle.std.proofs.lemmas.Bool.{cases_eq, eq-eqb, ne_eqb, cases_Bool}
+use Rattle.attr_table.specs.Setting.{Set, Item, Setting}
+use Rattle.attr_table.specs.Table.{Occurrence, Root, Inside, Table, Slots, path, item_at, IsEarlier, IsReached, IsLive, IsStable}
+use Rattle.attr_table.specs.Cut.{full_answer}
+use Rattle.attr_table.specs.Walk.{fill}
+use Rattle.attr_table.proofs.Listed.{Mem, mem_cases, mem_left, mem_right, IsOrdered, ordered_append}
+use Rattle.attr_table.proofs.Order.{Below, below_child, below_later, first_irreflexive, first_trans, first_beginning, parts_first, parts_left, parts_below}
+use Rattle.attr_table.proofs.Stable.{entry_is, entry_of, above_live}
+use Rattle.attr_table.proofs.Nodes.{Node, IsNode, PartsAt, node_answer, child_nodes, child_is, child_in, children_ordered}
+use Rattle.attr_table.proofs.Facts.{Facts, IsEntry, IsWithin, IsLast, Waits, Covers, IsSettled, empty_parts}
+
+-- one more entry
+abbrev pub with_entry : Table → ℕ → Occurrence → Table
+with_entry table a o b = if eqb b a then Some o else table b
+
+-- a table keeps an attribute's entry as it grows
+pub reached_still : (s : Setting) (table other : Table) → IsWithin table other → (o : Occurrence) →
+    IsReached s table o → IsReached s other o
+reached_still s table other within (Root list line item) r = tt
+reached_still s table other within (Inside parent place) r = (r.0, r.1, r.2, within r.0.attribute parent r.3)
+
+module _ (s : Setting) (start : Slots) (done : Slots → Bool) (wanted : List ℕ) (table : Table) (h : Node) (nodes : List Node) (slots : Slots) (facts : Facts s start done wanted table (h ∷ nodes) slots) (empty : slots h.task.item.attribute ≡ None) where
+  free : start h.task.item.attribute ≡ None
+  free = (empty_parts s start done wanted table (h ∷ nodes) slots facts h.task.item.attribute empty).0
+
+  no_entry : table h.task.item.attribute ≡ None
+  no_entry = (empty_parts s start done wanted table (h ∷ nodes) slots facts h.task.item.attribute empty).1
+
+  next : Table
+  next = with_entry table h.task.item.attribute h.place
+
+  next_same : next h.task.item.attribute ≡ Some h.place
+  unfolding next
+  next_same = let e = eq-eqb h.task.item.attribute h.task.item.attribute refl in rw e refl
+
+  next_other : (a : ℕ) → (a ≡ h.task.item.attribute → ⊥) → next a ≡ table a
+  unfolding next
+  next_other a ne = let e = ne_eqb a h.task.item.attribute ne in rw e refl
+
+  -- an entry of the table that follows is the node's, or stood before
+  next_cases : (a : ℕ) (o : Occurrence) → next a ≡ Some o →
+      ((a ≡ h.task.item.attribute) × (o ≡ h.place)) ⊎ (table a ≡ Some o)
+  next_cases a o e =
+      ⊎_elim
+      (λ (d : a ≡ h.task.item.attribute). let f = next_same in let g = rw d at e in inl (d, cc))
+      (λ ne. let f = next_other a ne in inr (cc))
+      (cases_eq a h.task.item.attribute)
+
+  within : IsWithin table next
+  within a o e =
+      ⊎_elim
+      (λ (d : a ≡ h.task.item.attribute). let f = no_entry in let g = rw d at e in absurd (cc))
+      (λ ne. let f = next_other a ne in cc)
+      (cases_eq a h.task.item.attribute)
+
+  more : List Node
+  more = child_nodes s.bodies h ++ nodes
+
+  mem_more : (n : Node) → Mem n more → Mem n (child_nodes s.bodies h) ⊎ Mem n nodes
+  unfolding more
+  mem_more n m = mem_cases n (child_nodes s.bodies h) nodes m
+
+  is : IsNode s h
+  is = facts.nodes_are h (inl refl)
+
+  h_live : IsLive s table h.place h.task.item
+  h_live = record { item = is.item; reached = facts.reached h (inl refl) }
+
+  nodes_are : (n : Node) → Mem n more → IsNode s n
+  nodes_are n m =
+      ⊎_elim (λ a. (child_is s h n is a).2) (λ b. facts.nodes_are n (inr b)) (mem_more n m)
+
+  reached : (n : Node) → Mem n more → IsReached s next n.place
+  reached n m =
+      ⊎_elim
+      (λ a.
+      let r = child_is s h n is a in
+      let e = r.1 in
+      rw e (h.task.item, is.item, r.3, next_same))
+      (λ b. reached_still s table next within n.place (facts.reached n (inr b)))
+      (mem_more n m)
+
+  ordered : IsOrdered PartsAt more
+  unfolding more
+  ordered =
+      ordered_append PartsAt (child_nodes s.bodies h) nodes (children_ordered s.bodies h) facts.ordered.1
+      (λ c n a b.
+      let r = child_is s h c is a in
+      let e = r.1 in
+      rw e (parts_left (path h.place) (path n.place) (r.0 ∷ []) (facts.ordered.0 n b)))
+
+  -- the node's occurrence comes before all that then waits
+  first : (n : Node) → Mem n more → IsEarlier h.place n.place
+  first n m =
+      ⊎_elim
+      (λ a.
+      let r = child_is s h n is a in
+      let e = r.1 in
+      rw e (first_beginning (path h.place) r.0 []))
+      (λ b. parts_first (path h.place) (path n.place) (facts.ordered.0 n b))
+      (mem_more n m)
+
+  entries : (a : ℕ) (o : Occurrence) → next a ≡ Some o → IsEntry s start next more a o
+  entries a o e =
+      ⊎_elim
+      (λ (d : (a ≡ h.task.item.attribute) × (o ≡ h.place)).
+      let f = d.0 in let g = d.1 in
+      rw (f, g) record {
+        item = h.task.item;
+        live = record { item = is.item; reached = reached_still s table next within h.place h_live.reached };
+        of = refl;
+        free = free;
+        first = first;
+      })
+      (λ d.
+      let r = facts.entries a o d in
+      record {
+        item = r.item;
+        live = record { item = r.live.item; reached = reached_still s table next within o r.live.reached };
+        of = r.of;
+        free = r.free;
+        first = λ n m. first_trans (path o) (path h.place) (path n.place) (r.first h (inl refl)) (first n m);
+      })
+      (next_cases a o e)
+
+  -- what is settled stays so
+  settled_still : (o : Occurrence) (a : ℕ) → IsSettled start table o a → IsSettled start next o a
+  settled_still o a k = ⊎_elim (λ x. inl x) (λ r. inr (r.0, within a r.0 r.1, r.2)) k
+
+  -- what was live waits or is settled
+  met_before : (o : Occurrence) (i : Item) → IsLive s table o i → Waits o more ⊎ IsSettled start next o i.attribute
+  unfolding more
+  met_before o i live =
+      ⊎_elim
+      (λ (w : Waits o (h ∷ nodes)).
+      ⊎_elim
+      (λ (d : w.0 ≡ h).
+      let f : h.place ≡ o = sym (ap (λ (x : Node). x.place) d) ∙ w.2 in
+      let g = is.item in let l = live.item in
+      let same : i ≡ h.task.item = cc in
+      let n = next_same in
+      inr (inr (h.place, rw same n, inl f)))
+      (λ m. inl (w.0, mem_right w.0 (child_nodes s.bodies h) nodes m, w.2))
+      w.1)
+      (λ k. inr (settled_still o i.attribute k))
+      (facts.met o i live)
+
+  met : (o : Occurrence) (i : Item) → IsLive s next o i → Waits o more ⊎ IsSettled start next o i.attribute
+  unfolding more
+  met (Root list line item) i live = met_before (Root list line item) i (record { item = live.item; reached = tt })
+  met (Inside parent place) i live =
+      let r = live.reached in
+      ⊎_elim
+      (λ (d : (r.0.attribute ≡ h.task.item.attribute) × (parent ≡ h.place)).
+      let f = d.1 in
+      let g = is.item in let k = r.1 in
+      let same : r.0 ≡ h.task.item = cc in
+      let set : h.task.item.state ≡ Set = sym (ap (λ (x : Item). x.state) same) ∙ r.2 in
+      let l = live.item in
+      inl (inside place i f set (rw f at l)))
+      (λ (d : table r.0.attribute ≡ Some parent).
+      met_before (Inside parent place) i (record { item = live.item; reached = (r.0, r.1, r.2, d) }))
+      (next_cases r.0.attribute parent r.3)
+    where
+      inside : (k : ℕ) (j : Item) → parent ≡ h.place → h.task.item.state ≡ Set → item_at s (Inside h.place k) ≡ Some j →
+          Waits (Inside parent k) more
+      inside k j e set item =
+          let c = child_in s h k j is set item in
+          (c.0, mem_left c.0 (child_nodes s.bodies h) nodes c.1, rw e c.2)
+
+  shown : (a : ℕ) → fill s.bodies h.task slots a ≡ full_answer s (start a) (next a)
+  shown a =
+      ⊎_elim
+      (λ (d : a ≡ h.task.item.attribute).
+      let e = eq-eqb a h.task.item.attribute d in
+      let n = next_same in let f = free in
+      let x = node_answer s h is in
+      rw (e, d, f, n, x) refl)
+      (λ ne.
+      let e = ne_eqb a h.task.item.attribute ne in
+      let n = next_other a ne in
+      rw (e, n) (facts.shown a))
+      (cases_eq a h.task.item.attribute)
+
+  -- what the node's occurrence and the others that wait cover is not earlier than the node's
+  covered_later : (o : Occurrence) → Covers (h ∷ nodes) o → (h.place ≡ o) ⊎ IsEarlier h.place o
+  covered_later o c =
+      ⊎_elim
+      (λ (d : c.0 ≡ h).
+      let place : h.place ≡ c.0.place = sym (ap (λ (x : Node). x.place) d) in
+      ⊎_elim
+      (λ (e : c.0.place ≡ o). inl (place ∙ e))
+      (λ (b : Below c.0.place o). inr (rw place (below_later c.0.place o b)))
+      c.2)
+      (λ m. inr (parts_first (path h.place) (path o)
+      (parts_below h.place c.0.place o (facts.ordered.0 c.0 m) c.2)))
+      c.1
+
+  module _ (other : Table) (stable : IsStable s start other) where
+    -- each stable table has the node's occurrence as its attribute's entry
+    is_entry : other h.task.item.attribute ≡ Some h.place
+    is_entry =
+        let agrees = facts.others other stable in
+        let live : IsLive s other h.place h.task.item = record {
+          item = is.item;
+          reached = reached_still s table other agrees.within h.place h_live.reached;
+        } in
+        let r = entry_of s start other stable h.task.item.attribute h.place h.task.item free live refl in
+        let e = r.1 in
+        ⊎_elim
+        (λ (d : r.0 ≡ h.place). cc)
+        (λ (earlier : IsEarlier r.0 h.place).
+        ⊎_elim
+        (λ (t : table h.task.item.attribute ≡ Some r.0). let n = no_entry in absurd (cc))
+        (λ (c : Covers (h ∷ nodes) r.0).
+        ⊎_elim
+        (λ (d : h.place ≡ r.0). cc)
+        (λ (later : IsEarlier h.place r.0).
+        absurd (first_irreflexive (path h.place)
+        (first_trans (path h.place) (path r.0) (path h.place) later earlier)))
+        (covered_later r.0 c))
+        (agrees.covered h.task.item.attribute r.0 e))
+        r.2
+
+    other_within : IsWithin next other
+    other_within a o e =
+        ⊎_elim
+        (λ (d : (a ≡ h.task.item.attribute) × (o ≡ h.place)).
+        let f = d.0 in let g = d.1 in let k = is_entry in cc)
+        (λ t. (facts.others other stable).within a o t)
+        (next_cases a o e)
+
+    -- an entry inside the node's occurrence is covered by a child
+    inside_covered : (o : Occurrence) → IsReached s other o → (i : Item) → item_at s o ≡ Some i → Below h.place o →
+        Covers more o
+    unfolding more
+    inside_covered o reached i item b =
+        let r = below_child h.place o b in
+        let set = (above_live s start other stable h.place o reached b) in
+        let x = set.1.item in let y = is.item in
+        let same : set.0 ≡ h.task.item = cc in
+        let state : h.task.item.state ≡ Set = sym (ap (λ (x : Item). x.state) same) ∙ set.2 in
+        ⊎_elim
+        (λ (e : Inside h.place r.0 ≡ o).
+        let c = child_in s h r.0 i is state (ap (λ p. item_at s p) e ∙ item) in
+        (c.0, mem_left c.0 (child_nodes s.bodies h) nodes c.1, inl (c.2 ∙ e)))
+        (λ (d : Below (Inside h.place r.0) o).
+        let q = above_live s start other stable (Inside h.place r.0) o reached d in
+        let c = child_in s h r.0 q.0 is state q.1.item in
+        let e = c.2 in
+        (c.0, mem_left c.0 (child_nodes s.bodies h) nodes c.1, inr (rw e d)))
+        r.1
+
+    other_covered : (a : ℕ) (o : Occurrence) → other a ≡ Some o → (next a ≡ Some o) ⊎ Covers more o
+    unfolding more
+    other_covered a o e =
+        let entry = (entry_is s start other stable a o e).0 in
+        ⊎_elim
+        (λ t. inl (within a o t))
+        (λ (c : Covers (h ∷ nodes) o).
+        ⊎_elim
+        (λ (d : c.0 ≡ h).
+        let place : h.place ≡ c.0.place = sym (ap (λ (x : Node). x.place) d) in
+        ⊎_elim
+        (λ (at : c.0.place ≡ o).
+        let x = entry.1.item in let y = is.item in
+        let same : entry.0 ≡ h.task.item = cc in
+        let of : a ≡ h.task.item.attribute =
+        sym entry.2 ∙ ap (λ (x : Item). x.attribute) same in
+        let n = next_same in
+        inl (rw of (n ∙ ap Some (place ∙ at))))
+        (λ (b : Below c.0.place o).
+        inr (inside_covered o entry.1.reached entry.0 entry.1.item (rw place b)))
+        c.2)
+        (λ m. inr (c.0, mem_right c.0 (child_nodes s.bodies h) nodes m, c.2))
+        c.1)
+        ((facts.others other stable).covered a o e)
+
+  module _ (turns : done (fill s.bodies h.task slots) ≡ true → Contains wanted h.task.item.attribute) where
+    last : IsLast done wanted next (fill s.bodies h.task slots)
+    last =
+        ⊎_elim
+        (λ (d : done (fill s.bodies h.task slots) ≡ true).
+        inr (inr (
+          h.task.item.attribute,
+          h.place,
+          turns d,
+          next_same,
+          λ a o e.
+              ⊎_elim
+              (λ (r : (a ≡ h.task.item.attribute) × (o ≡ h.place)). inl r.1)
+              (λ t. inr ((facts.entries a o t).first h (inl refl)))
+              (next_cases a o e),
+        )))
+        (λ d. inl d)
+        (cases_Bool (done (fill s.bodies h.task slots)))
+
+    pub filled : (after : Table) × Facts s start done wanted after (child_nodes s.bodies h ++ nodes) (fill s.bodies h.task slots)
+    unfolding more
+    filled = (
+      next,
+      record {
+        nodes_are = nodes_are;
+        reached = reached;
+        ordered = ordered;
+        entries = entries;
+        met = met;
+        others = λ other stable. record {
+          within = other_within other stable;
+          covered = other_covered other stable;
+        };
+        shown = shown;
+        last = last;
+      },
+    )

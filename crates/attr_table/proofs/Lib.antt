@@ -1,0 +1,12 @@
+pub mod Listed
+pub mod Order
+pub mod Stable
+pub mod Nodes
+pub mod Facts
+pub mod Skips
+pub mod Fills
+pub mod Walked
+pub mod Ends
+pub mod Cuts
+pub mod Seen
+pub mod Counted

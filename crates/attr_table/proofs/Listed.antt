@@ -1,0 +1,107 @@
+-- Lists that are gone through from their end: what is in them, and in which order.
+use Rattle.std.proofs.Common.{◌≡◌, ℕ, suc, ◌+◌, ◌-◌, ◌<◌, ◌≤◌, ◌⊎◌, List, [], ◌∷◌, ◌++◌, map, length, get_or, take, drop, Some, refl, sym, ap, ◌∙◌, inl, inr, ⊎_elim, arith, zero}
+use Rattle.std.specs.Prelude.{slice_get}
+use Rattle.std.proofs.lemmas.List.{map-append, append-nil, append_assoc, drop_all, drop_more, take-append-drop}
+use Rattle.attr_table.specs.Walk.{backwards}
+
+-- an element is in a list
+abbrev pub Mem : {X : Type 0} → X → List X → Type 0
+Mem y [] = ⊥
+Mem y (x ∷ xs) = (y ≡ x) ⊎ Mem y xs
+
+pub mem_cases : {X : Type 0} (y : X) (xs ys : List X) → Mem y (xs ++ ys) → Mem y xs ⊎ Mem y ys
+mem_cases y [] ys m = inr m
+mem_cases y (x ∷ xs) ys m =
+    ⊎_elim (λ e. inl (inl e)) (λ r. ⊎_elim (λ a. inl (inr a)) (λ b. inr b) (mem_cases y xs ys r)) m
+
+pub mem_left : {X : Type 0} (y : X) (xs ys : List X) → Mem y xs → Mem y (xs ++ ys)
+mem_left y [] ys m = absurd m
+mem_left y (x ∷ xs) ys m = ⊎_elim (λ e. inl e) (λ r. inr (mem_left y xs ys r)) m
+
+pub mem_right : {X : Type 0} (y : X) (xs ys : List X) → Mem y ys → Mem y (xs ++ ys)
+mem_right y [] ys m = m
+mem_right y (x ∷ xs) ys m = inr (mem_right y xs ys m)
+
+-- what the elements give with their places, the last element first
+abbrev pub backward : {X Y : Type 0} → (ℕ → X → List Y) → List X → List Y
+backward f [] = []
+backward f (x ∷ xs) = backward (λ k. f (suc k)) xs ++ f 0 x
+
+pub mem_backward : {X Y : Type 0} (f : ℕ → X → List Y) (xs : List X) (y : Y) → Mem y (backward f xs) →
+    (k : ℕ) × (x : X) × (slice_get xs k ≡ Some x) × Mem y (f k x)
+mem_backward f [] y m = absurd m
+mem_backward f (x ∷ xs) y m =
+    ⊎_elim
+    (λ a. let r = mem_backward (λ k. f (suc k)) xs y a in (suc r.0, r.1, r.2, r.3))
+    (λ b. (0, x, refl, b))
+    (mem_cases y (backward (λ k. f (suc k)) xs) (f 0 x) m)
+
+pub backward_mem : {X Y : Type 0} (f : ℕ → X → List Y) (xs : List X) (k : ℕ) (x : X) (y : Y) →
+    slice_get xs k ≡ Some x → Mem y (f k x) → Mem y (backward f xs)
+backward_mem f [] k x y e m = absurd (cc)
+backward_mem {X} {Y} f (z ∷ xs) zero x y e m =
+    mem_right y (backward (λ k. f (suc k)) xs) (f 0 z) (let h : x ≡ z = cc in rw h at m)
+backward_mem f (z ∷ xs) (suc k) x y e m =
+    mem_left y (backward (λ j. f (suc j)) xs) (f 0 z) (backward_mem (λ j. f (suc j)) xs k x y e m)
+
+-- each element stands to each later one as R says
+abbrev pub IsOrdered : {X : Type 0} → (X → X → Type 0) → List X → Type 0
+IsOrdered R [] = Unit {0}
+IsOrdered {X} R (x ∷ xs) = ((y : X) → Mem y xs → R x y) × IsOrdered R xs
+
+pub ordered_append : {X : Type 0} (R : X → X → Type 0) (xs ys : List X) → IsOrdered R xs → IsOrdered R ys →
+    ((x y : X) → Mem x xs → Mem y ys → R x y) → IsOrdered R (xs ++ ys)
+ordered_append R [] ys p q h = q
+ordered_append R (x ∷ xs) ys p q h = (
+  λ y m. ⊎_elim (λ a. p.0 y a) (λ b. h x y (inl refl) b) (mem_cases y xs ys m),
+  ordered_append R xs ys p.1 q (λ u v a b. h u v (inr a) b),
+)
+
+pub ordered_backward : {X Y : Type 0} (R : Y → Y → Type 0) (f : ℕ → X → List Y) (xs : List X) →
+    ((k : ℕ) (x : X) → slice_get xs k ≡ Some x → IsOrdered R (f k x)) →
+    ((j k : ℕ) (x y : X) (u v : Y) → j < k → Mem u (f k x) → Mem v (f j y) → R u v) →
+    IsOrdered R (backward f xs)
+ordered_backward R f [] each apart = tt
+ordered_backward R f (x ∷ xs) each apart =
+    ordered_append R (backward (λ k. f (suc k)) xs) (f 0 x)
+    (ordered_backward R (λ k. f (suc k)) xs (λ k y e. each (suc k) y e)
+    (λ j k y z u v lt a b. apart (suc j) (suc k) y z u v (omega arith) a b))
+    (each 0 x refl)
+    (λ u v a b.
+    let r = mem_backward (λ k. f (suc k)) xs u a in
+    apart 0 (suc r.0) r.1 x u v (omega arith) r.3 b)
+
+-- without places it is what `backwards` gives
+pub map-backward : {X Y Z : Type 0} (g : Y → Z) (f : ℕ → X → List Y) (h : X → List Z) (xs : List X) →
+    ((k : ℕ) (x : X) → map g (f k x) ≡ h x) → map g (backward f xs) ≡ backwards h xs
+map-backward g f h [] same = refl
+map-backward g f h (x ∷ xs) same =
+    map-append g (backward (λ k. f (suc k)) xs) (f 0 x)
+    ∙ (let e = map-backward g (λ k. f (suc k)) h xs (λ k y. same (suc k) y) in
+    let d = same 0 x in cc)
+
+pub backwards-append : {X Y : Type 0} (f : X → List Y) (xs ys : List X) →
+    backwards f (xs ++ ys) ≡ backwards f ys ++ backwards f xs
+backwards-append f [] ys = sym (append-nil (backwards f ys))
+backwards-append f (x ∷ xs) ys =
+    let e = backwards-append f xs ys in rw (e, append_assoc) refl
+
+-- a list gone through from its end: nothing so far, one element more, and what is left
+pub backwards-none : {X Y Z : Type 0} (f : Y → List Z) (g : X → Y) (xs : List X) →
+    backwards f (map g (drop (length xs) xs)) ≡ []
+backwards-none f g xs = let e = drop_all (length xs) xs (omega arith) in rw e refl
+
+pub backwards-more : {X Y Z : Type 0} (f : Y → List Z) (g : X → Y) (xs : List X) (k : ℕ) (d : X) → 0 < k → k ≤ length xs →
+    backwards f (map g (drop (k - 1) xs)) ≡ backwards f (map g (drop k xs)) ++ f (g (get_or xs (k - 1) d))
+backwards-more f g xs k d pos le =
+    let e = drop_more xs (k - 1) d (omega arith) in
+    let n : k - 1 + 1 ≡ k = omega arith in
+    rw (e, n) refl
+
+pub backwards-split : {X Y Z : Type 0} (f : Y → List Z) (g : X → Y) (xs : List X) (k : ℕ) →
+    backwards f (map g xs) ≡ backwards f (map g (drop k xs)) ++ backwards f (map g (take k xs))
+backwards-split f g xs k =
+    let e = take-append-drop k xs in
+    ap (λ l. backwards f (map g l)) (sym e)
+    ∙ (ap (λ l. backwards f l) (map-append g (take k xs) (drop k xs))
+    ∙ backwards-append f (map g (take k xs)) (map g (drop k xs)))

@@ -1,0 +1,215 @@
+-- Walks: each has an end, one goes on from another, and tasks whose slots are filled may be left out.
+use Rattle.std.proofs.Common.{◌≡◌, ℕ, zero, suc, ◌+◌, ◌≤◌, List, [], ◌∷◌, ◌++◌, length, ◌<◌, set, Option, Some, None, refl, ⊎_elim, arith, Bool, true, false}
+use Rattle.std.specs.Prelude.{is_some, if◌then◌else◌}
+use Rattle.std.proofs.lemmas.Bool.{cases_eq, eq-eqb, ne_eqb, cases_Bool}
+use Rattle.std.proofs.lemmas.List.{length-append, append_assoc, append-nil, get_or-set_same, get_or-set_other}
+use mathlib.Core.Path.{fun_ext}
+use Rattle.attr_table.specs.Setting.{Item, Origin, Answer, body_of}
+use Rattle.attr_table.specs.Table.{Slots, slots_in}
+use Rattle.attr_table.specs.Cut.{answer_of}
+use Rattle.attr_table.specs.Walk.{Task, Walks, ends, stops, skips, fills, tasks_in, is_set, opened, fill, left_in, free_items}
+use Rattle.attr_table.proofs.Stable.{some_or_none}
+
+pub length-tasks_in : (origin : Origin) (cause : Option ℕ) (items : List Item) →
+    length (tasks_in origin cause items) ≡ length items
+length-tasks_in origin cause [] = refl
+length-tasks_in origin cause (i ∷ items) =
+    let e = length-tasks_in origin cause items in
+    let one : Task = record { origin = origin; item = i; cause = cause } in
+    let d = length-append (tasks_in origin cause items) (one ∷ []) in
+    omega arith
+
+pub length-opened : (bodies : List (List Item)) (t : Task) →
+    length (opened bodies t) ≤ length (body_of bodies t.item.attribute)
+length-opened bodies t = go (is_set t.item.state)
+  where
+    go : (b : Bool) →
+        length (if b then tasks_in t.origin (Some t.item.attribute) (body_of bodies t.item.attribute) else [])
+        ≤ length (body_of bodies t.item.attribute)
+    go true =
+        let e = length-tasks_in t.origin (Some t.item.attribute) (body_of bodies t.item.attribute) in omega arith
+    go false = omega arith
+
+pub fill_same : (bodies : List (List Item)) (t : Task) (slots : Slots) →
+    is_some (fill bodies t slots t.item.attribute) ≡ true
+fill_same bodies t slots = let e = eq-eqb t.item.attribute t.item.attribute refl in rw e refl
+
+pub fill_other : (bodies : List (List Item)) (t : Task) (slots : Slots) (a : ℕ) → (a ≡ t.item.attribute → ⊥) →
+    fill bodies t slots a ≡ slots a
+fill_other bodies t slots a ne = let e = ne_eqb a t.item.attribute ne in rw e refl
+
+-- a write to a row of slots
+pub slots_in-fill : (bodies : List (List Item)) (t : Task) (slots : List (Option Answer)) → t.item.attribute < length slots →
+    slots_in (set slots t.item.attribute (Some (answer_of bodies t.origin t.item t.cause))) ≡ fill bodies t (slots_in slots)
+slots_in-fill bodies t slots lt = fun_ext at
+  where
+    x : Option Answer
+    x = Some (answer_of bodies t.origin t.item t.cause)
+
+    at : (a : ℕ) → slots_in (set slots t.item.attribute x) a ≡ fill bodies t (slots_in slots) a
+    at a =
+        ⊎_elim
+        (λ (f : a ≡ t.item.attribute).
+        let g = eq-eqb a t.item.attribute f in
+        let h = get_or-set_same slots t.item.attribute x None lt in
+        rw g (rw f h))
+        (λ ne. let g = ne_eqb a t.item.attribute ne in rw g (get_or-set_other slots t.item.attribute a x None ne))
+        (cases_eq a t.item.attribute)
+
+-- a slot that is filled stays so
+pub fill_keeps : (bodies : List (List Item)) (t : Task) (slots : Slots) (a : ℕ) → is_some (slots a) ≡ true →
+    is_some (fill bodies t slots a) ≡ true
+fill_keeps bodies t slots a e =
+    ⊎_elim
+    (λ (d : a ≡ t.item.attribute). rw d (fill_same bodies t slots))
+    (λ ne. let d = fill_other bodies t slots a ne in rw d e)
+    (cases_eq a t.item.attribute)
+
+left_same : (bodies : List (List Item)) (old new : Slots) → ((a : ℕ) → new a ≡ old a) →
+    left_in bodies old ≡ left_in bodies new
+left_same [] old new same = refl
+left_same (body ∷ bodies) old new same =
+    let e = same 0 in
+    let d = left_same bodies (λ a. old (suc a)) (λ a. new (suc a)) (λ a. same (suc a)) in
+    rw (e, d) refl
+
+left_one : (bodies : List (List Item)) (old new : Slots) (a : ℕ) → is_some (old a) ≡ false → is_some (new a) ≡ true →
+    ((b : ℕ) → (b ≡ a → ⊥) → new b ≡ old b) →
+    left_in bodies old ≡ left_in bodies new + length (body_of bodies a)
+left_one [] old new a empty full same = omega arith
+left_one (body ∷ bodies) old new zero empty full same =
+    let d = left_same bodies (λ a. old (suc a)) (λ a. new (suc a)) (λ a. same (suc a) (λ (e : suc a ≡ 0). omega arith)) in
+    rw (empty, full) (omega arith)
+left_one (body ∷ bodies) old new (suc a) empty full same =
+    let d = left_one bodies (λ a. old (suc a)) (λ a. new (suc a)) a empty full
+    (λ b ne. same (suc b) (λ (e : suc b ≡ suc a). ne (omega arith))) in
+    let e = same 0 (λ (e : 0 ≡ suc a). omega arith) in
+    rw e (omega arith)
+
+-- a task that fills its slot leaves as many fewer items as its attribute's body has
+pub left_in-fill : (bodies : List (List Item)) (t : Task) (slots : Slots) → is_some (slots t.item.attribute) ≡ false →
+    left_in bodies slots ≡ left_in bodies (fill bodies t slots) + length (body_of bodies t.item.attribute)
+left_in-fill bodies t slots empty =
+    left_one bodies slots (fill bodies t slots) t.item.attribute empty (fill_same bodies t slots) (fill_other bodies t slots)
+
+-- from each point a walk leads to an end
+pub walk_from : (bodies : List (List Item)) (done : Slots → Bool) (fuel : ℕ) (ts : List Task) (slots : Slots) →
+    length ts + left_in bodies slots ≤ fuel → (final : Slots) × Walks bodies done ts slots final
+walk_from bodies done fuel [] slots le = (slots, ends)
+walk_from bodies done zero (t ∷ ts) slots le = absurd (omega arith)
+walk_from bodies done (suc fuel) (t ∷ ts) slots le =
+    go (walk_from bodies done fuel ts slots (omega arith)) (λ (is : is_some (slots t.item.attribute) ≡ false).
+    walk_from bodies done fuel (opened bodies t ++ ts) (fill bodies t slots)
+    (let a = length-append (opened bodies t) ts in
+    let b = length-opened bodies t in
+    let c = left_in-fill bodies t slots is in omega arith))
+  where
+    go : (final : Slots) × Walks bodies done ts slots final →
+        (is_some (slots t.item.attribute) ≡ false →
+        (final : Slots) × Walks bodies done (opened bodies t ++ ts) (fill bodies t slots) final) →
+        (final : Slots) × Walks bodies done (t ∷ ts) slots final
+    go past through =
+        ⊎_elim
+        (λ (d : done slots ≡ true). (slots, stops d))
+        (λ (d : done slots ≡ false).
+        ⊎_elim
+        (λ (e : is_some (slots t.item.attribute) ≡ true). (past.0, skips e past.1))
+        (λ (e : is_some (slots t.item.attribute) ≡ false).
+        let r = through e in (r.0, fills d e r.1))
+        (cases_Bool (is_some (slots t.item.attribute))))
+        (cases_Bool (done slots))
+
+-- a walk that is done changes nothing
+pub stopped : (bodies : List (List Item)) (done : Slots → Bool) (ts : List Task) (slots final : Slots) →
+    Walks bodies done ts slots final → done slots ≡ true → final ≡ slots
+stopped bodies done [] slots final ends d = refl
+stopped bodies done ts slots final (stops e) d = refl
+stopped bodies done (t ∷ ts) slots final (skips e w) d = stopped bodies done ts slots final w d
+stopped bodies done (t ∷ ts) slots final (fills n e w) d = absurd (cc)
+
+pub then_walks : (bodies : List (List Item)) (done : Slots → Bool) (xs ys : List Task) (first second third : Slots) →
+    Walks bodies done xs first second → Walks bodies done ys second third → Walks bodies done (xs ++ ys) first third
+then_walks bodies done [] ys first second third ends v = v
+then_walks bodies done xs ys first second third (stops d) v =
+    let e = stopped bodies done ys first third v d in rw e (stops d)
+then_walks bodies done (t ∷ xs) ys first second third (skips e w) v =
+    skips e (then_walks bodies done xs ys first second third w v)
+then_walks bodies done (t ∷ xs) ys first second third (fills d e w) v =
+    fills d e (rw append_assoc at (then_walks bodies done (opened bodies t ++ xs) ys (fill bodies t first) second third w v))
+
+-- tasks that are left out are those whose slots are filled
+pub data LeavesOut (slots : Slots) : List Task → List Task → Type 0 where
+  none_left : LeavesOut slots [] []
+  kept_one : {t : Task} {all some : List Task} → LeavesOut slots all some → LeavesOut slots (t ∷ all) (t ∷ some)
+  left_one_out : {t : Task} {all some : List Task} → is_some (slots t.item.attribute) ≡ true →
+      LeavesOut slots all some → LeavesOut slots (t ∷ all) some
+
+leaves_none : (slots : Slots) (ts : List Task) → LeavesOut slots ts ts
+leaves_none slots [] = none_left
+leaves_none slots (t ∷ ts) = kept_one (leaves_none slots ts)
+
+leaves_out_append : {slots : Slots} {ts us vs ws : List Task} → LeavesOut slots ts us → LeavesOut slots vs ws →
+    LeavesOut slots (ts ++ vs) (us ++ ws)
+leaves_out_append none_left w = w
+leaves_out_append (kept_one l) w = kept_one (leaves_out_append l w)
+leaves_out_append (left_one_out e l) w = left_one_out e (leaves_out_append l w)
+
+leaves_out_fill : (bodies : List (List Item)) (t : Task) {slots : Slots} {ts us : List Task} → LeavesOut slots ts us →
+    LeavesOut (fill bodies t slots) ts us
+leaves_out_fill bodies t none_left = none_left
+leaves_out_fill bodies t (kept_one l) = kept_one (leaves_out_fill bodies t l)
+leaves_out_fill bodies t {slots} (left_one_out {t = u} e l) =
+    left_one_out (fill_keeps bodies t slots u.item.attribute e) (leaves_out_fill bodies t l)
+
+-- up to the first that is kept, all are skipped
+all_out : (bodies : List (List Item)) (done : Slots → Bool) {slots : Slots} {ts : List Task} → LeavesOut slots ts [] →
+    Walks bodies done ts slots slots
+all_out bodies done none_left = ends
+all_out bodies done (left_one_out e l) = skips e (all_out bodies done l)
+
+up_to_kept : (bodies : List (List Item)) (done : Slots → Bool) {slots : Slots} {ts us : List Task} {u : Task} (final : Slots) →
+    LeavesOut slots ts (u ∷ us) →
+    ((rest : List Task) → LeavesOut slots rest us → Walks bodies done (u ∷ rest) slots final) →
+    Walks bodies done ts slots final
+up_to_kept bodies done final (kept_one {all = rest} l) k = k rest l
+up_to_kept bodies done final (left_one_out e l) k = skips e (up_to_kept bodies done final l k)
+
+pub walks_with : (bodies : List (List Item)) (done : Slots → Bool) {us : List Task} {slots final : Slots} →
+    Walks bodies done us slots final → (ts : List Task) → LeavesOut slots ts us → Walks bodies done ts slots final
+walks_with bodies done ends ts l = all_out bodies done l
+walks_with bodies done (stops d) ts l = stops d
+walks_with bodies done (skips {final = final} e w) ts l =
+    up_to_kept bodies done final l (λ rest k. skips e (walks_with bodies done w rest k))
+walks_with bodies done (fills {t = t} {final = final} d e w) ts l =
+    up_to_kept bodies done final l
+    (λ rest k. fills d e
+    (walks_with bodies done w (opened bodies t ++ rest)
+    (leaves_out_append (leaves_none (fill bodies t _) (opened bodies t)) (leaves_out_fill bodies t k))))
+
+-- items whose slots are filled may be left out
+leaves_item : (slots : Slots) (origin : Origin) (cause : Option ℕ) (i : Item) (items : List Item) →
+    LeavesOut slots (tasks_in origin cause items) (tasks_in origin cause (free_items slots items)) →
+    LeavesOut slots (tasks_in origin cause (i ∷ items)) (tasks_in origin cause (free_items slots (i ∷ items)))
+leaves_item slots origin cause i items rest =
+    ⊎_elim
+    (λ (r : (x : Answer) × (slots i.attribute ≡ Some x)).
+    let e = r.1 in
+    let d : is_some (slots i.attribute) ≡ true = rw e refl in
+    let t : Task = record { origin = origin; item = i; cause = cause } in
+    let out : LeavesOut slots (t ∷ []) [] = left_one_out {t = t} d none_left in
+    rw e (rw append-nil at (leaves_out_append rest out)))
+    (λ (e : slots i.attribute ≡ None). rw e (leaves_out_append rest (kept_one none_left)))
+    (some_or_none (slots i.attribute))
+
+leaves_filled : (slots : Slots) (origin : Origin) (cause : Option ℕ) (items : List Item) →
+    LeavesOut slots (tasks_in origin cause items) (tasks_in origin cause (free_items slots items))
+leaves_filled slots origin cause [] = none_left
+leaves_filled slots origin cause (i ∷ items) =
+    leaves_item slots origin cause i items (leaves_filled slots origin cause items)
+
+pub walks_past : (bodies : List (List Item)) (done : Slots → Bool) (slots final : Slots) (origin : Origin) (cause : Option ℕ) (items : List Item) (rest : List Task) →
+    Walks bodies done (tasks_in origin cause (free_items slots items) ++ rest) slots final →
+    Walks bodies done (tasks_in origin cause items ++ rest) slots final
+walks_past bodies done slots final origin cause items rest w =
+    walks_with bodies done w (tasks_in origin cause items ++ rest)
+    (leaves_out_append (leaves_filled slots origin cause items) (leaves_none slots rest))

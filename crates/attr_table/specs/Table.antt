@@ -1,0 +1,78 @@
+-- Which item decides an attribute. The gitattributes page has the rule: a later line takes
+-- precedence over an earlier one, file by file, and setting a macro sets what its body says.
+use Rattle.std.specs.Prelude.{◌≡◌, ◌≢◌, ℕ, ◌<◌, ◌⊎◌, List, [], ◌∷◌, ◌++◌, Option, Some, None, MatchOption, slice_get, slice_index_or, option_and_then}
+use Rattle.attr_table.specs.Setting.{Set, Item, Line, Setting, Answer, body_of}
+
+-- a place where an item is read: a root is an item of a line, by list, line and item; any other
+-- stands inside its parent, at a place in the body of the attribute that the parent names
+pub data Occurrence : Type 0 where
+  Root : ℕ → ℕ → ℕ → Occurrence
+  Inside : Occurrence → ℕ → Occurrence
+
+-- the line at a place of a list
+abbrev pub line_at : Setting → ℕ → ℕ → Option Line
+line_at s list line = option_and_then (λ lines. slice_get lines line) (slice_get s.lists list)
+
+-- the item that is read at an occurrence, if there is one
+abbrev pub item_at : Setting → Occurrence → Option Item
+item_at s (Root list line item) = option_and_then (λ l. slice_get l.items item) (line_at s list line)
+item_at s (Inside parent place) =
+    option_and_then (λ i. slice_get (body_of s.bodies i.attribute) place) (item_at s parent)
+
+-- the way to an occurrence: list, line and item, and then the places in bodies
+abbrev pub path : Occurrence → List ℕ
+path (Root list line item) = list ∷ line ∷ item ∷ []
+path (Inside parent place) = path parent ++ place ∷ []
+
+-- a beginning comes first; otherwise, at the first difference, the later place comes first
+abbrev pub ComesFirst : List ℕ → List ℕ → Type 0
+ComesFirst [] [] = ⊥
+ComesFirst [] (y ∷ ys) = Unit {0}
+ComesFirst (x ∷ xs) [] = ⊥
+ComesFirst (x ∷ xs) (y ∷ ys) = (y < x) ⊎ ((x ≡ y) × ComesFirst xs ys)
+
+-- an occurrence takes precedence over another
+abbrev pub IsEarlier : Occurrence → Occurrence → Type 0
+IsEarlier o p = ComesFirst (path o) (path p)
+
+-- a table gives each attribute the occurrence that decides it, its entry, or none
+abbrev pub Table : Type 0
+Table = ℕ → Option Occurrence
+
+-- a root is always reached; what stands inside a parent is reached if the parent sets its attribute
+-- and is that attribute's entry
+abbrev pub IsReached : Setting → Table → Occurrence → Type 0
+IsReached s table (Root list line item) = Unit {0}
+IsReached s table (Inside parent place) =
+    (i : Item) × (item_at s parent ≡ Some i) × (i.state ≡ Set) × (table i.attribute ≡ Some parent)
+
+-- an occurrence is live under a table, and this item is read there
+pub record IsLive (s : Setting) (table : Table) (o : Occurrence) (i : Item) : Type 0 where
+  pub item : item_at s o ≡ Some i
+  pub reached : IsReached s table o
+
+-- an attribute's entry is the earliest of its live occurrences; there is none only if none is live
+abbrev pub IsEarliest : Setting → Table → ℕ → Option Occurrence → Type 0
+IsEarliest s table a None = (o : Occurrence) (i : Item) → IsLive s table o i → i.attribute ≢ a
+IsEarliest s table a (Some o) =
+    ((i : Item) × IsLive s table o i × (i.attribute ≡ a))
+    × ((p : Occurrence) (i : Item) → IsLive s table p i → i.attribute ≡ a → (o ≡ p) ⊎ IsEarlier o p)
+
+-- what is said of each attribute so far
+abbrev pub Slots : Type 0
+Slots = ℕ → Option Answer
+
+-- the answers of a row of slots, by number
+abbrev pub slots_in : List (Option Answer) → Slots
+slots_in slots a = slice_index_or slots a None
+
+-- a table is stable over a start if an attribute with an answer at the start has no entry, and each
+-- other one has the earliest of its live occurrences
+abbrev pub IsStable : Setting → Slots → Table → Type 0
+IsStable s start table =
+    (a : ℕ) → MatchOption (start a) (IsEarliest s table a (table a)) (λ answer. table a ≡ None)
+
+-- there is exactly one stable table
+abbrev pub OneTable : Setting → Slots → Type 0
+OneTable s start =
+    (table : Table) × IsStable s start table × ((other : Table) → IsStable s start other → other ≡ table)

@@ -1,0 +1,6 @@
+pub mod NameLemmas
+pub mod WordLemmas
+pub mod WordLaws
+pub mod PrintedLaws
+pub mod LineLemmas
+pub mod LineLaws

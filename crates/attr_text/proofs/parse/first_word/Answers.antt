@@ -1,0 +1,17 @@
+-- The first word is what stands before the first blank, behind the blanks in front.
+use Rattle.std.proofs.Common.{◌≡◌, ◌<◌, length, sym, arith}
+use Rattle.std.proofs.lemmas.Bool.{eqb-true, eqb-false}
+use Rattle.attr_text.proofs.WordLemmas.{words-step, words-end}
+use Rattle.attr_text.proofs.parse.first_word.Goals as goal
+
+pub returns-then-is_empty : goal.returns-then-is_empty
+returns-then-is_empty c =
+    words-end c.args.text.now c.after_blanks-text.result.now c.after_blanks-text.ensures
+    (eqb-true (length c.after_blanks-text.result.now) 0 (sym c.if-is_empty.ensures))
+
+pub returns : goal.returns
+returns c =
+    let not_empty : length c.after_blanks-text.result.now ≡ 0 → ⊥ = eqb-false (length c.after_blanks-text.result.now) 0 (sym c.if-is_empty.ensures) in
+    let some : 0 < length c.after_blanks-text.result.now = omega arith in
+    let step = words-step c.args.text.now c.after_blanks-text.result.now c.after_blanks-text.ensures some in
+    rw (c.split_at.ensures.front, c.split_at.ensures.back, c.first_blank.ensures.place) step

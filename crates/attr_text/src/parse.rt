@@ -1,0 +1,454 @@
+//! The lines of an attributes file, and the assignments in a line.
+ghost use Rattle.std.specs.Prelude.{◌≡◌, ℕ, ◌<◌, ◌≤◌, List, [], ◌∷◌, Option, Some, MatchOption, OnSome, IfNone, IfSome, is_none, IfOk, not, length, nat_eq, position, option_map};
+ghost use Rattle.std.specs.Iterator.{YieldsFirstBy, item_count, at_most};
+ghost use Rattle.std.specs.Cow.{cow_slice_items};
+ghost use Rattle.std.specs.List.{position_or_len, starts_with};
+ghost use Rattle.std.specs.Option.{ForSome};
+ghost use Rattle.std.specs.Result.{result_map_both};
+ghost use Rattle.bstr.specs.BStr.{bstr_bytes};
+ghost use Rattle.attr_text.specs.Items.{is_blank, is_equals, after_blanks, checked_name, with_state, state_from, words, item_of, items_of};
+ghost use Rattle.attr_text.specs.LineResults.{marks, without_front, is_macro, macro_of, target_of, parts_of, result_of, results_of};
+ghost use Rattle.attr_text.specs.TextViews.{name_text, stated, refusal, item_seen, target_seen, told, Tells, TellsKind, SaysLine, SaysFirst, Yields};
+
+use crate::state::ValueRef;
+use crate::{AssignmentRef, Name, NameRef, StateRef, name};
+use attr_glob::Pattern;
+use attr_glob::quote::ansi_c::{UndoError, undo};
+use bstr::{BStr, ByteSlice};
+use std::alloc::{AllocError, Global};
+use std::borrow::CowSlice;
+use std::marker::Model;
+
+/// What the items of a line are for.
+#[derive(PartialEq, Eq, PartialOrd, Ord, Hash, Debug, Drop)]
+pub enum Kind {
+    /// The paths that the pattern matches.
+    Pattern(Pattern),
+    /// The macro of this name, which the line defines.
+    Macro(Name),
+}
+
+/// Why a line of an attributes file is refused.
+#[derive(Debug, Drop, thiserror::Error)]
+pub enum Error {
+    /// The name that the line would define a macro by is invalid or reserved.
+    #[error("Macro in line {line} has an invalid name")]
+    MacroName {
+        /// The number of the line, from 1.
+        line: usize,
+        /// The bytes of the name.
+        input: Vec<u8>,
+    },
+    /// The line's pattern is negative, which attributes files don't allow.
+    #[error("Line {line} has a negative pattern, for literal characters use \\!")]
+    NegativePattern {
+        /// The number of the line, from 1.
+        line: usize,
+        /// The pattern text, with its `!`.
+        input: Vec<u8>,
+    },
+    /// There was no memory for what the line says.
+    #[error("out of memory")]
+    OutOfMemory,
+}
+
+impl From<AllocError> for Error {
+    ghost use Rattle.attr_text.specs.declared.parse.Error.TheVariants.{OutOfMemory};
+
+    ghost from_gives = { λ _ e. e ≡ OutOfMemory };
+
+    fn from(_refused: AllocError) -> Error {
+        Error::OutOfMemory
+    }
+}
+
+impl Kind {
+    /// A copy with a pattern or a name of its own.
+    pub fn clone(&self, alloc: Global) -> Result<Kind, AllocError>
+        ensures { IfOk result (λ copy. target_seen copy ≡ target_seen self.now) }
+    {
+        match self {
+            Kind::Pattern(pattern) => Ok(Kind::Pattern(pattern.clone(alloc)?)),
+            Kind::Macro(name) => Ok(Kind::Macro(name.clone(alloc)?)),
+        }
+    }
+}
+
+/// Why an item of a line assigns nothing.
+#[derive(Debug, Drop, thiserror::Error)]
+pub enum AttrError<'a> {
+    /// The name, which is no valid one.
+    #[error("Attribute has non-ascii characters or starts with '-'")]
+    InvalidName(BStr<'a>),
+    /// The name, which is kept for built-in attributes.
+    #[error("Attribute name uses the reserved 'builtin_' prefix")]
+    Reserved(BStr<'a>),
+}
+
+/// The assignments in a text, one for each of its longest runs of bytes that are not blanks. It
+/// goes on after an error, and takes no memory.
+#[derive(Drop)]
+pub struct Iter<'a> {
+    text: &'a [u8],
+}
+
+/// What the lines of an attributes file say, one after the other. After a refused line the next one
+/// follows; after want of memory there is no further one.
+#[derive(Drop)]
+pub struct Lines<'a> {
+    lines: bstr::Lines<'a>,
+    line_no: usize,
+    alloc: Global,
+}
+
+impl<'a> Model for Iter<'a> {
+    ghost use Rattle.std.specs.Prelude.{List, Result};
+    ghost use Rattle.attr_text.specs.Items.{Refusal, items_of};
+    ghost use Rattle.attr_text.specs.declared.assignment.Assignment.{Assignment};
+
+    ghost Value = { List (Result Assignment Refusal) };
+
+    ghost view = { λ s. items_of s.text.now };
+}
+
+impl<'a> Iter<'a> {
+    /// The assignments in `input`, of which names and values are slices.
+    pub fn new(input: BStr<'a>) -> Iter<'a>
+        ensures { result ≡ items_of (bstr_bytes input.entry) }
+    {
+        Iter {
+            text: input.as_bytes(),
+        }
+    }
+}
+
+impl<'a> Iterator for Iter<'a> {
+    type Item = Result<AssignmentRef<'a>, AttrError<'a>>;
+
+    ghost next_gives = { YieldsFirstBy item_seen (λ items. items) };
+
+    ghost remaining = { item_count (λ items. items) };
+
+    fn next(&mut self) -> Option<Result<AssignmentRef<'a>, AttrError<'a>>> {
+        match first_word(self.text) {
+            None => {
+                self.text = b"";
+                None
+            }
+            Some((word, rest)) => {
+                self.text = rest;
+                Some(parse_attr(word))
+            }
+        }
+    }
+}
+
+// The first word of a text, and what stands behind it.
+fn first_word<'a>(text: &'a [u8]) -> Option<(&'a [u8], &'a [u8])>
+    ensures { MatchOption result (words text.now ≡ []) (λ p. words text.now ≡ p.0.now ∷ words p.1.now) }
+{
+    let text = after_blanks(text);
+    if text.is_empty() {
+        return None;
+    }
+    let (word, rest) = text.split_at(first_blank(text));
+    Some((word, rest))
+}
+
+// Whether the byte parts the items of a line.
+fn is_blank(b: u8) -> bool
+    ensures { result ≡ is_blank b }
+{
+    b == b' ' || b == b'\t' || b == b'\r'
+}
+
+fn position_of_other(text: &[u8]) -> Option<usize>
+    ensures { result ≡ position (λ b. not (is_blank b)) text.now }
+{
+    text.iter().position(|b| !is_blank(*b))
+}
+
+fn position_of_blank(text: &[u8]) -> Option<usize>
+    ensures { result ≡ position is_blank text.now }
+{
+    text.iter().position(|b| is_blank(*b))
+}
+
+#[tactic(auto, using(crate::proofs::WordLemmas::place_of_first, crate::proofs::WordLemmas::place_in_text))]
+fn first_not_blank(text: &[u8]) -> usize
+    ensures place { result ≡ position_or_len (λ b. not (is_blank b)) text.now }
+    ensures inside { result ≤ length text.now }
+{
+    position_of_other(text).unwrap_or(text.len())
+}
+
+#[tactic(auto, using(crate::proofs::WordLemmas::place_of_first, crate::proofs::WordLemmas::place_in_text))]
+fn first_blank(text: &[u8]) -> usize
+    ensures place { result ≡ position_or_len is_blank text.now }
+    ensures inside { result ≤ length text.now }
+{
+    position_of_blank(text).unwrap_or(text.len())
+}
+
+fn after_blanks(text: &[u8]) -> &[u8]
+    ensures { result.now ≡ after_blanks text.now }
+{
+    &text[first_not_blank(text)..]
+}
+
+fn first_equals(word: &[u8]) -> Option<usize>
+    ensures place { result ≡ position is_equals word.now }
+    ensures inside { ForSome result (λ i. i < length word.now) }
+{
+    word.iter().position(|b| *b == b'=')
+}
+
+// What a word assigns, or why it assigns nothing.
+fn parse_attr<'a>(word: &'a [u8]) -> Result<AssignmentRef<'a>, AttrError<'a>>
+    ensures { item_seen result ≡ item_of word.now }
+{
+    let equals = first_equals(word);
+    let name = &word[..equals.unwrap_or(word.len())];
+    match name.first() {
+        Some(b'-') => assign(&name[1..], StateRef::Unset),
+        Some(b'!') => assign(&name[1..], StateRef::Unspecified),
+        _ => assign(name, state_from(word, equals)),
+    }
+}
+
+fn assign<'a>(name: &'a [u8], state: StateRef<'a>) -> Result<AssignmentRef<'a>, AttrError<'a>>
+    ensures { item_seen result ≡ with_state (checked_name name.now) (stated state.entry) }
+{
+    match check_attr(name) {
+        Ok(name) => Ok(AssignmentRef { name, state }),
+        Err(e) => Err(e),
+    }
+}
+
+fn state_from<'a>(word: &'a [u8], equals: Option<usize>) -> StateRef<'a>
+    requires { ForSome equals (λ i. i < length word.now) }
+    ensures { stated result ≡ state_from word.now equals }
+{
+    match equals {
+        None => StateRef::Set,
+        Some(i) => StateRef::Value(ValueRef::from_bytes(&word[i + 1..])),
+    }
+}
+
+// The name, if it is valid and not reserved.
+pub(crate) fn check_attr<'a>(attr: &'a [u8]) -> Result<NameRef<'a>, AttrError<'a>>
+    ensures { result_map_both name_text refusal result ≡ checked_name attr.now }
+{
+    match NameRef::try_from(BStr::new(attr)) {
+        Err(name::Error::InvalidName(input)) => Err(AttrError::InvalidName(input)),
+        Ok(name) => {
+            if name::is_reserved(attr) {
+                Err(AttrError::Reserved(BStr::new(attr)))
+            } else {
+                Ok(name)
+            }
+        }
+    }
+}
+
+/// What the lines of the bytes say, in order.
+pub fn parse(alloc: Global, bytes: &[u8]) -> Lines<'_>
+    ensures { result.results ≡ results_of bytes.now }
+{
+    Lines::new(alloc, bytes)
+}
+
+impl<'a> Model for Lines<'a> {
+    ghost use Rattle.std.specs.Prelude.{◌+◌, ◌^◌, ◌<◌, length};
+    ghost use Rattle.attr_text.specs.LineResults.{Unread, results_from};
+
+    ghost Value = { Unread };
+
+    ghost view = { λ s. record { results = results_from (s.line_no + 1) s.lines; lines = length s.lines } };
+
+    ghost invariant = { λ s. s.line_no + length s.lines < 2 ^ 64 };
+}
+
+impl<'a> Lines<'a> {
+    /// What the lines of the bytes say, in order. Each line is counted, also one that says nothing.
+    pub fn new(alloc: Global, bytes: &'a [u8]) -> Lines<'a>
+        ensures { result.results ≡ results_of bytes.now }
+    {
+        Lines {
+            lines: without_mark(bytes).lines(),
+            line_no: 0,
+            alloc,
+        }
+    }
+
+    // What the next line that says something says.
+    fn first_said(&mut self) -> Option<Result<(Kind, Iter<'a>, usize), Error>>
+        ensures said { SaysFirst self.old.results result self.new.results }
+        ensures fewer { OnSome result (self.new.lines < self.old.lines) }
+    {
+        while let Some(said) = self.read_line() {
+            if let Some(said) = said {
+                return Some(said);
+            }
+        }
+        None
+    }
+
+    // What the next line says, if there is a line, and if it says anything.
+    fn read_line(&mut self) -> Option<Option<Result<(Kind, Iter<'a>, usize), Error>>>
+        ensures end { IfNone result ((self.old.results ≡ []) × (self.new.results ≡ [])) }
+        ensures said { IfSome result (λ said. SaysLine self.old.results said self.new.results) }
+        ensures fewer { OnSome result (self.new.lines < self.old.lines) }
+    {
+        let line = self.lines.next()?;
+        self.line_no += 1;
+        Some(parse_line(self.alloc, line, self.line_no))
+    }
+
+    // Says nothing further.
+    fn end(&mut self)
+        ensures results { self.new.results ≡ [] }
+        ensures lines { self.new.lines ≡ 0 }
+    {
+        let nothing: &[u8] = b"";
+        self.lines = nothing.lines();
+        self.line_no = 0;
+    }
+}
+
+impl<'a> Iterator for Lines<'a> {
+    type Item = Result<(Kind, Iter<'a>, usize), Error>;
+
+    ghost next_gives = { Yields };
+
+    ghost remaining = { λ unread. at_most unread.lines };
+
+    fn next(&mut self) -> Option<Result<(Kind, Iter<'a>, usize), Error>> {
+        let said = self.first_said()?;
+        if is_out_of_memory(&said) {
+            self.end();
+            return Some(said);
+        }
+        Some(said)
+    }
+}
+
+// Whether memory ran out.
+fn is_out_of_memory<'a>(said: &Result<(Kind, Iter<'a>, usize), Error>) -> bool
+    ensures { result ≡ is_none (told said.now) }
+{
+    match said {
+        Err(Error::OutOfMemory) => true,
+        Err(Error::MacroName { line: _, input: _ }) => false,
+        Err(Error::NegativePattern { line: _, input: _ }) => false,
+        Ok(_) => false,
+    }
+}
+
+const UTF_8_MARK: &[u8] = b"\xEF\xBB\xBF";
+
+const UTF_32_BE_MARK: &[u8] = b"\0\0\xFE\xFF";
+
+const UTF_32_LE_MARK: &[u8] = b"\xFF\xFE\0\0";
+
+const UTF_16_LE_MARK: &[u8] = b"\xFF\xFE";
+
+const UTF_16_BE_MARK: &[u8] = b"\xFE\xFF";
+
+// What stands behind the byte order mark. A mark of UTF-32 may begin as one of UTF-16 does.
+fn without_mark(bytes: &[u8]) -> &[u8]
+    ensures { result.now ≡ without_front marks bytes.now }
+{
+    if bytes.starts_with(UTF_8_MARK) {
+        &bytes[UTF_8_MARK.len()..]
+    } else if bytes.starts_with(UTF_32_BE_MARK) {
+        &bytes[UTF_32_BE_MARK.len()..]
+    } else if bytes.starts_with(UTF_32_LE_MARK) {
+        &bytes[UTF_32_LE_MARK.len()..]
+    } else if bytes.starts_with(UTF_16_LE_MARK) {
+        &bytes[UTF_16_LE_MARK.len()..]
+    } else if bytes.starts_with(UTF_16_BE_MARK) {
+        &bytes[UTF_16_BE_MARK.len()..]
+    } else {
+        bytes
+    }
+}
+
+// What a line says, if it says anything.
+fn parse_line<'a>(
+    alloc: Global,
+    line: &'a [u8],
+    line_number: usize,
+) -> Option<Result<(Kind, Iter<'a>, usize), Error>>
+    ensures { Tells result (result_of line.now line_number) }
+{
+    let text = after_blanks(line);
+    if text.is_empty() || text[0] == b'#' {
+        return None;
+    }
+    let Ok((pattern_text, items)) = split_text(alloc, text) else {
+        return Some(Err(Error::OutOfMemory));
+    };
+    match kind_of(alloc, &pattern_text, line_number) {
+        Ok(None) => None,
+        Ok(Some(kind)) => Some(Ok((kind, Iter::new(BStr::new(items)), line_number))),
+        Err(e) => Some(Err(e)),
+    }
+}
+
+// A line's pattern text, and the text of its items. A quoted text that finds no memory to be undone
+// is never read as it stands.
+fn split_text<'a>(alloc: Global, text: &'a [u8]) -> Result<(CowSlice<'a, u8>, &'a [u8]), AllocError>
+    ensures { IfOk result (λ parts. (cow_slice_items parts.0, parts.1.now) ≡ parts_of text.now) }
+{
+    match undo(alloc, BStr::new(text)) {
+        Ok((plain, taken)) => Ok((plain, &text[taken..])),
+        Err(UndoError::OutOfMemory) => Err(AllocError),
+        Err(_) => {
+            let (pattern_text, items) = text.split_at(first_blank(text));
+            Ok((CowSlice::Borrowed(pattern_text), items))
+        }
+    }
+}
+
+const MACRO_MARK: &[u8] = b"[attr]";
+
+fn is_macro(pattern_text: &[u8]) -> bool
+    ensures { result ≡ is_macro pattern_text.now }
+{
+    pattern_text.starts_with(MACRO_MARK) && pattern_text.len() > MACRO_MARK.len()
+}
+
+// What a line's items are for by its pattern text.
+fn kind_of(alloc: Global, pattern_text: &[u8], line: usize) -> Result<Option<Kind>, Error>
+    ensures { TellsKind result (target_of pattern_text.now line) }
+{
+    if is_macro(pattern_text) {
+        return macro_of(alloc, &pattern_text[MACRO_MARK.len()..], line);
+    }
+    let Some(pattern) = Pattern::from_bytes(alloc, pattern_text)? else {
+        return Ok(None);
+    };
+    if pattern.is_negative() {
+        return Err(Error::NegativePattern {
+            line,
+            input: Vec::from_slice(alloc, pattern_text)?,
+        });
+    }
+    Ok(Some(Kind::Pattern(pattern)))
+}
+
+fn macro_of(alloc: Global, name: &[u8], line: usize) -> Result<Option<Kind>, Error>
+    ensures { TellsKind result (Some (macro_of (checked_name name.now) name.now line)) }
+{
+    match check_attr(name) {
+        Ok(name) => Ok(Some(Kind::Macro(name.to_owned(alloc)?))),
+        Err(_) => Err(Error::MacroName {
+            line,
+            input: Vec::from_slice(alloc, name)?,
+        }),
+    }
+}
+
+#[cfg(test)]
+mod tests;

@@ -1,0 +1,336 @@
+//! Readers and writers in memory, which can be made to fail.
+ghost use Rattle.std.specs.Prelude.{◌≡◌, ◌≢◌, ◌≤◌, ◌<◌, ◌-◌, ◌++◌, ℕ, List, [], Ok, Some, true, false, IsErr, IfOk, OnOk, OnErr, MatchResult, length, take, drop, min};
+ghost use Rattle.std.specs.Io.{ReadsAtMost, WritesAtMost};
+ghost use Rattle.std.specs.Io.KnownBytes.{ReadConsumes, WriteAppends};
+ghost use Rattle.gix_attributes.specs.Failures.{Fails, one_more};
+ghost use Rattle.attr_vectors.specs.Devices.{supply_of, store_of, unlimited};
+
+use check_attr::{Pull, Push};
+use std::alloc::{AllocError, Global};
+use std::io;
+use std::io::ErrorKind;
+use std::marker::Model;
+
+/// Bytes that are read all at once or one by one, and of which one read can be made to fail.
+#[derive(Drop)]
+pub struct Source<'a> {
+    rest: &'a [u8],
+    most: usize,
+    failing: u64,
+    failures: u64,
+}
+
+impl<'a> Model for Source<'a> {
+    ghost use Rattle.std.specs.Prelude.{◌<◌};
+    ghost use Rattle.attr_vectors.specs.Devices.{Supply};
+
+    ghost Value = { Supply };
+
+    ghost view = { λ s. record { rest = s.rest.now; most = s.most; failing = s.failing; failures = s.failures } };
+
+    ghost invariant = { λ s. 0 < s.most };
+}
+
+impl<'a> Source<'a> {
+    /// Gives as much as a call has room for.
+    pub fn new(bytes: &'a [u8]) -> Source<'a>
+        ensures { result ≡ supply_of bytes.now unlimited }
+    {
+        Source {
+            rest: bytes,
+            most: usize::MAX,
+            failing: 0,
+            failures: 0,
+        }
+    }
+
+    /// Gives one byte a call.
+    pub fn one_by_one(bytes: &'a [u8]) -> Source<'a>
+        ensures { result ≡ supply_of bytes.now 1 }
+    {
+        Source {
+            rest: bytes,
+            most: 1,
+            failing: 0,
+            failures: 0,
+        }
+    }
+
+    /// Makes the `nth_read` from now on fail, once, as an interrupted one; 0 means that none does.
+    pub fn fail_read(&mut self, nth_read: u64)
+        ensures { self.new ≡ record self.old { failing = nth_read } }
+    {
+        self.failing = nth_read;
+    }
+
+    /// What is left to be read.
+    pub fn rest(&self) -> &[u8]
+        ensures { result.now ≡ self.now.rest }
+    {
+        self.rest
+    }
+}
+
+impl<'a> Pull for Source<'a> {
+    ghost remaining = { λ s. Some s.rest };
+
+    ghost failed = { λ s. s.failures };
+
+    fn read(&mut self, buf: &mut [u8]) -> io::Result<usize>
+        ensures bound { ReadsAtMost result buf.new }
+        ensures bytes { ReadConsumes (Some self.old.rest) (Some self.new.rest) result buf.new }
+        ensures kept { self.old.failures ≤ self.new.failures }
+        ensures err { OnErr result (Fails self.old.failures self.new.failures) }
+        ensures fails { self.old.failing ≡ 1 → IsErr result × (self.new ≡ record self.old { failing = 0; failures = one_more self.old.failures }) }
+        ensures gives { self.old.failing ≢ 1 → IfOk result (λ n. n ≡ min (min (length self.old.rest) self.old.most) (length buf.new)) }
+        ensures goes_on { self.old.failing ≢ 1 → MatchResult result (λ n. self.new ≡ record self.old { rest = drop n self.old.rest; failing = self.old.failing - 1 }) (λ _. ⊥) }
+    {
+        if self.failing == 1 {
+            self.failing = 0;
+            self.failures = self.failures.saturating_add(1);
+            return Err(io::Error::from(ErrorKind::Interrupted));
+        }
+        self.failing = self.failing.saturating_sub(1);
+        let count = self.rest.len().min(self.most).min(buf.len());
+        let (given, rest) = self.rest.split_at(count);
+        buf[..count].copy_from_slice(given);
+        self.rest = rest;
+        Ok(count)
+    }
+
+    fn failures(&self) -> u64 {
+        self.failures
+    }
+}
+
+/// Keeps what is written to it, all at once or one byte a call; a write or the flushes can be made
+/// to fail.
+#[derive(Drop)]
+pub struct Sink {
+    bytes: Vec<u8>,
+    most: usize,
+    failing: u64,
+    fails_flush: bool,
+    flushes: u64,
+    failures: u64,
+}
+
+impl Model for Sink {
+    ghost use Rattle.std.specs.Prelude.{◌<◌};
+    ghost use Rattle.attr_vectors.specs.Devices.{Store};
+
+    ghost Value = { Store };
+
+    ghost view = { λ s. record { bytes = s.bytes.items; most = s.most; failing = s.failing; fails_flush = s.fails_flush; flushes = s.flushes; failures = s.failures } };
+
+    ghost invariant = { λ s. 0 < s.most };
+}
+
+impl Sink {
+    /// Takes all that a call hands it.
+    pub fn new(alloc: Global) -> Sink
+        ensures { result ≡ store_of unlimited }
+    {
+        Sink::over(Vec::new(alloc), usize::MAX)
+    }
+
+    /// Takes one byte a call.
+    pub fn one_by_one(alloc: Global) -> Sink
+        ensures { result ≡ store_of 1 }
+    {
+        Sink::over(Vec::new(alloc), 1)
+    }
+
+    /// Takes all that a call hands it, and takes no memory until it holds more than `room` bytes.
+    pub fn with_room(alloc: Global, room: usize) -> Result<Sink, AllocError>
+        ensures { IfOk result (λ sink. sink ≡ store_of unlimited) }
+    {
+        Ok(Sink::over(Vec::with_capacity(alloc, room)?, usize::MAX))
+    }
+
+    fn over(bytes: Vec<u8>, most: usize) -> Sink
+        requires empty { bytes.items ≡ [] }
+        requires some { 0 < most }
+        ensures { result ≡ store_of most }
+    {
+        Sink {
+            bytes,
+            most,
+            failing: 0,
+            fails_flush: false,
+            flushes: 0,
+            failures: 0,
+        }
+    }
+
+    /// Makes the `nth_write` from now on fail, once, as an interrupted one; 0 means that none does.
+    pub fn fail_write(&mut self, nth_write: u64)
+        ensures { self.new ≡ record self.old { failing = nth_write } }
+    {
+        self.failing = nth_write;
+    }
+
+    /// Makes every flush fail.
+    pub fn fail_flush(&mut self)
+        ensures { self.new ≡ record self.old { fails_flush = true } }
+    {
+        self.fails_flush = true;
+    }
+
+    /// What was written so far.
+    pub fn bytes(&self) -> &[u8]
+        ensures { result.now ≡ self.now.bytes }
+    {
+        self.bytes.as_slice()
+    }
+
+    /// How many flushes there were, failed ones included; the count stays at `u64::MAX`.
+    pub fn flushes(&self) -> u64
+        ensures { result ≡ self.now.flushes }
+    {
+        self.flushes
+    }
+}
+
+impl Push for Sink {
+    ghost contents = { λ s. Some s.bytes };
+
+    ghost failed = { λ s. s.failures };
+
+    ghost Stalls = { λ _. ⊥ };
+
+    ghost Flushed = { λ s. 0 < s.flushes };
+
+    fn write(&mut self, bytes: &[u8]) -> io::Result<usize>
+        ensures bound { WritesAtMost result bytes.now }
+        ensures bytes { WriteAppends (Some self.old.bytes) (Some self.new.bytes) result bytes.now }
+        ensures stalls { IfOk result (λ n. n ≡ 0 → 0 < length bytes.now → ⊥) }
+        ensures kept { self.old.failures ≤ self.new.failures }
+        ensures err { OnErr result (Fails self.old.failures self.new.failures) }
+        ensures fails { self.old.failing ≡ 1 → IsErr result × (self.new ≡ record self.old { failing = 0; failures = one_more self.old.failures }) }
+        ensures takes { IfOk result (λ n. n ≡ min (length bytes.now) self.old.most) }
+        ensures goes_on { self.old.failing ≢ 1 → MatchResult result (λ n. self.new ≡ record self.old { bytes = self.old.bytes ++ take n bytes.now; failing = self.old.failing - 1 }) (λ _. self.new ≡ record self.old { failing = self.old.failing - 1; failures = one_more self.old.failures }) }
+    {
+        if self.failing == 1 {
+            self.failing = 0;
+            self.failures = self.failures.saturating_add(1);
+            return Err(io::Error::from(ErrorKind::Interrupted));
+        }
+        self.failing = self.failing.saturating_sub(1);
+        let count = bytes.len().min(self.most);
+        if self.bytes.extend_from_slice(&bytes[..count]).is_err() {
+            self.failures = self.failures.saturating_add(1);
+            return Err(io::Error::from(ErrorKind::OutOfMemory));
+        }
+        Ok(count)
+    }
+
+    fn flush(&mut self) -> io::Result<()>
+        ensures kept { self.old.failures ≤ self.new.failures }
+        ensures flushed { 0 < self.new.flushes }
+        ensures counted { OnErr result (Fails self.old.failures self.new.failures) }
+        ensures ok { OnOk result ((self.old.fails_flush ≡ false) × (self.new ≡ record self.old { flushes = one_more self.old.flushes })) }
+        ensures err { OnErr result ((self.old.fails_flush ≡ true) × (self.new ≡ record self.old { flushes = one_more self.old.flushes; failures = one_more self.old.failures })) }
+    {
+        self.flushes = self.flushes.saturating_add(1);
+        if self.fails_flush {
+            self.failures = self.failures.saturating_add(1);
+            return Err(io::Error::from(ErrorKind::Other));
+        }
+        Ok(())
+    }
+
+    fn failures(&self) -> u64 {
+        self.failures
+    }
+}
+
+/// Takes no byte, and never fails.
+#[derive(Drop)]
+pub struct Stuck;
+
+impl Push for Stuck {
+    ghost contents = { λ _. Some [] };
+
+    ghost failed = { λ _. 0 };
+
+    ghost Stalls = { λ _. Unit {0} };
+
+    fn write(&mut self, _bytes: &[u8]) -> io::Result<usize>
+        ensures { result ≡ Ok 0 }
+    {
+        Ok(0)
+    }
+
+    fn flush(&mut self) -> io::Result<()>
+        ensures { OnErr result ⊥ }
+    {
+        Ok(())
+    }
+
+    fn failures(&self) -> u64 {
+        0
+    }
+}
+
+/// Refuses each write and each flush.
+#[derive(Drop)]
+pub struct Broken {
+    failures: u64,
+}
+
+impl Model for Broken {
+    ghost use Rattle.std.specs.Prelude.{ℕ};
+
+    ghost Value = { ℕ };
+
+    ghost view = { λ s. s.failures };
+}
+
+impl Broken {
+    /// No call failed yet.
+    pub fn new() -> Broken
+        ensures { result ≡ 0 }
+    {
+        Broken { failures: 0 }
+    }
+
+    fn refused<T>(&mut self) -> io::Result<T>
+        ensures err { IsErr result }
+        ensures count { self.new ≡ one_more self.old }
+        ensures kept { self.old ≤ self.new }
+    {
+        self.failures = self.failures.saturating_add(1);
+        Err(io::Error::from(ErrorKind::Other))
+    }
+}
+
+impl Push for Broken {
+    ghost contents = { λ _. Some [] };
+
+    ghost failed = { λ s. s };
+
+    ghost Stalls = { λ _. ⊥ };
+
+    fn write(&mut self, _bytes: &[u8]) -> io::Result<usize>
+        ensures refused { IsErr result }
+        ensures count { self.new ≡ one_more self.old }
+        ensures kept { self.old ≤ self.new }
+        ensures err { Fails self.old self.new }
+    {
+        self.refused()
+    }
+
+    fn flush(&mut self) -> io::Result<()>
+        ensures refused { IsErr result }
+        ensures count { self.new ≡ one_more self.old }
+        ensures kept { self.old ≤ self.new }
+        ensures err { Fails self.old self.new }
+    {
+        self.refused()
+    }
+
+    fn failures(&self) -> u64 {
+        self.failures
+    }
+}

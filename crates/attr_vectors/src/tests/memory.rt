@@ -1,0 +1,87 @@
+//! Runs that find no memory. The tests `without_memory_..` pass whichever request for memory is
+//! refused, and `with_memory_all_is_answered` only where none is.
+use super::statuses::arguments;
+use super::{INPUT, TEXT};
+use crate::devices::{Sink, Source};
+use check_attr::{Fault, lines, program};
+use gix_attributes::files::Memory;
+use gix_attributes::parse;
+use gix_attributes::parse::{Error, Kind};
+use std::test::Fail;
+
+// The writer's memory is reserved before.
+#[test]
+fn without_memory_a_beginning_is_written(rt: HostRuntime) {
+    let Ok(mut sink) = Sink::with_room(rt.alloc(), 64) else {
+        return;
+    };
+    match lines(rt.alloc(), &mut Source::new(INPUT), &mut sink) {
+        Ok(()) => assert_eq!(rt; sink.bytes(), TEXT),
+        Err(Fault::OutOfMemory) => assert!(rt; TEXT.starts_with(sink.bytes())),
+        Err(Fault::Record(_) | Fault::Read | Fault::Write) => panic!(rt; "no device failed"),
+    }
+}
+
+#[test]
+fn without_memory_quotes_are_never_read_as_they_stand(rt: HostRuntime) {
+    let mut lines = parse::parse(rt.alloc(), b"\"a\\tb\" x\n* y");
+    match lines.next() {
+        Some(Ok((Kind::Pattern(pattern), _, 1))) => {
+            assert_eq!(rt; pattern.text.as_slice(), b"a\tb".as_slice())
+        }
+        Some(Err(Error::OutOfMemory)) => assert!(rt; lines.next().is_none()),
+        _ => panic!(rt; "the line gives its pattern, or there is no memory"),
+    }
+}
+
+// What the program says takes no memory, and `errors` has its own.
+#[test]
+fn without_memory_the_program_says_so(rt: HostRuntime) -> Result<(), Fail> {
+    let Ok(args) = arguments(rt.alloc(), &["--lines"]) else {
+        return Ok(());
+    };
+    let (Ok(mut writer), Ok(mut errors)) = (
+        Sink::with_room(rt.alloc(), 64),
+        Sink::with_room(rt.alloc(), 64),
+    ) else {
+        return Ok(());
+    };
+    let status = program(
+        rt.alloc(),
+        &mut Memory::new(rt.alloc()),
+        &args,
+        &mut Source::new(INPUT),
+        &mut writer,
+        &mut errors,
+    );
+    if status == 0 {
+        assert_eq!(rt; writer.bytes(), TEXT);
+        assert!(rt; errors.bytes().is_empty());
+    } else {
+        assert_eq!(rt; status, 1);
+        assert!(rt; TEXT.starts_with(writer.bytes()));
+        assert_eq!(rt; errors.bytes(), b"check_attr: out of memory\n".as_slice());
+    }
+    Ok(())
+}
+
+// Makes at least as many requests as each of the others.
+#[test]
+fn with_memory_all_is_answered(rt: HostRuntime) -> Result<(), Fail> {
+    let args = arguments(rt.alloc(), &["--lines"])?;
+    let mut writer = Sink::with_room(rt.alloc(), 64)?;
+    let mut errors = Sink::with_room(rt.alloc(), 64)?;
+    let status = program(
+        rt.alloc(),
+        &mut Memory::new(rt.alloc()),
+        &args,
+        &mut Source::new(INPUT),
+        &mut writer,
+        &mut errors,
+    );
+    assert_eq!(rt; status, 0);
+    for line in parse::parse(rt.alloc(), b"\"a\\tb\" x\n* y") {
+        line?;
+    }
+    Ok(())
+}

@@ -1,0 +1,4 @@
+pub mod Bytes
+mod ReportLemmas
+mod SayLemmas
+mod ArgLemmas

@@ -1,0 +1,14 @@
+-- What was written so far is the front of the text.
+use Rattle.std.proofs.Common.{◌≤◌, ◌-◌, length, take}
+use Rattle.std.specs.Io.KnownBytes.{Appends}
+use Rattle.check_attr.proofs.writing.write_all.Given as goal
+
+abbrev pub invariant-loop-written : goal.invariant-loop-written
+invariant-loop-written g l = record {
+  appended : Appends (g.W.Push.contents l.initial.writer) (g.W.Push.contents l.writer) (take l.written l.text);
+  within : l.written ≤ length l.text;
+  kept : g.W.Push.failed l.initial.writer ≤ g.W.Push.failed l.writer;
+}
+
+abbrev pub decreases-loop-written : goal.decreases-loop-written
+decreases-loop-written g l = length l.initial.text - l.written

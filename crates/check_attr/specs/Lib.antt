@@ -1,0 +1,3 @@
+pub mod Failures
+pub mod LinesText
+pub mod Program

@@ -1,0 +1,105 @@
+//! Writers that count their failures, and writing a whole text.
+ghost use Rattle.std.specs.Prelude.{◌≡◌, ◌≤◌, ◌<◌, ◌⊎◌, ℕ, List, Option, length, IfOk, IfErr, OnOk, OnErr};
+ghost use Rattle.std.specs.Io.{WritesAtMost};
+ghost use Rattle.std.specs.Io.KnownBytes.{Appends, Keeps, WriteAppends};
+ghost use Rattle.gix_attributes.specs.Failures.{Fails};
+ghost use Rattle.check_attr.specs.Failures.{AppendsFront};
+
+use crate::failures::counted;
+use crate::fault::Fault;
+use std::io;
+use std::io::Write;
+
+/// What bytes are written to: the calls and bytes of std's `Write`, with a count of the errors.
+pub trait Push {
+    // The bytes that the writer holds, where they are known.
+    ghost contents: { Self → Option (List ℕ) };
+
+    // How many calls failed so far.
+    ghost failed: { Self → ℕ };
+
+    // Whether a write may have taken no byte of some.
+    ghost Stalls: { Self → Type 0 };
+
+    // What a flush makes true of the writer, where it succeeds.
+    ghost Flushed: { Self → Type 0 } = { λ _. Unit {0} };
+
+    /// Writes the front of `bytes`, and answers how many of them it took.
+    fn write(&mut self, bytes: &[u8]) -> io::Result<usize>
+        ensures bound { WritesAtMost result bytes.now }
+        ensures bytes { WriteAppends (contents self.old) (contents self.new) result bytes.now }
+        ensures stalls { IfOk result (λ n. n ≡ 0 → 0 < length bytes.now → Stalls self.new) }
+        ensures kept { failed self.old ≤ failed self.new }
+        ensures err { OnErr result (Fails (failed self.old) (failed self.new)) };
+
+    /// Passes on what the writer still keeps to itself.
+    fn flush(&mut self) -> io::Result<()>
+        ensures bytes { Keeps (contents self.old) (contents self.new) }
+        ensures ok { OnOk result (Flushed self.new) }
+        ensures kept { failed self.old ≤ failed self.new }
+        ensures err { OnErr result (Fails (failed self.old) (failed self.new)) };
+
+    /// How many calls failed so far, an interrupted one included; the count stays at `u64::MAX`.
+    fn failures(&self) -> u64
+        ensures { result ≡ failed self.now };
+}
+
+/// Any writer of std, with its errors counted.
+#[derive(Drop)]
+pub struct Writer<W> {
+    inner: W,
+    failures: u64,
+}
+
+impl<W: Write> Writer<W> {
+    /// The writer, with no failure counted yet.
+    pub fn new(inner: W) -> Writer<W>
+        ensures contents { ⟦<Writer<W> as Push>⟧.contents result ≡ W.contents inner }
+        ensures failed { ⟦<Writer<W> as Push>⟧.failed result ≡ 0 }
+    {
+        Writer { inner, failures: 0 }
+    }
+}
+
+impl<W: Write> Push for Writer<W> {
+    ghost contents = { λ s. W.contents s.inner };
+
+    ghost failed = { λ s. s.failures };
+
+    ghost Stalls = { λ _. Unit {0} };
+
+    fn write(&mut self, bytes: &[u8]) -> io::Result<usize> {
+        counted(&mut self.failures, self.inner.write(bytes))
+    }
+
+    fn flush(&mut self) -> io::Result<()> {
+        counted(&mut self.failures, self.inner.flush())
+    }
+
+    fn failures(&self) -> u64 {
+        self.failures
+    }
+}
+
+/// Writes a whole text, and flushes once. A call that fails is not tried again, an interrupted one
+/// included.
+pub(crate) fn write_all<W: Push>(writer: &mut W, text: &[u8]) -> Result<(), Fault>
+    ensures ok { OnOk result (Appends (W.contents writer.old) (W.contents writer.new) text.now) }
+    ensures flushed { OnOk result (W.Flushed writer.new) }
+    ensures front { OnErr result (AppendsFront (W.contents writer.old) (W.contents writer.new) text.now) }
+    ensures kept { W.failed writer.old ≤ W.failed writer.new }
+    ensures write { OnErr result (Fails (W.failed writer.old) (W.failed writer.new) ⊎ W.Stalls writer.new) }
+    ensures only { IfErr result (λ fault. fault ≡ Fault.Write) }
+{
+    let mut written = 0;
+    while written < text.len() {
+        match writer.write(&text[written..]) {
+            Ok(count) if count > 0 => written += count,
+            _ => return Err(Fault::Write),
+        }
+    }
+    match writer.flush() {
+        Ok(()) => Ok(()),
+        Err(_) => Err(Fault::Write),
+    }
+}

@@ -1,0 +1,16 @@
+pub mod Failures
+pub mod Answers
+pub mod DiskReads
+pub mod Kept
+pub mod KeptView
+pub use Rattle.attr_glob.specs.Patterns
+pub use Rattle.attr_glob.specs.Quotes
+pub use Rattle.attr_glob.specs.Refusals
+pub use Rattle.attr_glob.specs.Views
+pub use Rattle.attr_text.specs.Names
+pub use Rattle.attr_text.specs.States
+pub use Rattle.attr_text.specs.Items
+pub use Rattle.attr_text.specs.Words
+pub use Rattle.attr_text.specs.LineResults
+pub use Rattle.attr_text.specs.LinesJoined
+pub use Rattle.attr_text.specs.TextViews

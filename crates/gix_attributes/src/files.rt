@@ -1,0 +1,109 @@
+//! Files by their names: the real disk, and files that are kept in memory.
+ghost use Rattle.std.specs.Prelude.{◌≡◌, ◌≤◌, ℕ, List, [], false, IfErr};
+ghost use Rattle.gix_attributes.specs.Answers.{Answer, answer_of, IsDevice};
+ghost use Rattle.gix_attributes.specs.Failures.{Fails};
+ghost use Rattle.gix_attributes.specs.declared.files.ReadError.TheVariants.{OutOfMemory};
+
+mod memory;
+#[cfg(test)]
+mod tests;
+
+pub use self::memory::Memory;
+use std::alloc::AllocError;
+use std::fs::File;
+use std::io;
+use std::io::{ErrorKind, Read};
+use std::rt::Files as HostFiles;
+use thiserror::Error;
+
+/// Why a read of a file has no answer.
+#[derive(Debug, Drop, Error)]
+pub enum ReadError {
+    /// The device failed, with its error.
+    #[error("reading failed")]
+    Device(io::Error),
+    /// The buffer could not grow.
+    #[error("out of memory")]
+    OutOfMemory,
+}
+
+impl From<AllocError> for ReadError {
+    ghost from_gives = { λ _ e. e ≡ OutOfMemory };
+
+    fn from(_error: AllocError) -> ReadError {
+        ReadError::OutOfMemory
+    }
+}
+
+/// Files by their names.
+pub trait Files {
+    // What a read may answer, between the state before it and the state after it.
+    ghost reads: { Self → List ℕ → Answer → Self → Type 0 };
+
+    // How often the device failed so far.
+    ghost failed: { Self → ℕ };
+
+    /// Reads a whole file into `buf`, and answers whether there is one. A folder of that name is
+    /// none. After an error the contents of `buf` are open.
+    fn read_into(&mut self, path: &str, buf: &mut Vec<u8>) -> Result<bool, ReadError>
+        ensures answer { reads self.old path.now (answer_of result buf.new.items) self.new }
+        ensures missing { result ≡ Ok false → buf.new.items ≡ [] }
+        ensures kept { failed self.old ≤ failed self.new }
+        ensures device { IfErr result (λ e. IsDevice e → Fails (failed self.old) (failed self.new)) };
+
+    /// How many reads the device failed so far; the count stays at `u64::MAX`.
+    fn failures(&self) -> u64
+        ensures { result ≡ failed self.now };
+}
+
+/// The files of the real disk. Links are followed.
+#[derive(Drop)]
+pub struct Disk<'a, R: HostFiles> {
+    rt: &'a R,
+    failures: u64,
+}
+
+impl<'a, R: HostFiles> Disk<'a, R> {
+    /// The disk that the runtime reaches, with no failure counted yet.
+    pub fn new(rt: &'a R) -> Disk<'a, R>
+        ensures { ⟦<Disk<'a, R> as Files>⟧.failed result ≡ 0 }
+    {
+        Disk { rt, failures: 0 }
+    }
+}
+
+fn read_file<R: HostFiles>(rt: &R, path: &str, buf: &mut Vec<u8>) -> io::Result<()> {
+    buf.clear();
+    let mut file = File::open(rt, path)?;
+    file.read_to_end(buf)?;
+    Ok(())
+}
+
+impl<'a, R: HostFiles> Files for Disk<'a, R> {
+    ghost use Rattle.gix_attributes.specs.DiskReads.{DiskReads};
+
+    ghost reads = { λ old path answer new. DiskReads old.failures answer new.failures };
+
+    ghost failed = { λ disk. disk.failures };
+
+    fn read_into(&mut self, path: &str, buf: &mut Vec<u8>) -> Result<bool, ReadError> {
+        match read_file(self.rt, path, buf) {
+            Ok(()) => Ok(true),
+            Err(error) => match error.kind() {
+                ErrorKind::NotFound | ErrorKind::NotADirectory | ErrorKind::IsADirectory => {
+                    buf.clear();
+                    Ok(false)
+                }
+                ErrorKind::OutOfMemory => Err(ReadError::OutOfMemory),
+                _ => {
+                    self.failures = self.failures.saturating_add(1);
+                    Err(ReadError::Device(error))
+                }
+            },
+        }
+    }
+
+    fn failures(&self) -> u64 {
+        self.failures
+    }
+}
