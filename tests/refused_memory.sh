@@ -12,7 +12,7 @@ while [ "$nth" -lt 200 ]; do
     nth=$((nth + 1))
     rt try --test --seconds 20 --fail-alloc "$nth" -- memory >"$said" 2>&1 || true
     passed=$(grep -c '^test tests::memory::without_memory_.* \.\.\. ok$' "$said" || true)
-    if [ "$passed" -ne 3 ]; then
+    if [ "$passed" -ne 4 ]; then
         cat "$said"
         echo "refused_memory: FAILED where request $nth is refused"
         exit 1

@@ -1,12 +1,12 @@
 -- The flags of a mode are different bits, so that joining them adds them.
 use Rattle.std.proofs.Common.{◌≡◌, ℕ, ◌+◌, Bool, true, false, bit_or, refl}
-use Rattle.attr_glob.specs.Patterns.{set_where, no_sub_dir, ends_with, must_be_dir, negative, absolute}
+use Rattle.attr_glob.specs.Patterns.{has_flag, set_where, no_sub_dir, ends_with, must_be_dir, negative, absolute}
 
 abbrev joined : Bool → Bool → Bool → Bool → Bool → ℕ
 joined a b c d e =
     bit_or (bit_or (bit_or (bit_or (set_where a no_sub_dir) (set_where b ends_with)) (set_where c must_be_dir)) (set_where d negative)) (set_where e absolute)
 
-abbrev added : Bool → Bool → Bool → Bool → Bool → ℕ
+abbrev pub added : Bool → Bool → Bool → Bool → Bool → ℕ
 added a b c d e =
     set_where a no_sub_dir + set_where b ends_with + set_where c must_be_dir + set_where d negative + set_where e absolute
 
@@ -43,3 +43,38 @@ joined_flags false false false true true = refl
 joined_flags false false false true false = refl
 joined_flags false false false false true = refl
 joined_flags false false false false false = refl
+
+-- of the flags that are added, each is found again
+pub added-ends_with : (a b c d e : Bool) → has_flag (added a b c d e) ends_with ≡ b
+added-ends_with true true true true true = refl
+added-ends_with true true true true false = refl
+added-ends_with true true true false true = refl
+added-ends_with true true true false false = refl
+added-ends_with true true false true true = refl
+added-ends_with true true false true false = refl
+added-ends_with true true false false true = refl
+added-ends_with true true false false false = refl
+added-ends_with true false true true true = refl
+added-ends_with true false true true false = refl
+added-ends_with true false true false true = refl
+added-ends_with true false true false false = refl
+added-ends_with true false false true true = refl
+added-ends_with true false false true false = refl
+added-ends_with true false false false true = refl
+added-ends_with true false false false false = refl
+added-ends_with false true true true true = refl
+added-ends_with false true true true false = refl
+added-ends_with false true true false true = refl
+added-ends_with false true true false false = refl
+added-ends_with false true false true true = refl
+added-ends_with false true false true false = refl
+added-ends_with false true false false true = refl
+added-ends_with false true false false false = refl
+added-ends_with false false true true true = refl
+added-ends_with false false true true false = refl
+added-ends_with false false true false true = refl
+added-ends_with false false true false false = refl
+added-ends_with false false false true true = refl
+added-ends_with false false false true false = refl
+added-ends_with false false false false true = refl
+added-ends_with false false false false false = refl

@@ -2,7 +2,7 @@
 use Rattle.std.specs.Prelude.{ℕ, ◌+◌, ◌-◌, Bool, not, ◌&&◌, ◌||◌, ◌==◌, List, [], ◌∷◌, ◌++◌, length, take, drop, slice_index, Option, Some, None, if◌then◌else◌, position}
 use Rattle.std.specs.List.{list_all, list_any}
 use Rattle.std.specs.Int.RustNames.{bit_and}
-use Rattle.attr_glob.specs.Bytes.{backslash, slash, star, question_mark, bracket, bang, hash}
+use Rattle.attr_glob.specs.Bytes.{backslash, slash, asterisk, question_mark, open_bracket, exclamation_mark, number_sign}
 
 -- what is read of a pattern text: the text that is left, the sum of the mode's flags, and the place of the first wildcard
 pub record Reading : Type 0 where
@@ -36,7 +36,7 @@ is_space byte = byte == 32 || byte == 9 || byte == 10 || byte == 12 || byte == 1
 
 -- `*`, `?`, `[` or a backslash
 abbrev pub is_wildcard : ℕ → Bool
-is_wildcard byte = byte == star || byte == question_mark || byte == bracket || byte == backslash
+is_wildcard byte = byte == asterisk || byte == question_mark || byte == open_bracket || byte == backslash
 
 abbrev pub is_slash : ℕ → Bool
 is_slash byte = byte == slash
@@ -47,11 +47,11 @@ first text = slice_index text 0
 
 -- a `!` stands in front
 abbrev pub is_negated : List ℕ → Bool
-is_negated text = first text == bang
+is_negated text = first text == exclamation_mark
 
 -- `\!` or `\#` stands in front
 abbrev pub is_escaped : List ℕ → Bool
-is_escaped text = first text == backslash && (slice_index text 1 == bang || slice_index text 1 == hash)
+is_escaped text = first text == backslash && (slice_index text 1 == exclamation_mark || slice_index text 1 == number_sign)
 
 -- without the `!` in front, or without the backslash of `\!` or `\#`
 abbrev pub without_negation : List ℕ → List ℕ
@@ -70,7 +70,7 @@ without_end text = if ends_in_slash text then take (length text - 1) text else t
 
 -- a `*`, and behind it no wildcard
 abbrev pub is_suffix : List ℕ → Bool
-is_suffix text = first text == star && not (list_any is_wildcard (drop 1 text))
+is_suffix text = first text == asterisk && not (list_any is_wildcard (drop 1 text))
 
 -- a flag where it is set, and nothing else
 abbrev pub set_where : Bool → ℕ → ℕ
@@ -108,4 +108,4 @@ mark_where is_set byte = if is_set then byte ∷ [] else []
 -- a pattern as a pattern text: the marks that its mode stands for, around its text
 abbrev pub written : Reading → List ℕ
 written r =
-    mark_where (has_flag r.mode negative) bang ++ mark_where (has_flag r.mode absolute) slash ++ r.text ++ mark_where (has_flag r.mode must_be_dir) slash
+    mark_where (has_flag r.mode negative) exclamation_mark ++ mark_where (has_flag r.mode absolute) slash ++ r.text ++ mark_where (has_flag r.mode must_be_dir) slash

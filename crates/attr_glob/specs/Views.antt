@@ -1,7 +1,8 @@
 -- What clauses see of the crate's values: their content, and not where it lies (own).
-use Rattle.std.specs.Prelude.{ℕ}
+use Rattle.std.specs.Prelude.{ℕ, List, map, Vec, Option, option_map}
 use Rattle.attr_glob.specs.declared.pattern.Mode.{Mode}
 use Rattle.attr_glob.specs.declared.pattern.Pattern.{Pattern}
+use Rattle.attr_glob.specs.declared.search.pattern.Mapping.{Mapping}
 use Rattle.attr_glob.specs.Patterns.{Reading}
 
 -- the flags of a mode, as the sum of their numbers
@@ -10,3 +11,11 @@ mode_bits mode = mode.0
 
 abbrev pub pattern_read : Pattern → Reading
 pattern_read p = record { text = p.text.items; mode = mode_bits p.mode; wildcard = p.first_wildcard_pos }
+
+-- the bytes of a list's base
+abbrev pub base_bytes : {A : Type 0} → Option (Vec ℕ A) → Option (List ℕ)
+base_bytes base = option_map (λ b. b.items) base
+
+-- the patterns of mappings, in their order
+abbrev pub lines_read : {V : Type 0} → List (Mapping V) → List Reading
+lines_read mappings = map (λ m. pattern_read m.pattern) mappings

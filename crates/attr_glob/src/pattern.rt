@@ -1,11 +1,19 @@
 //! Patterns, and how a pattern text is read.
 
-ghost use Rattle.std.specs.Prelude.{⊤, ◌≡◌, ℕ, Bool, ◌+◌, ◌==◌, List, [], ◌∷◌, IsSome, IfOk, OnErr, not, option_map, position, codes};
-ghost use Rattle.std.specs.List.{list_all, list_any};
-ghost use Rattle.attr_glob.specs.Patterns.{Reading, reading, written, is_space, is_wildcard, is_slash, is_negated, without_negation, without_root, without_end, first, ends_in_slash, is_suffix, read_rest, has_flag, negative, set_where};
+ghost use Rattle.std.specs.Prelude.{⊤, ◌≡◌, ◌↔◌, ℕ, Bool, false, ◌+◌, ◌==◌, ◌||◌, List, [], ◌∷◌, Some, None, IsTrue, IsSome, IfSome, IsOk, IfOk, OnErr, not, option_map, position, codes, drop, take};
+ghost use Rattle.std.specs.List.{list_all, list_any, starts_with, ends_with};
+ghost use Rattle.std.specs.Cmp.Lexicographic.{pointwise};
+ghost use Rattle.bstr.specs.BStr.{bstr_bytes};
+ghost use Rattle.attr_glob.specs.Patterns.{Reading, reading, written, is_space, is_wildcard, is_slash, is_negated, without_negation, without_root, without_end, first, ends_in_slash, is_suffix, read_rest, has_flag, negative, must_be_dir, ends_with as ends_with_flag, set_where};
+ghost use Rattle.attr_glob.specs.Matching.{same_byte};
+ghost use Rattle.attr_glob.specs.Deciding.{text_matches};
+ghost use Rattle.attr_glob.specs.Paths.{matched_part, is_directory, PathMatches, path_matches};
+ghost use Rattle.attr_glob.specs.BaseNames.{base_name_place};
 ghost use Rattle.attr_glob.specs.Views.{mode_bits, pattern_read};
 
+use crate::wildmatch;
 use bitflags::{Flag, Flags};
+use bstr::BStr;
 use std::alloc::{AllocError, Global};
 
 /// What a pattern text asks for beside its text.
@@ -27,6 +35,9 @@ impl Mode {
 
     /// The pattern text began with a slash, so it is matched against the whole path.
     pub const ABSOLUTE: Mode = Mode(16);
+
+    // All five, as in a mapping that stands for the definition of a macro.
+    pub(crate) const MACRO: Mode = Mode(31);
 
     const FLAGS: &'static [Flag<Mode>] = &[
         Flag {
@@ -142,6 +153,89 @@ impl Pattern {
         Ok(text)
     }
 
+    /// Whether the pattern matches the path, whose base name begins at this place. A path that isn't known to be
+    /// a directory counts as none. The answer for a pattern that no text gives is open.
+    ///
+    /// Memory is taken for the tokens of the pattern's text alone, where they are needed.
+    pub fn matches_repo_relative_path(
+        &self,
+        alloc: Global,
+        path: BStr<'_>,
+        basename_start_pos: Option<usize>,
+        is_dir: Option<bool>,
+        case: Case,
+    ) -> Result<bool, AllocError>
+        requires { basename_start_pos ≡ base_name_place (bstr_bytes path) }
+        ensures matched { IfOk result (λ answer. (text : List ℕ) → reading text ≡ Some (pattern_read self.now) →
+            IsTrue answer ↔ PathMatches case (pattern_read self.now) (bstr_bytes path.entry) is_dir) }
+
+        // No memory is taken without a wildcard, where the end of the base name decides, and where the front differs.
+        ensures literal { (pattern_read self.now).wildcard ≡ None → IsOk result }
+        ensures suffix { let r = pattern_read self.now in IsTrue (has_flag r.mode ends_with_flag) →
+            list_any is_slash (matched_part r (bstr_bytes path.entry)) ≡ false → IsOk result }
+        ensures front { let r = pattern_read self.now in (n : ℕ) → r.wildcard ≡ Some n →
+            starts_with (same_byte case) (matched_part r (bstr_bytes path.entry)) (take n r.text) ≡ false → IsOk result }
+    {
+        if !self.takes_kind(is_dir) {
+            return Ok(false);
+        }
+        let value = self.matched_part(path.as_bytes(), basename_start_pos);
+        if let Some(answer) = self.answer_by_bytes(value, case) {
+            return Ok(answer);
+        }
+        let (answer, _) = wildmatch::count(alloc, &self.text, value, case)?;
+        Ok(answer)
+    }
+
+    // Whether a path that is or isn't a directory may match.
+    pub(crate) fn takes_kind(&self, is_dir: Option<bool>) -> bool
+        ensures { result ≡ (not (has_flag (pattern_read self.now).mode must_be_dir) || is_directory is_dir) }
+    {
+        !self.mode.contains(Mode::MUST_BE_DIR) || is_dir == Some(true)
+    }
+
+    // The part of the path that the text is matched against.
+    pub(crate) fn matched_part<'a>(
+        &self,
+        path: &'a [u8],
+        basename_start_pos: Option<usize>,
+    ) -> &'a [u8]
+        requires { basename_start_pos ≡ base_name_place path.now }
+        ensures { result.now ≡ matched_part (pattern_read self.now) path.now }
+    {
+        if !self.mode.contains(Mode::NO_SUB_DIR) || self.mode.contains(Mode::ABSOLUTE) {
+            return path;
+        }
+        match basename_start_pos {
+            None => path,
+            Some(place) => &path[place..],
+        }
+    }
+
+    // Whether the text matches the value, where its bytes tell without tokens. A pattern built by hand may have
+    // a place past its text's end, or no star where the end decides.
+    pub(crate) fn answer_by_bytes(&self, value: &[u8], case: Case) -> Option<bool>
+        ensures matched { IfSome result (λ answer. (text : List ℕ) → reading text ≡ Some (pattern_read self.now) →
+            answer ≡ text_matches case (pattern_read self.now).text value.now) }
+        ensures literal { (pattern_read self.now).wildcard ≡ None → IsSome result }
+        ensures suffix { IsTrue (has_flag (pattern_read self.now).mode ends_with_flag) →
+            list_any is_slash value.now ≡ false → IsSome result }
+        ensures front { let r = pattern_read self.now in (n : ℕ) → r.wildcard ≡ Some n →
+            starts_with (same_byte case) value.now (take n r.text) ≡ false → IsSome result }
+    {
+        let text = self.text.as_slice();
+        let Some(place) = self.first_wildcard_pos else {
+            return Some(is_same(text, value, case));
+        };
+        if !starts_with(value, &text[..place.min(text.len())], case) {
+            return Some(false);
+        }
+        if self.mode.contains(Mode::ENDS_WITH) && !has_slash(value) {
+            return Some(ends_with(value, behind_star(text), case));
+        }
+        None
+    }
+
     /// A copy.
     pub fn clone(&self, alloc: Global) -> Result<Pattern, AllocError>
         ensures { IfOk result (λ copy. pattern_read copy ≡ pattern_read self.now) }
@@ -210,13 +304,13 @@ fn without_root(text: &[u8]) -> &[u8]
     }
 }
 
-fn ends_in_slash(text: &[u8]) -> bool
+pub(crate) fn ends_in_slash(text: &[u8]) -> bool
     ensures { result ≡ ends_in_slash text.now }
 {
     text.last() == Some(&b'/')
 }
 
-fn without_end(text: &[u8]) -> &[u8]
+pub(crate) fn without_end(text: &[u8]) -> &[u8]
     ensures { result.now ≡ without_end text.now }
 {
     match text {
@@ -225,7 +319,7 @@ fn without_end(text: &[u8]) -> &[u8]
     }
 }
 
-fn has_slash(text: &[u8]) -> bool
+pub(crate) fn has_slash(text: &[u8]) -> bool
     ensures { result ≡ list_any is_slash text.now }
 {
     text.iter().any(|byte| *byte == b'/')
@@ -258,6 +352,60 @@ fn is_wildcard(byte: u8) -> bool
 {
     matches!(byte, b'*' | b'?' | b'[' | b'\\')
 }
+
+// What follows the star of a text that is one star and literal bytes.
+fn behind_star(text: &[u8]) -> &[u8]
+    ensures { result.now ≡ drop 1 text.now }
+{
+    match text {
+        [] => text,
+        [_, behind @ ..] => behind,
+    }
+}
+
+// Whether the bytes are the same, folded where asked.
+fn is_same(text: &[u8], value: &[u8], case: Case) -> bool
+    ensures { result ≡ pointwise (same_byte case) text.now value.now }
+{
+    match case {
+        Case::Sensitive => text == value,
+        Case::Fold => text.eq_ignore_ascii_case(value),
+    }
+}
+
+// Whether the value begins with these bytes, folded where asked.
+fn starts_with(value: &[u8], front: &[u8], case: Case) -> bool
+    ensures { result ≡ starts_with (same_byte case) value.now front.now }
+{
+    front.len() <= value.len() && is_same(front, &value[..front.len()], case)
+}
+
+// Whether the value ends with these bytes, folded where asked.
+fn ends_with(value: &[u8], end: &[u8], case: Case) -> bool
+    ensures { result ≡ ends_with (same_byte case) value.now end.now }
+{
+    end.len() <= value.len() && is_same(end, &value[value.len() - end.len()..], case)
+}
+
+/// The place behind the last slash of a path, none without one.
+pub fn base_name_place(path: &[u8]) -> Option<usize>
+    ensures { result ≡ base_name_place path.now }
+{
+    let mut place = path.len();
+    while place > 0 {
+        if path[place - 1] == b'/' {
+            return Some(place);
+        }
+        place -= 1;
+    }
+    None
+}
+
+/// The test of matching a path tells what the relation says (a law).
+pub fn test_tells_path_match(pattern: &Pattern, path: BStr<'_>, is_dir: Option<bool>, case: Case)
+    ensures { IsTrue (path_matches case (pattern_read pattern.now) (bstr_bytes path.entry) is_dir) ↔
+        PathMatches case (pattern_read pattern.now) (bstr_bytes path.entry) is_dir }
+{}
 
 #[cfg(test)]
 mod tests;

@@ -9,7 +9,7 @@ use Rattle.std.proofs.lemmas.Bool.Decides.{nat_tests}
 use Rattle.std.proofs.lemmas.Str.{utf8_lossy-IsUtf8}
 use Rattle.bstr.proofs.lemmas.LossyLemmas.{lossy_chars-utf8_lossy}
 use Rattle.bstr.specs.Utf8.{lossy_chars}
-use Rattle.attr_glob.specs.Bytes.{bang}
+use Rattle.attr_glob.specs.Bytes.{exclamation_mark}
 use Rattle.attr_text.specs.Names.{minus, is_name_byte, is_valid_name, is_reserved_name}
 use Rattle.attr_text.specs.Items.{equals, is_equals, is_blank, words, checked_name, with_state, state_from, item_of, items_of, printed_state, printed}
 use Rattle.attr_text.specs.Words.{IsPlain}
@@ -31,7 +31,7 @@ name_byte_not_blank b e = grind (arith, nat_tests)
 name_byte_not_equals : (b : ℕ) → is_name_byte b ≡ true → not (is_equals b) ≡ true
 name_byte_not_equals b e = grind (arith, nat_tests)
 
-name_byte_not_bang : (b : ℕ) → is_name_byte b ≡ true → eqb b bang ≡ false
+name_byte_not_bang : (b : ℕ) → is_name_byte b ≡ true → eqb b exclamation_mark ≡ false
 name_byte_not_bang b e = grind (arith, nat_tests)
 
 -- a list that begins with bytes that fail a test has its first place behind them
@@ -49,7 +49,7 @@ name-parts name valid =
     let front = and_parts (ltb 0 (length name)) (not (eqb (get_or name 0 0) minus)) two.0 in
     (ltb-true 0 (length name) front.0, not-true (eqb (get_or name 0 0) minus) front.1, two.1)
 
-first-not_bang : (name : List ℕ) → 0 < length name → list_all is_name_byte name ≡ true → eqb (get_or name 0 0) bang ≡ false
+first-not_bang : (name : List ℕ) → 0 < length name → list_all is_name_byte name ≡ true → eqb (get_or name 0 0) exclamation_mark ≡ false
 first-not_bang [] some all = absurd (omega arith)
 first-not_bang (b ∷ bs) some all = name_byte_not_bang b (and_parts (is_name_byte b) (list_all is_name_byte bs) all).0
 
@@ -76,7 +76,7 @@ value-not_blank name bytes all none =
 state-is_word : (name : List ℕ) (state : State) → is_valid_name name ≡ true → IsPlain state → words (printed_state name state) ≡ printed_state name state ∷ []
 state-is_word name Set valid plain = one_word name (no_blank name (name-parts name valid).2) (name-parts name valid).0
 state-is_word name Unset valid plain = one_word (minus ∷ name) (no_blank name (name-parts name valid).2) (omega arith)
-state-is_word name Unspecified valid plain = one_word (bang ∷ name) (no_blank name (name-parts name valid).2) (omega arith)
+state-is_word name Unspecified valid plain = one_word (exclamation_mark ∷ name) (no_blank name (name-parts name valid).2) (omega arith)
 state-is_word name (Value bytes) valid plain =
     subst (λ (t : List ℕ). words t ≡ t ∷ []) (sym (printed-value name bytes plain.0))
     (one_word (name ++ equals ∷ bytes) (value-not_blank name bytes (name-parts name valid).2 plain.1) (let both = length-append name (equals ∷ bytes) in omega arith))
@@ -97,14 +97,14 @@ before-no_equals name none = ap (position_or_len is_equals) (sym (append-nil nam
 
 -- a word whose part before the first `=` is this name, with no sign in front
 item-plain : (word name : List ℕ) (place : Option ℕ) → before_first is_equals word ≡ name → position is_equals word ≡ place
-    → eqb (get_or name 0 0) minus ≡ false → eqb (get_or name 0 0) bang ≡ false
+    → eqb (get_or name 0 0) minus ≡ false → eqb (get_or name 0 0) exclamation_mark ≡ false
     → item_of word ≡ with_state (checked_name name) (state_from word place)
 item-plain word name place before at no_minus no_bang = rw (before, at, no_minus, no_bang) refl
 
 item-unset : (word name : List ℕ) → before_first is_equals word ≡ minus ∷ name → item_of word ≡ with_state (checked_name name) Unset
 item-unset word name before = rw before refl
 
-item-unspecified : (word name : List ℕ) → before_first is_equals word ≡ bang ∷ name → item_of word ≡ with_state (checked_name name) Unspecified
+item-unspecified : (word name : List ℕ) → before_first is_equals word ≡ exclamation_mark ∷ name → item_of word ≡ with_state (checked_name name) Unspecified
 item-unspecified word name before = rw before refl
 
 with-checked : (name : List ℕ) (state : State) → is_valid_name name ≡ true → is_reserved_name name ≡ false → with_state (checked_name name) state ≡ Ok (record { name = name; state = state })
@@ -144,7 +144,7 @@ state-reads name Set valid free plain =
 state-reads name Unset valid free plain =
     item-unset (minus ∷ name) name (before-whole (minus ∷ name) (no_equals name (name-parts name valid).2)) ∙ with-checked name Unset valid free
 state-reads name Unspecified valid free plain =
-    item-unspecified (bang ∷ name) name (before-whole (bang ∷ name) (no_equals name (name-parts name valid).2)) ∙ with-checked name Unspecified valid free
+    item-unspecified (exclamation_mark ∷ name) name (before-whole (exclamation_mark ∷ name) (no_equals name (name-parts name valid).2)) ∙ with-checked name Unspecified valid free
 state-reads name (Value bytes) valid free plain =
     ap item_of (printed-value name bytes plain.0) ∙ value-reads name bytes valid free
 

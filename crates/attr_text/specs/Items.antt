@@ -3,7 +3,7 @@
 use Rattle.std.specs.Prelude.{ℕ, ◌+◌, Bool, true, false, not, ◌||◌, ◌==◌, List, [], ◌∷◌, ◌++◌, map, take, drop, slice_index, Option, Some, None, Result, Ok, Err, if◌then◌else◌, position, filter, encode_utf8_all}
 use Rattle.std.specs.List.{before_first, slice_split, position_or_len}
 use Rattle.bstr.specs.Utf8.{lossy_chars}
-use Rattle.attr_glob.specs.Bytes.{bang}
+use Rattle.attr_glob.specs.Bytes.{exclamation_mark}
 use Rattle.attr_text.specs.Names.{minus, is_valid_name, is_reserved_name}
 use Rattle.attr_text.specs.declared.state.State.{State}
 use Rattle.attr_text.specs.declared.state.State.TheVariants.{Set, Unset, Value, Unspecified}
@@ -65,7 +65,7 @@ item_of word =
     let name = before_first is_equals word in
     let first = slice_index name 0 in
     if first == minus then with_state (checked_name (drop 1 name)) Unset
-    else if first == bang then with_state (checked_name (drop 1 name)) Unspecified
+    else if first == exclamation_mark then with_state (checked_name (drop 1 name)) Unspecified
     else with_state (checked_name name) (state_from word (position is_equals word))
 
 -- what the words of a text assign
@@ -77,7 +77,7 @@ abbrev pub printed_state : List ℕ → State → List ℕ
 printed_state name Set = name
 printed_state name Unset = minus ∷ name
 printed_state name (Value bytes) = name ++ equals ∷ encode_utf8_all (lossy_chars bytes)
-printed_state name Unspecified = bang ∷ name
+printed_state name Unspecified = exclamation_mark ∷ name
 
 -- the assignment as an attributes file spells it
 abbrev pub printed : Assignment → List ℕ

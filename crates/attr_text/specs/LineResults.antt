@@ -4,7 +4,7 @@ use Rattle.std.specs.Prelude.{ℕ, ◌+◌, Bool, ◌&&◌, ◌||◌, ◌==◌, 
 use Rattle.std.specs.List.{starts_with}
 use Rattle.std.specs.Option.{option_to_list}
 use Rattle.bstr.specs.Text.{lines_of, without_terminator}
-use Rattle.attr_glob.specs.Bytes.{hash}
+use Rattle.attr_glob.specs.Bytes.{number_sign}
 use Rattle.attr_glob.specs.Patterns.{Reading, reading, is_negated}
 use Rattle.attr_glob.specs.Quotes.{Fault, undone}
 use Rattle.attr_text.specs.Items.{after_blanks, before_blank, from_blank, Refusal, checked_name, items_of}
@@ -85,7 +85,7 @@ result_of_text text line = option_map (with_items (parts_of text).1 line) (targe
 abbrev pub result_of : List ℕ → ℕ → Option LineResult
 result_of line number =
     let text = after_blanks line in
-    if length text == 0 || slice_index text 0 == hash then None else result_of_text text number
+    if length text == 0 || slice_index text 0 == number_sign then None else result_of_text text number
 
 -- what the lines say, of which the first has this number
 abbrev pub results_from : ℕ → List (List ℕ) → List LineResult

@@ -64,6 +64,7 @@ fn states_are_copied(rt: HostRuntime) -> Result<(), Fail> {
     assert!(rt; owned.as_ref() == value);
     assert!(rt; owned.clone(rt.alloc())? == owned);
     let text = Value::from_str_in(rt.alloc(), "true")?;
+    assert!(rt; ValueRef::from("true").to_owned(rt.alloc())? == text);
     assert!(rt; text.as_ref() == ValueRef::from("true"));
     assert!(rt; text.clone(rt.alloc())? == text);
     Ok(())

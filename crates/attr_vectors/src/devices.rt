@@ -141,14 +141,9 @@ impl Sink {
         Sink::over(Vec::new(alloc), 1)
     }
 
-    /// Takes all that a call hands it, and takes no memory until it holds more than `room` bytes.
-    pub fn with_room(alloc: Global, room: usize) -> Result<Sink, AllocError>
-        ensures { IfOk result (λ sink. sink ≡ store_of unlimited) }
-    {
-        Ok(Sink::over(Vec::with_capacity(alloc, room)?, usize::MAX))
-    }
-
-    fn over(bytes: Vec<u8>, most: usize) -> Sink
+    /// Keeps what is written in this buffer, as long as it has room without more memory, and takes at
+    /// most so many bytes a call.
+    pub fn over(bytes: Vec<u8>, most: usize) -> Sink
         requires empty { bytes.items ≡ [] }
         requires some { 0 < most }
         ensures { result ≡ store_of most }

@@ -3,6 +3,7 @@ mod failing;
 mod hostile;
 mod memory;
 mod rows;
+mod short_texts;
 mod statuses;
 
 // The worked input of the failing devices, and what is printed of it.

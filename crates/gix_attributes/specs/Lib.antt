@@ -14,3 +14,9 @@ pub use Rattle.attr_text.specs.Words
 pub use Rattle.attr_text.specs.LineResults
 pub use Rattle.attr_text.specs.LinesJoined
 pub use Rattle.attr_text.specs.TextViews
+pub use Rattle.attr_glob.specs.Brackets
+pub use Rattle.attr_glob.specs.Tokens
+pub use Rattle.attr_glob.specs.Spelling
+pub use Rattle.attr_glob.specs.Matching
+pub use Rattle.attr_glob.specs.Deciding
+pub use Rattle.attr_glob.specs.Paths

@@ -38,3 +38,106 @@ fn orders_modes_and_cases(rt: HostRuntime) {
     assert!(rt; Mode::ABSOLUTE < both);
     assert!(rt; Case::Sensitive < Case::Fold);
 }
+
+// Whether the pattern text matches the path.
+fn takes(
+    alloc: Global,
+    text: &[u8],
+    path: &[u8],
+    is_dir: Option<bool>,
+    case: Case,
+) -> Result<bool, AllocError> {
+    let Some(pattern) = Pattern::from_bytes(alloc, text)? else {
+        return Ok(false);
+    };
+    matches(alloc, &pattern, path, is_dir, case)
+}
+
+fn matches(
+    alloc: Global,
+    pattern: &Pattern,
+    path: &[u8],
+    is_dir: Option<bool>,
+    case: Case,
+) -> Result<bool, AllocError> {
+    let place = base_name_place(path);
+    pattern.matches_repo_relative_path(alloc, BStr::new(path), place, is_dir, case)
+}
+
+#[test]
+fn matches_paths(rt: HostRuntime) -> Result<(), Fail> {
+    let rows = [
+        ("a/**/b", "a/b", true),
+        ("a/**/b", "a/c/d/b", true),
+        ("a/**/b", "ab", false),
+        ("a/**", "a/b", true),
+        ("a/**", "a", false),
+        ("/*", "a", true),
+        ("/*", "a/b", false),
+        ("/a", "a", true),
+        ("/a", "d/a", false),
+        ("d/a", "d/a", true),
+        ("d/a", "x/d/a", false),
+        ("a", "d/a", true),
+        ("a", "a/d", false),
+        ("*.rs", "src/lib.rs", true),
+        ("/*.rs", "src/lib.rs", false),
+        ("*b", "B", false),
+        ("*", "d/", true),
+        ("x?[", "xy", false),
+    ];
+    for (text, path, matched) in rows {
+        let answer = takes(
+            rt.alloc(),
+            text.as_bytes(),
+            path.as_bytes(),
+            Some(false),
+            Case::Sensitive,
+        )?;
+        assert_eq!(rt; answer, matched, "{text} {path}");
+    }
+    Ok(())
+}
+
+#[test]
+fn folds_and_asks_for_directories(rt: HostRuntime) -> Result<(), Fail> {
+    let alloc = rt.alloc();
+    assert!(rt; takes(alloc, b"*b", b"B", None, Case::Fold)?);
+    assert!(rt; takes(alloc, b"Read?e", b"README", None, Case::Fold)?);
+    assert!(rt; !takes(alloc, b"Read?e", b"README", None, Case::Sensitive)?);
+    assert!(rt; takes(alloc, b"d/", b"d", Some(true), Case::Sensitive)?);
+    assert!(rt; !takes(alloc, b"d/", b"d", Some(false), Case::Sensitive)?);
+    assert!(rt; !takes(alloc, b"d/", b"d", None, Case::Sensitive)?);
+    Ok(())
+}
+
+// Such patterns return, whatever they answer.
+#[test]
+fn patterns_built_by_hand_return(rt: HostRuntime) -> Result<(), Fail> {
+    let alloc = rt.alloc();
+    let rows = [
+        ("", Mode::ENDS_WITH, Some(0)),
+        ("ab", Mode::ENDS_WITH, Some(9)),
+        ("*", Mode::from_bits_retain(u32::MAX), None),
+        ("[", Mode::empty(), Some(1)),
+        ("a", Mode::from_bits_retain(u32::MAX), Some(usize::MAX)),
+    ];
+    for (text, mode, first_wildcard_pos) in rows {
+        let text = Vec::from_slice(alloc, text.as_bytes())?;
+        let pattern = Pattern {
+            text,
+            mode,
+            first_wildcard_pos,
+        };
+        let _answer = matches(alloc, &pattern, b"d/ab", Some(true), Case::Fold)?;
+    }
+    Ok(())
+}
+
+#[test]
+fn places_of_base_names(rt: HostRuntime) {
+    assert_eq!(rt; base_name_place(b"a/b/c"), Some(4));
+    assert_eq!(rt; base_name_place(b"a/"), Some(2));
+    assert_eq!(rt; base_name_place(b"a"), None);
+    assert_eq!(rt; base_name_place(b""), None);
+}

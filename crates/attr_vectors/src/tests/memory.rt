@@ -3,16 +3,25 @@
 use super::statuses::arguments;
 use super::{INPUT, TEXT};
 use crate::devices::{Sink, Source};
+use bstr::BStr;
 use check_attr::{Fault, lines, program};
 use gix_attributes::files::Memory;
+use gix_attributes::glob::Pattern;
+use gix_attributes::glob::pattern::{Case, base_name_place};
 use gix_attributes::parse;
 use gix_attributes::parse::{Error, Kind};
+use std::alloc::{AllocError, Global};
 use std::test::Fail;
+
+// A sink that takes no memory until it holds more than 64 bytes.
+fn with_room(alloc: Global) -> Result<Sink, AllocError> {
+    Ok(Sink::over(Vec::with_capacity(alloc, 64)?, usize::MAX))
+}
 
 // The writer's memory is reserved before.
 #[test]
 fn without_memory_a_beginning_is_written(rt: HostRuntime) {
-    let Ok(mut sink) = Sink::with_room(rt.alloc(), 64) else {
+    let Ok(mut sink) = with_room(rt.alloc()) else {
         return;
     };
     match lines(rt.alloc(), &mut Source::new(INPUT), &mut sink) {
@@ -40,10 +49,7 @@ fn without_memory_the_program_says_so(rt: HostRuntime) -> Result<(), Fail> {
     let Ok(args) = arguments(rt.alloc(), &["--lines"]) else {
         return Ok(());
     };
-    let (Ok(mut writer), Ok(mut errors)) = (
-        Sink::with_room(rt.alloc(), 64),
-        Sink::with_room(rt.alloc(), 64),
-    ) else {
+    let (Ok(mut writer), Ok(mut errors)) = (with_room(rt.alloc()), with_room(rt.alloc())) else {
         return Ok(());
     };
     let status = program(
@@ -65,12 +71,38 @@ fn without_memory_the_program_says_so(rt: HostRuntime) -> Result<(), Fail> {
     Ok(())
 }
 
+// A match takes no memory without a wildcard, where the end of the base name decides, and where the bytes before
+// the wildcard differ. Only a pattern that found none itself is not asked.
+#[test]
+fn without_memory_bytes_alone_decide(rt: HostRuntime) {
+    for (text, path, matched) in [
+        ("src/lib.rs", "src/lib.rs", true),
+        ("src/lib.rs", "src/lib.rc", false),
+        ("*.rs", "src/lib.rs", true),
+        ("*.rs", "src/lib.rc", false),
+        ("src/*.rs", "doc/lib.rs", false),
+    ] {
+        let (text, path) = (text.as_bytes(), path.as_bytes());
+        let Ok(Some(pattern)) = Pattern::from_bytes(rt.alloc(), text) else {
+            continue;
+        };
+        let answer = pattern.matches_repo_relative_path(
+            rt.alloc(),
+            BStr::new(path),
+            base_name_place(path),
+            None,
+            Case::Sensitive,
+        );
+        assert_eq!(rt; answer.ok(), Some(matched));
+    }
+}
+
 // Makes at least as many requests as each of the others.
 #[test]
 fn with_memory_all_is_answered(rt: HostRuntime) -> Result<(), Fail> {
     let args = arguments(rt.alloc(), &["--lines"])?;
-    let mut writer = Sink::with_room(rt.alloc(), 64)?;
-    let mut errors = Sink::with_room(rt.alloc(), 64)?;
+    let mut writer = with_room(rt.alloc())?;
+    let mut errors = with_room(rt.alloc())?;
     let status = program(
         rt.alloc(),
         &mut Memory::new(rt.alloc()),

@@ -1,0 +1,117 @@
+-- What a pattern is matched against, and what is known of a pattern that was read.
+use Rattle.std.proofs.Common.{◌≡◌, ℕ, zero, suc, ◌-◌, ◌<◌, ◌≤◌, Bool, true, false, not, ◌||◌, List, [], ◌∷◌, ◌++◌, reverse, length, drop, get_or, position, Option, Some, None, cond, refl, sym, ap, subst, ◌∙◌, arith}
+use Rattle.std.specs.List.{list_any, list_all, prefix_len, suffix_len}
+use Rattle.std.proofs.lemmas.List.{length-reverse, length-drop}
+use Rattle.std.proofs.lemmas.List.Sums.{suffix_len_is}
+use Rattle.attr_glob.specs.declared.pattern.Case.{Case}
+use Rattle.attr_glob.specs.Patterns.{Reading, reading, read_rest, is_slash, is_space, is_wildcard, is_suffix, is_negated, without_negation, without_root, without_end, first, ends_in_slash, has_flag, ends_with, must_be_dir}
+use Rattle.attr_glob.specs.Deciding.{text_matches}
+use Rattle.attr_glob.specs.Paths.{matched_part, is_directory, PathMatches, path_matches}
+use Rattle.attr_glob.specs.BaseNames.{base_name, base_name_place}
+use Rattle.attr_glob.proofs.Basics.{by_test, and_parts, and_both, or_left, or_right, reverse-cons}
+use Rattle.attr_glob.proofs.DecidingLemmas.{text_match_of_test, test_of_text_match}
+use Rattle.attr_glob.proofs.Modes.{added-ends_with}
+
+read_of : {A : Type 0} (blank : Bool) (a b : A) → cond blank None (Some a) ≡ Some b → a ≡ b
+read_of true a b h = cc
+read_of false a b h = cc
+
+read_is : (text : List ℕ) (r : Reading) → reading text ≡ Some r → read_rest (is_negated text) (without_negation text) ≡ r
+read_is text r h = read_of (list_all is_space (without_negation text)) (read_rest (is_negated text) (without_negation text)) r h
+
+-- a pattern that was read has the place of its first wildcard
+pub reading-wildcard : (text : List ℕ) (r : Reading) → reading text ≡ Some r → r.wildcard ≡ position is_wildcard r.text
+reading-wildcard text r h = let P : Reading → Type 0 = λ x. x.wildcard ≡ position is_wildcard x.text in subst P (read_is text r h) refl
+
+-- a pattern that was read is to be found at the end where its text is one star and no other wildcard
+pub reading-ends_with : (text : List ℕ) (r : Reading) → reading text ≡ Some r → has_flag r.mode ends_with ≡ is_suffix r.text
+reading-ends_with text r h =
+    let rest = without_negation text in
+    let below = without_root rest in
+    let body = without_end below in
+    let P : Reading → Type 0 = λ x. has_flag x.mode ends_with ≡ is_suffix x.text in
+    subst P (read_is text r h)
+    (added-ends_with (not (list_any is_slash body)) (is_suffix body) (ends_in_slash below) (is_negated text) (is_slash (first rest)))
+
+directory : (is_dir : Option Bool) → is_directory is_dir ≡ true → is_dir ≡ Some true
+directory None h = cc
+directory (Some known) h = ap Some h
+
+kind_of : (wants : Bool) (is_dir : Option Bool) → (not wants || is_directory is_dir) ≡ true → wants ≡ true → is_dir ≡ Some true
+kind_of true is_dir h w = directory is_dir h
+kind_of false is_dir h w = cc
+
+kind_fits : (wants : Bool) (is_dir : Option Bool) → (wants ≡ true → is_dir ≡ Some true) → (not wants || is_directory is_dir) ≡ true
+kind_fits true is_dir h = ap is_directory (h refl)
+kind_fits false is_dir h = refl
+
+pub path_match_of_test : (case : Case) (r : Reading) (path : List ℕ) (is_dir : Option Bool) → path_matches case r path is_dir ≡ true → PathMatches case r path is_dir
+path_match_of_test case r path is_dir h =
+    let w = and_parts (not (has_flag r.mode must_be_dir) || is_directory is_dir) (text_matches case r.text (matched_part r path)) h in
+    (kind_of (has_flag r.mode must_be_dir) is_dir w.0, text_match_of_test case r.text (matched_part r path) w.1)
+
+pub test_of_path_match : (case : Case) (r : Reading) (path : List ℕ) (is_dir : Option Bool) → PathMatches case r path is_dir → path_matches case r path is_dir ≡ true
+test_of_path_match case r path is_dir m =
+    and_both (not (has_flag r.mode must_be_dir) || is_directory is_dir) (text_matches case r.text (matched_part r path))
+    (kind_fits (has_flag r.mode must_be_dir) is_dir m.0) (test_of_text_match case r.text (matched_part r path) m.1)
+
+-- where all pass, the test holds up to the end
+all_pass : (p : ℕ → Bool) (xs : List ℕ) → list_any p xs ≡ false → prefix_len (λ x. not (p x)) xs ≡ length xs
+all_pass p [] h = refl
+all_pass p (x ∷ xs) h = by_test (p x) (λ t. let e = rw t at h in cc) (λ f. rw f (let rest = all_pass p xs (rw f at h) in omega (arith, rest)))
+
+list_any-append : (p : ℕ → Bool) (xs ys : List ℕ) → list_any p xs ≡ false → list_any p ys ≡ false → list_any p (xs ++ ys) ≡ false
+list_any-append p [] ys h k = k
+list_any-append p (x ∷ xs) ys h k = by_test (p x) (λ t. let e = rw t at h in cc) (λ f. rw f (list_any-append p xs ys (rw f at h) k))
+
+list_any-reverse : (p : ℕ → Bool) (xs : List ℕ) → list_any p xs ≡ false → list_any p (reverse xs) ≡ false
+list_any-reverse p [] h = refl
+list_any-reverse p (x ∷ xs) h = by_test (p x)
+    (λ t. let e = rw t at h in cc)
+    (λ f. subst (λ l. list_any p l ≡ false) (sym (reverse-cons x xs)) (list_any-append p (reverse xs) (x ∷ []) (list_any-reverse p xs (rw f at h)) (rw f refl)))
+
+-- a path without a slash is its own base name
+pub base_name-whole : (path : List ℕ) → list_any is_slash path ≡ false → base_name path ≡ path
+base_name-whole path h =
+    let all = all_pass is_slash (reverse path) (list_any-reverse is_slash path h) in
+    let long : length (reverse path) ≡ length path = length-reverse path in
+    let n : length path - suffix_len (λ b. not (is_slash b)) path ≡ 0 = omega (arith, all, long) in
+    ap (λ k. drop k path) n
+
+-- a path without such a place is its own base name
+pub no_place : (path : List ℕ) → None ≡ base_name_place path → path ≡ base_name path
+no_place path h = by_test (list_any is_slash path)
+    (λ t. let e : None ≡ Some (length path - length (base_name path)) = rw t at h in cc)
+    (λ f. sym (base_name-whole path f))
+
+-- where the path's kind fits, an answer for the matched part is that for the path
+pub path_answer : (case : Case) (r : Reading) (path part : List ℕ) (is_dir : Option Bool) (answer : Bool) →
+    (not (has_flag r.mode must_be_dir) || is_directory is_dir) ≡ true → part ≡ matched_part r path → answer ≡ text_matches case r.text part →
+    (answer ≡ true → PathMatches case r path is_dir) × (PathMatches case r path is_dir → answer ≡ true)
+path_answer case r path part is_dir answer kind same told =
+    let kind_test = not (has_flag r.mode must_be_dir) || is_directory is_dir in
+    let text_test = text_matches case r.text (matched_part r path) in
+    let exact : answer ≡ text_test = told ∙ ap (text_matches case r.text) same in (
+      (λ t. path_match_of_test case r path is_dir (and_both kind_test text_test kind (sym exact ∙ t))),
+      (λ m. let w = and_parts kind_test text_test (test_of_path_match case r path is_dir m) in exact ∙ w.1),
+    )
+
+list_any-at : (p : ℕ → Bool) (xs : List ℕ) (k : ℕ) → k < length xs → p (get_or xs k 0) ≡ true → list_any p xs ≡ true
+list_any-at p [] k l h = absurd (omega arith)
+list_any-at p (x ∷ xs) zero l h = or_left (p x) (list_any p xs) h
+list_any-at p (x ∷ xs) (suc k) l h = or_right (p x) (list_any p xs) (list_any-at p xs k (omega arith) h)
+
+none_in : (p : ℕ → Bool) (xs : List ℕ) → ((k : ℕ) → k < length xs → p (get_or xs k 0) ≡ false) → list_any p xs ≡ false
+none_in p [] h = refl
+none_in p (x ∷ xs) h = rw (h 0 (omega arith)) (none_in p xs (λ k l. h (suc k) (omega arith)))
+
+-- the place behind a slash, behind which there is no other
+pub base_name_place-found : (path : List ℕ) (place : ℕ) → 0 < place → place ≤ length path → is_slash (get_or path (place - 1) 0) ≡ true →
+    ((k : ℕ) → place ≤ k → k < length path → is_slash (get_or path k 0) ≡ false) → Some place ≡ base_name_place path
+base_name_place-found path place some inside here behind =
+    let n = suffix_len_is (λ b. not (is_slash b)) path place 0 inside (λ k l m. ap not (behind k l m)) (λ _. ap not here) in
+    let long : length path - length (base_name path) ≡ place = rw length-drop (omega (arith, n)) in
+    rw (list_any-at is_slash path (place - 1) (omega arith) here) (ap Some (sym long))
+
+pub base_name_place-none : (path : List ℕ) → ((k : ℕ) → k < length path → is_slash (get_or path k 0) ≡ false) → None ≡ base_name_place path
+base_name_place-none path h = rw (none_in is_slash path h) refl

@@ -1,0 +1,120 @@
+-- The place of a base name, by recursion from the front of the path, and as it is seen behind a front.
+use Rattle.std.proofs.Common.{◌≡◌, ℕ, zero, suc, ◌+◌, ◌-◌, ◌<◌, Bool, true, false, not, cond, List, [], ◌∷◌, ◌++◌, length, drop, reverse, Option, Some, None, refl, sym, ap, ◌∙◌, arith, eqb, add-one}
+use Rattle.std.specs.List.{list_any, suffix_len, prefix_len}
+use Rattle.std.proofs.lemmas.Bool.Decides.{nat_tests}
+use Rattle.std.proofs.lemmas.List.{length-reverse, length-drop, reverse-append}
+use Rattle.std.proofs.lemmas.List.Folds.{prefix_len-append}
+use Rattle.std.proofs.lemmas.List.Sums.{suffix_len-le-length}
+use Rattle.attr_glob.specs.Bases.{place_behind}
+use Rattle.attr_glob.specs.BaseNames.{base_name, base_name_place}
+use Rattle.attr_glob.specs.Patterns.{is_slash}
+
+abbrev no_slash : ℕ → Bool
+no_slash b = not (is_slash b)
+
+-- how many bytes stand after the last slash
+abbrev name_len : List ℕ → ℕ
+name_len path = suffix_len no_slash path
+
+name_len-cons : (b : ℕ) (bs : List ℕ) → name_len (b ∷ bs) ≡ cond (eqb (name_len bs) (length bs)) (length bs + prefix_len no_slash (b ∷ [])) (name_len bs)
+name_len-cons b bs =
+    let e : prefix_len no_slash (reverse (b ∷ bs)) ≡ prefix_len no_slash (reverse bs ++ b ∷ []) = ap (prefix_len no_slash) (reverse-append (b ∷ []) bs) in
+    let l : length (reverse bs) ≡ length bs = length-reverse bs in
+    e ∙ (rw l at (prefix_len-append no_slash (reverse bs) (b ∷ [])))
+
+name_len-slash : (b : ℕ) (bs : List ℕ) → name_len bs ≡ length bs → is_slash b ≡ true → name_len (b ∷ bs) ≡ length bs
+name_len-slash b bs e slash = let c = name_len-cons b bs in grind (arith, nat_tests)
+
+name_len-longer : (b : ℕ) (bs : List ℕ) → name_len bs ≡ length bs → is_slash b ≡ false → name_len (b ∷ bs) ≡ length bs + 1
+name_len-longer b bs e other = let c = name_len-cons b bs in grind (arith, nat_tests)
+
+name_len-below : (b : ℕ) (bs : List ℕ) → name_len bs < length bs → name_len (b ∷ bs) ≡ name_len bs
+name_len-below b bs lt = let c = name_len-cons b bs in grind (arith, nat_tests)
+
+-- the base name is the whole path, or a slash stands before it
+pub data Name (path : List ℕ) : Type 0 where
+  whole : list_any is_slash path ≡ false → name_len path ≡ length path → Name path
+  below : list_any is_slash path ≡ true → name_len path < length path → Name path
+
+within_whole : (b : ℕ) (bs : List ℕ) (test : Bool) → is_slash b ≡ test → list_any is_slash bs ≡ false → name_len bs ≡ length bs → Name (b ∷ bs)
+within_whole b bs true e none len = below (grind arith) (let l = name_len-slash b bs len e in omega arith)
+within_whole b bs false e none len = whole (grind arith) (name_len-longer b bs len e ∙ add-one (length bs))
+
+within_below-any : (b : ℕ) (bs : List ℕ) → list_any is_slash bs ≡ true → list_any is_slash (b ∷ bs) ≡ true
+within_below-any b bs any = grind arith
+
+within_below-len : (b : ℕ) (bs : List ℕ) → name_len bs < length bs → name_len (b ∷ bs) < length (b ∷ bs)
+within_below-len b bs lt = let e = name_len-below b bs lt in omega arith
+
+name_within : (b : ℕ) (bs : List ℕ) → Name bs → Name (b ∷ bs)
+name_within b bs (whole none e) = within_whole b bs (is_slash b) refl none e
+name_within b bs (below any lt) = below (within_below-any b bs any) (within_below-len b bs lt)
+
+pub name_of : (path : List ℕ) → Name path
+name_of [] = whole refl refl
+name_of (b ∷ bs) = name_within b bs (name_of bs)
+
+abbrev place_onto : ℕ → Option ℕ → Option ℕ
+place_onto b (Some place) = Some (place + 1)
+place_onto b None = cond (is_slash b) (Some 1) None
+
+-- the place after the last slash
+abbrev place_of : List ℕ → Option ℕ
+place_of [] = None
+place_of (b ∷ bs) = place_onto b (place_of bs)
+
+length-base_name : (path : List ℕ) → length (base_name path) ≡ name_len path
+length-base_name path = omega (arith, length-drop (length path - name_len path) path, suffix_len-le-length no_slash path)
+
+place-none : (path : List ℕ) → list_any is_slash path ≡ false → base_name_place path ≡ None
+place-none path none = grind arith
+
+place-some : (path : List ℕ) → list_any is_slash path ≡ true → base_name_place path ≡ Some (length path - name_len path)
+place-some path any = grind (arith, length-base_name path)
+
+place_within-whole : (b : ℕ) (bs : List ℕ) (test : Bool) → is_slash b ≡ test → list_any is_slash bs ≡ false → name_len bs ≡ length bs → base_name_place (b ∷ bs) ≡ place_onto b None
+place_within-whole b bs true e none len =
+    let any : list_any is_slash (b ∷ bs) ≡ true = grind arith in
+    let one : length (b ∷ bs) - name_len (b ∷ bs) ≡ 1 = let l = name_len-slash b bs len e in omega arith in
+    place-some (b ∷ bs) any ∙ ap Some one ∙ sym (ap (λ t. cond t (Some 1) None) e)
+place_within-whole b bs false e none len =
+    let no : list_any is_slash (b ∷ bs) ≡ false = grind arith in
+    place-none (b ∷ bs) no ∙ sym (ap (λ t. cond t (Some 1) None) e)
+
+place_within : (b : ℕ) (bs : List ℕ) → Name bs → base_name_place (b ∷ bs) ≡ place_onto b (base_name_place bs)
+place_within b bs (whole none e) = place_within-whole b bs (is_slash b) refl none e ∙ sym (ap (place_onto b) (place-none bs none))
+place_within b bs (below any lt) =
+    let more : length (b ∷ bs) - name_len (b ∷ bs) ≡ length bs - name_len bs + 1 = let e = name_len-below b bs lt in omega arith in
+    place-some (b ∷ bs) (within_below-any b bs any) ∙ ap Some more ∙ sym (ap (place_onto b) (place-some bs any))
+
+place_of_is : (path : List ℕ) → base_name_place path ≡ place_of path
+place_of_is [] = refl
+place_of_is (b ∷ bs) = place_within b bs (name_of bs) ∙ ap (place_onto b) (place_of_is bs)
+
+place_onto-zero : (b : ℕ) (o : Option ℕ) (test : Bool) → is_slash b ≡ test → place_onto b o ≡ place_behind 0 (place_onto b o)
+place_onto-zero b (Some place) _ _ = grind (arith, nat_tests)
+place_onto-zero b None true e = grind (arith, nat_tests)
+place_onto-zero b None false e = grind (arith, nat_tests)
+
+place_onto-suc : (n b : ℕ) (o : Option ℕ) (test : Bool) → is_slash b ≡ test → place_behind n o ≡ place_behind (suc n) (place_onto b o)
+place_onto-suc n b (Some place) _ _ = grind (arith, nat_tests)
+place_onto-suc n b None true e = grind (arith, nat_tests)
+place_onto-suc n b None false e = grind (arith, nat_tests)
+
+place_of-drop : (n : ℕ) (path : List ℕ) → place_of (drop n path) ≡ place_behind n (place_of path)
+place_of-drop zero [] = refl
+place_of-drop (suc n) [] = refl
+place_of-drop zero (b ∷ bs) = place_onto-zero b (place_of bs) (is_slash b) refl
+place_of-drop (suc n) (b ∷ bs) = place_of-drop n bs ∙ place_onto-suc n b (place_of bs) (is_slash b) refl
+
+-- the place of the base name behind a front
+pub base_name_place-drop : (n : ℕ) (path : List ℕ) → base_name_place (drop n path) ≡ place_behind n (base_name_place path)
+base_name_place-drop n path = place_of_is (drop n path) ∙ place_of-drop n path ∙ ap (place_behind n) (sym (place_of_is path))
+
+whole_by : (path : List ℕ) → Name path → base_name_place path ≡ None → path ≡ base_name path
+whole_by path (whole none e) h = sym (ap (λ n. drop n path) (let n : length path - name_len path ≡ 0 = omega arith in n))
+whole_by path (below any lt) h = let some = place-some path any in absurd cc
+
+-- without a place the base name is the whole path
+pub base_name-whole : (path : List ℕ) → base_name_place path ≡ None → path ≡ base_name path
+base_name-whole path = whole_by path (name_of path)

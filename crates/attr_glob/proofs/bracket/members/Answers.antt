@@ -1,0 +1,33 @@
+use Rattle.std.proofs.Common.{◌≡◌, ◌≤◌, ◌&&◌, not, suc, ◌==◌, length, true, Some, false, ◌∷◌, arith, ap, sym, ◌∙◌}
+use Rattle.attr_glob.specs.Bytes.{close_bracket}
+use Rattle.attr_glob.specs.Brackets.{member_at, members as members_at}
+use Rattle.attr_glob.proofs.MembersLemmas.{after, after-nil, members_more}
+use Rattle.attr_glob.proofs.bracket.members.Goals as goal
+
+pub loop-byte-init : goal.loop-byte-init
+loop-byte-init c = (
+  omega arith,
+  length c.args.bytes.now,
+  omega arith,
+  rw c.new-list.ensures.items (after-nil (members_at (length c.args.bytes.now) true c.args.bytes.now)),
+)
+
+pub loop-byte-preserved : goal.loop-byte-preserved
+loop-byte-preserved c =
+    let b = c.in-Some.byte.now in
+    let bs = c.in-Some.behind.now in
+    let rest = c.in-Some-read_member.behind.now in
+    let list = c.loop-byte.list.items in
+    let before = c.loop-byte.invariant in
+    let split : c.loop-byte.rest.now ≡ b ∷ bs = c.in-Some.ensures.cases.0 in
+    let whole : length c.loop-byte.rest.now ≡ suc (length bs) = ap length split in
+    let shorter : length rest ≤ length bs = c.in-Some-read_member.ensures.shorter in
+    let open_still : (b == close_bracket && not c.loop-byte.first) ≡ false = sym c.if-closes.ensures in
+    let read : member_at b bs ≡ Some (c.in-Some-read_member.member, rest) = sym c.in-Some-read_member.ensures.member in
+    let next = members_more list before.1 c.loop-byte.first b bs c.in-Some-read_member.member rest open_still read (omega arith) shorter in (
+      omega arith,
+      next.0,
+      next.1,
+      before.3 ∙ (ap (λ s. after list (members_at before.1 c.loop-byte.first s)) split ∙
+          (next.2 ∙ ap (λ x. after x (members_at next.0 false rest)) (sym c.in_ok-push-in-Some-read_member.ensures.items))),
+    )

@@ -1,0 +1,11 @@
+use Rattle.std.proofs.Common.{sym, ap, ◌∙◌}
+use Rattle.attr_glob.specs.TokenList.{tokens_of}
+use Rattle.attr_glob.specs.Deciding.{matches}
+use Rattle.attr_glob.proofs.Ends.{exact_answer}
+use Rattle.attr_glob.proofs.wildmatch.folders.match_folders.Goals as goal
+
+pub returns-in-None-clause-matched : goal.returns-in-None-clause-matched
+returns-in-None-clause-matched c =
+    let f = matches c.args.case (tokens_of c.args.behind.now) in
+    exact_answer c.args.case (tokens_of c.args.tokens.now) c.loop-row.rest.now c.run.result.0 c.run.ensures.matched.0 c.run.ensures.matched.1
+    ∙ (ap (λ ts. matches c.args.case ts c.loop-row.rest.now) c.requires.folder ∙ sym c.loop-row.invariant.0)

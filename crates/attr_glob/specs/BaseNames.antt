@@ -1,0 +1,12 @@
+-- The base name of a path (gitignore page).
+use Rattle.std.specs.Prelude.{ℕ, ◌-◌, List, length, Option, Some, None, if◌then◌else◌}
+use Rattle.std.specs.List.{list_any, after_last}
+use Rattle.attr_glob.specs.Patterns.{is_slash}
+
+-- what follows the last `/` of a path, and all of a path without one
+abbrev pub base_name : List ℕ → List ℕ
+base_name path = after_last is_slash path
+
+-- the place behind the last `/` of a path, none without one
+abbrev pub base_name_place : List ℕ → Option ℕ
+base_name_place path = if list_any is_slash path then Some (length path - length (base_name path)) else None

@@ -1,0 +1,25 @@
+-- What the tokens of the code mean, and that a folder star stands only where git has one (gitignore page).
+use Rattle.std.specs.Prelude.{Bool, true, ◌&&◌, List, [], ◌∷◌}
+use Rattle.attr_glob.specs.declared.token.Token as written
+use Rattle.attr_glob.specs.declared.token.Token.TheVariants.{Lit, One, Set, Star, Dirs, Rest}
+use Rattle.attr_glob.specs.Tokens.{Token, lit, one, set, star, dirs, rest, ends_in_slash}
+
+-- the meaning of a token
+abbrev pub token_of : written.Token → Token
+token_of (Lit c) = lit c
+token_of One = one
+token_of (Set negated members) = set negated members
+token_of Star = star
+token_of Dirs = dirs
+token_of Rest = rest
+
+-- the meanings of tokens
+abbrev pub tokens_of : List written.Token → List Token
+tokens_of [] = []
+tokens_of (t ∷ ts) = token_of t ∷ tokens_of ts
+
+-- each folder star stands at the start or behind a token that ends in a slash
+abbrev pub is_bordered : Bool → List Token → Bool
+is_bordered border [] = true
+is_bordered border (dirs ∷ ts) = border && is_bordered true ts
+is_bordered border (t ∷ ts) = is_bordered (ends_in_slash t) ts

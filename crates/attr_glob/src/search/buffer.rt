@@ -1,0 +1,30 @@
+//! How a buffer becomes patterns.
+
+ghost use Rattle.std.specs.Prelude.{ℕ, List, IfOk};
+ghost use Rattle.attr_glob.specs.declared.search.pattern.Mapping.{Mapping};
+
+use crate::search::pattern::Mapping;
+use std::alloc::{AllocError, Global};
+use std::fmt;
+use std::hash::Hash;
+
+/// How the lines of a buffer become patterns with values.
+pub trait Pattern {
+    /// What goes with a pattern.
+    type Value: PartialEq + Eq + PartialOrd + Ord + Hash + fmt::Debug + Clone + Drop;
+
+    /// What is told of a line that is left out.
+    type Dropped: Drop;
+
+    // What a buffer becomes: its mappings, and what is told of the lines that are left out.
+    ghost reads: { Self → List ℕ → List (Mapping Self.Value) → List Self.Dropped → Type 0 };
+
+    /// Reads a buffer that came from the source.
+    fn bytes_to_patterns(
+        &self,
+        alloc: Global,
+        bytes: &[u8],
+        source: &str,
+    ) -> Result<(Vec<Mapping<Self::Value>>, Vec<Self::Dropped>), AllocError>
+        ensures { IfOk result (λ r. reads self.now bytes.now r.0.items r.1.items) };
+}

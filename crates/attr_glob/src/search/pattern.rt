@@ -1,0 +1,238 @@
+//! Lists of patterns that apply below a base.
+
+ghost use Rattle.std.specs.Prelude.{◌≡◌, true, Some, nat_eq, IfOk, IfSome, option_map, string_bytes, length, drop};
+ghost use Rattle.std.specs.Option.{option_copied, option_eq};
+ghost use Rattle.std.specs.String.{string_eq};
+ghost use Rattle.std.specs.Cmp.Lexicographic.{pointwise};
+ghost use Rattle.bstr.specs.BStr.{bstr_bytes};
+ghost use Rattle.attr_glob.specs.Bases.{base_of, place_behind, rest_below, folder, below_root, with_slash};
+ghost use Rattle.attr_glob.specs.BaseNames.{base_name_place};
+ghost use Rattle.attr_glob.specs.Folding.{same_text};
+ghost use Rattle.attr_glob.specs.Views.{base_bytes};
+
+use crate::pattern::{Case, without_end};
+use crate::search;
+pub use crate::search::pattern::index::{Index, Scratch};
+use bstr::BStr;
+use std::alloc::{AllocError, Global};
+
+mod chains;
+mod index;
+
+/// A pattern, with what goes with it.
+#[derive(PartialEq, Eq, PartialOrd, Ord, Hash, Debug, Drop)]
+pub struct Mapping<V> {
+    /// The pattern.
+    pub pattern: crate::Pattern,
+    /// What goes with it.
+    pub value: V,
+    /// The number of its line, from 1.
+    pub sequence_number: usize,
+}
+
+impl<V: Clone + PartialEq> Mapping<V> {
+    /// A copy.
+    pub fn clone(&self, alloc: Global) -> Result<Mapping<V>, AllocError>
+        requires { (x y : V) → V.is_clone x y → V.eq y x ≡ true }
+        ensures { IfOk result (λ copy. ⟦<Mapping<V> as PartialEq>⟧.eq copy self.now ≡ true) }
+    {
+        Ok(Mapping {
+            pattern: self.pattern.clone(alloc)?,
+            value: self.value.clone()?,
+            sequence_number: self.sequence_number,
+        })
+    }
+}
+
+/// The patterns of one source.
+#[derive(PartialEq, Eq, PartialOrd, Ord, Hash, Debug, Drop)]
+pub struct List<T: search::Pattern> {
+    /// The patterns, in the order of their lines.
+    pub patterns: Vec<Mapping<T::Value>>,
+    /// Where the patterns were read, as `sub/.gitattributes`.
+    pub source: Option<String>,
+    /// What the paths begin with to which the list applies, as `sub/`: it applies to what stands behind.
+    pub base: Option<Vec<u8>>,
+}
+
+impl<T: search::Pattern + Drop> List<T> {
+    /// Reads the patterns of a buffer that came from the source. They apply below the source's folder, as it is seen
+    /// from the root.
+    pub fn from_bytes(
+        alloc: Global,
+        bytes: &[u8],
+        source: String,
+        root: Option<&str>,
+        parse: T,
+    ) -> Result<(List<T>, Vec<T::Dropped>), AllocError>
+        ensures patterns { IfOk result (λ r. T.reads parse bytes.now r.0.patterns.items r.1.items) }
+        ensures source { IfOk result (λ r. r.0.source ≡ Some source) }
+        ensures base { IfOk result (λ r. base_bytes r.0.base ≡ base_of (string_bytes source) (option_copied root.entry)) }
+    {
+        let (patterns, dropped) = parse.bytes_to_patterns(alloc, bytes, source.as_str())?;
+        let base = base_of(alloc, source.as_str(), root)?;
+        let list = List {
+            patterns,
+            source: Some(source),
+            base,
+        };
+        Ok((list, dropped))
+    }
+}
+
+impl<T: search::Pattern> List<T> {
+    /// What stands of the path behind the base, with the place of its base name, where the list applies to the path.
+    pub fn strip_base_handle_recompute_basename_pos<'a>(
+        &self,
+        path: BStr<'a>,
+        basename_pos: Option<usize>,
+        case: Case,
+    ) -> Option<(BStr<'a>, Option<usize>)>
+        requires { basename_pos ≡ base_name_place (bstr_bytes path) }
+        ensures rest { option_map (λ r. bstr_bytes r.0) result ≡ rest_below (base_bytes self.now.base) case (bstr_bytes path.entry) }
+        ensures place { IfSome result (λ r. r.1 ≡ base_name_place (bstr_bytes r.0)) }
+    {
+        let Some(base) = &self.base else {
+            return Some((path, basename_pos));
+        };
+        let rest = rest_below(base, case, path.as_bytes())?;
+        Some((BStr::new(rest), place_behind(base.len(), basename_pos)))
+    }
+}
+
+impl<T: search::Pattern + PartialEq> List<T> {
+    /// A copy.
+    pub fn clone(&self, alloc: Global) -> Result<List<T>, AllocError>
+        requires { (x y : T.Value) → T.Value.is_clone x y → T.Value.eq y x ≡ true }
+        ensures { IfOk result (λ copy. ⟦<List<T> as PartialEq>⟧.eq copy self.now ≡ true) }
+    {
+        Ok(List {
+            patterns: copies(alloc, &self.patterns)?,
+            source: copy_of_text(alloc, &self.source)?,
+            base: copy_of_bytes(alloc, &self.base)?,
+        })
+    }
+}
+
+fn copies<V: Clone + PartialEq + Drop>(
+    alloc: Global,
+    mappings: &[Mapping<V>],
+) -> Result<Vec<Mapping<V>>, AllocError>
+    requires { (x y : V) → V.is_clone x y → V.eq y x ≡ true }
+    ensures { IfOk result (λ copies. pointwise ⟦<Mapping<V> as PartialEq>⟧.eq copies.items mappings.now ≡ true) }
+{
+    let mut copies = Vec::new(alloc);
+    for mapping in mappings {
+        copies.push(mapping.clone(alloc)?)?;
+    }
+    Ok(copies)
+}
+
+#[tactic(auto, using(crate::proofs::Copies::bytes_same))]
+fn copy_of_text(alloc: Global, text: &Option<String>) -> Result<Option<String>, AllocError>
+    ensures { IfOk result (λ copy. option_eq string_eq copy text.now ≡ true) }
+{
+    match text {
+        Some(text) => Ok(Some(String::from_str(alloc, text.as_str())?)),
+        None => Ok(None),
+    }
+}
+
+#[tactic(auto, using(crate::proofs::Copies::bytes_same))]
+fn copy_of_bytes(alloc: Global, bytes: &Option<Vec<u8>>) -> Result<Option<Vec<u8>>, AllocError>
+    ensures { IfOk result (λ copy. option_eq (λ x y. pointwise nat_eq x.items y.items) copy bytes.now ≡ true) }
+{
+    match bytes {
+        Some(bytes) => Ok(Some(Vec::from_slice(alloc, bytes)?)),
+        None => Ok(None),
+    }
+}
+
+// The base of a source.
+fn base_of(alloc: Global, source: &str, root: Option<&str>) -> Result<Option<Vec<u8>>, AllocError>
+    ensures { IfOk result (λ base. base_bytes base ≡ base_of source.now (option_copied root.entry)) }
+{
+    let Some(root) = root else {
+        return Ok(None);
+    };
+    match below_root(root.as_bytes(), folder(source.as_bytes())) {
+        Some(below) => with_slash(alloc, below),
+        None => Ok(None),
+    }
+}
+
+// What stands before the last slash.
+fn folder(source: &[u8]) -> &[u8]
+    ensures { result.now ≡ folder source.now }
+{
+    let mut end = source.len();
+    while end > 0 && source[end - 1] != b'/' {
+        end -= 1;
+    }
+    &source[..end.saturating_sub(1)]
+}
+
+fn below_root<'a>(root: &[u8], folder: &'a [u8]) -> Option<&'a [u8]>
+    ensures { option_copied result ≡ below_root root.now folder.now }
+{
+    if root.is_empty() {
+        return Some(folder);
+    }
+    let front = without_end(root);
+    if !folder.starts_with(front) {
+        return None;
+    }
+    match folder.get(front.len()) {
+        Some(b'/') => Some(&folder[front.len() + 1..]),
+        _ => None,
+    }
+}
+
+fn with_slash(alloc: Global, folder: &[u8]) -> Result<Option<Vec<u8>>, AllocError>
+    ensures { IfOk result (λ base. base_bytes base ≡ with_slash folder.now) }
+{
+    if folder.is_empty() {
+        return Ok(None);
+    }
+    let mut base = Vec::from_slice(alloc, folder)?;
+    base.push(b'/')?;
+    Ok(Some(base))
+}
+
+// What stands of the path behind the base, where the path begins with the base.
+fn rest_below<'a>(base: &[u8], case: Case, path: &'a [u8]) -> Option<&'a [u8]>
+    ensures rest { option_copied result ≡ rest_below (Some base.now) case path.now }
+    ensures behind { IfSome result (λ rest. rest.now ≡ drop (length base.now) path.now) }
+{
+    if path.len() < base.len() {
+        return None;
+    }
+    let (front, rest) = path.split_at(base.len());
+    if same_text(case, base, front) {
+        Some(rest)
+    } else {
+        None
+    }
+}
+
+// The place as it is seen behind so many bytes.
+fn place_behind(taken: usize, place: Option<usize>) -> Option<usize>
+    ensures { result ≡ place_behind taken place }
+{
+    match place {
+        Some(place) if place > taken => Some(place - taken),
+        _ => None,
+    }
+}
+
+pub(crate) fn same_text(case: Case, x: &[u8], y: &[u8]) -> bool
+    ensures { result ≡ same_text case x.now y.now }
+{
+    match case {
+        Case::Sensitive => x == y,
+        Case::Fold => x.eq_ignore_ascii_case(y),
+    }
+}
+
+#[cfg(test)]
+mod tests;

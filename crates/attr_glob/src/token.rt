@@ -1,0 +1,259 @@
+//! The tokens of a pattern's text.
+
+ghost use Rattle.std.specs.Prelude.{◌≡◌, ◌+◌, ◌≤◌, ◌<◌, ◌^◌, ◌&&◌, ◌↔◌, List, IfSome, IfOk, IsTrue, Some, true, length, option_map};
+ghost use Rattle.attr_glob.specs.Tokens.{Token as Meaning, after_stars, stars_at, bracket_at, escape_at, token_at, ends_in_slash as meaning_ends_in_slash, tokens as meaning_of_text};
+ghost use Rattle.attr_glob.specs.Spelling.{AreTokens};
+ghost use Rattle.attr_glob.specs.Deciding.{takes_byte};
+ghost use Rattle.attr_glob.specs.Rows.{may_be_nothing, is_dirs, goes_on, ends_with};
+ghost use Rattle.attr_glob.specs.TokenList.{token_of, tokens_of, is_bordered};
+
+use crate::bracket::{self, MemberSet};
+use crate::pattern::Case;
+use std::alloc::{AllocError, Global};
+use std::marker::Model;
+
+/// What a part of a pattern takes.
+#[derive(Debug, Drop)]
+pub enum Token {
+    /// That byte.
+    Lit(u8),
+    /// One byte, but no slash.
+    One,
+    /// One byte that the members hold or, if negated, don't hold, but no slash.
+    Set { negated: bool, members: MemberSet },
+    /// Any text without a slash.
+    Star,
+    /// Nothing, or any text that ends in a slash.
+    Dirs,
+    /// Any text.
+    Rest,
+}
+
+impl Token {
+    /// Whether the token takes one byte, and this one.
+    pub fn takes(&self, byte: u8, case: Case) -> bool
+        ensures { result ≡ takes_byte case (token_of self.now) byte }
+    {
+        match self {
+            Token::Lit(lit) => match case {
+                Case::Sensitive => byte == *lit,
+                Case::Fold => byte.to_ascii_lowercase() == lit.to_ascii_lowercase(),
+            },
+            Token::One => byte != b'/',
+            Token::Set { negated, members } => {
+                if byte == b'/' {
+                    return false;
+                }
+                members.contains(byte, case) != *negated
+            }
+            Token::Star | Token::Dirs | Token::Rest => false,
+        }
+    }
+
+    // Whether the token may take nothing.
+    pub(crate) fn may_be_empty(&self) -> bool
+        ensures { result ≡ may_be_nothing (token_of self.now) }
+    {
+        match self {
+            Token::Star | Token::Dirs | Token::Rest => true,
+            Token::Lit(_) | Token::One | Token::Set { .. } => false,
+        }
+    }
+
+    // Whether the token is a folder star.
+    pub(crate) fn is_folder_star(&self) -> bool
+        ensures { result ≡ is_dirs (token_of self.now) }
+    {
+        match self {
+            Token::Dirs => true,
+            Token::Lit(_) | Token::One | Token::Set { .. } | Token::Star | Token::Rest => false,
+        }
+    }
+
+    // Whether a token that takes any number of bytes goes on to take this one.
+    pub(crate) fn continues(&self, byte: u8) -> bool
+        ensures { result ≡ goes_on (token_of self.now) byte }
+    {
+        match self {
+            Token::Star => byte != b'/',
+            Token::Rest => true,
+            Token::Lit(_) | Token::One | Token::Set { .. } | Token::Dirs => false,
+        }
+    }
+
+    // Whether the token ends with this byte.
+    pub(crate) fn ends(&self, byte: u8, case: Case) -> bool
+        ensures { result ≡ ends_with case (token_of self.now) byte }
+    {
+        match self {
+            Token::Dirs => byte == b'/',
+            Token::Lit(_) | Token::One | Token::Set { .. } | Token::Star | Token::Rest => {
+                self.takes(byte, case)
+            }
+        }
+    }
+
+    // Whether the token's text ends in a slash, so that a folder star may follow.
+    fn ends_in_slash(&self) -> bool
+        ensures { result ≡ meaning_ends_in_slash (token_of self.now) }
+    {
+        match self {
+            Token::Lit(lit) => *lit == b'/',
+            Token::Dirs => true,
+            Token::One | Token::Set { .. } | Token::Star | Token::Rest => false,
+        }
+    }
+}
+
+// What stands behind a run of stars.
+fn skip_stars(bytes: &[u8]) -> &[u8]
+    ensures rest { result.now ≡ after_stars bytes.now }
+    ensures shorter { length result.now ≤ length bytes.now }
+{
+    let mut rest = bytes;
+    while let Some((byte, behind)) = rest.split_first() {
+        if *byte != b'*' {
+            break;
+        }
+        rest = behind;
+    }
+    rest
+}
+
+// The token of a run of stars, where these bytes follow its first one. `border` says that the run stands
+// at the text's start or after a slash.
+fn stars(border: bool, bytes: &[u8]) -> (Token, &[u8])
+    ensures token { (token_of result.0, result.1.now) ≡ stars_at border bytes.now }
+    ensures shorter { length result.1.now ≤ length bytes.now }
+{
+    let rest = skip_stars(bytes);
+    if border && bytes.first() == Some(&b'*') {
+        match rest {
+            [] => return (Token::Rest, rest),
+            [b'/', behind @ ..] => return (Token::Dirs, behind),
+            _ => {}
+        }
+    }
+    (Token::Star, rest)
+}
+
+// The token of a bracket, where these bytes follow its `[`.
+fn set(alloc: Global, bytes: &[u8]) -> Result<Option<(Token, &[u8])>, AllocError>
+    ensures token { IfOk result (λ o. option_map (λ r. (token_of r.0, r.1.now)) o ≡ bracket_at bytes.now) }
+    ensures shorter { IfOk result (λ o. IfSome o (λ r. length r.1.now ≤ length bytes.now)) }
+{
+    let (negated, inside) = match bytes {
+        [] => return Ok(None),
+        [b'!' | b'^', inside @ ..] => (true, inside),
+        _ => (false, bytes),
+    };
+    match bracket::members(alloc, inside)? {
+        None => Ok(None),
+        Some((members, rest)) => Ok(Some((Token::Set { negated, members }, rest))),
+    }
+}
+
+// The token that begins with the byte, which these bytes follow, and what stands behind it.
+fn read_token(
+    alloc: Global,
+    border: bool,
+    byte: u8,
+    bytes: &[u8],
+) -> Result<Option<(Token, &[u8])>, AllocError>
+    ensures token { IfOk result (λ o. option_map (λ r. (token_of r.0, r.1.now)) o ≡ token_at border byte bytes.now) }
+    ensures shorter { IfOk result (λ o. IfSome o (λ r. length r.1.now ≤ length bytes.now)) }
+{
+    match byte {
+        b'?' => Ok(Some((Token::One, bytes))),
+        b'\\' => match bytes.split_first() {
+            None => Ok(None),
+            Some((escaped, rest)) => Ok(Some((Token::Lit(*escaped), rest))),
+        },
+        b'[' => match set(alloc, bytes)? {
+            None => Ok(None),
+            Some((token, rest)) => Ok(Some((token, rest))),
+        },
+        b'*' => {
+            let (token, rest) = stars(border, bytes);
+            Ok(Some((token, rest)))
+        }
+        _ => Ok(Some((Token::Lit(byte), bytes))),
+    }
+}
+
+/// The tokens of a pattern's text, kept so that they can be matched against many values.
+#[derive(Debug, Drop)]
+pub struct Tokens {
+    list: Vec<Token>,
+}
+
+impl Model for Tokens {
+    ghost use Rattle.std.specs.Prelude.{◌≡◌, List, true};
+    ghost use Rattle.attr_glob.specs.Tokens.{Token as Meaning};
+    ghost use Rattle.attr_glob.specs.TokenList.{tokens_of, is_bordered};
+
+    ghost Value = { List Meaning };
+
+    ghost view = { λ t. tokens_of t.list.items };
+
+    ghost invariant = { λ t. is_bordered true (tokens_of t.list.items) ≡ true };
+}
+
+impl Tokens {
+    /// Reads a pattern's text. None where it is malformed: a bracket that isn't closed or names an unknown
+    /// class, or a lone backslash at its end.
+    pub fn read(alloc: Global, text: &[u8]) -> Result<Option<Tokens>, AllocError>
+        ensures tokens { IfOk result (λ o. o ≡ meaning_of_text text.now) }
+        ensures few { IfOk result (λ o. IfSome o (λ ts. length ts ≤ length text.now)) }
+    {
+        let mut list = Vec::new(alloc);
+        let mut border = true;
+        let mut rest = text;
+        while let Some((byte, behind)) = rest.split_first() {
+            match read_token(alloc, border, *byte, behind)? {
+                None => return Ok(None),
+                Some((token, behind)) => {
+                    border = token.ends_in_slash();
+                    list.push(token)?;
+                    rest = behind;
+                }
+            }
+        }
+        Ok(Some(Tokens { list }))
+    }
+
+    /// How many tokens there are.
+    pub fn len(&self) -> usize
+        ensures len { result ≡ length self.now }
+        ensures few { result < 2 ^ 63 }
+    {
+        self.list.len()
+    }
+
+    /// Whether there are no tokens, as of the empty text.
+    pub fn is_empty(&self) -> bool
+        ensures { IsTrue result ↔ (length self.now ≡ 0) }
+    {
+        self.list.is_empty()
+    }
+
+    /// How many places of a row the tokens need.
+    pub fn places(&self) -> usize
+        ensures { result ≡ length self.now + 1 }
+    {
+        self.len() + 1
+    }
+
+    pub(crate) fn as_slice(&self) -> &[Token]
+        ensures tokens { tokens_of result.now ≡ self.now }
+        ensures bordered { is_bordered true self.now ≡ true }
+        ensures few { length result.now < 2 ^ 63 }
+    {
+        self.list.as_slice()
+    }
+}
+
+/// The tokens of a text are those that it spells (a law).
+pub fn tokens_are_spelled(text: &[u8])
+    ensures { (ts : List Meaning) → (meaning_of_text text.now ≡ Some ts) ↔ AreTokens true text.now ts }
+{}
