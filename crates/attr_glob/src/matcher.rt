@@ -93,6 +93,3 @@ impl Matcher {
         Ok(tokens.matches(value, case, rows))
     }
 }
-
-#[cfg(test)]
-mod tests;

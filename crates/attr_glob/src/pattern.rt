@@ -406,6 +406,3 @@ pub fn test_tells_path_match(pattern: &Pattern, path: BStr<'_>, is_dir: Option<b
     ensures { IsTrue (path_matches case (pattern_read pattern.now) (bstr_bytes path.entry) is_dir) ↔
         PathMatches case (pattern_read pattern.now) (bstr_bytes path.entry) is_dir }
 {}
-
-#[cfg(test)]
-mod tests;

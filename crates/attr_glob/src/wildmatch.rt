@@ -406,5 +406,3 @@ pub fn tests_tell_match(case: Case, text: &[u8], value: &[u8])
 {}
 
 mod folders;
-#[cfg(test)]
-mod tests;

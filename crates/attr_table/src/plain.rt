@@ -351,6 +351,3 @@ pub fn search<'a>(
         }
     }
 }
-
-#[cfg(test)]
-mod tests;

@@ -11,6 +11,3 @@ pub mod state;
 pub use crate::assignment::{Assignment, AssignmentRef};
 pub use crate::name::{Name, NameRef};
 pub use crate::state::{State, StateRef};
-
-#[cfg(test)]
-mod tests;

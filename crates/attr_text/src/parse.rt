@@ -449,6 +449,3 @@ fn macro_of(alloc: Global, name: &[u8], line: usize) -> Result<Option<Kind>, Err
         }),
     }
 }
-
-#[cfg(test)]
-mod tests;

@@ -1,5 +1,5 @@
-//! Readers and writers in memory that fail at a chosen call, and tests of `check_attr` over them:
-//! worked rows, hostile inputs, failing devices and refused memory.
+//! The tests of all crates: worked rows, hostile inputs, and readers and writers in memory that fail at a chosen
+//! call.
 #![tactic(auto)]
 
 pub mod devices;

@@ -2,3 +2,10 @@ pub mod Bytes
 mod ReportLemmas
 mod SayLemmas
 mod ArgLemmas
+mod NameLemmas
+mod ScriptLemmas
+mod KnownLemmas
+mod AnswerLemmas
+mod RunLemmas
+mod GlobalLemmas
+mod CommandLemmas

@@ -1,3 +1,12 @@
 pub mod Failures
 pub mod LinesText
 pub mod Program
+pub mod Script
+pub mod ScriptViews
+pub mod ScriptStates
+pub mod ScriptText
+pub mod MatchText
+pub mod Knowing
+pub mod EngineViews
+pub mod LoadedViews
+pub mod GlobalFiles

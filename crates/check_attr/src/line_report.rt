@@ -9,6 +9,7 @@ ghost use Rattle.check_attr.specs.Failures.{AppendsFront};
 ghost use Rattle.check_attr.specs.LinesText.{item_text, line_text, lines_text};
 
 use crate::fault::Fault;
+use crate::gathering::{push_bytes, push_text};
 use crate::reading::{Pull, read_all};
 use crate::writing::{Push, write_all};
 use gix_attributes::parse::{AttrError, Iter, Kind};
@@ -124,17 +125,4 @@ fn push_item(
             push_bytes(out, name.as_bytes())
         }
     }
-}
-
-fn push_text(out: &mut Vec<u8>, text: &str) -> Result<(), AllocError>
-    ensures { OnOk result (out.new.items ≡ out.old.items ++ text.now) }
-{
-    push_bytes(out, text.as_bytes())
-}
-
-fn push_bytes(out: &mut Vec<u8>, bytes: &[u8]) -> Result<(), AllocError>
-    ensures { OnOk result (out.new.items ≡ out.old.items ++ bytes.now) }
-{
-    out.extend_from_slice(bytes)?;
-    Ok(())
 }

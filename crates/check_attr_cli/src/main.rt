@@ -1,5 +1,5 @@
-//! Says what the lines of an attributes file say: `check_attr --lines` reads one from standard
-//! input.
+//! Answers a script on standard input by attributes files: `check_attr FILE...` reads these as global
+//! files. `check_attr --lines` says what each line of one attributes file on standard input says.
 #![tactic(auto)]
 
 use check_attr::{Reader, Writer, program};

@@ -5,8 +5,6 @@ ghost use Rattle.gix_attributes.specs.Failures.{Fails};
 ghost use Rattle.gix_attributes.specs.declared.files.ReadError.TheVariants.{OutOfMemory};
 
 mod memory;
-#[cfg(test)]
-mod tests;
 
 pub use self::memory::Memory;
 use std::alloc::AllocError;

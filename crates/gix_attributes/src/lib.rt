@@ -10,7 +10,11 @@
 #![tactic(auto)]
 
 pub mod files;
+pub mod search;
+mod source;
 
+pub use crate::search::Search;
+pub use crate::source::{Prefixes, Source};
 pub use attr_glob as glob;
 pub use attr_text::{
     Assignment, AssignmentRef, Name, NameRef, State, StateRef, name, parse, state,

@@ -148,6 +148,3 @@ fn letter(first: u8) -> Option<u8>
         _ => None,
     }
 }
-
-#[cfg(test)]
-mod tests;

@@ -233,6 +233,3 @@ pub(crate) fn same_text(case: Case, x: &[u8], y: &[u8]) -> bool
         Case::Fold => x.eq_ignore_ascii_case(y),
     }
 }
-
-#[cfg(test)]
-mod tests;

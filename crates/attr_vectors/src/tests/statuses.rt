@@ -55,8 +55,8 @@ fn each_byte_alone_succeeds(rt: HostRuntime) -> Result<(), Fail> {
     Ok(())
 }
 
-// Whether a run with these arguments answers 1, reads nothing and writes nothing.
-fn touches_nothing(alloc: Global, words: &[&str]) -> Result<bool, AllocError> {
+// Whether a run with these arguments, which name no file that there is, takes its input for a script.
+fn runs_a_script(alloc: Global, words: &[&str]) -> Result<bool, AllocError> {
     let args = arguments(alloc, words)?;
     let mut source = Source::new(INPUT);
     let mut writer = Sink::new(alloc);
@@ -69,22 +69,8 @@ fn touches_nothing(alloc: Global, words: &[&str]) -> Result<bool, AllocError> {
         &mut writer,
         &mut errors,
     );
-    let unread = source.rest() == INPUT;
-    let unwritten = writer.bytes().is_empty() && errors.bytes().is_empty();
-    let unflushed = writer.flushes() == 0 && errors.flushes() == 0;
-    Ok(status == 1 && unread && unwritten && unflushed)
-}
-
-// So far other arguments are refused.
-#[test]
-fn other_arguments_touch_nothing(rt: HostRuntime) -> Result<(), Fail> {
-    assert!(rt; touches_nothing(rt.alloc(), &[])?);
-    assert!(rt; touches_nothing(rt.alloc(), &["--lines", "--lines"])?);
-    assert!(rt; touches_nothing(rt.alloc(), &["--lines", ""])?);
-    assert!(rt; touches_nothing(rt.alloc(), &["--line"])?);
-    assert!(rt; touches_nothing(rt.alloc(), &["--lines "])?);
-    assert!(rt; touches_nothing(rt.alloc(), &[""])?);
-    Ok(())
+    let said = errors.bytes() == b"check_attr: malformed record 1\n".as_slice();
+    Ok(status == 2 && source.rest().is_empty() && writer.bytes().is_empty() && said)
 }
 
 #[test]

@@ -1,0 +1,11 @@
+pub mod DefinitionLemmas
+pub mod Holding
+pub mod KeptLaws
+pub mod KeptLemmas
+pub mod KnownLemmas
+pub mod Lists
+pub mod NameLemmas
+pub mod NumberLemmas
+pub mod NumberingLaws
+pub mod NumberingSteps
+pub mod SameItems

@@ -1,0 +1,225 @@
+//! How the lines of an attributes file become the mappings of a list.
+
+ghost use Rattle.std.specs.Prelude.{◌≡◌, ◌++◌, true, Ok, IfOk, OnOk, MatchOption, filter};
+ghost use Rattle.std.specs.Option.{option_to_list};
+ghost use Rattle.std.specs.Result.{result_ok, result_err, result_map_both};
+ghost use Rattle.attr_glob.specs.Views.{mode_bits, pattern_read};
+ghost use Rattle.attr_text.specs.Names.{is_valid_name};
+ghost use Rattle.attr_text.specs.TextViews.{item_seen, target_seen, told};
+ghost use Rattle.attr_lists.specs.ListViews.{entry_of, entries_of, line_seen};
+ghost use Rattle.attr_lists.specs.KeptLists.{tracked, reason_of, items_read, macro_mode, macro_pattern, entry_for, line_read, defines_no_macro, macro_valid, macros_valid};
+
+use crate::search::{Assignments, AttributeId, DropReason, Dropped, TrackedAssignment, Value};
+use attr_glob::pattern::Mode;
+use attr_glob::search;
+use attr_glob::search::pattern::Mapping;
+use attr_text::parse::{AttrError, Error, Iter, Kind, parse};
+use attr_text::{AssignmentRef, NameRef};
+use bitflags::Flags;
+use bstr::BStr;
+use smallvec::SmallVec;
+use std::alloc::{AllocError, Global};
+
+/// The lines of attributes files, as a kind of pattern.
+#[derive(Clone, Copy, PartialEq, Eq, PartialOrd, Ord, Hash, Debug, Default)]
+pub struct Attributes;
+
+impl search::Pattern for Attributes {
+    type Value = Value;
+
+    type Dropped = Dropped;
+
+    ghost use Rattle.attr_lists.specs.KeptLists.{IsReadAs};
+
+    ghost reads = { λ parse bytes mappings dropped. IsReadAs bytes mappings dropped };
+
+    // The source says nothing of the lines.
+    fn bytes_to_patterns(
+        &self,
+        alloc: Global,
+        bytes: &[u8],
+        _source: &str,
+    ) -> Result<(Vec<Mapping<Value>>, Vec<Dropped>), AllocError> {
+        let mut mappings = Vec::new(alloc);
+        let mut dropped = Vec::new(alloc);
+        for line in parse(alloc, bytes) {
+            let read = read_line(alloc, line)?;
+            push_line(&mut mappings, &mut dropped, read)?;
+        }
+        Ok((mappings, dropped))
+    }
+}
+
+// Adds what was read of a line to the mappings, or to the lines that are left out.
+fn push_line(
+    mappings: &mut Vec<Mapping<Value>>,
+    dropped: &mut Vec<Dropped>,
+    line: Result<Mapping<Value>, Dropped>,
+) -> Result<(), AllocError>
+    ensures kept { OnOk result (entries_of mappings.new.items ≡ entries_of mappings.old.items ++ option_to_list (result_ok (line_seen line))) }
+    ensures left_out { OnOk result (dropped.new.items ≡ dropped.old.items ++ option_to_list (result_err (line_seen line))) }
+{
+    match line {
+        Ok(mapping) => mappings.push(mapping)?,
+        Err(line) => dropped.push(line)?,
+    }
+    Ok(())
+}
+
+// What is kept of a line, or why it is left out.
+fn read_line(
+    alloc: Global,
+    line: Result<(Kind, Iter<'_>, usize), Error>,
+) -> Result<Result<Mapping<Value>, Dropped>, AllocError>
+    ensures { IfOk result (λ read. MatchOption (told line.entry) ⊥ (λ said. line_seen read ≡ line_read said)) }
+{
+    match line {
+        Ok((kind, items, number)) => read_given(alloc, kind, items, number),
+        Err(
+            Error::MacroName {
+                line,
+                input: _input,
+            },
+        ) => Ok(Err(Dropped {
+            line,
+            reason: DropReason::MacroName,
+        })),
+        Err(
+            Error::NegativePattern {
+                line,
+                input: _input,
+            },
+        ) => Ok(Err(Dropped {
+            line,
+            reason: DropReason::NegativePattern,
+        })),
+        Err(Error::OutOfMemory) => Err(AllocError),
+    }
+}
+
+fn read_given(
+    alloc: Global,
+    kind: Kind,
+    items: Iter<'_>,
+    line: usize,
+) -> Result<Result<Mapping<Value>, Dropped>, AllocError>
+    ensures { IfOk result (λ read. line_seen read ≡ line_read (Ok (record { target = target_seen kind; items = items.entry; line = line }))) }
+{
+    match read_items(alloc, items)? {
+        Ok(assignments) => Ok(Ok(mapping_of(alloc, kind, line, assignments)?)),
+        Err(reason) => Ok(Err(Dropped { line, reason })),
+    }
+}
+
+// What the items of a line assign, unless one of them is refused.
+fn read_items(alloc: Global, items: Iter<'_>) -> Result<Result<Assignments, DropReason>, AllocError>
+    ensures { IfOk result (λ read. result_map_both (λ a. a.items) (λ reason. reason) read ≡ items_read items.entry) }
+{
+    let mut assignments = SmallVec::new(alloc);
+    for item in items {
+        match read_item(alloc, item)? {
+            Ok(assignment) => assignments.push(assignment)?,
+            Err(reason) => return Ok(Err(reason)),
+        }
+    }
+    Ok(Ok(assignments))
+}
+
+fn read_item(
+    alloc: Global,
+    item: Result<AssignmentRef<'_>, AttrError<'_>>,
+) -> Result<Result<TrackedAssignment, DropReason>, AllocError>
+    ensures { IfOk result (λ read. read ≡ result_map_both tracked reason_of (item_seen item.entry)) }
+{
+    match item {
+        Ok(assignment) => Ok(Ok(TrackedAssignment {
+            id: AttributeId::default(),
+            inner: assignment.to_owned(alloc)?,
+        })),
+        Err(AttrError::InvalidName(_)) => Ok(Err(DropReason::InvalidName)),
+        Err(AttrError::Reserved(_)) => Ok(Err(DropReason::Reserved)),
+    }
+}
+
+fn mapping_of(
+    alloc: Global,
+    kind: Kind,
+    line: usize,
+    assignments: Assignments,
+) -> Result<Mapping<Value>, AllocError>
+    ensures { IfOk result (λ mapping. entry_of mapping ≡ entry_for (target_seen kind) line assignments.items) }
+{
+    match kind {
+        Kind::Pattern(pattern) => Ok(Mapping {
+            pattern,
+            value: Value::Assignments(assignments),
+            sequence_number: line,
+        }),
+        Kind::Macro(name) => Ok(Mapping {
+            pattern: macro_pattern(alloc, name.as_str())?,
+            value: Value::MacroAssignments {
+                id: AttributeId::default(),
+                assignments,
+            },
+            sequence_number: line,
+        }),
+    }
+}
+
+// The pattern of a line that defines a macro. It matches no path.
+fn macro_pattern(alloc: Global, name: &str) -> Result<attr_glob::Pattern, AllocError>
+    ensures { IfOk result (λ pattern. pattern_read pattern ≡ macro_pattern name.now) }
+{
+    Ok(attr_glob::Pattern {
+        text: Vec::from_slice(alloc, name.as_bytes())?,
+        mode: macro_mode(),
+        first_wildcard_pos: None,
+    })
+}
+
+fn macro_mode() -> Mode
+    ensures { mode_bits result ≡ macro_mode }
+{
+    Mode::all()
+}
+
+/// The mappings that define no macro, in their order.
+pub fn without_macros(mut mappings: Vec<Mapping<Value>>) -> Vec<Mapping<Value>>
+    ensures left { entries_of result.items ≡ filter defines_no_macro (entries_of mappings.items) }
+    ensures valid { macros_valid (entries_of mappings.items) ≡ true → macros_valid (entries_of result.items) ≡ true }
+{
+    mappings.retain(|mapping| defines_no_macro(mapping));
+    mappings
+}
+
+fn defines_no_macro(mapping: &Mapping<Value>) -> bool
+    ensures { result ≡ defines_no_macro (entry_of mapping.now) }
+{
+    match &mapping.value {
+        Value::MacroAssignments {
+            id: _,
+            assignments: _,
+        } => false,
+        Value::Assignments(_) => true,
+    }
+}
+
+/// Whether each macro that the mappings define has a valid name. What is read of a buffer defines
+/// no other macros, but mappings that are made by hand may.
+pub fn macros_valid(mappings: &[Mapping<Value>]) -> bool
+    ensures { result ≡ macros_valid (entries_of mappings.now) }
+{
+    mappings.iter().all(|mapping| macro_valid(mapping))
+}
+
+fn macro_valid(mapping: &Mapping<Value>) -> bool
+    ensures { result ≡ macro_valid (entry_of mapping.now) }
+{
+    defines_no_macro(mapping) || is_valid_name(&mapping.pattern.text)
+}
+
+fn is_valid_name(text: &[u8]) -> bool
+    ensures { result ≡ is_valid_name text.now }
+{
+    NameRef::try_from(BStr::new(text)).is_ok()
+}

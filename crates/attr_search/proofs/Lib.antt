@@ -1,0 +1,12 @@
+pub mod StandingLemmas
+pub mod StoreLemmas
+pub mod BoardLemmas
+pub mod CopyLemmas
+pub mod Steps
+pub mod Candidates
+pub mod Lines
+pub mod Passed
+pub mod Lists
+pub mod Found
+pub mod RoundLemmas
+pub mod Tags

@@ -1,0 +1,15 @@
+pub mod Board
+pub mod BoardView
+pub mod Keeping
+pub mod Lines
+pub mod ListRead
+pub mod Listings
+pub mod Matches
+pub mod Places
+pub mod Roots
+pub mod Rounds
+pub mod Settings
+pub mod Slots
+pub mod Store
+pub mod StoreView
+pub mod Walking

@@ -1,0 +1,59 @@
+-- What an outcome holds of each attribute, and how it is seen as slots of the table that the
+-- gitattributes page describes (own).
+use Rattle.std.specs.Prelude.{ℕ, Bool, List, map, Option, None, option_map, slice_index_or}
+use Rattle.attr_glob.specs.declared.search.pattern.Mapping.{Mapping}
+use Rattle.attr_glob.specs.Views.{pattern_read}
+use Rattle.attr_text.specs.declared.assignment.Assignment.{Assignment}
+use Rattle.attr_text.specs.declared.state.State.{State}
+use Rattle.attr_text.specs.declared.state.State.TheVariants.{Set, Unset, Value, Unspecified}
+use Rattle.attr_lists.specs.declared.search.TrackedAssignment.{TrackedAssignment}
+use Rattle.attr_lists.specs.declared.search.Value.{Value as LineValue}
+use Rattle.attr_table.specs.Setting.{State as TableState, Set as TableSet, Unset as TableUnset, Value as TableValue, Unspecified as TableUnspecified, Item, Origin, Answer}
+use Rattle.attr_table.specs.Table.{Slots}
+
+-- what is said of an attribute: the line that decided it, what it assigns, whether the attribute is a
+-- macro, and the macro whose body says so, none where the line itself does
+pub record Matched : Type 0 where
+  pub origin : Origin
+  pub assignment : Assignment
+  pub is_macro : Bool
+  pub cause : Option ℕ
+
+-- where a line stands
+abbrev pub origin_of : Option (List ℕ) → Mapping LineValue → Origin
+origin_of source m =
+    record {
+      text = (pattern_read m.pattern).text;
+      mode = (pattern_read m.pattern).mode;
+      wildcard = (pattern_read m.pattern).wildcard;
+      source = source;
+      line = m.sequence_number;
+    }
+
+-- a state, as the table knows it
+abbrev pub table_state : State → TableState
+table_state Set = TableSet
+table_state Unset = TableUnset
+table_state (Value bytes) = TableValue bytes
+table_state Unspecified = TableUnspecified
+
+-- an item, as the table knows it: by its number and its state
+abbrev pub table_item : TrackedAssignment → Item
+table_item t = record { attribute = t.id.0; state = table_state t.inner.state }
+
+abbrev pub table_items : List TrackedAssignment → List Item
+table_items items = map table_item items
+
+-- the answer for a number, as the table knows it
+abbrev pub table_answer : ℕ → Matched → Answer
+table_answer a m =
+    record {
+      origin = m.origin;
+      assignment = record { attribute = a; state = table_state m.assignment.state };
+      is_macro = m.is_macro;
+      cause = m.cause;
+    }
+
+-- what is held of each number, as the table's slots
+abbrev pub slots_of : List (Option Matched) → Slots
+slots_of held a = option_map (table_answer a) (slice_index_or held a None)

@@ -1,0 +1,9 @@
+pub mod ReadLemmas
+pub mod HoldsLemmas
+pub mod SelectionLemmas
+pub mod OutcomeLemmas
+pub mod SearchingLemmas
+pub mod SearchLaws
+pub mod FileLemmas
+pub mod GlobalLemmas
+pub mod SourceLemmas

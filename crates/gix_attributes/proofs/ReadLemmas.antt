@@ -1,0 +1,152 @@
+-- What a list keeps of a buffer was read of pattern texts, none of them negative.
+use Rattle.std.proofs.Common.{◌≡◌, ℕ, ◌+◌, Bool, true, false, not, List, [], ◌∷◌, Option, Some, None, filter, cond, Result, Ok, Err, refl, ap, ◌∙◌}
+use Rattle.std.specs.Prelude.{⊤, All, option_map, drop, length, ◌==◌, ◌||◌, slice_index, if◌then◌else◌}
+use Rattle.std.specs.List.{list_all, list_any, cons_option}
+use Rattle.std.specs.Option.{option_to_list}
+use Rattle.std.specs.Result.{result_ok, result_map_both}
+use Rattle.attr_glob.specs.Bytes.{number_sign}
+use Rattle.std.proofs.lemmas.List.Elements.{All-nil, All-cons, All-head, All-tail, All-append}
+use Rattle.attr_glob.specs.Patterns.{Reading, reading, read_rest, is_negated, without_negation, without_root, without_end, is_space, is_slash, is_suffix, ends_in_slash, first, set_where, has_flag, no_sub_dir, ends_with, must_be_dir, negative, absolute}
+use Rattle.attr_text.specs.Items.{Refusal, checked_name, after_blanks}
+use Rattle.attr_text.specs.LineResults.{Target, pattern, macro, LineResult, RefusedLine, Given, macro_name, negative_pattern, macro_mark, is_macro, macro_of, pattern_of, target_of, parts_of, with_items, result_of_text, result_of, results_from, results_of, lines_in}
+use Rattle.attr_lists.specs.declared.search.TrackedAssignment.{TrackedAssignment}
+use Rattle.attr_lists.specs.declared.search.Dropped.{Dropped}
+use Rattle.attr_lists.specs.declared.search.DropReason.{DropReason}
+use Rattle.attr_lists.specs.ListViews.{Entry}
+use Rattle.attr_lists.specs.KeptLists.{items_read, entry_for, line_read, kept_lines, kept_list, kept_list_where, defines_no_macro}
+use Rattle.attr_search.specs.Settings.{IsRead, AreRead}
+
+TargetRead : Target → Type 0
+TargetRead (pattern read) = (text : List ℕ) × (reading text ≡ Some read) × (has_flag read.mode negative ≡ false)
+TargetRead (macro name) = ⊤
+
+LineRead : LineResult → Type 0
+LineRead (Ok given) = TargetRead given.target
+LineRead (Err refused) = ⊤
+
+-- a mode without the flag
+abbrev flags : Bool → Bool → Bool → Bool → ℕ
+flags a b c e = set_where a no_sub_dir + set_where b ends_with + set_where c must_be_dir + set_where false negative + set_where e absolute
+
+flags-not_negative : (a b c e : Bool) → has_flag (flags a b c e) negative ≡ false
+flags-not_negative true true true true = refl
+flags-not_negative true true true false = refl
+flags-not_negative true true false true = refl
+flags-not_negative true true false false = refl
+flags-not_negative true false true true = refl
+flags-not_negative true false true false = refl
+flags-not_negative true false false true = refl
+flags-not_negative true false false false = refl
+flags-not_negative false true true true = refl
+flags-not_negative false true true false = refl
+flags-not_negative false true false true = refl
+flags-not_negative false true false false = refl
+flags-not_negative false false true true = refl
+flags-not_negative false false true false = refl
+flags-not_negative false false false true = refl
+flags-not_negative false false false false = refl
+
+rest-not_negative : (negated : Bool) (rest : List ℕ) → negated ≡ false → has_flag (read_rest negated rest).mode negative ≡ false
+rest-not_negative negated rest e =
+    let below = without_root rest in
+    let text = without_end below in
+    ap (λ b. has_flag (read_rest b rest).mode negative) e
+    ∙ flags-not_negative (not (list_any is_slash text)) (is_suffix text) (ends_in_slash below) (is_slash (first rest))
+
+OptionRead : Option (Result Target RefusedLine) → Type 0
+OptionRead None = ⊤
+OptionRead (Some (Ok target)) = TargetRead target
+OptionRead (Some (Err refused)) = ⊤
+
+read-either : (b : Bool) (x y : Option (Result Target RefusedLine)) → OptionRead x → OptionRead y → OptionRead (cond b x y)
+read-either true x y hx hy = hx
+read-either false x y hx hy = hy
+
+read-macro : (checked : Result (List ℕ) Refusal) (name : List ℕ) (line : ℕ) → OptionRead (Some (macro_of checked name line))
+unfolding OptionRead TargetRead
+read-macro (Ok checked) name line = tt
+read-macro (Err refusal) name line = tt
+
+read-pattern : (text : List ℕ) (line : ℕ) (negated : Bool) (read : Reading) → reading text ≡ Some read
+    → (negated ≡ false → has_flag read.mode negative ≡ false)
+    → OptionRead (Some (if negated then Err (negative_pattern line text) else Ok (pattern read)))
+unfolding OptionRead TargetRead
+read-pattern text line true read e h = tt
+read-pattern text line false read e h = (text, e, h refl)
+
+read-found : (text : List ℕ) (line : ℕ) (blank : Bool) → reading text ≡ (if blank then None else Some (read_rest (is_negated text) (without_negation text)))
+    → OptionRead (option_map (pattern_of text line) (if blank then None else Some (read_rest (is_negated text) (without_negation text))))
+unfolding OptionRead
+read-found text line true e = tt
+read-found text line false e = read-pattern text line (is_negated text) (read_rest (is_negated text) (without_negation text)) e (rest-not_negative (is_negated text) (without_negation text))
+
+target_of-read : (text : List ℕ) (line : ℕ) → OptionRead (target_of text line)
+target_of-read text line =
+    let name = drop (length macro_mark) text in
+    read-either (is_macro text) (Some (macro_of (checked_name name) name line)) (option_map (pattern_of text line) (reading text))
+    (read-macro (checked_name name) name line) (read-found text line (list_all is_space (without_negation text)) refl)
+
+read-line : (items : List ℕ) (line : ℕ) (target : Option (Result Target RefusedLine)) → OptionRead target
+    → All LineRead (option_to_list (option_map (with_items items line) target))
+unfolding OptionRead LineRead
+read-line items line None h = All-nil LineRead
+read-line items line (Some (Ok target)) h = All-cons LineRead _ [] h (All-nil LineRead)
+read-line items line (Some (Err refused)) h = All-cons LineRead _ [] tt (All-nil LineRead)
+
+read-unless : (b : Bool) (said : Option LineResult) → All LineRead (option_to_list said) → All LineRead (option_to_list (cond b None said))
+read-unless true said h = All-nil LineRead
+read-unless false said h = h
+
+result_of-read : (line : List ℕ) (number : ℕ) → All LineRead (option_to_list (result_of line number))
+result_of-read line number =
+    let text = after_blanks line in
+    read-unless (length text == 0 || slice_index text 0 == number_sign) (result_of_text text number)
+    (read-line (parts_of text).1 number (target_of (parts_of text).0 number) (target_of-read (parts_of text).0 number))
+
+results-read : (number : ℕ) (lines : List (List ℕ)) → All LineRead (results_from number lines)
+results-read number [] = All-nil LineRead
+results-read number (line ∷ lines) =
+    All-append LineRead (option_to_list (result_of line number)) (results_from (number + 1) lines) (result_of-read line number) (results-read (number + 1) lines)
+
+entry-read : (target : Target) (line : ℕ) (items : List TrackedAssignment) → TargetRead target → IsRead (entry_for target line items)
+unfolding TargetRead
+entry-read (pattern read) line items h = h
+entry-read (macro name) line items h = tt
+
+kept-given : (given : Given) (left_out : DropReason → Dropped) (read : Result (List TrackedAssignment) DropReason) (others : List Entry)
+    → TargetRead given.target → AreRead others
+    → AreRead (cons_option (result_ok {E = Dropped} (result_map_both (entry_for given.target given.line) left_out read)) others)
+kept-given given left_out (Ok items) others valid h = All-cons IsRead _ others (entry-read given.target given.line items valid) h
+kept-given given left_out (Err reason) others valid h = h
+
+kept-refused : (refused : RefusedLine) (others : List Entry) → AreRead others → AreRead (cons_option (result_ok (line_read (Err refused))) others)
+kept-refused (macro_name line name) others h = h
+kept-refused (negative_pattern line text) others h = h
+
+kept-read : (lines : List LineResult) → All LineRead lines → AreRead (kept_lines lines)
+unfolding LineRead
+kept-read [] h = All-nil IsRead
+kept-read (Ok given ∷ lines) h =
+    kept-given given (λ reason. record { line = given.line; reason = reason }) (items_read given.items) (kept_lines lines)
+    (All-head LineRead (Ok given) lines h) (kept-read lines (All-tail LineRead (Ok given) lines h))
+kept-read (Err refused ∷ lines) h = kept-refused refused (kept_lines lines) (kept-read lines (All-tail LineRead (Err refused) lines h))
+
+filter-step : (b : Bool) (entry : Entry) (others : List Entry) → IsRead entry → AreRead others → AreRead (cond b (entry ∷ others) others)
+filter-step true entry others h hs = All-cons IsRead entry others h hs
+filter-step false entry others h hs = hs
+
+filter-read : (test : Entry → Bool) (entries : List Entry) → AreRead entries → AreRead (filter test entries)
+filter-read test [] h = h
+filter-read test (entry ∷ entries) h =
+    filter-step (test entry) entry (filter test entries) (All-head IsRead entry entries h) (filter-read test entries (All-tail IsRead entry entries h))
+
+kept_list-read : (bytes : List ℕ) → AreRead (kept_list bytes)
+kept_list-read bytes = kept-read (results_of bytes) (results-read 1 (lines_in bytes))
+
+kept-where : (allow : Bool) (bytes : List ℕ) → AreRead (cond allow (kept_list bytes) (filter defines_no_macro (kept_list bytes)))
+kept-where true bytes = kept_list-read bytes
+kept-where false bytes = filter-read defines_no_macro (kept_list bytes) (kept_list-read bytes)
+
+-- what an addition keeps
+pub kept_list_where-read : (allow_macros : Bool) (bytes : List ℕ) → AreRead (kept_list_where allow_macros bytes)
+kept_list_where-read allow_macros bytes = kept-where allow_macros bytes

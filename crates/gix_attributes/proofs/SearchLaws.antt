@@ -1,0 +1,142 @@
+-- What the laws of searches say, from the laws of the table.
+use Rattle.std.proofs.Common.{◌≡◌, ◌⊎◌, ◌↔◌, ℕ, zero, suc, ◌+◌, ◌<◌, ◌==◌, ◌||◌, Bool, true, false, cond, List, [], ◌∷◌, ◌++◌, length, get_or, map, filter, All, Option, Some, None, option_map, unwrap_or, refl, sym, ap, ◌∙◌, arith, eq-eqb}
+use Rattle.std.proofs.Math.Path.{subst, fun_ext}
+use Rattle.std.specs.List.{Contains, list_any, range_with_len}
+use Rattle.std.proofs.lemmas.List.Elements.{All-head, All-tail}
+use Rattle.std.proofs.lemmas.List.{append-nil}
+use Rattle.attr_glob.specs.declared.pattern.Case.{Case}
+use Rattle.attr_lists.specs.ListViews.{Entry}
+use Rattle.attr_lists.specs.declared.search.TrackedAssignment.{TrackedAssignment}
+use Rattle.attr_table.specs.Setting.{Item, Setting}
+use Rattle.attr_table.specs.Table.{Slots, Table, IsStable}
+use Rattle.attr_table.specs.Cut.{IsCut, IsSearched, full_answer, is_done, no_answers}
+use Rattle.attr_table.specs.Walk.{Walks, line_tasks, list_tasks, tasks_of}
+use Rattle.attr_table.proofs.Cuts.{searched_walked, seen_others, seen_wanted, walked_searched}
+use Rattle.attr_table.proofs.Ends.{OneTable-of}
+use Rattle.gix_attributes.specs.Contents.{Content, Wanted, has_number, is_wanted, wanted_of}
+use Rattle.attr_search.specs.Settings.{Listed, gives, line_of, lines_of, origin_in, rest_for, setting_of}
+use Rattle.attr_search.specs.Slots.{Matched, slots_of, table_answer, table_items}
+
+-- rows of empty slots answer nothing
+abbrev no_slot : {X : Type 0} → X → Option Matched
+no_slot x = None
+
+empty_at : {X : Type 0} (xs : List X) (a : ℕ) → get_or (map no_slot xs) a None ≡ None
+empty_at [] a = refl
+empty_at (x ∷ xs) zero = refl
+empty_at (x ∷ xs) (suc a) = empty_at xs a
+
+pub nothing_in : {X : Type 0} (xs : List X) → slots_of (map no_slot xs) ≡ no_answers
+nothing_in xs = fun_ext (λ a. ap (option_map (table_answer a)) (empty_at xs a))
+
+-- what a filter lets through is in what it leaves
+in_rest : {X : Type 0} (b : Bool) (y x : X) (zs : List X) → Contains zs x → Contains (cond b (y ∷ zs) zs) x
+in_rest true y x zs c = (suc c.0, omega (arith, c.1), c.2)
+in_rest false y x zs c = c
+
+in_front : {X : Type 0} (b : Bool) (x : X) (zs : List X) → b ≡ true → Contains (cond b (x ∷ zs) zs) x
+in_front true x zs e = (0, omega arith, refl)
+in_front false x zs e = absurd cc
+
+pub in_filter : {X : Type 0} (p : X → Bool) (xs : List X) (x : X) → Contains xs x → p x ≡ true → Contains (filter p xs) x
+in_filter p [] x (k, lt, e) t = absurd (omega (arith, lt))
+in_filter p (y ∷ ys) x (zero, lt, e) t = subst (λ z. Contains (filter p (z ∷ ys)) x) (sym e) (in_front (p x) x (filter p ys) t)
+in_filter p (y ∷ ys) x (suc k, lt, e) t = in_rest (p y) y x (filter p ys) (in_filter p ys x (k, omega (arith, lt), e) t)
+
+in_range : (a n k number : ℕ) → k < n → number ≡ a + k → Contains (range_with_len a n) number
+in_range a zero k number lt e = absurd (omega (arith, lt))
+in_range a (suc n) zero number lt e = (0, omega arith, omega (arith, e))
+in_range a (suc n) (suc k) number lt e =
+    let c = in_range (a + 1) n k number (omega (arith, lt)) (omega (arith, e)) in
+    (suc c.0, omega (arith, c.1), c.2)
+
+-- a number is wanted where all are, or where its name is selected
+pub all_wanted : (held : Content) (number : ℕ) → length held.selection ≡ 0 → number < length held.slots → Contains (wanted_of held) number
+all_wanted held number none lt =
+    in_filter (is_wanted held.selection) (range_with_len 0 (length held.slots)) number (in_range 0 (length held.slots) number number lt (omega arith))
+    (ap (λ n. n == 0 || list_any (has_number number) held.selection) none)
+
+numbered : (number n : ℕ) → n ≡ number → (n == number) ≡ true
+numbered number n e = eq-eqb n number e
+
+has_its_number : (name : Wanted) (number : ℕ) → name.number ≡ Some number → has_number number name ≡ true
+has_its_number name number e = ap (λ o. unwrap_or (option_map (λ n. n == number) o) false) e ∙ numbered number number refl
+
+or_true : (b : Bool) → (b || true) ≡ true
+or_true true = refl
+or_true false = refl
+
+any_of : {X : Type 0} (p : X → Bool) (xs : List X) (x : X) → Contains xs x → p x ≡ true → list_any p xs ≡ true
+any_of p [] x (k, lt, e) t = absurd (omega (arith, lt))
+any_of p (y ∷ ys) x (zero, lt, e) t = let h : p y ≡ true = ap p e ∙ t in ap (λ b. b || list_any p ys) h
+any_of p (y ∷ ys) x (suc k, lt, e) t = ap (λ b. p y || b) (any_of p ys x (k, omega (arith, lt), e) t) ∙ or_true (p y)
+
+pub name_wanted : (held : Content) (name : Wanted) (number : ℕ) → Contains held.selection name → name.number ≡ Some number →
+    number < length held.slots → Contains (wanted_of held) number
+name_wanted held name number selected e lt =
+    in_filter (is_wanted held.selection) (range_with_len 0 (length held.slots)) number (in_range 0 (length held.slots) number number lt (omega arith))
+    (ap (λ b. length held.selection == 0 || b) (any_of (has_number number) held.selection name selected (has_its_number name number e))
+    ∙ or_true (length held.selection == 0))
+
+-- the table of a search from nothing is the only stable one
+cut_of : (s : Setting) (wanted : List ℕ) (before after : Slots) (table : Table) → before ≡ no_answers → IsSearched s wanted before after →
+    IsStable s no_answers table → IsCut s no_answers table wanted after
+cut_of s wanted before after table nothing searched stable =
+    let from = subst (λ start. IsSearched s wanted start after) nothing searched in
+    let one = OneTable-of s no_answers in
+    let same : from.0 ≡ table = one.2 from.0 from.1 ∙ sym (one.2 table stable) in
+    subst (λ t. IsCut s no_answers t wanted after) same from.2
+
+pub answered_by : (s : Setting) (wanted : List ℕ) (before after : Slots) (table : Table) (number : ℕ) → before ≡ no_answers →
+    IsSearched s wanted before after → IsStable s no_answers table → Contains wanted number → after number ≡ full_answer s None (table number)
+answered_by s wanted before after table number nothing searched stable c =
+    seen_wanted s no_answers wanted table after number stable (cut_of s wanted before after table nothing searched stable) c
+
+pub answered_or_not : (s : Setting) (wanted : List ℕ) (before after : Slots) (table : Table) (number : ℕ) → before ≡ no_answers →
+    IsSearched s wanted before after → IsStable s no_answers table →
+    (after number ≡ None) ⊎ (after number ≡ full_answer s None (table number))
+answered_or_not s wanted before after table number nothing searched stable =
+    seen_others s no_answers wanted table after number stable (cut_of s wanted before after table nothing searched stable)
+
+-- a line that gives nothing has no tasks
+no_items : (b : Bool) (items : List Item) → b ≡ false → cond b items [] ≡ []
+no_items true items e = absurd cc
+no_items false items e = refl
+
+silent_tasks : (case : Case) (is_dir : Option Bool) (source rest : Option (List ℕ)) (lines : List Entry) →
+    All (λ line. gives case is_dir rest line ≡ false) lines → list_tasks (map (line_of case is_dir source rest) lines) ≡ []
+silent_tasks case is_dir source rest [] silent = refl
+silent_tasks case is_dir source rest (line ∷ lines) silent =
+    let here : line_tasks (line_of case is_dir source rest line) ≡ [] =
+    ap (λ items. line_tasks (record { origin = origin_in source line; items = items }))
+    (no_items (gives case is_dir rest line) (table_items line.items) (All-head (λ l. gives case is_dir rest l ≡ false) line lines silent)) in
+    let others = silent_tasks case is_dir source rest lines (All-tail (λ l. gives case is_dir rest l ≡ false) line lines silent) in
+    ap (λ ts. ts ++ line_tasks (line_of case is_dir source rest line)) others ∙ here
+
+-- the tasks of some lists are those of the lists without a silent one
+same_tasks : (earlier later : List Listed) (silent : Listed) (path : List ℕ) (case : Case) (is_dir : Option Bool) →
+    All (λ line. gives case is_dir (rest_for case path silent) line ≡ false) silent.lines →
+    tasks_of (map (lines_of case is_dir path) (earlier ++ silent ∷ later)) ≡ tasks_of (map (lines_of case is_dir path) (earlier ++ later))
+same_tasks [] later silent path case is_dir none =
+    ap (λ ts. tasks_of (map (lines_of case is_dir path) later) ++ ts) (silent_tasks case is_dir silent.source (rest_for case path silent) silent.lines none)
+    ∙ append-nil (tasks_of (map (lines_of case is_dir path) later))
+same_tasks (l ∷ earlier) later silent path case is_dir none =
+    ap (λ ts. ts ++ list_tasks (lines_of case is_dir path l)) (same_tasks earlier later silent path case is_dir none)
+
+searched_by_tasks : (s t : Setting) (wanted : List ℕ) (before after : Slots) → s.bodies ≡ t.bodies → tasks_of s.lists ≡ tasks_of t.lists →
+    IsSearched s wanted before after → IsSearched t wanted before after
+searched_by_tasks s t wanted before after bodies tasks searched =
+    walked_searched t wanted before after
+    (subst (λ ts. Walks t.bodies (is_done wanted) ts before after) tasks
+    (subst (λ bs. Walks bs (is_done wanted) (tasks_of s.lists) before after) bodies (searched_walked s wanted before after searched)))
+
+pub silent_changes_nothing : (earlier later : List Listed) (silent : Listed) (bodies : List (List TrackedAssignment)) (path : List ℕ) (case : Case)
+    (is_dir : Option Bool) (wanted : List ℕ) (before after : Slots) →
+    All (λ line. gives case is_dir (rest_for case path silent) line ≡ false) silent.lines →
+    IsSearched (setting_of (earlier ++ silent ∷ later) bodies path case is_dir) wanted before after
+    ↔ IsSearched (setting_of (earlier ++ later) bodies path case is_dir) wanted before after
+silent_changes_nothing earlier later silent bodies path case is_dir wanted before after none =
+    let e = same_tasks earlier later silent path case is_dir none in
+    let all = setting_of (earlier ++ silent ∷ later) bodies path case is_dir in
+    let others = setting_of (earlier ++ later) bodies path case is_dir in
+    (searched_by_tasks all others wanted before after refl e, searched_by_tasks others all wanted before after refl (sym e))

@@ -1,0 +1,135 @@
+-- Lists that are built element by element, flags of a selection, and bodies that are the same.
+use Rattle.std.proofs.Common.{rules, ◌≡◌, ℕ, zero, suc, ◌+◌, ◌<◌, Bool, true, false, ◌||◌, ◌==◌, List, [], ◌∷◌, ◌++◌, length, get_or, set, take, Some, None, option_map, unwrap_or, refl, sym, ap, ◌∙◌, arith, replicate}
+use Rattle.std.specs.Bool.{Decides}
+use Rattle.std.specs.List.{list_any}
+use Rattle.std.proofs.Math.ListN.{length-set, length-map}
+use Rattle.std.proofs.lemmas.List.{take_more, map_push, get_or-map, length-replicate, get_or-replicate}
+use Rattle.std.proofs.lemmas.List.Folds.{list_any-append}
+use Rattle.std.proofs.lemmas.List.FromFn.{fill_by_all}
+use Rattle.smallvec.specs.SmallVec.{SmallVec}
+use Rattle.attr_lists.specs.Numbered.{Numbered}
+use Rattle.attr_lists.specs.Definitions.{body_of, last_body}
+use Rattle.attr_lists.specs.declared.search.TrackedAssignment.{TrackedAssignment}
+use Rattle.attr_lists.specs.contracts.search.TrackedAssignmentPartialEq.TheImpl as tracked
+use Rattle.gix_attributes.specs.Contents.{has_number, is_wanted, flags_of, bodies_of}
+use Rattle.gix_attributes.specs.Selection.{wanted_seen, selection_seen}
+use Rattle.attr_search.specs.Walking.{bodies_in}
+use Rattle.gix_attributes.specs.declared.search.selection.SelectedName.{SelectedName}
+
+or_pushed : (a b : Bool) → a || (b || false) ≡ a || b
+or_pushed true b = refl
+or_pushed false true = refl
+or_pushed false false = refl
+
+or_grouped : (a b c : Bool) → (a || b) || c ≡ a || (b || c)
+or_grouped true b c = refl
+or_grouped false b c = refl
+
+-- one more selected name
+flag_more : (k : ℕ) (selected : List SelectedName) (i : ℕ) (w : SelectedName) → i < length selected → w ≡ get_or selected i w →
+    list_any (has_number k) (selection_seen (take (i + 1) selected)) ≡ list_any (has_number k) (selection_seen (take i selected)) || has_number k (wanted_seen w)
+flag_more k selected i w lt at =
+    ap (λ l. list_any (has_number k) (selection_seen l)) (take_more selected i w lt ∙ ap (λ z. take i selected ++ z ∷ []) (sym at))
+    ∙ ap (list_any (has_number k)) (map_push wanted_seen (take i selected) w)
+    ∙ list_any-append (has_number k) (selection_seen (take i selected)) (wanted_seen w ∷ [])
+    ∙ or_pushed (list_any (has_number k) (selection_seen (take i selected))) (has_number k (wanted_seen w))
+
+or_true : (b : Bool) → b || true ≡ true
+or_true true = refl
+or_true false = refl
+
+or_false : (b : Bool) → b || false ≡ b
+or_false true = refl
+or_false false = refl
+
+flag_set : (flags : List Bool) (n k : ℕ) → n < length flags → get_or (set flags n true) k false ≡ get_or flags k false || (n == k)
+flag_set [] n k lt = absurd (omega arith)
+flag_set (b ∷ flags) zero zero lt = sym (or_true b)
+flag_set (b ∷ flags) zero (suc k) lt = sym (ap (λ c. get_or flags k false || c) (apart k) ∙ or_false (get_or flags k false))
+  where
+    apart : (j : ℕ) → (0 == suc j) ≡ false
+    apart j = grind arith
+flag_set (b ∷ flags) (suc n) zero lt = sym (ap (λ c. b || c) (apart n) ∙ or_false b)
+  where
+    apart : (j : ℕ) → (suc j == 0) ≡ false
+    apart j = grind arith
+flag_set (b ∷ flags) (suc n) (suc k) lt = flag_set flags n k (omega arith) ∙ ap (λ c. get_or flags k false || c) (sym (same n k))
+  where
+    same : (i j : ℕ) → (suc i == suc j) ≡ (i == j)
+    same i j = grind arith
+
+-- Which flags are set once some of the names are gone through. Without names all of them are.
+pub record AreFlags (flags : List Bool) (count : ℕ) (all : Bool) (selected : List SelectedName) : Type 0 where
+  pub same_length : length flags ≡ count
+  pub set : (k : ℕ) → k < count → get_or flags k false ≡ all || list_any (has_number k) (selection_seen selected)
+
+-- at first the flags are all the same
+pub flags_begun : (flags : List Bool) (count : ℕ) (all : Bool) (selected : List SelectedName) → flags ≡ replicate count all → AreFlags flags count all (take 0 selected)
+flags_begun flags count all selected made =
+    record {
+      same_length = ap length made ∙ length-replicate count all;
+      set = λ k lt. ap (λ l. get_or l k false) made ∙ get_or-replicate count k all false lt ∙ sym (or_false all);
+    }
+
+pub flags_kept : (flags : List Bool) (count : ℕ) (all : Bool) (selected : List SelectedName) (i : ℕ) (w : SelectedName) → i < length selected → w ≡ get_or selected i w → w.number ≡ None →
+    AreFlags flags count all (take i selected) → AreFlags flags count all (take (i + 1) selected)
+flags_kept flags count all selected i w lt at none so_far =
+    record {
+      same_length = so_far.same_length;
+      set = λ k below.
+          so_far.set k below
+          ∙ sym (ap (λ b. all || b) (flag_more k selected i w lt at ∙ ap (λ n. list_any (has_number k) (selection_seen (take i selected)) || unwrap_or (option_map (λ m. m == k) n) false) none ∙ or_false (list_any (has_number k) (selection_seen (take i selected)))));
+    }
+
+pub flags_set : (flags : List Bool) (count : ℕ) (all : Bool) (selected : List SelectedName) (i n : ℕ) (w : SelectedName) → i < length selected → w ≡ get_or selected i w → w.number ≡ Some n → n < count →
+    AreFlags flags count all (take i selected) → AreFlags (set flags n true) count all (take (i + 1) selected)
+flags_set flags count all selected i n w lt at some within so_far =
+    let n_within : n < length flags = omega (arith, so_far.same_length) in
+    record {
+      same_length = length-set flags n true ∙ so_far.same_length;
+      set = λ k below.
+          let before = list_any (has_number k) (selection_seen (take i selected)) in
+          flag_set flags n k n_within ∙ ap (λ b. b || (n == k)) (so_far.set k below) ∙ or_grouped all before (n == k)
+          ∙ sym (ap (λ b. all || b) (flag_more k selected i w lt at ∙ ap (λ m. before || unwrap_or (option_map (λ j. j == k) m) false) some));
+    }
+
+length_selection : (selected : List SelectedName) → length (selection_seen selected) ≡ length selected
+length_selection selected = length-map selected wanted_seen
+
+pub flags_made : (flags : List Bool) (count : ℕ) (all : Bool) (selected done : List SelectedName) → done ≡ selected → all ≡ (length selected == 0) → AreFlags flags count all done → flags ≡ flags_of (selection_seen selected) count
+flags_made flags count all selected done whole empty made =
+    fill_by_all (is_wanted (selection_seen selected)) flags count false made.same_length
+    (λ k below.
+    made.set k below ∙ ap (λ b. b || list_any (has_number k) (selection_seen done)) (empty ∙ ap (λ n. n == 0) (sym (length_selection selected)))
+    ∙ ap (λ l. (length (selection_seen selected) == 0) || list_any (has_number k) (selection_seen l)) whole)
+
+-- equal items are one
+pub tracked_decides : (x y : TrackedAssignment) → Decides (tracked.ghosts.eq x y) (x ≡ y)
+tracked_decides x y = search rules
+
+-- the body at a number
+pub body_at : (known : Numbered) (number : ℕ) → number < length known.definitions → get_or (bodies_of known) number [] ≡ body_of known number
+body_at known number lt = get_or-map last_body known.definitions number [] [] lt
+
+pub length_bodies : (known : Numbered) → length (bodies_of known) ≡ length known.definitions
+length_bodies known = length-map known.definitions last_body
+
+-- one more body that is pushed
+pub bodies_pushed : (bodies bodies' : List (SmallVec TrackedAssignment)) (known : Numbered) (number : ℕ) (body : SmallVec TrackedAssignment) → number < length known.definitions →
+    bodies_in bodies ≡ take number (bodies_of known) → body.items ≡ body_of known number → bodies' ≡ bodies ++ body ∷ [] → bodies_in bodies' ≡ take (number + 1) (bodies_of known)
+bodies_pushed bodies bodies' known number body lt so_far here pushed =
+    let lt' : number < length (bodies_of known) = omega (arith, length_bodies known) in
+    ap bodies_in pushed ∙ map_push (λ b. b.items) bodies body ∙ ap (λ l. l ++ body.items ∷ []) so_far
+    ∙ ap (λ z. take number (bodies_of known) ++ z ∷ []) (here ∙ sym (body_at known number lt)) ∙ sym (take_more (bodies_of known) number [] lt')
+
+-- one more body that is the same
+pub bodies_more : (bodies : List (SmallVec TrackedAssignment)) (known : Numbered) (number : ℕ) (d : SmallVec TrackedAssignment) → number < length bodies → number < length known.definitions →
+    bodies_in (take number bodies) ≡ take number (bodies_of known) → (get_or bodies number d).items ≡ body_of known number → bodies_in (take (number + 1) bodies) ≡ take (number + 1) (bodies_of known)
+bodies_more bodies known number d lt lt' so_far here =
+    bodies_pushed (take number bodies) (take (number + 1) bodies) known number (get_or bodies number d) lt' so_far here (take_more bodies number d lt)
+
+-- bodies that are the same are so at each number
+pub bodies_same_at : (bodies : List (SmallVec TrackedAssignment)) (known : Numbered) (number : ℕ) (d : SmallVec TrackedAssignment) → number < length bodies → number < length known.definitions →
+    bodies_in bodies ≡ bodies_of known → (get_or bodies number d).items ≡ body_of known number
+bodies_same_at bodies known number d lt lt' same =
+    sym (get_or-map (λ b. b.items) bodies number d [] lt) ∙ ap (λ l. get_or l number []) same ∙ body_at known number lt'

@@ -1,0 +1,92 @@
+-- What is left of a text without the slashes at its end, and which variables were asked for.
+use Rattle.std.proofs.Common.{◌≡◌, ◌∙◌, ◌<◌, ◌≤◌, ◌+◌, ◌-◌, ℕ, List, [], ◌∷◌, ◌++◌, length, take, get_or, refl, sym, ap, subst, Option, Some, None, arith, eq-eqb, inl, inr, lit<, Bor, String, Global, string_bytes, Result}
+use Rattle.std.specs.Prelude.{is_some, option_map, IfOk}
+use Rattle.std.specs.Fn.{Mut, CalledAt}
+use Rattle.std.specs.List.{suffix_len}
+use Rattle.std.specs.Str.Pattern.{IsTrimEndMatches, IsFullyTrimmed, CutsSuffixes, FindsCharSuffix}
+use Rattle.std.proofs.lemmas.Bool.{ne_eqb, cases_lt}
+use Rattle.std.proofs.lemmas.List.{length-take-le, take-take, get_or-take, take_more, take_all}
+use Rattle.std.proofs.lemmas.Str.{encode_ascii}
+use Rattle.std.proofs.lemmas.List.Sums.{suffix_len_is}
+use Rattle.attr_glob.specs.Patterns.{is_slash}
+use Rattle.gix_attributes.specs.Sources.{Asked, AsksInOrder, location}
+use Rattle.gix_attributes.specs.declared.source.Prefixes.{Prefixes}
+use Rattle.gix_attributes.specs.declared.source.Source.{Source}
+
+-- the slashes behind so many bytes were cut
+record AreCut (text left : List ℕ) : Type 0 where
+  pub front : left ≡ take (length left) text
+  pub within : length left ≤ length text
+  pub slashes : (k : ℕ) → length left ≤ k → k < length text → get_or text k 0 ≡ 47
+
+-- one byte more
+cut_more : (text mid left : List ℕ) → AreCut text mid → left ≡ take (length mid - 1) mid → 0 < length mid → get_or mid (length mid - 1) 0 ≡ 47 → AreCut text left
+cut_more text mid left cut is some last =
+    let shorter : length left ≡ length mid - 1 = ap length is ∙ length-take-le (length mid - 1) mid (omega arith) in
+    let here : get_or text (length mid - 1) 0 ≡ 47 =
+    sym (get_or-take (length mid) text (length mid - 1) 0 (omega arith)) ∙ ap (λ m. get_or m (length mid - 1) 0) (sym cut.front) ∙ last in
+    let whole : left ≡ take (length mid - 1) text =
+    is ∙ ap (take (length mid - 1)) cut.front ∙ take-take (length mid - 1) (length mid) text (omega arith) in
+    record {
+      front = whole ∙ ap (λ n. take n text) (sym shorter);
+      within = omega (arith, cut.within);
+      slashes = λ k low high. elim (cases_lt k (length mid)) [
+        | inl lt ↦ (let same : k ≡ length mid - 1 = omega arith in ap (λ n. get_or text n 0) same ∙ here)
+        | inr ge ↦ cut.slashes k ge high
+      ];
+    }
+
+cut_all : (text : List ℕ) (widths : List ℕ) (left : List ℕ) → CutsSuffixes (FindsCharSuffix 47) text widths left → AreCut text left
+cut_all text [] left cuts = record {
+  front = cuts ∙ sym (take_all (length left) text (omega (arith, ap length cuts)));
+  within = omega (arith, ap length cuts);
+  slashes = λ k low high. absurd (omega (arith, ap length cuts));
+}
+cut_all text (n ∷ ns) left (mid, cuts, (width, at, boundary), is) =
+    let one : n ≡ 1 = width in
+    cut_more text mid left (cut_all text ns mid cuts) (is ∙ ap (λ m. take (length mid - m) mid) one) (omega (arith, at.ends))
+    (ap (λ m. get_or mid (length mid - m) 0) (sym one) ∙ at.byte (lit< tt))
+
+-- what is left has no slash at its end
+last_byte : (left : List ℕ) → IsFullyTrimmed (FindsCharSuffix 47) left → 0 < length left → get_or left (length left - 1) 0 ≡ 47 → ⊥
+last_byte left (None, finds, end) some is =
+    finds (take (length left - 1) left)
+    (sym (take_all (length left - 1 + 1) left (omega arith)) ∙ take_more left (length left - 1) 0 (omega arith) ∙ ap (λ b. take (length left - 1) left ++ b ∷ []) is
+    ∙ ap (λ bs. take (length left - 1) left ++ bs) (sym (encode_ascii 47 (lit< tt))))
+last_byte left (Some n, finds, end) some is = absurd (omega (arith, finds.0, end))
+
+pub trimmed : (text left : List ℕ) → IsTrimEndMatches (FindsCharSuffix 47) text left → left ≡ take (length text - suffix_len is_slash text) text
+trimmed text left trims =
+    let cut = cut_all text trims.0.0 left trims.0.1 in
+    let count = suffix_len_is is_slash text (length left) 0 cut.within
+    (λ k low high. eq-eqb (get_or text k 0) 47 (cut.slashes k low high))
+    (λ some. ne_eqb (get_or text (length left - 1) 0) 47 (λ is. last_byte left trims.1 some
+    (ap (λ l. get_or l (length left - 1) 0) cut.front ∙ get_or-take (length left) text (length left - 1) 0 (omega arith) ∙ is))) in
+    cut.front ∙ ap (λ n. take n text) (omega (arith, cut.within, count))
+
+-- a variable that was asked for, with what was answered
+abbrev pub asked_for : List ℕ → Option (String Global) → Asked
+asked_for name answer = record { name = name; value = option_map string_bytes answer }
+
+-- one variable was asked for
+pub asks_one : {F : Type 0} (calls : Mut F (Bor (List ℕ) × Unit {0}) (Option (String Global))) (f : F) (name : List ℕ) (answer : Option (String Global)) (after : F)
+    → CalledAt calls f name answer after → AsksInOrder calls f (asked_for name answer ∷ [])
+asks_one calls f name answer after called = (after, (after, (answer, called, refl), refl))
+
+-- two were, one after the other
+pub asks_two : {F : Type 0} (calls : Mut F (Bor (List ℕ) × Unit {0}) (Option (String Global))) (f : F) (name : List ℕ) (answer : Option (String Global)) (mid : F)
+    (name' : List ℕ) (answer' : Option (String Global)) (after : F)
+    → CalledAt calls f name answer mid → CalledAt calls mid name' answer' after → AsksInOrder calls f (asked_for name answer ∷ asked_for name' answer' ∷ [])
+asks_two calls f name answer mid name' answer' after called called' =
+    (after, (mid, (answer, called, refl), (after, (answer', called', refl), refl)))
+
+pub is_some-text : (answer : Option (String Global)) → is_some (option_map string_bytes answer) ≡ is_some answer
+is_some-text None = refl
+is_some-text (Some text) = refl
+
+-- an answer is where the file of the source lies, if it says so of the same variables
+pub located : {E : Type 0} (source known : Source) (prefixes : Prefixes) (asked : List Asked) (said : Option (List ℕ)) (result : Result (Option (String Global)) E)
+    → source ≡ known → location known prefixes asked ≡ said → IfOk result (λ path. option_map string_bytes path ≡ said)
+    → IfOk result (λ path. option_map string_bytes path ≡ location source prefixes asked)
+located source known prefixes asked said result is where_ told =
+    subst (λ (l : Option (List ℕ)). IfOk result (λ path. option_map string_bytes path ≡ l)) (sym (ap (λ s. location s prefixes asked) is ∙ where_)) told

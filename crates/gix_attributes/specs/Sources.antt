@@ -1,0 +1,73 @@
+-- Where the files lie that no folder of a worktree has (gitattributes page; own: the files that an installation and a system bring, and
+-- how folders and files are joined).
+use Rattle.std.specs.Prelude.{◌≡◌, ℕ, ◌-◌, ◌==◌, Bool, List, [], ◌∷◌, ◌++◌, map, length, take, codes, Option, Some, None, is_some, unwrap_or, option_map, option_and_then, String, string_bytes, if◌then◌else◌, bytes_eq}
+use Rattle.std.specs.Global.{Global}
+use Rattle.std.specs.List.{FoldsTo, find, suffix_len}
+use Rattle.std.specs.Fn.{Mut, CalledAt}
+use Rattle.std.specs.Borrow.{Bor}
+use Rattle.attr_glob.specs.Bytes.{slash}
+use Rattle.attr_glob.specs.Patterns.{is_slash}
+use Rattle.gix_attributes.specs.declared.source.Prefixes.{Prefixes}
+use Rattle.gix_attributes.specs.declared.source.Source.{Source}
+use Rattle.gix_attributes.specs.declared.source.Source.TheVariants.{GitInstallation, System, Git, Local}
+
+-- an environment variable that was asked for, and its value
+pub record Asked : Type 0 where
+  pub name : List ℕ
+  pub value : Option (List ℕ)
+
+-- a call of f asks for the variable, and answers its value
+abbrev pub Asks : {F : Type 0} → Mut F (Bor (List ℕ) × Unit {0}) (Option (String Global)) → F → Asked → F → Type 0
+Asks calls f asked after = (answer : Option (String Global)) × CalledAt calls f asked.name answer after × (option_map string_bytes answer ≡ asked.value)
+
+-- calls of f ask for these variables in this order, and for nothing else
+abbrev pub AsksInOrder : {F : Type 0} → Mut F (Bor (List ℕ) × Unit {0}) (Option (String Global)) → F → List Asked → Type 0
+AsksInOrder {F} calls f asked = (after : F) × FoldsTo (Asks calls) f asked after
+
+-- the value that was answered for a variable
+abbrev pub value_of : List ℕ → List Asked → Option (List ℕ)
+value_of name asked = option_and_then (λ a. a.value) (find (λ a. bytes_eq a.name name) asked)
+
+-- the variable has no value, or the empty one
+abbrev pub is_unset_or_empty : Option (List ℕ) → Bool
+is_unset_or_empty value = length (unwrap_or value []) == 0
+
+abbrev pub no_system : List ℕ
+no_system = codes "GIT_ATTR_NOSYSTEM"
+
+abbrev pub config_home : List ℕ
+config_home = codes "XDG_CONFIG_HOME"
+
+abbrev pub home : List ℕ
+home = codes "HOME"
+
+-- the variables that matter for a source: the user's home only where the folder of their configuration is not set
+abbrev pub variables : Source → List Asked → List (List ℕ)
+variables GitInstallation asked = []
+variables System asked = no_system ∷ []
+variables Git asked = config_home ∷ (if is_unset_or_empty (value_of config_home asked) then home ∷ [] else [])
+variables Local asked = []
+
+-- just the variables that matter were asked for, in this order
+abbrev pub IsAsked : Source → List Asked → Type 0
+IsAsked source asked = map (λ a. a.name) asked ≡ variables source asked
+
+-- a folder without the slashes at its end, a slash, and the rest
+abbrev pub joined : List ℕ → List ℕ → List ℕ
+joined folder rest = take (length folder - suffix_len is_slash folder) folder ++ slash ∷ rest
+
+-- the rest below a folder that is known
+abbrev pub below : Option (List ℕ) → List ℕ → Option (List ℕ)
+below folder rest = option_map (λ f. joined f rest) folder
+
+-- where the file of a source lies, by the prefixes and the values of variables
+abbrev pub location : Source → Prefixes → List Asked → Option (List ℕ)
+location GitInstallation prefixes asked = below (option_map string_bytes prefixes.installation) (codes "gitattributes")
+location System prefixes asked =
+    if is_some (value_of no_system asked) then None else below (option_map string_bytes prefixes.system) (codes "etc/gitattributes")
+location Git prefixes asked =
+    let config = value_of config_home asked in
+    if is_unset_or_empty config
+    then below (value_of home asked) (codes ".config/git/attributes")
+    else below config (codes "git/attributes")
+location Local prefixes asked = Some (codes "info/attributes")

@@ -1,0 +1,150 @@
+//! The answers of an outcome, one by one.
+
+ghost use Rattle.std.specs.Prelude.{◌≡◌, [], ◌∷◌, MatchOption, codes, drop};
+ghost use Rattle.std.specs.Iterator.{YieldsFirstBy, item_count};
+ghost use Rattle.attr_glob.specs.Views.{pattern_read};
+ghost use Rattle.attr_text.specs.TextViews.{name_text};
+ghost use Rattle.gix_attributes.specs.Contents.{called, found_in, selected_in, unspecified};
+ghost use Rattle.attr_search.specs.Matches.{match_seen};
+ghost use Rattle.attr_search.specs.Store.{no_pattern};
+
+use crate::search::outcome::Outcome;
+use crate::search::{AttributeId, Match, MatchKind, MatchLocation};
+use attr_glob::Pattern;
+use attr_text::{AssignmentRef, NameRef, StateRef};
+use bstr::BStr;
+use std::marker::Model;
+
+/// The answers for the attributes that lines speak of, by number.
+#[derive(Drop)]
+pub struct Matches<'a> {
+    outcome: &'a Outcome,
+    // The number from which on answers are left.
+    next: usize,
+}
+
+impl<'a> Model for Matches<'a> {
+    ghost use Rattle.std.specs.Prelude.{List, drop};
+    ghost use Rattle.gix_attributes.specs.Contents.{found_in};
+    ghost use Rattle.attr_search.specs.Slots.{Matched};
+
+    ghost Value = { List Matched };
+
+    ghost view = { λ m. found_in (drop m.next m.outcome.now.slots) };
+}
+
+impl<'a> Matches<'a> {
+    pub(crate) fn of(outcome: &'a Outcome) -> Matches<'a>
+        ensures { result ≡ found_in outcome.now.slots }
+    {
+        Matches { outcome, next: 0 }
+    }
+}
+
+impl<'a> Iterator for Matches<'a> {
+    type Item = Match<'a>;
+
+    ghost next_gives = { YieldsFirstBy match_seen (λ left. left) };
+
+    ghost remaining = { item_count (λ left. left) };
+
+    fn next(&mut self) -> Option<Match<'a>> {
+        let (next, found) = first_match(self.outcome, self.next)?;
+        self.next = next;
+        Some(found)
+    }
+}
+
+// The first answer from a number on, and the number behind its own.
+fn first_match(outcome: &Outcome, from: usize) -> Option<(usize, Match<'_>)>
+    ensures { MatchOption result (found_in (drop from outcome.now.slots) ≡ []) (λ r. found_in (drop from outcome.now.slots) ≡ match_seen r.1 ∷ found_in (drop r.0 outcome.now.slots)) }
+{
+    for number in from..outcome.len() {
+        if let Some(found) = outcome.match_by_id(AttributeId(number)) {
+            return Some((number + 1, found));
+        }
+    }
+    None
+}
+
+/// The answers for the selected names, in their order. A name that no line speaks of is unspecified.
+#[derive(Drop)]
+pub struct Selected<'a> {
+    outcome: &'a Outcome,
+    // The place of the name whose answer is next.
+    next: usize,
+}
+
+impl<'a> Model for Selected<'a> {
+    ghost use Rattle.std.specs.Prelude.{List, drop};
+    ghost use Rattle.gix_attributes.specs.Contents.{selected_in};
+    ghost use Rattle.attr_search.specs.Slots.{Matched};
+
+    ghost Value = { List Matched };
+
+    ghost view = { λ s. selected_in s.outcome.now.slots (drop s.next s.outcome.now.selection) };
+}
+
+impl<'a> Selected<'a> {
+    pub(crate) fn of(outcome: &'a Outcome) -> Selected<'a>
+        ensures { result ≡ selected_in outcome.now.slots outcome.now.selection }
+    {
+        Selected { outcome, next: 0 }
+    }
+}
+
+impl<'a> Iterator for Selected<'a> {
+    type Item = Match<'a>;
+
+    ghost next_gives = { YieldsFirstBy match_seen (λ left. left) };
+
+    ghost remaining = { item_count (λ left. left) };
+
+    fn next(&mut self) -> Option<Match<'a>> {
+        let outcome = self.outcome;
+        if self.next >= outcome.selected_len() {
+            return None;
+        }
+        let found = outcome.selected_at(self.next);
+        self.next += 1;
+        Some(found)
+    }
+}
+
+/// The answer for a name that no line speaks of.
+pub(crate) fn unspecified<'a>(name: &'a str, empty: &'a Pattern) -> Match<'a>
+    requires { pattern_read empty.now ≡ no_pattern }
+    ensures { match_seen result ≡ unspecified name.now }
+{
+    Match {
+        pattern: empty,
+        assignment: AssignmentRef {
+            name: called(name),
+            state: StateRef::Unspecified,
+        },
+        kind: MatchKind::Attribute { macro_id: None },
+        location: MatchLocation {
+            source: None,
+            sequence_number: 0,
+        },
+    }
+}
+
+fn called(name: &str) -> NameRef<'_>
+    ensures { name_text result ≡ called name.now }
+{
+    match NameRef::try_from(BStr::from(name)) {
+        Ok(name) => name,
+        Err(_) => invalid(),
+    }
+}
+
+// What a text is called that is no valid name.
+fn invalid<'a>() -> NameRef<'a>
+    ensures { name_text result ≡ codes "invalid" }
+{
+    match NameRef::try_from(BStr::from("invalid")) {
+        Ok(name) => name,
+        Err(_) => unreachable!(),
+    }
+}
