@@ -2,26 +2,20 @@
 mod added_files;
 mod failing;
 mod files;
+mod global_names;
 mod hostile;
-mod kept_lists;
-mod lines;
+mod indexed;
 mod lists;
-mod matchers;
 mod memory;
-mod names;
-mod numbers;
-mod pattern_lists;
-mod patterns;
-mod quotes;
+mod outcomes;
+mod pops;
 mod rows;
-mod search_types;
+mod scene;
+mod scripts;
 mod searches;
-mod short_texts;
 mod sources;
 mod statuses;
 mod std_devices;
-mod table;
-mod wildmatch;
 
 // The worked input of the failing devices, and what is printed of it.
 const INPUT: &[u8] = b"!a b\n* a =x b=\n";

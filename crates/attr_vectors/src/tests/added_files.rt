@@ -1,11 +1,13 @@
 //! Files that are added, and global lists.
 use gix_attributes::Search;
-use gix_attributes::files::Memory;
-use gix_attributes::search::{AddError, DropReason, Dropped, MetadataCollection};
+use gix_attributes::files::{Disk, Files, Memory};
+use gix_attributes::search::{AddError, Dropped, MetadataCollection};
 use std::alloc::{AllocError, Global};
-use std::io;
 use std::io::ErrorKind;
+use std::process::Abort;
+use std::rt::Files as HostFiles;
 use std::test::Fail;
+use std::{env, fs, io, process};
 
 fn two_files(alloc: Global) -> Result<Memory, AllocError> {
     let mut files = Memory::new(alloc);
@@ -14,50 +16,277 @@ fn two_files(alloc: Global) -> Result<Memory, AllocError> {
     Ok(files)
 }
 
-fn two_names(alloc: Global, first: &str, second: &str) -> Result<Vec<String>, AllocError> {
-    let mut names = Vec::new(alloc);
-    names.push(String::from_str(alloc, first)?)?;
-    names.push(String::from_str(alloc, second)?)?;
-    Ok(names)
+fn owned(alloc: Global, names: &[&str]) -> Result<Vec<String>, AllocError> {
+    let mut out = Vec::new(alloc);
+    for name in names {
+        out.push(String::from_str(alloc, name)?)?;
+    }
+    Ok(out)
 }
 
-/// The names by number.
-fn known(alloc: Global, collection: &MetadataCollection) -> Result<String, AllocError> {
-    let mut text = String::new(alloc);
+// The names by number.
+fn push_known(collection: &MetadataCollection, out: &mut String) -> Result<(), AllocError> {
     for (name, _) in collection.iter() {
-        text.push_str(name)?;
-        text.push(' ')?;
+        out.push_str(name)?;
+        out.push(' ')?;
     }
-    Ok(text)
+    Ok(())
+}
+
+fn push_lines(alloc: Global, dropped: &[Dropped], out: &mut String) -> Result<(), AllocError> {
+    for line in dropped {
+        out.push_str(format!(in alloc; "{}:{:?} ", line.line, line.reason)?.as_str())?;
+    }
+    out.push_str("; ")
+}
+
+fn push_dropped(
+    alloc: Global,
+    dropped: &[Vec<Dropped>],
+    out: &mut String,
+) -> Result<(), AllocError> {
+    for lines in dropped {
+        push_lines(alloc, lines, out)?;
+    }
+    Ok(())
+}
+
+// How many lists a search has, and whether the collection holds it.
+fn push_lists(
+    alloc: Global,
+    search: &Search,
+    collection: &MetadataCollection,
+    out: &mut String,
+) -> Result<(), AllocError> {
+    let (count, is_held) = (search.num_pattern_lists(), collection.holds(search));
+    out.push_str(format!(in alloc; "{count} {is_held} ")?.as_str())
+}
+
+fn push_error(alloc: Global, error: &AddError, out: &mut String) -> Result<(), AllocError> {
+    out.push_str(error.to_string(alloc)?.as_str())?;
+    out.push_str("; ")
+}
+
+fn push_globals<F: Files>(
+    alloc: Global,
+    files: &mut F,
+    names: &[String],
+    buf: &mut Vec<u8>,
+    collection: &mut MetadataCollection,
+    out: &mut String,
+) -> Result<(), AllocError> {
+    match Search::new_globals_from(alloc, files, names, buf, collection) {
+        Ok((search, dropped)) => {
+            push_lists(alloc, &search, collection, out)?;
+            push_dropped(alloc, &dropped, out)
+        }
+        Err(error) => push_error(alloc, &error, out),
+    }
+}
+
+// The count of global lists, the lines that each file leaves out or why there are none, and the names that are known then.
+fn globals_told<F: Files>(
+    alloc: Global,
+    files: &mut F,
+    names: &[&str],
+    buf: &mut Vec<u8>,
+) -> Result<String, AllocError> {
+    let names = owned(alloc, names)?;
+    let mut collection = MetadataCollection::new(alloc);
+    let mut out = String::new(alloc);
+    push_globals(alloc, files, &names, buf, &mut collection, &mut out)?;
+    push_known(&collection, &mut out)?;
+    Ok(out)
+}
+
+fn expect_globals<F: Files>(
+    rt: &impl Abort,
+    alloc: Global,
+    files: &mut F,
+    names: &[&str],
+    answer: &str,
+) -> Result<(), AllocError> {
+    let mut buf = Vec::new(alloc);
+    let told = globals_told(alloc, files, names, &mut buf)?;
+    assert_eq!(rt; told.as_str(), answer);
+    Ok(())
 }
 
 #[test]
-fn adds_the_files_that_there_are(rt: HostRuntime) -> Result<(), Fail> {
+fn adds_the_files_that_there_are(rt: HostRuntime) -> Result<(), AllocError> {
     let mut files = two_files(rt.alloc())?;
-    let names = two_names(rt.alloc(), "g1", "g2")?;
-    let mut collection = MetadataCollection::new(rt.alloc());
-    let mut buf = Vec::new(rt.alloc());
-    let (search, dropped) = Search::new_globals_from(
-        rt.alloc(),
-        &mut files,
-        names.as_slice(),
-        &mut buf,
+    let answer = "2 true 2:NegativePattern ; ; binary diff merge text a ";
+    expect_globals(&rt, rt.alloc(), &mut files, &["g1", "g2"], answer)
+}
+
+#[test]
+fn a_failing_read_ends_the_globals(rt: HostRuntime) -> Result<(), AllocError> {
+    for (read, answer) in [
+        (1, "reading failed; binary diff merge text "),
+        (2, "reading failed; binary diff merge text a "),
+        (3, "reading failed; binary diff merge text a d "),
+    ] {
+        let mut files = two_files(rt.alloc())?;
+        files.fail_read(read);
+        expect_globals(&rt, rt.alloc(), &mut files, &["g1", "g3", "g2"], answer)?;
+        assert_eq!(rt; files.failures(), 1);
+    }
+    Ok(())
+}
+
+fn push_added<F: Files>(
+    alloc: Global,
+    search: &mut Search,
+    files: &mut F,
+    name: &str,
+    buf: &mut Vec<u8>,
+    collection: &mut MetadataCollection,
+    out: &mut String,
+) -> Result<(), AllocError> {
+    let source = String::from_str(alloc, name)?;
+    match search.add_patterns_file_from(alloc, files, source, Some(""), buf, collection, false) {
+        Ok(added) => {
+            out.push_str(if added.was_added {
+                "added "
+            } else {
+                "missing "
+            })?;
+            push_lines(alloc, &added.dropped, out)
+        }
+        Err(error) => push_error(alloc, &error, out),
+    }
+}
+
+fn push_all_added<F: Files>(
+    alloc: Global,
+    search: &mut Search,
+    files: &mut F,
+    names: &[&str],
+    buf: &mut Vec<u8>,
+    collection: &mut MetadataCollection,
+    out: &mut String,
+) -> Result<(), AllocError> {
+    for name in names {
+        push_added(alloc, search, files, name, buf, collection, out)?;
+    }
+    push_lists(alloc, search, collection, out)?;
+    push_known(collection, out)
+}
+
+// What is added of each file, the count of lists and the names that are known then.
+fn added_told<F: Files>(
+    alloc: Global,
+    files: &mut F,
+    names: &[&str],
+    buf: &mut Vec<u8>,
+) -> Result<String, AllocError> {
+    let mut search = Search::new(alloc);
+    let mut collection = MetadataCollection::new(alloc);
+    let mut out = String::new(alloc);
+    push_all_added(
+        alloc,
+        &mut search,
+        files,
+        names,
+        buf,
         &mut collection,
+        &mut out,
     )?;
-    assert_eq!(rt; search.num_pattern_lists(), 2);
-    assert_eq!(rt; dropped.len(), 2);
-    let negative = Dropped {
-        line: 2,
-        reason: DropReason::NegativePattern,
-    };
-    assert_eq!(rt; dropped[0].as_slice(), [negative].as_slice());
-    assert!(rt; dropped[1].is_empty());
+    Ok(out)
+}
+
+#[test]
+fn a_file_in_memory_is_added(rt: HostRuntime) -> Result<(), AllocError> {
+    let mut files = two_files(rt.alloc())?;
+    let mut buf = Vec::new(rt.alloc());
+    let told = added_told(rt.alloc(), &mut files, &["g1", "g2", "g3"], &mut buf)?;
     assert_eq!(rt;
-        known(rt.alloc(), &collection)?.as_str(),
-        "binary diff merge text a "
+        told.as_str(),
+        "added 2:NegativePattern ; missing ; added ; 2 true a d "
     );
-    assert!(rt; collection.holds(&search));
-    assert!(rt; buf.is_empty());
+    assert_eq!(rt; buf.as_slice(), b"* d\n".as_slice());
+    Ok(())
+}
+
+#[test]
+fn a_real_file_is_added(rt: HostRuntime) -> Result<(), Fail> {
+    let name = format!(in rt.alloc(); "gix_attributes-globals-{}", process::id(rt.process()))?;
+    let path = env::temp_dir(&rt)?.join(rt.alloc(), name.as_str())?;
+    let missing = path.join(rt.alloc(), "below")?;
+    fs::write(&rt, path.as_path(), "[attr]m x\n* =x\n* a\n")?;
+    let names = [missing.as_str(), path.as_str()];
+    let mut disk = Disk::new(&rt);
+    let mut buf = Vec::new(rt.alloc());
+    let told = added_told(rt.alloc(), &mut disk, &names, &mut buf)?;
+    assert!(rt; told.as_str() == "missing ; added 2:InvalidName ; 1 true a ");
+    let told = globals_told(rt.alloc(), &mut disk, &names, &mut buf)?;
+    assert!(rt; told.as_str() == "2 true ; 2:InvalidName ; binary diff merge text m x a ");
+    Ok(fs::remove_file(&rt, path.as_path())?)
+}
+
+// The calls that make a source of their own from the real disk.
+fn push_from_disk<R: HostFiles>(
+    rt: &R,
+    alloc: Global,
+    name: &str,
+    collection: &mut MetadataCollection,
+    out: &mut String,
+) -> Result<(), AllocError> {
+    let names = owned(alloc, &[name])?;
+    let mut buf = Vec::new(alloc);
+    match Search::new_globals(rt, alloc, &names, &mut buf, collection) {
+        Ok((search, _)) => push_lists(alloc, &search, collection, out),
+        Err(error) => push_error(alloc, &error, out),
+    }
+}
+
+fn push_file_from_disk<R: HostFiles>(
+    rt: &R,
+    alloc: Global,
+    name: &str,
+    collection: &mut MetadataCollection,
+    out: &mut String,
+) -> Result<(), AllocError> {
+    let mut search = Search::new(alloc);
+    let source = String::from_str(alloc, name)?;
+    let mut buf = Vec::new(alloc);
+    match search.add_patterns_file(rt, alloc, source, None, &mut buf, collection, true) {
+        Ok(added) => out.push_str(if added.was_added {
+            "added "
+        } else {
+            "missing "
+        }),
+        Err(error) => push_error(alloc, &error, out),
+    }
+}
+
+fn disk_told<R: HostFiles>(rt: &R, alloc: Global, name: &str) -> Result<String, AllocError> {
+    let mut collection = MetadataCollection::new(alloc);
+    let mut out = String::new(alloc);
+    push_from_disk(rt, alloc, name, &mut collection, &mut out)?;
+    push_file_from_disk(rt, alloc, name, &mut collection, &mut out)?;
+    push_known(&collection, &mut out)?;
+    Ok(out)
+}
+
+#[test]
+fn a_device_that_fails_is_told(rt: HostRuntime) -> Result<(), AllocError> {
+    let mut long = String::new(rt.alloc());
+    for _ in 0..5000 {
+        long.push('a')?;
+    }
+    let told = disk_told(&rt, rt.alloc(), long.as_str())?;
+    assert_eq!(rt;
+        told.as_str(),
+        "reading failed; reading failed; binary diff merge text "
+    );
+    Ok(())
+}
+
+#[test]
+fn a_missing_file_adds_nothing(rt: HostRuntime) -> Result<(), AllocError> {
+    let told = disk_told(&rt, rt.alloc(), "/dev/null/attributes")?;
+    assert_eq!(rt; told.as_str(), "1 true missing binary diff merge text ");
     Ok(())
 }
 

@@ -1,130 +1,153 @@
 //! Worked rows: what searches answer.
-use bstr::BStr;
-use gix_attributes::Search;
-use gix_attributes::glob::pattern::Case;
-use gix_attributes::search::{Match, MatchKind, MetadataCollection, Outcome};
-use std::alloc::{AllocError, Global};
-use std::process::Abort;
-use std::test::Fail;
-
-fn search(
-    rt: &impl Abort,
-    alloc: Global,
-    search: &Search,
-    path: &str,
-    outcome: &mut Outcome,
-) -> Result<bool, AllocError> {
-    assert!(rt; outcome.is_initialized());
-    assert!(rt; outcome.covers(search));
-    let path = BStr::new(path.as_bytes());
-    search.pattern_matching_relative_path(alloc, path, Case::Sensitive, Some(false), outcome)
-}
-
-// The list of a text, as the only one.
-fn add(
-    alloc: Global,
-    collection: &mut MetadataCollection,
-    text: &str,
-) -> Result<Search, AllocError> {
-    let mut search = Search::new(alloc);
-    let source = String::from_str(alloc, ".gitattributes")?;
-    search.add_patterns_buffer(alloc, text.as_bytes(), source, None, collection, true)?;
-    Ok(search)
-}
-
-// An outcome after a search for the names, all where there are none.
-fn searched(
-    rt: &impl Abort,
-    alloc: Global,
-    text: &str,
-    names: &[&str],
-    path: &str,
-) -> Result<Outcome, AllocError> {
-    let mut collection = MetadataCollection::new(alloc);
-    let list = add(alloc, &mut collection, text)?;
-    let mut outcome = Outcome::new(alloc);
-    outcome.initialize_with_selection(alloc, &collection, names)?;
-    search(rt, alloc, &list, path, &mut outcome)?;
-    Ok(outcome)
-}
-
-// What an outcome shows.
-fn answered(
-    rt: &impl Abort,
-    alloc: Global,
-    text: &str,
-    names: &[&str],
-    path: &str,
-) -> Result<String, AllocError> {
-    let outcome = searched(rt, alloc, text, names, path)?;
-    format!(in alloc; "{outcome:?}")
-}
-
-// `x=1 macro 0 2`: what is assigned, the kind, the number of the macro that says so, and the line.
-fn push_row(alloc: Global, out: &mut String, found: Match<'_>) -> Result<(), AllocError> {
-    let kind = match found.kind {
-        MatchKind::Attribute { macro_id: _ } => "attribute",
-        MatchKind::Macro { parent_macro_id: _ } => "macro",
-    };
-    let line = found.location.sequence_number;
-    let row = match found.kind.source_id() {
-        Some(id) => format!(in alloc; "{} {kind} {} {line}\n", found.assignment, id.0)?,
-        None => format!(in alloc; "{} {kind} - {line}\n", found.assignment)?,
-    };
-    out.push_str(row.as_str())
-}
-
-// The answers for `f`, one a line, and how many items were taken.
-fn told(rt: &impl Abort, alloc: Global, text: &str) -> Result<String, AllocError> {
-    let outcome = searched(rt, alloc, text, &[], "f")?;
-    let mut out = format!(in alloc; "{}\n", outcome.taken())?;
-    for found in outcome.iter() {
-        push_row(alloc, &mut out, found)?;
-    }
-    Ok(out)
-}
+use super::scene::Step::{Add, AddWithoutMacros, Count, Find, Rows, Select, Show};
+use super::scene::{TOP, expect};
+use gix_attributes::glob::pattern::Case::{Fold, Sensitive};
+use std::alloc::AllocError;
 
 #[test]
-fn later_lines_and_items_decide(rt: HostRuntime) -> Result<(), Fail> {
-    for (text, path, shown) in [
-        ("* a=1 a=2", "f", "Outcome(a=2)"),
-        ("* a=1\n* a=2\n", "f", "Outcome(a=2)"),
-        ("/a x\na y\nd/a z\n", "d/a", "Outcome(y, z)"),
-        ("/a x\na y\nd/a z\n", "a", "Outcome(x, y)"),
-        ("\\!a b", "!a", "Outcome(b)"),
+fn later_lines_and_items_decide(rt: HostRuntime) -> Result<(), AllocError> {
+    for (text, path, answer) in [
+        ("* a=1 a=2", "f", "true\nOutcome(a=2)\n"),
+        ("* a=1\n* a=2\n", "f", "true\nOutcome(a=2)\n"),
+        ("/a x\na y\nd/a z\n", "d/a", "true\nOutcome(y, z)\n"),
+        ("/a x\na y\nd/a z\n", "a", "true\nOutcome(x, y)\n"),
+        ("\\!a b", "!a", "true\nOutcome(b)\n"),
+        ("\"a b.txt\"x", "a b.txt", "true\nOutcome(x)\n"),
+        ("* a =x", "f", "false\nOutcome\n"),
+        ("* a !b", "f", "true\nOutcome(a, !b)\n"),
     ] {
-        assert_eq!(rt; answered(&rt, rt.alloc(), text, &[], path)?.as_str(), shown);
+        let steps = [Add(TOP, text), Select(&[]), Find(path, Sensitive), Show];
+        expect(&rt, rt.alloc(), &steps, answer)?;
     }
     Ok(())
 }
 
 #[test]
-fn selected_names_are_answered_in_their_order(rt: HostRuntime) -> Result<(), Fail> {
-    let shown = answered(
-        &rt,
-        rt.alloc(),
-        "[attr]m x y=1\n* m\n",
-        &["y", "z", "x"],
-        "f",
-    )?;
-    assert_eq!(rt; shown.as_str(), "Outcome(y=1, !z, x)");
+fn selected_names_are_answered_in_their_order(rt: HostRuntime) -> Result<(), AllocError> {
+    for (text, names, path, answer) in [
+        (
+            "[attr]m x y=1\n* m\n",
+            ["y", "z", "x"].as_slice(),
+            "f",
+            "true\nOutcome(y=1, !z, x)\n",
+        ),
+        (
+            "*.sh text eol=lf",
+            ["text", "eol"].as_slice(),
+            "script.sh",
+            "true\nOutcome(text, eol=lf)\n",
+        ),
+    ] {
+        let steps = [Add(TOP, text), Select(names), Find(path, Sensitive), Show];
+        expect(&rt, rt.alloc(), &steps, answer)?;
+    }
     Ok(())
 }
 
 #[test]
-fn macros_may_name_one_another(rt: HostRuntime) -> Result<(), Fail> {
-    for (text, rows) in [
+fn lines_speak_below_their_base(rt: HostRuntime) -> Result<(), AllocError> {
+    let below = "sub/.gitattributes";
+    for (first, second, path, case, answer) in [
+        ("* a=1", "* a=2", "sub/f", Sensitive, "true\nOutcome(a=2)\n"),
+        ("* a=1", "* a=2", "f", Sensitive, "true\nOutcome(a=1)\n"),
+        ("", "/x a", "sub/x", Sensitive, "true\nOutcome(a)\n"),
+        ("", "/x a", "x", Sensitive, "false\nOutcome\n"),
+        ("", "/x a", "sub/d/x", Sensitive, "false\nOutcome\n"),
+        ("", "/x a", "SUB/X", Sensitive, "false\nOutcome\n"),
+        ("", "/x a", "SUB/X", Fold, "true\nOutcome(a)\n"),
+    ] {
+        let steps = [
+            Add(TOP, first),
+            Add(below, second),
+            Select(&[]),
+            Find(path, case),
+            Show,
+        ];
+        expect(&rt, rt.alloc(), &steps, answer)?;
+    }
+    Ok(())
+}
+
+#[test]
+fn macros_may_name_one_another(rt: HostRuntime) -> Result<(), AllocError> {
+    for (text, names, rows) in [
         (
             "[attr]a b\n[attr]b a\n* a\n",
-            "2\na macro - 3\nb macro 0 3\n",
+            [].as_slice(),
+            "true\ndone 2 1\na macro - 3\nb macro 0 3\n",
         ),
-        ("[attr]m m x\n* m\n", "2\nm macro - 2\nx attribute 0 2\n"),
+        (
+            "[attr]m m x\n* m\n",
+            [].as_slice(),
+            "true\ndone 2 1\nm macro - 2\nx attribute 0 2\n",
+        ),
         (
             "[attr]m x=2\n* m\n* x=1\n",
-            "2\nm macro - 2\nx=1 attribute - 3\n",
+            [].as_slice(),
+            "true\ndone 2 2\nm macro - 2\nx=1 attribute - 3\n",
+        ),
+        (
+            "[attr]m x=2\n* x=1 m\n",
+            [].as_slice(),
+            "true\ndone 2 1\nm macro - 2\nx=2 attribute 0 2\n",
+        ),
+        (
+            "[attr]m x=2\n* m x=1\n",
+            [].as_slice(),
+            "true\ndone 2 1\nm macro - 2\nx=1 attribute - 2\n",
+        ),
+        (
+            "[attr]m x\n* m\n* -m\n",
+            [].as_slice(),
+            "true\nopen 1 1\n-m macro - 3\n",
+        ),
+        (
+            "[attr]m x\n[attr]m\n* m\n",
+            [].as_slice(),
+            "true\nopen 1 1\nm attribute - 3\n",
+        ),
+        (
+            "[attr]m x y\n* m\n",
+            ["y"].as_slice(),
+            "true\ndone 2 1\nm macro - 2\ny attribute 0 2\n",
         ),
     ] {
-        assert_eq!(rt; told(&rt, rt.alloc(), text)?.as_str(), rows);
+        let steps = [
+            Add(TOP, text),
+            Select(names),
+            Find("f", Sensitive),
+            Count,
+            Rows,
+        ];
+        expect(&rt, rt.alloc(), &steps, rows)?;
     }
     Ok(())
+}
+
+#[test]
+fn the_built_in_macro_has_a_body(rt: HostRuntime) -> Result<(), AllocError> {
+    let steps = [
+        Add("[builtin]", "[attr]binary -diff -merge -text"),
+        Add(TOP, "\n*.png binary\n"),
+        Select(&[]),
+        Find("a.png", Sensitive),
+        Rows,
+    ];
+    expect(
+        &rt,
+        rt.alloc(),
+        &steps,
+        "true\nbinary macro - 2\n-diff attribute 0 2\n-merge attribute 0 2\n-text attribute 0 2\n",
+    )
+}
+
+#[test]
+fn macros_that_are_not_allowed_are_left_out(rt: HostRuntime) -> Result<(), AllocError> {
+    let steps = [
+        AddWithoutMacros("[attr]m x\n* m\n"),
+        Select(&[]),
+        Find("f", Sensitive),
+        Rows,
+    ];
+    expect(&rt, rt.alloc(), &steps, "true\nm attribute - 2\n")
 }

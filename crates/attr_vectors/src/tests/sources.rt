@@ -34,6 +34,21 @@ fn owned(alloc: Global, text: Option<&str>) -> Result<Option<String>, AllocError
 }
 
 #[test]
+fn prefixes_give_the_files_of_all_users(rt: HostRuntime) -> Result<(), Fail> {
+    let alloc = rt.alloc();
+    let (installation, system) = (Source::GitInstallation, Source::System);
+    let file = Some("/gitattributes");
+    assert!(rt; lies_at(alloc, installation, Some("/"), &[], file, "")?);
+    assert!(rt; lies_at(alloc, installation, None, &[], None, "")?);
+    let asked = "GIT_ATTR_NOSYSTEM ";
+    let file = Some("/usr/etc/gitattributes");
+    assert!(rt; lies_at(alloc, system, Some("/usr/"), &[], file, asked)?);
+    let variables = [("GIT_ATTR_NOSYSTEM", "")];
+    assert!(rt; lies_at(alloc, system, Some("/usr/"), &variables, None, asked)?);
+    Ok(())
+}
+
+#[test]
 fn variables_give_the_file_of_the_user(rt: HostRuntime) -> Result<(), Fail> {
     let alloc = rt.alloc();
     let variables = [("XDG_CONFIG_HOME", "/c//"), ("HOME", "/home/u")];

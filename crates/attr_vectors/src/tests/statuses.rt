@@ -74,6 +74,15 @@ fn runs_a_script(alloc: Global, words: &[&str]) -> Result<bool, AllocError> {
 }
 
 #[test]
+fn other_arguments_are_names_of_files(rt: HostRuntime) -> Result<(), Fail> {
+    assert!(rt; runs_a_script(rt.alloc(), &[])?);
+    assert!(rt; runs_a_script(rt.alloc(), &["--lines", "--lines"])?);
+    assert!(rt; runs_a_script(rt.alloc(), &["--line"])?);
+    assert!(rt; runs_a_script(rt.alloc(), &[""])?);
+    Ok(())
+}
+
+#[test]
 fn a_failed_read_is_said(rt: HostRuntime) -> Result<(), Fail> {
     let args = arguments(rt.alloc(), &["--lines"])?;
     let mut source = Source::new(INPUT);

@@ -2,9 +2,9 @@
 //! on every short text and every short value.
 ghost use Rattle.std.specs.Prelude.{◌≤◌, ◌<◌, IfSome, length};
 
-use gix_attributes::glob::pattern::Case;
-use gix_attributes::glob::token::Tokens;
-use gix_attributes::glob::wildmatch::{self, Rows};
+use attr_glob::pattern::Case;
+use attr_glob::token::Tokens;
+use attr_glob::wildmatch::{self, Rows};
 use std::alloc::{AllocError, Global};
 use std::test::Fail;
 

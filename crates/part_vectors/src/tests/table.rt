@@ -102,9 +102,9 @@ fn macros_that_name_each_other(rt: HostRuntime) -> Result<(), Fail> {
     let rows = [row!(1, macro a), row!(2, macro b), row!(3, third)];
     let mut slots = [None; 2];
     let taken = search_in(&rt, rt.alloc(), &[&rows], &[a, b], &[0, 1], &mut slots)?;
-    assert_eq!(rt; slots[0], of_macro(3, set(0), None));
-    assert_eq!(rt; slots[1], of_macro(3, set(1), Some(0)));
-    assert_eq!(rt; taken, 2);
+    let answers = [of_macro(3, set(0), None), of_macro(3, set(1), Some(0))];
+    assert!(rt; slots == answers);
+    assert!(rt; taken == 2);
     Ok(())
 }
 
@@ -116,9 +116,9 @@ fn macro_that_names_itself(rt: HostRuntime) -> Result<(), Fail> {
     let rows = [row!(1, macro m), row!(2, second)];
     let mut slots = [None; 2];
     let taken = search_in(&rt, rt.alloc(), &[&rows], &[m, &[]], &[0, 1], &mut slots)?;
-    assert_eq!(rt; slots[0], of_macro(2, set(0), None));
-    assert_eq!(rt; slots[1], plain(2, set(1), Some(0)));
-    assert_eq!(rt; taken, 2);
+    let answers = [of_macro(2, set(0), None), plain(2, set(1), Some(0))];
+    assert!(rt; slots == answers);
+    assert!(rt; taken == 2);
     Ok(())
 }
 
@@ -137,10 +137,13 @@ fn unset_macro_is_not_expanded(rt: HostRuntime) -> Result<(), Fail> {
         &[0, 1, 2],
         &mut slots,
     )?;
-    assert_eq!(rt; slots[0], of_macro(3, unset(0), Some(1)));
-    assert_eq!(rt; slots[1], of_macro(3, set(1), None));
-    assert_eq!(rt; slots[2], plain(3, set(2), Some(1)));
-    assert_eq!(rt; taken, 3);
+    let answers = [
+        of_macro(3, unset(0), Some(1)),
+        of_macro(3, set(1), None),
+        plain(3, set(2), Some(1)),
+    ];
+    assert!(rt; slots == answers);
+    assert!(rt; taken == 3);
     Ok(())
 }
 
@@ -159,10 +162,13 @@ fn later_item_of_a_body_wins(rt: HostRuntime) -> Result<(), Fail> {
         &[0, 1, 2],
         &mut slots,
     )?;
-    assert_eq!(rt; slots[0], of_macro(3, set(0), Some(2)));
-    assert_eq!(rt; slots[1], plain(3, value(1, b"2"), Some(2)));
-    assert_eq!(rt; slots[2], of_macro(3, set(2), None));
-    assert_eq!(rt; taken, 3);
+    let answers = [
+        of_macro(3, set(0), Some(2)),
+        plain(3, value(1, b"2"), Some(2)),
+        of_macro(3, set(2), None),
+    ];
+    assert!(rt; slots == answers);
+    assert!(rt; taken == 3);
     Ok(())
 }
 
@@ -181,10 +187,13 @@ fn body_comes_before_earlier_items(rt: HostRuntime) -> Result<(), Fail> {
         &[0, 1, 2],
         &mut slots,
     )?;
-    assert_eq!(rt; slots[0], of_macro(3, set(0), Some(2)));
-    assert_eq!(rt; slots[1], plain(3, value(1, b"1"), Some(0)));
-    assert_eq!(rt; slots[2], of_macro(3, set(2), None));
-    assert_eq!(rt; taken, 3);
+    let answers = [
+        of_macro(3, set(0), Some(2)),
+        plain(3, value(1, b"1"), Some(0)),
+        of_macro(3, set(2), None),
+    ];
+    assert!(rt; slots == answers);
+    assert!(rt; taken == 3);
     Ok(())
 }
 
@@ -196,9 +205,9 @@ fn later_line_wins(rt: HostRuntime) -> Result<(), Fail> {
     let rows = [row!(1, macro m), row!(2, second), row!(3, third)];
     let mut slots = [None; 2];
     let taken = search_in(&rt, rt.alloc(), &[&rows], &[m, &[]], &[0, 1], &mut slots)?;
-    assert_eq!(rt; slots[0], of_macro(2, set(0), None));
-    assert_eq!(rt; slots[1], plain(3, value(1, b"1"), None));
-    assert_eq!(rt; taken, 2);
+    let answers = [of_macro(2, set(0), None), plain(3, value(1, b"1"), None)];
+    assert!(rt; slots == answers);
+    assert!(rt; taken == 2);
     Ok(())
 }
 
@@ -210,9 +219,9 @@ fn macro_with_a_value_is_not_expanded(rt: HostRuntime) -> Result<(), Fail> {
     let rows = [row!(1, macro m), row!(2, second)];
     let mut slots = [None; 2];
     let taken = search_in(&rt, rt.alloc(), &[&rows], &[m, &[]], &[0, 1], &mut slots)?;
-    assert_eq!(rt; slots[0], of_macro(2, value(0, b"1"), None));
-    assert_eq!(rt; slots[1], None);
-    assert_eq!(rt; taken, 1);
+    let answers = [of_macro(2, value(0, b"1"), None), None];
+    assert!(rt; slots == answers);
+    assert!(rt; taken == 1);
     Ok(())
 }
 
@@ -224,8 +233,8 @@ fn later_line_unsets_a_macro(rt: HostRuntime) -> Result<(), Fail> {
     let rows = [row!(1, macro m), row!(2, second), row!(3, third)];
     let mut slots = [None; 2];
     let _taken = search_in(&rt, rt.alloc(), &[&rows], &[m, &[]], &[0, 1], &mut slots)?;
-    assert_eq!(rt; slots[0], of_macro(3, unset(0), None));
-    assert_eq!(rt; slots[1], None);
+    let answers = [of_macro(3, unset(0), None), None];
+    assert!(rt; slots == answers);
     Ok(())
 }
 
@@ -237,8 +246,8 @@ fn body_of_a_later_item_wins(rt: HostRuntime) -> Result<(), Fail> {
     let rows = [row!(1, macro m), row!(2, second)];
     let mut slots = [None; 2];
     let _taken = search_in(&rt, rt.alloc(), &[&rows], &[m, &[]], &[0, 1], &mut slots)?;
-    assert_eq!(rt; slots[0], of_macro(2, set(0), None));
-    assert_eq!(rt; slots[1], plain(2, value(1, b"2"), Some(0)));
+    let answers = [of_macro(2, set(0), None), plain(2, value(1, b"2"), Some(0))];
+    assert!(rt; slots == answers);
     Ok(())
 }
 
@@ -250,8 +259,8 @@ fn later_item_wins(rt: HostRuntime) -> Result<(), Fail> {
     let rows = [row!(1, macro m), row!(2, second)];
     let mut slots = [None; 2];
     let _taken = search_in(&rt, rt.alloc(), &[&rows], &[m, &[]], &[0, 1], &mut slots)?;
-    assert_eq!(rt; slots[0], of_macro(2, set(0), None));
-    assert_eq!(rt; slots[1], plain(2, value(1, b"1"), None));
+    let answers = [of_macro(2, set(0), None), plain(2, value(1, b"1"), None)];
+    assert!(rt; slots == answers);
     Ok(())
 }
 
@@ -269,9 +278,9 @@ fn search_stops_at_the_last_wanted(rt: HostRuntime) -> Result<(), Fail> {
         &[0],
         &mut slots,
     )?;
-    assert_eq!(rt; slots[0], plain(2, set(0), None));
-    assert_eq!(rt; slots[1], None);
-    assert_eq!(rt; taken, 1);
+    let answers = [plain(2, set(0), None), None];
+    assert!(rt; slots == answers);
+    assert!(rt; taken == 1);
     Ok(())
 }
 
@@ -289,9 +298,9 @@ fn second_list_goes_first(rt: HostRuntime) -> Result<(), Fail> {
         &[0, 1],
         &mut slots,
     )?;
-    assert_eq!(rt; slots[0], plain(1, set(0), None));
-    assert_eq!(rt; slots[1], plain(2, value(1, b"1"), None));
-    assert_eq!(rt; taken, 2);
+    let answers = [plain(1, set(0), None), plain(2, value(1, b"1"), None)];
+    assert!(rt; slots == answers);
+    assert!(rt; taken == 2);
     Ok(())
 }
 

@@ -1,0 +1,291 @@
+//! Lists that are added and taken off, outcomes that are begun and searched, and what is told of it.
+//!
+//! The tests of searches are lists of steps, since a function that owns a search and an outcome is dear to prove.
+use bstr::BStr;
+use gix_attributes::Search;
+use gix_attributes::glob::pattern::Case;
+use gix_attributes::search::{AttributeId, Match, MatchKind, MetadataCollection, Outcome};
+use std::alloc::{AllocError, Global};
+use std::mem;
+use std::process::Abort;
+
+/// The file at the top.
+pub(super) const TOP: &str = ".gitattributes";
+
+/// What is done with a scene.
+#[derive(Clone, Copy, Drop)]
+pub(super) enum Step<'a> {
+    /// Adds the lines of a file with this name.
+    Add(&'a str, &'a str),
+    /// Adds lines of the file at the top, in which macros are not allowed.
+    AddWithoutMacros(&'a str),
+    /// Takes the last list off.
+    Pop,
+    /// Turns to the other search over the same collection.
+    Turn,
+    /// Begins the outcome for these names, all where there are none.
+    Select(&'a [&'a str]),
+    /// Begins the outcome anew, for the names that it is for.
+    Begin,
+    /// Empties the outcome.
+    Reset,
+    /// Copies what the outcome holds to the other one, which is begun for these names, and goes on with that.
+    CopyFor(&'a [&'a str]),
+    /// Goes on with a clone of the outcome, once the outcome itself is reset.
+    Clone,
+    /// Searches for a path that is no folder, and tells whether a name was found.
+    Find(&'a str, Case),
+    /// Tells what the outcome shows.
+    Show,
+    /// Tells whether the outcome is done, and how many items were taken and patterns tested.
+    Count,
+    /// Tells whether the outcome covers the search, and is current.
+    Fit,
+    /// Tells each answer with its kind, its macro's number and its line.
+    Rows,
+    /// Tells the source, the line and the pattern of the answer for each selected name.
+    Places,
+    /// Tells which of the first eight numbers have an answer.
+    Numbers,
+}
+
+/// A collection with two searches, and two outcomes; the others stand by.
+#[derive(Drop)]
+struct Scene {
+    collection: MetadataCollection,
+    search: Search,
+    other_search: Search,
+    outcome: Outcome,
+    other_outcome: Outcome,
+}
+
+/// Wants a scene to tell this while it takes these steps.
+pub(super) fn expect(
+    rt: &impl Abort,
+    alloc: Global,
+    steps: &[Step<'_>],
+    answer: &str,
+) -> Result<(), AllocError> {
+    let told = told(rt, alloc, steps)?;
+    assert_eq!(rt; told.as_str(), answer);
+    Ok(())
+}
+
+/// What a scene tells while it takes these steps.
+pub(super) fn told(
+    rt: &impl Abort,
+    alloc: Global,
+    steps: &[Step<'_>],
+) -> Result<String, AllocError> {
+    let mut out = String::new(alloc);
+    take_all(rt, alloc, steps, &mut out)?;
+    Ok(out)
+}
+
+// A scene is owned where nothing else is.
+fn take_all(
+    rt: &impl Abort,
+    alloc: Global,
+    steps: &[Step<'_>],
+    out: &mut String,
+) -> Result<(), AllocError> {
+    let mut scene = Scene::new(alloc);
+    scene.take_all(rt, alloc, steps, out)
+}
+
+impl Scene {
+    fn new(alloc: Global) -> Scene {
+        Scene {
+            collection: MetadataCollection::new(alloc),
+            search: Search::new(alloc),
+            other_search: Search::new(alloc),
+            outcome: Outcome::new(alloc),
+            other_outcome: Outcome::new(alloc),
+        }
+    }
+
+    fn take_all(
+        &mut self,
+        rt: &impl Abort,
+        alloc: Global,
+        steps: &[Step<'_>],
+        out: &mut String,
+    ) -> Result<(), AllocError> {
+        for step in steps {
+            self.take(rt, alloc, *step, out)?;
+        }
+        Ok(())
+    }
+
+    fn take(
+        &mut self,
+        rt: &impl Abort,
+        alloc: Global,
+        step: Step<'_>,
+        out: &mut String,
+    ) -> Result<(), AllocError> {
+        match step {
+            Step::Add(source, text) => self.add(alloc, source, text, true),
+            Step::AddWithoutMacros(text) => self.add(alloc, TOP, text, false),
+            Step::Pop => self.pop(rt),
+            Step::Turn => self.turn(),
+            Step::Select(names) => self.select(alloc, names),
+            Step::Begin => self.outcome.initialize(alloc, &self.collection),
+            Step::Reset => self.reset(),
+            Step::CopyFor(names) => self.copy_for(rt, alloc, names),
+            Step::Clone => self.clone_outcome(alloc),
+            Step::Find(path, case) => self.find(rt, alloc, path, case, out),
+            Step::Show => self.show(alloc, out),
+            Step::Count => self.count(rt, alloc, out),
+            Step::Fit => self.fit(alloc, out),
+            Step::Rows => push_rows(alloc, &self.outcome, out),
+            Step::Places => push_places(alloc, &self.outcome, out),
+            Step::Numbers => push_numbers(alloc, &self.outcome, out),
+        }
+    }
+
+    fn add(
+        &mut self,
+        alloc: Global,
+        source: &str,
+        text: &str,
+        allow_macros: bool,
+    ) -> Result<(), AllocError> {
+        let source = String::from_str(alloc, source)?;
+        let bytes = text.as_bytes();
+        let collection = &mut self.collection;
+        self.search
+            .add_patterns_buffer(alloc, bytes, source, Some(""), collection, allow_macros)?;
+        Ok(())
+    }
+
+    fn pop(&mut self, rt: &impl Abort) -> Result<(), AllocError> {
+        assert!(rt; self.collection.holds(&self.search));
+        let _ = self.search.pop_pattern_list(&mut self.collection);
+        Ok(())
+    }
+
+    fn turn(&mut self) -> Result<(), AllocError> {
+        mem::swap(&mut self.search, &mut self.other_search);
+        Ok(())
+    }
+
+    fn select(&mut self, alloc: Global, names: &[&str]) -> Result<(), AllocError> {
+        self.outcome
+            .initialize_with_selection(alloc, &self.collection, names)
+    }
+
+    fn reset(&mut self) -> Result<(), AllocError> {
+        self.outcome.reset();
+        Ok(())
+    }
+
+    fn copy_for(
+        &mut self,
+        rt: &impl Abort,
+        alloc: Global,
+        names: &[&str],
+    ) -> Result<(), AllocError> {
+        let copy = &mut self.other_outcome;
+        copy.initialize_with_selection(alloc, &self.collection, names)?;
+        assert!(rt; self.outcome.is_initialized());
+        assert!(rt; self.outcome.is_current(&self.collection));
+        self.outcome.copy_into(alloc, &self.collection, copy)?;
+        self.turn_outcomes()
+    }
+
+    fn clone_outcome(&mut self, alloc: Global) -> Result<(), AllocError> {
+        self.other_outcome = self.outcome.clone(alloc)?;
+        self.outcome.reset();
+        self.turn_outcomes()
+    }
+
+    fn turn_outcomes(&mut self) -> Result<(), AllocError> {
+        mem::swap(&mut self.outcome, &mut self.other_outcome);
+        Ok(())
+    }
+
+    fn find(
+        &mut self,
+        rt: &impl Abort,
+        alloc: Global,
+        path: &str,
+        case: Case,
+        out: &mut String,
+    ) -> Result<(), AllocError> {
+        assert!(rt; self.outcome.is_initialized());
+        assert!(rt; self.outcome.covers(&self.search));
+        let path = BStr::new(path.as_bytes());
+        let is_found = self
+            .search
+            .pattern_matching_relative_path(alloc, path, case, Some(false), &mut self.outcome)?;
+        out.push_str(if is_found { "true\n" } else { "false\n" })
+    }
+
+    fn show(&self, alloc: Global, out: &mut String) -> Result<(), AllocError> {
+        let outcome = &self.outcome;
+        out.push_str(format!(in alloc; "{outcome:?}\n")?.as_str())
+    }
+
+    fn count(&self, rt: &impl Abort, alloc: Global, out: &mut String) -> Result<(), AllocError> {
+        assert!(rt; self.outcome.is_initialized());
+        let state = if self.outcome.is_done() {
+            "done"
+        } else {
+            "open"
+        };
+        let (taken, tested) = (self.outcome.taken(), self.outcome.tested());
+        out.push_str(format!(in alloc; "{state} {taken} {tested}\n")?.as_str())
+    }
+
+    fn fit(&self, alloc: Global, out: &mut String) -> Result<(), AllocError> {
+        let covers = self.outcome.covers(&self.search);
+        let is_current = self.outcome.is_current(&self.collection);
+        out.push_str(format!(in alloc; "{covers} {is_current}\n")?.as_str())
+    }
+}
+
+fn push_rows(alloc: Global, outcome: &Outcome, out: &mut String) -> Result<(), AllocError> {
+    for found in outcome.iter() {
+        push_row(alloc, out, found)?;
+    }
+    Ok(())
+}
+
+// `x=1 macro 0 2`: what is assigned, the kind, the number of the macro that says so, and the line.
+fn push_row(alloc: Global, out: &mut String, found: Match<'_>) -> Result<(), AllocError> {
+    let kind = match found.kind {
+        MatchKind::Attribute { macro_id: _ } => "attribute",
+        MatchKind::Macro { parent_macro_id: _ } => "macro",
+    };
+    let line = found.location.sequence_number;
+    let row = match found.kind.source_id() {
+        Some(id) => format!(in alloc; "{} {kind} {} {line}\n", found.assignment, id.0)?,
+        None => format!(in alloc; "{} {kind} - {line}\n", found.assignment)?,
+    };
+    out.push_str(row.as_str())
+}
+
+fn push_places(alloc: Global, outcome: &Outcome, out: &mut String) -> Result<(), AllocError> {
+    for found in outcome.iter_selected() {
+        push_place(alloc, out, found)?;
+    }
+    Ok(())
+}
+
+fn push_place(alloc: Global, out: &mut String, found: Match<'_>) -> Result<(), AllocError> {
+    let source = found.location.source.unwrap_or("-");
+    let line = found.location.sequence_number;
+    let pattern = found.pattern.write_text(alloc)?;
+    let row = format!(in alloc; "{source}:{line}:{}\n", BStr::new(pattern.as_slice()))?;
+    out.push_str(row.as_str())
+}
+
+fn push_numbers(alloc: Global, outcome: &Outcome, out: &mut String) -> Result<(), AllocError> {
+    for number in 0..8 {
+        if outcome.match_by_id(AttributeId(number)).is_some() {
+            out.push_str(format!(in alloc; "{number}\n")?.as_str())?;
+        }
+    }
+    Ok(())
+}

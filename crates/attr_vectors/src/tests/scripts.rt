@@ -1,0 +1,181 @@
+//! Scripts, read at once and byte by byte, and what they write.
+use crate::devices::{Sink, Source, Stuck};
+use check_attr::{Globals, Pull, Push, globals, run};
+use gix_attributes::files::Memory;
+use gix_attributes::search::AddError;
+use std::alloc::Global;
+use std::process::Abort;
+use std::test::Fail;
+
+// The built-in list alone, as without global files.
+fn built_in(alloc: Global) -> Result<Globals, AddError> {
+    globals(alloc, &mut Memory::new(alloc), &[])
+}
+
+// Why the run of a script ends early; nothing where it does not.
+fn ending<W: Push>(
+    alloc: Global,
+    reader: &mut Source<'_>,
+    writer: &mut W,
+) -> Result<String, AddError> {
+    match run(alloc, reader, writer, built_in(alloc)?) {
+        Ok(()) => Ok(String::new(alloc)),
+        Err(fault) => Ok(fault.to_string(alloc)?),
+    }
+}
+
+// What a run writes, and why it ends early.
+fn told(alloc: Global, reader: &mut Source<'_>) -> Result<Vec<u8>, AddError> {
+    let mut sink = Sink::new(alloc);
+    let end = ending(alloc, reader, &mut sink)?;
+    let mut out = sink.bytes().to_vec(alloc)?;
+    out.extend_from_slice(end.as_bytes())?;
+    Ok(out)
+}
+
+// Wants a run to write this, and to end so.
+fn expect(
+    rt: &impl Abort,
+    alloc: Global,
+    reader: &mut Source<'_>,
+    answer: &[u8],
+) -> Result<(), AddError> {
+    let told = told(alloc, reader)?;
+    assert_eq!(rt; told.as_slice(), answer);
+    Ok(())
+}
+
+// Eighty-four bytes, and what they write.
+const SCRIPT: &[u8] =
+    b"add m 14 0 16\n.gitattributes*.sh text eol=lf\nnames 2\ntext\neol\nask l s f 9\nscript.sh\n";
+
+const TEXT: &[u8] = b"script.sh: text: set\nscript.sh: eol: lf\n";
+
+// Scripts with what they write, and at its end why the run ends early.
+const ROWS: [(&[u8], &[u8]); 17] = [
+    (b"", b""),
+    (b"names 0\nask l s f 9\nabc", b"malformed record 2"),
+    (SCRIPT, TEXT),
+    (
+        b"add m 7 - 25\na/attrs[attr]m x=2 -y\n* m\n* q =z\nask o s u 1\nf\n",
+        b"dropped: a/attrs:3: attribute-name\nf: m: set\ta/attrs:2\t*\t-\nf: x: 2\ta/attrs:2\t*\tm\nf: y: unset\ta/attrs:2\t*\tm\n",
+    ),
+    (
+        b"add m 7 - 25\na/attrs[attr]m x=2 -y\n* m\n* q =z\nask o s u 1\n",
+        b"dropped: a/attrs:3: attribute-name\nmalformed record 2",
+    ),
+    (
+        b"add - 1 - 5\ns* a=1\nask z s f 1\nf\nnames 2\na\nin valid\nask o s f 1\nf\n",
+        b"f\0a\x001\0f: a: 1\ts:1\t*\t-\nf: invalid: unspecified\t-\t-\t-\n",
+    ),
+    (
+        b"add - 1 - 5\ns* a=1\nask z s f 1\nf\nnames 2\na\nin valid\nask o s f 1\nf\npop 1\n",
+        b"f\0a\x001\0f: a: 1\ts:1\t*\t-\nf: invalid: unspecified\t-\t-\t-\nmalformed record 5",
+    ),
+    (
+        b"pop\npop\nadd - 1 - 8\ns* binary\nask l s f 1\nf\n",
+        b"f: binary: set\n",
+    ),
+    (b"names 00\n", b"malformed record 1"),
+    (b"names 100000000\n", b"malformed record 1"),
+    (b"add m 99999999 0 0\nx", b"malformed record 1"),
+    (b"add m 1 - 0\n\xFF\n", b"malformed record 1"),
+    (b"names 1\n\xFF\n", b"malformed record 1"),
+    (b"add - 1 - 6\ns* a !b\nask l s f 1\nf\n", b"f: a: set\n"),
+    (
+        b"add m 1 - 10\ns[attr]m x\n\nadd m 1 - 3\nt* m\nask l s f 1\nf\npop\nask l s f 1\nf\n",
+        b"f: m: set\nf: x: set\n",
+    ),
+    (
+        b"names 1\na\nadd - 1 - 5\ns* a=1\nask l s f 1\nf\nnames 0\nask l i d 2\nf/\n",
+        b"f: a: 1\nf/: a: 1\n",
+    ),
+    (
+        b"add - 1 0 6\ns/X a b\nask l i f 1\nx\nask l s f 1\nx\n",
+        b"x: a: set\nx: b: set\n",
+    ),
+];
+
+#[test]
+fn scripts_write_their_text(rt: HostRuntime) -> Result<(), Fail> {
+    for (script, text) in ROWS {
+        expect(&rt, rt.alloc(), &mut Source::new(script), text)?;
+    }
+    Ok(())
+}
+
+#[test]
+fn scripts_are_read_however_they_are_cut(rt: HostRuntime) -> Result<(), Fail> {
+    for (script, text) in ROWS {
+        expect(&rt, rt.alloc(), &mut Source::one_by_one(script), text)?;
+    }
+    Ok(())
+}
+
+// A script that is cut short is malformed where it is cut, unless it ends with a record.
+#[test]
+fn a_cut_script_is_malformed(rt: HostRuntime) -> Result<(), Fail> {
+    assert_eq!(rt; SCRIPT.len(), 84);
+    for count in 0..=SCRIPT.len() {
+        let text = match count {
+            0 | 45 | 62 => b"".as_slice(),
+            84 => TEXT,
+            1..=44 => b"malformed record 1".as_slice(),
+            46..=61 => b"malformed record 2".as_slice(),
+            _ => b"malformed record 3".as_slice(),
+        };
+        expect(&rt, rt.alloc(), &mut Source::new(&SCRIPT[..count]), text)?;
+    }
+    Ok(())
+}
+
+#[test]
+fn a_failed_read_writes_nothing(rt: HostRuntime) -> Result<(), Fail> {
+    for call in 1..86 {
+        let mut source = Source::one_by_one(SCRIPT);
+        source.fail_read(call);
+        expect(&rt, rt.alloc(), &mut source, b"reading failed".as_slice())?;
+        assert_eq!(rt; source.failures(), 1);
+    }
+    Ok(())
+}
+
+// Wants a run over this sink to end when this is written, after so many flushes.
+fn expect_stop(
+    rt: &impl Abort,
+    alloc: Global,
+    sink: &mut Sink,
+    written: &[u8],
+    flushes: u64,
+) -> Result<(), AddError> {
+    let end = ending(alloc, &mut Source::new(SCRIPT), sink)?;
+    assert!(rt; end.as_str() == "writing failed");
+    assert_eq!(rt; sink.bytes(), written);
+    assert_eq!(rt; (sink.failures(), sink.flushes()), (1, flushes));
+    Ok(())
+}
+
+#[test]
+fn a_failed_write_leaves_a_beginning(rt: HostRuntime) -> Result<(), Fail> {
+    assert_eq!(rt; TEXT.len(), 40);
+    for kept in 0..TEXT.len() {
+        let mut sink = Sink::one_by_one(rt.alloc());
+        sink.fail_write(kept as u64 + 1);
+        expect_stop(&rt, rt.alloc(), &mut sink, &TEXT[..kept], 0)?;
+    }
+    Ok(())
+}
+
+#[test]
+fn a_failed_flush_ends_the_run(rt: HostRuntime) -> Result<(), Fail> {
+    let mut sink = Sink::new(rt.alloc());
+    sink.fail_flush();
+    Ok(expect_stop(&rt, rt.alloc(), &mut sink, TEXT, 1)?)
+}
+
+#[test]
+fn a_stuck_writer_ends_the_run(rt: HostRuntime) -> Result<(), Fail> {
+    let end = ending(rt.alloc(), &mut Source::new(SCRIPT), &mut Stuck)?;
+    assert!(rt; end.as_str() == "writing failed");
+    Ok(())
+}
