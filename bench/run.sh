@@ -5,10 +5,9 @@ set -eu
 here=$(cd "$(dirname "$0")" && pwd)
 room=$(mktemp -d)
 trap 'rm -rf "$room"' EXIT
+"$here/../tests/copy_crates.sh" "$room"
+echo 'match_speed: attr_glob bstr' >>"$room/crates.txt"
 mkdir -p "$room/crates/match_speed/src"
-cp "$here/../HANDLES" "$room/"
-printf 'attr_glob: bstr bitflags thiserror\nmatch_speed: attr_glob bstr\n' > "$room/crates.txt"
-cp -r "$here/../crates/attr_glob" "$room/crates/"
 cp "$here/match_speed.rt.in" "$room/crates/match_speed/src/main.rt"
 cd "$room/crates/match_speed"
 rt run

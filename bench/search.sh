@@ -6,14 +6,11 @@ set -eu
 here=$(cd "$(dirname "$0")" && pwd)
 room=$(mktemp -d)
 trap 'rm -rf "$room"' EXIT
-mkdir -p "$room/crates/search_speed/src" "$room/work"
-cp "$here/../HANDLES" "$room/"
-grep -v 'check_attr\|attr_vectors' "$here/../crates.txt" >"$room/crates.txt"
+"$here/../tests/copy_crates.sh" "$room"
 echo 'search_speed: gix_attributes bstr' >>"$room/crates.txt"
-for crate in attr_glob attr_text attr_table attr_lists attr_search gix_attributes; do
-    cp -r "$here/../crates/$crate" "$room/crates/"
-done
+mkdir -p "$room/crates/search_speed/src" "$room/crates/search_speed/proofs/answers" "$room/work"
 cp "$here/search_speed.rt.in" "$room/crates/search_speed/src/main.rt"
+cp "$here/search_speed_invariants.antt.in" "$room/crates/search_speed/proofs/answers/Invariants.antt"
 cd "$room/work"
 git init -q .
 "$here/files.sh"
@@ -27,14 +24,19 @@ asked() {
     valgrind "$program" "$1" "$2" 2>&1 | sed -n 's/.*frees, \([0-9,]*\) bytes allocated.*/\1/p' | tr -d ,
 }
 
+# A thousand paths, and as many bytes as ten thousand further ones, with and without these: the text is read alike.
 head -n 1000 paths >first
 head -n 11000 paths >more
+{
+    cat first
+    head -c "$(($(wc -c <more) - $(wc -c <first)))" /dev/zero | tr '\0' '\n'
+} >padded
 for kind in typical names-10 names-100 names-1000 names-10000 ends-10 ends-100 ends-1000 ends-10000 globs-10 globs-100 globs-1000 globs-10000; do
     cp "$kind" .gitattributes
     echo "$kind: $(wc -l <"$kind") lines"
     "$program" "$kind" paths
     (time -p git check-attr --stdin --all <paths >/dev/null) 2>&1 | awk '/user|sys/ { t += $2 } END { printf "git: %d ms\n", t * 1000 }'
     if command -v valgrind >/dev/null; then
-        echo "bytes for ten thousand further paths, their text among them: $(($(asked "$kind" more) - $(asked "$kind" first)))"
+        echo "bytes for ten thousand further paths: $(($(asked "$kind" more) - $(asked "$kind" padded)))"
     fi
 done

@@ -11,17 +11,9 @@ for script in "$here"/*.script; do
     "$here/../crates/check_attr_cli/out/check_attr_cli" <"$script" | diff "$answers" -
     echo "run: $(basename "$script") gives $(basename "$answers")"
 done
-mkdir -p "$room/crates/ask/src"
-cp "$here/../HANDLES" "$room"
-cp "$here/../crates.txt" "$room/crates.txt"
+"$here/../tests/copy_crates.sh" "$room"
 echo 'ask: gix_attributes bstr' >>"$room/crates.txt"
-for crate in "$here"/../crates/*/; do
-    to="$room/crates/$(basename "$crate")"
-    mkdir -p "$to"
-    for part in src specs proofs; do
-        if [ -d "$crate$part" ]; then cp -r "$crate$part" "$to"; fi
-    done
-done
+mkdir -p "$room/crates/ask/src"
 cp "$here/ask.rt.in" "$room/crates/ask/src/main.rt"
 cd "$room/crates/ask"
 rt try --seconds 60 2>"$room/said" | diff "$here/ask.answers" - || { cat "$room/said"; exit 1; }

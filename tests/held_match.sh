@@ -6,14 +6,7 @@ set -eu
 top=$(cd "$(dirname "$0")/.." && pwd)
 room=$(mktemp -d)
 trap 'rm -rf "$room"' EXIT
-cp "$top/HANDLES" "$top/crates.txt" "$room"
-for crate in "$top"/crates/*/; do
-    to="$room/crates/$(basename "$crate")"
-    mkdir -p "$to"
-    for part in src specs proofs; do
-        if [ -d "$crate$part" ]; then cp -r "$crate$part" "$to"; fi
-    done
-done
+"$top/tests/copy_crates.sh" "$room"
 outcome="$room/crates/gix_attributes/src/search/outcome.rt"
 
 add_functions() {

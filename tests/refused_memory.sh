@@ -1,33 +1,88 @@
 #!/bin/sh
-# Refuses the first request for memory of each test tests::memory::*, then the second, and so on,
-# until a run in which none was refused. Each test without_memory_* must pass each time, and
-# with_memory_all_is_answered must pass in the last run, and in no other.
-# Each run builds the tests anew, about half a minute, and proves nothing.
+# Refuses the first request for memory of a run, then the second, and so on, until a run makes no more. Each time the
+# program must end with status 1 and the words for it, having written nothing, or with --lines a beginning of its lines;
+# or it can do without, and answers the same. Each test tests::memory::without_memory_* must pass. The gate has to have
+# built both.
 set -eu
-cd "$(dirname "$0")/../crates/attr_vectors"
-said=$(mktemp)
-trap 'rm -f "$said"' EXIT
-nth=0
-while [ "$nth" -lt 200 ]; do
-    nth=$((nth + 1))
-    rt try --test --seconds 20 --fail-alloc "$nth" -- memory >"$said" 2>&1 || true
-    passed=$(grep -c '^test tests::memory::without_memory_.* \.\.\. ok$' "$said" || true)
-    if [ "$passed" -ne 4 ]; then
-        cat "$said"
-        echo "refused_memory: FAILED where request $nth is refused"
-        exit 1
-    fi
-    if grep -q '^test tests::memory::with_memory_all_is_answered \.\.\. ok$' "$said"; then
-        [ "$nth" -gt 1 ] || { echo "refused_memory: FAILED, no request was refused"; exit 1; }
-        echo "refused_memory: ok, $((nth - 1)) requests refused in turn"
-        exit 0
-    fi
-    if ! grep -q '^test tests::memory::with_memory_all_is_answered \.\.\. FAILED$' "$said"; then
-        cat "$said"
-        echo "refused_memory: FAILED, no answer where request $nth is refused"
-        exit 1
-    fi
-    echo "refused_memory: request $nth refused"
+here=$(cd "$(dirname "$0")" && pwd)
+program=$here/../crates/check_attr_cli/out/check_attr_cli
+tests=$here/../crates/attr_vectors/out/attr_vectors_tests
+room=$(mktemp -d)
+trap 'rm -rf "$room"' EXIT
+cc -O2 -shared -fPIC -o "$room/refused_request.so" "$here/refused_request.c"
+
+# Runs a command in which one request is refused.
+refused() {
+    request=$1
+    shift
+    rm -f "$room/mark"
+    status=0
+    REFUSED_REQUEST=$request REFUSED_MARK=$room/mark LD_PRELOAD=$room/refused_request.so \
+        "$@" <"$room/input" >"$room/said" 2>"$room/errors" || status=$?
+}
+
+failed() {
+    echo "refused_memory.sh: $name: $1, where request $request is refused"
+    cat "$room/said" "$room/errors"
+    exit 1
+}
+
+# Refuses each request of a command in turn, and looks at what it leaves.
+each_of() {
+    name=$1
+    check=$2
+    shift 2
+    request=0
+    while :; do
+        refused $((request + 1)) "$@"
+        [ -e "$room/mark" ] || break
+        "$check"
+    done
+    [ "$request" -gt 1 ] || failed "no request was made"
+    echo "refused_memory.sh: $name, $((request - 1)) requests refused in turn"
+}
+
+says_so() {
+    [ "$status" = 1 ] || failed "status $status"
+    case $(tail -n 1 "$room/errors") in
+    'check_attr: out of memory' | 'check_attr: cannot read the arguments') ;;
+    *) failed "no word of it" ;;
+    esac
+}
+
+answers_the_same() {
+    [ "$status" = 0 ] && cmp -s "$room/said" "$room/answers"
+}
+
+answers_whole() {
+    answers_the_same && return
+    says_so
+    [ ! -s "$room/said" ] || failed "something was written"
+}
+
+answers_a_beginning() {
+    answers_the_same && return
+    says_so
+    cmp -s -n "$(wc -c <"$room/said")" "$room/said" "$room/answers" || failed "something else was written"
+}
+
+passes() {
+    [ "$status" = 0 ] || failed "the test failed"
+}
+
+for script in "$here"/../examples/*.script; do
+    cp "$script" "$room/input"
+    cp "${script%.script}.answers" "$room/answers"
+    each_of "$(basename "$script")" answers_whole "$program"
 done
-echo "refused_memory: FAILED, more requests than expected"
-exit 1
+printf '* a\n!b c\n"a\\tb" x=y -z !w\n[attr]m x\n* a =x b=\n' >"$room/global"
+cp "$room/global" "$room/input"
+"$program" --lines <"$room/input" >"$room/answers"
+each_of --lines answers_a_beginning "$program" --lines
+cp "$here/../examples/all.script" "$room/input"
+"$program" "$room/global" "$room/missing" <"$room/input" >"$room/answers" 2>"$room/errors"
+each_of "global files" answers_whole "$program" "$room/global" "$room/missing"
+: >"$room/input"
+for test in $("$tests" --list | sed -n "s/^\(tests::memory::without_memory_.*\): test/\1/p"); do
+    each_of "$test" passes "$tests" "$test"
+done

@@ -6,14 +6,9 @@ set -eu
 top=$(cd "$(dirname "$0")/.." && pwd)
 room=$(mktemp -d)
 trap 'rm -rf "$room"' EXIT
-cp "$top/HANDLES" "$top/crates.txt" "$room"
-for crate in "$top"/crates/*/; do
-    to="$room/crates/$(basename "$crate")"
-    mkdir -p "$to"
-    for part in src specs proofs; do
-        if [ -d "$crate$part" ]; then cp -r "$crate$part" "$to"; fi
-    done
-    if [ -d "${crate}wrong-bodies" ]; then cp -r "${crate}wrong-bodies" "$to/must-fail"; fi
+"$top/tests/copy_crates.sh" "$room"
+for edits in "$top"/crates/*/wrong-bodies; do
+    cp -r "$edits" "$room/crates/$(basename "$(dirname "$edits")")/must-fail"
 done
 cd "$room"
 rt must-fail "$@"

@@ -1,5 +1,5 @@
 -- What is kept of a collection when it changes (own).
-use Rattle.std.specs.Prelude.{◌≢◌, ℕ, List}
+use Rattle.std.specs.Prelude.{ℕ, List}
 use Rattle.attr_lists.specs.Numbered.{Numbered}
 use Rattle.attr_lists.specs.Definitions.{HoldsList}
 use Rattle.attr_lists.specs.ListViews.{Entry}

@@ -1,31 +1,31 @@
 -- The answers of a search from nothing, and what is written of them.
-use Rattle.std.proofs.Common.{◌≡◌, ℕ, zero, suc, ◌+◌, ◌-◌, ◌<◌, ◌≤◌, Bool, true, false, cond, List, [], ◌∷◌, ◌++◌, length, map, filter, All, Option, Some, None, option_map, get_or, slice_get, refl, sym, ap, ◌∙◌, arith, eqb-true}
-use Rattle.std.specs.Prelude.{◌==◌, bytes_eq, position, option_and_then, unwrap_or, MatchOption, ⊤, if◌then◌else◌}
+use Rattle.std.proofs.Common.{◌≡◌, ℕ, zero, suc, ◌+◌, ◌-◌, ◌<◌, Bool, true, false, List, [], ◌∷◌, ◌++◌, length, map, filter, All, Option, Some, None, option_map, get_or, slice_get, refl, sym, ap, ◌∙◌, arith, eqb-true}
+use Rattle.std.specs.Prelude.{◌==◌, bytes_eq, option_and_then, unwrap_or, MatchOption, ⊤, if◌then◌else◌}
 use Rattle.std.proofs.Math.Path.{subst}
-use Rattle.std.specs.List.{Contains, filter_map, flat_map, range_with_len}
+use Rattle.std.specs.List.{Contains, flat_map, range_with_len}
 use Rattle.std.proofs.lemmas.List.{length-map}
-use Rattle.std.proofs.lemmas.List.Elements.{All-append, All-cons, All-contains_itself, All-filter, All-get_or, All-head, All-map, All-nil, All-tail, All-weaker}
+use Rattle.std.proofs.lemmas.List.Elements.{All-append, All-cons, All-contains_itself, All-filter, All-head, All-map, All-nil, All-tail, All-weaker}
 use Rattle.std.proofs.lemmas.List.Quantifiers.{position-Some}
 use Rattle.std.proofs.lemmas.Option.{slice_get-get_or}
 use Rattle.std.proofs.lemmas.Slice.Eq.{bytes_eq-Decides}
-use Rattle.attr_lists.specs.Definitions.{bodies_in, by_number, is_definition}
+use Rattle.attr_lists.specs.Definitions.{bodies_in, is_definition}
 use Rattle.attr_lists.specs.ListViews.{Entry}
 use Rattle.attr_lists.specs.Numbered.{Numbered}
 use Rattle.attr_lists.specs.Numbers.{IsNumbered, number_of}
 use Rattle.attr_lists.specs.declared.search.TrackedAssignment.{TrackedAssignment}
 use Rattle.attr_table.specs.Setting.{Answer, Setting}
-use Rattle.attr_table.specs.Table.{IsStable, Occurrence, Slots, Table}
+use Rattle.attr_table.specs.Table.{IsStable, Occurrence, Slots}
 use Rattle.attr_table.specs.Cut.{answer_at, full_answer, no_answers, IsSearched}
-use Rattle.gix_attributes.specs.Contents.{Content, Wanted, bodies_of, called, emptied, found_in, initialized, looked_up, selected_answer, selected_in, unspecified, wanted_of}
+use Rattle.gix_attributes.specs.Contents.{Content, Wanted, called, emptied, found_in, initialized, looked_up, selected_answer, selected_in, unspecified, wanted_of}
 use Rattle.gix_attributes.specs.Searching.{KeepsAllButAnswers, KeepsNames, answers_in, setting_for}
 use Rattle.attr_search.specs.Settings.{AreNamed, BodiesAreNamed, HeldAreNamed, Listed, ListsAreNamed, setting_of}
-use Rattle.attr_search.specs.Slots.{Matched, slots_of, table_answer, table_state}
+use Rattle.attr_search.specs.Slots.{Matched, table_answer, table_state}
 use Rattle.gix_attributes.proofs.OutcomeLemmas.{same_empty}
 use Rattle.gix_attributes.proofs.SearchLaws.{all_wanted, answered_by, name_wanted, nothing_in}
 use Rattle.check_attr.specs.Knowing.{Knows}
 use Rattle.check_attr.specs.MatchText.{answer_seen, matched_text, specified_match_text}
 use Rattle.check_attr.specs.Script.{Question}
-use Rattle.check_attr.specs.ScriptText.{IsAnswerText, answers_text, asked_setting, entry_text, is_unspecified, selected_text, specified_text, state_of}
+use Rattle.check_attr.specs.ScriptText.{IsAnswerText, asked_setting, entry_text, is_unspecified, selected_text, specified_text}
 use Rattle.check_attr.specs.ScriptStates.{ScriptState, bodies_by, body_by, definitions_in}
 use Rattle.check_attr.specs.declared.script.Form.{Form}
 use Rattle.check_attr.specs.declared.script.Form.TheVariants as forms

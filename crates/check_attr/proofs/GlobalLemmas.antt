@@ -8,7 +8,7 @@ use Rattle.std.proofs.lemmas.List.Elements.{All-nil}
 use Rattle.attr_glob.specs.Bases.{base_of}
 use Rattle.attr_lists.specs.Definitions.{free_mark}
 use Rattle.attr_lists.specs.KeptLists.{kept_list_where}
-use Rattle.attr_lists.specs.Numbered.{Numbered, nothing_numbered}
+use Rattle.attr_lists.specs.Numbered.{nothing_numbered}
 use Rattle.attr_lists.specs.Numbers.{IsNumbered}
 use Rattle.gix_attributes.specs.Additions.{Loaded, with_buffer, with_file}
 use Rattle.gix_attributes.specs.Answers.{Answer, found, missing, device_failed, memory_refused}

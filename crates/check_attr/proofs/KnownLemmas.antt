@@ -1,9 +1,9 @@
 -- A collection that knows the lists that stand, and no others.
-use Rattle.std.proofs.Common.{◌≡◌, ◌≢◌, ◌⊎◌, ℕ, zero, suc, ◌+◌, ◌-◌, ◌<◌, ◌≤◌, Bool, true, false, cond, List, [], ◌∷◌, ◌++◌, length, map, filter, All, Option, Some, None, option_map, get_or, slice_get, refl, sym, ap, ◌∙◌, arith, append_assoc, length-append, eq-eqb}
+use Rattle.std.proofs.Common.{◌≡◌, ℕ, zero, suc, ◌-◌, ◌<◌, ◌≤◌, false, cond, List, [], ◌∷◌, ◌++◌, length, map, All, Option, Some, None, option_map, slice_get, refl, sym, ap, ◌∙◌, arith, append_assoc, length-append}
 use Rattle.std.specs.Prelude.{nat_eq, unwrap_or, not, IfSome, MatchOption, ⊤, Result, Ok, Err, OnOk}
 use Rattle.std.proofs.Math.Path.{subst}
 use Rattle.std.proofs.Math.Logic.{⊎_elim}
-use Rattle.std.specs.List.{flat_map, range_with_len, IsDistinct}
+use Rattle.std.specs.List.{IsDistinct}
 use Rattle.std.specs.Option.{option_to_list}
 use Rattle.std.proofs.lemmas.Bool.{cases_lt}
 use Rattle.std.proofs.lemmas.List.{append-nil, length-map, map-append, get_or_past}
@@ -27,7 +27,7 @@ use Rattle.gix_attributes.specs.declared.search.attributes.Search.{Search}
 use Rattle.attr_search.specs.declared.standing.Standing.{Standing}
 use Rattle.attr_search.specs.Settings.{Listed}
 use Rattle.check_attr.specs.Knowing.{Knows, definitions_under}
-use Rattle.check_attr.specs.ScriptStates.{bodies_by, body_by, definitions_in, ScriptState}
+use Rattle.check_attr.specs.ScriptStates.{bodies_by, body_by, definitions_in}
 use Rattle.check_attr.proofs.NameLemmas.{slice_get-map}
 
 -- what stands at a number stands there when there are more names

@@ -7,5 +7,6 @@ mod ScriptLemmas
 mod KnownLemmas
 mod AnswerLemmas
 mod RunLemmas
+mod TextLemmas
 mod GlobalLemmas
 mod CommandLemmas

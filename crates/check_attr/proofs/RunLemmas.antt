@@ -1,5 +1,5 @@
 -- Scripts, record by record.
-use Rattle.std.proofs.Common.{◌≡◌, ◌≢◌, ℕ, zero, suc, ◌+◌, ◌-◌, ◌<◌, ◌≤◌, Bool, true, false, List, [], ◌∷◌, ◌++◌, length, take, drop, Option, Some, None, option_map, refl, sym, ap, ◌∙◌, subst, arith, append_assoc, length-drop}
+use Rattle.std.proofs.Common.{◌≡◌, ◌≢◌, ℕ, zero, suc, ◌+◌, ◌<◌, ◌≤◌, Bool, true, false, List, [], ◌∷◌, ◌++◌, length, take, drop, Option, Some, None, option_map, refl, sym, ap, ◌∙◌, subst, arith, append_assoc, length-drop}
 use Rattle.std.specs.Prelude.{nat_eq, nat_le, position, codes, if◌then◌else◌, ◌==◌}
 use Rattle.std.specs.List.{starts_with}
 use Rattle.std.specs.Str.{is_utf8}
@@ -8,7 +8,7 @@ use Rattle.attr_glob.specs.declared.pattern.Case.{Case}
 use Rattle.attr_glob.specs.declared.pattern.Case.TheVariants.{Sensitive, Fold}
 use Rattle.check_attr.specs.declared.script.Form.{Form}
 use Rattle.check_attr.specs.declared.script.Form.TheVariants.{Line, Zero, Origin}
-use Rattle.check_attr.specs.Script.{Record, ◌then◌, record_of, added_of, names_of, asked_of, lengths_of, addition_of, lines_of, manner_of, question_of, root_length, root_of, number_before, part_before, part_of, if_text, behind, choice_of, is_number, digits_value, Lengths, Manner, Addition, Question}
+use Rattle.check_attr.specs.Script.{Record, ◌then◌, record_of, added_of, names_of, asked_of, lengths_of, addition_of, lines_of, manner_of, question_of, root_length, root_of, number_before, part_before, part_of, if_text, behind, choice_of, is_number, digits_value, Lengths, Manner}
 use Rattle.check_attr.specs.ScriptText.{IsRecordText, Writes, ends, breaks, goes_on}
 use Rattle.check_attr.specs.ScriptStates.{ScriptState, after}
 

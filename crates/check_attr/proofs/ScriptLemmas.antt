@@ -1,5 +1,5 @@
 -- Parts of a script.
-use Rattle.std.proofs.Common.{◌≡◌, ℕ, zero, suc, ◌+◌, ◌-◌, ◌*◌, ◌^◌, ◌<◌, ◌≤◌, Bool, true, false, List, [], ◌∷◌, ◌++◌, length, map, Option, Some, None, option_map, get_or, refl, sym, ap, ◌∙◌, arith, append_assoc, append-nil, lit≤}
+use Rattle.std.proofs.Common.{◌≡◌, ℕ, zero, suc, ◌-◌, ◌^◌, ◌<◌, ◌≤◌, Bool, true, false, List, [], ◌∷◌, ◌++◌, Option, Some, None, option_map, refl, sym, ap, ◌∙◌, arith, append_assoc, append-nil, lit≤}
 use Rattle.std.specs.Prelude.{if◌then◌else◌, Result, Ok, Err, MatchResult}
 use Rattle.std.specs.Borrow.{Bor}
 use Rattle.std.specs.Option.{option_copied}
@@ -10,7 +10,7 @@ use Rattle.attr_search.specs.Slots.{table_state}
 use Rattle.attr_text.specs.declared.state.State.{State}
 use Rattle.attr_text.specs.declared.state.State.TheVariants.{Set, Unset, Value, Unspecified}
 use Rattle.check_attr.specs.ScriptText.{is_unspecified}
-use Rattle.check_attr.specs.Script.{◌then◌, part_before, if_text, lines_of, digits_value, is_number}
+use Rattle.check_attr.specs.Script.{◌then◌, part_before, if_text, lines_of}
 
 -- one line, and then the others
 pub lines_of-step : (n : ℕ) (bytes : List ℕ) → 0 < n →

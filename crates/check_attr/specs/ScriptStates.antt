@@ -1,6 +1,6 @@
 -- What the records of a script change (own): lists are added and taken off, and names are selected.
-use Rattle.std.specs.Prelude.{ℕ, ◌-◌, List, [], ◌∷◌, ◌++◌, length, take, map, Some, slice_get, unwrap_or}
-use Rattle.std.specs.List.{flat_map, range_with_len}
+use Rattle.std.specs.Prelude.{ℕ, ◌-◌, List, [], ◌∷◌, ◌++◌, length, take, Some, slice_get, unwrap_or}
+use Rattle.std.specs.List.{flat_map}
 use Rattle.attr_glob.specs.Bases.{base_of}
 use Rattle.attr_lists.specs.Definitions.{bodies_in, by_number}
 use Rattle.attr_lists.specs.KeptLists.{kept_list_where}

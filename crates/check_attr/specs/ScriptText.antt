@@ -1,6 +1,6 @@
 -- What a script writes (own): the lines that its lists leave out, and for each path that is asked for the answers by the only
 -- table that is stable. How answers are written: the git-check-attr page, and own with the place of a pattern.
-use Rattle.std.specs.Prelude.{◌≡◌, ◌≢◌, ℕ, ◌+◌, Bool, true, false, List, [], ◌∷◌, ◌++◌, length, Option, Some, None, option_and_then, slice_index_or, codes, if◌then◌else◌, ◌==◌}
+use Rattle.std.specs.Prelude.{◌≡◌, ◌≢◌, ℕ, ◌+◌, Bool, true, false, List, [], ◌++◌, length, Option, Some, None, option_and_then, slice_index_or, codes, if◌then◌else◌, ◌==◌}
 use Rattle.std.specs.List.{flat_map, range_with_len}
 use Rattle.std.specs.Fmt.{decimal}
 use Rattle.std.specs.Io.KnownBytes.{Appends}
@@ -129,3 +129,9 @@ AppendsText globals script malformed old new = (text : List ℕ) × Writes (begu
 abbrev pub AppendsTextFront : Loaded → List ℕ → Option (List ℕ) → Option (List ℕ) → Type 0
 AppendsTextFront globals script old new =
     (malformed : Option ℕ) × (text : List ℕ) × Writes (begun globals) 1 script malformed text × AppendsFront old new text
+
+-- exactly one text, and at most one malformed record, is what a script writes from what stands
+abbrev pub OneText : ScriptState → ℕ → List ℕ → Type 0
+OneText s number script =
+    (malformed : Option ℕ) × (text : List ℕ) × Writes s number script malformed text
+    × ((m : Option ℕ) (t : List ℕ) → Writes s number script m t → (m ≡ malformed) × (t ≡ text))

@@ -1,5 +1,5 @@
 -- What clauses see of records that are lent from a script: the content, and not where it lies (own).
-use Rattle.std.specs.Prelude.{ℕ, List, map, Option, option_map}
+use Rattle.std.specs.Prelude.{ℕ, List, map}
 use Rattle.std.specs.Borrow.{Bor}
 use Rattle.std.specs.Option.{option_copied}
 use Rattle.check_attr.specs.Script.{Addition as Added, Question as Asked, Record as Said, add, pop, names, ask, Lengths as Sizes, Manner as Way}

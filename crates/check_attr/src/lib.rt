@@ -9,6 +9,7 @@ mod failures;
 mod fault;
 mod gathering;
 mod global_files;
+pub mod laws;
 mod line_report;
 mod loaded;
 mod reading;

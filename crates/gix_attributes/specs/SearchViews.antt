@@ -1,5 +1,5 @@
 -- What clauses see of a search: its lists, and not where they lie (own).
-use Rattle.std.specs.Prelude.{◌≡◌, ℕ, List, [], ◌∷◌, ◌++◌, map, All, nat_eq}
+use Rattle.std.specs.Prelude.{◌≡◌, ℕ, List, [], ◌∷◌, ◌++◌, All, nat_eq}
 use Rattle.std.specs.List.{IsDistinct}
 use Rattle.attr_lists.specs.Numbered.{Numbered}
 use Rattle.attr_lists.specs.Definitions.{without, HoldsList}

@@ -76,6 +76,14 @@ fn a_malformed_record_is_said_last(rt: HostRuntime) -> Result<(), AllocError> {
 }
 
 #[test]
+fn a_malformed_record_has_its_status(rt: HostRuntime) -> Result<(), AllocError> {
+    let mut files = Memory::new(rt.alloc());
+    let script = b"names 0\nask l s f 9\nabc".as_slice();
+    let answer = b"2\ncheck_attr: malformed record 2\n".as_slice();
+    expect(&rt, rt.alloc(), &mut files, &[], script, answer)
+}
+
+#[test]
 fn an_empty_script_says_nothing(rt: HostRuntime) -> Result<(), AllocError> {
     let mut files = Memory::new(rt.alloc());
     expect(&rt, rt.alloc(), &mut files, &[], b"", b"0\n".as_slice())

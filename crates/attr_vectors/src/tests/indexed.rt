@@ -47,14 +47,11 @@ fn lines_of_other_names_are_not_tested(rt: HostRuntime) -> Result<(), AllocError
     expect(&rt, rt.alloc(), &steps, "true\ndone 2 2\n")?;
 
     // The line of the anchored name may be tested, since it has the path's last name.
-    let steps = [
-        Add(TOP, KINDS),
-        Select(&[]),
-        Find("d/x.rs", Sensitive),
-        Count,
-    ];
-    let counted = told(&rt, rt.alloc(), &steps)?;
-    assert!(rt; matches!(counted.as_str(), "true\nopen 4 4\n" | "true\nopen 4 5\n"));
+    for (path, case) in [("d/x.rs", Sensitive), ("D/X.RS", Fold)] {
+        let steps = [Add(TOP, KINDS), Select(&[]), Find(path, case), Count];
+        let counted = told(&rt, rt.alloc(), &steps)?;
+        assert!(rt; matches!(counted.as_str(), "true\nopen 4 4\n" | "true\nopen 4 5\n"));
+    }
     Ok(())
 }
 
@@ -129,6 +126,20 @@ fn the_end_of_a_chain_has_its_macro(rt: HostRuntime) -> Result<(), AllocError> {
     Ok(())
 }
 
+#[test]
+fn the_start_of_a_ring_has_no_macro(rt: HostRuntime) -> Result<(), AllocError> {
+    let text = chain(rt.alloc(), 3999, "[attr]m3999 m0\n* m0\n")?;
+    let steps = [
+        Add(TOP, text.as_str()),
+        Select(&["m0"]),
+        Find("f", Sensitive),
+        Rows,
+    ];
+    let rows = told(&rt, rt.alloc(), &steps)?;
+    assert!(rt; rows.as_str() == "true\nm0 macro - 4001\n");
+    Ok(())
+}
+
 // Sixty macros, each naming all sixty.
 fn all_of_all(alloc: Global) -> Result<String, AllocError> {
     let mut body = String::new(alloc);
@@ -158,6 +169,31 @@ fn items_of_filled_slots_are_not_taken(rt: HostRuntime) -> Result<(), AllocError
     ];
     let counted = told(&rt, rt.alloc(), &steps)?;
     assert!(rt; counted.as_str() == answer);
+    Ok(())
+}
+
+fn times(alloc: Global, part: &str, count: usize) -> Result<String, AllocError> {
+    let mut out = String::new(alloc);
+    for _ in 0..count {
+        out.push_str(part)?;
+    }
+    Ok(out)
+}
+
+#[test]
+fn a_hard_pattern_is_searched(rt: HostRuntime) -> Result<(), AllocError> {
+    let mut text = times(rt.alloc(), "*a", 200)?;
+    text.push_str("b x\n")?;
+    let path = times(rt.alloc(), "a", 5000)?;
+    let steps = [
+        Add(TOP, text.as_str()),
+        Select(&[]),
+        Find(path.as_str(), Sensitive),
+        Count,
+        Show,
+    ];
+    let shown = told(&rt, rt.alloc(), &steps)?;
+    assert!(rt; shown.as_str() == "false\nopen 0 1\nOutcome\n");
     Ok(())
 }
 

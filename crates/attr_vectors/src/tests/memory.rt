@@ -1,5 +1,4 @@
-//! Runs that find no memory. The tests `without_memory_..` pass whichever request for memory is
-//! refused, and `with_memory_all_is_answered` only where none is.
+//! Runs that pass whichever request for memory is refused.
 use super::statuses::arguments;
 use super::{INPUT, TEXT};
 use crate::devices::{Sink, Source};
@@ -95,25 +94,4 @@ fn without_memory_bytes_alone_decide(rt: HostRuntime) {
         );
         assert_eq!(rt; answer.ok(), Some(matched));
     }
-}
-
-// Makes at least as many requests as each of the others.
-#[test]
-fn with_memory_all_is_answered(rt: HostRuntime) -> Result<(), Fail> {
-    let args = arguments(rt.alloc(), &["--lines"])?;
-    let mut writer = with_room(rt.alloc())?;
-    let mut errors = with_room(rt.alloc())?;
-    let status = program(
-        rt.alloc(),
-        &mut Memory::new(rt.alloc()),
-        &args,
-        &mut Source::new(INPUT),
-        &mut writer,
-        &mut errors,
-    );
-    assert_eq!(rt; status, 0);
-    for line in parse::parse(rt.alloc(), b"\"a\\tb\" x\n* y") {
-        line?;
-    }
-    Ok(())
 }

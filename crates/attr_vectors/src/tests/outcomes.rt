@@ -63,6 +63,12 @@ fn an_unspecified_name_has_no_place(rt: HostRuntime) -> Result<(), AllocError> {
 }
 
 #[test]
+fn names_that_are_unknown_are_done_at_once(rt: HostRuntime) -> Result<(), AllocError> {
+    let steps = [Add(TOP, ""), Select(&["nope", "in valid"]), Count, Places];
+    expect(&rt, rt.alloc(), &steps, "done 0 0\n-:0:\n-:0:\n")
+}
+
+#[test]
 fn a_name_is_looked_up_again(rt: HostRuntime) -> Result<(), AllocError> {
     let steps = [
         Add(TOP, "* a"),

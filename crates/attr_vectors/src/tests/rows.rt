@@ -20,6 +20,10 @@ fn lines_print_what_they_say(rt: HostRuntime) -> Result<(), Fail> {
         (b"# c\n\n  a b".as_slice(), b"3: b\n".as_slice()),
         (b"a\n* b\r\n".as_slice(), b"1:\n2: b\n".as_slice()),
         (b"* builtin_x y".as_slice(), b"1: ?builtin_x y\n".as_slice()),
+        (
+            b"* =x --a builtin_x y".as_slice(),
+            b"1: ? ?-a ?builtin_x y\n".as_slice(),
+        ),
     ] {
         let mut sink = Sink::new(rt.alloc());
         lines(rt.alloc(), &mut Source::new(input), &mut sink)?;

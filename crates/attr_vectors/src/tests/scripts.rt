@@ -52,7 +52,7 @@ const SCRIPT: &[u8] =
 const TEXT: &[u8] = b"script.sh: text: set\nscript.sh: eol: lf\n";
 
 // Scripts with what they write, and at its end why the run ends early.
-const ROWS: [(&[u8], &[u8]); 17] = [
+const ROWS: [(&[u8], &[u8]); 20] = [
     (b"", b""),
     (b"names 0\nask l s f 9\nabc", b"malformed record 2"),
     (SCRIPT, TEXT),
@@ -94,6 +94,18 @@ const ROWS: [(&[u8], &[u8]); 17] = [
         b"add - 1 0 6\ns/X a b\nask l i f 1\nx\nask l s f 1\nx\n",
         b"x: a: set\nx: b: set\n",
     ),
+    (
+        b"add m 14 - 12\n.gitattributes*.png binary\nnames 4\nbinary\ndiff\nmerge\ntext\nask l s f 5\na.png\n",
+        b"a.png: binary: set\na.png: diff: unset\na.png: merge: unset\na.png: text: unset\n",
+    ),
+    (
+        b"add m 1 - 34\ns[attr]builtin_x a\n* builtin_y\n!c d\n",
+        b"dropped: s:1: macro-name\ndropped: s:2: reserved\ndropped: s:3: negative\n",
+    ),
+    (
+        b"add - 1 - 6\ns* a !b\nnames 1\nb\nask o s f 1\nf\n",
+        b"f: b: unspecified\ts:1\t*\t-\n",
+    ),
 ];
 
 #[test]
@@ -108,6 +120,17 @@ fn scripts_write_their_text(rt: HostRuntime) -> Result<(), Fail> {
 fn scripts_are_read_however_they_are_cut(rt: HostRuntime) -> Result<(), Fail> {
     for (script, text) in ROWS {
         expect(&rt, rt.alloc(), &mut Source::one_by_one(script), text)?;
+    }
+    Ok(())
+}
+
+#[test]
+fn each_byte_alone_says_nothing(rt: HostRuntime) -> Result<(), Fail> {
+    for byte in 0..=u8::MAX {
+        let mut script = b"add - 0 - 1\n".as_slice().to_vec(rt.alloc())?;
+        script.push(byte)?;
+        script.extend_from_slice(b"\nask l s f 1\nf\n")?;
+        expect(&rt, rt.alloc(), &mut Source::new(&script), b"".as_slice())?;
     }
     Ok(())
 }

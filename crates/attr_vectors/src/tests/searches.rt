@@ -15,11 +15,25 @@ fn later_lines_and_items_decide(rt: HostRuntime) -> Result<(), AllocError> {
         ("\"a b.txt\"x", "a b.txt", "true\nOutcome(x)\n"),
         ("* a =x", "f", "false\nOutcome\n"),
         ("* a !b", "f", "true\nOutcome(a, !b)\n"),
+        ("\"\\400\" a", "\"400\"", "true\nOutcome(a)\n"),
+        ("\"[attr]\" x", "t", "true\nOutcome(x)\n"),
+        ("\"\" a", "f", "false\nOutcome\n"),
     ] {
         let steps = [Add(TOP, text), Select(&[]), Find(path, Sensitive), Show];
         expect(&rt, rt.alloc(), &steps, answer)?;
     }
     Ok(())
+}
+
+#[test]
+fn the_line_that_decides_is_told(rt: HostRuntime) -> Result<(), AllocError> {
+    let steps = [
+        Add(TOP, "* a=1\n* a=2\n"),
+        Select(&[]),
+        Find("f", Sensitive),
+        Rows,
+    ];
+    expect(&rt, rt.alloc(), &steps, "true\na=2 attribute - 2\n")
 }
 
 #[test]
@@ -75,6 +89,26 @@ fn macros_may_name_one_another(rt: HostRuntime) -> Result<(), AllocError> {
             "[attr]a b\n[attr]b a\n* a\n",
             [].as_slice(),
             "true\ndone 2 1\na macro - 3\nb macro 0 3\n",
+        ),
+        (
+            "[attr]a b\n[attr]b -a c\n* b\n",
+            [].as_slice(),
+            "true\ndone 3 1\n-a macro 1 3\nb macro - 3\nc attribute 1 3\n",
+        ),
+        (
+            "[attr]m x=1\n[attr]n m x=2\n* n\n",
+            [].as_slice(),
+            "true\ndone 3 1\nm macro 2 3\nx=2 attribute 2 3\nn macro - 3\n",
+        ),
+        (
+            "[attr]m x=1\n[attr]n x=2 m\n* n\n",
+            [].as_slice(),
+            "true\ndone 3 1\nm macro 2 3\nx=1 attribute 0 3\nn macro - 3\n",
+        ),
+        (
+            "[attr]m x\n* m=1\n",
+            [].as_slice(),
+            "true\nopen 1 1\nm=1 macro - 2\n",
         ),
         (
             "[attr]m m x\n* m\n",

@@ -1,7 +1,7 @@
 -- The name that an iteration over the names comes to after so many others is that of this number.
-use Rattle.std.proofs.Common.{◌≡◌, ℕ, List, [], Option, Some, None, option_map, slice_get, slice_index_or, sym, ap, ◌∙◌}
+use Rattle.std.proofs.Common.{Some, None}
 use Rattle.std.proofs.lemmas.Iterator.Consumers.{nth_from_yields_List, YieldsList-from_first}
-use Rattle.attr_lists.specs.NameViews.{Named, named_seen, names_left, names_from}
+use Rattle.attr_lists.specs.NameViews.{named_seen, names_left, names_from}
 use Rattle.check_attr.proofs.NameLemmas.{name_at}
 use Rattle.check_attr.proofs.answers.name_of.Goals as goal
 

@@ -1,4 +1,4 @@
-use Rattle.std.proofs.Common.{rules, ◌≡◌, ◌∙◌, ◌++◌, None, refl, ap, string_bytes}
+use Rattle.std.proofs.Common.{rules, ◌∙◌, ◌++◌, None, refl, ap, string_bytes}
 use Rattle.std.specs.List.{flat_map}
 use Rattle.std.proofs.lemmas.Slice.Zip.{either_empty_from_Zip}
 use Rattle.check_attr.specs.ScriptText.{dropped_text}

@@ -1,4 +1,4 @@
-use Rattle.std.proofs.Common.{◌≡◌, ◌∙◌, inr, ℕ, List, map, string_bytes, sym, ap, subst}
+use Rattle.std.proofs.Common.{◌∙◌, inr, ℕ, List, map, string_bytes, sym, ap, subst}
 use Rattle.check_attr.specs.GlobalFiles.{left_out_text, loaded_from}
 use Rattle.check_attr.specs.Program.{Ends, Says}
 use Rattle.check_attr.specs.ScriptStates.{Loaded}

@@ -1,4 +1,4 @@
-use Rattle.std.proofs.Common.{◌≡◌, ◌∙◌, ◌++◌, List, ℕ, codes, subst}
+use Rattle.std.proofs.Common.{◌≡◌, ◌∙◌, ◌++◌, codes, subst}
 use Rattle.std.specs.Fmt.{decimal}
 use Rattle.std.proofs.KnownBytes.{Appends-trans}
 use Rattle.std.specs.Io.KnownBytes.{Appends}

@@ -1,4 +1,4 @@
-use Rattle.std.proofs.Common.{◌≡◌, ◌∙◌, ap}
+use Rattle.std.proofs.Common.{◌∙◌, ap}
 use Rattle.gix_attributes.specs.Additions.{loaded_in}
 use Rattle.gix_attributes.specs.Globals.{globals_of}
 use Rattle.check_attr.proofs.GlobalLemmas.{globals_known}

@@ -1,5 +1,5 @@
 -- The lines read so far and those that are left to read are together all lines.
-use Rattle.std.proofs.Common.{◌≡◌, ◌≤◌, ◌-◌, ◌++◌, map, vec_len, option_map}
+use Rattle.std.proofs.Common.{◌≡◌, ◌≤◌, ◌-◌, map, vec_len, option_map}
 use Rattle.check_attr.specs.Script.{lines_of}
 use Rattle.check_attr.proofs.ScriptLemmas.{before}
 use Rattle.check_attr.proofs.script.lines_of.Given as goal

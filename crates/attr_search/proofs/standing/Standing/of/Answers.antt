@@ -2,7 +2,7 @@ use Rattle.std.proofs.Common.{◌≡◌, ◌∙◌, sym, ap, subst, length}
 use Rattle.attr_glob.specs.Views.{lines_read}
 use Rattle.attr_lists.specs.ListViews.{entries_of}
 use Rattle.attr_lists.specs.Numbers.{numbered_lines}
-use Rattle.attr_lists.specs.Definitions.{free_mark, with_list, HoldsList}
+use Rattle.attr_lists.specs.Definitions.{with_list, HoldsList}
 use Rattle.attr_search.specs.Settings.{AreRead}
 use Rattle.attr_search.proofs.StandingLemmas.{numbered_lines_read, numbered_read, numbered_length, written}
 use Rattle.attr_search.proofs.standing.Standing.of.Goals as goal

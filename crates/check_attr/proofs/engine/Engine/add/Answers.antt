@@ -1,4 +1,4 @@
-use Rattle.std.proofs.Common.{◌≡◌, true, false, Some, sym, ap, ◌∙◌, string_bytes}
+use Rattle.std.proofs.Common.{Some, string_bytes}
 use Rattle.std.specs.Option.{option_copied}
 use Rattle.attr_glob.specs.Bases.{base_of}
 use Rattle.attr_lists.specs.Definitions.{free_mark}

@@ -1,5 +1,5 @@
 -- A search from nothing answers by the only stable table, and leaves the outcome as one that can be reset.
-use Rattle.std.proofs.Common.{◌≡◌, ℕ, Bool, true, false, List, ◌++◌, length, map, vec_len, sym, ap, ◌∙◌, subst, arith}
+use Rattle.std.proofs.Common.{◌≡◌, ℕ, true, false, List, ◌++◌, length, vec_len, sym, ap, ◌∙◌, subst, arith}
 use Rattle.std.specs.Prelude.{◌==◌}
 use Rattle.std.specs.List.{flat_map}
 use Rattle.std.specs.Borrow.{Bor}
@@ -9,7 +9,7 @@ use Rattle.attr_table.specs.Cut.{IsSearched}
 use Rattle.gix_attributes.specs.Contents.{found_in, selected_in, wanted_of}
 use Rattle.gix_attributes.specs.Searching.{answers_in, setting_for}
 use Rattle.gix_attributes.specs.SearchViews.{lists_in, marks_in}
-use Rattle.check_attr.specs.EngineViews.{script_state_of, texts_of}
+use Rattle.check_attr.specs.EngineViews.{texts_of}
 use Rattle.check_attr.specs.MatchText.{matched_text, specified_match_text}
 use Rattle.check_attr.specs.ScriptText.{IsAnswerText}
 use Rattle.check_attr.specs.ScriptViews.{question_seen}

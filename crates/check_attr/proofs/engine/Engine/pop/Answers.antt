@@ -1,4 +1,3 @@
-use Rattle.std.proofs.Common.{◌≡◌, true, false}
 use Rattle.attr_search.specs.ListRead.{list_read}
 use Rattle.gix_attributes.specs.SearchViews.{lists_in, marks_in}
 use Rattle.check_attr.proofs.KnownLemmas.{knows_popped, same_count}

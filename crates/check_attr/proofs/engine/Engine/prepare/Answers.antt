@@ -1,4 +1,4 @@
-use Rattle.std.proofs.Common.{ap, sym, ◌∙◌, refl}
+use Rattle.std.proofs.Common.{ap, ◌∙◌}
 use Rattle.gix_attributes.specs.Contents.{emptied, initialized}
 use Rattle.gix_attributes.proofs.OutcomeLemmas.{emptied_again}
 use Rattle.check_attr.specs.EngineViews.{texts_of}
