@@ -2,11 +2,11 @@
 # Refuses the first request for memory of a run, then the second, and so on, until a run makes no more. Each time the
 # program must end with status 1 and the words for it, having written nothing, or with --lines a beginning of its lines;
 # or it can do without, and answers the same. Each test tests::memory::without_memory_* must pass. The gate has to have
-# built both.
+# built them.
 set -eu
 here=$(cd "$(dirname "$0")" && pwd)
-program=$here/../crates/check_attr_cli/out/check_attr_cli
-tests=$here/../crates/attr_vectors/out/attr_vectors_tests
+crates=$here/../crates
+program=$crates/check_attr_cli/out/check_attr_cli
 room=$(mktemp -d)
 trap 'rm -rf "$room"' EXIT
 cc -O2 -shared -fPIC -o "$room/refused_request.so" "$here/refused_request.c"
@@ -83,6 +83,8 @@ cp "$here/../examples/all.script" "$room/input"
 "$program" "$room/global" "$room/missing" <"$room/input" >"$room/answers" 2>"$room/errors"
 each_of "global files" answers_whole "$program" "$room/global" "$room/missing"
 : >"$room/input"
-for test in $("$tests" --list | sed -n "s/^\(tests::memory::without_memory_.*\): test/\1/p"); do
-    each_of "$test" passes "$tests" "$test"
+for tests in "$crates"/*_vectors/out/*_vectors_tests; do
+    for test in $("$tests" --list | sed -n "s/^\(tests::memory::without_memory_.*\): test/\1/p"); do
+        each_of "$test" passes "$tests" "$test"
+    done
 done

@@ -34,11 +34,11 @@ pub macros_of_mappings : (mappings : List (Mapping Value)) → list_all (λ m. m
 macros_of_mappings mappings = sym (list_all-map macro_valid entry_of mappings)
 
 -- what was given so far, with one thing more, unless memory ran out, which it did not
-pub given-more : {X R Y : Type 0} (read : X → R) (part : R → Option Y) (whole before longer : List Y) (told : Option X) (one : R) (all others : List X)
-    → before ++ filter_map (λ x. part (read x)) all ≡ whole → MatchOption told (others ≡ []) (λ x. all ≡ x ∷ others) → MatchOption told ⊥ (λ x. one ≡ read x)
+pub given-more : {X R Y : Type 0} (N : Type 0) (read : X → R) (part : R → Option Y) (whole before longer : List Y) (told : Option X) (one : R) (all others : List X)
+    → before ++ filter_map (λ x. part (read x)) all ≡ whole → MatchOption told N (λ x. all ≡ x ∷ others) → MatchOption told ⊥ (λ x. one ≡ read x)
     → longer ≡ before ++ option_to_list (part one) → longer ++ filter_map (λ x. part (read x)) others ≡ whole
-given-more read part whole before longer None one all others so_far first is grown = absurd is
-given-more read part whole before longer (Some x) one all others so_far first is grown =
+given-more N read part whole before longer None one all others so_far first is grown = absurd is
+given-more N read part whole before longer (Some x) one all others so_far first is grown =
     ap (λ l. l ++ filter_map (λ y. part (read y)) others) (grown ∙ ap (λ r. before ++ option_to_list (part r)) is)
     ∙ (append_assoc before (option_to_list (part (read x))) (filter_map (λ y. part (read y)) others)
     ∙ (ap (λ l. before ++ l) (onto (part (read x)) (filter_map (λ y. part (read y)) others))

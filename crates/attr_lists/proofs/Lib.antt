@@ -1,4 +1,5 @@
 pub mod DefinitionLemmas
+pub mod HeldNumbers
 pub mod Holding
 pub mod KeptLaws
 pub mod KeptLemmas

@@ -15,7 +15,7 @@ use Rattle.attr_lists.specs.Definitions.{is_definition, bodies_in, under, is_und
 use Rattle.attr_lists.specs.KnownViews.{AreValid}
 use Rattle.attr_lists.specs.ListViews.{Entry}
 use Rattle.attr_lists.specs.Numbered.{Defined, Numbered, nothing_numbered}
-use Rattle.attr_lists.specs.Numbers.{macro_names, names_of, names_in, with_name, with_names, number_of, id_of, numbered_item, numbered, numbered_lines, IsNumberOf, IsNumbered}
+use Rattle.attr_lists.specs.Numbers.{macro_names, names_of, names_in, with_name, with_names, number_of, id_of, numbered_item, numbered, numbered_lines, IsNumberOf, HasMacroNumber, IsNumbered}
 use Rattle.attr_lists.proofs.DefinitionLemmas.{bodies_in-cons, bodies_in-none}
 use Rattle.attr_lists.proofs.Lists.{get_or-map, slice_get-within}
 use Rattle.attr_lists.proofs.NameLemmas.{with_name-known, with_name-new, with_names-extends, with_names-distinct}
@@ -129,6 +129,23 @@ number_stays known names name number h =
 
 pub count_more : (known names : List (List ℕ)) → length known ≤ length (with_names known names)
 count_more known names = let more = with_names-extends known names in omega (arith, ap length more.1, length-append known more.0)
+
+-- a number stays that of its name
+get_still : {X : Type 0} (xs more : List X) (i : ℕ) (x : X) → slice_get xs i ≡ Some x → slice_get (xs ++ more) i ≡ Some x
+get_still [] more i x h = absurd cc
+get_still (y ∷ ys) more zero x h = h
+get_still (y ∷ ys) more (suc i) x h = get_still ys more i x h
+
+number_still : (known names : List (List ℕ)) (name : List ℕ) (id : AttributeId) → IsNumberOf known name id → IsNumberOf (with_names known names) name id
+number_still known names name id h =
+    let more = with_names-extends known names in subst (λ l. slice_get l id.0 ≡ Some name) (sym more.1) (get_still known more.0 id.0 name h)
+
+macro_number_still : (known names : List (List ℕ)) (entry : Entry) → HasMacroNumber known entry → HasMacroNumber (with_names known names) entry
+macro_number_still known names entry = macro_still entry.macro
+  where
+    macro_still : (m : Option AttributeId) → IfSome m (IsNumberOf known entry.pattern.text) → IfSome m (IsNumberOf (with_names known names) entry.pattern.text)
+    macro_still None a = tt
+    macro_still (Some id) a = number_still known names entry.pattern.text id a
 
 -- ---- definitions
 
@@ -301,6 +318,7 @@ module _ (old : Numbered) (entries : List Entry) (sound : IsSound old) where
   pub added_holds : HoldsList new mark lines
   added_holds = record {
     standing = stands_now old.marks mark (free_within old.marks);
+    numbered = All-weaker (IsNumbered names) (HasMacroNumber names) (λ e is. is.macro) lines (list_numbered old.names entries);
     bodies = λ number. ⊎_elim
         (λ lt. ap (kept_under mark) (at_name number lt) ∙ kept_under-append mark (definitions_of old number) (map (under mark) (bodies_in number lines))
         ∙ ap (λ l. l ++ kept_under mark (map (under mark) (bodies_in number lines))) (kept_under-free old.marks mark (definitions_of old number) free (sound.marked number)) ∙ kept_under-own mark (bodies_in number lines))
@@ -314,6 +332,7 @@ module _ (old : Numbered) (entries : List Entry) (sound : IsSound old) where
       let apart : other ≢ mark = λ e. true≢false (sym h.standing ∙ ap (is_standing old.marks) e ∙ free) in
       record {
         standing = stands_still old.marks mark other (free_within old.marks) h.standing;
+        numbered = All-weaker (HasMacroNumber old.names) (HasMacroNumber names) (λ e is. macro_number_still old.names (names_in entries) e is) es h.numbered;
         bodies = λ number. ⊎_elim
             (λ lt. ap (kept_under other) (at_name number lt) ∙ kept_under-append other (definitions_of old number) (map (under mark) (bodies_in number lines))
             ∙ ap (λ l. kept_under other (definitions_of old number) ++ l) (kept_under-other other mark (bodies_in number lines) apart) ∙ append-nil (kept_under other (definitions_of old number)) ∙ h.bodies number)
@@ -356,6 +375,7 @@ module _ (old : Numbered) (gone : ℕ) where
   pub removed_keeps : (other : ℕ) (es : List Entry) → other ≢ gone → HoldsList old other es → HoldsList (without gone old) other es
   removed_keeps other es apart h = record {
     standing = get_or-set_other old.marks gone other false false apart ∙ h.standing;
+    numbered = h.numbered;
     bodies = λ number. ap (kept_under other) (at_all number) ∙ kept_under-not_under other gone (definitions_of old number) apart ∙ h.bodies number;
   }
 

@@ -4,7 +4,7 @@ use Rattle.std.specs.List.{range_with_len, position_or_len, IsDistinct}
 use Rattle.attr_text.specs.Names.{is_valid_name}
 use Rattle.attr_lists.specs.ListViews.{Entry}
 use Rattle.attr_lists.specs.Numbered.{Defined, Numbered}
-use Rattle.attr_lists.specs.Numbers.{names_in, with_names, numbered_lines}
+use Rattle.attr_lists.specs.Numbers.{names_in, with_names, numbered_lines, HasMacroNumber}
 use Rattle.attr_lists.specs.declared.search.TrackedAssignment.{TrackedAssignment}
 
 -- the line defines the macro with this number
@@ -79,9 +79,11 @@ without mark old =
       marks = slice_set old.marks mark false;
     }
 
--- the list stands under the mark: for each number the definitions under the mark are the list's, line by line
+-- the list stands under the mark: its macros have the numbers of their names, and for each number the definitions under the mark
+-- are the list's, line by line
 pub record HoldsList (known : Numbered) (mark : ℕ) (entries : List Entry) : Type 0 where
   pub standing : is_standing known.marks mark ≡ true
+  pub numbered : All (HasMacroNumber known.names) entries
   pub bodies : (number : ℕ) → kept_under mark (definitions_of known number) ≡ bodies_in number entries
 
 -- all numbers in the body are those of names

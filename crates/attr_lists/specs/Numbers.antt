@@ -53,7 +53,11 @@ numbered_lines names entries = map (numbered names) entries
 abbrev pub IsNumberOf : List (List ℕ) → List ℕ → AttributeId → Type 0
 IsNumberOf names name id = slice_get names id.0 ≡ Some name
 
+-- the macro that the line defines, if it defines one, has the number of its name
+abbrev pub HasMacroNumber : List (List ℕ) → Entry → Type 0
+HasMacroNumber names entry = IfSome entry.macro (IsNumberOf names entry.pattern.text)
+
 -- each id of the line is the place of its name
 pub record IsNumbered (names : List (List ℕ)) (entry : Entry) : Type 0 where
-  pub macro : IfSome entry.macro (IsNumberOf names entry.pattern.text)
+  pub macro : HasMacroNumber names entry
   pub items : All (λ item. IsNumberOf names item.inner.name item.id) entry.items

@@ -2,14 +2,14 @@
 //!
 //! A definition belongs to the list that holds it, and stands until that list is removed. Each list has a mark.
 ghost use Rattle.std.specs.Prelude.{◌≡◌, true, ◌≢◌, ◌<◌, ◌≤◌, ◌↔◌, ◌++◌, ℕ, false, List, length, map, take, All, Some, None, nat_lt, if◌then◌else◌, option_map, IfOk, OnOk, OnErr, IfSome, IsSome, IsTrue};
-ghost use Rattle.attr_lists.specs.Definitions.{body_of, bodies_in, under, not_under, by_number, is_standing, free_mark, with_mark, with_list, without, HoldsList, IsSound};
+ghost use Rattle.attr_lists.specs.Definitions.{body_of, bodies_in, under, not_under, by_number, is_standing, free_mark, kept_under, with_mark, with_list, without, HoldsList, IsSound};
 ghost use Rattle.std.specs.Iterator.{YieldsFirstBy, item_count};
 ghost use Rattle.attr_lists.specs.NameViews.{Named, named, names_from, named_seen, names_left};
 ghost use Rattle.attr_lists.specs.KeptLists.{macros_valid};
 ghost use Rattle.attr_lists.specs.KnownViews.{texts_of, AreValid, all_known, known_at, AreKnown};
 ghost use Rattle.attr_lists.specs.ListViews.{Entry, entries_of};
 ghost use Rattle.attr_lists.specs.Numbered.{nothing_numbered};
-ghost use Rattle.attr_lists.specs.Numbers.{names_in, with_names, number_of, numbered_lines, IsNumbered};
+ghost use Rattle.attr_lists.specs.Numbers.{names_in, with_names, number_of, numbered_lines, HasMacroNumber, IsNumbered};
 
 mod known;
 mod numbers;
@@ -151,12 +151,12 @@ impl Numbering {
         self.marks[mark] = false;
     }
 
-    /// Whether the list stands under the mark: for each name the definitions under the mark are, in their order, those
-    /// of the list. It takes no memory. It goes through the list once for each name that the list defines.
+    /// Whether the list stands under the mark: its macros have the numbers of their names, and for each name the definitions under
+    /// the mark are, in their order, those of the list. It takes no memory. It goes through the list once for each name that the list defines.
     pub fn holds(&self, mark: usize, mappings: &[Mapping<Value>]) -> bool
         ensures { IsTrue result ↔ HoldsList self.now mark (entries_of mappings.now) }
     {
-        is_standing(&self.marks, mark) && known::holds_list(&self.known, mark, mappings)
+        is_standing(&self.marks, mark) && has_list(&self.names, &self.known, mark, mappings)
     }
 
     /// A copy, which begins with the lists that stand.
@@ -172,6 +172,19 @@ impl Numbering {
             marks,
         })
     }
+}
+
+// Whether the list's macros have the numbers of their names, and the definitions under the mark are the list's.
+fn has_list(
+    names: &IndexSet<RcStr>,
+    known: &[Known],
+    mark: usize,
+    mappings: &[Mapping<Value>],
+) -> bool
+    ensures { IsTrue result ↔ All (HasMacroNumber (texts_of names.now)) (entries_of mappings.now)
+        × ((number : ℕ) → kept_under mark (known_at known.now number) ≡ bodies_in number (entries_of mappings.now)) }
+{
+    numbers::are_macros_numbered(names, mappings) && known::holds_list(known, mark, mappings)
 }
 
 /// Names with what they stand for, by number.

@@ -87,7 +87,11 @@ abbrev pub SaysFirst : List LineResult → Option Line → List LineResult → T
 SaysFirst old None new = (old ≡ []) × (new ≡ [])
 SaysFirst old (Some line) new = MatchOption (told line) ⊤ (λ x. old ≡ x ∷ new)
 
+-- nothing is left to read or to say
+abbrev pub IsOver : Unread → Type 0
+IsOver unread = (unread.results ≡ []) × (unread.lines ≡ 0)
+
 -- one call of `next`: the first of what was left to say, or the end, which want of memory brings on
 abbrev pub Yields : Unread → Option Line → Unread → Type 0
-Yields old None new = (old.results ≡ []) × (new.results ≡ [])
-Yields old (Some line) new = MatchOption (told line) (new.results ≡ []) (λ x. old.results ≡ x ∷ new.results)
+Yields old None new = (old.results ≡ []) × IsOver new
+Yields old (Some line) new = MatchOption (told line) (IsOver new) (λ x. old.results ≡ x ∷ new.results)

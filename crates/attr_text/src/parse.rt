@@ -8,7 +8,7 @@ ghost use Rattle.std.specs.Result.{result_map_both};
 ghost use Rattle.bstr.specs.BStr.{bstr_bytes};
 ghost use Rattle.attr_text.specs.Items.{is_blank, is_equals, after_blanks, checked_name, with_state, state_from, words, item_of, items_of};
 ghost use Rattle.attr_text.specs.LineResults.{marks, without_front, is_macro, macro_of, target_of, parts_of, result_of, results_of};
-ghost use Rattle.attr_text.specs.TextViews.{name_text, stated, refusal, item_seen, target_seen, told, Tells, TellsKind, SaysLine, SaysFirst, Yields};
+ghost use Rattle.attr_text.specs.TextViews.{name_text, stated, refusal, item_seen, target_seen, told, Tells, TellsKind, SaysLine, SaysFirst, IsOver, Yields};
 
 use crate::state::ValueRef;
 use crate::{AssignmentRef, Name, NameRef, StateRef, name};
@@ -284,6 +284,7 @@ impl<'a> Lines<'a> {
     // What the next line that says something says.
     fn first_said(&mut self) -> Option<Result<(Kind, Iter<'a>, usize), Error>>
         ensures said { SaysFirst self.old.results result self.new.results }
+        ensures end { IfNone result (self.new.lines ≡ 0) }
         ensures fewer { OnSome result (self.new.lines < self.old.lines) }
     {
         while let Some(said) = self.read_line() {
@@ -296,7 +297,7 @@ impl<'a> Lines<'a> {
 
     // What the next line says, if there is a line, and if it says anything.
     fn read_line(&mut self) -> Option<Option<Result<(Kind, Iter<'a>, usize), Error>>>
-        ensures end { IfNone result ((self.old.results ≡ []) × (self.new.results ≡ [])) }
+        ensures end { IfNone result ((self.old.results ≡ []) × IsOver self.new) }
         ensures said { IfSome result (λ said. SaysLine self.old.results said self.new.results) }
         ensures fewer { OnSome result (self.new.lines < self.old.lines) }
     {
@@ -307,8 +308,7 @@ impl<'a> Lines<'a> {
 
     // Says nothing further.
     fn end(&mut self)
-        ensures results { self.new.results ≡ [] }
-        ensures lines { self.new.lines ≡ 0 }
+        ensures { IsOver self.new }
     {
         let nothing: &[u8] = b"";
         self.lines = nothing.lines();

@@ -1,19 +1,10 @@
-//! Worked rows of every crate, hostile inputs, and what is printed over devices in memory that fail.
-mod added_files;
+//! Worked rows of the program, hostile inputs, and what is printed over devices in memory that fail.
 mod failing;
-mod files;
 mod global_names;
 mod hostile;
-mod indexed;
-mod lists;
 mod memory;
-mod outcomes;
-mod pops;
 mod rows;
-mod scene;
 mod scripts;
-mod searches;
-mod sources;
 mod statuses;
 mod std_devices;
 

@@ -10,10 +10,10 @@ printed-more f whole text longer x all xs so_far first grown =
     ap (λ l. l ++ flat_map f xs) grown ∙ (append_assoc text (f x) (flat_map f xs) ∙ (ap (λ l. text ++ flat_map f l) (sym first) ∙ so_far))
 
 -- the same of a thing that was there unless memory ran out, which it did not
-pub printed-more_told : {X : Type 0} (f : X → List ℕ) (whole text longer : List ℕ) (told : Option X) (all xs : List X) → text ++ flat_map f all ≡ whole
-    → MatchOption told (xs ≡ []) (λ x. all ≡ x ∷ xs) → MatchOption told ⊥ (λ x. longer ≡ text ++ f x) → longer ++ flat_map f xs ≡ whole
-printed-more_told f whole text longer None all xs so_far first grown = absurd grown
-printed-more_told f whole text longer (Some x) all xs so_far first grown = printed-more f whole text longer x all xs so_far first grown
+pub printed-more_told : {X : Type 0} (N : Type 0) (f : X → List ℕ) (whole text longer : List ℕ) (told : Option X) (all xs : List X) → text ++ flat_map f all ≡ whole
+    → MatchOption told N (λ x. all ≡ x ∷ xs) → MatchOption told ⊥ (λ x. longer ≡ text ++ f x) → longer ++ flat_map f xs ≡ whole
+printed-more_told N f whole text longer None all xs so_far first grown = absurd grown
+printed-more_told N f whole text longer (Some x) all xs so_far first grown = printed-more f whole text longer x all xs so_far first grown
 
 pub OnErr-weaker : {T E : Type 0} (r : Result T E) (P Q : Type 0) → (P → Q) → OnErr r P → OnErr r Q
 OnErr-weaker (Ok x) P Q weaker h = h

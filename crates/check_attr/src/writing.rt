@@ -1,5 +1,5 @@
 //! Writers that count their failures, and writing a whole text.
-ghost use Rattle.std.specs.Prelude.{◌≡◌, ◌≤◌, ◌<◌, ◌⊎◌, ℕ, List, Option, length, IfOk, IfErr, OnOk, OnErr};
+ghost use Rattle.std.specs.Prelude.{◌≡◌, ◌≤◌, ◌<◌, ◌⊎◌, ℕ, IsTrue, List, Option, length, IfOk, IfErr, OnOk, OnErr};
 ghost use Rattle.std.specs.Io.{WritesAtMost};
 ghost use Rattle.std.specs.Io.KnownBytes.{Appends, Keeps, WriteAppends};
 ghost use Rattle.gix_attributes.specs.Failures.{Fails};
@@ -44,11 +44,12 @@ pub trait Push {
         ensures { result ≡ failed self.now };
 }
 
-/// Any writer of std, with its errors counted.
+/// Any writer of std, with its errors counted, and a mark where a write took no byte of some.
 #[derive(Drop)]
 pub struct Writer<W> {
     inner: W,
     failures: u64,
+    has_stalled: bool,
 }
 
 impl<W: Write> Writer<W> {
@@ -56,8 +57,13 @@ impl<W: Write> Writer<W> {
     pub fn new(inner: W) -> Writer<W>
         ensures contents { ⟦<Writer<W> as Push>⟧.contents result ≡ W.contents inner }
         ensures failed { ⟦<Writer<W> as Push>⟧.failed result ≡ 0 }
+        ensures moved { ⟦<Writer<W> as Push>⟧.Stalls result → ⊥ }
     {
-        Writer { inner, failures: 0 }
+        Writer {
+            inner,
+            failures: 0,
+            has_stalled: false,
+        }
     }
 }
 
@@ -66,10 +72,14 @@ impl<W: Write> Push for Writer<W> {
 
     ghost failed = { λ s. s.failures };
 
-    ghost Stalls = { λ _. Unit {0} };
+    ghost Stalls = { λ s. IsTrue s.has_stalled };
 
     fn write(&mut self, bytes: &[u8]) -> io::Result<usize> {
-        counted(&mut self.failures, self.inner.write(bytes))
+        let written = counted(&mut self.failures, self.inner.write(bytes));
+        if matches!(&written, Ok(0)) && !bytes.is_empty() {
+            self.has_stalled = true;
+        }
+        written
     }
 
     fn flush(&mut self) -> io::Result<()> {

@@ -2,6 +2,7 @@
 mod kept_lists;
 mod lines;
 mod matchers;
+mod memory;
 mod names;
 mod numbers;
 mod pattern_lists;

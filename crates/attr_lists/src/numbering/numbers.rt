@@ -1,10 +1,10 @@
 //! Names by number, and lines whose items have the numbers of their names.
 ghost use Rattle.std.specs.Prelude.{◌≡◌, true, ◌++◌, List, ℕ, map, option_map, bytes_eq, IfOk, OnOk, OnErr, IsTrue};
-ghost use Rattle.std.specs.List.{IsDistinct};
+ghost use Rattle.std.specs.List.{IsDistinct, list_all};
 ghost use Rattle.std.specs.Rc.{rc_str_bytes};
 ghost use Rattle.attr_text.specs.Names.{is_valid_name};
 ghost use Rattle.attr_lists.specs.KeptLists.{macro_valid, macros_valid};
-ghost use Rattle.attr_lists.specs.KnownViews.{texts_of, AreValid};
+ghost use Rattle.attr_lists.specs.KnownViews.{texts_of, is_number_of, has_macro_number, AreValid};
 ghost use Rattle.attr_lists.specs.ListViews.{entry_of, entries_of, macro_id, items_in};
 ghost use Rattle.attr_lists.specs.Numbers.{macro_names, names_of, names_in, with_name, with_names, number_of, id_of, numbered_item, numbered, numbered_lines};
 
@@ -195,6 +195,35 @@ fn number_items(names: &IndexSet<RcStr>, items: &mut [TrackedAssignment])
 {
     for item in items.iter_mut() {
         item.id = id_of(names, item.inner.name.as_str());
+    }
+}
+
+/// Whether each macro that the list defines has the number of its name.
+pub(super) fn are_macros_numbered(names: &IndexSet<RcStr>, mappings: &[Mapping<Value>]) -> bool
+    ensures { result ≡ list_all (λ m. has_macro_number (texts_of names.now) (entry_of m)) mappings.now }
+{
+    mappings
+        .iter()
+        .all(|mapping| has_macro_number(names, mapping))
+}
+
+fn has_macro_number(names: &IndexSet<RcStr>, mapping: &Mapping<Value>) -> bool
+    ensures { result ≡ has_macro_number (texts_of names.now) (entry_of mapping.now) }
+{
+    match &mapping.value {
+        Value::MacroAssignments { id, assignments: _ } => {
+            is_number_of(names, &mapping.pattern.text, *id)
+        }
+        Value::Assignments(_) => true,
+    }
+}
+
+fn is_number_of(names: &IndexSet<RcStr>, name: &[u8], id: AttributeId) -> bool
+    ensures { result ≡ is_number_of (texts_of names.now) name.now id }
+{
+    match names.get_index(id.0) {
+        Some(known) => name == known.as_bytes(),
+        None => false,
     }
 }
 

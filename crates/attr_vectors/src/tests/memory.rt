@@ -2,13 +2,8 @@
 use super::statuses::arguments;
 use super::{INPUT, TEXT};
 use crate::devices::{Sink, Source};
-use bstr::BStr;
 use check_attr::{Fault, lines, program};
 use gix_attributes::files::Memory;
-use gix_attributes::glob::Pattern;
-use gix_attributes::glob::pattern::{Case, base_name_place};
-use gix_attributes::parse;
-use gix_attributes::parse::{Error, Kind};
 use std::alloc::{AllocError, Global};
 use std::test::Fail;
 
@@ -27,18 +22,6 @@ fn without_memory_a_beginning_is_written(rt: HostRuntime) {
         Ok(()) => assert_eq!(rt; sink.bytes(), TEXT),
         Err(Fault::OutOfMemory) => assert!(rt; TEXT.starts_with(sink.bytes())),
         Err(Fault::Record(_) | Fault::Read | Fault::Write) => panic!(rt; "no device failed"),
-    }
-}
-
-#[test]
-fn without_memory_quotes_are_never_read_as_they_stand(rt: HostRuntime) {
-    let mut lines = parse::parse(rt.alloc(), b"\"a\\tb\" x\n* y");
-    match lines.next() {
-        Some(Ok((Kind::Pattern(pattern), _, 1))) => {
-            assert_eq!(rt; pattern.text.as_slice(), b"a\tb".as_slice())
-        }
-        Some(Err(Error::OutOfMemory)) => assert!(rt; lines.next().is_none()),
-        _ => panic!(rt; "the line gives its pattern, or there is no memory"),
     }
 }
 
@@ -68,30 +51,4 @@ fn without_memory_the_program_says_so(rt: HostRuntime) -> Result<(), Fail> {
         assert_eq!(rt; errors.bytes(), b"check_attr: out of memory\n".as_slice());
     }
     Ok(())
-}
-
-// A match takes no memory without a wildcard, where the end of the base name decides, and where the bytes before
-// the wildcard differ. Only a pattern that found none itself is not asked.
-#[test]
-fn without_memory_bytes_alone_decide(rt: HostRuntime) {
-    for (text, path, matched) in [
-        ("src/lib.rs", "src/lib.rs", true),
-        ("src/lib.rs", "src/lib.rc", false),
-        ("*.rs", "src/lib.rs", true),
-        ("*.rs", "src/lib.rc", false),
-        ("src/*.rs", "doc/lib.rs", false),
-    ] {
-        let (text, path) = (text.as_bytes(), path.as_bytes());
-        let Ok(Some(pattern)) = Pattern::from_bytes(rt.alloc(), text) else {
-            continue;
-        };
-        let answer = pattern.matches_repo_relative_path(
-            rt.alloc(),
-            BStr::new(path),
-            base_name_place(path),
-            None,
-            Case::Sensitive,
-        );
-        assert_eq!(rt; answer.ok(), Some(matched));
-    }
 }

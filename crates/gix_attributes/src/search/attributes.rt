@@ -77,6 +77,7 @@ impl Search {
         ensures dropped { IfOk result (λ dropped. dropped.items ≡ dropped_lines bytes.now) }
         ensures held { Holds collection.old self.old → Holds collection.new self.new }
         ensures refused { OnErr result (lists_in self.new ≡ lists_in self.old) }
+        ensures refused_marks { OnErr result (marks_in self.new ≡ marks_in self.old) }
         ensures unchanged { OnErr result (collection.new ≡ collection.old) }
     {
         self.patterns.reserve(1)?;

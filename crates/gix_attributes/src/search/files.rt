@@ -7,7 +7,7 @@ ghost use Rattle.gix_attributes.specs.Answers.{Answer};
 ghost use Rattle.gix_attributes.specs.Failures.{Fails};
 ghost use Rattle.gix_attributes.specs.FileReads.{AreAnswered, FileRead, ReadInOrder, names_read};
 ghost use Rattle.gix_attributes.specs.Globals.{RefusesGlobals, globals_in, globals_of, with_built_in};
-ghost use Rattle.gix_attributes.specs.SearchViews.{Holds, lists_in};
+ghost use Rattle.gix_attributes.specs.SearchViews.{Holds, lists_in, marks_in};
 ghost use Rattle.gix_attributes.specs.declared.search.files.AddError.TheVariants.{OutOfMemory};
 
 use crate::files::{Disk, Files, ReadError};
@@ -80,6 +80,7 @@ impl Search {
         ensures count { F.failed files.old ≤ F.failed files.new }
         ensures held { Holds collection.old self.old → Holds collection.new self.new }
         ensures refused { OnErr result (lists_in self.new ≡ lists_in self.old) }
+        ensures refused_marks { OnErr result (marks_in self.new ≡ marks_in self.old) }
         ensures unchanged { OnErr result (collection.new ≡ collection.old) }
     {
         if !files.read_into(&source, buf)? {
@@ -111,6 +112,7 @@ impl Search {
             (RefusedBy answer) }
         ensures held { Holds collection.old self.old → Holds collection.new self.new }
         ensures refused { OnErr result (lists_in self.new ≡ lists_in self.old) }
+        ensures refused_marks { OnErr result (marks_in self.new ≡ marks_in self.old) }
         ensures unchanged { OnErr result (collection.new ≡ collection.old) }
     {
         let mut disk = Disk::new(rt);

@@ -23,7 +23,7 @@ fn push_items(out: &mut String, items: Iter<'_>) -> Result<(), AllocError> {
 }
 
 // Each line that says something: its number, its pattern text or its macro's name, and its items.
-fn lines_of(alloc: Global, bytes: &[u8]) -> Result<String, AllocError> {
+pub(super) fn lines_of(alloc: Global, bytes: &[u8]) -> Result<String, AllocError> {
     let mut out = String::new(alloc);
     for line in parse(alloc, bytes) {
         push_line(&mut out, line)?;
@@ -41,6 +41,7 @@ fn push_line(
             push_kind(out, &kind)?;
             push_items(out, items)?;
         }
+        Err(Error::OutOfMemory) => return Err(AllocError),
         Err(error) => write!(out, "{error}")?,
     }
     write!(out, ";")

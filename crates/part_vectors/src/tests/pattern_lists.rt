@@ -8,7 +8,7 @@ use std::test::Fail;
 
 // One mapping for each line: its first word is the pattern.
 #[derive(PartialEq, Eq, PartialOrd, Ord, Hash, Debug, Drop)]
-struct Lines;
+pub(super) struct Lines;
 
 impl search::Pattern for Lines {
     type Value = u8;
@@ -108,7 +108,7 @@ fn copies_lists(rt: HostRuntime) -> Result<(), Fail> {
     Ok(())
 }
 
-fn listed(alloc: Global, text: &[u8]) -> Result<List<Lines>, AllocError> {
+pub(super) fn listed(alloc: Global, text: &[u8]) -> Result<List<Lines>, AllocError> {
     let (list, _) = List::from_bytes(alloc, text, String::new(alloc), None, Lines)?;
     Ok(list)
 }

@@ -8,8 +8,8 @@ use Rattle.attr_lists.proofs.search.attributes.AttributesPattern.bytes_to_patter
 
 pub loop-line-preserved : goal.loop-line-preserved
 loop-line-preserved c = record {
-  kept = given-more line_read result_ok _ _ _ _ _ _ _ c.loop-line.invariant.kept c.in-Some.ensures.steps c.in_ok-read.ensures c.in_ok-push_line.ensures.kept;
-  left_out = given-more line_read result_err _ _ _ _ _ _ _ c.loop-line.invariant.left_out c.in-Some.ensures.steps c.in_ok-read.ensures c.in_ok-push_line.ensures.left_out;
+  kept = given-more _ line_read result_ok _ _ _ _ _ _ _ c.loop-line.invariant.kept c.in-Some.ensures.steps c.in_ok-read.ensures c.in_ok-push_line.ensures.kept;
+  left_out = given-more _ line_read result_err _ _ _ _ _ _ _ c.loop-line.invariant.left_out c.in-Some.ensures.steps c.in_ok-read.ensures c.in_ok-push_line.ensures.left_out;
 }
 
 pub returns : goal.returns

@@ -185,6 +185,24 @@ fn popping_restores_what_stood_before(rt: HostRuntime) -> Result<(), Fail> {
 }
 
 #[test]
+fn a_search_of_other_macros_is_not_held(rt: HostRuntime) -> Result<(), Fail> {
+    let mut collection = MetadataCollection::new(rt.alloc());
+    let mut other_collection = MetadataCollection::new(rt.alloc());
+    let mut search = Search::new(rt.alloc());
+    let mut other_search = Search::new(rt.alloc());
+    add(rt.alloc(), &mut search, &mut collection, b"[attr]m x\n")?;
+    add(
+        rt.alloc(),
+        &mut other_search,
+        &mut other_collection,
+        b"[attr]n x\n",
+    )?;
+    assert!(rt; collection.holds(&search) && other_collection.holds(&other_search));
+    assert!(rt; !collection.holds(&other_search) && !other_collection.holds(&search));
+    Ok(())
+}
+
+#[test]
 fn popping_takes_no_other_search_s_definitions(rt: HostRuntime) -> Result<(), Fail> {
     let mut collection = MetadataCollection::new(rt.alloc());
     let mut first = Search::new(rt.alloc());

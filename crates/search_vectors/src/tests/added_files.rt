@@ -9,7 +9,7 @@ use std::rt::Files as HostFiles;
 use std::test::Fail;
 use std::{env, fs, io, process};
 
-fn two_files(alloc: Global) -> Result<Memory, AllocError> {
+pub(super) fn two_files(alloc: Global) -> Result<Memory, AllocError> {
     let mut files = Memory::new(alloc);
     files.insert("g1", b"* a\n!b c\n")?;
     files.insert("g3", b"* d\n")?;
@@ -63,6 +63,9 @@ fn push_lists(
 }
 
 fn push_error(alloc: Global, error: &AddError, out: &mut String) -> Result<(), AllocError> {
+    if let AddError::OutOfMemory = error {
+        return Err(AllocError);
+    }
     out.push_str(error.to_string(alloc)?.as_str())?;
     out.push_str("; ")
 }
@@ -85,7 +88,7 @@ fn push_globals<F: Files>(
 }
 
 // The count of global lists, the lines that each file leaves out or why there are none, and the names that are known then.
-fn globals_told<F: Files>(
+pub(super) fn globals_told<F: Files>(
     alloc: Global,
     files: &mut F,
     names: &[&str],
@@ -174,7 +177,7 @@ fn push_all_added<F: Files>(
 }
 
 // What is added of each file, the count of lists and the names that are known then.
-fn added_told<F: Files>(
+pub(super) fn added_told<F: Files>(
     alloc: Global,
     files: &mut F,
     names: &[&str],

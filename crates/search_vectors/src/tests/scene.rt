@@ -31,6 +31,10 @@ pub(super) enum Step<'a> {
     Reset,
     /// Copies what the outcome holds to the other one, which is begun for these names, and goes on with that.
     CopyFor(&'a [&'a str]),
+    /// Copies what the outcome holds to the other one as that is, and goes on with that.
+    Copy,
+    /// Turns to the other outcome.
+    TurnOutcomes,
     /// Goes on with a clone of the outcome, once the outcome itself is reset.
     Clone,
     /// Searches for a path that is no folder, and tells whether a name was found.
@@ -82,6 +86,30 @@ pub(super) fn told(
     Ok(out)
 }
 
+/// Wants a scene to tell this while each step that finds no memory is taken once more.
+pub(super) fn expect_again(
+    rt: &impl Abort,
+    alloc: Global,
+    steps: &[Step<'_>],
+    answer: &str,
+) -> Result<(), AllocError> {
+    let told = told_again(rt, alloc, steps)?;
+    assert_eq!(rt; told.as_str(), answer);
+    Ok(())
+}
+
+/// What a scene tells while each step that finds no memory is taken once more.
+pub(super) fn told_again(
+    rt: &impl Abort,
+    alloc: Global,
+    steps: &[Step<'_>],
+) -> Result<String, AllocError> {
+    let mut out = String::new(alloc);
+    let mut scene = Scene::new(alloc);
+    scene.take_all_again(rt, alloc, steps, &mut out)?;
+    Ok(out)
+}
+
 // A scene is owned where nothing else is.
 fn take_all(
     rt: &impl Abort,
@@ -117,6 +145,42 @@ impl Scene {
         Ok(())
     }
 
+    fn take_all_again(
+        &mut self,
+        rt: &impl Abort,
+        alloc: Global,
+        steps: &[Step<'_>],
+        out: &mut String,
+    ) -> Result<(), AllocError> {
+        for step in steps {
+            self.take_again(rt, alloc, *step, out)?;
+        }
+        Ok(())
+    }
+
+    // A step that finds no memory leaves lists and names as they were.
+    fn take_again(
+        &mut self,
+        rt: &impl Abort,
+        alloc: Global,
+        step: Step<'_>,
+        out: &mut String,
+    ) -> Result<(), AllocError> {
+        let (lists, names) = (
+            self.search.num_pattern_lists(),
+            count_of_names(&self.collection),
+        );
+        let mut told = String::new(alloc);
+        if self.take(rt, alloc, step, &mut told).is_err() {
+            assert_eq!(rt; self.search.num_pattern_lists(), lists);
+            assert_eq!(rt; count_of_names(&self.collection), names);
+            told.clear();
+            self.take(rt, alloc, step, &mut told)?;
+        }
+        out.push_str(told.as_str())
+            .or_else(|_| out.push_str(told.as_str()))
+    }
+
     fn take(
         &mut self,
         rt: &impl Abort,
@@ -133,6 +197,8 @@ impl Scene {
             Step::Begin => self.outcome.initialize(alloc, &self.collection),
             Step::Reset => self.reset(),
             Step::CopyFor(names) => self.copy_for(rt, alloc, names),
+            Step::Copy => self.copy(rt, alloc),
+            Step::TurnOutcomes => self.turn_outcomes(),
             Step::Clone => self.clone_outcome(alloc),
             Step::Find(path, case) => self.find(rt, alloc, path, case, out),
             Step::Show => self.show(alloc, out),
@@ -186,10 +252,15 @@ impl Scene {
         alloc: Global,
         names: &[&str],
     ) -> Result<(), AllocError> {
-        let copy = &mut self.other_outcome;
-        copy.initialize_with_selection(alloc, &self.collection, names)?;
+        self.other_outcome
+            .initialize_with_selection(alloc, &self.collection, names)?;
+        self.copy(rt, alloc)
+    }
+
+    fn copy(&mut self, rt: &impl Abort, alloc: Global) -> Result<(), AllocError> {
         assert!(rt; self.outcome.is_initialized());
         assert!(rt; self.outcome.is_current(&self.collection));
+        let copy = &mut self.other_outcome;
         self.outcome.copy_into(alloc, &self.collection, copy)?;
         self.turn_outcomes()
     }
@@ -216,10 +287,18 @@ impl Scene {
         assert!(rt; self.outcome.is_initialized());
         assert!(rt; self.outcome.covers(&self.search));
         let path = BStr::new(path.as_bytes());
-        let is_found = self
+        // What is told of a search finds its memory before.
+        out.reserve(6)?;
+        let searched = self
             .search
-            .pattern_matching_relative_path(alloc, path, case, Some(false), &mut self.outcome)?;
-        out.push_str(if is_found { "true\n" } else { "false\n" })
+            .pattern_matching_relative_path(alloc, path, case, Some(false), &mut self.outcome);
+        assert!(rt; searched.is_ok() || self.is_reset());
+        out.push_str(if searched? { "true\n" } else { "false\n" })
+    }
+
+    fn is_reset(&self) -> bool {
+        let outcome = &self.outcome;
+        outcome.iter().next().is_none() && outcome.taken() == 0 && outcome.tested() == 0
     }
 
     fn show(&self, alloc: Global, out: &mut String) -> Result<(), AllocError> {
@@ -243,6 +322,15 @@ impl Scene {
         let is_current = self.outcome.is_current(&self.collection);
         out.push_str(format!(in alloc; "{covers} {is_current}\n")?.as_str())
     }
+}
+
+/// How many names a collection has.
+pub(super) fn count_of_names(collection: &MetadataCollection) -> usize {
+    let mut count = 0usize;
+    for _ in collection.iter() {
+        count = count.saturating_add(1);
+    }
+    count
 }
 
 fn push_rows(alloc: Global, outcome: &Outcome, out: &mut String) -> Result<(), AllocError> {
