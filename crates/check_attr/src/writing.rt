@@ -18,7 +18,7 @@ pub trait Push {
     // How many calls failed so far.
     ghost failed: { Self → ℕ };
 
-    // Whether a write may have taken no byte of some.
+    // Whether a write took no byte of some.
     ghost Stalls: { Self → Type 0 };
 
     // What a flush makes true of the writer, where it succeeds.
@@ -29,6 +29,7 @@ pub trait Push {
         ensures bound { WritesAtMost result bytes.now }
         ensures bytes { WriteAppends (contents self.old) (contents self.new) result bytes.now }
         ensures stalls { IfOk result (λ n. n ≡ 0 → 0 < length bytes.now → Stalls self.new) }
+        ensures stalled { Stalls self.new → Stalls self.old ⊎ IfOk result (λ n. (n ≡ 0) × (0 < length bytes.now)) }
         ensures kept { failed self.old ≤ failed self.new }
         ensures err { OnErr result (Fails (failed self.old) (failed self.new)) };
 
@@ -36,6 +37,7 @@ pub trait Push {
     fn flush(&mut self) -> io::Result<()>
         ensures bytes { Keeps (contents self.old) (contents self.new) }
         ensures ok { OnOk result (Flushed self.new) }
+        ensures stalled { Stalls self.new → Stalls self.old }
         ensures kept { failed self.old ≤ failed self.new }
         ensures err { OnErr result (Fails (failed self.old) (failed self.new)) };
 
