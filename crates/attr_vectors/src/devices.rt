@@ -112,6 +112,7 @@ pub struct Sink {
     failing: u64,
     fails_flush: bool,
     flushes: u64,
+    is_flushed: bool,
     failures: u64,
 }
 
@@ -121,7 +122,7 @@ impl Model for Sink {
 
     ghost Value = { Store };
 
-    ghost view = { λ s. record { bytes = s.bytes.items; most = s.most; failing = s.failing; fails_flush = s.fails_flush; flushes = s.flushes; failures = s.failures } };
+    ghost view = { λ s. record { bytes = s.bytes.items; most = s.most; failing = s.failing; fails_flush = s.fails_flush; flushes = s.flushes; is_flushed = s.is_flushed; failures = s.failures } };
 
     ghost invariant = { λ s. 0 < s.most };
 }
@@ -154,6 +155,7 @@ impl Sink {
             failing: 0,
             fails_flush: false,
             flushes: 0,
+            is_flushed: false,
             failures: 0,
         }
     }
@@ -185,6 +187,13 @@ impl Sink {
     {
         self.flushes
     }
+
+    /// Whether a flush succeeded, and nothing was written since.
+    pub fn is_flushed(&self) -> bool
+        ensures { result ≡ self.now.is_flushed }
+    {
+        self.is_flushed
+    }
 }
 
 impl Push for Sink {
@@ -194,17 +203,18 @@ impl Push for Sink {
 
     ghost Stalls = { λ _. ⊥ };
 
-    ghost Flushed = { λ s. 0 < s.flushes };
+    ghost Flushed = { λ s. s.is_flushed ≡ true };
 
     fn write(&mut self, bytes: &[u8]) -> io::Result<usize>
         ensures bound { WritesAtMost result bytes.now }
         ensures bytes { WriteAppends (Some self.old.bytes) (Some self.new.bytes) result bytes.now }
         ensures stalls { IfOk result (λ n. n ≡ 0 → 0 < length bytes.now → ⊥) }
+        ensures flushed { self.new.is_flushed ≡ true → (self.old.is_flushed ≡ true) × IfOk result (λ n. n ≡ 0) }
         ensures kept { self.old.failures ≤ self.new.failures }
         ensures err { OnErr result (Fails self.old.failures self.new.failures) }
         ensures fails { self.old.failing ≡ 1 → IsErr result × (self.new ≡ record self.old { failing = 0; failures = one_more self.old.failures }) }
         ensures takes { IfOk result (λ n. n ≡ min (length bytes.now) self.old.most) }
-        ensures goes_on { self.old.failing ≢ 1 → MatchResult result (λ n. self.new ≡ record self.old { bytes = self.old.bytes ++ take n bytes.now; failing = self.old.failing - 1 }) (λ _. self.new ≡ record self.old { failing = self.old.failing - 1; failures = one_more self.old.failures }) }
+        ensures goes_on { self.old.failing ≢ 1 → MatchResult result (λ n. self.new ≡ record self.old { bytes = self.old.bytes ++ take n bytes.now; failing = self.old.failing - 1; is_flushed = false }) (λ _. self.new ≡ record self.old { failing = self.old.failing - 1; failures = one_more self.old.failures }) }
     {
         if self.failing == 1 {
             self.failing = 0;
@@ -217,14 +227,14 @@ impl Push for Sink {
             self.failures = self.failures.saturating_add(1);
             return Err(io::Error::from(ErrorKind::OutOfMemory));
         }
+        self.is_flushed = false;
         Ok(count)
     }
 
     fn flush(&mut self) -> io::Result<()>
         ensures kept { self.old.failures ≤ self.new.failures }
-        ensures flushed { 0 < self.new.flushes }
         ensures counted { OnErr result (Fails self.old.failures self.new.failures) }
-        ensures ok { OnOk result ((self.old.fails_flush ≡ false) × (self.new ≡ record self.old { flushes = one_more self.old.flushes })) }
+        ensures ok { OnOk result ((self.old.fails_flush ≡ false) × (self.new ≡ record self.old { flushes = one_more self.old.flushes; is_flushed = true })) }
         ensures err { OnErr result ((self.old.fails_flush ≡ true) × (self.new ≡ record self.old { flushes = one_more self.old.flushes; failures = one_more self.old.failures })) }
     {
         self.flushes = self.flushes.saturating_add(1);
@@ -232,6 +242,7 @@ impl Push for Sink {
             self.failures = self.failures.saturating_add(1);
             return Err(io::Error::from(ErrorKind::Other));
         }
+        self.is_flushed = true;
         Ok(())
     }
 
@@ -250,6 +261,8 @@ impl Push for Stuck {
     ghost failed = { λ _. 0 };
 
     ghost Stalls = { λ _. Unit {0} };
+
+    ghost Flushed = { λ _. Unit {0} };
 
     fn write(&mut self, _bytes: &[u8]) -> io::Result<usize>
         ensures { result ≡ Ok 0 }
@@ -306,6 +319,8 @@ impl Push for Broken {
     ghost failed = { λ s. s };
 
     ghost Stalls = { λ _. ⊥ };
+
+    ghost Flushed = { λ _. ⊥ };
 
     fn write(&mut self, _bytes: &[u8]) -> io::Result<usize>
         ensures refused { IsErr result }

@@ -1,5 +1,5 @@
 -- What clauses see of an engine, and what is true of each (own).
-use Rattle.std.specs.Prelude.{◌≡◌, ℕ, true, List, map}
+use Rattle.std.specs.Prelude.{◌≡◌, ℕ, Bool, true, List, map}
 use Rattle.std.specs.Borrow.{Bor}
 use Rattle.gix_attributes.specs.Contents.{Content, emptied, initialized}
 use Rattle.gix_attributes.specs.SearchViews.{Holds, lists_in, marks_in}
@@ -12,6 +12,10 @@ texts_of names = map (λ name. name.now) names
 
 abbrev pub script_state_of : Engine → ScriptState
 script_state_of e = record { names = e.collection.names; lists = lists_in e.search; selection = texts_of e.selection.items }
+
+-- the outcome was initialised since the names, the lists or the selection changed last
+abbrev pub is_current : Engine → Bool
+is_current e = e.is_current
 
 -- what an outcome holds once it is initialised
 abbrev pub fresh : Engine → Content

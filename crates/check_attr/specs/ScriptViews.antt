@@ -1,5 +1,5 @@
 -- What clauses see of records that are lent from a script: the content, and not where it lies (own).
-use Rattle.std.specs.Prelude.{ℕ, List, map}
+use Rattle.std.specs.Prelude.{ℕ, Bool, true, false, List, map}
 use Rattle.std.specs.Borrow.{Bor}
 use Rattle.std.specs.Option.{option_copied}
 use Rattle.check_attr.specs.Script.{Addition as Added, Question as Asked, Record as Said, add, pop, names, ask, Lengths as Sizes, Manner as Way}
@@ -28,6 +28,12 @@ record_seen (Add a) = add (addition_seen a)
 record_seen Pop = pop
 record_seen (Names lines) = names (map (λ line. line.now) lines.items)
 record_seen (Ask q) = ask (question_seen q)
+
+abbrev pub is_question : Record → Bool
+is_question (Add a) = false
+is_question Pop = false
+is_question (Names lines) = false
+is_question (Ask q) = true
 
 -- what was read in front, and what stands behind it
 abbrev pub with_rest : {X Y : Type 0} → (X → Y) → X × Bor (List ℕ) → Y × List ℕ

@@ -1,12 +1,12 @@
 //! What a script changes, record by record, and what each record writes.
 
-ghost use Rattle.std.specs.Prelude.{◌≡◌, ℕ, List, ◌++◌, OnOk};
+ghost use Rattle.std.specs.Prelude.{◌≡◌, ℕ, List, ◌++◌, true, false, OnOk};
 ghost use Rattle.std.specs.List.{flat_map};
 ghost use Rattle.attr_lists.specs.KeptLists.{dropped_lines};
 ghost use Rattle.gix_attributes.specs.Contents.{initialized};
-ghost use Rattle.check_attr.specs.EngineViews.{IsSound, fresh, script_state_of, texts_of};
+ghost use Rattle.check_attr.specs.EngineViews.{IsSound, fresh, is_current, script_state_of, texts_of};
 ghost use Rattle.check_attr.specs.ScriptText.{IsAnswerText, IsRecordText, dropped_text};
-ghost use Rattle.check_attr.specs.ScriptViews.{addition_seen, question_seen, record_seen};
+ghost use Rattle.check_attr.specs.ScriptViews.{addition_seen, is_question, question_seen, record_seen};
 ghost use Rattle.check_attr.specs.ScriptStates.{added, after, begun, popped, selecting};
 
 use crate::answers::{push_selected, push_specified};
@@ -34,6 +34,7 @@ impl<'a> Engine<'a> {
     pub fn new(alloc: Global, globals: Globals) -> Engine<'a>
         ensures sound { IsSound result }
         ensures state { script_state_of result ≡ begun globals }
+        ensures current { is_current result ≡ false }
     {
         let (search, collection) = globals.into_parts();
         Engine {
@@ -55,6 +56,7 @@ impl<'a> Engine<'a> {
         requires { IsSound self.old }
         ensures sound { OnOk result (IsSound self.new) }
         ensures state { OnOk result (script_state_of self.new ≡ after (record_seen said.entry) (script_state_of self.old)) }
+        ensures current { OnOk result (is_current self.new ≡ is_question said.entry) }
         ensures text { OnOk result ((text : List ℕ) × IsRecordText (script_state_of self.old) (record_seen said.entry) text × (out.new.items ≡ out.old.items ++ text)) }
     {
         match said {
@@ -80,6 +82,7 @@ impl<'a> Engine<'a> {
         requires { IsSound self.old }
         ensures sound { OnOk result (IsSound self.new) }
         ensures state { OnOk result (script_state_of self.new ≡ added (addition_seen addition.entry) (script_state_of self.old)) }
+        ensures current { OnOk result (is_current self.new ≡ false) }
         ensures text { OnOk result (out.new.items ≡ out.old.items ++ flat_map (dropped_text (addition_seen addition.entry).source) (dropped_lines (addition_seen addition.entry).buffer)) }
     {
         self.is_current = false;
@@ -99,6 +102,7 @@ impl<'a> Engine<'a> {
         requires { IsSound self.old }
         ensures sound { IsSound self.new }
         ensures state { script_state_of self.new ≡ popped (script_state_of self.old) }
+        ensures current { is_current self.new ≡ false }
     {
         self.is_current = false;
         let _ = self.search.pop_pattern_list(&mut self.collection);
@@ -108,6 +112,7 @@ impl<'a> Engine<'a> {
         requires { IsSound self.old }
         ensures sound { IsSound self.new }
         ensures state { script_state_of self.new ≡ selecting (texts_of names.entry.items) (script_state_of self.old) }
+        ensures current { is_current self.new ≡ false }
     {
         self.selection = names;
         self.is_current = false;
@@ -122,6 +127,7 @@ impl<'a> Engine<'a> {
         requires { IsSound self.old }
         ensures sound { OnOk result (IsSound self.new) }
         ensures state { OnOk result (script_state_of self.new ≡ script_state_of self.old) }
+        ensures current { OnOk result (is_current self.new ≡ true) }
         ensures text { OnOk result ((text : List ℕ) × IsAnswerText (script_state_of self.old) (question_seen question.entry) text × (out.new.items ≡ out.old.items ++ text)) }
     {
         self.prepare(alloc)?;
@@ -150,6 +156,7 @@ impl<'a> Engine<'a> {
         requires { IsSound self.old }
         ensures sound { OnOk result (IsSound self.new) }
         ensures same { OnOk result (script_state_of self.new ≡ script_state_of self.old) }
+        ensures current { OnOk result (is_current self.new ≡ true) }
         ensures empty { OnOk result (self.new.outcome ≡ fresh self.new) }
     {
         if self.is_current {

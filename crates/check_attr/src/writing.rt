@@ -1,5 +1,5 @@
 //! Writers that count their failures, and writing a whole text.
-ghost use Rattle.std.specs.Prelude.{◌≡◌, ◌≤◌, ◌<◌, ◌⊎◌, ℕ, IsTrue, List, Option, length, IfOk, IfErr, OnOk, OnErr};
+ghost use Rattle.std.specs.Prelude.{◌≡◌, ◌≤◌, ◌<◌, ◌⊎◌, ◌↔◌, ℕ, IsTrue, List, Option, length, IfOk, IfErr, OnOk, OnErr, IsOk};
 ghost use Rattle.std.specs.Io.{WritesAtMost};
 ghost use Rattle.std.specs.Io.KnownBytes.{Appends, Keeps, WriteAppends};
 ghost use Rattle.gix_attributes.specs.Failures.{Fails};
@@ -21,8 +21,8 @@ pub trait Push {
     // Whether a write took no byte of some.
     ghost Stalls: { Self → Type 0 };
 
-    // What a flush makes true of the writer, where it succeeds.
-    ghost Flushed: { Self → Type 0 } = { λ _. Unit {0} };
+    // Whether a flush succeeded, and no write took a byte since.
+    ghost Flushed: { Self → Type 0 };
 
     /// Writes the front of `bytes`, and answers how many of them it took.
     fn write(&mut self, bytes: &[u8]) -> io::Result<usize>
@@ -30,6 +30,7 @@ pub trait Push {
         ensures bytes { WriteAppends (contents self.old) (contents self.new) result bytes.now }
         ensures stalls { IfOk result (λ n. n ≡ 0 → 0 < length bytes.now → Stalls self.new) }
         ensures stalled { Stalls self.new → Stalls self.old ⊎ IfOk result (λ n. (n ≡ 0) × (0 < length bytes.now)) }
+        ensures flushed { Flushed self.new → Flushed self.old × IfOk result (λ n. n ≡ 0) }
         ensures kept { failed self.old ≤ failed self.new }
         ensures err { OnErr result (Fails (failed self.old) (failed self.new)) };
 
@@ -37,6 +38,7 @@ pub trait Push {
     fn flush(&mut self) -> io::Result<()>
         ensures bytes { Keeps (contents self.old) (contents self.new) }
         ensures ok { OnOk result (Flushed self.new) }
+        ensures flushed { Flushed self.new → Flushed self.old ⊎ IsOk result }
         ensures stalled { Stalls self.new → Stalls self.old }
         ensures kept { failed self.old ≤ failed self.new }
         ensures err { OnErr result (Fails (failed self.old) (failed self.new)) };
@@ -46,12 +48,13 @@ pub trait Push {
         ensures { result ≡ failed self.now };
 }
 
-/// Any writer of std, with its errors counted, and a mark where a write took no byte of some.
+/// Any writer of std, with its errors counted, and marks of what its calls left.
 #[derive(Drop)]
 pub struct Writer<W> {
     inner: W,
     failures: u64,
     has_stalled: bool,
+    is_flushed: bool,
 }
 
 impl<W: Write> Writer<W> {
@@ -60,12 +63,28 @@ impl<W: Write> Writer<W> {
         ensures contents { ⟦<Writer<W> as Push>⟧.contents result ≡ W.contents inner }
         ensures failed { ⟦<Writer<W> as Push>⟧.failed result ≡ 0 }
         ensures moved { ⟦<Writer<W> as Push>⟧.Stalls result → ⊥ }
+        ensures unflushed { ⟦<Writer<W> as Push>⟧.Flushed result → ⊥ }
     {
         Writer {
             inner,
             failures: 0,
             has_stalled: false,
+            is_flushed: false,
         }
+    }
+
+    /// Whether a write took no byte of some.
+    pub fn has_stalled(&self) -> bool
+        ensures { IsTrue result ↔ ⟦<Writer<W> as Push>⟧.Stalls self.now }
+    {
+        self.has_stalled
+    }
+
+    /// Whether a flush succeeded, and nothing was written since.
+    pub fn is_flushed(&self) -> bool
+        ensures { IsTrue result ↔ ⟦<Writer<W> as Push>⟧.Flushed self.now }
+    {
+        self.is_flushed
     }
 }
 
@@ -76,7 +95,10 @@ impl<W: Write> Push for Writer<W> {
 
     ghost Stalls = { λ s. IsTrue s.has_stalled };
 
+    ghost Flushed = { λ s. IsTrue s.is_flushed };
+
     fn write(&mut self, bytes: &[u8]) -> io::Result<usize> {
+        self.is_flushed = false;
         let written = counted(&mut self.failures, self.inner.write(bytes));
         if matches!(&written, Ok(0)) && !bytes.is_empty() {
             self.has_stalled = true;
@@ -85,7 +107,9 @@ impl<W: Write> Push for Writer<W> {
     }
 
     fn flush(&mut self) -> io::Result<()> {
-        counted(&mut self.failures, self.inner.flush())
+        let flushed = counted(&mut self.failures, self.inner.flush());
+        self.is_flushed = flushed.is_ok();
+        flushed
     }
 
     fn failures(&self) -> u64 {

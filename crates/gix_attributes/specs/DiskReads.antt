@@ -3,9 +3,14 @@ use Rattle.std.specs.Prelude.{◌≡◌, ℕ}
 use Rattle.gix_attributes.specs.Answers.{Answer, found, missing, device_failed, memory_refused}
 use Rattle.gix_attributes.specs.Failures.{one_more}
 
--- nothing is known of the contents; a read counts one failure where it answers that the device failed, and else none
-abbrev pub DiskReads : ℕ → Answer → ℕ → Type 0
-DiskReads old (found bytes) new = new ≡ old
+-- what a disk counts: the files that were read to their ends, and the reads that the device failed
+pub record DiskCounts : Type 0 where
+  pub files_read : ℕ
+  pub failures : ℕ
+
+-- nothing is known of the contents; each file that is found is counted, and each failure of the device
+abbrev pub DiskReads : DiskCounts → Answer → DiskCounts → Type 0
+DiskReads old (found bytes) new = new ≡ record old { files_read = one_more old.files_read }
 DiskReads old missing new = new ≡ old
-DiskReads old device_failed new = new ≡ one_more old
+DiskReads old device_failed new = new ≡ record old { failures = one_more old.failures }
 DiskReads old memory_refused new = new ≡ old

@@ -11,6 +11,7 @@ use std::alloc::AllocError;
 use std::fs::File;
 use std::io;
 use std::io::{ErrorKind, Read};
+use std::marker::Model;
 use std::rt::Files as HostFiles;
 use thiserror::Error;
 
@@ -58,15 +59,35 @@ pub trait Files {
 #[derive(Drop)]
 pub struct Disk<'a, R: HostFiles> {
     rt: &'a R,
+    files_read: u64,
     failures: u64,
 }
 
+impl<'a, R: HostFiles> Model for Disk<'a, R> {
+    ghost use Rattle.gix_attributes.specs.DiskReads.{DiskCounts};
+
+    ghost Value = { DiskCounts };
+
+    ghost view = { λ s. record { files_read = s.files_read; failures = s.failures } };
+}
+
 impl<'a, R: HostFiles> Disk<'a, R> {
-    /// The disk that the runtime reaches, with no failure counted yet.
+    /// The disk that the runtime reaches, with nothing counted yet.
     pub fn new(rt: &'a R) -> Disk<'a, R>
-        ensures { ⟦<Disk<'a, R> as Files>⟧.failed result ≡ 0 }
+        ensures { result ≡ record { files_read = 0; failures = 0 } }
     {
-        Disk { rt, failures: 0 }
+        Disk {
+            rt,
+            files_read: 0,
+            failures: 0,
+        }
+    }
+
+    /// How many files were read to their ends so far; the count stays at `u64::MAX`.
+    pub fn files_read(&self) -> u64
+        ensures { result ≡ self.now.files_read }
+    {
+        self.files_read
     }
 }
 
@@ -80,13 +101,16 @@ fn read_file<R: HostFiles>(rt: &R, path: &str, buf: &mut Vec<u8>) -> io::Result<
 impl<'a, R: HostFiles> Files for Disk<'a, R> {
     ghost use Rattle.gix_attributes.specs.DiskReads.{DiskReads};
 
-    ghost reads = { λ old path answer new. DiskReads old.failures answer new.failures };
+    ghost reads = { λ old path answer new. DiskReads old answer new };
 
-    ghost failed = { λ disk. disk.failures };
+    ghost failed = { λ counts. counts.failures };
 
     fn read_into(&mut self, path: &str, buf: &mut Vec<u8>) -> Result<bool, ReadError> {
         match read_file(self.rt, path, buf) {
-            Ok(()) => Ok(true),
+            Ok(()) => {
+                self.files_read = self.files_read.saturating_add(1);
+                Ok(true)
+            }
             Err(error) => match error.kind() {
                 ErrorKind::NotFound | ErrorKind::NotADirectory | ErrorKind::IsADirectory => {
                     buf.clear();

@@ -29,6 +29,7 @@ fn lines_print_what_they_say(rt: HostRuntime) -> Result<(), Fail> {
         lines(rt.alloc(), &mut Source::new(input), &mut sink)?;
         assert_eq!(rt; sink.bytes(), text);
         assert_eq!(rt; (sink.flushes(), sink.failures()), (1, 0));
+        assert!(rt; sink.is_flushed());
         let mut slow = Sink::one_by_one(rt.alloc());
         lines(rt.alloc(), &mut Source::one_by_one(input), &mut slow)?;
         assert_eq!(rt; slow.bytes(), text);

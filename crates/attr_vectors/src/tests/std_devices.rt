@@ -47,6 +47,40 @@ fn prints_between_readers_and_writers_of_std(rt: HostRuntime) -> Result<(), Fail
     Ok(())
 }
 
+#[derive(Drop)]
+struct Full;
+
+impl Write for Full {
+    fn write(&mut self, _bytes: &[u8]) -> io::Result<usize> {
+        Ok(0)
+    }
+
+    fn flush(&mut self) -> io::Result<()> {
+        Ok(())
+    }
+}
+
+#[test]
+fn marks_what_calls_left(rt: HostRuntime) -> Result<(), Fail> {
+    let mut writer = Writer::new(Vec::new(rt.alloc()));
+    assert!(rt; !writer.is_flushed());
+    for text in [b"a".as_slice(), b"bc".as_slice()] {
+        assert_eq!(rt; Push::write(&mut writer, text)?, text.len());
+        assert!(rt; !writer.is_flushed());
+        Push::flush(&mut writer)?;
+        assert!(rt; writer.is_flushed() && !writer.has_stalled());
+    }
+    let mut full = Writer::new(Full);
+    assert_eq!(rt; Push::write(&mut full, b"")?, 0);
+    assert!(rt; !full.has_stalled());
+    assert_eq!(rt; Push::write(&mut full, b"a")?, 0);
+    assert!(rt; full.has_stalled() && !full.is_flushed());
+    let mut interrupted = Writer::new(Interrupted);
+    assert!(rt; Push::flush(&mut interrupted).is_err());
+    assert!(rt; !interrupted.is_flushed());
+    Ok(())
+}
+
 #[test]
 fn says_what_failed(rt: HostRuntime) -> Result<(), Fail> {
     for (fault, text) in [

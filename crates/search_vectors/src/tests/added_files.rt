@@ -18,10 +18,15 @@ pub(super) fn two_files(alloc: Global) -> Result<Memory, AllocError> {
 
 fn owned(alloc: Global, names: &[&str]) -> Result<Vec<String>, AllocError> {
     let mut out = Vec::new(alloc);
+    push_owned(alloc, names, &mut out)?;
+    Ok(out)
+}
+
+fn push_owned(alloc: Global, names: &[&str], out: &mut Vec<String>) -> Result<(), AllocError> {
     for name in names {
         out.push(String::from_str(alloc, name)?)?;
     }
-    Ok(out)
+    Ok(())
 }
 
 // The names by number.

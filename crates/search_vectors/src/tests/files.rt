@@ -33,7 +33,7 @@ fn reads_real_files(rt: HostRuntime) -> Result<(), Fail> {
         assert!(rt; !disk.read_into(path, &mut buf)?, "{path}");
         assert!(rt; buf.is_empty(), "{path}");
     }
-    assert_eq!(rt; disk.failures(), 0);
+    assert_eq!(rt; (disk.files_read(), disk.failures()), (2, 0));
     Ok(fs::remove_dir_all(&rt, folder.as_path())?)
 }
 
@@ -47,7 +47,7 @@ fn counts_what_the_disk_fails(rt: HostRuntime) -> Result<(), Fail> {
     let mut buf = Vec::new(rt.alloc());
     assert!(rt; is_device(&disk.read_into(long.as_str(), &mut buf)));
     assert!(rt; is_device(&disk.read_into("no\0name", &mut buf)));
-    assert_eq!(rt; disk.failures(), 2);
+    assert_eq!(rt; (disk.files_read(), disk.failures()), (0, 2));
     Ok(())
 }
 

@@ -20,10 +20,18 @@ fn lies_at(
     let found = source.storage_location(alloc, &prefixes, |name: &str| {
         let _ = asked.push_str(name);
         let _ = asked.push(' ');
-        let (_, value) = variables.iter().find(|(known, _)| *known == name)?;
-        String::from_str(alloc, value).ok()
+        value_of(alloc, variables, name)
     })?;
     Ok(found.as_deref() == path && asked.as_str() == names)
+}
+
+fn value_of(alloc: Global, variables: &[(&str, &str)], name: &str) -> Option<String> {
+    for (known, value) in variables {
+        if *known == name {
+            return String::from_str(alloc, value).ok();
+        }
+    }
+    None
 }
 
 fn owned(alloc: Global, text: Option<&str>) -> Result<Option<String>, AllocError> {

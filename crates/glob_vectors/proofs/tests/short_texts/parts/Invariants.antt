@@ -1,5 +1,5 @@
 use Rattle.std.proofs.Common.{◌≤◌, length, ◌-◌}
-use Rattle.part_vectors.proofs.tests.short_texts.parts.Given as goal
+use Rattle.glob_vectors.proofs.tests.short_texts.parts.Given as goal
 
 abbrev pub invariant-loop-place : goal.invariant-loop-place
 invariant-loop-place l = l.place ≤ length l.text

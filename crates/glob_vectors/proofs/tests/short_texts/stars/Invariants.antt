@@ -1,5 +1,5 @@
 use Rattle.std.proofs.Common.{◌≤◌, length, ◌-◌}
-use Rattle.part_vectors.proofs.tests.short_texts.stars.Given as goal
+use Rattle.glob_vectors.proofs.tests.short_texts.stars.Given as goal
 
 abbrev pub invariant-loop-count : goal.invariant-loop-count
 invariant-loop-count l = l.count ≤ length l.text
