@@ -1,7 +1,7 @@
 #!/bin/sh
-# Runs the scripts of this folder and the program of ask.rt.in, and wants the answers that stand beside them.
-# The program check_attr has to be built before, as the gate does, and `rt run` in crates/check_attr_cli; that of ask.rt.in
-# is run unproved.
+# Runs the scripts of this folder and the program of ask.rt.in, and compares their output with the answers beside them.
+# The program check_attr has to be built before, by the gate or by `rt run` in crates/check_attr_cli; that of ask.rt.in
+# is run without a proof.
 set -eu
 here=$(cd "$(dirname "$0")" && pwd)
 room=$(mktemp -d)
@@ -16,5 +16,5 @@ echo 'ask: gix_attributes bstr' >>"$room/crates.txt"
 mkdir -p "$room/crates/ask/src"
 cp "$here/ask.rt.in" "$room/crates/ask/src/main.rt"
 cd "$room/crates/ask"
-rt try --seconds 60 2>"$room/said" | diff "$here/ask.answers" - || { cat "$room/said"; exit 1; }
+rt try --seconds 60 2>"$room/errors" | diff "$here/ask.answers" - || { cat "$room/errors"; exit 1; }
 echo "run: ask.rt.in gives ask.answers"

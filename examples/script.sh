@@ -1,14 +1,14 @@
 #!/bin/sh
-# Prints the script that asks for each path on standard input, a line each, among the attributes files of the repository
-# in the current folder.
-# usage: script.sh FORM [NAME..], where FORM is l, z or o, and the names are those that are asked for, all without any
+# Prints a script that looks up each path on standard input, a line each, in the attributes files of the repository in the
+# current folder.
+# usage: script.sh FORM [NAME..]: FORM is l, z or o, and NAME.. are the attributes to look up, all of them without a name
 set -eu
 LC_ALL=C
 export LC_ALL
 form=$1
 shift
 
-# A file of the repository, and its text. Only the one at the top may define macros.
+# The record that adds a file of the repository. Only the file at the top may define macros.
 add() {
     allowed=-
     if [ "$1" = .gitattributes ]; then allowed=m; fi

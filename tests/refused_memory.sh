@@ -1,12 +1,19 @@
 #!/bin/sh
 # Refuses the first request for memory of a run, then the second, and so on, until a run makes no more. Each time the
 # program must end with status 1 and the words for it, having written nothing, or with --lines a beginning of its lines;
-# or it can do without, and answers the same. Each test tests::memory::without_memory_* must pass. The gate has to have
-# built them.
+# or it can do without, and answers the same. Each test tests::memory::without_memory_* must pass. The program and the
+# tests have to be built before, as the gate does.
 set -eu
 here=$(cd "$(dirname "$0")" && pwd)
-crates=$here/../crates
+crates=$(cd "$here/../crates" && pwd)
 program=$crates/check_attr_cli/out/check_attr_cli
+test_crates='glob_tests list_tests search_tests attr_vectors'
+for built in "$program" $(for it in $test_crates; do echo "$crates/$it/out/${it}_tests"; done); do
+    if [ ! -x "$built" ]; then
+        echo "refused_memory: there is no program $built: build it by \`rt ci\` (or \`rt run\` and \`rt test\` in its crate)" >&2
+        exit 1
+    fi
+done
 room=$(mktemp -d)
 trap 'rm -rf "$room"' EXIT
 cc -O2 -shared -fPIC -o "$room/refused_request.so" "$here/refused_request.c"
@@ -22,7 +29,7 @@ refused() {
 }
 
 failed() {
-    echo "refused_memory.sh: $name: $1, where request $request is refused"
+    echo "refused_memory: $name: $1, with request $request refused"
     cat "$room/said" "$room/errors"
     exit 1
 }
@@ -39,7 +46,7 @@ each_of() {
         "$check"
     done
     [ "$request" -gt 1 ] || failed "no request was made"
-    echo "refused_memory.sh: $name, $((request - 1)) requests refused in turn"
+    echo "refused_memory: $name, $((request - 1)) requests refused in turn"
 }
 
 says_so() {
@@ -83,8 +90,15 @@ cp "$here/../examples/all.script" "$room/input"
 "$program" "$room/global" "$room/missing" <"$room/input" >"$room/answers" 2>"$room/errors"
 each_of "global files" answers_whole "$program" "$room/global" "$room/missing"
 : >"$room/input"
-for tests in "$crates"/*_vectors/out/*_vectors_tests; do
-    for test in $("$tests" --list | sed -n "s/^\(tests::memory::without_memory_.*\): test/\1/p"); do
+for crate in $test_crates; do
+    tests=$crates/$crate/out/${crate}_tests
+    "$tests" --list >"$room/list"
+    sed -n 's/^\(tests::memory::without_memory_.*\): test.*/\1/p' "$room/list" >"$room/tests"
+    if [ ! -s "$room/tests" ]; then
+        echo "refused_memory: $tests has no test tests::memory::without_memory_*" >&2
+        exit 1
+    fi
+    for test in $(cat "$room/tests"); do
         each_of "$test" passes "$tests" "$test"
     done
 done

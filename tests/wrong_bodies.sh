@@ -1,14 +1,63 @@
 #!/bin/sh
-# Tries the wrong bodies in crates/*/wrong-bodies: the prover must refuse each. They are must-fail edits like those in
-# must-fail, which the gate tries, and more than a gate of an hour has time for. Names of crates may follow; without
-# any, those of all crates are tried, which takes some two hours.
+# Tries wrong bodies: the prover must refuse each. They stand in crates/*/wrong-bodies, are edits like those in
+# crates/*/must-fail, which the gate tries, and more than a gate of an hour has time for.
+# usage: wrong_bodies.sh [CRATE [NAME..]]
+# Without arguments those of all crates are tried, which takes some two hours. With a crate its own are tried, and with
+# names only these, in minutes; a name may stand in the crate's must-fail too. What `rt check` kept of the libraries below
+# is used if it is still good.
 set -eu
 top=$(cd "$(dirname "$0")/.." && pwd)
 room=$(mktemp -d)
 trap 'rm -rf "$room"' EXIT
+
+wrong() {
+    echo "wrong_bodies: $1" >&2
+    exit 1
+}
+
 "$top/tests/copy_crates.sh" "$room"
-for edits in "$top"/crates/*/wrong-bodies; do
-    cp -r "$edits" "$room/crates/$(basename "$(dirname "$edits")")/must-fail"
+for crate in "$top"/crates/*/; do
+    if [ -d "$crate/out/rlib" ]; then
+        mkdir "$room/crates/$(basename "$crate")/out"
+        cp -r "$crate/out/rlib" "$room/crates/$(basename "$crate")/out"
+    fi
 done
+if [ $# = 0 ]; then
+    for edits in "$top"/crates/*/wrong-bodies; do
+        cp -r "$edits" "$room/crates/$(basename "$(dirname "$edits")")/must-fail"
+    done
+else
+    crate=$1
+    shift
+    from=$top/crates/$crate
+    to=$room/crates/$crate/must-fail
+    [ -d "$from" ] || wrong "there is no crate $crate"
+    mkdir "$to"
+    for name in "$@"; do
+        name=${name%.edit}
+        cp "$from/wrong-bodies/$name.edit" "$to" 2>"$room/errors" || cp "$from/must-fail/$name.edit" "$to" 2>"$room/errors" ||
+            wrong "$crate has no edit $name in wrong-bodies or must-fail"
+    done
+    if [ $# = 0 ]; then
+        cp "$from"/wrong-bodies/*.edit "$to" 2>"$room/errors" || wrong "$crate has no edits in wrong-bodies"
+    fi
+    set -- "$crate"
+fi
 cd "$room"
-rt must-fail "$@"
+{ rt must-fail "$@" || echo $? >"$room/status"; } | tee "$room/said"
+
+# The edits of which a line says this.
+told() {
+    count=$(grep -c "^rt: must-fail [^:]*: $2" "$room/said" || true)
+    echo "wrong_bodies: $1: $count"
+    if [ "$3" = names ]; then sed -n "s/^rt: must-fail \([^:]*\)\.edit: $2.*/    \1/p" "$room/said"; fi
+}
+
+echo
+told 'refused at a value or a goal' 'refused, as it must be\( *$\|:\)' count
+told 'refused only for a lost name, which says little of the contract' 'refused, as it must be (only' names
+told 'not tried, for a syntax error or a text that is not there' 'BAD EDIT' names
+told 'PROVED, so a contract is too weak' 'NOT REFUSED' names
+wanted=$(ls "$room"/crates/*/must-fail/*.edit | wc -l)
+if [ "$(grep -c '^rt: must-fail [^:]*: ' "$room/said")" != "$wanted" ]; then wrong "not all $wanted edits were tried"; fi
+[ ! -e "$room/status" ] || exit "$(cat "$room/status")"

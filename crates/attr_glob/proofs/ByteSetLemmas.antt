@@ -1,5 +1,6 @@
 -- A byte that is put into a set, and the bytes that the members of a bracket put in.
-use Rattle.std.proofs.Common.{◌≡◌, ℕ, ◌+◌, ◌*◌, ◌/◌, ◌%◌, ◌^◌, ◌<◌, Bool, true, false, ◌||◌, ◌==◌, nat_lt, ◌&&◌, ◌≢◌, [], ◌∷◌, ◌++◌, take, bit_or, List, length, get_or, set, refl, sym, ◌∙◌, ap, inl, inr, arith, get_or-set_same, get_or-set_other, eq-eqb, ne_eqb, w64}
+use Rattle.std.proofs.Common.{◌≡◌, ℕ, ◌+◌, ◌*◌, ◌/◌, ◌%◌, ◌^◌, ◌<◌, Bool, true, false, ◌||◌, ◌==◌, nat_lt, ◌&&◌, ◌≢◌, [], ◌∷◌, ◌++◌, take, bit_or}
+use Rattle.std.proofs.Common.{List, length, get_or, set, refl, sym, ◌∙◌, ap, inl, inr, arith, get_or-set_same, get_or-set_other, eq-eqb, ne_eqb, w64}
 use Rattle.std.proofs.lemmas.Bool.{cases_eq}
 use Rattle.std.proofs.lemmas.Bool.Decides.{nat_tests}
 use Rattle.std.proofs.lemmas.List.{take_more}
@@ -8,7 +9,7 @@ use Rattle.std.proofs.lemmas.Nat.Bits.{bit_at_set_same, bit_at_set_other}
 use Rattle.std.specs.Int.{bit_at}
 use Rattle.attr_glob.specs.declared.bracket.Member.{Member}
 use Rattle.attr_glob.specs.Brackets.{member_holds, members_hold}
-use Rattle.attr_glob.specs.ByteSets.{is_marked}
+use Rattle.attr_glob.specs.inner.ByteSets.{is_marked}
 use Rattle.attr_glob.proofs.Basics.{unequal}
 
 or_true : (a b : Bool) → b ≡ true → true ≡ (a || b)

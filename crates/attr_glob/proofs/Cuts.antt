@@ -1,5 +1,6 @@
 -- How each text is cut into spellings and what stops them.
-use Rattle.std.proofs.Common.{◌≡◌, ℕ, zero, suc, ◌-◌, ◌≤◌, ◌⊎◌, inl, inr, List, [], ◌∷◌, ◌++◌, length, slice_index, Option, Some, None, refl, sym, ap, ◌∙◌, append_assoc, arith}
+use Rattle.std.proofs.Common.{◌≡◌, ℕ, zero, suc, ◌-◌, ◌≤◌, ◌⊎◌, inl, inr, List, [], ◌∷◌, ◌++◌, length, slice_index, Option, Some, None, refl, sym, ap}
+use Rattle.std.proofs.Common.{◌∙◌, append_assoc, arith}
 use Rattle.std.proofs.lemmas.Bool.{cases_eq}
 use Rattle.std.proofs.lemmas.Bool.Decides.{nat_tests}
 use Rattle.std.proofs.lemmas.List.{length-append}
@@ -32,7 +33,7 @@ digits_byte-two high middle byte e = grind (arith, nat_tests)
 digits_byte-one : (high byte : ℕ) → digits_byte (high ∷ []) ≡ Some byte → ⊥
 digits_byte-one high byte e = grind (arith, nat_tests)
 
--- the bytes behind a backslash begin with the rest of a spelling
+-- the bytes after a backslash begin with the rest of a spelling
 pub record EscapeCut (bytes : List ℕ) (byte : ℕ) : Type 0 where
   pub tail : List ℕ
   pub others : List ℕ
@@ -44,7 +45,8 @@ by_three high middle low byte more d =
     let h : digit (high - 48) ≡ high = omega (arith, d.high_least) in
     let m : digit (middle - 48) ≡ middle = omega (arith, d.middle_least) in
     let l : digit (low - 48) ≡ low = omega (arith, d.low_least) in
-    let s : Spells (backslash ∷ digit (high - 48) ∷ digit (middle - 48) ∷ digit (low - 48) ∷ []) (octal_byte (high - 48) (middle - 48) (low - 48)) = by_digits (omega (arith, d.high_most)) (omega (arith, d.middle_most)) (omega (arith, d.low_most)) in
+    let s : Spells (backslash ∷ digit (high - 48) ∷ digit (middle - 48) ∷ digit (low - 48) ∷ []) (octal_byte (high - 48) (middle - 48) (low - 48)) =
+    by_digits (omega (arith, d.high_most)) (omega (arith, d.middle_most)) (omega (arith, d.low_most)) in
     record { tail = high ∷ middle ∷ low ∷ []; others = more; whole = refl; spells = rw (h, m, l, d.value) at s }
 
 cut_digits : (bytes : List ℕ) (byte : ℕ) → digits_byte bytes ≡ Some byte → EscapeCut bytes byte
@@ -61,7 +63,8 @@ first_of : Option (ℕ × ℕ) → ℕ
 first_of None = 0
 first_of (Some pair) = pair.0
 
-cut_by : (bytes : List ℕ) (escape : ℕ × ℕ) (letter digits : Option ℕ) → letter_byte (slice_index bytes 0) ≡ letter → digits_byte bytes ≡ digits → escaped bytes ≡ Some escape → EscapeCut bytes escape.0
+cut_by : (bytes : List ℕ) (escape : ℕ × ℕ) (letter digits : Option ℕ) → letter_byte (slice_index bytes 0) ≡ letter → digits_byte bytes ≡ digits →
+    escaped bytes ≡ Some escape → EscapeCut bytes escape.0
 unfolding first_of
 cut_by bytes escape (Some byte) digits e _ read =
     let same : byte ≡ escape.0 = ap first_of (rw (e, escaped) at read) in
@@ -104,7 +107,8 @@ cut_further bytes first others byte whole spells cut = record {
 cut_here : (bytes : List ℕ) → Stops bytes → Cut bytes
 cut_here bytes stops = record { spelling = []; plain = []; rest = bytes; whole = refl; spells = refl; stops = stops }
 
-cut_backslash : (bytes : List ℕ) (escape : Option (ℕ × ℕ)) → escaped bytes ≡ escape → ((rest : List ℕ) → length rest ≤ length bytes → Cut rest) → Cut (backslash ∷ bytes)
+cut_backslash : (bytes : List ℕ) (escape : Option (ℕ × ℕ)) → escaped bytes ≡ escape → ((rest : List ℕ) → length rest ≤ length bytes → Cut rest) → Cut
+    (backslash ∷ bytes)
 cut_backslash bytes None e go_on = cut_here (backslash ∷ bytes) (at_bad bytes e)
 cut_backslash bytes (Some escape) e go_on =
     let c = cut_escape bytes escape e in
@@ -112,7 +116,8 @@ cut_backslash bytes (Some escape) e go_on =
     omega (arith, ap length c.whole, length-append c.tail c.others) in
     cut_further (backslash ∷ bytes) (backslash ∷ c.tail) c.others escape.0 (ap (λ l. backslash ∷ l) c.whole) c.spells (go_on c.others shorter)
 
-cut_first : (b : ℕ) (bytes : List ℕ) → (b ≡ quote) ⊎ (b ≡ quote → ⊥) → (b ≡ backslash) ⊎ (b ≡ backslash → ⊥) → ((rest : List ℕ) → length rest ≤ length bytes → Cut rest) → Cut (b ∷ bytes)
+cut_first : (b : ℕ) (bytes : List ℕ) → (b ≡ quote) ⊎ (b ≡ quote → ⊥) → (b ≡ backslash) ⊎ (b ≡ backslash → ⊥) →
+    ((rest : List ℕ) → length rest ≤ length bytes → Cut rest) → Cut (b ∷ bytes)
 cut_first b bytes (inl e) _ go_on = rw e (cut_here (quote ∷ bytes) (at_quote bytes))
 cut_first b bytes (inr no_quote) (inl e) go_on = rw e (cut_backslash bytes (escaped bytes) refl go_on)
 cut_first b bytes (inr no_quote) (inr no_backslash) go_on =

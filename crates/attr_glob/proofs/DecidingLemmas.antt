@@ -7,7 +7,8 @@ use Rattle.attr_glob.specs.Matching.{Takes, Match, TextMatches}
 use Rattle.attr_glob.specs.Deciding.{takes_byte, byte_then, slash_then, token_then, is_nil, matches, some_match, text_matches}
 use Rattle.attr_glob.proofs.Basics.{each_of_all, all_of_each, or_part, or_left, or_right}
 use Rattle.attr_glob.proofs.SpellTokens.{spelled, read_back}
-use Rattle.attr_glob.proofs.Splits.{NoSlash, Split, byte_split, byte_joined, star_split, star_joined, rest_split, rest_joined, slash_split, slash_joined, single_takes, single_taken}
+use Rattle.attr_glob.proofs.Splits.{NoSlash, Split, byte_split, byte_joined, star_split, star_joined, rest_split, rest_joined, slash_split}
+use Rattle.attr_glob.proofs.Splits.{slash_joined, single_takes, single_taken}
 
 single_split : (case : Case) (t : Token) (f : List ℕ → Bool) (v : List ℕ) → byte_then (takes_byte case t) f v ≡ true → Split (Takes case t) f v
 single_split case t f v h =
@@ -63,7 +64,8 @@ test_of_match case (t ∷ ts) v h =
     subst (λ x. token_then case t (matches case ts) x ≡ true) (sym h.2)
     (token_joined case t (matches case ts) h.0 h.1 h.3 (test_of_match case ts h.1 h.4))
 
-some_split : (case : Case) (text value : List ℕ) (o : Option (List Token)) → some_match case o value ≡ true → (ts : List Token) × (o ≡ Some ts) × Match case ts value
+some_split : (case : Case) (text value : List ℕ) (o : Option (List Token)) → some_match case o value ≡ true → (ts : List Token) × (o ≡ Some ts) ×
+    Match case ts value
 some_split case text value None h = cc
 some_split case text value (Some ts) h = (ts, refl, match_of_test case ts value h)
 

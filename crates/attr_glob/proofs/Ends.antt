@@ -1,11 +1,11 @@
 -- Tokens that take one byte each, taken off at either end with their bytes, and the tokens that then take any rest.
 use Rattle.std.proofs.Common.{◌≡◌, ℕ, Bool, true, false, ◌&&◌, List, [], ◌∷◌, ◌++◌, length, refl, sym, ap, subst, ◌∙◌, arith}
 use Rattle.attr_glob.specs.declared.pattern.Case.{Case}
-use Rattle.attr_glob.specs.Tokens.{Token, lit, one, set, star, dirs, rest, ends_in_slash}
+use Rattle.attr_glob.specs.Tokens.{Token, lit, one, set, star, dirs, rest, token_ends_in_slash}
 use Rattle.attr_glob.specs.TokenList.{is_bordered}
 use Rattle.attr_glob.specs.Matching.{Match}
 use Rattle.attr_glob.specs.Deciding.{takes_byte, matches}
-use Rattle.attr_glob.specs.Rows.{may_be_nothing}
+use Rattle.attr_glob.specs.inner.RowPlaces.{may_be_nothing}
 use Rattle.attr_glob.proofs.Basics.{and_parts, and_both, by_test}
 use Rattle.attr_glob.proofs.DecidingLemmas.{match_of_test, test_of_match}
 use Rattle.attr_glob.proofs.Reached.{match-last, match-unlast}
@@ -53,8 +53,8 @@ snoc_parts [] (b ∷ ys) x y h = let e : [] ≡ ys ++ y ∷ [] = cc in absurd (n
 snoc_parts (a ∷ xs) [] x y h = let e : [] ≡ xs ++ x ∷ [] = cc in absurd (not_snoc xs x e)
 snoc_parts (a ∷ xs) (b ∷ ys) x y h =
     let here : a ≡ b = cc in
-    let behind : xs ++ x ∷ [] ≡ ys ++ y ∷ [] = cc in
-    let p = snoc_parts xs ys x y behind in
+    let tail : xs ++ x ∷ [] ≡ ys ++ y ∷ [] = cc in
+    let p = snoc_parts xs ys x y tail in
     let front : a ∷ xs ≡ b ∷ ys = ap (λ z. z ∷ xs) here ∙ ap (λ zs. b ∷ zs) p.0 in
     (front, p.1)
 
@@ -97,31 +97,32 @@ bordered_start border (rest ∷ ts) h = h
 
 -- without its first token a list is bordered as well
 pub bordered-tail : (t : Token) (ts : List Token) → is_bordered true (t ∷ ts) ≡ true → is_bordered true ts ≡ true
-bordered-tail (lit c) ts h = bordered_start (ends_in_slash (lit c)) ts h
-bordered-tail one ts h = bordered_start (ends_in_slash one) ts h
-bordered-tail (set negated ms) ts h = bordered_start (ends_in_slash (set negated ms)) ts h
-bordered-tail star ts h = bordered_start (ends_in_slash star) ts h
+bordered-tail (lit c) ts h = bordered_start (token_ends_in_slash (lit c)) ts h
+bordered-tail one ts h = bordered_start (token_ends_in_slash one) ts h
+bordered-tail (set negated ms) ts h = bordered_start (token_ends_in_slash (set negated ms)) ts h
+bordered-tail star ts h = bordered_start (token_ends_in_slash star) ts h
 bordered-tail dirs ts h = h
-bordered-tail rest ts h = bordered_start (ends_in_slash rest) ts h
+bordered-tail rest ts h = bordered_start (token_ends_in_slash rest) ts h
 
 -- without its last token a list is bordered as well
 pub bordered-init : (border : Bool) (ts : List Token) (t : Token) → is_bordered border (ts ++ t ∷ []) ≡ true → is_bordered border ts ≡ true
 bordered-init border [] t h = refl
-bordered-init border (lit c ∷ ts) t h = bordered-init (ends_in_slash (lit c)) ts t h
-bordered-init border (one ∷ ts) t h = bordered-init (ends_in_slash one) ts t h
-bordered-init border (set negated ms ∷ ts) t h = bordered-init (ends_in_slash (set negated ms)) ts t h
-bordered-init border (star ∷ ts) t h = bordered-init (ends_in_slash star) ts t h
+bordered-init border (lit c ∷ ts) t h = bordered-init (token_ends_in_slash (lit c)) ts t h
+bordered-init border (one ∷ ts) t h = bordered-init (token_ends_in_slash one) ts t h
+bordered-init border (set negated ms ∷ ts) t h = bordered-init (token_ends_in_slash (set negated ms)) ts t h
+bordered-init border (star ∷ ts) t h = bordered-init (token_ends_in_slash star) ts t h
 bordered-init border (dirs ∷ ts) t h =
     let w = and_parts border (is_bordered true (ts ++ t ∷ [])) h in
     and_both border (is_bordered true ts) w.0 (bordered-init true ts t w.1)
-bordered-init border (rest ∷ ts) t h = bordered-init (ends_in_slash rest) ts t h
+bordered-init border (rest ∷ ts) t h = bordered-init (token_ends_in_slash rest) ts t h
 
 -- one step at the front: the token takes the byte
-pub front_step : (case : Case) (ts left behind : List Token) (v bytes others : List ℕ) (t : Token) (b : ℕ) → may_be_nothing t ≡ false →
-    left ≡ t ∷ behind → bytes ≡ b ∷ others → takes_byte case t b ≡ true → matches case ts v ≡ matches case left bytes →
-    matches case ts v ≡ matches case behind others
-front_step case ts left behind v bytes others t b single l r h before =
-    before ∙ (ap (λ x. matches case x bytes) l ∙ (ap (matches case (t ∷ behind)) r ∙ (matches-cons case t behind b others single ∙ ap (λ x. x && matches case behind others) h)))
+pub front_step : (case : Case) (ts left tail : List Token) (v bytes others : List ℕ) (t : Token) (b : ℕ) → may_be_nothing t ≡ false →
+    left ≡ t ∷ tail → bytes ≡ b ∷ others → takes_byte case t b ≡ true → matches case ts v ≡ matches case left bytes →
+    matches case ts v ≡ matches case tail others
+front_step case ts left tail v bytes others t b single l r h before =
+    before ∙ (ap (λ x. matches case x bytes) l ∙ (ap (matches case (t ∷ tail)) r ∙
+    (matches-cons case t tail b others single ∙ ap (λ x. x && matches case tail others) h)))
 
 -- one step at the end: the test of the token decides, and what is before it
 pub end_step : (case : Case) (ts left before : List Token) (v bytes others : List ℕ) (t : Token) (b : ℕ) → may_be_nothing t ≡ false →
@@ -140,7 +141,8 @@ pub no_match : (case : Case) (ts : List Token) (v : List ℕ) → matches case t
 no_match case ts v f m = let e : true ≡ false = sym (test_of_match case ts v m) ∙ f in cc
 
 -- an answer by the relation is the one by the test
-pub exact_answer : (case : Case) (ts : List Token) (v : List ℕ) (answer : Bool) → (answer ≡ true → Match case ts v) → (Match case ts v → answer ≡ true) →
+pub exact_answer : (case : Case) (ts : List Token) (v : List ℕ) (answer : Bool) → (answer ≡ true → Match case ts v) →
+    (Match case ts v → answer ≡ true) →
     answer ≡ matches case ts v
 exact_answer case ts v answer so back =
     same_answer answer (matches case ts v) (λ t. test_of_match case ts v (so t)) (λ t. back (match_of_test case ts v t))

@@ -1,5 +1,6 @@
 -- What a token that stands alone takes, and how a folder star goes on from folder to folder.
-use Rattle.std.proofs.Common.{◌≡◌, ◌≢◌, ℕ, zero, suc, ◌+◌, ◌-◌, ◌<◌, Bool, true, false, not, ◌&&◌, ◌||◌, ◌==◌, List, [], ◌∷◌, length, drop, get_or, slice_index, Some, None, refl, sym, ap, ◌∙◌, arith, add-one}
+use Rattle.std.proofs.Common.{◌≡◌, ◌≢◌, ℕ, zero, suc, ◌+◌, ◌-◌, ◌<◌, Bool, true, false, not, ◌&&◌, ◌||◌, ◌==◌, List, [], ◌∷◌, length, drop, get_or}
+use Rattle.std.proofs.Common.{slice_index, Some, None, refl, sym, ap, ◌∙◌, arith, add-one}
 use Rattle.std.specs.List.{list_any, position, position_from}
 use Rattle.std.proofs.lemmas.List.Quantifiers.{position-Some}
 use Rattle.std.proofs.lemmas.Iterator.Adapters.{position_from-zero}
@@ -75,14 +76,14 @@ slash_then-found f (b ∷ bs) (suc k) inside here before =
     passed (b == slash) (f bs) (slash_then f bs) (before 0 (omega arith))
     ∙ slash_then-found f bs k (omega arith) here (λ i l. before (suc i) (omega arith))
 
--- behind the first slash the next folder begins
+-- after the first slash the next folder begins
 pub next_folder : (f : List ℕ → Bool) (v : List ℕ) (k : ℕ) → position is_slash v ≡ Some k →
     slash_then f v ≡ (f (drop (k + 1) v) || slash_then f (drop (k + 1) v))
 next_folder f v k h =
     let found = position-Some is_slash v k 0 h in
     slash_then-found f v k found.0 found.1 found.2 ∙ ap (λ n. f (drop n v) || slash_then f (drop n v)) (sym (add-one k))
 
--- where the tokens behind a folder star don't match in a folder, it goes on to the next
+-- where the tokens after a folder star don't match in a folder, it goes on to the next
 pub gone_on : (f : List ℕ → Bool) (v below : List ℕ) → f v ≡ false → slash_then f v ≡ (f below || slash_then f below) →
     (f v || slash_then f v) ≡ (f below || slash_then f below)
 gone_on f v below h e = ap (λ x. x || slash_then f v) h ∙ e

@@ -1,5 +1,6 @@
--- What stands before the first quote or backslash behind the opening quote.
-use Rattle.std.proofs.Common.{◌≡◌, ◌≢◌, ℕ, zero, suc, ◌+◌, ◌<◌, ◌≤◌, Bool, true, false, cond, List, [], ◌∷◌, length, take, drop, get_or, position, Some, None, Ok, Err, unwrap_or, refl, sym, ap, ◌∙◌, append-nil, add-zero, drop-cons, arith}
+-- What stands before the first quote or backslash after the opening quote.
+use Rattle.std.proofs.Common.{◌≡◌, ◌≢◌, ℕ, zero, suc, ◌+◌, ◌<◌, ◌≤◌, Bool, true, false, cond, List, [], ◌∷◌, length, take, drop, get_or, position}
+use Rattle.std.proofs.Common.{Some, None, Ok, Err, unwrap_or, refl, sym, ap, ◌∙◌, append-nil, add-zero, drop-cons, arith}
 use Rattle.std.specs.List.{Contains, position_or_len, find, slice_get}
 use Rattle.std.proofs.lemmas.Bool.Decides.{nat_tests}
 use Rattle.std.proofs.lemmas.List.{drop_all}
@@ -15,7 +16,8 @@ piece-unmarked : (b : ℕ) (bytes : List ℕ) → is_mark b ≡ false → piece 
 piece-unmarked b bytes e = grind (arith, nat_tests)
 
 -- bytes without a quote and a backslash stand for themselves
-pub undone_from-front : (place n : ℕ) (bytes : List ℕ) → n ≤ length bytes → ((k : ℕ) → k < n → is_mark (get_or bytes k 0) ≡ false) → undone_from place 0 bytes ≡ with_front (take n bytes) (undone_from (place + n) 0 (drop n bytes))
+pub undone_from-front : (place n : ℕ) (bytes : List ℕ) → n ≤ length bytes → ((k : ℕ) → k < n → is_mark (get_or bytes k 0) ≡ false) → undone_from place
+    0 bytes ≡ with_front (take n bytes) (undone_from (place + n) 0 (drop n bytes))
 undone_from-front place zero bytes inside unmarked = rw add-zero (sym (with_front-none (undone_from place 0 bytes)))
 undone_from-front place (suc n) [] inside unmarked = absurd (omega arith)
 undone_from-front place (suc n) (b ∷ bytes) inside unmarked =
@@ -49,7 +51,8 @@ undone_from-closing : (place b : ℕ) (bytes : List ℕ) → b ≡ quote → und
 undone_from-closing place b bytes e = undone_from-piece place b bytes closing (rw e refl)
 
 -- the bytes up to the closing quote, where that is the first mark
-pub undone-marked : (text : List ℕ) (k : ℕ) → BeginsQuoted text → position is_mark (drop 1 text) ≡ Some k → get_or (drop 1 text) k 0 ≡ quote → undone text ≡ Ok (take k (drop 1 text), k + 2)
+pub undone-marked : (text : List ℕ) (k : ℕ) → BeginsQuoted text → position is_mark (drop 1 text) ≡ Some k → get_or (drop 1 text) k 0 ≡ quote → undone
+    text ≡ Ok (take k (drop 1 text), k + 2)
 undone-marked text k quoted e at_quote =
     let bytes = drop 1 text in
     let found = position-Some is_mark bytes k 0 e in
@@ -69,7 +72,8 @@ find-mark text k e =
     find_at is_mark bytes ∙ ap (slice_get bytes) (position_or_len-Some bytes k e) ∙ slice_get-get_or bytes k 0 found.0
 
 -- a first mark that is no quote is a backslash
-pub HoldsEscape-marked : (text : List ℕ) (k : ℕ) → BeginsQuoted text → position is_mark (drop 1 text) ≡ Some k → get_or (drop 1 text) k 0 ≢ quote → HoldsEscape text
+pub HoldsEscape-marked : (text : List ℕ) (k : ℕ) → BeginsQuoted text → position is_mark (drop 1 text) ≡ Some k → get_or (drop 1 text) k 0 ≢ quote →
+    HoldsEscape text
 HoldsEscape-marked text k quoted e no_quote =
     let found = position-Some is_mark (drop 1 text) k 0 e in
     (quoted, find-mark text k e ∙ ap Some (mark (get_or (drop 1 text) k 0) found.1 no_quote))
@@ -85,7 +89,8 @@ no_escape text k e at_quote holds =
 Contains-cons : (b : ℕ) (bytes : List ℕ) (x : ℕ) → Contains bytes x → Contains (b ∷ bytes) x
 Contains-cons b bytes x (k, inside, here) = (suc k, omega arith, here)
 
-Contains-find_by : (b x : ℕ) (bytes : List ℕ) (marked : Bool) → is_mark b ≡ marked → (find is_mark bytes ≡ Some x → Contains bytes x) → cond marked (Some b) (find is_mark bytes) ≡ Some x → Contains (b ∷ bytes) x
+Contains-find_by : (b x : ℕ) (bytes : List ℕ) (marked : Bool) → is_mark b ≡ marked → (find is_mark bytes ≡ Some x → Contains bytes x) → cond marked
+    (Some b) (find is_mark bytes) ≡ Some x → Contains (b ∷ bytes) x
 Contains-find_by b x bytes true _ go_on e = let same : b ≡ x = cc in (0, omega arith, same)
 Contains-find_by b x bytes false _ go_on e = Contains-cons b bytes x (go_on e)
 

@@ -1,5 +1,6 @@
 -- Patterns that are read the same, and lists of them.
-use Rattle.std.proofs.Common.{◌≡◌, ℕ, zero, suc, ◌+◌, ◌<◌, ◌≤◌, Bool, true, false, ◌&&◌, List, [], ◌∷◌, ◌++◌, length, get_or, take, map, Option, Some, None, refl, sym, ap, ◌∙◌, arith, nat_eq, eq-eqb}
+use Rattle.std.proofs.Common.{◌≡◌, ℕ, zero, suc, ◌+◌, ◌<◌, ◌≤◌, Bool, true, false, ◌&&◌, List, [], ◌∷◌, ◌++◌, length, get_or, take, map, Option, Some}
+use Rattle.std.proofs.Common.{None, refl, sym, ap, ◌∙◌, arith, nat_eq, eq-eqb}
 use Rattle.std.specs.Option.{option_eq}
 use Rattle.std.specs.Cmp.Lexicographic.{pointwise, bytes_decides}
 use Rattle.std.proofs.lemmas.Bool.{eqb-true}
@@ -8,7 +9,7 @@ use Rattle.attr_glob.specs.declared.pattern.Pattern.{Pattern}
 use Rattle.attr_glob.specs.declared.search.pattern.Mapping.{Mapping}
 use Rattle.attr_glob.specs.contracts.pattern.PatternPartialEq.TheImpl as pattern
 use Rattle.attr_glob.specs.Patterns.{Reading}
-use Rattle.attr_glob.specs.Views.{pattern_read, mode_bits, lines_read}
+use Rattle.attr_glob.specs.Views.{pattern_view, mode_bits, patterns_of}
 
 and_true : (a b : Bool) → a && b ≡ true → (a ≡ true) × (b ≡ true)
 and_true true b h = (refl, h)
@@ -30,38 +31,45 @@ place_same (Some x) None e = absurd cc
 place_same (Some x) (Some y) e = eq-eqb x y cc
 
 -- equal patterns are read the same
-pub read_same : (x y : Pattern) → pattern.ghosts.eq x y ≡ true → pattern_read x ≡ pattern_read y
+pub read_same : (x y : Pattern) → pattern.ghosts.eq x y ≡ true → pattern_view x ≡ pattern_view y
 read_same x y e =
-    let one = and_true (pointwise nat_eq x.text.items y.text.items) (nat_eq (mode_bits x.mode) (mode_bits y.mode) && option_eq nat_eq x.first_wildcard_pos y.first_wildcard_pos) e in
+    let one = and_true (pointwise nat_eq x.text.items y.text.items) (nat_eq (mode_bits x.mode) (mode_bits y.mode) && option_eq nat_eq
+    x.first_wildcard_pos y.first_wildcard_pos) e in
     let two = and_true (nat_eq (mode_bits x.mode) (mode_bits y.mode)) (option_eq nat_eq x.first_wildcard_pos y.first_wildcard_pos) one.1 in
     let text = (bytes_decides x.text.items y.text.items).0 one.0 in
     let mode = eqb-true (mode_bits x.mode) (mode_bits y.mode) two.0 in
     let place = place_is x.first_wildcard_pos y.first_wildcard_pos two.1 in
     let Read : List ℕ → ℕ → Option ℕ → Reading = λ t m p. record { text = t; mode = m; wildcard = p } in
-    ap (λ t. Read t (mode_bits x.mode) x.first_wildcard_pos) text ∙ ap (λ m. Read y.text.items m x.first_wildcard_pos) mode ∙ ap (λ p. Read y.text.items (mode_bits y.mode) p) place
+    ap (λ t. Read t (mode_bits x.mode) x.first_wildcard_pos) text ∙ ap (λ m. Read y.text.items m x.first_wildcard_pos) mode ∙ ap
+    (λ p. Read y.text.items (mode_bits y.mode) p) place
 
 -- patterns that are read the same are equal
-pub same_read : (x y : Pattern) → pattern_read x ≡ pattern_read y → pattern.ghosts.eq x y ≡ true
+pub same_read : (x y : Pattern) → pattern_view x ≡ pattern_view y → pattern.ghosts.eq x y ≡ true
 same_read x y e =
-    and_on (pointwise nat_eq x.text.items y.text.items) (nat_eq (mode_bits x.mode) (mode_bits y.mode) && option_eq nat_eq x.first_wildcard_pos y.first_wildcard_pos)
+    and_on (pointwise nat_eq x.text.items y.text.items) (nat_eq (mode_bits x.mode) (mode_bits y.mode) && option_eq nat_eq x.first_wildcard_pos
+    y.first_wildcard_pos)
     ((bytes_decides x.text.items y.text.items).1 (ap (λ (r : Reading). r.text) e))
     (and_on (nat_eq (mode_bits x.mode) (mode_bits y.mode)) (option_eq nat_eq x.first_wildcard_pos y.first_wildcard_pos)
     (eq-eqb (mode_bits x.mode) (mode_bits y.mode) (ap (λ (r : Reading). r.mode) e))
     (place_same x.first_wildcard_pos y.first_wildcard_pos (ap (λ (r : Reading). r.wildcard) e)))
 
 -- one more pattern that is read the same
-pub lines_more : {V : Type 0} (xs : List Pattern) (ys : List (Mapping V)) (i : ℕ) (d : Pattern) (e : Mapping V) → i < length xs → i < length ys → map pattern_read (take i xs) ≡ lines_read (take i ys) → pattern_read (get_or xs i d) ≡ pattern_read (get_or ys i e).pattern → map pattern_read (take (i + 1) xs) ≡ lines_read (take (i + 1) ys)
+pub lines_more : {V : Type 0} (xs : List Pattern) (ys : List (Mapping V)) (i : ℕ) (d : Pattern) (e : Mapping V) → i < length xs → i < length ys → map
+    pattern_view (take i xs) ≡ patterns_of (take i ys) → pattern_view (get_or xs i d) ≡ pattern_view (get_or ys i e).pattern → map pattern_view
+    (take (i + 1) xs) ≡ patterns_of (take (i + 1) ys)
 lines_more xs ys i d e ltx lty same here =
-    ap (map pattern_read) (take_more xs i d ltx) ∙ map-append pattern_read (take i xs) (get_or xs i d ∷ [])
-    ∙ ap (λ l. l ++ pattern_read (get_or xs i d) ∷ []) same ∙ ap (λ r. lines_read (take i ys) ++ r ∷ []) here
-    ∙ sym (ap lines_read (take_more ys i e lty) ∙ map-append (λ m. pattern_read m.pattern) (take i ys) (get_or ys i e ∷ []))
+    ap (map pattern_view) (take_more xs i d ltx) ∙ map-append pattern_view (take i xs) (get_or xs i d ∷ [])
+    ∙ ap (λ l. l ++ pattern_view (get_or xs i d) ∷ []) same ∙ ap (λ r. patterns_of (take i ys) ++ r ∷ []) here
+    ∙ sym (ap patterns_of (take_more ys i e lty) ∙ map-append (λ m. pattern_view m.pattern) (take i ys) (get_or ys i e ∷ []))
 
 -- lists that are read the same are so at each place
-pub lines_at : {V : Type 0} (xs : List Pattern) (ys : List (Mapping V)) (i : ℕ) (d : Pattern) (e : Mapping V) → i < length xs → i < length ys → map pattern_read xs ≡ lines_read ys → pattern_read (get_or xs i d) ≡ pattern_read (get_or ys i e).pattern
+pub lines_at : {V : Type 0} (xs : List Pattern) (ys : List (Mapping V)) (i : ℕ) (d : Pattern) (e : Mapping V) → i < length xs → i < length ys → map
+    pattern_view xs ≡ patterns_of ys → pattern_view (get_or xs i d) ≡ pattern_view (get_or ys i e).pattern
 lines_at [] ys i d e ltx lty same = absurd (omega arith)
 lines_at (x ∷ xs) [] i d e ltx lty same = absurd (omega arith)
 lines_at (x ∷ xs) (y ∷ ys) zero d e ltx lty same = cc
-lines_at (x ∷ xs) (y ∷ ys) (suc i) d e ltx lty same = let rest : map pattern_read xs ≡ lines_read ys = cc in lines_at xs ys i d e (omega arith) (omega arith) rest
+lines_at (x ∷ xs) (y ∷ ys) (suc i) d e ltx lty same = let rest : map pattern_view xs ≡ patterns_of ys = cc in lines_at xs ys i d e (omega arith)
+    (omega arith) rest
 
 pub take_whole : {X : Type 0} (xs : List X) (i : ℕ) → length xs ≤ i → take i xs ≡ xs
 take_whole [] zero h = refl
@@ -70,13 +78,16 @@ take_whole (x ∷ xs) zero h = absurd (omega arith)
 take_whole (x ∷ xs) (suc i) h = ap (λ l. x ∷ l) (take_whole xs i (omega arith))
 
 -- all patterns are read the same
-pub lines_all : {V : Type 0} (xs : List Pattern) (ys : List (Mapping V)) (i : ℕ) → length xs ≤ i → length ys ≤ i → map pattern_read (take i xs) ≡ lines_read (take i ys) → map pattern_read xs ≡ lines_read ys
-lines_all xs ys i lx ly e = ap (map pattern_read) (sym (take_whole xs i lx)) ∙ e ∙ ap lines_read (take_whole ys i ly)
+pub lines_all : {V : Type 0} (xs : List Pattern) (ys : List (Mapping V)) (i : ℕ) → length xs ≤ i → length ys ≤ i → map pattern_view (take i xs) ≡
+    patterns_of (take i ys) → map pattern_view xs ≡ patterns_of ys
+lines_all xs ys i lx ly e = ap (map pattern_view) (sym (take_whole xs i lx)) ∙ e ∙ ap patterns_of (take_whole ys i ly)
 
 -- one more pattern that was copied
-pub lines_push : {V : Type 0} (xs xs' : List Pattern) (x : Pattern) (ys lent : List (Mapping V)) (i : ℕ) (e : Mapping V) → lent ≡ ys → i < length lent → e ≡ get_or lent i e → map pattern_read xs ≡ lines_read (take i ys) → xs' ≡ xs ++ x ∷ [] → pattern_read x ≡ pattern_read e.pattern → map pattern_read xs' ≡ lines_read (take (i + 1) ys)
+pub lines_push : {V : Type 0} (xs xs' : List Pattern) (x : Pattern) (ys lent : List (Mapping V)) (i : ℕ) (e : Mapping V) → lent ≡ ys → i < length lent
+    → e ≡ get_or lent i e → map pattern_view xs ≡ patterns_of (take i ys) → xs' ≡ xs ++ x ∷ [] → pattern_view x ≡ pattern_view e.pattern → map
+    pattern_view xs' ≡ patterns_of (take (i + 1) ys)
 lines_push xs xs' x ys lent i e same lt at lines pushed read =
     let within : i < length ys = omega (arith, ap length same) in
-    ap (map pattern_read) pushed ∙ map-append pattern_read xs (x ∷ []) ∙ ap (λ l. l ++ pattern_read x ∷ []) lines
-    ∙ ap (λ r. lines_read (take i ys) ++ r ∷ []) (read ∙ ap (λ m. pattern_read m.pattern) (at ∙ ap (λ l. get_or l i e) same))
-    ∙ sym (ap lines_read (take_more ys i e within) ∙ map-append (λ m. pattern_read m.pattern) (take i ys) (get_or ys i e ∷ []))
+    ap (map pattern_view) pushed ∙ map-append pattern_view xs (x ∷ []) ∙ ap (λ l. l ++ pattern_view x ∷ []) lines
+    ∙ ap (λ r. patterns_of (take i ys) ++ r ∷ []) (read ∙ ap (λ m. pattern_view m.pattern) (at ∙ ap (λ l. get_or l i e) same))
+    ∙ sym (ap patterns_of (take_more ys i e within) ∙ map-append (λ m. pattern_view m.pattern) (take i ys) (get_or ys i e ∷ []))

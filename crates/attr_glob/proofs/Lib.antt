@@ -28,3 +28,5 @@ pub mod Copies
 pub mod HeadLemmas
 pub mod IndexLemmas
 pub mod Places
+pub mod MatchingLines
+pub mod ForCallers

@@ -1,5 +1,6 @@
--- Matching where bytes stand for themselves: in a text without a wildcard, behind its only star, and before its first wildcard.
-use Rattle.std.proofs.Common.{◌≡◌, ◌≢◌, ℕ, zero, suc, ◌-◌, ◌+◌, ◌<◌, ◌≤◌, Bool, true, false, not, ◌&&◌, ◌||◌, ◌==◌, ◌⊎◌, inl, inr, List, [], ◌∷◌, ◌++◌, length, take, drop, get_or, position, map, Option, Some, None, option_map, refl, sym, ap, subst, ◌∙◌, arith}
+-- Matching where bytes stand for themselves: in a text without a wildcard, after its only star, and before its first wildcard.
+use Rattle.std.proofs.Common.{◌≡◌, ◌≢◌, ℕ, zero, suc, ◌-◌, ◌+◌, ◌<◌, ◌≤◌, Bool, true, false, not, ◌&&◌, ◌||◌, ◌==◌, ◌⊎◌, inl, inr, List, [], ◌∷◌}
+use Rattle.std.proofs.Common.{◌++◌, length, take, drop, get_or, position, map, Option, Some, None, option_map, refl, sym, ap, subst, ◌∙◌, arith}
 use Rattle.std.specs.List.{list_any, position_from, starts_with, ends_with}
 use Rattle.std.specs.Cmp.Lexicographic.{pointwise}
 use Rattle.std.specs.Char.{to_ascii_lowercase}
@@ -120,7 +121,7 @@ star_then-end case text (b ∷ bs) h =
         by_length (suc m) zero = inr (omega arith)
         by_length (suc m) (suc n) = elim (by_length m n) [ inl l ↦ inl (omega arith) | inr l ↦ inr (omega arith) ]
 
--- one star, and behind it no wildcard
+-- one star, and after it no wildcard
 tokens-suffix : (text : List ℕ) → list_any is_wildcard text ≡ false → tokens (asterisk ∷ text) ≡ Some (star ∷ literals text)
 tokens-suffix [] h = refl
 tokens-suffix (b ∷ bs) h =
@@ -145,13 +146,13 @@ text_matches-suffix case (b ∷ bs) value h k =
     no_more true e = cc
     no_more false e = refl
 
--- the value begins with the byte, and the tokens behind it take the rest
+-- the value begins with the byte, and the tokens after it take the rest
 record Taken (case : Case) (c : ℕ) (o : Option (List Token)) (value : List ℕ) : Type 0 where
   pub byte : ℕ
   pub others : List ℕ
   pub whole : value ≡ byte ∷ others
   pub same : same_byte case c byte ≡ true
-  pub behind : some_match case o others ≡ true
+  pub tail : some_match case o others ≡ true
 
 taken : (case : Case) (c : ℕ) (o : Option (List Token)) (value : List ℕ) →
     some_match case (option_map (λ ts. lit c ∷ ts) o) value ≡ true → Taken case c o value
@@ -159,7 +160,7 @@ taken case c None value h = cc
 taken case c (Some ts) [] h = cc
 taken case c (Some ts) (b ∷ bs) h =
     let w = and_parts (same_byte case c b) (matches case ts bs) h in
-    record { byte = b; others = bs; whole = refl; same = w.0; behind = w.1 }
+    record { byte = b; others = bs; whole = refl; same = w.0; tail = w.1 }
 
 front_taken : (case : Case) (front others : List ℕ) (n : ℕ) (border : Bool) (value : List ℕ) → list_any is_wildcard front ≡ false →
     some_match case (tokens_from n border (front ++ others)) value ≡ true → starts_with (same_byte case) value front ≡ true
@@ -168,7 +169,7 @@ front_taken case (c ∷ cs) others zero border value h k = cc
 front_taken case (c ∷ cs) others (suc n) border value h k =
     let w = or_none (is_wildcard c) (list_any is_wildcard cs) h in
     let t = taken case c (tokens_from n (c == slash) (cs ++ others)) value (rw (token_at-literal border c (cs ++ others) w.0) at k) in
-    let rest = front_taken case cs others n (c == slash) t.others w.1 t.behind in
+    let rest = front_taken case cs others n (c == slash) t.others w.1 t.tail in
     subst (λ v. starts_with (same_byte case) v (c ∷ cs) ≡ true) (sym t.whole)
     (and_both (same_byte case c t.byte) (starts_with (same_byte case) t.others cs) t.same rest)
 
@@ -214,9 +215,9 @@ fold_same [] (b ∷ bs) h = cc
 fold_same (c ∷ cs) [] h = cc
 fold_same (c ∷ cs) (b ∷ bs) h =
     let here : to_ascii_lowercase c ≡ to_ascii_lowercase b = cc in
-    let behind : map to_ascii_lowercase cs ≡ map to_ascii_lowercase bs = cc in
+    let tail : map to_ascii_lowercase cs ≡ map to_ascii_lowercase bs = cc in
     and_both (same_byte Fold c b) (pointwise (same_byte Fold) cs bs)
-    (equal_so (to_ascii_lowercase b) (to_ascii_lowercase c) (sym here)) (fold_same cs bs behind)
+    (equal_so (to_ascii_lowercase b) (to_ascii_lowercase c) (sym here)) (fold_same cs bs tail)
 
 same_fold : (text value : List ℕ) → pointwise (same_byte Fold) text value ≡ true → map to_ascii_lowercase text ≡ map to_ascii_lowercase value
 same_fold [] [] h = refl
@@ -225,7 +226,7 @@ same_fold (c ∷ cs) [] h = cc
 same_fold (c ∷ cs) (b ∷ bs) h =
     let w = and_parts (same_byte Fold c b) (pointwise (same_byte Fold) cs bs) h in
     let here : to_ascii_lowercase b ≡ to_ascii_lowercase c = equal (to_ascii_lowercase b) (to_ascii_lowercase c) w.0 in
-    let behind : map to_ascii_lowercase cs ≡ map to_ascii_lowercase bs = same_fold cs bs w.1 in
+    let tail : map to_ascii_lowercase cs ≡ map to_ascii_lowercase bs = same_fold cs bs w.1 in
     cc
 
 pub folded : (text value : List ℕ) (r : Bool) → (r ≡ true → map to_ascii_lowercase text ≡ map to_ascii_lowercase value) →

@@ -4,7 +4,8 @@ use Rattle.attr_glob.specs.Patterns.{has_flag, set_where, no_sub_dir, ends_with,
 
 abbrev joined : Bool → Bool → Bool → Bool → Bool → ℕ
 joined a b c d e =
-    bit_or (bit_or (bit_or (bit_or (set_where a no_sub_dir) (set_where b ends_with)) (set_where c must_be_dir)) (set_where d negative)) (set_where e absolute)
+    bit_or (bit_or (bit_or (bit_or (set_where a no_sub_dir) (set_where b ends_with)) (set_where c must_be_dir)) (set_where d negative))
+    (set_where e absolute)
 
 abbrev pub added : Bool → Bool → Bool → Bool → Bool → ℕ
 added a b c d e =

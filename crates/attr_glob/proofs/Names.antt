@@ -1,5 +1,6 @@
 -- What stands between `[:` and `:]`, found by the first `]`.
-use Rattle.std.proofs.Common.{◌≡◌, ◌≢◌, ℕ, ◌+◌, Bool, true, false, cond, ◌==◌, List, [], ◌∷◌, ◌++◌, take, length, Some, None, option_map, refl, arith, sym, ap, subst, ◌∙◌}
+use Rattle.std.proofs.Common.{◌≡◌, ◌≢◌, ℕ, ◌+◌, Bool, true, false, cond, ◌==◌, List, [], ◌∷◌, ◌++◌, take, length, Some, None, option_map, refl, arith}
+use Rattle.std.proofs.Common.{sym, ap, subst, ◌∙◌}
 use Rattle.std.proofs.Math.Seq.{take-append_seam}
 use Rattle.std.specs.List.{position, position_from}
 use Rattle.std.proofs.lemmas.Iterator.Adapters.{position_from-zero}
@@ -52,7 +53,7 @@ unclosed-position i (b ∷ bs) h =
     (λ t. (not_equal b close_bracket t, unclosed-position (i + 1) bs (rw t at h)))
 
 pub closed-position : (i : ℕ) (bs : List ℕ) (j : ℕ) → position_from closes i bs ≡ Some j →
-    (front : List ℕ) × (behind : List ℕ) × (bs ≡ front ++ close_bracket ∷ behind) × (length front + i ≡ j) × Unclosed front
+    (front : List ℕ) × (tail : List ℕ) × (bs ≡ front ++ close_bracket ∷ tail) × (length front + i ≡ j) × Unclosed front
 closed-position i [] j h = cc
 closed-position i (b ∷ bs) j h =
     by_test (b == close_bracket)
@@ -60,13 +61,13 @@ closed-position i (b ∷ bs) j h =
     (λ t. let r = closed-position (i + 1) bs j (rw t at h) in
     (b ∷ r.0, r.1, ap (λ x. b ∷ x) r.2, omega (arith, r.3), (not_equal b close_bracket t, r.4)))
 
-take-front : (front behind : List ℕ) (n : ℕ) → length front ≡ n → take n (front ++ behind) ≡ front
-take-front front behind n h = rw (← h) (take-append_seam front behind)
+take-front : (front tail : List ℕ) (n : ℕ) → length front ≡ n → take n (front ++ tail) ≡ front
+take-front front tail n h = rw (← h) (take-append_seam front tail)
 
 record First (bs : List ℕ) (j : ℕ) : Type 0 where
   front : List ℕ
-  behind : List ℕ
-  whole : bs ≡ front ++ close_bracket ∷ behind
+  tail : List ℕ
+  whole : bs ≡ front ++ close_bracket ∷ tail
   taken : take j bs ≡ front
   unclosed : Unclosed front
 
@@ -75,7 +76,7 @@ first bs j h =
     let r = closed-position 0 bs j (sym (position_from-zero closes bs) ∙ h) in
     record {
       front = r.0;
-      behind = r.1;
+      tail = r.1;
       whole = r.2;
       taken = ap (take j) r.2 ∙ take-front r.0 (close_bracket ∷ r.1) j (omega (arith, r.3));
       unclosed = r.4;
@@ -85,7 +86,7 @@ first bs j h =
 pub name_in-at_once : (bs : List ℕ) (j : ℕ) → position closes bs ≡ Some j → take j bs ≡ [] → name_in bs ≡ None
 name_in-at_once bs j h e =
     let f = first bs j h in
-    ap name_in (f.whole ∙ ap (λ x. x ++ close_bracket ∷ f.behind) (sym f.taken ∙ e))
+    ap name_in (f.whole ∙ ap (λ x. x ++ close_bracket ∷ f.tail) (sym f.taken ∙ e))
 
 -- the bytes up to the first `]`, where c is the last of them
 pub name_in-first : (bs : List ℕ) (j : ℕ) (front : List ℕ) (c : ℕ) → position closes bs ≡ Some j →
@@ -93,8 +94,8 @@ pub name_in-first : (bs : List ℕ) (j : ℕ) (front : List ℕ) (c : ℕ) → p
 name_in-first bs j front c h e =
     let f = first bs j h in
     let same : f.front ≡ front ++ c ∷ [] = sym f.taken ∙ e in
-    ap name_in (f.whole ∙ ap (λ x. x ++ close_bracket ∷ f.behind) same) ∙
-    name_in-closed front c f.behind (subst Unclosed same f.unclosed)
+    ap name_in (f.whole ∙ ap (λ x. x ++ close_bracket ∷ f.tail) same) ∙
+    name_in-closed front c f.tail (subst Unclosed same f.unclosed)
 
 pub name_in-none : (bs : List ℕ) → position closes bs ≡ None → name_in bs ≡ None
 name_in-none bs h = name_in-unclosed bs (unclosed-position 0 bs (sym (position_from-zero closes bs) ∙ h))

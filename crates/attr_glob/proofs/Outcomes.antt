@@ -4,7 +4,8 @@ use Rattle.std.proofs.lemmas.Bool.{cases_eq}
 use Rattle.std.proofs.lemmas.Bool.Decides.{nat_tests}
 use Rattle.std.proofs.lemmas.List.{append-nil}
 use Rattle.attr_glob.specs.Bytes.{quote, backslash}
-use Rattle.attr_glob.specs.Quotes.{Spells, SpellsAll, escaped, with_front, undone_from, undone, IsQuoted, IsUnclosed, IsBadEscape, BeginsQuoted, not_quoted, unclosed, bad_escape}
+use Rattle.attr_glob.specs.Quotes.{Spells, SpellsAll, escaped, with_front, undone_from, undone, IsQuoted, IsUnclosed, IsBadEscape, BeginsQuoted}
+use Rattle.attr_glob.specs.Quotes.{not_quoted, unclosed, bad_escape}
 use Rattle.attr_glob.proofs.Spellings.{undone_from-spellings, Spells-escaped}
 use Rattle.attr_glob.proofs.Cuts.{cut_escape, cut, Stops, at_end, at_quote, at_bad}
 
@@ -22,7 +23,8 @@ undone-IsUnclosed text u =
     ∙ undone_from-spellings u.plain u.spelling u.spells 1 []
 
 -- where no spelling begins, no escape does
-none_escaped : (rest : List ℕ) (escape : Option (ℕ × ℕ)) → escaped rest ≡ escape → ((spelling others : List ℕ) (byte : ℕ) → backslash ∷ rest ≡ spelling ++ others → Spells spelling byte → ⊥) → escaped rest ≡ None
+none_escaped : (rest : List ℕ) (escape : Option (ℕ × ℕ)) → escaped rest ≡ escape →
+    ((spelling others : List ℕ) (byte : ℕ) → backslash ∷ rest ≡ spelling ++ others → Spells spelling byte → ⊥) → escaped rest ≡ None
 none_escaped rest None e bad = e
 none_escaped rest (Some escape) e bad =
     let c = cut_escape rest escape e in

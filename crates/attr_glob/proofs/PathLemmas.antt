@@ -1,10 +1,12 @@
 -- What a pattern is matched against, and what is known of a pattern that was read.
-use Rattle.std.proofs.Common.{◌≡◌, ℕ, zero, suc, ◌-◌, ◌<◌, ◌≤◌, Bool, true, false, not, ◌||◌, List, [], ◌∷◌, ◌++◌, reverse, length, drop, get_or, position, Option, Some, None, cond, refl, sym, ap, subst, ◌∙◌, arith}
+use Rattle.std.proofs.Common.{◌≡◌, ℕ, zero, suc, ◌-◌, ◌<◌, ◌≤◌, Bool, true, false, not, ◌||◌, List, [], ◌∷◌, ◌++◌, reverse, length, drop, get_or}
+use Rattle.std.proofs.Common.{position, Option, Some, None, cond, refl, sym, ap, subst, ◌∙◌, arith}
 use Rattle.std.specs.List.{list_any, list_all, prefix_len, suffix_len}
 use Rattle.std.proofs.lemmas.List.{length-reverse, length-drop}
 use Rattle.std.proofs.lemmas.List.Sums.{suffix_len_is}
 use Rattle.attr_glob.specs.declared.pattern.Case.{Case}
-use Rattle.attr_glob.specs.Patterns.{Reading, reading, read_rest, is_slash, is_space, is_wildcard, is_suffix, is_negated, without_negation, without_root, without_end, first, ends_in_slash, has_flag, ends_with, must_be_dir}
+use Rattle.attr_glob.specs.Patterns.{Reading, reading, read_rest, is_slash, is_space, is_wildcard, is_suffix, is_negated, without_negation}
+use Rattle.attr_glob.specs.Patterns.{without_root, without_end, first, ends_in_slash, has_flag, ends_with, must_be_dir}
 use Rattle.attr_glob.specs.Deciding.{text_matches}
 use Rattle.attr_glob.specs.Paths.{matched_part, is_directory, PathMatches, path_matches}
 use Rattle.attr_glob.specs.BaseNames.{base_name, base_name_place}
@@ -45,12 +47,14 @@ kind_fits : (wants : Bool) (is_dir : Option Bool) → (wants ≡ true → is_dir
 kind_fits true is_dir h = ap is_directory (h refl)
 kind_fits false is_dir h = refl
 
-pub path_match_of_test : (case : Case) (r : Reading) (path : List ℕ) (is_dir : Option Bool) → path_matches case r path is_dir ≡ true → PathMatches case r path is_dir
+pub path_match_of_test : (case : Case) (r : Reading) (path : List ℕ) (is_dir : Option Bool) → path_matches case r path is_dir ≡ true → PathMatches
+    case r path is_dir
 path_match_of_test case r path is_dir h =
     let w = and_parts (not (has_flag r.mode must_be_dir) || is_directory is_dir) (text_matches case r.text (matched_part r path)) h in
     (kind_of (has_flag r.mode must_be_dir) is_dir w.0, text_match_of_test case r.text (matched_part r path) w.1)
 
-pub test_of_path_match : (case : Case) (r : Reading) (path : List ℕ) (is_dir : Option Bool) → PathMatches case r path is_dir → path_matches case r path is_dir ≡ true
+pub test_of_path_match : (case : Case) (r : Reading) (path : List ℕ) (is_dir : Option Bool) → PathMatches case r path is_dir → path_matches case r
+    path is_dir ≡ true
 test_of_path_match case r path is_dir m =
     and_both (not (has_flag r.mode must_be_dir) || is_directory is_dir) (text_matches case r.text (matched_part r path))
     (kind_fits (has_flag r.mode must_be_dir) is_dir m.0) (test_of_text_match case r.text (matched_part r path) m.1)
@@ -68,7 +72,8 @@ list_any-reverse : (p : ℕ → Bool) (xs : List ℕ) → list_any p xs ≡ fals
 list_any-reverse p [] h = refl
 list_any-reverse p (x ∷ xs) h = by_test (p x)
     (λ t. let e = rw t at h in cc)
-    (λ f. subst (λ l. list_any p l ≡ false) (sym (reverse-cons x xs)) (list_any-append p (reverse xs) (x ∷ []) (list_any-reverse p xs (rw f at h)) (rw f refl)))
+    (λ f. subst (λ l. list_any p l ≡ false) (sym (reverse-cons x xs)) (list_any-append p (reverse xs) (x ∷ []) (list_any-reverse p xs (rw f at h))
+    (rw f refl)))
 
 -- a path without a slash is its own base name
 pub base_name-whole : (path : List ℕ) → list_any is_slash path ≡ false → base_name path ≡ path
@@ -105,11 +110,11 @@ none_in : (p : ℕ → Bool) (xs : List ℕ) → ((k : ℕ) → k < length xs �
 none_in p [] h = refl
 none_in p (x ∷ xs) h = rw (h 0 (omega arith)) (none_in p xs (λ k l. h (suc k) (omega arith)))
 
--- the place behind a slash, behind which there is no other
+-- the place after a slash, after which there is no other
 pub base_name_place-found : (path : List ℕ) (place : ℕ) → 0 < place → place ≤ length path → is_slash (get_or path (place - 1) 0) ≡ true →
     ((k : ℕ) → place ≤ k → k < length path → is_slash (get_or path k 0) ≡ false) → Some place ≡ base_name_place path
-base_name_place-found path place some inside here behind =
-    let n = suffix_len_is (λ b. not (is_slash b)) path place 0 inside (λ k l m. ap not (behind k l m)) (λ _. ap not here) in
+base_name_place-found path place some inside here tail =
+    let n = suffix_len_is (λ b. not (is_slash b)) path place 0 inside (λ k l m. ap not (tail k l m)) (λ _. ap not here) in
     let long : length path - length (base_name path) ≡ place = rw length-drop (omega (arith, n)) in
     rw (list_any-at is_slash path (place - 1) (omega arith) here) (ap Some (sym long))
 

@@ -1,11 +1,12 @@
--- The place of a base name, by recursion from the front of the path, and as it is seen behind a front.
-use Rattle.std.proofs.Common.{◌≡◌, ℕ, zero, suc, ◌+◌, ◌-◌, ◌<◌, Bool, true, false, not, cond, List, [], ◌∷◌, ◌++◌, length, drop, reverse, Option, Some, None, refl, sym, ap, ◌∙◌, arith, eqb, add-one}
+-- The place of a base name, by recursion from the front of the path, and as it is seen after a front.
+use Rattle.std.proofs.Common.{◌≡◌, ℕ, zero, suc, ◌+◌, ◌-◌, ◌<◌, Bool, true, false, not, cond, List, [], ◌∷◌, ◌++◌, length, drop, reverse, Option}
+use Rattle.std.proofs.Common.{Some, None, refl, sym, ap, ◌∙◌, arith, eqb, add-one}
 use Rattle.std.specs.List.{list_any, suffix_len, prefix_len}
 use Rattle.std.proofs.lemmas.Bool.Decides.{nat_tests}
 use Rattle.std.proofs.lemmas.List.{length-reverse, length-drop, reverse-append}
 use Rattle.std.proofs.lemmas.List.Folds.{prefix_len-append}
 use Rattle.std.proofs.lemmas.List.Sums.{suffix_len-le-length}
-use Rattle.attr_glob.specs.Bases.{place_behind}
+use Rattle.attr_glob.specs.Bases.{place_after}
 use Rattle.attr_glob.specs.BaseNames.{base_name, base_name_place}
 use Rattle.attr_glob.specs.Patterns.{is_slash}
 
@@ -16,9 +17,11 @@ no_slash b = not (is_slash b)
 abbrev name_len : List ℕ → ℕ
 name_len path = suffix_len no_slash path
 
-name_len-cons : (b : ℕ) (bs : List ℕ) → name_len (b ∷ bs) ≡ cond (eqb (name_len bs) (length bs)) (length bs + prefix_len no_slash (b ∷ [])) (name_len bs)
+name_len-cons : (b : ℕ) (bs : List ℕ) → name_len (b ∷ bs) ≡ cond (eqb (name_len bs) (length bs)) (length bs + prefix_len no_slash (b ∷ []))
+    (name_len bs)
 name_len-cons b bs =
-    let e : prefix_len no_slash (reverse (b ∷ bs)) ≡ prefix_len no_slash (reverse bs ++ b ∷ []) = ap (prefix_len no_slash) (reverse-append (b ∷ []) bs) in
+    let e : prefix_len no_slash (reverse (b ∷ bs)) ≡ prefix_len no_slash (reverse bs ++ b ∷ []) = ap (prefix_len no_slash)
+    (reverse-append (b ∷ []) bs) in
     let l : length (reverse bs) ≡ length bs = length-reverse bs in
     e ∙ (rw l at (prefix_len-append no_slash (reverse bs) (b ∷ [])))
 
@@ -72,7 +75,8 @@ place-none path none = grind arith
 place-some : (path : List ℕ) → list_any is_slash path ≡ true → base_name_place path ≡ Some (length path - name_len path)
 place-some path any = grind (arith, length-base_name path)
 
-place_within-whole : (b : ℕ) (bs : List ℕ) (test : Bool) → is_slash b ≡ test → list_any is_slash bs ≡ false → name_len bs ≡ length bs → base_name_place (b ∷ bs) ≡ place_onto b None
+place_within-whole : (b : ℕ) (bs : List ℕ) (test : Bool) → is_slash b ≡ test → list_any is_slash bs ≡ false → name_len bs ≡ length bs →
+    base_name_place (b ∷ bs) ≡ place_onto b None
 place_within-whole b bs true e none len =
     let any : list_any is_slash (b ∷ bs) ≡ true = grind arith in
     let one : length (b ∷ bs) - name_len (b ∷ bs) ≡ 1 = let l = name_len-slash b bs len e in omega arith in
@@ -91,25 +95,25 @@ place_of_is : (path : List ℕ) → base_name_place path ≡ place_of path
 place_of_is [] = refl
 place_of_is (b ∷ bs) = place_within b bs (name_of bs) ∙ ap (place_onto b) (place_of_is bs)
 
-place_onto-zero : (b : ℕ) (o : Option ℕ) (test : Bool) → is_slash b ≡ test → place_onto b o ≡ place_behind 0 (place_onto b o)
+place_onto-zero : (b : ℕ) (o : Option ℕ) (test : Bool) → is_slash b ≡ test → place_onto b o ≡ place_after 0 (place_onto b o)
 place_onto-zero b (Some place) _ _ = grind (arith, nat_tests)
 place_onto-zero b None true e = grind (arith, nat_tests)
 place_onto-zero b None false e = grind (arith, nat_tests)
 
-place_onto-suc : (n b : ℕ) (o : Option ℕ) (test : Bool) → is_slash b ≡ test → place_behind n o ≡ place_behind (suc n) (place_onto b o)
+place_onto-suc : (n b : ℕ) (o : Option ℕ) (test : Bool) → is_slash b ≡ test → place_after n o ≡ place_after (suc n) (place_onto b o)
 place_onto-suc n b (Some place) _ _ = grind (arith, nat_tests)
 place_onto-suc n b None true e = grind (arith, nat_tests)
 place_onto-suc n b None false e = grind (arith, nat_tests)
 
-place_of-drop : (n : ℕ) (path : List ℕ) → place_of (drop n path) ≡ place_behind n (place_of path)
+place_of-drop : (n : ℕ) (path : List ℕ) → place_of (drop n path) ≡ place_after n (place_of path)
 place_of-drop zero [] = refl
 place_of-drop (suc n) [] = refl
 place_of-drop zero (b ∷ bs) = place_onto-zero b (place_of bs) (is_slash b) refl
 place_of-drop (suc n) (b ∷ bs) = place_of-drop n bs ∙ place_onto-suc n b (place_of bs) (is_slash b) refl
 
--- the place of the base name behind a front
-pub base_name_place-drop : (n : ℕ) (path : List ℕ) → base_name_place (drop n path) ≡ place_behind n (base_name_place path)
-base_name_place-drop n path = place_of_is (drop n path) ∙ place_of-drop n path ∙ ap (place_behind n) (sym (place_of_is path))
+-- the place of the base name after a front
+pub base_name_place-drop : (n : ℕ) (path : List ℕ) → base_name_place (drop n path) ≡ place_after n (base_name_place path)
+base_name_place-drop n path = place_of_is (drop n path) ∙ place_of-drop n path ∙ ap (place_after n) (sym (place_of_is path))
 
 whole_by : (path : List ℕ) → Name path → base_name_place path ≡ None → path ≡ base_name path
 whole_by path (whole none e) h = sym (ap (λ n. drop n path) (let n : length path - name_len path ≡ 0 = omega arith in n))

@@ -1,15 +1,17 @@
 -- Which places are reached: the first tokens against the first bytes, by recursion on both reversed, so
 -- that one more byte and one more token each stand in front.
-use Rattle.std.proofs.Common.{◌≡◌, ℕ, Bool, true, cond, ◌||◌, ◌==◌, inl, inr, List, [], ◌∷◌, ◌++◌, take, reverse, slice_get, refl, sym, ap, subst, ◌∙◌, append_assoc, append-nil}
+use Rattle.std.proofs.Common.{◌≡◌, ℕ, Bool, true, cond, ◌||◌, ◌==◌, inl, inr, List, [], ◌∷◌, ◌++◌, take, reverse, slice_get, refl, sym, ap, subst}
+use Rattle.std.proofs.Common.{◌∙◌, append_assoc, append-nil}
 use Rattle.std.proofs.lemmas.List.{reverse-append}
 use Rattle.attr_glob.specs.declared.pattern.Case.{Case}
 use Rattle.attr_glob.specs.Bytes.{slash}
 use Rattle.attr_glob.specs.Tokens.{Token, lit, one, set, star, dirs, rest}
 use Rattle.attr_glob.specs.Matching.{Takes, Match}
 use Rattle.attr_glob.specs.Deciding.{takes_byte, byte_then, star_then, rest_then, is_nil}
-use Rattle.attr_glob.specs.Rows.{is_folder}
+use Rattle.attr_glob.specs.inner.RowPlaces.{is_folder}
 use Rattle.attr_glob.proofs.Basics.{each_of_all, all_of_each, Each-reverse, reverse-cons, or_part, or_left, or_right, equal}
-use Rattle.attr_glob.proofs.Splits.{NoSlash, Split, byte_split, byte_joined, star_split, star_joined, rest_split, rest_joined, single_takes, single_taken}
+use Rattle.attr_glob.proofs.Splits.{NoSlash, Split, byte_split, byte_joined, star_split, star_joined, rest_split, rest_joined, single_takes}
+use Rattle.attr_glob.proofs.Splits.{single_taken}
 
 -- what the token takes at the end, and before that what f takes; all reversed
 abbrev pub back_then : Case → Token → (List ℕ → Bool) → List ℕ → Bool
@@ -49,7 +51,14 @@ pub record Last (case : Case) (ts : List Token) (t : Token) (v : List ℕ) : Typ
   pub takes : Takes case t part
 
 pub match-unlast : (case : Case) (ts : List Token) (t : Token) (v : List ℕ) → Match case (ts ++ t ∷ []) v → Last case ts t v
-match-unlast case [] t v m = record { front = []; part = v; whole = refl; before = refl; takes = subst (Takes case t) (sym (m.2 ∙ (ap (λ x. m.0 ++ x) m.4 ∙ append-nil m.0))) m.3 }
+match-unlast case [] t v m = record {
+  front = [];
+  part = v;
+  whole = refl;
+  before = refl;
+  takes = subst (Takes case t)
+      (sym (m.2 ∙ (ap (λ x. m.0 ++ x) m.4 ∙ append-nil m.0))) m.3;
+}
 match-unlast case (u ∷ ts) t v m =
     let r = match-unlast case ts t m.1 m.4 in
     record {
@@ -75,7 +84,13 @@ back_split case one f v h = single_back case one f v h
 back_split case (set negated ms) f v h = single_back case (set negated ms) f v h
 back_split case star f v h =
     let s = star_split f v h in
-    record { part = s.part; others = s.others; whole = s.whole; holds = all_of_each NoSlash (reverse s.part) (Each-reverse NoSlash s.part s.holds); taken = s.taken }
+    record {
+      part = s.part;
+      others = s.others;
+      whole = s.whole;
+      holds = all_of_each NoSlash (reverse s.part) (Each-reverse NoSlash s.part s.holds);
+      taken = s.taken;
+    }
 back_split case dirs f v h = elim (or_part (f v) (byte_then (λ b. b == slash) (rest_then f) v) h) [
   | inl t ↦ record { part = []; others = v; whole = refl; holds = inl refl; taken = t }
   | inr t ↦

@@ -1,22 +1,24 @@
 -- The rules of a step hold for the places that are reached.
-use Rattle.std.proofs.Common.{◌≡◌, ◌<◌, ◌+◌, ℕ, zero, suc, Bool, true, false, cond, not, ◌&&◌, ◌==◌, ◌⊎◌, inl, inr, List, [], ◌∷◌, length, slice_get, Option, Some, None, refl, sym, ap, subst, ◌∙◌, arith, add-one}
+use Rattle.std.proofs.Common.{◌≡◌, ◌<◌, ◌+◌, ℕ, zero, suc, Bool, true, false, cond, not, ◌&&◌, ◌==◌, ◌⊎◌, inl, inr, List, [], ◌∷◌, length, slice_get}
+use Rattle.std.proofs.Common.{Option, Some, None, refl, sym, ap, subst, ◌∙◌, arith, add-one}
 use Rattle.attr_glob.specs.declared.pattern.Case.{Case}
 use Rattle.attr_glob.specs.Bytes.{slash}
-use Rattle.attr_glob.specs.Tokens.{Token, lit, one, set, star, dirs, rest, ends_in_slash}
+use Rattle.attr_glob.specs.Tokens.{Token, lit, one, set, star, dirs, rest, token_ends_in_slash}
 use Rattle.attr_glob.specs.TokenList.{is_bordered}
 use Rattle.attr_glob.specs.Deciding.{takes_byte, star_then, rest_then}
-use Rattle.attr_glob.specs.Rows.{may_be_nothing, is_dirs, goes_on, ends_with, may_skip, is_folder, holds_on, leads_on, token_before, IsStep}
+use Rattle.attr_glob.specs.inner.RowPlaces.{may_be_nothing, is_dirs, continues_with, ends_at, may_skip, is_folder, stays_on, advances_on}
+use Rattle.attr_glob.specs.inner.RowPlaces.{token_before, IsStep}
 use Rattle.attr_glob.proofs.Basics.{by_test, and_parts, and_both, or_part, or_right}
 use Rattle.attr_glob.proofs.Reached.{back_then, fresh, alive}
 use Rattle.attr_glob.proofs.ReachedSteps.{before_place, fresh-next, alive-folder, alive-plain, growing, no_folder_behind}
 
--- the token takes any number of bytes and its place is behind it
+-- the token takes any number of bytes and its place is after it
 abbrev is_wide : Token → Bool
 is_wide star = true
 is_wide rest = true
 is_wide _ = false
 
-wide_end : (t : Token) → is_wide t ≡ true → ends_in_slash t ≡ false
+wide_end : (t : Token) → is_wide t ≡ true → token_ends_in_slash t ≡ false
 wide_end star h = refl
 wide_end rest h = refl
 wide_end (lit c) h = cc
@@ -24,7 +26,7 @@ wide_end one h = cc
 wide_end (set n ms) h = cc
 wide_end dirs h = cc
 
-goes_wide : (t : Token) (b : ℕ) → goes_on t b ≡ true → is_wide t ≡ true
+goes_wide : (t : Token) (b : ℕ) → continues_with t b ≡ true → is_wide t ≡ true
 goes_wide star b h = refl
 goes_wide rest b h = refl
 goes_wide (lit c) b h = cc
@@ -33,29 +35,30 @@ goes_wide (set n ms) b h = cc
 goes_wide dirs b h = cc
 
 -- over a byte a star or a rest keeps what it had taken
-hold_back : (case : Case) (t : Token) (f : List ℕ → Bool) (b : ℕ) (w : List ℕ) → goes_on t b ≡ true → back_then case t f w ≡ true → back_then case t f (b ∷ w) ≡ true
-hold_back case star f b w h k = or_right (f (b ∷ w)) (not (b == slash) && star_then f w) (and_both (not (b == slash)) (star_then f w) h k)
-hold_back case rest f b w h k = or_right (f (b ∷ w)) (rest_then f w) k
-hold_back case (lit c) f b w h k = cc
-hold_back case one f b w h k = cc
-hold_back case (set n ms) f b w h k = cc
-hold_back case dirs f b w h k = cc
+stay_back : (case : Case) (t : Token) (f : List ℕ → Bool) (b : ℕ) (w : List ℕ) → continues_with t b ≡ true → back_then case t f w ≡ true → back_then
+    case t f (b ∷ w) ≡ true
+stay_back case star f b w h k = or_right (f (b ∷ w)) (not (b == slash) && star_then f w) (and_both (not (b == slash)) (star_then f w) h k)
+stay_back case rest f b w h k = or_right (f (b ∷ w)) (rest_then f w) k
+stay_back case (lit c) f b w h k = cc
+stay_back case one f b w h k = cc
+stay_back case (set n ms) f b w h k = cc
+stay_back case dirs f b w h k = cc
 
 -- a byte leads on from where the token stood
-lead_back : (case : Case) (t : Token) (f : List ℕ → Bool) (b : ℕ) (w : List ℕ) → ends_with case t b ≡ true →
+advance_back : (case : Case) (t : Token) (f : List ℕ → Bool) (b : ℕ) (w : List ℕ) → ends_at case t b ≡ true →
     cond (is_dirs t) (rest_then f w) (f w) ≡ true → back_then case t f (b ∷ w) ≡ true
-lead_back case (lit c) f b w h k = and_both (takes_byte case (lit c) b) (f w) h k
-lead_back case one f b w h k = and_both (takes_byte case one b) (f w) h k
-lead_back case (set n ms) f b w h k = and_both (takes_byte case (set n ms) b) (f w) h k
-lead_back case star f b w h k = cc
-lead_back case rest f b w h k = cc
-lead_back case dirs f b w h k = or_right (f (b ∷ w)) (b == slash && rest_then f w) (and_both (b == slash) (rest_then f w) h k)
+advance_back case (lit c) f b w h k = and_both (takes_byte case (lit c) b) (f w) h k
+advance_back case one f b w h k = and_both (takes_byte case one b) (f w) h k
+advance_back case (set n ms) f b w h k = and_both (takes_byte case (set n ms) b) (f w) h k
+advance_back case star f b w h k = cc
+advance_back case rest f b w h k = cc
+advance_back case dirs f b w h k = or_right (f (b ∷ w)) (b == slash && rest_then f w) (and_both (b == slash) (rest_then f w) h k)
 
 -- how a token came to take what ends with the byte
 abbrev BackFrom : Case → Token → (List ℕ → Bool) → ℕ → List ℕ → Type 0
 BackFrom case t f b w =
-    ((goes_on t b ≡ true) × (back_then case t f w ≡ true)) ⊎
-    (((ends_with case t b ≡ true) × (cond (is_dirs t) (rest_then f w) (f w) ≡ true)) ⊎
+    ((continues_with t b ≡ true) × (back_then case t f w ≡ true)) ⊎
+    (((ends_at case t b ≡ true) × (cond (is_dirs t) (rest_then f w) (f w) ≡ true)) ⊎
     ((may_be_nothing t ≡ true) × (f (b ∷ w) ≡ true)))
 
 back_from : (case : Case) (t : Token) (f : List ℕ → Bool) (b : ℕ) (w : List ℕ) → back_then case t f (b ∷ w) ≡ true → BackFrom case t f b w
@@ -76,10 +79,10 @@ alive-token : (case : Case) (ts : List Token) (v : List ℕ) (k : ℕ) (t : Toke
     alive case ts v k ≡ cond (is_dirs t) (rest_then (before_place case ts k) v) (before_place case ts k v)
 alive-token case ts v k t h = ap (λ x. cond (is_folder x) (rest_then (before_place case ts k) v) (fresh case ts v k)) h
 
--- a place behind a star or a rest is alive only where it is fresh
-alive-behind : (case : Case) (ts : List Token) (v : List ℕ) (k : ℕ) (t : Token) → is_bordered true ts ≡ true → slice_get ts k ≡ Some t →
+-- a place after a star or a rest is alive only where it is fresh
+alive-tail : (case : Case) (ts : List Token) (v : List ℕ) (k : ℕ) (t : Token) → is_bordered true ts ≡ true → slice_get ts k ≡ Some t →
     is_wide t ≡ true → alive case ts v (k + 1) ≡ back_then case t (before_place case ts k) v
-alive-behind case ts v k t h e n =
+alive-tail case ts v k t h e n =
     alive-plain case ts v (k + 1)
     (subst (λ x. is_folder (slice_get ts x) ≡ false) (sym (add-one k)) (no_folder_behind true ts k t h e (wide_end t n))) ∙
     fresh-next case ts v k t e
@@ -88,20 +91,21 @@ token_before-next : (ts : List Token) (k : ℕ) (t : Token) → slice_get ts k �
 token_before-next ts k t e = ap (token_before ts) (add-one k) ∙ e
 
 module _ (case : Case) (ts : List Token) (b : ℕ) (w : List ℕ) (bordered : is_bordered true ts ≡ true) where
-  hold_at : (o : Option Token) (k : ℕ) → token_before ts k ≡ o → holds_on o b ≡ true → alive case ts w k ≡ true → fresh case ts (b ∷ w) k ≡ true
-  hold_at None k e h a = cc
-  hold_at (Some t) zero e h a = cc
-  hold_at (Some t) (suc k) e h a =
+  stay_at : (o : Option Token) (k : ℕ) → token_before ts k ≡ o → stays_on o b ≡ true → alive case ts w k ≡ true → fresh case ts (b ∷ w) k ≡ true
+  stay_at None k e h a = cc
+  stay_at (Some t) zero e h a = cc
+  stay_at (Some t) (suc k) e h a =
       let n = goes_wide t b h in
       subst (λ x. fresh case ts (b ∷ w) x ≡ true) (add-one k)
       (fresh-next case ts (b ∷ w) k t e ∙
-      hold_back case t (before_place case ts k) b w h
-      (sym (alive-behind case ts w k t bordered e n) ∙ subst (λ x. alive case ts w x ≡ true) (sym (add-one k)) a))
+      stay_back case t (before_place case ts k) b w h
+      (sym (alive-tail case ts w k t bordered e n) ∙ subst (λ x. alive case ts w x ≡ true) (sym (add-one k)) a))
 
-  lead_at : (o : Option Token) (k : ℕ) → slice_get ts k ≡ o → leads_on case o b ≡ true → alive case ts w k ≡ true → fresh case ts (b ∷ w) (k + 1) ≡ true
-  lead_at None k e h a = cc
-  lead_at (Some t) k e h a =
-      fresh-next case ts (b ∷ w) k t e ∙ lead_back case t (before_place case ts k) b w h (sym (alive-token case ts w k t e) ∙ a)
+  advance_at : (o : Option Token) (k : ℕ) → slice_get ts k ≡ o → advances_on case o b ≡ true → alive case ts w k ≡ true →
+      fresh case ts (b ∷ w) (k + 1) ≡ true
+  advance_at None k e h a = cc
+  advance_at (Some t) k e h a =
+      fresh-next case ts (b ∷ w) k t e ∙ advance_back case t (before_place case ts k) b w h (sym (alive-token case ts w k t e) ∙ a)
 
   alive_from_at : (k : ℕ) → alive case ts (b ∷ w) k ≡ true →
       (fresh case ts (b ∷ w) k ≡ true) ⊎ ((is_folder (slice_get ts k) ≡ true) × (alive case ts w k ≡ true))
@@ -113,8 +117,8 @@ module _ (case : Case) (ts : List Token) (b : ℕ) (w : List ℕ) (bordered : is
       (λ d. inl (sym (alive-plain case ts (b ∷ w) k d) ∙ a))
 
   fresh_from_at : (o : Option Token) (k : ℕ) → slice_get ts k ≡ o → k < length ts → fresh case ts (b ∷ w) (k + 1) ≡ true →
-      ((holds_on (token_before ts (k + 1)) b ≡ true) × (alive case ts w (k + 1) ≡ true)) ⊎
-      (((leads_on case (slice_get ts k) b ≡ true) × (alive case ts w k ≡ true)) ⊎
+      ((stays_on (token_before ts (k + 1)) b ≡ true) × (alive case ts w (k + 1) ≡ true)) ⊎
+      (((advances_on case (slice_get ts k) b ≡ true) × (alive case ts w k ≡ true)) ⊎
       ((may_skip (slice_get ts k) ≡ true) × (fresh case ts (b ∷ w) k ≡ true)))
   fresh_from_at None k e l h = absurd (missing ts k l e)
     where
@@ -124,11 +128,11 @@ module _ (case : Case) (ts : List Token) (b : ℕ) (w : List ℕ) (bordered : is
       missing (t ∷ ts) (suc k) l e = missing ts k (omega arith) e
   fresh_from_at (Some t) k e l h = elim (back_from case t (before_place case ts k) b w (sym (fresh-next case ts (b ∷ w) k t e) ∙ h)) [
     | inl s ↦ inl (
-      subst (λ x. holds_on x b ≡ true) (sym (token_before-next ts k t e)) s.0,
-      alive-behind case ts w k t bordered e (goes_wide t b s.0) ∙ s.1,
+      subst (λ x. stays_on x b ≡ true) (sym (token_before-next ts k t e)) s.0,
+      alive-tail case ts w k t bordered e (goes_wide t b s.0) ∙ s.1,
     )
     | inr s ↦ inr (elim s [
-      | inl r ↦ inl (subst (λ x. leads_on case x b ≡ true) (sym e) r.0, alive-token case ts w k t e ∙ r.1)
+      | inl r ↦ inl (subst (λ x. advances_on case x b ≡ true) (sym e) r.0, alive-token case ts w k t e ∙ r.1)
       | inr r ↦ inr (subst (λ x. may_skip x ≡ true) (sym e) r.0, r.1)
     ])
   ]
@@ -136,10 +140,10 @@ module _ (case : Case) (ts : List Token) (b : ℕ) (w : List ℕ) (bordered : is
   pub steps : IsStep case ts b (fresh case ts (b ∷ w)) (alive case ts (b ∷ w)) (alive case ts w)
   steps = record {
     growing = growing case ts (b ∷ w);
-    stay = λ k d a. alive-folder case ts (b ∷ w) k d ∙
+    folder = λ k d a. alive-folder case ts (b ∷ w) k d ∙
         or_right (before_place case ts k (b ∷ w)) (rest_then (before_place case ts k) w) (sym (alive-folder case ts w k d) ∙ a);
-    hold = λ k h a. hold_at (token_before ts k) k refl h a;
-    lead = λ k h a. lead_at (slice_get ts k) k refl h a;
+    stay = λ k h a. stay_at (token_before ts k) k refl h a;
+    advance = λ k h a. advance_at (slice_get ts k) k refl h a;
     alive_from = λ k l a. alive_from_at k a;
     fresh_from = λ k l h. fresh_from_at (slice_get ts k) k refl l h;
   }
@@ -159,9 +163,9 @@ back_from_nil case (set n ms) f h = cc
 pub starts : (case : Case) (ts : List Token) (b : ℕ) → IsStep case ts b (fresh case ts []) (alive case ts []) nothing
 starts case ts b = record {
   growing = growing case ts [];
-  stay = λ k d a. cc;
-  hold = λ k h a. cc;
-  lead = λ k h a. cc;
+  folder = λ k d a. cc;
+  stay = λ k h a. cc;
+  advance = λ k h a. cc;
   alive_from = λ k l a. inl (by_test (is_folder (slice_get ts k))
       (λ d. sym (alive-folder case ts [] k d) ∙ a) (λ d. sym (alive-plain case ts [] k d) ∙ a));
   fresh_from = λ k l h. inr (inr (from (slice_get ts k) k refl l h));

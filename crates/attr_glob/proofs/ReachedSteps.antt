@@ -1,12 +1,13 @@
 -- What one more byte makes of the places that are reached.
-use Rattle.std.proofs.Common.{◌≡◌, ◌+◌, ℕ, zero, suc, Bool, true, false, cond, not, ◌&&◌, ◌==◌, List, [], ◌∷◌, ◌++◌, take, reverse, slice_get, Option, Some, None, refl, sym, ap, subst, ◌∙◌, add-one}
+use Rattle.std.proofs.Common.{◌≡◌, ◌+◌, ℕ, zero, suc, Bool, true, false, cond, not, ◌&&◌, ◌==◌, List, [], ◌∷◌, ◌++◌, take, reverse, slice_get, Option}
+use Rattle.std.proofs.Common.{Some, None, refl, sym, ap, subst, ◌∙◌, add-one}
 use Rattle.std.proofs.lemmas.List.{reverse-append}
 use Rattle.attr_glob.specs.declared.pattern.Case.{Case}
 use Rattle.attr_glob.specs.Bytes.{slash}
-use Rattle.attr_glob.specs.Tokens.{Token, lit, one, set, star, dirs, rest, ends_in_slash}
+use Rattle.attr_glob.specs.Tokens.{Token, lit, one, set, star, dirs, rest, token_ends_in_slash}
 use Rattle.attr_glob.specs.TokenList.{is_bordered}
 use Rattle.attr_glob.specs.Deciding.{byte_then, star_then, rest_then}
-use Rattle.attr_glob.specs.Rows.{may_be_nothing, may_skip, is_folder, IsGrowing}
+use Rattle.attr_glob.specs.inner.RowPlaces.{may_be_nothing, may_skip, is_folder, IsGrowing}
 use Rattle.attr_glob.proofs.Basics.{by_test, and_parts, or_left, true_false}
 use Rattle.attr_glob.proofs.Reached.{reached, back_then, fresh, alive}
 
@@ -68,18 +69,20 @@ plain_head border (set m ms ∷ ts) h e = refl
 plain_head border (star ∷ ts) h e = refl
 plain_head border (rest ∷ ts) h e = refl
 
--- behind a star or a rest stands no folder star
+-- after a star or a rest stands no folder star
 pub no_folder_behind : (border : Bool) (ts : List Token) (k : ℕ) (t : Token) → is_bordered border ts ≡ true → slice_get ts k ≡ Some t →
-    ends_in_slash t ≡ false → is_folder (slice_get ts (suc k)) ≡ false
+    token_ends_in_slash t ≡ false → is_folder (slice_get ts (suc k)) ≡ false
 no_folder_behind border [] k t h e n = refl
-no_folder_behind border (dirs ∷ ts) zero t h e n = let same : dirs ≡ t = cc in absurd (true_false true refl (subst (λ x. ends_in_slash x ≡ false) (sym same) n))
-no_folder_behind border (lit c ∷ ts) zero t h e n = let same : lit c ≡ t = cc in plain_head (ends_in_slash (lit c)) ts h (subst (λ x. ends_in_slash x ≡ false) (sym same) n)
+no_folder_behind border (dirs ∷ ts) zero t h e n = let same : dirs ≡ t = cc in absurd
+    (true_false true refl (subst (λ x. token_ends_in_slash x ≡ false) (sym same) n))
+no_folder_behind border (lit c ∷ ts) zero t h e n = let same : lit c ≡ t = cc in plain_head (token_ends_in_slash (lit c)) ts h
+    (subst (λ x. token_ends_in_slash x ≡ false) (sym same) n)
 no_folder_behind border (one ∷ ts) zero t h e n = plain_head false ts h refl
 no_folder_behind border (set m ms ∷ ts) zero t h e n = plain_head false ts h refl
 no_folder_behind border (star ∷ ts) zero t h e n = plain_head false ts h refl
 no_folder_behind border (rest ∷ ts) zero t h e n = plain_head false ts h refl
 no_folder_behind border (dirs ∷ ts) (suc k) t h e n = no_folder_behind true ts k t (and_parts border (is_bordered true ts) h).1 e n
-no_folder_behind border (lit c ∷ ts) (suc k) t h e n = no_folder_behind (ends_in_slash (lit c)) ts k t h e n
+no_folder_behind border (lit c ∷ ts) (suc k) t h e n = no_folder_behind (token_ends_in_slash (lit c)) ts k t h e n
 no_folder_behind border (one ∷ ts) (suc k) t h e n = no_folder_behind false ts k t h e n
 no_folder_behind border (set m ms ∷ ts) (suc k) t h e n = no_folder_behind false ts k t h e n
 no_folder_behind border (star ∷ ts) (suc k) t h e n = no_folder_behind false ts k t h e n

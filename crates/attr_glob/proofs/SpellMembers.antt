@@ -1,5 +1,6 @@
 -- The members of a bracket, read and spelled.
-use Rattle.std.proofs.Common.{◌≡◌, ◌≢◌, ◌≤◌, ◌<◌, ◌+◌, ℕ, zero, suc, Bool, true, false, cond, not, ◌&&◌, ◌||◌, ◌==◌, inl, inr, List, [], ◌∷◌, ◌++◌, length, drop, Option, Some, None, option_map, codes, refl, sym, ap, subst, ◌∙◌, arith, length-append}
+use Rattle.std.proofs.Common.{◌≡◌, ◌≢◌, ◌≤◌, ◌<◌, ◌+◌, ℕ, zero, suc, Bool, true, false, cond, not, ◌&&◌, ◌||◌, ◌==◌, inl, inr, List, [], ◌∷◌, ◌++◌}
+use Rattle.std.proofs.Common.{length, drop, Option, Some, None, option_map, codes, refl, sym, ap, subst, ◌∙◌, arith, length-append}
 use Rattle.std.specs.Str.{bytes_eq}
 use Rattle.std.proofs.lemmas.Slice.Eq.{bytes_eq-Decides}
 use Rattle.attr_glob.specs.declared.bracket.Class.{Class}
@@ -7,9 +8,11 @@ use Rattle.attr_glob.specs.declared.bracket.Class.TheVariants.{Alnum, Alpha, Bla
 use Rattle.attr_glob.specs.declared.bracket.Member.{Member}
 use Rattle.attr_glob.specs.declared.bracket.Member.TheVariants.{Single, Span, Named}
 use Rattle.attr_glob.specs.Bytes.{hyphen, colon, open_bracket, backslash, close_bracket}
-use Rattle.attr_glob.specs.Brackets.{class_named, begins, name_in, span_end, ranged, from_single, from_escape, class_member, from_class, member_at, members}
+use Rattle.attr_glob.specs.Brackets.{class_named, begins, name_in, span_end, ranged, from_single, from_escape, class_member, from_class, member_at}
+use Rattle.attr_glob.specs.Brackets.{members}
 use Rattle.attr_glob.specs.Spelling.{class_name, BeginsClass, IsSingle, IsEnd, IsMember, AreMembers}
-use Rattle.attr_glob.proofs.Basics.{by_test, unequal, equal, equal_so, not_equal, and_parts, and_both, or_left, or_right, true_false, pair_parts, by_option, each_of_all, all_of_each}
+use Rattle.attr_glob.proofs.Basics.{by_test, unequal, equal, equal_so, not_equal, and_parts, and_both, or_left, or_right, true_false, pair_parts}
+use Rattle.attr_glob.proofs.Basics.{by_option, each_of_all, all_of_each}
 use Rattle.attr_glob.proofs.Names.{Unclosed, skipped}
 
 -- Names of classes.
@@ -17,7 +20,8 @@ use Rattle.attr_glob.proofs.Names.{Unclosed, skipped}
 pub name_in-named : (name others : List ℕ) → Unclosed name → name_in (name ++ colon ∷ close_bracket ∷ others) ≡ Some name
 name_in-named [] others h = refl
 name_in-named (b ∷ name) others h =
-    skipped b (name ++ colon ∷ close_bracket ∷ others) h.0 (unclosed_begin name others h.1) ∙ ap (option_map (λ x. b ∷ x)) (name_in-named name others h.1)
+    skipped b (name ++ colon ∷ close_bracket ∷ others) h.0 (unclosed_begin name others h.1) ∙ ap (option_map (λ x. b ∷ x))
+    (name_in-named name others h.1)
   where
     unclosed_begin : (name others : List ℕ) → Unclosed name → begins close_bracket (name ++ colon ∷ close_bracket ∷ others) ≡ false
     unclosed_begin [] others h = refl
@@ -28,7 +32,7 @@ pub record HasName (bs name : List ℕ) : Type 0 where
   pub others : List ℕ
   pub whole : bs ≡ name ++ colon ∷ close_bracket ∷ others
   pub unclosed : Unclosed name
-  pub behind : drop (length name + 2) bs ≡ others
+  pub tail : drop (length name + 2) bs ≡ others
 
 named_step : (b : ℕ) (bs name : List ℕ) → ((rest : List ℕ) → name_in bs ≡ Some rest → HasName bs rest) →
     name_in (b ∷ bs) ≡ Some name → HasName (b ∷ bs) name
@@ -43,7 +47,7 @@ named_step b bs name before h = by_test (b == close_bracket) (λ t. let e = rw t
         let r = begun bs g in
         subst (HasName (b ∷ bs)) n
         (subst (λ x. HasName x []) (sym (ap (λ x. x ∷ bs) e ∙ ap (λ x. colon ∷ x) r.1))
-        (record { others = r.0; whole = refl; unclosed = tt; behind = refl }))
+        (record { others = r.0; whole = refl; unclosed = tt; tail = refl }))
 
     later : b ≢ close_bracket → (rest : List ℕ) → name_in bs ≡ Some rest → b ∷ rest ≡ name → HasName (b ∷ bs) name
     later ne rest e n =
@@ -53,7 +57,7 @@ named_step b bs name before h = by_test (b == close_bracket) (λ t. let e = rw t
           others = r.others;
           whole = ap (λ x. b ∷ x) r.whole;
           unclosed = (ne, r.unclosed);
-          behind = let more : suc (length rest) + 2 ≡ suc (length rest + 2) = omega arith in ap (λ x. drop x (b ∷ bs)) more ∙ r.behind;
+          tail = let more : suc (length rest) + 2 ≡ suc (length rest + 2) = omega arith in ap (λ x. drop x (b ∷ bs)) more ∙ r.tail;
         })
 
     mapped : b ≢ close_bracket → (o : Option (List ℕ)) → name_in bs ≡ o → option_map (λ x. b ∷ x) o ≡ Some name → HasName (b ∷ bs) name
@@ -182,7 +186,8 @@ abbrev Closes : Bool → ℕ → Bool
 Closes first b = b == close_bracket && not first
 
 -- where the text begins with a class, its name is found
-begun_class : (b : ℕ) (bs : List ℕ) → BeginsClass (b ∷ bs) → (b ≡ open_bracket) × (begins colon bs ≡ true) × ((name : List ℕ) × (name_in (drop 1 bs) ≡ Some name))
+begun_class : (b : ℕ) (bs : List ℕ) → BeginsClass (b ∷ bs) → (b ≡ open_bracket) × (begins colon bs ≡ true) ×
+    ((name : List ℕ) × (name_in (drop 1 bs) ≡ Some name))
 begun_class b bs h =
     let head : b ≡ open_bracket = cc (h.2) in
     let tail : bs ≡ colon ∷ (h.0 ++ colon ∷ close_bracket ∷ h.1) = cc (h.2) in (
@@ -201,31 +206,40 @@ same_member first text p m mid e h =
     let parts = pair_parts p.0 m p.1 mid e in
     subst (λ x. IsMember first text m x) parts.1 (subst (λ x. IsMember first text x p.1) parts.0 h)
 
-class_read : (first : Bool) (bs : List ℕ) (m : Member) (mid : List ℕ) → begins colon bs ≡ true → class_member bs (name_in (drop 1 bs)) ≡ Some (m, mid) →
+class_read : (first : Bool) (bs : List ℕ) (m : Member) (mid : List ℕ) → begins colon bs ≡ true → class_member bs (name_in (drop 1 bs)) ≡ Some (m, mid)
+    →
     IsMember first (open_bracket ∷ bs) m mid
 class_read first [] m mid g h = cc
 class_read first (b ∷ bs) m mid g h = by_option (name_in bs)
     (λ n. same_member first (open_bracket ∷ b ∷ bs) (from_single open_bracket (b ∷ bs)) m mid (rw n at h)
     (tail_member first (open_bracket ∷ b ∷ bs) open_bracket (b ∷ bs)
-    (inr (refl, not_equal open_bracket backslash refl, (λ e. absurd (not_equal open_bracket close_bracket refl e)), (λ c. let f = (begun_class open_bracket (b ∷ bs) c).2 in let q : None ≡ Some f.0 = sym n ∙ f.1 in cc)))))
+    (inr (
+      refl,
+      not_equal open_bracket backslash refl,
+      (λ e. absurd (not_equal open_bracket close_bracket refl e)),
+      (λ c. let f = (begun_class open_bracket (b ∷ bs) c).2 in let q : None ≡ Some f.0 = sym n ∙ f.1 in cc),
+    ))))
     (λ name e. named_class name e (rw e at h))
   where
-    at_class : (name : List ℕ) → HasName bs name → (class : Class) → class_named name ≡ Some class → Named class ≡ m → drop (length name + 3) (b ∷ bs) ≡ mid →
+    at_class : (name : List ℕ) → HasName bs name → (class : Class) → class_named name ≡ Some class → Named class ≡ m → drop (length name + 3) (b ∷ bs)
+        ≡ mid →
         IsMember first (open_bracket ∷ b ∷ bs) m mid
     at_class name r class k q d =
         let more : length name + 3 ≡ suc (length name + 2) = omega arith in
-        let mid_is : r.others ≡ mid = sym r.behind ∙ (sym (ap (λ x. drop x (b ∷ bs)) more) ∙ d) in
+        let mid_is : r.others ≡ mid = sym r.tail ∙ (sym (ap (λ x. drop x (b ∷ bs)) more) ∙ d) in
         let whole : open_bracket ∷ b ∷ bs ≡ open_bracket ∷ colon ∷ (class_name class ++ colon ∷ close_bracket ∷ mid) =
         ap (λ x. open_bracket ∷ x ∷ bs) (equal b colon g) ∙ (ap (λ x. open_bracket ∷ colon ∷ x) r.whole ∙
         (ap (λ x. open_bracket ∷ colon ∷ (x ++ colon ∷ close_bracket ∷ r.others)) (name_of_class name class k) ∙
         ap (λ x. open_bracket ∷ colon ∷ (class_name class ++ colon ∷ close_bracket ∷ x)) mid_is)) in
         subst (λ x. IsMember first (open_bracket ∷ b ∷ bs) x mid) q whole
 
-    named_class : (name : List ℕ) → name_in bs ≡ Some name → option_map {U = Member × List ℕ} (λ class. (Named class, drop (length name + 3) (b ∷ bs))) (class_named name) ≡ Some (m, mid) →
+    named_class : (name : List ℕ) → name_in bs ≡ Some name → option_map {U = Member × List ℕ}
+        (λ class. (Named class, drop (length name + 3) (b ∷ bs))) (class_named name) ≡ Some (m, mid) →
         IsMember first (open_bracket ∷ b ∷ bs) m mid
     named_class name e q = by_option (class_named name)
         (λ n. let z = rw n at q in cc)
-        (λ class k. let parts = pair_parts (Named class) m (drop (length name + 3) (b ∷ bs)) mid (rw k at q) in at_class name (named bs name e) class k parts.0 parts.1)
+        (λ class k. let parts = pair_parts (Named class) m (drop (length name + 3) (b ∷ bs)) mid (rw k at q) in at_class name (named bs name e) class
+        k parts.0 parts.1)
 
 pub member_of : (first : Bool) (b : ℕ) (bs : List ℕ) (m : Member) (mid : List ℕ) → Closes first b ≡ false → member_at b bs ≡ Some (m, mid) →
     IsMember first (b ∷ bs) m mid
@@ -236,7 +250,8 @@ member_of first b bs m mid c h = by_test (b == backslash) (λ t. escaped bs t (r
     escaped (d ∷ bs) t e = same_member first (b ∷ d ∷ bs) (from_single d bs) m mid e
         (tail_member first (b ∷ d ∷ bs) d bs (inl (ap (λ x. x ∷ d ∷ bs) (equal b backslash t))))
 
-    plain : (b == backslash) ≡ false → cond (b == open_bracket && begins colon bs) (from_class bs) (Some (from_single b bs)) ≡ Some (m, mid) → IsMember first (b ∷ bs) m mid
+    plain : (b == backslash) ≡ false → cond (b == open_bracket && begins colon bs) (from_class bs) (Some (from_single b bs)) ≡ Some (m, mid) →
+        IsMember first (b ∷ bs) m mid
     plain f e = by_test (b == open_bracket && begins colon bs)
         (λ t. let w = and_parts (b == open_bracket) (begins colon bs) t in
         subst (λ x. IsMember first (x ∷ bs) m mid) (sym (equal b open_bracket w.0)) (class_read first bs m mid w.1 (rw t at e)))
@@ -251,17 +266,17 @@ member_of first b bs m mid c h = by_test (b == backslash) (λ t. escaped bs t (r
 -- the text begins with a byte that does not close the bracket, at which the member is read
 pub record Reads (first : Bool) (text : List ℕ) (m : Member) (mid : List ℕ) : Type 0 where
   pub byte : ℕ
-  pub behind : List ℕ
-  pub whole : text ≡ byte ∷ behind
+  pub tail : List ℕ
+  pub whole : text ≡ byte ∷ tail
   pub stays_open : Closes first byte ≡ false
-  pub read : member_at byte behind ≡ Some (m, mid)
+  pub read : member_at byte tail ≡ Some (m, mid)
 
 single_read : (first : Bool) (text : List ℕ) (c : ℕ) (others : List ℕ) (m : Member) (mid : List ℕ) → from_single c others ≡ (m, mid) →
     IsSingle first text c others → Reads first text m mid
-single_read first text c others m mid e (inl h) = record { byte = backslash; behind = c ∷ others; whole = h; stays_open = refl; read = ap Some e }
+single_read first text c others m mid e (inl h) = record { byte = backslash; tail = c ∷ others; whole = h; stays_open = refl; read = ap Some e }
 single_read first text c others m mid e (inr h) = record {
   byte = c;
-  behind = others;
+  tail = others;
   whole = h.0;
   stays_open = by_test (c == close_bracket) (λ t. rw (t, h.2 (equal c close_bracket t))) (λ f. rw f);
   read = rw (unequal c backslash h.1) (by_test (c == open_bracket && begins colon others) (λ t. rw t (as_class t)) (λ f. rw f (ap Some e)));
@@ -280,11 +295,13 @@ single_read first text c others m mid e (inr h) = record {
         absurd (h.3 (
           name,
           r.others,
-          h.0 ∙ (ap (λ x. x ∷ others) (equal c open_bracket w.0) ∙ (ap (λ x. open_bracket ∷ x) (colon_first others w.1) ∙ ap (λ x. open_bracket ∷ colon ∷ x) r.whole)),
+          h.0 ∙ (ap (λ x. x ∷ others) (equal c open_bracket w.0) ∙ (ap (λ x. open_bracket ∷ x) (colon_first others w.1) ∙ ap
+              (λ x. open_bracket ∷ colon ∷ x) r.whole)),
           all_of_each (λ x. x ≢ close_bracket) name r.unclosed,
         )))
 
-class_at : (class : Class) (others : List ℕ) → member_at open_bracket (colon ∷ (class_name class ++ colon ∷ close_bracket ∷ others)) ≡ Some (Named class, others)
+class_at : (class : Class) (others : List ℕ) → member_at open_bracket (colon ∷ (class_name class ++ colon ∷ close_bracket ∷ others)) ≡ Some
+    (Named class, others)
 class_at Alnum others = refl
 class_at Alpha others = refl
 class_at Blank others = refl
@@ -300,10 +317,11 @@ class_at Xdigit others = refl
 
 pub member_read : (first : Bool) (text : List ℕ) (m : Member) (mid : List ℕ) → IsMember first text m mid → Reads first text m mid
 member_read first text (Single c) mid h = single_read first text c mid (Single c) mid (alone c mid h.1) h.0
-member_read first text (Span c d) mid h = single_read first text c (hyphen ∷ h.0) (Span c d) mid (ap (ranged c (hyphen ∷ h.0)) (end_read h.0 d mid h.2)) h.1
+member_read first text (Span c d) mid h = single_read first text c (hyphen ∷ h.0) (Span c d) mid
+    (ap (ranged c (hyphen ∷ h.0)) (end_read h.0 d mid h.2)) h.1
 member_read first text (Named class) mid h = record {
   byte = open_bracket;
-  behind = colon ∷ (class_name class ++ colon ∷ close_bracket ∷ mid);
+  tail = colon ∷ (class_name class ++ colon ∷ close_bracket ∷ mid);
   whole = h;
   stays_open = refl;
   read = class_at class mid;
@@ -329,15 +347,21 @@ member_shorter first text (Named class) mid h =
 
 -- Lists of members.
 
-pub members_of : (n : ℕ) (first : Bool) (text : List ℕ) (ms : List Member) (rest : List ℕ) → members n first text ≡ Some (ms, rest) → AreMembers first text ms rest
+pub members_of : (n : ℕ) (first : Bool) (text : List ℕ) (ms : List Member) (rest : List ℕ) → members n first text ≡ Some (ms, rest) → AreMembers first
+    text ms rest
 members_of n first [] ms rest h = cc
 members_of zero first (b ∷ bs) ms rest h = cc
 members_of (suc n) first (b ∷ bs) ms rest h = one_more first b bs ms rest n (λ mid q z e. members_of n false mid q z e) h
   where
-    end_of_list : (first : Bool) (b : ℕ) (bs : List ℕ) (ms : List Member) (rest : List ℕ) → [] ≡ ms → bs ≡ rest → Closes first b ≡ true → AreMembers first (b ∷ bs) ms rest
+    end_of_list : (first : Bool) (b : ℕ) (bs : List ℕ) (ms : List Member) (rest : List ℕ) → [] ≡ ms → bs ≡ rest → Closes first b ≡ true → AreMembers
+        first (b ∷ bs) ms rest
     end_of_list first b bs ms rest e k c =
         let w = and_parts (b == close_bracket) (not first) c in
-        subst (λ x. AreMembers first (b ∷ bs) x rest) e (closed_first first w.1, ap (λ x. x ∷ bs) (equal b close_bracket w.0) ∙ ap (λ x. close_bracket ∷ x) k)
+        subst (λ x. AreMembers first (b ∷ bs) x rest) e (
+          closed_first first w.1,
+          ap (λ x. x ∷ bs) (equal b close_bracket w.0) ∙ ap
+              (λ x. close_bracket ∷ x) k,
+        )
       where
         closed_first : (v : Bool) → not v ≡ true → v ≡ false
         closed_first true q = cc
@@ -374,8 +398,8 @@ members_read n first text (m ∷ ms) rest l h =
     let r = member_read first text m h.0 h.1 in
     let s = member_shorter first text m h.0 h.1 in
     subst (λ x. members n first x ≡ Some (m ∷ ms, rest)) (sym r.whole)
-    (more n r.byte r.behind (let e : length text ≡ suc (length r.behind) = ap length r.whole in omega arith) r.stays_open r.read
-    (λ k q. members_read k false h.0 ms rest (let e : length text ≡ suc (length r.behind) = ap length r.whole in omega arith) h.2))
+    (more n r.byte r.tail (let e : length text ≡ suc (length r.tail) = ap length r.whole in omega arith) r.stays_open r.read
+    (λ k q. members_read k false h.0 ms rest (let e : length text ≡ suc (length r.tail) = ap length r.whole in omega arith) h.2))
   where
     more : (n b : ℕ) (bs : List ℕ) → suc (length bs) ≤ n → Closes first b ≡ false → member_at b bs ≡ Some (m, h.0) →
         ((k : ℕ) → length bs ≤ k → members k false h.0 ≡ Some (ms, rest)) → members n first (b ∷ bs) ≡ Some (m ∷ ms, rest)

@@ -78,7 +78,14 @@ slash_split f (b ∷ bs) h = elim (or_part (b == slash && f bs) (slash_then f bs
       record { part = b ∷ []; others = bs; whole = refl; holds = ([], ap (λ x. x ∷ []) (equal b slash w.0)); taken = w.1 }
   | inr t ↦
       let s = slash_split f bs t in
-      record { part = b ∷ s.part; others = s.others; whole = ap (λ x. b ∷ x) s.whole; holds = (b ∷ s.holds.0, ap (λ x. b ∷ x) s.holds.1); taken = s.taken }
+      record {
+        part = b ∷ s.part;
+        others = s.others;
+        whole = ap (λ x. b ∷ x) s.whole;
+        holds = (b ∷ s.holds.0, ap (λ x. b ∷ x) s.holds.1);
+        taken =
+            s.taken;
+      }
 ]
 
 pub slash_joined : (f : List ℕ → Bool) (front others : List ℕ) → f others ≡ true → slash_then f ((front ++ slash ∷ []) ++ others) ≡ true

@@ -1,10 +1,11 @@
 -- The tokens of a text, one after the other.
-use Rattle.std.proofs.Common.{◌≡◌, ◌≤◌, ◌<◌, ℕ, zero, suc, Bool, true, false, ◌==◌, List, [], ◌∷◌, ◌++◌, length, slice_get, get_or, nat_lt, is_some, IfSome, Bor, Option, None, Some, option_map, refl, sym, ap, ◌∙◌, append_assoc, arith}
+use Rattle.std.proofs.Common.{◌≡◌, ◌≤◌, ◌<◌, ℕ, zero, suc, Bool, true, false, ◌==◌, List, [], ◌∷◌, ◌++◌, length, slice_get, get_or, nat_lt, is_some}
+use Rattle.std.proofs.Common.{IfSome, Bor, Option, None, Some, option_map, refl, sym, ap, ◌∙◌, append_assoc, arith}
 use borrow.Author.Tests.{ltb-true, ltb-false}
 use Rattle.attr_glob.specs.declared.token.Token as written
 use Rattle.attr_glob.specs.declared.bracket.Member.{Member}
 use Rattle.attr_glob.specs.Bytes.{asterisk, question_mark, backslash, open_bracket}
-use Rattle.attr_glob.specs.Tokens.{Token, lit, one, set, star, dirs, rest, tokens_from, token_at, bracket_at, escape_at, ends_in_slash}
+use Rattle.attr_glob.specs.Tokens.{Token, lit, one, set, star, dirs, rest, tokens_from, token_at, bracket_at, escape_at, token_ends_in_slash}
 use Rattle.attr_glob.specs.Brackets.{members, negates}
 use Rattle.attr_glob.specs.TokenList.{token_of, tokens_of, is_bordered}
 use Rattle.attr_glob.proofs.Basics.{by_test}
@@ -23,11 +24,12 @@ after-cons : (list : List Token) (t : Token) (o : Option (List Token)) →
 after-cons list t None = refl
 after-cons list t (Some ts) = ap Some (sym (append_assoc list (t ∷ []) ts))
 
-pub tokens_more : (list : List Token) (n : ℕ) (border : Bool) (b : ℕ) (bs : List ℕ) (t : Token) (behind : List ℕ) →
-    token_at border b bs ≡ Some (t, behind) → suc (length bs) ≤ n → length behind ≤ length bs →
-    (k : ℕ) × (length behind ≤ k) × (after list (tokens_from n border (b ∷ bs)) ≡ after (list ++ t ∷ []) (tokens_from k (ends_in_slash t) behind))
-tokens_more list zero border b bs t behind h l r = absurd (omega arith)
-tokens_more list (suc n) border b bs t behind h l r = (n, omega arith, rw h (after-cons list t (tokens_from n (ends_in_slash t) behind)))
+pub tokens_more : (list : List Token) (n : ℕ) (border : Bool) (b : ℕ) (bs : List ℕ) (t : Token) (tail : List ℕ) →
+    token_at border b bs ≡ Some (t, tail) → suc (length bs) ≤ n → length tail ≤ length bs →
+    (k : ℕ) × (length tail ≤ k) × (after list (tokens_from n border (b ∷ bs)) ≡ after (list ++ t ∷ [])
+    (tokens_from k (token_ends_in_slash t) tail))
+tokens_more list zero border b bs t tail h l r = absurd (omega arith)
+tokens_more list (suc n) border b bs t tail h l r = (n, omega arith, rw h (after-cons list t (tokens_from n (token_ends_in_slash t) tail)))
 
 pub tokens_malformed : (list : List Token) (n : ℕ) (border : Bool) (b : ℕ) (bs : List ℕ) →
     token_at border b bs ≡ None → suc (length bs) ≤ n → after list (tokens_from n border (b ∷ bs)) ≡ None
@@ -62,12 +64,13 @@ slice_get-missing (u ∷ ts) (suc k) h = slice_get-missing ts k (omega arith)
 pub looked_up : (ts : List written.Token) (k : ℕ) (o : Option (Bor written.Token)) → is_some o ≡ nat_lt k (length ts) →
     IfSome o (λ x. x.now ≡ get_or ts k x.now) → option_map (λ t. token_of t.now) o ≡ slice_get (tokens_of ts) k
 looked_up ts k None h e = sym (slice_get_tokens_of ts k ∙ ap (option_map token_of) (slice_get-missing ts k (ltb-false k (length ts) (sym h))))
-looked_up ts k (Some x) h e = sym (slice_get_tokens_of ts k ∙ ap (option_map token_of) (slice_get-found ts k x.now (ltb-true k (length ts) (sym h)) e))
+looked_up ts k (Some x) h e = sym (slice_get_tokens_of ts k ∙ ap (option_map token_of)
+    (slice_get-found ts k x.now (ltb-true k (length ts) (sym h)) e))
 
 -- what follows tokens that end so: a folder star only where the last one ends in a slash
 abbrev pub border_after : Bool → List Token → Bool
 border_after border [] = border
-border_after border (t ∷ ts) = border_after (ends_in_slash t) ts
+border_after border (t ∷ ts) = border_after (token_ends_in_slash t) ts
 
 -- a folder star is read only at a border
 abbrev pub fits_border : Bool → Token → Bool
@@ -82,7 +85,7 @@ bordered-push border [] (set n ms) h f = refl
 bordered-push border [] star h f = refl
 bordered-push border [] dirs h f = rw f
 bordered-push border [] rest h f = refl
-bordered-push border (lit c ∷ ts) t h f = bordered-push (ends_in_slash (lit c)) ts t h f
+bordered-push border (lit c ∷ ts) t h f = bordered-push (token_ends_in_slash (lit c)) ts t h f
 bordered-push border (one ∷ ts) t h f = bordered-push false ts t h f
 bordered-push border (set n ms ∷ ts) t h f = bordered-push false ts t h f
 bordered-push border (star ∷ ts) t h f = bordered-push false ts t h f
@@ -90,9 +93,9 @@ bordered-push true (dirs ∷ ts) t h f = bordered-push true ts t h f
 bordered-push false (dirs ∷ ts) t h f = cc
 bordered-push border (rest ∷ ts) t h f = bordered-push false ts t h f
 
-pub border_after-push : (border : Bool) (ts : List Token) (t : Token) → border_after border (ts ++ t ∷ []) ≡ ends_in_slash t
+pub border_after-push : (border : Bool) (ts : List Token) (t : Token) → border_after border (ts ++ t ∷ []) ≡ token_ends_in_slash t
 border_after-push border [] t = refl
-border_after-push border (u ∷ ts) t = border_after-push (ends_in_slash u) ts t
+border_after-push border (u ∷ ts) t = border_after-push (token_ends_in_slash u) ts t
 
 -- what is read fits where there is no border
 abbrev fits_read : Option (Token × List ℕ) → Bool
@@ -120,9 +123,9 @@ token_fits b bs =
     (by_test (b == open_bracket) (λ t. rw t (bracket_fits bs)) (λ h. rw h
     (by_test (b == asterisk) (λ t. rw t) (λ i. rw i)))))))
 
-pub token_at-fits : (border : Bool) (b : ℕ) (bs : List ℕ) (t : Token) (behind : List ℕ) →
-    token_at border b bs ≡ Some (t, behind) → fits_border border t ≡ true
-token_at-fits true b bs t behind h = always t
+pub token_at-fits : (border : Bool) (b : ℕ) (bs : List ℕ) (t : Token) (tail : List ℕ) →
+    token_at border b bs ≡ Some (t, tail) → fits_border border t ≡ true
+token_at-fits true b bs t tail h = always t
   where
     always : (t : Token) → fits_border true t ≡ true
     always dirs = refl
@@ -131,4 +134,4 @@ token_at-fits true b bs t behind h = always t
     always (set n ms) = refl
     always star = refl
     always rest = refl
-token_at-fits false b bs t behind h = sym (ap fits_read h) ∙ token_fits b bs
+token_at-fits false b bs t tail h = sym (ap fits_read h) ∙ token_fits b bs

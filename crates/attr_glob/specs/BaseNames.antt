@@ -7,6 +7,6 @@ use Rattle.attr_glob.specs.Patterns.{is_slash}
 abbrev pub base_name : List ℕ → List ℕ
 base_name path = after_last is_slash path
 
--- the place behind the last `/` of a path, none without one
+-- the place after the last `/` of a path, none without one
 abbrev pub base_name_place : List ℕ → Option ℕ
 base_name_place path = if list_any is_slash path then Some (length path - length (base_name path)) else None

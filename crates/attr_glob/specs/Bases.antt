@@ -6,37 +6,37 @@ use Rattle.attr_glob.specs.Bytes.{slash}
 use Rattle.attr_glob.specs.Folding.{same_text}
 use Rattle.attr_glob.specs.Patterns.{is_slash, without_end}
 
--- what stands before the last slash, and nothing where there is none
+-- what precedes the last slash, and nothing if there is none
 abbrev pub folder : List ℕ → List ℕ
 folder source = before_last is_slash source
 
--- what stands of a folder behind a front and a slash, where it begins with these
-abbrev pub behind : List ℕ → List ℕ → Option (List ℕ)
-behind front folder =
+-- what follows a front and a slash in a folder, if it begins with these
+abbrev pub below_front : List ℕ → List ℕ → Option (List ℕ)
+below_front front folder =
     if starts_with nat_eq folder front && is_slash (slice_index folder (length front))
     then Some (drop (length front + 1) folder)
     else None
 
--- a folder as it is seen from a root: whole from the empty root, and from any other what stands behind the root without
+-- a folder as it is seen from a root: whole from the empty root, and from any other what follows the root without
 -- the slash at its end
 abbrev pub below_root : List ℕ → List ℕ → Option (List ℕ)
-below_root root folder = if length root == 0 then Some folder else behind (without_end root) folder
+below_root root folder = if length root == 0 then Some folder else below_front (without_end root) folder
 
--- the folder with a slash behind it, and none for no folder
+-- the folder with a slash after it, and none for no folder
 abbrev pub with_slash : List ℕ → Option (List ℕ)
 with_slash folder = if length folder == 0 then None else Some (folder ++ slash ∷ [])
 
--- the base of a source: its folder as it is seen from the root, with a slash behind it
+-- the base of a source: its folder as it is seen from the root, with a slash after it
 abbrev pub base_of : List ℕ → Option (List ℕ) → Option (List ℕ)
 base_of source root = option_and_then (λ r. option_and_then with_slash (below_root r (folder source))) root
 
--- what stands of a path behind a base, where the path begins with it
+-- what follows a base in a path, if the path begins with it
 abbrev pub rest_below : Option (List ℕ) → Case → List ℕ → Option (List ℕ)
 rest_below None case path = Some path
 rest_below (Some base) case path =
     if same_text case base (take (length base) path) then Some (drop (length base) path) else None
 
--- a place as it is seen behind so many bytes, and none where it does not lie behind them
-abbrev pub place_behind : ℕ → Option ℕ → Option ℕ
-place_behind taken None = None
-place_behind taken (Some place) = if nat_lt taken place then Some (place - taken) else None
+-- a place, counted after so many bytes, and none if it is not after them
+abbrev pub place_after : ℕ → Option ℕ → Option ℕ
+place_after taken None = None
+place_after taken (Some place) = if nat_lt taken place then Some (place - taken) else None

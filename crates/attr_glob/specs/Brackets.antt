@@ -1,4 +1,4 @@
--- What stands between the brackets of a pattern, and which bytes it holds (gitignore page, which leaves
+-- What is between the brackets of a pattern, and which bytes it has (gitignore page, which leaves
 -- the details to fnmatch; ranges without members and unknown classes are this crate's own rule).
 use Rattle.std.specs.Prelude.{ℕ, zero, suc, ◌+◌, Bool, false, not, ◌&&◌, ◌||◌, ◌==◌, nat_le, List, [], ◌∷◌, length, drop, Option, Some, None, option_map, option_and_then, bytes_eq, codes, if◌then◌else◌}
 use Rattle.std.specs.List.{list_any}
@@ -53,16 +53,16 @@ member_holds (Single c) b = b == c
 member_holds (Span low high) b = within low high b
 member_holds (Named class) b = class_holds class b
 
--- some member holds the byte
+-- some member has the byte
 abbrev pub members_hold : List Member → ℕ → Bool
 members_hold ms b = list_any (λ m. member_holds m b) ms
 
--- some member holds the byte, or under `Fold` its lower or its upper form
+-- some member has the byte, or under `Fold` its lower or its upper form
 abbrev pub set_holds : Case → List Member → ℕ → Bool
 set_holds Sensitive ms b = members_hold ms b
 set_holds Fold ms b = members_hold ms (to_ascii_lowercase b) || members_hold ms (to_ascii_uppercase b)
 
--- the byte negates a bracket where it follows the `[`
+-- the byte negates a bracket if it follows the `[`
 abbrev pub negates : ℕ → Bool
 negates b = b == exclamation_mark || b == caret
 
@@ -71,7 +71,7 @@ abbrev pub begins : ℕ → List ℕ → Bool
 begins b [] = false
 begins b (c ∷ cs) = c == b
 
--- what stands between `[:` and `:]`, where these bytes follow a `[:` and their first `]` directly follows a `:`
+-- the name between `[:` and `:]`, given the bytes after `[:`, if their first `]` directly follows a `:`
 abbrev pub name_in : List ℕ → Option (List ℕ)
 name_in [] = None
 name_in (b ∷ bs) =
@@ -79,18 +79,18 @@ name_in (b ∷ bs) =
     else (if b == colon && begins close_bracket bs then Some []
     else option_map (λ name. b ∷ name) (name_in bs))
 
--- the end of a range, where these bytes follow its `-`, and what stands behind it
+-- the end of a range, given the bytes after its `-`, and what follows it
 abbrev pub span_end : List ℕ → Option (ℕ × List ℕ)
 span_end [] = None
 span_end (d ∷ []) = if d == close_bracket || d == backslash then None else Some (d, [])
 span_end (d ∷ e ∷ bs) = if d == close_bracket then None else (if d == backslash then Some (e, bs) else Some (d, e ∷ bs))
 
--- the single byte c and what stands behind it, or the range from c on where an end was found
+-- the single byte c and what follows it, or the range from c on if an end was found
 abbrev pub ranged : ℕ → List ℕ → Option (ℕ × List ℕ) → Member × List ℕ
 ranged c bs None = (Single c, bs)
 ranged c bs (Some p) = (Span c p.0, p.1)
 
--- the member that begins with the single byte c, which these bytes follow, and what stands behind it
+-- the member that begins with the single byte c, which these bytes follow, and what follows it
 abbrev pub from_single : ℕ → List ℕ → Member × List ℕ
 from_single c [] = (Single c, [])
 from_single c (b ∷ bs) = if b == hyphen then ranged c (b ∷ bs) (span_end bs) else (Single c, b ∷ bs)
@@ -100,23 +100,23 @@ abbrev pub from_escape : List ℕ → Option (Member × List ℕ)
 from_escape [] = None
 from_escape (c ∷ bs) = Some (from_single c bs)
 
--- the member that the `[` before these bytes begins: a class where a name was found, else that byte
+-- the member that the `[` before these bytes begins: a class if a name was found, else that byte
 abbrev pub class_member : List ℕ → Option (List ℕ) → Option (Member × List ℕ)
 class_member bs None = Some (from_single open_bracket bs)
 class_member bs (Some name) = option_map (λ class. (Named class, drop (length name + 3) bs)) (class_named name)
 
--- the member that `[:` begins, where these bytes follow the `[`
+-- the member that `[:` begins, given the bytes after the `[`
 abbrev pub from_class : List ℕ → Option (Member × List ℕ)
 from_class bs = class_member bs (name_in (drop 1 bs))
 
--- the member that begins with the byte b, which these bytes follow, and what stands behind it
+-- the member that begins with the byte b, which these bytes follow, and what follows it
 abbrev pub member_at : ℕ → List ℕ → Option (Member × List ℕ)
 member_at b bs =
     if b == backslash then from_escape bs
     else (if b == open_bracket && begins colon bs then from_class bs
     else Some (from_single b bs))
 
--- The members up to the closing `]`, of at most n bytes, and what stands behind it. A `]` in first place is a member.
+-- The members up to the closing `]`, of at most n bytes, and what follows it. A `]` in first place is a member.
 abbrev pub members : ℕ → Bool → List ℕ → Option (List Member × List ℕ)
 members n first [] = None
 members zero first (b ∷ bs) = None

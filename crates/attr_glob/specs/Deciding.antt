@@ -1,4 +1,4 @@
--- A test that tells whether tokens match a value, by recursion on both (the rule of `Matching`, computed).
+-- A test whether tokens match a value, by recursion on both (the rule of `Matching`, computed).
 use Rattle.std.specs.Prelude.{ℕ, Bool, true, false, not, ◌&&◌, ◌||◌, ◌==◌, List, [], ◌∷◌, Option, Some, None, if◌then◌else◌}
 use Rattle.attr_glob.specs.declared.pattern.Case.{Case}
 use Rattle.attr_glob.specs.Bytes.{slash}

@@ -1,13 +1,11 @@
 pub mod BaseNames
 pub mod Bytes
-pub mod ByteSets
 pub mod Brackets
 pub mod Tokens
 pub mod TokenList
 pub mod Spelling
 pub mod Matching
 pub mod Deciding
-pub mod Rows
 pub mod Patterns
 pub mod Quotes
 pub mod Refusals
@@ -15,6 +13,7 @@ pub mod Views
 pub mod Paths
 pub mod Bases
 pub mod Candidates
-pub mod Chains
 pub mod Folding
 pub mod Indexed
+pub mod Clones
+pub mod inner

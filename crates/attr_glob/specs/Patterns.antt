@@ -1,6 +1,7 @@
 -- How a pattern text is read (own, within the forms of the gitignore page).
 use Rattle.std.specs.Prelude.{ℕ, ◌+◌, ◌-◌, Bool, not, ◌&&◌, ◌||◌, ◌==◌, List, [], ◌∷◌, ◌++◌, length, take, drop, slice_index, Option, Some, None, if◌then◌else◌, position}
 use Rattle.std.specs.List.{list_all, list_any}
+use Rattle.std.specs.Char.{is_ascii_whitespace}
 use Rattle.std.specs.Int.RustNames.{bit_and}
 use Rattle.attr_glob.specs.Bytes.{backslash, slash, asterisk, question_mark, open_bracket, exclamation_mark, number_sign}
 
@@ -18,21 +19,25 @@ no_sub_dir = 1
 abbrev pub ends_with : ℕ
 ends_with = 2
 
--- a slash stood at the end
+-- there was a slash at the end
 abbrev pub must_be_dir : ℕ
 must_be_dir = 4
 
--- an exclamation mark stood in front
+-- there was an exclamation mark in front
 abbrev pub negative : ℕ
 negative = 8
 
--- a slash stood in front
+-- there was a slash in front
 abbrev pub absolute : ℕ
 absolute = 16
 
+-- all five, as in the pattern of a line that defines a macro
+abbrev pub all_flags : ℕ
+all_flags = no_sub_dir + ends_with + must_be_dir + negative + absolute
+
 -- a space, a tab, a line feed, a form feed or a carriage return
 abbrev pub is_space : ℕ → Bool
-is_space byte = byte == 32 || byte == 9 || byte == 10 || byte == 12 || byte == 13
+is_space byte = is_ascii_whitespace byte
 
 -- `*`, `?`, `[` or a backslash
 abbrev pub is_wildcard : ℕ → Bool
@@ -45,11 +50,11 @@ is_slash byte = byte == slash
 abbrev pub first : List ℕ → ℕ
 first text = slice_index text 0
 
--- a `!` stands in front
+-- there is a `!` in front
 abbrev pub is_negated : List ℕ → Bool
 is_negated text = first text == exclamation_mark
 
--- `\!` or `\#` stands in front
+-- there is `\!` or `\#` in front
 abbrev pub is_escaped : List ℕ → Bool
 is_escaped text = first text == backslash && (slice_index text 1 == exclamation_mark || slice_index text 1 == number_sign)
 
@@ -68,15 +73,15 @@ ends_in_slash text = is_slash (slice_index text (length text - 1))
 abbrev pub without_end : List ℕ → List ℕ
 without_end text = if ends_in_slash text then take (length text - 1) text else text
 
--- a `*`, and behind it no wildcard
+-- a `*`, and no wildcard after it
 abbrev pub is_suffix : List ℕ → Bool
 is_suffix text = first text == asterisk && not (list_any is_wildcard (drop 1 text))
 
--- a flag where it is set, and nothing else
+-- a flag if it is set, and else 0
 abbrev pub set_where : Bool → ℕ → ℕ
 set_where is_set flag = if is_set then flag else 0
 
--- what is read behind the negation
+-- what is read after the negation
 abbrev pub read_rest : Bool → List ℕ → Reading
 read_rest negated rest =
     let below = without_root rest in
@@ -91,7 +96,7 @@ read_rest negated rest =
       wildcard = position is_wildcard text;
     }
 
--- what is read of a pattern text, and none of one that has nothing but space behind its negation
+-- what is read of a pattern text, and none of one that has nothing but whitespace after its negation
 abbrev pub reading : List ℕ → Option Reading
 reading text =
     if list_all is_space (without_negation text) then None
@@ -101,11 +106,12 @@ reading text =
 abbrev pub has_flag : ℕ → ℕ → Bool
 has_flag mode flag = bit_and mode flag == flag
 
--- a byte where its flag is set
+-- a byte if its flag is set
 abbrev pub mark_where : Bool → ℕ → List ℕ
 mark_where is_set byte = if is_set then byte ∷ [] else []
 
--- a pattern as a pattern text: the marks that its mode stands for, around its text
+-- a pattern as a pattern text: its text, with the bytes around it that its mode came from
 abbrev pub written : Reading → List ℕ
 written r =
-    mark_where (has_flag r.mode negative) exclamation_mark ++ mark_where (has_flag r.mode absolute) slash ++ r.text ++ mark_where (has_flag r.mode must_be_dir) slash
+    mark_where (has_flag r.mode negative) exclamation_mark ++ mark_where (has_flag r.mode absolute) slash
+    ++ r.text ++ mark_where (has_flag r.mode must_be_dir) slash

@@ -1,8 +1,8 @@
--- Git's C-style quoting, of which the gitattributes page says that patterns that begin with a double quote are quoted in C style.
+-- Git's C-style quoting (gitattributes page: patterns that begin with a double quote are quoted in C style).
 use Rattle.std.specs.Prelude.{◌≡◌, ◌≢◌, ℕ, zero, suc, ◌+◌, ◌-◌, ◌*◌, ◌≤◌, nat_le, Bool, ◌&&◌, ◌||◌, ◌==◌, if◌then◌else◌, List, [], ◌∷◌, ◌++◌, length, drop, slice_index, Option, Some, None, option_map, Result, Ok, Err, find}
 use Rattle.attr_glob.specs.Bytes.{quote, backslash}
 
--- the byte that a letter behind a backslash stands for
+-- the byte that a letter after a backslash spells
 abbrev pub letter_byte : ℕ → Option ℕ
 letter_byte letter =
     if letter == 97 then Some 7  -- a: bell
@@ -29,12 +29,14 @@ digit value = 48 + value
 pub data Spells : List ℕ → ℕ → Type 0 where
   itself : {byte : ℕ} → byte ≢ quote → byte ≢ backslash → Spells (byte ∷ []) byte
   by_letter : {letter byte : ℕ} → letter_byte letter ≡ Some byte → Spells (backslash ∷ letter ∷ []) byte
-  by_digits : {high middle low : ℕ} → high ≤ 3 → middle ≤ 7 → low ≤ 7 → Spells (backslash ∷ digit high ∷ digit middle ∷ digit low ∷ []) (octal_byte high middle low)
+  by_digits : {high middle low : ℕ} → high ≤ 3 → middle ≤ 7 → low ≤ 7 →
+      Spells (backslash ∷ digit high ∷ digit middle ∷ digit low ∷ []) (octal_byte high middle low)
 
 -- the bytes are spellings of these plain bytes, one after the other
 abbrev pub SpellsAll : List ℕ → List ℕ → Type 0
 SpellsAll bytes [] = bytes ≡ []
-SpellsAll bytes (byte ∷ plain) = (spelling others : List ℕ) × (bytes ≡ spelling ++ others) × Spells spelling byte × SpellsAll others plain
+SpellsAll bytes (byte ∷ plain) =
+    (spelling others : List ℕ) × (bytes ≡ spelling ++ others) × Spells spelling byte × SpellsAll others plain
 
 -- the text begins with a quote
 abbrev pub BeginsQuoted : List ℕ → Type 0
@@ -48,14 +50,14 @@ pub record IsQuoted (text plain : List ℕ) (taken : ℕ) : Type 0 where
   pub spells : SpellsAll spelling plain
   pub length_taken : taken ≡ length spelling + 2
 
--- behind the quote in front stand spellings alone
+-- after the quote in front there are spellings alone
 pub record IsUnclosed (text : List ℕ) : Type 0 where
   pub spelling : List ℕ
   pub plain : List ℕ
   pub whole : text ≡ quote ∷ spelling
   pub spells : SpellsAll spelling plain
 
--- behind the quote in front and spellings, the backslash at this place begins no spelling
+-- after the quote in front and spellings, the backslash at this place begins no spelling
 pub record IsBadEscape (text : List ℕ) (place : ℕ) : Type 0 where
   pub spelling : List ℕ
   pub plain : List ℕ
@@ -85,15 +87,15 @@ digits_byte bytes =
     then Some (octal_byte (high - 48) (middle - 48) (low - 48))
     else None
 
--- the byte of the escape behind a backslash, and how many bytes the escape takes there
+-- the byte of the escape after a backslash, and how many bytes the escape takes there
 abbrev pub escaped : List ℕ → Option (ℕ × ℕ)
-escaped behind =
-    elim (letter_byte (slice_index behind 0)) [
+escaped tail =
+    elim (letter_byte (slice_index tail 0)) [
       | Some byte ↦ Some (byte, 1)
-      | None ↦ option_map (λ byte. (byte, 3)) (digits_byte behind)
+      | None ↦ option_map (λ byte. (byte, 3)) (digits_byte tail)
     ]
 
--- what begins at a byte: the closing quote; a byte, with how many bytes of its spelling stand behind the first; or no escape
+-- what begins at a byte: the closing quote; a byte, with how many bytes of its spelling follow the first; or no escape
 pub data Piece : Type 0 where
   closing : Piece
   spelled : ℕ → ℕ → Piece
@@ -104,22 +106,22 @@ escape_piece None = broken
 escape_piece (Some escape) = spelled escape.0 escape.1
 
 abbrev pub piece : ℕ → List ℕ → Piece
-piece first behind =
-    if first == quote then closing else if first == backslash then escape_piece (escaped behind) else spelled first 0
+piece first tail =
+    if first == quote then closing else if first == backslash then escape_piece (escaped tail) else spelled first 0
 
 -- these bytes before what is undone
 abbrev pub with_front : List ℕ → Result (List ℕ × ℕ) Fault → Result (List ℕ × ℕ) Fault
 with_front front (Ok rest) = Ok (front ++ rest.0, rest.1)
 with_front front (Err fault) = Err fault
 
--- what is undone from a place on, where so many bytes still belong to the spelling before
+-- what is undone from a place on, if so many bytes still belong to the spelling before
 abbrev pub undone_from : ℕ → ℕ → List ℕ → Result (List ℕ × ℕ) Fault
 undone_from place left [] = Err unclosed
-undone_from place (suc left) (first ∷ behind) = undone_from (place + 1) left behind
-undone_from place zero (first ∷ behind) =
-    elim (piece first behind) [
+undone_from place (suc left) (first ∷ tail) = undone_from (place + 1) left tail
+undone_from place zero (first ∷ tail) =
+    elim (piece first tail) [
       | closing ↦ Ok ([], place + 1)
-      | spelled byte left ↦ with_front (byte ∷ []) (undone_from (place + 1) left behind)
+      | spelled byte left ↦ with_front (byte ∷ []) (undone_from (place + 1) left tail)
       | broken ↦ Err (bad_escape place)
     ]
 
@@ -131,6 +133,6 @@ undone text = if slice_index text 0 == quote then undone_from 1 0 (drop 1 text) 
 abbrev pub is_mark : ℕ → Bool
 is_mark byte = byte == quote || byte == backslash
 
--- the text begins with a quote, and behind it a backslash stands before any other quote
+-- the text begins with a quote, and a backslash follows before any other quote
 abbrev pub HoldsEscape : List ℕ → Type 0
 HoldsEscape text = BeginsQuoted text × (find is_mark (drop 1 text) ≡ Some backslash)

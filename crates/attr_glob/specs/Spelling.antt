@@ -5,7 +5,7 @@ use Rattle.attr_glob.specs.declared.bracket.Class.TheVariants.{Alnum, Alpha, Bla
 use Rattle.attr_glob.specs.declared.bracket.Member.{Member}
 use Rattle.attr_glob.specs.declared.bracket.Member.TheVariants.{Single, Span, Named}
 use Rattle.attr_glob.specs.Bytes.{exclamation_mark, asterisk, hyphen, slash, colon, question_mark, open_bracket, backslash, close_bracket, caret}
-use Rattle.attr_glob.specs.Tokens.{Token, lit, one, set, star, dirs, rest, ends_in_slash}
+use Rattle.attr_glob.specs.Tokens.{Token, lit, one, set, star, dirs, rest, token_ends_in_slash}
 
 -- the name of a class
 abbrev pub class_name : Class → List ℕ
@@ -22,13 +22,13 @@ class_name Space = codes "space"
 class_name Upper = codes "upper"
 class_name Xdigit = codes "xdigit"
 
--- the text begins with `[:`, and the first `]` behind that directly follows a `:`
+-- the text begins with `[:`, and the first `]` after that directly follows a `:`
 abbrev pub BeginsClass : List ℕ → Type 0
 BeginsClass text =
     (name : List ℕ) × (others : List ℕ) ×
     (text ≡ open_bracket ∷ colon ∷ (name ++ colon ∷ close_bracket ∷ others)) × All (λ b. b ≢ close_bracket) name
 
--- the text begins with the single byte c, and then `others` stands; in first place c may be `]`
+-- the text begins with the single byte c, and `others` follows; in first place c may be `]`
 abbrev pub IsSingle : Bool → List ℕ → ℕ → List ℕ → Type 0
 IsSingle first text c others =
     (text ≡ backslash ∷ c ∷ others) ⊎
@@ -60,7 +60,7 @@ abbrev pub IsRun : List ℕ → ℕ → List ℕ → Type 0
 IsRun text n others =
     (text ≡ replicate n asterisk ++ others) × ((more : List ℕ) → others ≡ asterisk ∷ more → ⊥)
 
--- the text begins with the token; `border` says that it stands at the start or after a slash
+-- the text begins with the token; `border`: it is at the start or after a slash
 abbrev pub IsToken : Bool → List ℕ → Token → List ℕ → Type 0
 IsToken border text (lit c) others =
     (text ≡ backslash ∷ c ∷ others) ⊎
@@ -84,4 +84,4 @@ IsToken border text rest others =
 abbrev pub AreTokens : Bool → List ℕ → List Token → Type 0
 AreTokens border text [] = text ≡ []
 AreTokens border text (t ∷ ts) =
-    (others : List ℕ) × IsToken border text t others × AreTokens (ends_in_slash t) others ts
+    (others : List ℕ) × IsToken border text t others × AreTokens (token_ends_in_slash t) others ts

@@ -1,8 +1,8 @@
--- What the tokens of the code mean, and that a folder star stands only where git has one (gitignore page).
+-- What the tokens of the code mean, and that a folder star is only at the places where git has one (gitignore page).
 use Rattle.std.specs.Prelude.{Bool, true, ◌&&◌, List, [], ◌∷◌}
 use Rattle.attr_glob.specs.declared.token.Token as written
 use Rattle.attr_glob.specs.declared.token.Token.TheVariants.{Lit, One, Set, Star, Dirs, Rest}
-use Rattle.attr_glob.specs.Tokens.{Token, lit, one, set, star, dirs, rest, ends_in_slash}
+use Rattle.attr_glob.specs.Tokens.{Token, lit, one, set, star, dirs, rest, token_ends_in_slash}
 
 -- the meaning of a token
 abbrev pub token_of : written.Token → Token
@@ -18,8 +18,8 @@ abbrev pub tokens_of : List written.Token → List Token
 tokens_of [] = []
 tokens_of (t ∷ ts) = token_of t ∷ tokens_of ts
 
--- each folder star stands at the start or behind a token that ends in a slash
+-- each folder star is at the start or after a token that ends in a slash
 abbrev pub is_bordered : Bool → List Token → Bool
 is_bordered border [] = true
 is_bordered border (dirs ∷ ts) = border && is_bordered true ts
-is_bordered border (t ∷ ts) = is_bordered (ends_in_slash t) ts
+is_bordered border (t ∷ ts) = is_bordered (token_ends_in_slash t) ts

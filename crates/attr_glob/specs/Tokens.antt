@@ -10,7 +10,7 @@ pub data Token : Type 0 where
   lit : ℕ → Token
   -- one byte, but no slash
   one : Token
-  -- one byte that the members hold or, where it is negated, that they don't hold, but no slash
+  -- one byte of the members or, if negated, one that isn't of them, but no slash
   set : Bool → List Member → Token
   -- any text without a slash
   star : Token
@@ -19,7 +19,7 @@ pub data Token : Type 0 where
   -- any text
   rest : Token
 
--- what stands behind a run of stars
+-- what follows a run of stars
 abbrev pub after_stars : List ℕ → List ℕ
 after_stars [] = []
 after_stars (b ∷ bs) = if b == asterisk then after_stars bs else b ∷ bs
@@ -33,7 +33,7 @@ folder_at (b ∷ bs) = if b == slash then (dirs, bs) else (star, b ∷ bs)
 abbrev pub stars_at : Bool → List ℕ → Token × List ℕ
 stars_at border bs = if border && begins asterisk bs then folder_at (after_stars bs) else (star, after_stars bs)
 
--- the token of a bracket, where these bytes follow its `[`
+-- the token of a bracket, given the bytes after its `[`
 abbrev pub bracket_at : List ℕ → Option (Token × List ℕ)
 bracket_at [] = None
 bracket_at (b ∷ bs) =
@@ -45,8 +45,8 @@ abbrev pub escape_at : List ℕ → Option (Token × List ℕ)
 escape_at [] = None
 escape_at (c ∷ bs) = Some (lit c, bs)
 
--- The token that begins with the byte b, which these bytes follow, and what stands behind it, where the
--- text is well formed. `border` says that b stands at the text's start or after a slash.
+-- The token that begins with the byte b, which these bytes follow, and what follows the token, if the text is well
+-- formed. `border`: b is at the text's start or after a slash.
 abbrev pub token_at : Bool → ℕ → List ℕ → Option (Token × List ℕ)
 token_at border b bs =
     if b == question_mark then Some (one, bs)
@@ -56,18 +56,18 @@ token_at border b bs =
     else Some (lit b, bs))))
 
 -- the token's last byte is a slash
-abbrev pub ends_in_slash : Token → Bool
-ends_in_slash (lit c) = c == slash
-ends_in_slash dirs = true
-ends_in_slash _ = false
+abbrev pub token_ends_in_slash : Token → Bool
+token_ends_in_slash (lit c) = c == slash
+token_ends_in_slash dirs = true
+token_ends_in_slash _ = false
 
 -- the tokens of a text of at most n bytes
 abbrev pub tokens_from : ℕ → Bool → List ℕ → Option (List Token)
 tokens_from n border [] = Some []
 tokens_from zero border (b ∷ bs) = None
 tokens_from (suc n) border (b ∷ bs) =
-    option_and_then (λ p. option_map (λ ts. p.0 ∷ ts) (tokens_from n (ends_in_slash p.0) p.1)) (token_at border b bs)
+    option_and_then (λ p. option_map (λ ts. p.0 ∷ ts) (tokens_from n (token_ends_in_slash p.0) p.1)) (token_at border b bs)
 
--- the tokens of a text, none where it is malformed
+-- the tokens of a text, none if it is malformed
 abbrev pub tokens : List ℕ → Option (List Token)
 tokens text = tokens_from (length text) true text

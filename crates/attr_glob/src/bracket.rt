@@ -1,8 +1,8 @@
-//! What stands between the brackets of a pattern: single bytes, ranges and classes.
+//! What is between the brackets of a pattern: single bytes, ranges and classes.
 
 ghost use Rattle.std.specs.Prelude.{◌≡◌, ℕ, ◌||◌, ◌+◌, ◌≤◌, ◌<◌, IfSome, IfOk, ◌==◌, ◌&&◌, not, length, option_map, position, true, None, Some};
 ghost use Rattle.attr_glob.specs.Bytes.{close_bracket};
-ghost use Rattle.attr_glob.specs.ByteSets.{has};
+ghost use Rattle.attr_glob.specs.inner.ByteSets.{has};
 ghost use Rattle.attr_glob.specs.Brackets.{class_named, class_holds, member_holds, members_hold, set_holds, begins, name_in, span_end, ranged, from_single, from_escape, class_member, from_class, member_at, members as members_at};
 
 use crate::byte_set::ByteSet;
@@ -12,7 +12,7 @@ use std::marker::Model;
 
 /// A class of ASCII bytes, as `[:digit:]` names it.
 #[derive(Clone, Copy, PartialEq, Eq, PartialOrd, Ord, Hash, Debug)]
-pub enum Class {
+pub(crate) enum Class {
     Alnum,
     Alpha,
     Blank,
@@ -29,7 +29,7 @@ pub enum Class {
 
 impl Class {
     /// The class of this name, without its colons.
-    pub fn named(name: &[u8]) -> Option<Class>
+    fn named(name: &[u8]) -> Option<Class>
         ensures { result ≡ class_named name.now }
     {
         match name {
@@ -50,7 +50,7 @@ impl Class {
     }
 
     /// Whether the class has the byte.
-    pub fn contains(self, byte: u8) -> bool
+    pub(crate) fn contains(self, byte: u8) -> bool
         ensures { result ≡ class_holds self byte }
     {
         match self {
@@ -72,18 +72,18 @@ impl Class {
 
 /// A member of a bracket.
 #[derive(Clone, Copy, PartialEq, Eq, PartialOrd, Ord, Hash, Debug)]
-pub enum Member {
+pub(crate) enum Member {
     /// One byte.
     Single(u8),
-    /// The bytes from the first to the second, none where the second lies below the first.
+    /// The bytes from the first to the second, none if the second is below the first.
     Span(u8, u8),
     /// The bytes of a class.
     Named(Class),
 }
 
 impl Member {
-    /// Whether the member holds the byte.
-    pub fn contains(self, byte: u8) -> bool
+    /// Whether the member has the byte.
+    pub(crate) fn contains(self, byte: u8) -> bool
         ensures { result ≡ member_holds self byte }
     {
         match self {
@@ -105,7 +105,7 @@ fn bounds(member: Member) -> (u8, u8)
     }
 }
 
-// Puts the bytes that the member holds into the set.
+// Adds the bytes of the member to the set.
 fn insert_member(set: &mut ByteSet, member: Member)
     ensures { (b : ℕ) → has set.new b ≡ (has set.old b || member_holds member b) }
 {
@@ -117,7 +117,7 @@ fn insert_member(set: &mut ByteSet, member: Member)
     }
 }
 
-// The bytes that the members hold.
+// The bytes of the members.
 fn held_bytes(members: &[Member]) -> ByteSet
     ensures { (b : ℕ) → has result b ≡ members_hold members.now b }
 {
@@ -128,9 +128,9 @@ fn held_bytes(members: &[Member]) -> ByteSet
     set
 }
 
-/// The members of a bracket, with the set of the bytes that they hold.
+/// The members of a bracket, with the set of their bytes.
 #[derive(Debug, Drop)]
-pub struct MemberSet {
+pub(crate) struct MemberSet {
     list: Vec<Member>,
     bytes: ByteSet,
 }
@@ -139,7 +139,7 @@ impl Model for MemberSet {
     ghost use Rattle.std.specs.Prelude.{◌≡◌, ℕ, List};
     ghost use Rattle.attr_glob.specs.declared.bracket.Member.{Member};
     ghost use Rattle.attr_glob.specs.Brackets.{members_hold};
-    ghost use Rattle.attr_glob.specs.ByteSets.{has};
+    ghost use Rattle.attr_glob.specs.inner.ByteSets.{has};
 
     ghost Value = { List Member };
 
@@ -157,7 +157,7 @@ impl MemberSet {
     }
 
     /// Whether a bracket with these members has the byte, its negation aside.
-    pub fn contains(&self, byte: u8, case: Case) -> bool
+    pub(crate) fn contains(&self, byte: u8, case: Case) -> bool
         ensures { result ≡ set_holds case self.now byte }
     {
         match case {
@@ -177,7 +177,7 @@ fn first_close(bytes: &[u8]) -> Option<usize>
     bytes.iter().position(|byte| *byte == b']')
 }
 
-// What stands between `[:` and `:]`, where these bytes follow `[:` and their first `]` directly follows a `:`.
+// The name between `[:` and `:]`, given the bytes after `[:`, if their first `]` directly follows a `:`.
 fn class_name(bytes: &[u8]) -> Option<&[u8]>
     ensures name { option_map (λ name. name.now) result ≡ name_in bytes.now }
     ensures inside { IfSome result (λ name. length name.now + 2 ≤ length bytes.now) }
@@ -190,7 +190,7 @@ fn class_name(bytes: &[u8]) -> Option<&[u8]>
     None
 }
 
-// The end of a range, where these bytes follow its `-`, and what stands behind it.
+// The end of a range, given the bytes after its `-`, and what follows it.
 fn range_end(bytes: &[u8]) -> Option<(u8, &[u8])>
     ensures end { option_map (λ r. (r.0, r.1.now)) result ≡ span_end bytes.now }
     ensures shorter { IfSome result (λ r. length r.1.now < length bytes.now) }
@@ -202,7 +202,7 @@ fn range_end(bytes: &[u8]) -> Option<(u8, &[u8])>
     }
 }
 
-// The single byte, or the range that it begins, where these bytes follow it.
+// The single byte, or the range that it begins, given the bytes after it, and what follows.
 fn single_or_range(byte: u8, bytes: &[u8]) -> (Member, &[u8])
     ensures member { (result.0, result.1.now) ≡ from_single byte bytes.now }
     ensures shorter { length result.1.now ≤ length bytes.now }
@@ -221,21 +221,17 @@ fn escaped(bytes: &[u8]) -> Option<(Member, &[u8])>
     ensures shorter { IfSome result (λ r. length r.1.now ≤ length bytes.now) }
 {
     let (byte, rest) = bytes.split_first()?;
-    let (member, rest) = single_or_range(*byte, rest);
-    Some((member, rest))
+    Some(single_or_range(*byte, rest))
 }
 
-// The member that `[:` begins, where these bytes follow the `[`.
+// The member that `[:` begins, given the bytes after the `[`.
 fn class_or_single(bytes: &[u8]) -> Option<(Member, &[u8])>
     requires { 0 < length bytes.now }
     ensures member { option_map (λ r. (r.0, r.1.now)) result ≡ from_class bytes.now }
     ensures shorter { IfSome result (λ r. length r.1.now ≤ length bytes.now) }
 {
     match class_name(&bytes[1..]) {
-        None => {
-            let (member, rest) = single_or_range(b'[', bytes);
-            Some((member, rest))
-        }
+        None => Some(single_or_range(b'[', bytes)),
         Some(name) => {
             let class = Class::named(name)?;
             Some((Member::Named(class), &bytes[name.len() + 3..]))
@@ -243,21 +239,18 @@ fn class_or_single(bytes: &[u8]) -> Option<(Member, &[u8])>
     }
 }
 
-// The member that begins with the byte, which these bytes follow, and what stands behind it.
+// The member that begins with the byte, given the bytes after it, and what follows the member.
 fn read_member(byte: u8, bytes: &[u8]) -> Option<(Member, &[u8])>
     ensures member { option_map (λ r. (r.0, r.1.now)) result ≡ member_at byte bytes.now }
     ensures shorter { IfSome result (λ r. length r.1.now ≤ length bytes.now) }
 {
     if byte == b'\\' {
-        let (member, rest) = escaped(bytes)?;
-        return Some((member, rest));
+        return escaped(bytes);
     }
     if byte == b'[' && bytes.first() == Some(&b':') {
-        let (member, rest) = class_or_single(bytes)?;
-        return Some((member, rest));
+        return class_or_single(bytes);
     }
-    let (member, rest) = single_or_range(byte, bytes);
-    Some((member, rest))
+    Some(single_or_range(byte, bytes))
 }
 
 // Whether the byte closes the bracket. In first place a `]` is a member.
@@ -267,25 +260,26 @@ fn closes(byte: u8, first: bool) -> bool
     byte == b']' && !first
 }
 
-// The members up to the closing `]`, where these bytes follow the bracket's `[` and its negation, and
-// what stands behind it. None where the bracket isn't closed or names an unknown class.
+// The members up to the closing `]`, given the bytes after the bracket's `[` and its negation, and what
+// follows the bracket. None if the bracket isn't closed or names an unknown class.
 pub(crate) fn members(alloc: Global, bytes: &[u8]) -> Result<Option<(MemberSet, &[u8])>, AllocError>
-    ensures members { IfOk result (λ o. option_map (λ r. (r.0, r.1.now)) o ≡ members_at (length bytes.now) true bytes.now) }
+    ensures members { IfOk result (λ found. option_map (λ r. (r.0, r.1.now)) found
+        ≡ members_at (length bytes.now) true bytes.now) }
     ensures shorter { IfOk result (λ o. IfSome o (λ r. length r.1.now < length bytes.now)) }
 {
     let mut list = Vec::new(alloc);
     let mut first = true;
     let mut rest = bytes;
-    while let Some((byte, behind)) = rest.split_first() {
+    while let Some((byte, tail)) = rest.split_first() {
         if closes(*byte, first) {
-            return Ok(Some((MemberSet::of(list), behind)));
+            return Ok(Some((MemberSet::of(list), tail)));
         }
-        match read_member(*byte, behind) {
+        match read_member(*byte, tail) {
             None => return Ok(None),
-            Some((member, behind)) => {
+            Some((member, tail)) => {
                 list.push(member)?;
                 first = false;
-                rest = behind;
+                rest = tail;
             }
         }
     }

@@ -1,7 +1,7 @@
 //! Sets of bytes.
 
 ghost use Rattle.std.specs.Prelude.{◌≡◌, ◌||◌, ◌==◌, ℕ, false};
-ghost use Rattle.attr_glob.specs.ByteSets.{has};
+ghost use Rattle.attr_glob.specs.inner.ByteSets.{has};
 
 // A set of bytes, as a bit for each.
 #[derive(Clone, Copy, Debug)]

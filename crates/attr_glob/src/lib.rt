@@ -1,8 +1,8 @@
-//! What a line of an attributes file or of an ignore file says of paths: quoted texts are undone, pattern texts are
-//! read, and patterns are matched against paths.
+//! The patterns of attributes files and ignore files: quoted texts are undone, pattern texts are read, and patterns are
+//! matched against paths.
 #![tactic(auto)]
 
-pub mod bracket;
+mod bracket;
 mod byte_set;
 pub mod matcher;
 pub mod pattern;

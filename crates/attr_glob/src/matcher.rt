@@ -8,11 +8,11 @@ ghost use Rattle.attr_glob.specs.Tokens.{Token as Meaning, tokens as meaning_of_
 ghost use Rattle.attr_glob.specs.Matching.{same_byte};
 ghost use Rattle.attr_glob.specs.Paths.{matched_part, PathMatches};
 ghost use Rattle.attr_glob.specs.BaseNames.{base_name_place};
-ghost use Rattle.attr_glob.specs.Views.{pattern_read};
+ghost use Rattle.attr_glob.specs.Views.{pattern_view};
 
 use crate::pattern::{Case, Pattern};
 use crate::token::Tokens;
-use crate::wildmatch::Rows;
+use crate::wildmatch::MatchBuffers;
 use bstr::BStr;
 use std::alloc::{AllocError, Global};
 use std::marker::Model;
@@ -21,7 +21,7 @@ use std::marker::Model;
 #[derive(Debug, Drop)]
 pub struct Matcher {
     pattern: Pattern,
-    // None where the text is malformed or, without a wildcard, isn't read.
+    // None if the text is malformed or, without a wildcard, isn't read.
     tokens: Option<Tokens>,
 }
 
@@ -29,19 +29,24 @@ impl Model for Matcher {
     ghost use Rattle.std.specs.Prelude.{◌≡◌, IsSome};
     ghost use Rattle.attr_glob.specs.Patterns.{Reading};
     ghost use Rattle.attr_glob.specs.Tokens.{tokens as meaning_of_text};
-    ghost use Rattle.attr_glob.specs.Views.{pattern_read};
+    ghost use Rattle.attr_glob.specs.Views.{pattern_view};
 
     ghost Value = { Reading };
 
-    ghost view = { λ m. pattern_read m.pattern };
+    ghost view = { λ m. pattern_view m.pattern };
 
-    ghost invariant = { λ m. IsSome m.pattern.first_wildcard_pos → m.tokens ≡ meaning_of_text m.pattern.text.items };
+    ghost invariant = { λ m. IsSome m.pattern.first_wildcard_pos →
+        m.tokens ≡ meaning_of_text m.pattern.text.items };
 }
 
 impl Matcher {
-    /// Reads the tokens of a pattern.
+    /// Reads the tokens of a pattern, which is copied.
+    ///
+    /// # Errors
+    ///
+    /// Fails if memory runs out.
     pub fn of(alloc: Global, pattern: &Pattern) -> Result<Matcher, AllocError>
-        ensures { IfOk result (λ matcher. matcher ≡ pattern_read pattern.now) }
+        ensures { IfOk result (λ matcher. matcher ≡ pattern_view pattern.now) }
     {
         let tokens = match pattern.first_wildcard_pos {
             None => None,
@@ -52,30 +57,35 @@ impl Matcher {
     }
 
     /// Whether the pattern matches the path, whose base name begins at this place. A path that isn't known to be
-    /// a directory counts as none. The answer for a pattern that no text gives is open.
+    /// a directory counts as none. What is returned for a pattern that was not read from a text is open.
     ///
-    /// No memory is taken but for the rows, which grow where they have no room for the tokens.
+    /// # Errors
+    ///
+    /// Fails if the rows have no room for the tokens and can't grow. No other memory is taken.
     pub fn matches_repo_relative_path(
         &self,
         path: BStr<'_>,
         basename_start_pos: Option<usize>,
         is_dir: Option<bool>,
         case: Case,
-        rows: &mut Rows,
+        rows: &mut MatchBuffers,
     ) -> Result<bool, AllocError>
         requires { basename_start_pos ≡ base_name_place (bstr_bytes path) }
         ensures matched { IfOk result (λ answer. (text : List ℕ) → reading text ≡ Some self.now →
             IsTrue answer ↔ PathMatches case self.now (bstr_bytes path.entry) is_dir) }
         ensures kept { rows.old ≤ rows.new }
 
-        // No memory is taken where the rows have room, and where no token is looked at.
-        ensures room { (ts : List Meaning) → meaning_of_text self.now.text ≡ Some ts → length ts < rows.old → IsOk result }
+        // No memory is taken if the rows have room, and if no token is looked at.
+        ensures room { (ts : List Meaning) → meaning_of_text self.now.text ≡ Some ts →
+            length ts < rows.old → IsOk result }
         ensures malformed { meaning_of_text self.now.text ≡ None → IsOk result }
         ensures literal { self.now.wildcard ≡ None → IsOk result }
-        ensures suffix { IsTrue (has_flag self.now.mode ends_with) →
-            list_any is_slash (matched_part self.now (bstr_bytes path.entry)) ≡ false → IsOk result }
-        ensures front { (n : ℕ) → self.now.wildcard ≡ Some n →
-            starts_with (same_byte case) (matched_part self.now (bstr_bytes path.entry)) (take n self.now.text) ≡ false → IsOk result }
+        ensures suffix { let part = matched_part self.now (bstr_bytes path.entry) in
+            IsTrue (has_flag self.now.mode ends_with) →
+            list_any is_slash part ≡ false → IsOk result }
+        ensures front { let part = matched_part self.now (bstr_bytes path.entry) in
+            (n : ℕ) → self.now.wildcard ≡ Some n →
+            starts_with (same_byte case) part (take n self.now.text) ≡ false → IsOk result }
     {
         if !self.pattern.takes_kind(is_dir) {
             return Ok(false);

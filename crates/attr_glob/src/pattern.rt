@@ -7,16 +7,17 @@ ghost use Rattle.bstr.specs.BStr.{bstr_bytes};
 ghost use Rattle.attr_glob.specs.Patterns.{Reading, reading, written, is_space, is_wildcard, is_slash, is_negated, without_negation, without_root, without_end, first, ends_in_slash, is_suffix, read_rest, has_flag, negative, must_be_dir, ends_with as ends_with_flag, set_where};
 ghost use Rattle.attr_glob.specs.Matching.{same_byte};
 ghost use Rattle.attr_glob.specs.Deciding.{text_matches};
+ghost use Rattle.attr_glob.specs.Folding.{same_text};
 ghost use Rattle.attr_glob.specs.Paths.{matched_part, is_directory, PathMatches, path_matches};
-ghost use Rattle.attr_glob.specs.BaseNames.{base_name_place};
-ghost use Rattle.attr_glob.specs.Views.{mode_bits, pattern_read};
+ghost use Rattle.attr_glob.specs.BaseNames.{base_name, base_name_place};
+ghost use Rattle.attr_glob.specs.Views.{mode_bits, pattern_view};
 
 use crate::wildmatch;
 use bitflags::{Flag, Flags};
 use bstr::BStr;
 use std::alloc::{AllocError, Global};
 
-/// What a pattern text asks for beside its text.
+/// What a pattern text gives beside the text to match: the flags of the gitignore page.
 #[derive(Clone, Copy, PartialEq, Eq, PartialOrd, Ord, Hash, Debug)]
 pub struct Mode(u32);
 
@@ -36,7 +37,7 @@ impl Mode {
     /// The pattern text began with a slash, so it is matched against the whole path.
     pub const ABSOLUTE: Mode = Mode(16);
 
-    // All five, as in a mapping that stands for the definition of a macro.
+    // All five, as in the mapping of a line that defines a macro.
     pub(crate) const MACRO: Mode = Mode(31);
 
     const FLAGS: &'static [Flag<Mode>] = &[
@@ -104,16 +105,21 @@ pub enum Case {
 pub struct Pattern {
     /// What the paths are matched against.
     pub text: Vec<u8>,
-    /// What else the pattern text asks for.
+    /// The flags of the pattern text.
     pub mode: Mode,
     /// The place in `text` of the first `*`, `?`, `[` or backslash.
     pub first_wildcard_pos: Option<usize>,
 }
 
 impl Pattern {
-    /// Reads a pattern text. One that has only blanks behind its exclamation mark is no pattern.
+    /// Reads a pattern text, as the gitignore page has it. One that has only whitespace after its exclamation mark is no
+    /// pattern.
+    ///
+    /// # Errors
+    ///
+    /// Fails if memory runs out, which takes a text that is a pattern.
     pub fn from_bytes(alloc: Global, text: &[u8]) -> Result<Option<Pattern>, AllocError>
-        ensures ok { IfOk result (λ found. option_map pattern_read found ≡ reading text.now) }
+        ensures ok { IfOk result (λ found. option_map pattern_view found ≡ reading text.now) }
         ensures err { OnErr result (IsSome (reading text.now)) }
     {
         let rest = without_negation(text);
@@ -130,14 +136,18 @@ impl Pattern {
 
     /// Whether the pattern text began with an exclamation mark.
     pub fn is_negative(&self) -> bool
-        ensures { result ≡ has_flag (pattern_read self.now).mode negative }
+        ensures { result ≡ has_flag (pattern_view self.now).mode negative }
     {
         self.mode.contains(Mode::NEGATIVE)
     }
 
     /// The pattern as a pattern text.
+    ///
+    /// # Errors
+    ///
+    /// Fails if memory runs out.
     pub fn write_text(&self, alloc: Global) -> Result<Vec<u8>, AllocError>
-        ensures { IfOk result (λ v. v.items ≡ written (pattern_read self.now)) }
+        ensures { IfOk result (λ v. v.items ≡ written (pattern_view self.now)) }
     {
         let mut text = Vec::new(alloc);
         if self.is_negative() {
@@ -154,9 +164,11 @@ impl Pattern {
     }
 
     /// Whether the pattern matches the path, whose base name begins at this place. A path that isn't known to be
-    /// a directory counts as none. The answer for a pattern that no text gives is open.
+    /// a directory counts as none. What is returned for a pattern that was not read from a text is open.
     ///
-    /// Memory is taken for the tokens of the pattern's text alone, where they are needed.
+    /// # Errors
+    ///
+    /// Fails if memory for the tokens of the pattern's text runs out. None is taken if bytes alone decide: see the clauses.
     pub fn matches_repo_relative_path(
         &self,
         alloc: Global,
@@ -166,15 +178,18 @@ impl Pattern {
         case: Case,
     ) -> Result<bool, AllocError>
         requires { basename_start_pos ≡ base_name_place (bstr_bytes path) }
-        ensures matched { IfOk result (λ answer. (text : List ℕ) → reading text ≡ Some (pattern_read self.now) →
-            IsTrue answer ↔ PathMatches case (pattern_read self.now) (bstr_bytes path.entry) is_dir) }
+        ensures matched { IfOk result (λ answer. let r = pattern_view self.now in
+            (text : List ℕ) → reading text ≡ Some r →
+            IsTrue answer ↔ PathMatches case r (bstr_bytes path.entry) is_dir) }
 
-        // No memory is taken without a wildcard, where the end of the base name decides, and where the front differs.
-        ensures literal { (pattern_read self.now).wildcard ≡ None → IsOk result }
-        ensures suffix { let r = pattern_read self.now in IsTrue (has_flag r.mode ends_with_flag) →
-            list_any is_slash (matched_part r (bstr_bytes path.entry)) ≡ false → IsOk result }
-        ensures front { let r = pattern_read self.now in (n : ℕ) → r.wildcard ≡ Some n →
-            starts_with (same_byte case) (matched_part r (bstr_bytes path.entry)) (take n r.text) ≡ false → IsOk result }
+        // No memory is taken without a wildcard, if the end of the base name decides, and if the front differs.
+        ensures literal { (pattern_view self.now).wildcard ≡ None → IsOk result }
+        ensures suffix { let r = pattern_view self.now in
+            let part = matched_part r (bstr_bytes path.entry) in
+            IsTrue (has_flag r.mode ends_with_flag) → list_any is_slash part ≡ false → IsOk result }
+        ensures front { let r = pattern_view self.now in
+            let part = matched_part r (bstr_bytes path.entry) in (n : ℕ) → r.wildcard ≡ Some n →
+            starts_with (same_byte case) part (take n r.text) ≡ false → IsOk result }
     {
         if !self.takes_kind(is_dir) {
             return Ok(false);
@@ -189,7 +204,8 @@ impl Pattern {
 
     // Whether a path that is or isn't a directory may match.
     pub(crate) fn takes_kind(&self, is_dir: Option<bool>) -> bool
-        ensures { result ≡ (not (has_flag (pattern_read self.now).mode must_be_dir) || is_directory is_dir) }
+        ensures { result ≡
+            (not (has_flag (pattern_view self.now).mode must_be_dir) || is_directory is_dir) }
     {
         !self.mode.contains(Mode::MUST_BE_DIR) || is_dir == Some(true)
     }
@@ -201,44 +217,46 @@ impl Pattern {
         basename_start_pos: Option<usize>,
     ) -> &'a [u8]
         requires { basename_start_pos ≡ base_name_place path.now }
-        ensures { result.now ≡ matched_part (pattern_read self.now) path.now }
+        ensures { result.now ≡ matched_part (pattern_view self.now) path.now }
     {
         if !self.mode.contains(Mode::NO_SUB_DIR) || self.mode.contains(Mode::ABSOLUTE) {
             return path;
         }
-        match basename_start_pos {
-            None => path,
-            Some(place) => &path[place..],
-        }
+        base_name(path, basename_start_pos)
     }
 
-    // Whether the text matches the value, where its bytes tell without tokens. A pattern built by hand may have
-    // a place past its text's end, or no star where the end decides.
+    // Whether the text matches the value, if bytes decide without tokens. A pattern built by hand may have a place past
+    // its text's end, or no star if the end decides.
     pub(crate) fn answer_by_bytes(&self, value: &[u8], case: Case) -> Option<bool>
-        ensures matched { IfSome result (λ answer. (text : List ℕ) → reading text ≡ Some (pattern_read self.now) →
-            answer ≡ text_matches case (pattern_read self.now).text value.now) }
-        ensures literal { (pattern_read self.now).wildcard ≡ None → IsSome result }
-        ensures suffix { IsTrue (has_flag (pattern_read self.now).mode ends_with_flag) →
+        ensures matched { IfSome result (λ answer. (text : List ℕ) →
+            reading text ≡ Some (pattern_view self.now) →
+            answer ≡ text_matches case (pattern_view self.now).text value.now) }
+        ensures literal { (pattern_view self.now).wildcard ≡ None → IsSome result }
+        ensures suffix { IsTrue (has_flag (pattern_view self.now).mode ends_with_flag) →
             list_any is_slash value.now ≡ false → IsSome result }
-        ensures front { let r = pattern_read self.now in (n : ℕ) → r.wildcard ≡ Some n →
+        ensures front { let r = pattern_view self.now in (n : ℕ) → r.wildcard ≡ Some n →
             starts_with (same_byte case) value.now (take n r.text) ≡ false → IsSome result }
     {
         let text = self.text.as_slice();
         let Some(place) = self.first_wildcard_pos else {
-            return Some(is_same(text, value, case));
+            return Some(same_text(case, text, value));
         };
         if !starts_with(value, &text[..place.min(text.len())], case) {
             return Some(false);
         }
         if self.mode.contains(Mode::ENDS_WITH) && !has_slash(value) {
-            return Some(ends_with(value, behind_star(text), case));
+            return Some(ends_with(value, after_star(text), case));
         }
         None
     }
 
     /// A copy.
+    ///
+    /// # Errors
+    ///
+    /// Fails if memory runs out.
     pub fn clone(&self, alloc: Global) -> Result<Pattern, AllocError>
-        ensures { IfOk result (λ copy. pattern_read copy ≡ pattern_read self.now) }
+        ensures { IfOk result (λ copy. pattern_view copy ≡ pattern_view self.now) }
     {
         Ok(Pattern {
             text: Vec::from_slice(alloc, &self.text)?,
@@ -248,7 +266,7 @@ impl Pattern {
     }
 }
 
-// What is read of the text behind the negation, beside its body.
+// The mode of the text after the negation.
 fn mode_of(negated: bool, rest: &[u8]) -> Mode
     ensures { mode_bits result ≡ (read_rest negated rest.now).mode }
 {
@@ -286,7 +304,7 @@ fn without_negation(text: &[u8]) -> &[u8]
 fn is_blank(text: &[u8]) -> bool
     ensures { result ≡ list_all is_space text.now }
 {
-    text.iter().all(|byte| matches!(*byte, b' ' | b'\t' | b'\n' | 0x0c | b'\r'))
+    text.iter().all(|byte| byte.is_ascii_whitespace())
 }
 
 fn begins_with_slash(text: &[u8]) -> bool
@@ -354,40 +372,41 @@ fn is_wildcard(byte: u8) -> bool
 }
 
 // What follows the star of a text that is one star and literal bytes.
-fn behind_star(text: &[u8]) -> &[u8]
+fn after_star(text: &[u8]) -> &[u8]
     ensures { result.now ≡ drop 1 text.now }
 {
     match text {
         [] => text,
-        [_, behind @ ..] => behind,
+        [_, tail @ ..] => tail,
     }
 }
 
-// Whether the bytes are the same, folded where asked.
-fn is_same(text: &[u8], value: &[u8], case: Case) -> bool
-    ensures { result ≡ pointwise (same_byte case) text.now value.now }
+// Whether the texts are the same, under `Fold` but for the case of their letters.
+pub(crate) fn same_text(case: Case, x: &[u8], y: &[u8]) -> bool
+    ensures bytes { result ≡ pointwise (same_byte case) x.now y.now }
+    ensures texts { result ≡ same_text case x.now y.now }
 {
     match case {
-        Case::Sensitive => text == value,
-        Case::Fold => text.eq_ignore_ascii_case(value),
+        Case::Sensitive => x == y,
+        Case::Fold => x.eq_ignore_ascii_case(y),
     }
 }
 
-// Whether the value begins with these bytes, folded where asked.
+// Whether the value begins with these bytes, under this case.
 fn starts_with(value: &[u8], front: &[u8], case: Case) -> bool
     ensures { result ≡ starts_with (same_byte case) value.now front.now }
 {
-    front.len() <= value.len() && is_same(front, &value[..front.len()], case)
+    front.len() <= value.len() && same_text(case, front, &value[..front.len()])
 }
 
-// Whether the value ends with these bytes, folded where asked.
+// Whether the value ends with these bytes, under this case.
 fn ends_with(value: &[u8], end: &[u8], case: Case) -> bool
     ensures { result ≡ ends_with (same_byte case) value.now end.now }
 {
-    end.len() <= value.len() && is_same(end, &value[value.len() - end.len()..], case)
+    end.len() <= value.len() && same_text(case, end, &value[value.len() - end.len()..])
 }
 
-/// The place behind the last slash of a path, none without one.
+/// The place after the last slash of a path, none without one.
 pub fn base_name_place(path: &[u8]) -> Option<usize>
     ensures { result ≡ base_name_place path.now }
 {
@@ -401,8 +420,20 @@ pub fn base_name_place(path: &[u8]) -> Option<usize>
     None
 }
 
-/// The test of matching a path tells what the relation says (a law).
+/// The base name of a path: what follows its last slash, and all of a path without one. `basename_pos` is the path's
+/// `base_name_place`, so that the path is not read again.
+pub fn base_name(path: &[u8], basename_pos: Option<usize>) -> &[u8]
+    requires { basename_pos ≡ base_name_place path.now }
+    ensures { result.now ≡ base_name path.now }
+{
+    match basename_pos {
+        Some(place) => &path[place..],
+        None => path,
+    }
+}
+
+/// The computed test of matching a path decides the relation (a law).
 pub fn test_tells_path_match(pattern: &Pattern, path: BStr<'_>, is_dir: Option<bool>, case: Case)
-    ensures { IsTrue (path_matches case (pattern_read pattern.now) (bstr_bytes path.entry) is_dir) ↔
-        PathMatches case (pattern_read pattern.now) (bstr_bytes path.entry) is_dir }
+    ensures { IsTrue (path_matches case (pattern_view pattern.now) (bstr_bytes path.entry) is_dir) ↔
+        PathMatches case (pattern_view pattern.now) (bstr_bytes path.entry) is_dir }
 {}

@@ -1,10 +1,10 @@
 //! The tokens of a pattern's text.
 
 ghost use Rattle.std.specs.Prelude.{◌≡◌, ◌+◌, ◌≤◌, ◌<◌, ◌^◌, ◌&&◌, ◌↔◌, List, IfSome, IfOk, IsTrue, Some, true, length, option_map};
-ghost use Rattle.attr_glob.specs.Tokens.{Token as Meaning, after_stars, stars_at, bracket_at, escape_at, token_at, ends_in_slash as meaning_ends_in_slash, tokens as meaning_of_text};
+ghost use Rattle.attr_glob.specs.Tokens.{Token as Meaning, after_stars, stars_at, bracket_at, escape_at, token_at, token_ends_in_slash as meaning_ends_in_slash, tokens as meaning_of_text};
 ghost use Rattle.attr_glob.specs.Spelling.{AreTokens};
 ghost use Rattle.attr_glob.specs.Deciding.{takes_byte};
-ghost use Rattle.attr_glob.specs.Rows.{may_be_nothing, is_dirs, goes_on, ends_with};
+ghost use Rattle.attr_glob.specs.inner.RowPlaces.{may_be_nothing, is_dirs, continues_with, ends_at};
 ghost use Rattle.attr_glob.specs.TokenList.{token_of, tokens_of, is_bordered};
 
 use crate::bracket::{self, MemberSet};
@@ -14,12 +14,12 @@ use std::marker::Model;
 
 /// What a part of a pattern takes.
 #[derive(Debug, Drop)]
-pub enum Token {
+pub(crate) enum Token {
     /// That byte.
     Lit(u8),
     /// One byte, but no slash.
     One,
-    /// One byte that the members hold or, if negated, don't hold, but no slash.
+    /// One byte of the members or, if negated, one that isn't of them, but no slash.
     Set { negated: bool, members: MemberSet },
     /// Any text without a slash.
     Star,
@@ -31,7 +31,7 @@ pub enum Token {
 
 impl Token {
     /// Whether the token takes one byte, and this one.
-    pub fn takes(&self, byte: u8, case: Case) -> bool
+    pub(crate) fn takes(&self, byte: u8, case: Case) -> bool
         ensures { result ≡ takes_byte case (token_of self.now) byte }
     {
         match self {
@@ -72,7 +72,7 @@ impl Token {
 
     // Whether a token that takes any number of bytes goes on to take this one.
     pub(crate) fn continues(&self, byte: u8) -> bool
-        ensures { result ≡ goes_on (token_of self.now) byte }
+        ensures { result ≡ continues_with (token_of self.now) byte }
     {
         match self {
             Token::Star => byte != b'/',
@@ -83,7 +83,7 @@ impl Token {
 
     // Whether the token ends with this byte.
     pub(crate) fn ends(&self, byte: u8, case: Case) -> bool
-        ensures { result ≡ ends_with case (token_of self.now) byte }
+        ensures { result ≡ ends_at case (token_of self.now) byte }
     {
         match self {
             Token::Dirs => byte == b'/',
@@ -105,23 +105,23 @@ impl Token {
     }
 }
 
-// What stands behind a run of stars.
+// What follows a run of stars.
 fn skip_stars(bytes: &[u8]) -> &[u8]
     ensures rest { result.now ≡ after_stars bytes.now }
     ensures shorter { length result.now ≤ length bytes.now }
 {
     let mut rest = bytes;
-    while let Some((byte, behind)) = rest.split_first() {
+    while let Some((byte, tail)) = rest.split_first() {
         if *byte != b'*' {
             break;
         }
-        rest = behind;
+        rest = tail;
     }
     rest
 }
 
-// The token of a run of stars, where these bytes follow its first one. `border` says that the run stands
-// at the text's start or after a slash.
+// The token of a run of stars, given the bytes after its first one. `border`: the run is at the text's
+// start or after a slash.
 fn stars(border: bool, bytes: &[u8]) -> (Token, &[u8])
     ensures token { (token_of result.0, result.1.now) ≡ stars_at border bytes.now }
     ensures shorter { length result.1.now ≤ length bytes.now }
@@ -130,16 +130,17 @@ fn stars(border: bool, bytes: &[u8]) -> (Token, &[u8])
     if border && bytes.first() == Some(&b'*') {
         match rest {
             [] => return (Token::Rest, rest),
-            [b'/', behind @ ..] => return (Token::Dirs, behind),
+            [b'/', tail @ ..] => return (Token::Dirs, tail),
             _ => {}
         }
     }
     (Token::Star, rest)
 }
 
-// The token of a bracket, where these bytes follow its `[`.
+// The token of a bracket, given the bytes after its `[`, and what follows it.
 fn set(alloc: Global, bytes: &[u8]) -> Result<Option<(Token, &[u8])>, AllocError>
-    ensures token { IfOk result (λ o. option_map (λ r. (token_of r.0, r.1.now)) o ≡ bracket_at bytes.now) }
+    ensures token { IfOk result (λ found.
+        option_map (λ r. (token_of r.0, r.1.now)) found ≡ bracket_at bytes.now) }
     ensures shorter { IfOk result (λ o. IfSome o (λ r. length r.1.now ≤ length bytes.now)) }
 {
     let (negated, inside) = match bytes {
@@ -153,14 +154,15 @@ fn set(alloc: Global, bytes: &[u8]) -> Result<Option<(Token, &[u8])>, AllocError
     }
 }
 
-// The token that begins with the byte, which these bytes follow, and what stands behind it.
+// The token that begins with the byte, given the bytes after it, and what follows the token.
 fn read_token(
     alloc: Global,
     border: bool,
     byte: u8,
     bytes: &[u8],
 ) -> Result<Option<(Token, &[u8])>, AllocError>
-    ensures token { IfOk result (λ o. option_map (λ r. (token_of r.0, r.1.now)) o ≡ token_at border byte bytes.now) }
+    ensures token { IfOk result (λ found.
+        option_map (λ r. (token_of r.0, r.1.now)) found ≡ token_at border byte bytes.now) }
     ensures shorter { IfOk result (λ o. IfSome o (λ r. length r.1.now ≤ length bytes.now)) }
 {
     match byte {
@@ -169,14 +171,8 @@ fn read_token(
             None => Ok(None),
             Some((escaped, rest)) => Ok(Some((Token::Lit(*escaped), rest))),
         },
-        b'[' => match set(alloc, bytes)? {
-            None => Ok(None),
-            Some((token, rest)) => Ok(Some((token, rest))),
-        },
-        b'*' => {
-            let (token, rest) = stars(border, bytes);
-            Ok(Some((token, rest)))
-        }
+        b'[' => set(alloc, bytes),
+        b'*' => Ok(Some(stars(border, bytes))),
         _ => Ok(Some((Token::Lit(byte), bytes))),
     }
 }
@@ -200,8 +196,12 @@ impl Model for Tokens {
 }
 
 impl Tokens {
-    /// Reads a pattern's text. None where it is malformed: a bracket that isn't closed or names an unknown
+    /// Reads a pattern's text. None if it is malformed: a bracket that isn't closed or names an unknown
     /// class, or a lone backslash at its end.
+    ///
+    /// # Errors
+    ///
+    /// Fails if memory runs out.
     pub fn read(alloc: Global, text: &[u8]) -> Result<Option<Tokens>, AllocError>
         ensures tokens { IfOk result (λ o. o ≡ meaning_of_text text.now) }
         ensures few { IfOk result (λ o. IfSome o (λ ts. length ts ≤ length text.now)) }
@@ -209,13 +209,13 @@ impl Tokens {
         let mut list = Vec::new(alloc);
         let mut border = true;
         let mut rest = text;
-        while let Some((byte, behind)) = rest.split_first() {
-            match read_token(alloc, border, *byte, behind)? {
+        while let Some((byte, tail)) = rest.split_first() {
+            match read_token(alloc, border, *byte, tail)? {
                 None => return Ok(None),
-                Some((token, behind)) => {
+                Some((token, tail)) => {
                     border = token.ends_in_slash();
                     list.push(token)?;
-                    rest = behind;
+                    rest = tail;
                 }
             }
         }
@@ -255,5 +255,6 @@ impl Tokens {
 
 /// The tokens of a text are those that it spells (a law).
 pub fn tokens_are_spelled(text: &[u8])
-    ensures { (ts : List Meaning) → (meaning_of_text text.now ≡ Some ts) ↔ AreTokens true text.now ts }
+    ensures { (ts : List Meaning) →
+        (meaning_of_text text.now ≡ Some ts) ↔ AreTokens true text.now ts }
 {}

@@ -1,7 +1,7 @@
 //! Matching of patterns: a row of the places that are reached, moved forward over the value.
 //!
-//! A place k of a row says that the first k tokens match the bytes so far, or that token k is a folder
-//! star and they match some first part of them. So no pair of places is visited twice.
+//! A row has the place k if the first k tokens match the bytes so far, or if token k is a folder star
+//! and they match some first part of them. So no pair of places is visited twice.
 
 ghost use Rattle.std.specs.Prelude.{◌≡◌, ◌+◌, ◌*◌, ◌≤◌, ◌<◌, ◌^◌, ◌↔◌, ◌++◌, ◌∷◌, [], ℕ, Bool, List, All, IfOk, IsOk, IsSome, IfSome, IfNone, OnOk, IsTrue, option_map, IsFalse, true, false, length, slice_get, vec_capacity};
 ghost use Rattle.attr_glob.specs.Tokens.{Token as Meaning};
@@ -9,7 +9,8 @@ ghost use Rattle.attr_glob.specs.TokenList.{token_of, tokens_of, is_bordered};
 ghost use Rattle.attr_glob.specs.Spelling.{AreTokens};
 ghost use Rattle.attr_glob.specs.Matching.{Match, ReachedAtMost, TextMatches};
 ghost use Rattle.attr_glob.specs.Deciding.{matches, text_matches};
-ghost use Rattle.attr_glob.specs.Rows.{may_skip, is_folder, holds_on, leads_on, token_before, places, IsGrowing, IsStep, IsRow, IsSettled};
+ghost use Rattle.attr_glob.specs.inner.Left.{IsLeft};
+ghost use Rattle.attr_glob.specs.inner.RowPlaces.{may_skip, is_folder, stays_on, advances_on, token_before, places_below, IsGrowing, IsStep, IsRow, IsUnderway, NoneAlive, HasStayed, HasRoom, IsExtended, KeepsCapacity};
 
 use crate::pattern::Case;
 use crate::token::{Token, Tokens};
@@ -18,61 +19,26 @@ use std::marker::Model;
 use std::mem;
 
 // The token of a place.
-fn look(tokens: &[Token], place: usize) -> Option<&Token>
-    ensures token { option_map (λ t. token_of t.now) result ≡ slice_get (tokens_of tokens.now) place }
+fn token_at(tokens: &[Token], place: usize) -> Option<&Token>
+    ensures token { option_map (λ t. token_of t.now) result
+        ≡ slice_get (tokens_of tokens.now) place }
     ensures inside { IsSome result → place < length tokens.now }
 {
     tokens.get(place)
 }
 
 // Whether the token of the place may take nothing.
-fn skips(tokens: &[Token], place: usize) -> bool
+fn may_skip(tokens: &[Token], place: usize) -> bool
     ensures skips { result ≡ may_skip (slice_get (tokens_of tokens.now) place) }
     ensures inside { IsTrue result → place < length tokens.now }
 {
-    match look(tokens, place) {
+    match token_at(tokens, place) {
         None => false,
         Some(token) => token.may_be_empty(),
     }
 }
 
-// Whether the token of the place is a folder star, which holds its place for good.
-fn is_folder_star(tokens: &[Token], place: usize) -> bool
-    ensures folder { result ≡ is_folder (slice_get (tokens_of tokens.now) place) }
-    ensures inside { IsTrue result → place < length tokens.now }
-{
-    match look(tokens, place) {
-        None => false,
-        Some(token) => token.is_folder_star(),
-    }
-}
-
-// Whether the token before the place holds it over the byte.
-fn holds(tokens: &[Token], place: usize, byte: u8) -> bool
-    ensures holds { result ≡ holds_on (token_before (tokens_of tokens.now) place) byte }
-    ensures inside { IsTrue result → place ≤ length tokens.now }
-{
-    if place == 0 {
-        return false;
-    }
-    match look(tokens, place - 1) {
-        None => false,
-        Some(token) => token.continues(byte),
-    }
-}
-
-// Whether the token of the place leads on to the next one by the byte.
-fn leads(tokens: &[Token], place: usize, byte: u8, case: Case) -> bool
-    ensures leads { result ≡ leads_on case (slice_get (tokens_of tokens.now) place) byte }
-    ensures inside { IsTrue result → place < length tokens.now }
-{
-    match look(tokens, place) {
-        None => false,
-        Some(token) => token.ends(byte, case),
-    }
-}
-
-// Puts a place into a row that has room.
+// Adds a place to a row that has room.
 fn push(row: &mut Vec<usize>, place: usize)
     requires { length row.old.items < vec_capacity row.old }
     ensures pushed { row.new.items ≡ row.old.items ++ place ∷ [] }
@@ -82,49 +48,39 @@ fn push(row: &mut Vec<usize>, place: usize)
     let _ = row.push(place);
 }
 
-// Puts a fresh place into the row, and those behind it up to which the tokens may take nothing, unless it is there.
-fn enter(tokens: &[Token], row: &mut Vec<usize>, free: usize, place: usize) -> usize
+// Adds a fresh place to the row, and those after it up to which the tokens may take nothing, unless the row has it.
+// `free` is one more than the row's last place, before and after.
+fn insert(tokens: &[Token], row: &mut Vec<usize>, free: usize, place: usize) -> usize
     requires inside { place ≤ length tokens.now }
-    requires room { length row.old.items ≤ free }
-    requires capacity { length tokens.now < vec_capacity row.old }
-    requires few { length tokens.now < 2 ^ 63 }
-    ensures behind { place < result }
-    ensures grown { free ≤ result }
-    ensures bound { free ≤ length tokens.now + 1 → result ≤ length tokens.now + 1 }
-    ensures short { length row.new.items ≤ result }
-    ensures capacity { vec_capacity row.old ≤ vec_capacity row.new }
-    ensures reached { (most : ℕ) → place ≤ most → free ≤ most + length row.old.items → result ≤ most + length row.new.items }
+    requires room { HasRoom (length tokens.now) row.old free }
+    ensures added { place < result }
+    ensures extended { IsExtended (length tokens.now) place row.old row.new free result }
     ensures row { (fresh alive : ℕ → Bool) → IsGrowing (tokens_of tokens.now) fresh alive →
         IsRow (tokens_of tokens.now) fresh alive row.old.items free → fresh place ≡ true →
-        ((k : ℕ) → free ≤ k → k < place → alive k ≡ false) → IsRow (tokens_of tokens.now) fresh alive row.new.items result }
+        NoneAlive alive free place → IsRow (tokens_of tokens.now) fresh alive row.new.items result }
 {
     if place < free {
         return free;
     }
     let mut last = place;
     push(row, last);
-    while skips(tokens, last) {
+    while may_skip(tokens, last) {
         last += 1;
         push(row, last);
     }
     last + 1
 }
 
-// Puts the place of a folder star into the row, which stays there without being fresh, unless it is there.
-fn keep(tokens: &[Token], row: &mut Vec<usize>, free: usize, place: usize) -> usize
+// Adds the place of a folder star to the row, where it stays without being fresh, unless the row has it.
+fn insert_folder(tokens: &[Token], row: &mut Vec<usize>, free: usize, place: usize) -> usize
     requires inside { place ≤ length tokens.now }
-    requires room { length row.old.items ≤ free }
-    requires capacity { length tokens.now < vec_capacity row.old }
-    requires few { length tokens.now < 2 ^ 63 }
-    ensures behind { place < result }
-    ensures grown { free ≤ result }
-    ensures bound { free ≤ length tokens.now + 1 → result ≤ length tokens.now + 1 }
-    ensures short { length row.new.items ≤ result }
-    ensures capacity { vec_capacity row.old ≤ vec_capacity row.new }
-    ensures reached { (most : ℕ) → place ≤ most → free ≤ most + length row.old.items → result ≤ most + length row.new.items }
-    ensures row { (fresh alive : ℕ → Bool) → IsRow (tokens_of tokens.now) fresh alive row.old.items free →
+    requires room { HasRoom (length tokens.now) row.old free }
+    ensures added { place < result }
+    ensures extended { IsExtended (length tokens.now) place row.old row.new free result }
+    ensures row { (fresh alive : ℕ → Bool) →
+        IsRow (tokens_of tokens.now) fresh alive row.old.items free →
         alive place ≡ true → (free ≤ place → fresh place ≡ false) →
-        ((k : ℕ) → free ≤ k → k < place → alive k ≡ false) → IsRow (tokens_of tokens.now) fresh alive row.new.items result }
+        NoneAlive alive free place → IsRow (tokens_of tokens.now) fresh alive row.new.items result }
 {
     if free > place {
         return free;
@@ -133,89 +89,119 @@ fn keep(tokens: &[Token], row: &mut Vec<usize>, free: usize, place: usize) -> us
     place + 1
 }
 
-// Puts a place of the row before into the next row, where the byte leaves it there.
-fn remain(tokens: &[Token], byte: u8, row: &mut Vec<usize>, free: usize, place: usize) -> usize
-    requires room { length row.old.items ≤ free }
-    requires bound { free ≤ length tokens.now + 1 }
-    requires capacity { length tokens.now < vec_capacity row.old }
-    requires few { length tokens.now < 2 ^ 63 }
-    ensures grown { free ≤ result }
-    ensures bound { result ≤ length tokens.now + 1 }
-    ensures short { length row.new.items ≤ result }
-    ensures capacity { vec_capacity row.old ≤ vec_capacity row.new }
-    ensures reached { (most : ℕ) → place < most → free ≤ most + length row.old.items → result ≤ most + length row.new.items }
-    ensures row { (case : Case) (fresh alive before : ℕ → Bool) → IsStep case (tokens_of tokens.now) byte fresh alive before →
-        fresh 0 ≡ false → before place ≡ true → place ≤ length tokens.now →
-        IsRow (tokens_of tokens.now) fresh alive row.old.items free →
-        IsSettled case (tokens_of tokens.now) byte before place free →
-        IsRow (tokens_of tokens.now) fresh alive row.new.items result }
-    ensures holding { holds_on (token_before (tokens_of tokens.now) place) byte ≡ true → place < result }
-    ensures staying { is_folder (slice_get (tokens_of tokens.now) place) ≡ true → place < result }
-{
-    if holds(tokens, place, byte) {
-        return enter(tokens, row, free, place);
-    }
-    if is_folder_star(tokens, place) {
-        return keep(tokens, row, free, place);
-    }
-    free
-}
-
-// Puts the place behind one of the row before into the next row, where the byte leads on to it.
-fn follow(
-    tokens: &[Token],
+// One step of a row: the byte that it is moved over, and the tokens.
+#[derive(Clone, Copy)]
+struct Step<'t> {
+    tokens: &'t [Token],
     byte: u8,
     case: Case,
-    row: &mut Vec<usize>,
-    free: usize,
-    place: usize,
-) -> usize
-    requires room { length row.old.items ≤ free }
-    requires bound { free ≤ length tokens.now + 1 }
-    requires capacity { length tokens.now < vec_capacity row.old }
-    requires few { length tokens.now < 2 ^ 63 }
-    ensures grown { free ≤ result }
-    ensures bound { result ≤ length tokens.now + 1 }
-    ensures short { length row.new.items ≤ result }
-    ensures capacity { vec_capacity row.old ≤ vec_capacity row.new }
-    ensures reached { (most : ℕ) → place < most → free ≤ most + length row.old.items → result ≤ most + length row.new.items }
-    ensures row { (fresh alive before : ℕ → Bool) → IsStep case (tokens_of tokens.now) byte fresh alive before →
-        fresh 0 ≡ false → before place ≡ true →
-        IsRow (tokens_of tokens.now) fresh alive row.old.items free →
-        IsSettled case (tokens_of tokens.now) byte before place free →
-        (holds_on (token_before (tokens_of tokens.now) place) byte ≡ true → place < free) →
-        (is_folder (slice_get (tokens_of tokens.now) place) ≡ true → place < free) →
-        IsRow (tokens_of tokens.now) fresh alive row.new.items result }
-    ensures leading { leads_on case (slice_get (tokens_of tokens.now) place) byte ≡ true → place + 1 < result }
-{
-    if leads(tokens, place, byte, case) {
-        return enter(tokens, row, free, place + 1);
-    }
-    free
 }
 
-// Puts into the next row what the row before becomes by the byte.
-fn step(tokens: &[Token], byte: u8, case: Case, row: &[usize], next: &mut Vec<usize>) -> usize
-    requires empty { next.old.items ≡ [] }
-    requires capacity { length tokens.now < vec_capacity next.old }
-    requires few { length tokens.now < 2 ^ 63 }
-    ensures bound { result ≤ length tokens.now + 1 }
-    ensures capacity { vec_capacity next.old ≤ vec_capacity next.new }
-    ensures reached { (most : ℕ) → All (λ k. k < most) row.now → result ≤ most + length next.new.items }
-    ensures row { (fresh alive before : ℕ → Bool) → IsStep case (tokens_of tokens.now) byte fresh alive before →
-        fresh 0 ≡ false → row.now ≡ places before (length tokens.now + 1) →
-        IsRow (tokens_of tokens.now) fresh alive next.new.items result ×
-        ((k : ℕ) → result ≤ k → k ≤ length tokens.now → alive k ≡ false) }
-{
-    let mut free = 0;
-    for place in row {
-        let kept = remain(tokens, byte, next, free, *place);
-        free = follow(tokens, byte, case, next, kept, *place);
+impl Step<'_> {
+    // Whether the token before the place goes on to take the byte, so that the place stays.
+    fn stays(&self, place: usize) -> bool
+        ensures stays { let ts = tokens_of self.now.tokens.now in
+            result ≡ stays_on (token_before ts place) self.now.byte }
+        ensures inside { IsTrue result → place ≤ length self.now.tokens.now }
+    {
+        if place == 0 {
+            return false;
+        }
+        match token_at(self.tokens, place - 1) {
+            None => false,
+            Some(token) => token.continues(self.byte),
+        }
     }
-    free
+
+    // Whether the token of the place is a folder star, whose place stays for good.
+    fn is_folder_star(&self, place: usize) -> bool
+        ensures folder { result ≡ is_folder (slice_get (tokens_of self.now.tokens.now) place) }
+        ensures inside { IsTrue result → place < length self.now.tokens.now }
+    {
+        match token_at(self.tokens, place) {
+            None => false,
+            Some(token) => token.is_folder_star(),
+        }
+    }
+
+    // Whether the token of the place ends with the byte, so that the next place is reached.
+    fn advances(&self, place: usize) -> bool
+        ensures advances { let ts = tokens_of self.now.tokens.now in
+            result ≡ advances_on self.now.case (slice_get ts place) self.now.byte }
+        ensures inside { IsTrue result → place < length self.now.tokens.now }
+    {
+        match token_at(self.tokens, place) {
+            None => false,
+            Some(token) => token.ends(self.byte, self.case),
+        }
+    }
+
+    // Adds a place of the row before to the next row, if the byte leaves it there.
+    fn stay(&self, row: &mut Vec<usize>, free: usize, place: usize) -> usize
+        requires room { HasRoom (length self.now.tokens.now) row.old free }
+        requires bound { free ≤ length self.now.tokens.now + 1 }
+        ensures extended { let n = length self.now.tokens.now in
+            IsExtended n place row.old row.new free result }
+        ensures row { let ts = tokens_of self.now.tokens.now in (fresh alive before : ℕ → Bool) →
+            IsUnderway self.now.case ts self.now.byte fresh alive before row.old.items place free →
+            before place ≡ true → place ≤ length self.now.tokens.now →
+            IsRow ts fresh alive row.new.items result }
+        ensures stayed { HasStayed (tokens_of self.now.tokens.now) self.now.byte place result }
+    {
+        if self.stays(place) {
+            return insert(self.tokens, row, free, place);
+        }
+        if self.is_folder_star(place) {
+            return insert_folder(self.tokens, row, free, place);
+        }
+        free
+    }
+
+    // Adds the place after one of the row before to the next row, if the byte leads to it.
+    fn advance(&self, row: &mut Vec<usize>, free: usize, place: usize) -> usize
+        requires room { HasRoom (length self.now.tokens.now) row.old free }
+        requires bound { free ≤ length self.now.tokens.now + 1 }
+        ensures extended { let n = length self.now.tokens.now in
+            IsExtended n (place + 1) row.old row.new free result }
+        ensures row { let ts = tokens_of self.now.tokens.now in (fresh alive before : ℕ → Bool) →
+            IsUnderway self.now.case ts self.now.byte fresh alive before row.old.items place free →
+            before place ≡ true → HasStayed ts self.now.byte place free →
+            IsRow ts fresh alive row.new.items result }
+        ensures advanced { let ts = tokens_of self.now.tokens.now in
+            advances_on self.now.case (slice_get ts place) self.now.byte ≡ true →
+            place + 1 < result }
+    {
+        if self.advances(place) {
+            return insert(self.tokens, row, free, place + 1);
+        }
+        free
+    }
+
+    // Makes the next row of a row. Returns one more than its last place.
+    fn next_row(&self, row: &[usize], next: &mut Vec<usize>) -> usize
+        requires capacity { length self.now.tokens.now < vec_capacity next.old }
+        requires few { length self.now.tokens.now < 2 ^ 63 }
+        ensures bound { result ≤ length self.now.tokens.now + 1 }
+        ensures capacity { vec_capacity next.old ≤ vec_capacity next.new }
+        ensures reached { (most : ℕ) → All (λ k. k < most) row.now →
+            result ≤ most + length next.new.items }
+        ensures row { let ts = tokens_of self.now.tokens.now in (fresh alive before : ℕ → Bool) →
+            IsStep self.now.case ts self.now.byte fresh alive before → fresh 0 ≡ false →
+            row.now ≡ places_below before (length self.now.tokens.now + 1) →
+            IsRow ts fresh alive next.new.items result ×
+            NoneAlive alive result (length self.now.tokens.now + 1) }
+    {
+        next.clear();
+        let mut free = 0;
+        for place in row {
+            let kept = self.stay(next, free, *place);
+            free = self.advance(next, kept, *place);
+        }
+        free
+    }
 }
 
-// Moves the row over the value. Answers whether the tokens match it, and how many pairs of a place among the
+// Moves the row over the value. Returns whether the tokens match it, and how many pairs of a place among the
 // tokens and a place in the value were visited, which fits: (n + 1)(t + 1) for fewer than 2^63 tokens.
 fn run(
     tokens: &[Token],
@@ -232,38 +218,41 @@ fn run(
     ensures at_most { result.1 ≤ (length tokens.now + 1) * (length value.now + 1) }
     ensures found { IsTrue result.0 → length tokens.now < result.1 }
     ensures missed { ReachedAtMost case (tokens_of tokens.now) value.now result.1 }
-    ensures room { (n : ℕ) → n ≤ vec_capacity row.old → n ≤ vec_capacity next.old →
-        (n ≤ vec_capacity row.new) × (n ≤ vec_capacity next.new) }
+    ensures room { KeepsCapacity row.old next.old row.new next.new }
 {
     row.clear();
-    let mut free = enter(tokens, row, 0, 0);
+    let mut free = insert(tokens, row, 0, 0);
     let mut visits = row.len() as u128;
     for byte in value {
         if free == 0 {
             return (false, visits);
         }
-        next.clear();
-        free = step(tokens, *byte, case, row, next);
+        let step = Step {
+            tokens,
+            byte: *byte,
+            case,
+        };
+        free = step.next_row(row, next);
         mem::swap(row, next);
         visits += row.len() as u128;
     }
     (free == tokens.len() + 1, visits)
 }
 
-// Takes tokens of one byte each off the front, with the bytes that they take. None where one takes no byte.
+// Takes tokens of one byte each off the front, with the bytes that they take. None if one takes no byte.
 fn skip_front<'t, 'v>(
     tokens: &'t [Token],
     value: &'v [u8],
     case: Case,
 ) -> Option<(&'t [Token], &'v [u8])>
-    ensures matched { IfSome result (λ r. matches case (tokens_of tokens.now) value.now ≡ matches case (tokens_of r.0.now) r.1.now) }
+    ensures left { IfSome result (λ r.
+        IsLeft case (tokens_of tokens.now) value.now (tokens_of r.0.now) r.1.now) }
     ensures missed { IfNone result (matches case (tokens_of tokens.now) value.now ≡ false) }
-    ensures bordered { is_bordered true (tokens_of tokens.now) ≡ true → IfSome result (λ r. is_bordered true (tokens_of r.0.now) ≡ true) }
     ensures shorter { IfSome result (λ r. length r.0.now ≤ length tokens.now) }
 {
     let mut left = tokens;
     let mut rest = value;
-    while let Some((token, behind)) = left.split_first() {
+    while let Some((token, tail)) = left.split_first() {
         if token.may_be_empty() {
             break;
         }
@@ -271,21 +260,21 @@ fn skip_front<'t, 'v>(
         if !token.takes(*byte, case) {
             return None;
         }
-        left = behind;
+        left = tail;
         rest = others;
     }
     Some((left, rest))
 }
 
-// Takes tokens of one byte each off the end, with the bytes that they take. None where one takes no byte.
+// Takes tokens of one byte each off the end, with the bytes that they take. None if one takes no byte.
 fn skip_end<'t, 'v>(
     tokens: &'t [Token],
     value: &'v [u8],
     case: Case,
 ) -> Option<(&'t [Token], &'v [u8])>
-    ensures matched { IfSome result (λ r. matches case (tokens_of tokens.now) value.now ≡ matches case (tokens_of r.0.now) r.1.now) }
+    ensures left { IfSome result (λ r.
+        IsLeft case (tokens_of tokens.now) value.now (tokens_of r.0.now) r.1.now) }
     ensures missed { IfNone result (matches case (tokens_of tokens.now) value.now ≡ false) }
-    ensures bordered { is_bordered true (tokens_of tokens.now) ≡ true → IfSome result (λ r. is_bordered true (tokens_of r.0.now) ≡ true) }
     ensures shorter { IfSome result (λ r. length r.0.now ≤ length tokens.now) }
 {
     let mut left = tokens;
@@ -306,12 +295,12 @@ fn skip_end<'t, 'v>(
 
 /// The buffers of a matcher, which any number of matches can share. They grow only by `reserve`.
 #[derive(Debug, Drop)]
-pub struct Rows {
+pub struct MatchBuffers {
     row: Vec<usize>,
     next: Vec<usize>,
 }
 
-impl Model for Rows {
+impl Model for MatchBuffers {
     ghost use Rattle.std.specs.Prelude.{ℕ, min, vec_capacity};
 
     ghost Value = { ℕ };
@@ -319,23 +308,27 @@ impl Model for Rows {
     ghost view = { λ r. min (vec_capacity r.row) (vec_capacity r.next) };
 }
 
-impl Rows {
+impl MatchBuffers {
     /// Buffers without room; takes no memory.
-    pub fn new(alloc: Global) -> Rows
+    pub fn new(alloc: Global) -> MatchBuffers
         ensures { result ≡ 0 }
     {
-        Rows {
+        MatchBuffers {
             row: Vec::new(alloc),
             next: Vec::new(alloc),
         }
     }
 
     /// Makes room for this many places. Tokens need one place more than there are of them.
+    ///
+    /// # Errors
+    ///
+    /// Fails if memory runs out. The room that there was stays.
     pub fn reserve(&mut self, places: usize) -> Result<(), AllocError>
         ensures room { OnOk result (places ≤ self.new) }
         ensures kept { self.old ≤ self.new }
 
-        // Takes no memory where there is room already.
+        // Takes no memory if there is room already.
         ensures succeeds { places ≤ self.old → IsOk result }
     {
         self.row.clear();
@@ -349,7 +342,7 @@ impl Rows {
 impl Tokens {
     /// Whether the tokens match the whole value, and how many pairs (place among the tokens, place in the
     /// value) were visited. Takes no memory.
-    pub fn count(&self, value: &[u8], case: Case, rows: &mut Rows) -> (bool, u128)
+    pub fn count(&self, value: &[u8], case: Case, rows: &mut MatchBuffers) -> (bool, u128)
         requires room { length self.now < rows.old }
         ensures matched { IsTrue result.0 ↔ Match case self.now value.now }
         ensures at_most { result.1 ≤ (length self.now + 1) * (length value.now + 1) }
@@ -362,7 +355,7 @@ impl Tokens {
 
     /// Whether the tokens match the whole value. Takes no memory. Tokens of one byte at either end are compared
     /// before the others.
-    pub fn matches(&self, value: &[u8], case: Case, rows: &mut Rows) -> bool
+    pub fn matches(&self, value: &[u8], case: Case, rows: &mut MatchBuffers) -> bool
         requires room { length self.now < rows.old }
         ensures matched { IsTrue result ↔ Match case self.now value.now }
         ensures room { rows.old ≤ rows.new }
@@ -373,13 +366,17 @@ impl Tokens {
         let Some((tokens, value)) = skip_end(tokens, value, case) else {
             return false;
         };
-        folders::match_early(tokens, value, case, &mut rows.row, &mut rows.next)
+        folders::match_early(tokens, value, case, rows)
     }
 }
 
 /// Whether the tokens of the text match the whole value, and how many pairs (place in the text, place in
 /// the value) were visited: none for a malformed text, which matches nothing. The pairs always fit: a
 /// count that would pass `u128::MAX` can't come about.
+///
+/// # Errors
+///
+/// Fails if memory runs out.
 pub fn count(
     alloc: Global,
     text: &[u8],
@@ -388,21 +385,25 @@ pub fn count(
 ) -> Result<(bool, u128), AllocError>
     ensures matched { IfOk result (λ r. IsTrue r.0 ↔ TextMatches case text.now value.now) }
     ensures at_most { IfOk result (λ r. r.1 ≤ (length text.now + 1) * (length value.now + 1)) }
-    ensures found { IfOk result (λ r. IsTrue r.0 → (ts : List Meaning) → AreTokens true text.now ts → length ts ≤ r.1) }
-    ensures missed { IfOk result (λ r. IsFalse r.0 → (ts : List Meaning) → AreTokens true text.now ts → ReachedAtMost case ts value.now r.1) }
+    ensures found { IfOk result (λ r. IsTrue r.0 → (ts : List Meaning) →
+        AreTokens true text.now ts → length ts ≤ r.1) }
+    ensures missed { IfOk result (λ r. IsFalse r.0 → (ts : List Meaning) →
+        AreTokens true text.now ts → ReachedAtMost case ts value.now r.1) }
 {
     let Some(tokens) = Tokens::read(alloc, text)? else {
         return Ok((false, 0));
     };
-    let mut rows = Rows::new(alloc);
+    let mut rows = MatchBuffers::new(alloc);
     rows.reserve(tokens.places())?;
     Ok(tokens.count(value, case, &mut rows))
 }
 
-/// The tests of matching tell what the relations say (a law).
+/// The computed tests of matching decide the relations (a law).
 pub fn tests_tell_match(case: Case, text: &[u8], value: &[u8])
-    ensures tokens { (ts : List Meaning) → IsTrue (matches case ts value.now) ↔ Match case ts value.now }
-    ensures text { IsTrue (text_matches case text.now value.now) ↔ TextMatches case text.now value.now }
+    ensures tokens { (ts : List Meaning) →
+        IsTrue (matches case ts value.now) ↔ Match case ts value.now }
+    ensures text { IsTrue (text_matches case text.now value.now)
+        ↔ TextMatches case text.now value.now }
 {}
 
 mod folders;

@@ -10,12 +10,15 @@ use Rattle.attr_glob.specs.Bytes.{number_sign}
 use Rattle.attr_glob.specs.Patterns.{Reading, reading, is_negated}
 use Rattle.attr_text.specs.Names.{is_valid_name, is_reserved_name}
 use Rattle.attr_text.specs.Items.{invalid_name, reserved, checked_name, after_blanks}
-use Rattle.attr_text.specs.LineResults.{Target, pattern, macro, LineResult, RefusedLine, Given, macro_name, negative_pattern, macro_mark, is_macro, macro_of, pattern_of, target_of, parts_of, with_items, result_of_text, result_of, results_from, results_of, lines_in}
-use Rattle.attr_lists.specs.declared.search.TrackedAssignment.{TrackedAssignment}
-use Rattle.attr_lists.specs.declared.search.Dropped.{Dropped}
-use Rattle.attr_lists.specs.declared.search.DropReason.{DropReason}
+use Rattle.attr_text.specs.LineResults.{Target, pattern, macro, LineResult, RefusedLine, Given, macro_name, negative_pattern, macro_prefix}
+use Rattle.attr_text.specs.LineResults.{is_macro_definition, macro_of, pattern_of, target_of, parts_of, with_items, result_of_text, result_of}
+use Rattle.attr_text.specs.LineResults.{results_from, results_of, lines_in}
+use Rattle.attr_lists.specs.declared.types.TrackedAssignment.{TrackedAssignment}
+use Rattle.attr_lists.specs.declared.types.Dropped.{Dropped}
+use Rattle.attr_lists.specs.declared.types.DropReason.{DropReason}
 use Rattle.attr_lists.specs.ListViews.{Entry}
-use Rattle.attr_lists.specs.KeptLists.{macro_valid, macros_valid, items_read, entry_for, line_read, kept_lines, kept_list, kept_list_where, defines_no_macro}
+use Rattle.attr_lists.specs.KeptLists.{macro_valid, macros_valid, items_read, entry_for, line_read, kept_lines, kept_list, kept_list_where}
+use Rattle.attr_lists.specs.KeptLists.{defines_no_macro}
 
 -- a macro of a valid name, or no macro
 and-true : {a b : Bool} → a ≡ true → b ≡ true → (a && b) ≡ true
@@ -34,12 +37,14 @@ option_valid None = true
 option_valid (Some (Ok target)) = target_valid target
 option_valid (Some (Err refused)) = true
 
-valid-either : (b : Bool) (x y : Option (Result Target RefusedLine)) → option_valid x ≡ true → option_valid y ≡ true → option_valid (cond b x y) ≡ true
+valid-either : (b : Bool) (x y : Option (Result Target RefusedLine)) → option_valid x ≡ true → option_valid y ≡ true → option_valid (cond b x y) ≡
+    true
 valid-either true x y hx hy = hx
 valid-either false x y hx hy = hy
 
 valid-checked : (name : List ℕ) (valid reserved_name : Bool) (line : ℕ) → is_valid_name name ≡ valid
-    → option_valid (Some (macro_of (if not valid then Err (invalid_name name) else if reserved_name then Err (reserved name) else Ok name) name line)) ≡ true
+    → option_valid (Some (macro_of (if not valid then Err (invalid_name name) else if reserved_name then Err (reserved name) else Ok name) name line))
+    ≡ true
 unfolding option_valid target_valid
 valid-checked name true true line e = refl
 valid-checked name true false line e = e
@@ -58,8 +63,8 @@ valid-reading text line (Some read) = valid-pattern text line (is_negated text) 
 
 target_of-valid : (text : List ℕ) (line : ℕ) → option_valid (target_of text line) ≡ true
 target_of-valid text line =
-    let name = drop (length macro_mark) text in
-    valid-either (is_macro text) (Some (macro_of (checked_name name) name line)) (option_map (pattern_of text line) (reading text))
+    let name = drop (length macro_prefix) text in
+    valid-either (is_macro_definition text) (Some (macro_of (checked_name name) name line)) (option_map (pattern_of text line) (reading text))
     (valid-checked name (is_valid_name name) (is_reserved_name name) line refl) (valid-reading text line (reading text))
 
 valid-line : (items : List ℕ) (line : ℕ) (target : Option (Result Target RefusedLine)) → option_valid target ≡ true
@@ -88,19 +93,22 @@ results-valid number (line ∷ lines) =
     list_all-append line_valid (option_to_list (result_of line number)) (results_from (number + 1) lines)
     ∙ and-true (result_of-valid line number) (results-valid (number + 1) lines)
 
-entry-valid : (target : Target) (line : ℕ) (items : List TrackedAssignment) → target_valid target ≡ true → macro_valid (entry_for target line items) ≡ true
+entry-valid : (target : Target) (line : ℕ) (items : List TrackedAssignment) → target_valid target ≡ true → macro_valid (entry_for target line items) ≡
+    true
 unfolding target_valid
 entry-valid (pattern read) line items h = refl
 entry-valid (macro name) line items h = h
 
--- what is kept of a line that gives items, before the others
-kept-given : (given : Given) (left_out : DropReason → Dropped) (read : Result (List TrackedAssignment) DropReason) (others : List Entry) → target_valid given.target ≡ true
+-- the entry of a line with items, before the others
+kept-given : (given : Given) (left_out : DropReason → Dropped) (read : Result (List TrackedAssignment) DropReason) (others : List Entry) →
+    target_valid given.target ≡ true
     → macros_valid others ≡ true
     → macros_valid (cons_option (result_ok {E = Dropped} (result_map_both (entry_for given.target given.line) left_out read)) others) ≡ true
 kept-given given left_out (Ok items) others valid h = and-true (entry-valid given.target given.line items valid) h
 kept-given given left_out (Err reason) others valid h = h
 
-kept-refused : (refused : RefusedLine) (others : List Entry) → macros_valid others ≡ true → macros_valid (cons_option (result_ok (line_read (Err refused))) others) ≡ true
+kept-refused : (refused : RefusedLine) (others : List Entry) → macros_valid others ≡ true → macros_valid
+    (cons_option (result_ok (line_read (Err refused))) others) ≡ true
 kept-refused (macro_name line name) others h = h
 kept-refused (negative_pattern line text) others h = h
 
@@ -109,7 +117,8 @@ unfolding line_valid
 kept-valid [] h = refl
 kept-valid (Ok given ∷ lines) h =
     let parts = and_parts (target_valid given.target) (list_all line_valid lines) h in
-    kept-given given (λ reason. record { line = given.line; reason = reason }) (items_read given.items) (kept_lines lines) parts.0 (kept-valid lines parts.1)
+    kept-given given (λ reason. record { line = given.line; reason = reason }) (items_read given.items) (kept_lines lines) parts.0
+    (kept-valid lines parts.1)
 kept-valid (Err refused ∷ lines) h = kept-refused refused (kept_lines lines) (kept-valid lines h)
 
 pub kept_macros_valid : (bytes : List ℕ) → macros_valid (kept_list bytes) ≡ true
@@ -120,7 +129,8 @@ filter-valid p [] h = refl
 filter-valid p (entry ∷ entries) h =
     let parts = and_parts (macro_valid entry) (macros_valid entries) h in
     let others = filter-valid p entries parts.1 in
-    elim (p entry) as (λ b. macros_valid (cond b (entry ∷ filter p entries) (filter p entries)) ≡ true) [ true ↦ and-true parts.0 others | false ↦ others ]
+    elim (p entry) as (λ b. macros_valid (cond b (entry ∷ filter p entries) (filter p entries)) ≡ true)
+    [ true ↦ and-true parts.0 others | false ↦ others ]
 
 -- what is left of valid macros without the lines that define any
 pub valid_without_macros : (entries : List Entry) → macros_valid entries ≡ true → macros_valid (filter defines_no_macro entries) ≡ true

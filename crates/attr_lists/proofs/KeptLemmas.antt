@@ -1,5 +1,6 @@
--- What was kept so far, and what is still to be read.
-use Rattle.std.proofs.Common.{◌≡◌, Bool, true, false, List, [], ◌∷◌, ◌++◌, map, filter, cond, Option, Some, None, MatchOption, Result, refl, sym, ap, ◌∙◌, append_assoc, append-nil}
+-- The entries so far, and those of the lines that are left.
+use Rattle.std.proofs.Common.{◌≡◌, Bool, true, false, List, [], ◌∷◌, ◌++◌, map, filter, cond, Option, Some, None, MatchOption, Result, refl, sym, ap}
+use Rattle.std.proofs.Common.{◌∙◌, append_assoc, append-nil}
 use Rattle.std.specs.List.{filter_map, cons_option, list_all}
 use Rattle.std.specs.Option.{option_to_list}
 use Rattle.std.proofs.lemmas.List.Folds.{list_all-map}
@@ -7,34 +8,38 @@ use Rattle.std.specs.Result.{result_ok, result_err}
 use Rattle.attr_glob.specs.declared.search.pattern.Mapping.{Mapping}
 use Rattle.attr_text.specs.Items.{Refusal}
 use Rattle.attr_text.specs.declared.assignment.Assignment.{Assignment}
-use Rattle.attr_lists.specs.declared.search.TrackedAssignment.{TrackedAssignment}
-use Rattle.attr_lists.specs.declared.search.Value.{Value}
-use Rattle.attr_lists.specs.declared.search.DropReason.{DropReason}
-use Rattle.attr_lists.specs.ListViews.{entry_of, entries_of}
+use Rattle.attr_lists.specs.declared.types.TrackedAssignment.{TrackedAssignment}
+use Rattle.attr_lists.specs.declared.types.Value.{Value}
+use Rattle.attr_lists.specs.declared.types.DropReason.{DropReason}
+use Rattle.attr_lists.specs.ListViews.{entry_view, entries_view}
 use Rattle.attr_lists.specs.KeptLists.{tracked, unless_refused, defines_no_macro, macro_valid, macros_valid}
 
--- a test of what a function gives, before or after it
+-- a filter before or after a function
 map-filter : {X Y : Type 0} (f : X → Y) (p : Y → Bool) (xs : List X) → map f (filter (λ x. p (f x)) xs) ≡ filter p (map f xs)
 map-filter f p [] = refl
 map-filter f p (x ∷ xs) =
     let others = map-filter f p xs in
-    elim (p (f x)) as (λ b. map f (cond b (x ∷ filter (λ y. p (f y)) xs) (filter (λ y. p (f y)) xs)) ≡ cond b (f x ∷ filter p (map f xs)) (filter p (map f xs)))
+    elim (p (f x)) as (λ b. map f (cond b (x ∷ filter (λ y. p (f y)) xs) (filter (λ y. p (f y)) xs)) ≡ cond b (f x ∷ filter p (map f xs))
+    (filter p (map f xs)))
     [ true ↦ ap (λ l. f x ∷ l) others | false ↦ others ]
 
 -- mappings that define no macro are kept as entries that define none
-pub entries_without_macros : (mappings : List (Mapping Value)) → entries_of (filter (λ m. defines_no_macro (entry_of m)) mappings) ≡ filter defines_no_macro (entries_of mappings)
-entries_without_macros mappings = map-filter entry_of defines_no_macro mappings
+pub entries_without_macros : (mappings : List (Mapping Value)) → entries_view (filter (λ m. defines_no_macro (entry_view m)) mappings) ≡ filter
+    defines_no_macro (entries_view mappings)
+entries_without_macros mappings = map-filter entry_view defines_no_macro mappings
 
--- what items give where the assignments of those before them are these
+-- the result of items after these assignments
 abbrev pub read_after : List TrackedAssignment → List (Result Assignment Refusal) → Result (List TrackedAssignment) DropReason
 read_after before items = unless_refused (filter_map result_err items) (before ++ map tracked (filter_map result_ok items))
 
 -- the test of mappings is that of what is kept
-pub macros_of_mappings : (mappings : List (Mapping Value)) → list_all (λ m. macro_valid (entry_of m)) mappings ≡ macros_valid (entries_of mappings)
-macros_of_mappings mappings = sym (list_all-map macro_valid entry_of mappings)
+pub macros_of_mappings : (mappings : List (Mapping Value)) → list_all (λ m. macro_valid (entry_view m)) mappings ≡ macros_valid
+    (entries_view mappings)
+macros_of_mappings mappings = sym (list_all-map macro_valid entry_view mappings)
 
--- what was given so far, with one thing more, unless memory ran out, which it did not
-pub given-more : {X R Y : Type 0} (N : Type 0) (read : X → R) (part : R → Option Y) (whole before longer : List Y) (told : Option X) (one : R) (all others : List X)
+-- the parts so far, with one more
+pub given-more : {X R Y : Type 0} (N : Type 0) (read : X → R) (part : R → Option Y) (whole before longer : List Y) (told : Option X) (one : R)
+    (all others : List X)
     → before ++ filter_map (λ x. part (read x)) all ≡ whole → MatchOption told N (λ x. all ≡ x ∷ others) → MatchOption told ⊥ (λ x. one ≡ read x)
     → longer ≡ before ++ option_to_list (part one) → longer ++ filter_map (λ x. part (read x)) others ≡ whole
 given-more N read part whole before longer None one all others so_far first is grown = absurd is
@@ -48,6 +53,7 @@ given-more N read part whole before longer (Some x) one all others so_far first 
     onto None ys = refl
     onto (Some y) ys = refl
 
--- what was given so far is all, where nothing is left
-pub given-all : {X Y : Type 0} (f : X → Option Y) (before whole : List Y) (all : List X) → before ++ filter_map f all ≡ whole → all ≡ [] → before ≡ whole
+-- the parts so far are all, if no line is left
+pub given-all : {X Y : Type 0} (f : X → Option Y) (before whole : List Y) (all : List X) → before ++ filter_map f all ≡ whole → all ≡ [] → before ≡
+    whole
 given-all f before whole all so_far none = sym (append-nil before) ∙ (ap (λ l. before ++ filter_map f l) (sym none) ∙ so_far)

@@ -1,27 +1,29 @@
 -- Names by number: a list that takes names grows at its end, and its names differ and are valid.
-use Rattle.std.proofs.Common.{◌≡◌, ℕ, ◌+◌, ◌<◌, true, false, cond, List, [], ◌∷◌, ◌++◌, length, get_or, drop, map, position, IsTrue, nat_eq, bytes_eq, refl, sym, ap, subst, ◌∙◌, ⊎_elim, arith}
+use Rattle.std.proofs.Common.{◌≡◌, ℕ, ◌+◌, ◌<◌, true, false, cond, List, [], ◌∷◌, ◌++◌, length, get_or, drop, map, position, IsTrue, nat_eq, bytes_eq}
+use Rattle.std.proofs.Common.{refl, sym, ap, subst, ◌∙◌, ⊎_elim, arith}
 use Rattle.std.specs.HashSet.{HashSet}
 use Rattle.std.specs.List.{list_any, IsDistinct}
 use Rattle.std.specs.Rc.{rc_str_bytes}
 use Rattle.std.specs.declared.rc.RcStr.{RcStr}
 use Rattle.std.specs.Cmp.Lexicographic.{pointwise, nat_list_eq_equiv}
 use Rattle.std.proofs.lemmas.Bool.{cases_Bool, cond-true, cond-false}
-use Rattle.std.proofs.lemmas.List.{append-nil, append_assoc, map-append, at_drop_more, length-map, length-append, get_or_at, get_or_default, get_or_append_left}
+use Rattle.std.proofs.lemmas.List.{append-nil, append_assoc, map-append, at_drop_more, length-map, length-append, get_or_at, get_or_default}
+use Rattle.std.proofs.lemmas.List.{get_or_append_left}
 use Rattle.std.proofs.lemmas.List.Elements.{All-push}
 use Rattle.std.proofs.lemmas.List.Folds.{list_any_none}
 use Rattle.std.proofs.lemmas.List.Sums.{fold-append}
 use Rattle.std.proofs.lemmas.Map.Keys.{IsDistinct-push, apart_from_distinct}
 use Rattle.attr_text.specs.Names.{is_valid_name}
 use Rattle.attr_glob.specs.declared.search.pattern.Mapping.{Mapping}
-use Rattle.attr_lists.specs.declared.search.TrackedAssignment.{TrackedAssignment}
-use Rattle.attr_lists.specs.declared.search.Value.{Value}
+use Rattle.attr_lists.specs.declared.types.TrackedAssignment.{TrackedAssignment}
+use Rattle.attr_lists.specs.declared.types.Value.{Value}
 use Rattle.attr_lists.specs.KeptLists.{macro_valid, macros_valid}
-use Rattle.attr_lists.specs.KnownViews.{texts_of, AreValid}
-use Rattle.attr_lists.specs.ListViews.{entry_of, entries_of}
+use Rattle.attr_lists.specs.inner.EntryViews.{name_texts, AreValid}
+use Rattle.attr_lists.specs.ListViews.{entry_view, entries_view}
 use Rattle.attr_lists.specs.Numbers.{names_of, names_in, with_name, with_names, number_of}
-use Rattle.attr_lists.proofs.Lists.{list_any-map, position-map, get_or-map, list_all-within}
+use Rattle.attr_lists.proofs.ListLemmas.{list_any-map, position-map, get_or-map, list_all-within}
 
--- a name that is known takes no number
+-- a name that is there is not inserted again
 pub with_name-known : (known : List (List ℕ)) (name : List ℕ) → list_any (bytes_eq name) known ≡ true → with_name known name ≡ known
 with_name-known known name e = cond-true (list_any (bytes_eq name) known) known (known ++ name ∷ []) e
 
@@ -34,7 +36,8 @@ with_name-extends known name =
     ⊎_elim (λ e. ([], with_name-known known name e ∙ sym (append-nil known))) (λ e. (name ∷ [], with_name-new known name e))
     (cases_Bool (list_any (bytes_eq name) known))
 
-pub extends_again : (start now more next rest : List (List ℕ)) → now ≡ start ++ more → next ≡ now ++ rest → (more : List (List ℕ)) × (next ≡ start ++ more)
+pub extends_again : (start now more next rest : List (List ℕ)) → now ≡ start ++ more → next ≡ now ++ rest → (more : List (List ℕ)) ×
+    (next ≡ start ++ more)
 extends_again start now more next rest e f = (more ++ rest, f ∙ ap (λ l. l ++ rest) e ∙ append_assoc start more rest)
 
 pub with_names-extends : (known names : List (List ℕ)) → (more : List (List ℕ)) × (with_names known names ≡ known ++ more)
@@ -64,27 +67,36 @@ with_name-valid known name v all =
 
 module _ {Z S : Type 0} where
   -- the test of a set is the test of its texts
-  pub texts_contain : (names : HashSet (RcStr Z) S) (name : List ℕ) → list_any (λ k. bytes_eq name (rc_str_bytes k)) names.keys ≡ list_any (bytes_eq name) (texts_of names)
+  pub texts_contain : (names : HashSet (RcStr Z) S) (name : List ℕ) → list_any (λ k. bytes_eq name (rc_str_bytes k)) names.keys ≡ list_any
+      (bytes_eq name) (name_texts names)
   texts_contain names name = sym (list_any-map (bytes_eq name) rc_str_bytes names.keys)
 
-  pub texts_number : (names : HashSet (RcStr Z) S) (name : List ℕ) → position (λ k. bytes_eq name (rc_str_bytes k)) names.keys ≡ number_of (texts_of names) name
+  pub texts_number : (names : HashSet (RcStr Z) S) (name : List ℕ) → position (λ k. bytes_eq name (rc_str_bytes k)) names.keys ≡ number_of
+      (name_texts names) name
   texts_number names name = sym (position-map (bytes_eq name) rc_str_bytes names.keys)
 
-  pub texts_known : (names : HashSet (RcStr Z) S) (name : List ℕ) → list_any (λ k. bytes_eq name (rc_str_bytes k)) names.keys ≡ true → texts_of names ≡ with_name (texts_of names) name
-  texts_known names name e = sym (with_name-known (texts_of names) name (sym (texts_contain names name) ∙ e))
+  pub texts_known : (names : HashSet (RcStr Z) S) (name : List ℕ) → list_any (λ k. bytes_eq name (rc_str_bytes k)) names.keys ≡ true → name_texts
+      names ≡ with_name (name_texts names) name
+  texts_known names name e = sym (with_name-known (name_texts names) name (sym (texts_contain names name) ∙ e))
 
-  pub texts_new : (old new : HashSet (RcStr Z) S) (key : RcStr Z) (name : List ℕ) → list_any (λ k. bytes_eq name (rc_str_bytes k)) old.keys ≡ false → rc_str_bytes key ≡ name → new.keys ≡ cond (list_any (λ k. pointwise nat_eq (rc_str_bytes key) (rc_str_bytes k)) old.keys) old.keys (old.keys ++ key ∷ []) → texts_of new ≡ with_name (texts_of old) name
+  pub texts_new : (old new : HashSet (RcStr Z) S) (key : RcStr Z) (name : List ℕ) → list_any (λ k. bytes_eq name (rc_str_bytes k)) old.keys ≡ false →
+      rc_str_bytes key ≡ name → new.keys ≡ cond (list_any (λ k. pointwise nat_eq (rc_str_bytes key) (rc_str_bytes k)) old.keys) old.keys
+      (old.keys ++ key ∷ []) → name_texts new ≡ with_name (name_texts old) name
   texts_new old new key name absent text keys =
       let none : list_any (λ k. pointwise nat_eq (rc_str_bytes key) (rc_str_bytes k)) old.keys ≡ false =
       subst (λ t. list_any (λ k. bytes_eq t (rc_str_bytes k)) old.keys ≡ false) (sym text) absent in
-      ap (map rc_str_bytes) (keys ∙ cond-false (list_any (λ k. pointwise nat_eq (rc_str_bytes key) (rc_str_bytes k)) old.keys) old.keys (old.keys ++ key ∷ []) none)
-      ∙ map-append rc_str_bytes old.keys (key ∷ []) ∙ ap (λ t. texts_of old ++ t ∷ []) text
-      ∙ sym (with_name-new (texts_of old) name (sym (texts_contain old name) ∙ absent))
+      ap (map rc_str_bytes) (keys ∙ cond-false (list_any (λ k. pointwise nat_eq (rc_str_bytes key) (rc_str_bytes k)) old.keys) old.keys
+      (old.keys ++ key ∷ []) none)
+      ∙ map-append rc_str_bytes old.keys (key ∷ []) ∙ ap (λ t. name_texts old ++ t ∷ []) text
+      ∙ sym (with_name-new (name_texts old) name (sym (texts_contain old name) ∙ absent))
 
-  pub texts_put : (old new : HashSet (RcStr Z) S) (key : RcStr Z) (name : List ℕ) → rc_str_bytes key ≡ name → new.keys ≡ cond (list_any (λ k. pointwise nat_eq (rc_str_bytes key) (rc_str_bytes k)) old.keys) old.keys (old.keys ++ key ∷ []) → texts_of new ≡ with_name (texts_of old) name
+  pub texts_put : (old new : HashSet (RcStr Z) S) (key : RcStr Z) (name : List ℕ) → rc_str_bytes key ≡ name → new.keys ≡ cond
+      (list_any (λ k. pointwise nat_eq (rc_str_bytes key) (rc_str_bytes k)) old.keys) old.keys (old.keys ++ key ∷ []) → name_texts new ≡ with_name
+      (name_texts old) name
   texts_put old new key name text keys =
       let any = list_any (λ k. pointwise nat_eq (rc_str_bytes key) (rc_str_bytes k)) old.keys in
-      let found : any ≡ list_any (λ k. bytes_eq name (rc_str_bytes k)) old.keys = ap (λ t. list_any (λ k. bytes_eq t (rc_str_bytes k)) old.keys) text in
+      let found : any ≡ list_any (λ k. bytes_eq name (rc_str_bytes k)) old.keys = ap (λ t. list_any (λ k. bytes_eq t (rc_str_bytes k)) old.keys) text
+      in
       ⊎_elim
       (λ yes. ap (map rc_str_bytes) (keys ∙ cond-true any old.keys (old.keys ++ key ∷ []) (found ∙ yes)) ∙ texts_known old name yes)
       (λ no. texts_new old new key name no text keys)
@@ -106,7 +118,10 @@ distinct_taken known (name ∷ names) d =
     ∙ append_assoc known (name ∷ []) names
 
 -- one more name of the items
-pub items_step : (names now : List (List ℕ)) (items : List TrackedAssignment) (i : ℕ) (item : TrackedAssignment) (text : List ℕ) (all : List (List ℕ)) → i < length items → item ≡ get_or items i item → text ≡ item.inner.name → now ≡ with_name names text → with_names names (map (λ (x : TrackedAssignment). x.inner.name) (drop i items)) ≡ all → with_names now (map (λ (x : TrackedAssignment). x.inner.name) (drop (i + 1) items)) ≡ all
+pub items_step : (names now : List (List ℕ)) (items : List TrackedAssignment) (i : ℕ) (item : TrackedAssignment) (text : List ℕ) (all : List (List ℕ))
+    → i < length items → item ≡ get_or items i item → text ≡ item.inner.name → now ≡ with_name names text → with_names names
+    (map (λ (x : TrackedAssignment). x.inner.name) (drop i items)) ≡ all → with_names now
+    (map (λ (x : TrackedAssignment). x.inner.name) (drop (i + 1) items)) ≡ all
 items_step names now items i item text all lt at is entered h =
     let name = λ (x : TrackedAssignment). x.inner.name in
     let rest = λ (l : List TrackedAssignment). with_names names (map name l) in
@@ -114,15 +129,19 @@ items_step names now items i item text all lt at is entered h =
     ∙ sym (at_drop_more rest items i item lt) ∙ h
 
 -- the names of one more line
-pub lines_step : (names now : List (List ℕ)) (lines : List (Mapping Value)) (i : ℕ) (line : Mapping Value) (all : List (List ℕ)) → i < length lines → line ≡ get_or lines i line → now ≡ with_names names (names_of (entry_of line)) → with_names names (names_in (entries_of (drop i lines))) ≡ all → with_names now (names_in (entries_of (drop (i + 1) lines))) ≡ all
+pub lines_step : (names now : List (List ℕ)) (lines : List (Mapping Value)) (i : ℕ) (line : Mapping Value) (all : List (List ℕ)) → i < length lines →
+    line ≡ get_or lines i line → now ≡ with_names names (names_of (entry_view line)) → with_names names (names_in (entries_view (drop i lines))) ≡ all
+    → with_names now (names_in (entries_view (drop (i + 1) lines))) ≡ all
 lines_step names now lines i line all lt at entered h =
-    let rest = λ (l : List (Mapping Value)). with_names names (names_in (entries_of l)) in
-    let behind = names_in (entries_of (drop (i + 1) lines)) in
-    ap (λ n. with_names n behind) (entered ∙ ap (λ l. with_names names (names_of (entry_of l))) at)
-    ∙ sym (fold-append with_name names (names_of (entry_of (get_or lines i line))) behind)
+    let rest = λ (l : List (Mapping Value)). with_names names (names_in (entries_view l)) in
+    let behind = names_in (entries_view (drop (i + 1) lines)) in
+    ap (λ n. with_names n behind) (entered ∙ ap (λ l. with_names names (names_of (entry_view l))) at)
+    ∙ sym (fold-append with_name names (names_of (entry_view (get_or lines i line))) behind)
     ∙ sym (at_drop_more rest lines i line lt) ∙ h
 
 -- a line of a list whose macros have valid names
-pub macro_valid_at : (lines : List (Mapping Value)) (i : ℕ) (line : Mapping Value) → i < length lines → line ≡ get_or lines i line → macros_valid (entries_of lines) ≡ true → macro_valid (entry_of line) ≡ true
+pub macro_valid_at : (lines : List (Mapping Value)) (i : ℕ) (line : Mapping Value) → i < length lines → line ≡ get_or lines i line → macros_valid
+    (entries_view lines) ≡ true → macro_valid (entry_view line) ≡ true
 macro_valid_at lines i line lt at valid =
-    ap macro_valid (ap entry_of at ∙ sym (get_or-map entry_of lines i line)) ∙ list_all-within macro_valid (entries_of lines) i (entry_of line) (omega (arith, length-map lines entry_of)) valid
+    ap macro_valid (ap entry_view at ∙ sym (get_or-map entry_view lines i line)) ∙ list_all-within macro_valid (entries_view lines) i
+    (entry_view line) (omega (arith, length-map lines entry_view)) valid

@@ -1,4 +1,4 @@
--- Items are equal by `==` exactly where they are the same.
+-- Items are equal by `==` if and only if they are the same.
 use Rattle.std.proofs.Common.{◌≡◌, true, List, refl, sym, ap, ◌∙◌, nat_eq, eq-eqb}
 use Rattle.std.specs.Cmp.Lexicographic.{pointwise, pointwise_decides, bytes_decides}
 use Rattle.std.proofs.lemmas.Bool.{and_parts, and_from, eqb-true}
@@ -7,8 +7,8 @@ use Rattle.attr_text.specs.declared.state.State.{State}
 use Rattle.attr_text.specs.declared.state.State.TheVariants.{Set, Unset, Value, Unspecified}
 use Rattle.attr_text.specs.contracts.state.StatePartialEq.TheImpl as state
 use Rattle.attr_text.specs.contracts.assignment.AssignmentPartialEq.TheImpl as assignment
-use Rattle.attr_lists.specs.declared.search.TrackedAssignment.{TrackedAssignment}
-use Rattle.attr_lists.specs.contracts.search.TrackedAssignmentPartialEq.TheImpl as tracked
+use Rattle.attr_lists.specs.declared.types.TrackedAssignment.{TrackedAssignment}
+use Rattle.attr_lists.specs.contracts.types.TrackedAssignmentPartialEq.TheImpl as tracked
 
 state_is : (x y : State) → state.ghosts.eq x y ≡ true → x ≡ y
 state_is Set Set e = refl
@@ -42,7 +42,8 @@ assignment_is x y e =
     λ j. record { name = name j; state = said j }
 
 assignment_same : (x : Assignment) → assignment.ghosts.eq x x ≡ true
-assignment_same x = and_from (pointwise nat_eq x.name x.name) (state.ghosts.eq x.state x.state) ((bytes_decides x.name x.name).1 refl) (state_same x.state)
+assignment_same x = and_from (pointwise nat_eq x.name x.name) (state.ghosts.eq x.state x.state) ((bytes_decides x.name x.name).1 refl)
+    (state_same x.state)
 
 tracked_is : (x y : TrackedAssignment) → tracked.ghosts.eq x y ≡ true → x ≡ y
 tracked_is x y e =
@@ -57,5 +58,6 @@ tracked_self x = and_from (nat_eq x.id.0 x.id.0) (assignment.ghosts.eq x.inner x
 tracked_same : (x y : TrackedAssignment) → x ≡ y → tracked.ghosts.eq x y ≡ true
 tracked_same x y e = sym (ap (tracked.ghosts.eq x) e) ∙ tracked_self x
 
-pub items_decide : (xs ys : List TrackedAssignment) → (pointwise tracked.ghosts.eq xs ys ≡ true → xs ≡ ys) × (xs ≡ ys → pointwise tracked.ghosts.eq xs ys ≡ true)
+pub items_decide : (xs ys : List TrackedAssignment) → (pointwise tracked.ghosts.eq xs ys ≡ true → xs ≡ ys) ×
+    (xs ≡ ys → pointwise tracked.ghosts.eq xs ys ≡ true)
 items_decide xs ys = pointwise_decides (λ x y. (tracked_is x y, tracked_same x y)) xs ys

@@ -1,8 +1,7 @@
 pub mod Definitions
 pub mod KeptLists
-pub mod KnownViews
 pub mod ListViews
 pub mod NameViews
-pub mod Numbered
-pub mod NumberingViews
+pub mod Collections
 pub mod Numbers
+pub mod inner

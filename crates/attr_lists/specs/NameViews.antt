@@ -1,31 +1,32 @@
--- What clauses see of names that are gone through by number (own).
+-- The view of an iterator over names (own).
 use Rattle.std.specs.Prelude.{ℕ, ◌-◌, List, [], length, map, slice_index_or}
 use Rattle.std.specs.List.{range_with_len}
 use Rattle.std.specs.Borrow.{Bor}
-use Rattle.attr_lists.specs.declared.numbering.Names.{Names}
-use Rattle.attr_lists.specs.declared.search.Metadata.{Metadata}
-use Rattle.attr_lists.specs.declared.search.TrackedAssignment.{TrackedAssignment}
-use Rattle.attr_lists.specs.Definitions.{body_of}
-use Rattle.attr_lists.specs.Numbered.{Numbered}
+use Rattle.attr_lists.specs.declared.name_table.Names.{Names}
+use Rattle.attr_lists.specs.declared.types.Metadata.{Metadata}
+use Rattle.attr_lists.specs.declared.types.TrackedAssignment.{TrackedAssignment}
+use Rattle.attr_lists.specs.Definitions.{macro_body}
+use Rattle.attr_lists.specs.Collections.{Collection}
 
--- a name, its number, and what it stands for
-pub record Named : Type 0 where
+-- a name, its number, and the items that it expands to as a macro
+pub record NamedBody : Type 0 where
   pub name : List ℕ
   pub number : ℕ
   pub body : List TrackedAssignment
 
 -- the name with this number
-abbrev pub named : Numbered → ℕ → Named
-named known number = record { name = slice_index_or known.names number []; number = number; body = body_of known number }
+abbrev pub named_body : Collection → ℕ → NamedBody
+named_body collection number =
+    record { name = slice_index_or collection.names number []; number = number; body = macro_body collection number }
 
 -- the names from a number on
-abbrev pub names_from : Numbered → ℕ → List Named
-names_from known number = map (named known) (range_with_len number (length known.names - number))
+abbrev pub names_from : Collection → ℕ → List NamedBody
+names_from collection number = map (named_body collection) (range_with_len number (length collection.names - number))
 
--- a name that is lent with its metadata
-abbrev pub named_seen : Bor (List ℕ) × Bor Metadata → Named
-named_seen n = record { name = n.0.now; number = n.1.now.id.0; body = n.1.now.macro_attributes.items }
+-- the view of a name with its metadata
+abbrev pub named_view : Bor (List ℕ) × Bor Metadata → NamedBody
+named_view n = record { name = n.0.now; number = n.1.now.id.0; body = n.1.now.macro_attributes.items }
 
--- the names that are still to come
-abbrev pub names_left : Names → List Named
-names_left names = names_from names.numbering.now names.number
+-- the names that the iterator has yet to yield
+abbrev pub names_left : Names → List NamedBody
+names_left names = names_from names.table.now names.number

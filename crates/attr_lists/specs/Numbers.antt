@@ -1,15 +1,20 @@
--- Numbers of names (own): a name gets the next number where it is first seen, and keeps it.
-use Rattle.std.specs.Prelude.{◌≡◌, ℕ, ◌-◌, ◌^◌, List, [], ◌∷◌, ◌++◌, map, fold, position, slice_get, bytes_eq, Option, Some, IfSome, unwrap_or, option_map, All, if◌then◌else◌}
+-- Numbers of names (own): a name gets the next number when it is first seen, and keeps it.
+use Rattle.std.specs.Prelude.{◌≡◌, ℕ, ◌-◌, ◌^◌, List, [], ◌∷◌, ◌++◌, map, fold, position, slice_get, bytes_eq, Option, Some}
+use Rattle.std.specs.Prelude.{IfSome, unwrap_or, option_map, All, if◌then◌else◌}
 use Rattle.std.specs.List.{list_any, flat_map}
 use Rattle.attr_lists.specs.ListViews.{Entry}
-use Rattle.attr_lists.specs.declared.search.AttributeId.{AttributeId}
-use Rattle.attr_lists.specs.declared.search.TrackedAssignment.{TrackedAssignment}
+use Rattle.attr_lists.specs.declared.types.AttributeId.{AttributeId}
+use Rattle.attr_lists.specs.declared.types.TrackedAssignment.{TrackedAssignment}
+
+-- the number that no attribute has: the largest `usize`
+abbrev pub no_number : ℕ
+no_number = 2 ^ 64 - 1
 
 -- the name of the macro that a line defines: the text of its pattern
 abbrev pub macro_names : Entry → List (List ℕ)
 macro_names entry = unwrap_or (option_map (λ _. entry.pattern.text ∷ []) entry.macro) []
 
--- the names of a line: in a line that defines a macro the macro's before those of its items
+-- the names of a line: the macro that it defines before its items
 abbrev pub names_of : Entry → List (List ℕ)
 names_of entry = macro_names entry ++ map (λ item. item.inner.name) entry.items
 
@@ -17,20 +22,20 @@ names_of entry = macro_names entry ++ map (λ item. item.inner.name) entry.items
 abbrev pub names_in : List Entry → List (List ℕ)
 names_in entries = flat_map names_of entries
 
--- a name that is not known takes the next number
+-- a new name gets the next number
 abbrev pub with_name : List (List ℕ) → List ℕ → List (List ℕ)
-with_name known name = if list_any (bytes_eq name) known then known else known ++ name ∷ []
+with_name names name = if list_any (bytes_eq name) names then names else names ++ name ∷ []
 
 abbrev pub with_names : List (List ℕ) → List (List ℕ) → List (List ℕ)
-with_names known names = fold with_name known names
+with_names names more = fold with_name names more
 
--- the number of a name: its place among the names
+-- the number of a name: its index among the names
 abbrev pub number_of : List (List ℕ) → List ℕ → Option ℕ
 number_of names name = position (bytes_eq name) names
 
--- the id of a name, which without a number is the one that no attribute has
+-- the id of a name
 abbrev pub id_of : List (List ℕ) → List ℕ → AttributeId
-id_of names name = record { 0 = unwrap_or (number_of names name) (2 ^ 64 - 1) }
+id_of names name = record { 0 = unwrap_or (number_of names name) no_number }
 
 -- an item with the number of its name
 abbrev pub numbered_item : List (List ℕ) → TrackedAssignment → TrackedAssignment
@@ -49,7 +54,7 @@ numbered names entry =
 abbrev pub numbered_lines : List (List ℕ) → List Entry → List Entry
 numbered_lines names entries = map (numbered names) entries
 
--- the id is the place of the name
+-- the id is the index of the name
 abbrev pub IsNumberOf : List (List ℕ) → List ℕ → AttributeId → Type 0
 IsNumberOf names name id = slice_get names id.0 ≡ Some name
 
@@ -57,7 +62,7 @@ IsNumberOf names name id = slice_get names id.0 ≡ Some name
 abbrev pub HasMacroNumber : List (List ℕ) → Entry → Type 0
 HasMacroNumber names entry = IfSome entry.macro (IsNumberOf names entry.pattern.text)
 
--- each id of the line is the place of its name
+-- each id of the line is the number of its name
 pub record IsNumbered (names : List (List ℕ)) (entry : Entry) : Type 0 where
   pub macro : HasMacroNumber names entry
   pub items : All (λ item. IsNumberOf names item.inner.name item.id) entry.items

@@ -1,7 +1,7 @@
-//! Lists of attributes: what the lines of an attributes file give a search, the numbers of
-//! attribute names, and the definitions of macros that stand.
+//! Lists of attributes: the mappings of an attributes file, the numbers of attribute names, and the definitions of macros.
 #![tactic(auto)]
 
 pub mod laws;
-pub mod numbering;
-pub mod search;
+pub mod name_table;
+pub mod parser;
+pub mod types;

@@ -1,27 +1,28 @@
 -- Lines that a search goes through one by one.
-use Rattle.std.proofs.Common.{◌≡◌, ℕ, suc, ◌+◌, ◌-◌, ◌^◌, ◌<◌, ◌≤◌, ◌⊎◌, inl, min, Bool, true, false, List, [], ◌∷◌, ◌++◌, length, reverse, map, get_or, take, drop, Option, Some, None, refl, sym, ap, subst, ◌∙◌, arith}
+use Rattle.std.proofs.Common.{◌≡◌, ℕ, suc, ◌+◌, ◌-◌, ◌^◌, ◌<◌, ◌≤◌, ◌⊎◌, inl, min, Bool, true, false, List, [], ◌∷◌, ◌++◌, length, reverse, map}
+use Rattle.std.proofs.Common.{get_or, take, drop, Option, Some, None, refl, sym, ap, subst, ◌∙◌, arith}
 use Rattle.std.proofs.lemmas.List.{map-append, take_more, take-append-drop}
 use Rattle.std.proofs.lemmas.List.Concat.{flat_map_single}
 use Rattle.attr_glob.specs.declared.pattern.Case.{Case}
 use Rattle.attr_glob.specs.declared.search.pattern.Mapping.{Mapping}
 use Rattle.attr_glob.specs.BaseNames.{base_name}
 use Rattle.attr_glob.specs.Bases.{rest_below}
-use Rattle.attr_glob.specs.Candidates.{is_candidate, places, candidates}
-use Rattle.attr_glob.specs.Views.{lines_read}
-use Rattle.attr_glob.proofs.Basics.{by_test}
-use Rattle.attr_lists.specs.declared.search.Value.{Value}
-use Rattle.attr_lists.specs.ListViews.{Entry, entries_of}
+use Rattle.attr_glob.specs.Candidates.{is_candidate, places_where, candidates}
+use Rattle.attr_glob.specs.Views.{patterns_of}
+use Rattle.attr_glob.proofs.ForCallers.{by_test}
+use Rattle.attr_lists.specs.declared.types.Value.{Value}
+use Rattle.attr_lists.specs.ListViews.{Entry, entries_view}
 use Rattle.attr_table.specs.Setting.{Item, Line}
 use Rattle.attr_table.specs.Table.{Slots}
 use Rattle.attr_table.specs.Cut.{is_done}
-use Rattle.attr_table.specs.Walk.{Task, Walks, ends, stops, Searches, backwards, line_tasks}
-use Rattle.attr_table.proofs.Listed.{backwards-none, backwards-more, backwards-split}
-use Rattle.attr_search.specs.Board.{wanted_in}
+use Rattle.attr_table.specs.inner.Walk.{Task, Walks, ends, stops, Searches, backwards, line_tasks}
+use Rattle.attr_table.proofs.ForCallers.{backwards-none, backwards-more, backwards-split}
+use Rattle.attr_search.specs.inner.SlotContents.{wanted_numbers}
 use Rattle.attr_search.specs.Settings.{Listed, AreRead, line_of, lines_of}
-use Rattle.attr_search.specs.Lines.{no_entry, entry_at, entry_tasks}
-use Rattle.attr_search.specs.Rounds.{Rounds, over, round, list_rounds, rounds_of}
-use Rattle.attr_search.proofs.Lines.{lines_patterns}
-use Rattle.attr_search.proofs.Passed.{backwards-reverse, turned_at, passed_entry, candidates_turned}
+use Rattle.attr_search.specs.inner.Lines.{no_entry, entry_at, entry_tasks}
+use Rattle.attr_search.specs.inner.Rounds.{Rounds, over, round, list_rounds, rounds_of}
+use Rattle.attr_search.proofs.LineLemmas.{lines_patterns}
+use Rattle.attr_search.proofs.CandidateLemmas.{backwards-reverse, turned_at, passed_entry, candidates_turned}
 
 -- one line
 pub one_round : (bodies : List (List Item)) (wanted : List ℕ) (ts : List Task) (before after : Slots) (a b m n : ℕ) →
@@ -43,32 +44,34 @@ rounds_done bodies wanted (x ∷ xs) slots n done =
     round (stops done) (inl refl) (omega arith) (rounds_done bodies wanted xs slots n done)
 
 -- places that are gone through: one more, and what is left where the search is done
-pub rounds_more : (bodies : List (List Item)) (wanted wanted' : List Bool) (f : ℕ → List Task) (places places' : List ℕ) (k place : ℕ) (first second third : Slots) (a b c : ℕ) →
-    wanted' ≡ wanted → places' ≡ places → k < length places → place ≡ get_or places' k place →
-    Rounds bodies (wanted_in wanted) (map f (take k places)) first second a b →
-    Rounds bodies (wanted_in wanted') (f place ∷ []) second third b c →
-    Rounds bodies (wanted_in wanted) (map f (take (k + 1) places)) first third a c
-rounds_more bodies wanted wanted' f places places' k place first second third a b c same kept lt is p q =
-    let here : place ≡ get_or places k place = is ∙ ap (λ (xs : List ℕ). get_or xs k place) kept in
-    let more : map f (take (k + 1) places) ≡ map f (take k places) ++ f place ∷ [] =
-    ap (map f) (take_more places k place lt)
-    ∙ (map-append f (take k places) (get_or places k place ∷ [])
-    ∙ ap (λ (x : ℕ). map f (take k places) ++ f x ∷ []) (sym here)) in
-    let q' = subst (λ (w : List Bool). Rounds bodies (wanted_in w) (f place ∷ []) second third b c) same q in
-    subst (λ (ls : List (List Task)). Rounds bodies (wanted_in wanted) ls first third a c) (sym more)
-    (rounds_append bodies (wanted_in wanted) (map f (take k places)) (f place ∷ []) p q')
+pub rounds_more : (bodies : List (List Item)) (wanted wanted' : List Bool) (f : ℕ → List Task) (places_where places' : List ℕ) (k place : ℕ)
+    (first second third : Slots) (a b c : ℕ) →
+    wanted' ≡ wanted → places' ≡ places_where → k < length places_where → place ≡ get_or places' k place →
+    Rounds bodies (wanted_numbers wanted) (map f (take k places_where)) first second a b →
+    Rounds bodies (wanted_numbers wanted') (f place ∷ []) second third b c →
+    Rounds bodies (wanted_numbers wanted) (map f (take (k + 1) places_where)) first third a c
+rounds_more bodies wanted wanted' f places_where places' k place first second third a b c same kept lt is p q =
+    let here : place ≡ get_or places_where k place = is ∙ ap (λ (xs : List ℕ). get_or xs k place) kept in
+    let more : map f (take (k + 1) places_where) ≡ map f (take k places_where) ++ f place ∷ [] =
+    ap (map f) (take_more places_where k place lt)
+    ∙ (map-append f (take k places_where) (get_or places_where k place ∷ [])
+    ∙ ap (λ (x : ℕ). map f (take k places_where) ++ f x ∷ []) (sym here)) in
+    let q' = subst (λ (w : List Bool). Rounds bodies (wanted_numbers w) (f place ∷ []) second third b c) same q in
+    subst (λ (ls : List (List Task)). Rounds bodies (wanted_numbers wanted) ls first third a c) (sym more)
+    (rounds_append bodies (wanted_numbers wanted) (map f (take k places_where)) (f place ∷ []) p q')
 
-pub rounds_stopped : (bodies : List (List Item)) (wanted wanted' : List Bool) (f : ℕ → List Task) (places : List ℕ) (k : ℕ) (first second : Slots) (a b : ℕ) →
-    wanted' ≡ wanted → is_done (wanted_in wanted') second ≡ true →
-    Rounds bodies (wanted_in wanted) (map f (take k places)) first second a b →
-    Rounds bodies (wanted_in wanted) (map f places) first second a b
-rounds_stopped bodies wanted wanted' f places k first second a b same done p =
-    let whole : map f places ≡ map f (take k places) ++ map f (drop k places) =
-    ap (map f) (sym (take-append-drop k places)) ∙ map-append f (take k places) (drop k places) in
-    let done' = subst (λ (w : List Bool). is_done (wanted_in w) second ≡ true) same done in
-    subst (λ (ls : List (List Task)). Rounds bodies (wanted_in wanted) ls first second a b) (sym whole)
-    (rounds_append bodies (wanted_in wanted) (map f (take k places)) (map f (drop k places)) p
-    (rounds_done bodies (wanted_in wanted) (map f (drop k places)) second b done'))
+pub rounds_stopped : (bodies : List (List Item)) (wanted wanted' : List Bool) (f : ℕ → List Task) (places_where : List ℕ) (k : ℕ)
+    (first second : Slots) (a b : ℕ) →
+    wanted' ≡ wanted → is_done (wanted_numbers wanted') second ≡ true →
+    Rounds bodies (wanted_numbers wanted) (map f (take k places_where)) first second a b →
+    Rounds bodies (wanted_numbers wanted) (map f places_where) first second a b
+rounds_stopped bodies wanted wanted' f places_where k first second a b same done p =
+    let whole : map f places_where ≡ map f (take k places_where) ++ map f (drop k places_where) =
+    ap (map f) (sym (take-append-drop k places_where)) ∙ map-append f (take k places_where) (drop k places_where) in
+    let done' = subst (λ (w : List Bool). is_done (wanted_numbers w) second ≡ true) same done in
+    subst (λ (ls : List (List Task)). Rounds bodies (wanted_numbers wanted) ls first second a b) (sym whole)
+    (rounds_append bodies (wanted_numbers wanted) (map f (take k places_where)) (map f (drop k places_where)) p
+    (rounds_done bodies (wanted_numbers wanted) (map f (drop k places_where)) second b done'))
 
 -- lines that are passed over change nothing
 put_first : (bodies : List (List Item)) (wanted : List ℕ) (x y : List Task) (xs ys : List (List Task)) {before after : Slots} {a b : ℕ} →
@@ -78,22 +81,24 @@ put_first : (bodies : List (List Item)) (wanted : List ℕ) (x y : List Task) (x
 put_first bodies wanted x y xs ys {before} same (round {middle = middle} {b = m} w changed le p) go =
     round (subst (λ (ts : List Task). Walks bodies (is_done wanted) ts before middle) same w) changed le (go middle m p)
 
-rounds_passed : {X : Type 0} (bodies : List (List Item)) (wanted : List ℕ) (f : X → List Task) (test : X → Bool) (all rev : List X) (d : X) {before after : Slots} {a b : ℕ} →
+rounds_passed : {X : Type 0} (bodies : List (List Item)) (wanted : List ℕ) (f : X → List Task) (test : X → Bool) (all rev : List X) (d : X)
+    {before after : Slots} {a b : ℕ} →
     ((k : ℕ) → k < length rev → get_or all (length rev - 1 - k) d ≡ get_or rev k d) →
     ((k : ℕ) → k < length rev → test (get_or rev k d) ≡ false → f (get_or rev k d) ≡ []) →
-    Rounds bodies wanted (map (λ p. f (get_or all p d)) (places test rev)) before after a b →
+    Rounds bodies wanted (map (λ p. f (get_or all p d)) (places_where test rev)) before after a b →
     Rounds bodies wanted (map f rev) before after a b
 rounds_passed bodies wanted f test all [] d same none p = p
 rounds_passed {X} bodies wanted f test all (x ∷ rev) d {before} {after} {a} {b} same none p =
     let here : get_or all (length rev) d ≡ x = ap (λ n. get_or all n d) first ∙ same 0 (omega arith) in
     let g : ℕ → List Task = λ p. f (get_or all p d) in
-    let go : (middle : Slots) (c : ℕ) → Rounds bodies wanted (map g (places test rev)) middle after c b → Rounds bodies wanted (map f rev) middle after c b =
+    let go : (middle : Slots) (c : ℕ) → Rounds bodies wanted (map g (places_where test rev)) middle after c b → Rounds bodies wanted (map f rev)
+    middle after c b =
     λ middle c q.
     rounds_passed bodies wanted f test all rev d
     (λ k lt. ap (λ n. get_or all n d) (index k lt) ∙ same (suc k) (omega arith))
     (λ k lt out. none (suc k) (omega arith) out) q in
     by_test (test x)
-    (λ t. put_first bodies wanted (g (length rev)) (f x) (map g (places test rev)) (map f rev) (ap f here) (rw t at p) go)
+    (λ t. put_first bodies wanted (g (length rev)) (f x) (map g (places_where test rev)) (map f rev) (ap f here) (rw t at p) go)
     (λ e. round (subst (λ (ts : List Task). Walks bodies (is_done wanted) ts before before) (sym (none 0 (omega arith) e)) ends)
     (inl refl) (omega arith) (go before a (rw e at p)))
   where
@@ -113,18 +118,19 @@ list_turned g lines =
     plain [] = refl
     plain (x ∷ xs) = ap (λ ts. ts ++ line_tasks (g x) ∷ []) (plain xs)
 
-pub list_round : (bodies : List (List Item)) (wanted : List ℕ) (case case' : Case) (is_dir is_dir' : Option Bool) (path rest : List ℕ) (listed : Listed) (ms : List (Mapping Value)) (found : List ℕ) (before after : Slots) (a b : ℕ) →
-    listed.lines ≡ entries_of ms → Some rest ≡ rest_below listed.base case path → case' ≡ case → is_dir' ≡ is_dir →
-    found ≡ candidates case' (base_name rest) (lines_read ms) → ∥ AreRead (entries_of ms) ∥₁ →
+pub list_round : (bodies : List (List Item)) (wanted : List ℕ) (case case' : Case) (is_dir is_dir' : Option Bool) (path rest : List ℕ)
+    (listed : Listed) (ms : List (Mapping Value)) (found : List ℕ) (before after : Slots) (a b : ℕ) →
+    listed.lines ≡ entries_view ms → Some rest ≡ rest_below listed.base case path → case' ≡ case → is_dir' ≡ is_dir →
+    found ≡ candidates case' (base_name rest) (patterns_of ms) → ∥ AreRead (entries_view ms) ∥₁ →
     Rounds bodies wanted (map (λ place. entry_tasks case' is_dir' listed.source rest (entry_at listed.lines place)) found) before after a b →
     Rounds bodies wanted (list_rounds (lines_of case is_dir path listed)) before after a b
 list_round bodies wanted case case' is_dir is_dir' path rest listed ms found before after a b lines below same dir is read p =
-    let all = entries_of ms in
+    let all = entries_view ms in
     let f : Entry → List Task = entry_tasks case' is_dir' listed.source rest in
     let test : Entry → Bool = λ entry. is_candidate case' (base_name rest) entry.pattern in
-    let turned : found ≡ places test (reverse all) =
+    let turned : found ≡ places_where test (reverse all) =
     is ∙ (ap (candidates case' (base_name rest)) (lines_patterns ms) ∙ candidates_turned case' (base_name rest) all) in
-    let p' : Rounds bodies wanted (map (λ place. f (get_or all place no_entry)) (places test (reverse all))) before after a b =
+    let p' : Rounds bodies wanted (map (λ place. f (get_or all place no_entry)) (places_where test (reverse all))) before after a b =
     subst (λ (ls : List (List Task)). Rounds bodies wanted ls before after a b)
     (ap (λ (es : List Entry). map (λ place. f (entry_at es place)) found) lines
     ∙ ap (λ (ps : List ℕ). map (λ place. f (entry_at all place)) ps) turned) p in
@@ -140,7 +146,8 @@ list_round bodies wanted case case' is_dir is_dir' path rest listed ms found bef
     subst (λ (ls : List (List Task)). Rounds bodies wanted ls before after a b) (sym whole) q
 
 -- a list that does not apply
-pub list_unasked : (bodies : List (List Item)) (wanted : List ℕ) (case : Case) (is_dir : Option Bool) (path : List ℕ) (listed : Listed) (slots : Slots) (n : ℕ) →
+pub list_unasked : (bodies : List (List Item)) (wanted : List ℕ) (case : Case) (is_dir : Option Bool) (path : List ℕ) (listed : Listed)
+    (slots : Slots) (n : ℕ) →
     None ≡ rest_below listed.base case path →
     Rounds bodies wanted (list_rounds (lines_of case is_dir path listed)) slots slots n n
 list_unasked bodies wanted case is_dir path listed slots n none = rw (← none) (empty listed.lines)
@@ -160,18 +167,20 @@ map-map : {X Y Z : Type 0} (f : Y → Z) (g : X → Y) (xs : List X) → map f (
 map-map f g [] = refl
 map-map f g (x ∷ xs) = ap (λ zs. f (g x) ∷ zs) (map-map f g xs)
 
-pub all_stopped : {X Y : Type 0} (bodies : List (List Item)) (wanted wanted' : List Bool) (f : Y → List Line) (g : X → Y) (xs : List X) (k : ℕ) (first second : Slots) (a b : ℕ) →
-    wanted' ≡ wanted → is_done (wanted_in wanted') second ≡ true →
-    Rounds bodies (wanted_in wanted) (rounds_of (map (λ x. f (g x)) (drop k xs))) first second a b →
-    Rounds bodies (wanted_in wanted) (rounds_of (map f (map g xs))) first second a b
+pub all_stopped : {X Y : Type 0} (bodies : List (List Item)) (wanted wanted' : List Bool) (f : Y → List Line) (g : X → Y) (xs : List X) (k : ℕ)
+    (first second : Slots) (a b : ℕ) →
+    wanted' ≡ wanted → is_done (wanted_numbers wanted') second ≡ true →
+    Rounds bodies (wanted_numbers wanted) (rounds_of (map (λ x. f (g x)) (drop k xs))) first second a b →
+    Rounds bodies (wanted_numbers wanted) (rounds_of (map f (map g xs))) first second a b
 all_stopped {X} bodies wanted wanted' f g xs k first second a b same done p =
     let h : X → List Line = λ x. f (g x) in
-    let done' = subst (λ (w : List Bool). is_done (wanted_in w) second ≡ true) same done in
+    let done' = subst (λ (w : List Bool). is_done (wanted_numbers w) second ≡ true) same done in
     rw (map-map f g xs, backwards-split list_rounds h xs k)
-    (rounds_append bodies (wanted_in wanted) (rounds_of (map h (drop k xs))) (rounds_of (map h (take k xs))) p
-    (rounds_done bodies (wanted_in wanted) (rounds_of (map h (take k xs))) second b done'))
+    (rounds_append bodies (wanted_numbers wanted) (rounds_of (map h (drop k xs))) (rounds_of (map h (take k xs))) p
+    (rounds_done bodies (wanted_numbers wanted) (rounds_of (map h (take k xs))) second b done'))
 
-pub all_over : {X Y : Type 0} (bodies : List (List Item)) (wanted : List ℕ) (f : Y → List Line) (g : X → Y) (xs : List X) (k : ℕ) (first second : Slots) (a b : ℕ) →
+pub all_over : {X Y : Type 0} (bodies : List (List Item)) (wanted : List ℕ) (f : Y → List Line) (g : X → Y) (xs : List X) (k : ℕ)
+    (first second : Slots) (a b : ℕ) →
     k ≤ 0 → Rounds bodies wanted (rounds_of (map (λ x. f (g x)) (drop k xs))) first second a b →
     Rounds bodies wanted (rounds_of (map f (map g xs))) first second a b
 all_over {X} bodies wanted f g xs k first second a b le p =
@@ -180,19 +189,21 @@ all_over {X} bodies wanted f g xs k first second a b le p =
     rw (map-map f g xs)
     (subst (λ (n : ℕ). Rounds bodies wanted (rounds_of (map h (drop n xs))) first second a b) zero p)
 
-pub all_more : {X : Type 0} (bodies : List (List Item)) (wanted wanted' : List Bool) (g : X → List Line) (xs : List X) (k : ℕ) (x : X) (first second third : Slots) (a b c : ℕ) →
+pub all_more : {X : Type 0} (bodies : List (List Item)) (wanted wanted' : List Bool) (g : X → List Line) (xs : List X) (k : ℕ) (x : X)
+    (first second third : Slots) (a b c : ℕ) →
     wanted' ≡ wanted → 0 < k → k ≤ length xs → x ≡ get_or xs (k - 1) x →
-    Rounds bodies (wanted_in wanted) (rounds_of (map g (drop k xs))) first second a b →
-    Rounds bodies (wanted_in wanted') (list_rounds (g x)) second third b c →
-    Rounds bodies (wanted_in wanted) (rounds_of (map g (drop (k - 1) xs))) first third a c
+    Rounds bodies (wanted_numbers wanted) (rounds_of (map g (drop k xs))) first second a b →
+    Rounds bodies (wanted_numbers wanted') (list_rounds (g x)) second third b c →
+    Rounds bodies (wanted_numbers wanted) (rounds_of (map g (drop (k - 1) xs))) first third a c
 all_more {X} bodies wanted wanted' g xs k x first second third a b c same pos le is p q =
-    let q' = subst (λ (w : List Bool). Rounds bodies (wanted_in w) (list_rounds (g x)) second third b c) same q in
+    let q' = subst (λ (w : List Bool). Rounds bodies (wanted_numbers w) (list_rounds (g x)) second third b c) same q in
     let e = backwards-more list_rounds g xs k x pos le in
-    rw e (rounds_append bodies (wanted_in wanted) (rounds_of (map g (drop k xs))) (list_rounds (g (get_or xs (k - 1) x))) p
-    (subst (λ (y : X). Rounds bodies (wanted_in wanted) (list_rounds (g y)) second third b c) is q'))
+    rw e (rounds_append bodies (wanted_numbers wanted) (rounds_of (map g (drop k xs))) (list_rounds (g (get_or xs (k - 1) x))) p
+    (subst (λ (y : X). Rounds bodies (wanted_numbers wanted) (list_rounds (g y)) second third b c) is q'))
 
 -- all lists, as they were asked
-pub rounds_asked : (bodies : List (List Item)) (wanted : List ℕ) (case case' : Case) (is_dir is_dir' : Option Bool) (path path' : List ℕ) (lists : List Listed) (before after : Slots) (a b : ℕ) →
+pub rounds_asked : (bodies : List (List Item)) (wanted : List ℕ) (case case' : Case) (is_dir is_dir' : Option Bool) (path path' : List ℕ)
+    (lists : List Listed) (before after : Slots) (a b : ℕ) →
     path' ≡ path → case' ≡ case → is_dir' ≡ is_dir →
     Rounds bodies wanted (rounds_of (map (lines_of case' is_dir' path') lists)) before after a b →
     Rounds bodies wanted (rounds_of (map (lines_of case is_dir path) lists)) before after a b

@@ -8,28 +8,28 @@ use Rattle.attr_glob.specs.Candidates.{candidates}
 use Rattle.attr_glob.specs.Paths.{path_matches}
 use Rattle.attr_glob.specs.Patterns.{reading, has_flag, negative}
 use Rattle.attr_lists.specs.ListViews.{Entry}
-use Rattle.attr_lists.specs.declared.search.TrackedAssignment.{TrackedAssignment}
+use Rattle.attr_lists.specs.declared.types.TrackedAssignment.{TrackedAssignment}
 use Rattle.attr_table.specs.Setting.{Origin, Line, Setting}
 use Rattle.attr_table.specs.Table.{Slots}
 use Rattle.attr_search.specs.Slots.{Matched, table_items}
 
--- what a list says: where it was read, the base below which it applies, and its lines
+-- what a list has: where it was read, the base below which it applies, and its lines
 pub record Listed : Type 0 where
   pub source : Option (List ℕ)
   pub base : Option (List ℕ)
   pub lines : List Entry
 
--- what stands of the path behind the list's base, if the list applies to the path
+-- what is left of the path below the list's base, if the list applies to the path
 abbrev pub rest_for : Case → List ℕ → Listed → Option (List ℕ)
 rest_for case path listed = rest_below listed.base case path
 
--- A line gives its items if its list applies to the path, the line defines no macro, and its pattern matches what stands
--- behind the base.
+-- A line gives its items if its list applies to the path, the line defines no macro, and its pattern matches what is left
+-- of the path below the base.
 abbrev pub gives : Case → Option Bool → Option (List ℕ) → Entry → Bool
 gives case is_dir None entry = false
 gives case is_dir (Some rest) entry = is_none entry.macro && path_matches case entry.pattern rest is_dir
 
--- where a line stands: its pattern, its list's source and its number
+-- where a line is: its pattern, its list's source and its number
 abbrev pub origin_in : Option (List ℕ) → Entry → Origin
 origin_in source entry =
     record {
@@ -49,12 +49,12 @@ line_of case is_dir source rest entry =
 abbrev pub lines_of : Case → Option Bool → List ℕ → Listed → List Line
 lines_of case is_dir path listed = map (line_of case is_dir listed.source (rest_for case path listed)) listed.lines
 
--- the setting of a search: the standing lists, the last of which takes precedence, and the bodies by number
+-- the setting of a search: its lists, the last of which takes precedence, and the bodies by number
 abbrev pub setting_of : List Listed → List (List TrackedAssignment) → List ℕ → Case → Option Bool → Setting
 setting_of lists bodies path case is_dir =
     record { lists = map (lines_of case is_dir path) lists; bodies = map table_items bodies }
 
--- how many lines of a list are candidates for what stands behind its base
+-- how many lines of a list are candidates for what is left below its base
 abbrev pub candidates_below : Case → Option (List ℕ) → List Entry → ℕ
 candidates_below case None lines = 0
 candidates_below case (Some rest) lines = length (candidates case (base_name rest) (map (λ entry. entry.pattern) lines))
@@ -99,7 +99,7 @@ ListsHaveSlots n lists = All (λ listed. LinesHaveSlots n listed.lines) lists
 abbrev pub AreNamed : List (List ℕ) → List TrackedAssignment → Type 0
 AreNamed names items = All (λ i. slice_get names i.id.0 ≡ Some i.inner.name) items
 
--- the same of all bodies, of all lines of lists, and of the answers that are held
+-- the same of all bodies, of all lines of lists, and of the answers
 abbrev pub BodiesAreNamed : List (List ℕ) → List (List TrackedAssignment) → Type 0
 BodiesAreNamed names bodies = All (AreNamed names) bodies
 
@@ -110,5 +110,5 @@ abbrev pub ListsAreNamed : List (List ℕ) → List Listed → Type 0
 ListsAreNamed names lists = All (λ listed. LinesAreNamed names listed.lines) lists
 
 abbrev pub HeldAreNamed : List (List ℕ) → List (Option Matched) → Type 0
-HeldAreNamed names held =
-    (a : ℕ) → MatchOption (slice_index_or held a None) ⊤ (λ m. slice_get names a ≡ Some m.assignment.name)
+HeldAreNamed names answers =
+    (a : ℕ) → MatchOption (slice_index_or answers a None) ⊤ (λ m. slice_get names a ≡ Some m.assignment.name)

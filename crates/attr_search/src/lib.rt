@@ -1,10 +1,11 @@
 //! Searches over lists of lines: which lines a path has to be matched against, what their items and the macros' bodies
-//! say of each attribute, and where that is kept.
+//! assign to each attribute, and where the answers are stored.
 #![tactic(auto)]
 
-pub mod board;
-pub mod matching;
-pub mod sought;
-pub mod standing;
-pub mod stored;
-pub mod walk;
+pub mod indexed_list;
+pub mod matching_line;
+pub mod path_query;
+pub mod refmap;
+pub mod search_state;
+pub mod slot_filler;
+pub mod slots;

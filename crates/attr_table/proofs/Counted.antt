@@ -1,5 +1,6 @@
--- Parts of a search, with what they take.
-use Rattle.std.proofs.Common.{◌≡◌, ℕ, zero, suc, ◌+◌, ◌-◌, ◌^◌, ◌<◌, ◌≤◌, List, [], ◌∷◌, ◌++◌, map, length, get_or, drop, Option, Some, None, min, refl, sym, ap, ⊎_elim, arith, true, false}
+-- Parts of a search, with their counts.
+use Rattle.std.proofs.Common.{◌≡◌, ℕ, zero, suc, ◌+◌, ◌-◌, ◌^◌, ◌<◌, ◌≤◌, List, [], ◌∷◌, ◌++◌, map, length, get_or, drop, Option, Some, None, min}
+use Rattle.std.proofs.Common.{refl, sym, ap, ⊎_elim, arith, true, false}
 use Rattle.std.specs.Prelude.{is_some, sum_by}
 use Rattle.std.proofs.lemmas.Bool.{cases_eq, cases_Bool}
 use Rattle.std.proofs.lemmas.List.{length-append, append-nil}
@@ -8,7 +9,8 @@ use Rattle.attr_table.specs.Setting.{Item, Line, Origin, Setting, Answer, body_o
 use Rattle.attr_table.specs.Table.{Slots}
 use Rattle.attr_table.specs.Cut.{is_done}
 use Rattle.attr_table.specs.Work.{work_of, newly_at, newly_filled}
-use Rattle.attr_table.specs.Walk.{Task, Walks, ends, stops, skips, fills, Searches, tasks_in, line_tasks, list_tasks, tasks_of, backwards, is_set, opened, fill, free_items, left_in}
+use Rattle.attr_table.specs.inner.Walk.{Task, Walks, ends, stops, skips, fills, Searches, tasks_in, line_tasks, list_tasks, tasks_of, backwards}
+use Rattle.attr_table.specs.inner.Walk.{expands, opened, fill, free_items, left_in}
 use Rattle.attr_table.proofs.Listed.{backwards-more}
 use Rattle.attr_table.proofs.Walked.{length-tasks_in, fill_other, left_in-fill, then_walks, walks_past}
 
@@ -127,16 +129,16 @@ taken_skip bodies wanted t ts before after a b c counted filled p =
       least = λ n. let x = p.least n in omega arith;
     }
 
--- a task is taken that fills its slot, and what of its body is free waits then
-pub taken_fill : (bodies : List (List Item)) (wanted : List ℕ) (t : Task) (laid ts : List Task) (before after : Slots) (a b c : ℕ) →
+-- a task fills its slot, and the free items of its body come next
+pub taken_fill : (bodies : List (List Item)) (wanted : List ℕ) (t : Task) (on_stack ts : List Task) (before after : Slots) (a b c : ℕ) →
     b ≡ min (a + 1) top → is_done wanted before ≡ false → is_some (before t.item.attribute) ≡ false →
-    length laid ≤ length (body_of bodies t.item.attribute) →
-    (Walks bodies (is_done wanted) (laid ++ ts) (fill bodies t before) after →
+    length on_stack ≤ length (body_of bodies t.item.attribute) →
+    (Walks bodies (is_done wanted) (on_stack ++ ts) (fill bodies t before) after →
     Walks bodies (is_done wanted) (opened bodies t ++ ts) (fill bodies t before) after) →
-    Searches bodies wanted (laid ++ ts) (fill bodies t before) after b c →
+    Searches bodies wanted (on_stack ++ ts) (fill bodies t before) after b c →
     Searches bodies wanted (t ∷ ts) before after a c
-taken_fill bodies wanted t laid ts before after a b c counted undone empty short all p =
-    let l = length-append laid ts in
+taken_fill bodies wanted t on_stack ts before after a b c counted undone empty short all p =
+    let l = length-append on_stack ts in
     let e = left_in-fill bodies t before empty in
     record {
       walks = fills undone empty (all p.walks);
@@ -149,20 +151,21 @@ taken_fill bodies wanted t laid ts before after a b c counted undone empty short
 
 -- the same for a task that does not set its attribute, and for one that does
 pub taken_closed : (bodies : List (List Item)) (wanted : List ℕ) (t : Task) (ts : List Task) (before next after : Slots) (a b c : ℕ) →
-    next ≡ fill bodies t before → is_set t.item.state ≡ false → is_some (before t.item.attribute) ≡ false →
+    next ≡ fill bodies t before → expands t.item.state ≡ false → is_some (before t.item.attribute) ≡ false →
     is_done wanted before ≡ false → b ≡ min (a + 1) top →
     Searches bodies wanted ts next after b c → Searches bodies wanted (t ∷ ts) before after a c
 taken_closed bodies wanted t ts before next after a b c is closed empty undone counted p =
     taken_fill bodies wanted t [] ts before after a b c counted undone empty (omega arith)
     (λ w. rw closed w) (rw is at p)
 
-pub taken_open : (bodies : List (List Item)) (wanted : List ℕ) (t : Task) (body : List Item) (ts us : List Task) (before next after : Slots) (a b c : ℕ) →
-    next ≡ fill bodies t before → is_set t.item.state ≡ true → is_some (before t.item.attribute) ≡ false →
+pub taken_open : (bodies : List (List Item)) (wanted : List ℕ) (t : Task) (body : List Item) (ts us : List Task) (before next after : Slots)
+    (a b c : ℕ) →
+    next ≡ fill bodies t before → expands t.item.state ≡ true → is_some (before t.item.attribute) ≡ false →
     body_of bodies t.item.attribute ≡ body →
     us ≡ tasks_in t.origin (Some t.item.attribute) (free_items next body) ++ ts →
     is_done wanted before ≡ false → b ≡ min (a + 1) top →
     Searches bodies wanted us next after b c → Searches bodies wanted (t ∷ ts) before after a c
-taken_open bodies wanted t body ts us before next after a b c is set empty body_is laid undone counted p =
+taken_open bodies wanted t body ts us before next after a b c is set empty body_is on_stack undone counted p =
     let free = free_items (fill bodies t before) body in
     taken_fill bodies wanted t (tasks_in t.origin (Some t.item.attribute) free) ts before after a b c
     counted undone empty
@@ -171,7 +174,7 @@ taken_open bodies wanted t body ts us before next after a b c is set empty body_
     let same = ap length body_is in omega arith)
     (λ w. rw (set, body_is) (walks_past bodies (is_done wanted) (fill bodies t before) after t.origin
     (Some t.item.attribute) body ts w))
-    (rw (laid, is) at p)
+    (rw (on_stack, is) at p)
 
 pub left_in-less : (bodies : List (List Item)) (t : Task) (before next : Slots) → next ≡ fill bodies t before →
     is_some (before t.item.attribute) ≡ false →
@@ -197,27 +200,29 @@ row_filled bodies wanted origin cause items slots taken none =
       least = λ n. let e = newly_filled-same slots n in omega arith;
     }
 
--- those that are free are gone through
-pub row_searched : (bodies : List (List Item)) (wanted : List ℕ) (origin : Origin) (cause : Option ℕ) (items : List Item) (ts : List Task) (before after : Slots) (a b : ℕ) →
+-- the free ones are processed
+pub row_searched : (bodies : List (List Item)) (wanted : List ℕ) (origin : Origin) (cause : Option ℕ) (items : List Item) (ts : List Task)
+    (before after : Slots) (a b : ℕ) →
     ts ≡ tasks_in origin cause (free_items before items) → Searches bodies wanted ts before after a b →
     Searches bodies wanted (tasks_in origin cause items) before after a b
-row_searched bodies wanted origin cause items ts before after a b laid p =
+row_searched bodies wanted origin cause items ts before after a b on_stack p =
     let walks = p.walks in
     let free : Walks bodies (is_done wanted) (tasks_in origin cause (free_items before items) ++ []) before after =
-    rw append-nil (rw laid at walks) in
+    rw append-nil (rw on_stack at walks) in
     let past = walks_past bodies (is_done wanted) before after origin cause items [] free in
     let x = length-tasks_in origin cause (free_items before items) in
     let y = length-tasks_in origin cause items in
     let z = length-free before items in
-    let l = ap length laid in
+    let l = ap length on_stack in
     record {
       walks = rw append-nil at past;
       most = let m = p.most in omega arith;
       least = p.least;
     }
 
--- one more element of a list that is gone through from its end
-pub more_searched : {X Y : Type 0} (bodies : List (List Item)) (wanted : List ℕ) (f : Y → List Task) (g : X → Y) (xs : List X) (k : ℕ) (d : X) (first second third : Slots) (a b c : ℕ) →
+-- one more element of a list, from its end
+pub more_searched : {X Y : Type 0} (bodies : List (List Item)) (wanted : List ℕ) (f : Y → List Task) (g : X → Y) (xs : List X) (k : ℕ) (d : X)
+    (first second third : Slots) (a b c : ℕ) →
     0 < k → k ≤ length xs → Searches bodies wanted (backwards f (map g (drop k xs))) first second a b →
     Searches bodies wanted (f (g (get_or xs (k - 1) d))) second third b c →
     Searches bodies wanted (backwards f (map g (drop (k - 1) xs))) first third a c

@@ -1,12 +1,13 @@
--- What a search leaves is the cut of the only stable table, and no other slots are.
-use Rattle.std.proofs.Common.{◌≡◌, ℕ, zero, suc, ◌+◌, ◌<◌, ◌⊎◌, List, [], ◌∷◌, ◌++◌, length, Option, Some, None, refl, subst, inl, inr, ⊎_elim, arith, true, false}
+-- The slots after a search are the cut of the only stable table, and no others are.
+use Rattle.std.proofs.Common.{◌≡◌, ℕ, zero, suc, ◌+◌, ◌<◌, ◌⊎◌, List, [], ◌∷◌, ◌++◌, length, Option, Some, None, refl, subst, inl, inr, ⊎_elim, arith}
+use Rattle.std.proofs.Common.{true, false}
 use Rattle.std.specs.Prelude.{Contains, is_some, MatchOption, slice_index_or}
 use Rattle.std.proofs.lemmas.Bool.{cases_eq, cases_Bool, and_parts}
 use mathlib.Core.Path.{fun_ext}
 use Rattle.attr_table.specs.Setting.{Item, Line, Setting, Answer}
 use Rattle.attr_table.specs.Table.{Occurrence, Table, Slots, path, IsEarlier, IsStable}
 use Rattle.attr_table.specs.Cut.{full_answer, IsKept, IsCutAt, IsCut, IsSearched, is_done}
-use Rattle.attr_table.specs.Walk.{Walks, list_tasks, tasks_of, fill, left_in}
+use Rattle.attr_table.specs.inner.Walk.{Walks, list_tasks, tasks_of, fill, left_in}
 use Rattle.attr_table.proofs.Order.{first_irreflexive, first_trans, earlier_below}
 use Rattle.attr_table.proofs.Stable.{some_or_none, some_value, none_value, entry_free}
 use Rattle.attr_table.proofs.Facts.{Covers, empty_parts}
@@ -49,8 +50,9 @@ turned_by_wanted bodies wanted t slots before after =
     let f = r.2 in let g = x.1 in absurd (cc))
     (cases_eq r.0 t.item.attribute)
 
--- where a walk for some wanted attributes ends, against any stable table
-module _ (s : Setting) (start : Slots) (wanted : List ℕ) (final : Slots) (end : IsEnd s start (is_done wanted) wanted final) (table : Table) (stable : IsStable s start table) where
+-- the end of a walk for some wanted attributes, against any stable table
+module _ (s : Setting) (start : Slots) (wanted : List ℕ) (final : Slots) (end : IsEnd s start (is_done wanted) wanted final) (table : Table)
+    (stable : IsStable s start table) where
   within : (a : ℕ) (o : Occurrence) → end.table a ≡ Some o → table a ≡ Some o
   within = (end.facts.others table stable).within
 
@@ -167,7 +169,7 @@ module _ (s : Setting) (start : Slots) (wanted : List ℕ) (final : Slots) (end 
       (λ (n : end.table a ≡ None). inr (λ kept. let f = kept_in a o e kept in absurd (cc)))
       (some_or_none (end.table a))
 
--- what a walk over all roots leaves is what a search leaves
+-- a walk over all roots is a search
 pub walked_searched : (s : Setting) (wanted : List ℕ) (start final : Slots) →
     Walks s.bodies (is_done wanted) (tasks_of s.lists) start final → IsSearched s wanted start final
 walked_searched s wanted start final w =

@@ -1,11 +1,12 @@
--- What stands where a walk over all roots ends.
-use Rattle.std.proofs.Common.{◌≡◌, ℕ, ◌+◌, ◌⊎◌, List, [], ◌∷◌, ◌++◌, map, length, Option, Some, None, refl, ap, subst, ◌∙◌, inl, inr, ⊎_elim, arith, Bool, true, false}
+-- The end of a walk over all roots.
+use Rattle.std.proofs.Common.{◌≡◌, ℕ, ◌+◌, ◌⊎◌, List, [], ◌∷◌, ◌++◌, map, length, Option, Some, None, refl, ap, subst, ◌∙◌, inl, inr, ⊎_elim, arith}
+use Rattle.std.proofs.Common.{Bool, true, false}
 use Rattle.std.specs.Prelude.{Contains, MatchOption}
 use Rattle.std.proofs.lemmas.List.{map-append}
 use mathlib.Core.Path.{fun_ext}
 use Rattle.attr_table.specs.Setting.{Item, Setting, Answer}
 use Rattle.attr_table.specs.Table.{Occurrence, Table, Slots, IsEarlier, IsLive, IsEarliest, IsStable, OneTable}
-use Rattle.attr_table.specs.Walk.{Task, Walks, ends, stops, skips, fills, tasks_of, fill, left_in}
+use Rattle.attr_table.specs.inner.Walk.{Task, Walks, ends, stops, skips, fills, tasks_of, fill, left_in}
 use Rattle.attr_table.proofs.Stable.{some_or_none, none_value}
 use Rattle.attr_table.proofs.Nodes.{Node, task_at, nodes_of, map-nodes_of, child_nodes, map-child_nodes}
 use Rattle.attr_table.proofs.Facts.{Facts, Covers, Waits, IsSettled, no_entries, at_start}
@@ -13,7 +14,7 @@ use Rattle.attr_table.proofs.Skips.{skipped}
 use Rattle.attr_table.proofs.Fills.{filled}
 use Rattle.attr_table.proofs.Walked.{walk_from}
 
--- nothing waits, or the walk is done
+-- no node is left, or the walk is done
 pub record IsEnd (s : Setting) (start : Slots) (done : Slots → Bool) (wanted : List ℕ) (final : Slots) : Type 0 where
   pub table : Table
   pub nodes : List Node
@@ -58,7 +59,7 @@ pub roots_end : (s : Setting) (start : Slots) (done : Slots → Bool) (wanted : 
 roots_end s start done wanted turns final w =
     end_of s start done wanted turns w no_entries (nodes_of s.lists) (map-nodes_of s.lists) (at_start s start done wanted)
 
--- where nothing waits, the table is stable
+-- if no node is left, the table is stable
 stable_of : (s : Setting) (start : Slots) (done : Slots → Bool) (wanted : List ℕ) (table : Table) (slots : Slots) →
     Facts s start done wanted table [] slots → IsStable s start table
 stable_of s start done wanted table slots facts a = at (start a) refl

@@ -1,4 +1,4 @@
--- What holds at each point of a walk.
+-- Facts at each point of a walk.
 use Rattle.std.proofs.Common.{◌≡◌, ℕ, ◌⊎◌, List, Option, Some, None, refl, inl, inr, ⊎_elim, Bool, false}
 use Rattle.std.specs.Prelude.{Contains}
 use Rattle.attr_table.specs.Setting.{Item, Setting, Answer}
@@ -9,11 +9,11 @@ use Rattle.attr_table.proofs.Order.{Below}
 use Rattle.attr_table.proofs.Stable.{some_or_none, entry_is, answered}
 use Rattle.attr_table.proofs.Nodes.{Node, IsNode, PartsAt, nodes_of, root_in, root_node, roots_ordered}
 
--- a node stands at an occurrence
+-- some node is that of the occurrence
 abbrev pub Waits : Occurrence → List Node → Type 0
 Waits o nodes = (n : Node) × Mem n nodes × (n.place ≡ o)
 
--- a node stands at an occurrence, or above it
+-- some node is that of the occurrence, or above it
 abbrev pub Covers : List Node → Occurrence → Type 0
 Covers nodes o = (n : Node) × Mem n nodes × ((n.place ≡ o) ⊎ Below n.place o)
 
@@ -23,7 +23,7 @@ IsSettled start table o a =
     ((x : Answer) × (start a ≡ Some x))
     ⊎ ((p : Occurrence) × (table a ≡ Some p) × ((p ≡ o) ⊎ IsEarlier p o))
 
--- an entry is live, was free at the start, and comes before all that waits
+-- an entry is live, was free at the start, and comes before all nodes
 pub record IsEntry (s : Setting) (start : Slots) (table : Table) (nodes : List Node) (a : ℕ) (o : Occurrence) : Type 0 where
   pub item : Item
   pub live : IsLive s table o item
@@ -35,7 +35,7 @@ pub record IsEntry (s : Setting) (start : Slots) (table : Table) (nodes : List N
 abbrev pub IsWithin : Table → Table → Type 0
 IsWithin table other = (a : ℕ) (o : Occurrence) → table a ≡ Some o → other a ≡ Some o
 
--- what is known of each stable table: it has the entries so far, and what waits covers its others
+-- each stable table has the entries so far, and the nodes cover its others
 pub record Agrees (other table : Table) (nodes : List Node) : Type 0 where
   pub within : IsWithin table other
   pub covered : (a : ℕ) (o : Occurrence) → other a ≡ Some o → (table a ≡ Some o) ⊎ Covers nodes o
@@ -48,15 +48,16 @@ IsLast done wanted table slots =
     ⊎ ((w : ℕ) × (p : Occurrence) × Contains wanted w × (table w ≡ Some p)
     × ((a : ℕ) (o : Occurrence) → table a ≡ Some o → (o ≡ p) ⊎ IsEarlier o p)))
 
-pub record Facts (s : Setting) (start : Slots) (done : Slots → Bool) (wanted : List ℕ) (table : Table) (nodes : List Node) (slots : Slots) : Type 0 where
-  pub nodes_are : (n : Node) → Mem n nodes → IsNode s n
-  pub reached : (n : Node) → Mem n nodes → IsReached s table n.place
-  pub ordered : IsOrdered PartsAt nodes
-  pub entries : (a : ℕ) (o : Occurrence) → table a ≡ Some o → IsEntry s start table nodes a o
-  pub met : (o : Occurrence) (i : Item) → IsLive s table o i → Waits o nodes ⊎ IsSettled start table o i.attribute
-  pub others : (other : Table) → IsStable s start other → Agrees other table nodes
-  pub shown : (a : ℕ) → slots a ≡ full_answer s (start a) (table a)
-  pub last : IsLast done wanted table slots
+pub record Facts (s : Setting) (start : Slots) (done : Slots → Bool) (wanted : List ℕ) (table : Table) (nodes : List Node) (slots : Slots) : Type 0
+  where
+    pub nodes_are : (n : Node) → Mem n nodes → IsNode s n
+    pub reached : (n : Node) → Mem n nodes → IsReached s table n.place
+    pub ordered : IsOrdered PartsAt nodes
+    pub entries : (a : ℕ) (o : Occurrence) → table a ≡ Some o → IsEntry s start table nodes a o
+    pub met : (o : Occurrence) (i : Item) → IsLive s table o i → Waits o nodes ⊎ IsSettled start table o i.attribute
+    pub others : (other : Table) → IsStable s start other → Agrees other table nodes
+    pub shown : (a : ℕ) → slots a ≡ full_answer s (start a) (table a)
+    pub last : IsLast done wanted table slots
 
 -- an empty slot was empty at the start and has no entry
 pub empty_parts : (s : Setting) (start : Slots) (done : Slots → Bool) (wanted : List ℕ) (table : Table) (nodes : List Node) (slots : Slots) →

@@ -5,9 +5,10 @@ use Rattle.std.proofs.lemmas.Bool.{cases_eq, eq-eqb, ne_eqb, cases_Bool}
 use Rattle.attr_table.specs.Setting.{Set, Item, Setting}
 use Rattle.attr_table.specs.Table.{Occurrence, Root, Inside, Table, Slots, path, item_at, IsEarlier, IsReached, IsLive, IsStable}
 use Rattle.attr_table.specs.Cut.{full_answer}
-use Rattle.attr_table.specs.Walk.{fill}
+use Rattle.attr_table.specs.inner.Walk.{fill}
 use Rattle.attr_table.proofs.Listed.{Mem, mem_cases, mem_left, mem_right, IsOrdered, ordered_append}
-use Rattle.attr_table.proofs.Order.{Below, below_child, below_later, first_irreflexive, first_trans, first_beginning, parts_first, parts_left, parts_below}
+use Rattle.attr_table.proofs.Order.{Below, below_child, below_later, first_irreflexive, first_trans, first_beginning, parts_first, parts_left}
+use Rattle.attr_table.proofs.Order.{parts_below}
 use Rattle.attr_table.proofs.Stable.{entry_is, entry_of, above_live}
 use Rattle.attr_table.proofs.Nodes.{Node, IsNode, PartsAt, node_answer, child_nodes, child_is, child_in, children_ordered}
 use Rattle.attr_table.proofs.Facts.{Facts, IsEntry, IsWithin, IsLast, Waits, Covers, IsSettled, empty_parts}
@@ -22,7 +23,8 @@ pub reached_still : (s : Setting) (table other : Table) → IsWithin table other
 reached_still s table other within (Root list line item) r = tt
 reached_still s table other within (Inside parent place) r = (r.0, r.1, r.2, within r.0.attribute parent r.3)
 
-module _ (s : Setting) (start : Slots) (done : Slots → Bool) (wanted : List ℕ) (table : Table) (h : Node) (nodes : List Node) (slots : Slots) (facts : Facts s start done wanted table (h ∷ nodes) slots) (empty : slots h.task.item.attribute ≡ None) where
+module _ (s : Setting) (start : Slots) (done : Slots → Bool) (wanted : List ℕ) (table : Table) (h : Node) (nodes : List Node) (slots : Slots)
+    (facts : Facts s start done wanted table (h ∷ nodes) slots) (empty : slots h.task.item.attribute ≡ None) where
   free : start h.task.item.attribute ≡ None
   free = (empty_parts s start done wanted table (h ∷ nodes) slots facts h.task.item.attribute empty).0
 
@@ -40,7 +42,7 @@ module _ (s : Setting) (start : Slots) (done : Slots → Bool) (wanted : List �
   unfolding next
   next_other a ne = let e = ne_eqb a h.task.item.attribute ne in rw e refl
 
-  -- an entry of the table that follows is the node's, or stood before
+  -- an entry of the next table is the node's, or was there before
   next_cases : (a : ℕ) (o : Occurrence) → next a ≡ Some o →
       ((a ≡ h.task.item.attribute) × (o ≡ h.place)) ⊎ (table a ≡ Some o)
   next_cases a o e =
@@ -92,7 +94,7 @@ module _ (s : Setting) (start : Slots) (done : Slots → Bool) (wanted : List �
       let e = r.1 in
       rw e (parts_left (path h.place) (path n.place) (r.0 ∷ []) (facts.ordered.0 n b)))
 
-  -- the node's occurrence comes before all that then waits
+  -- the node's occurrence comes before all nodes that are left
   first : (n : Node) → Mem n more → IsEarlier h.place n.place
   first n m =
       ⊎_elim
@@ -130,7 +132,7 @@ module _ (s : Setting) (start : Slots) (done : Slots → Bool) (wanted : List �
   settled_still : (o : Occurrence) (a : ℕ) → IsSettled start table o a → IsSettled start next o a
   settled_still o a k = ⊎_elim (λ x. inl x) (λ r. inr (r.0, within a r.0 r.1, r.2)) k
 
-  -- what was live waits or is settled
+  -- a live occurrence is a node or is settled
   met_before : (o : Occurrence) (i : Item) → IsLive s table o i → Waits o more ⊎ IsSettled start next o i.attribute
   unfolding more
   met_before o i live =
@@ -185,7 +187,7 @@ module _ (s : Setting) (start : Slots) (done : Slots → Bool) (wanted : List �
       rw (e, n) (facts.shown a))
       (cases_eq a h.task.item.attribute)
 
-  -- what the node's occurrence and the others that wait cover is not earlier than the node's
+  -- the nodes cover no occurrence that is earlier than the node's
   covered_later : (o : Occurrence) → Covers (h ∷ nodes) o → (h.place ≡ o) ⊎ IsEarlier h.place o
   covered_later o c =
       ⊎_elim

@@ -10,3 +10,4 @@ pub mod Ends
 pub mod Cuts
 pub mod Seen
 pub mod Counted
+pub mod ForCallers

@@ -1,8 +1,9 @@
--- Lists that are gone through from their end: what is in them, and in which order.
-use Rattle.std.proofs.Common.{◌≡◌, ℕ, suc, ◌+◌, ◌-◌, ◌<◌, ◌≤◌, ◌⊎◌, List, [], ◌∷◌, ◌++◌, map, length, get_or, take, drop, Some, refl, sym, ap, ◌∙◌, inl, inr, ⊎_elim, arith, zero}
+-- Lists from their end: their members, and their order.
+use Rattle.std.proofs.Common.{◌≡◌, ℕ, suc, ◌+◌, ◌-◌, ◌<◌, ◌≤◌, ◌⊎◌, List, [], ◌∷◌, ◌++◌, map, length, get_or, take, drop, Some, refl, sym, ap, ◌∙◌}
+use Rattle.std.proofs.Common.{inl, inr, ⊎_elim, arith, zero}
 use Rattle.std.specs.Prelude.{slice_get}
 use Rattle.std.proofs.lemmas.List.{map-append, append-nil, append_assoc, drop_all, drop_more, take-append-drop}
-use Rattle.attr_table.specs.Walk.{backwards}
+use Rattle.attr_table.specs.inner.Walk.{backwards}
 
 -- an element is in a list
 abbrev pub Mem : {X : Type 0} → X → List X → Type 0
@@ -22,7 +23,7 @@ pub mem_right : {X : Type 0} (y : X) (xs ys : List X) → Mem y ys → Mem y (xs
 mem_right y [] ys m = m
 mem_right y (x ∷ xs) ys m = inr (mem_right y xs ys m)
 
--- what the elements give with their places, the last element first
+-- f of each index and element, the last element first
 abbrev pub backward : {X Y : Type 0} → (ℕ → X → List Y) → List X → List Y
 backward f [] = []
 backward f (x ∷ xs) = backward (λ k. f (suc k)) xs ++ f 0 x
@@ -44,7 +45,7 @@ backward_mem {X} {Y} f (z ∷ xs) zero x y e m =
 backward_mem f (z ∷ xs) (suc k) x y e m =
     mem_left y (backward (λ j. f (suc j)) xs) (f 0 z) (backward_mem (λ j. f (suc j)) xs k x y e m)
 
--- each element stands to each later one as R says
+-- R relates each element to each later one
 abbrev pub IsOrdered : {X : Type 0} → (X → X → Type 0) → List X → Type 0
 IsOrdered R [] = Unit {0}
 IsOrdered {X} R (x ∷ xs) = ((y : X) → Mem y xs → R x y) × IsOrdered R xs
@@ -71,7 +72,7 @@ ordered_backward R f (x ∷ xs) each apart =
     let r = mem_backward (λ k. f (suc k)) xs u a in
     apart 0 (suc r.0) r.1 x u v (omega arith) r.3 b)
 
--- without places it is what `backwards` gives
+-- without indices it is `backwards`
 pub map-backward : {X Y Z : Type 0} (g : Y → Z) (f : ℕ → X → List Y) (h : X → List Z) (xs : List X) →
     ((k : ℕ) (x : X) → map g (f k x) ≡ h x) → map g (backward f xs) ≡ backwards h xs
 map-backward g f h [] same = refl
@@ -86,7 +87,7 @@ backwards-append f [] ys = sym (append-nil (backwards f ys))
 backwards-append f (x ∷ xs) ys =
     let e = backwards-append f xs ys in rw (e, append_assoc) refl
 
--- a list gone through from its end: nothing so far, one element more, and what is left
+-- a list from its end: no element, one more element, and the rest
 pub backwards-none : {X Y Z : Type 0} (f : Y → List Z) (g : X → Y) (xs : List X) →
     backwards f (map g (drop (length xs) xs)) ≡ []
 backwards-none f g xs = let e = drop_all (length xs) xs (omega arith) in rw e refl

@@ -1,10 +1,10 @@
--- Tasks with the occurrences that they stand for.
+-- Nodes: tasks with their occurrences.
 use Rattle.std.proofs.Common.{◌≡◌, ℕ, List, [], ◌∷◌, map, Option, Some, None, refl, ap, inl, inr, ⊎_elim, Bool, true, false}
 use Rattle.std.specs.Prelude.{option_and_then, slice_get, if◌then◌else◌}
 use Rattle.attr_table.specs.Setting.{State, Set, Unset, Value, Unspecified, Item, Line, Origin, Setting, body_of}
 use Rattle.attr_table.specs.Table.{Occurrence, Root, Inside, path, item_at}
 use Rattle.attr_table.specs.Cut.{origin_at, cause_at, answer_of, answer_at}
-use Rattle.attr_table.specs.Walk.{Task, tasks_in, line_tasks, list_tasks, tasks_of, is_set, opened}
+use Rattle.attr_table.specs.inner.Walk.{Task, tasks_in, line_tasks, list_tasks, tasks_of, expands, opened}
 use Rattle.attr_table.proofs.Listed.{Mem, backward, mem_backward, backward_mem, map-backward, IsOrdered, ordered_backward}
 use Rattle.attr_table.proofs.Order.{Parts, parts_last}
 
@@ -27,7 +27,7 @@ pub node_answer : (s : Setting) (n : Node) → IsNode s n →
 node_answer s n is =
     let e = is.item in let d = is.origin in let f = is.cause in rw (d, e, f) refl
 
--- the first node comes before the second, whatever stands inside either
+-- the first node comes before the second, with all that is inside either
 abbrev pub PartsAt : Node → Node → Type 0
 PartsAt m n = Parts (path m.place) (path n.place)
 
@@ -76,7 +76,7 @@ root_in s list line item i e = go (slice_get s.lists list) refl e
     go None d g = absurd (cc)
     go (Some lines) d g = in_line lines (slice_get lines line) refl d g
 
--- where the nodes of a line and of a list of lines stand
+-- the occurrences of the nodes of a line and of a list
 pub item_place : (list line k : ℕ) (origin : Origin) (i : Item) (n : Node) → Mem n (item_node list line origin k i) →
     n.place ≡ Root list line k
 item_place list line k origin i n m =
@@ -99,7 +99,7 @@ list_place list lines n m =
     let q = line_place list r.0 r.1 n r.3 in
     (r.0, q.0, q.1)
 
--- what is known of a root's node
+-- facts of the node of a root
 root_is : (s : Setting) (list line item : ℕ) (lines : List Line) (l : Line) (i : Item) (n : Node) →
     slice_get s.lists list ≡ Some lines → slice_get lines line ≡ Some l → slice_get l.items item ≡ Some i →
     n ≡ record { place = Root list line item; task = record { origin = l.origin; item = i; cause = None } } →
@@ -155,12 +155,12 @@ child_node n k i =
 
 abbrev pub child_nodes : List (List Item) → Node → List Node
 child_nodes bodies n =
-    if is_set n.task.item.state
+    if expands n.task.item.state
     then backward (child_node n) (body_of bodies n.task.item.attribute)
     else []
 
 pub map-child_nodes : (bodies : List (List Item)) (n : Node) → map task_at (child_nodes bodies n) ≡ opened bodies n.task
-map-child_nodes bodies n = go (is_set n.task.item.state)
+map-child_nodes bodies n = go (expands n.task.item.state)
   where
     go : (b : Bool) →
         map task_at (if b then backward (child_node n) (body_of bodies n.task.item.attribute) else [])
@@ -171,16 +171,16 @@ map-child_nodes bodies n = go (is_set n.task.item.state)
         (body_of bodies n.task.item.attribute) (λ k i. refl)
     go false = refl
 
-pub set_state : (state : State) → is_set state ≡ true → state ≡ Set
+pub set_state : (state : State) → expands state ≡ true → state ≡ Set
 set_state Set e = refl
 set_state Unset e = absurd (cc)
 set_state (Value bytes) e = absurd (cc)
 set_state Unspecified e = absurd (cc)
 
--- what is known of the node of a body's item
+-- facts of the node of an item in a body
 pub child_is : (s : Setting) (n c : Node) → IsNode s n → Mem c (child_nodes s.bodies n) →
     (k : ℕ) × (c.place ≡ Inside n.place k) × IsNode s c × (n.task.item.state ≡ Set)
-child_is s n c is m = go (is_set n.task.item.state) refl m
+child_is s n c is m = go (expands n.task.item.state) refl m
   where
     at : (k : ℕ) (i : Item) → slice_get (body_of s.bodies n.task.item.attribute) k ≡ Some i →
         c ≡ record {
@@ -194,7 +194,7 @@ child_is s n c is m = go (is_set n.task.item.state) refl m
           rw d (record { item = rw (x, e) refl; origin = y; cause = rw x refl }),
         )
 
-    go : (b : Bool) → is_set n.task.item.state ≡ b →
+    go : (b : Bool) → expands n.task.item.state ≡ b →
         Mem c (if b then backward (child_node n) (body_of s.bodies n.task.item.attribute) else []) →
         (k : ℕ) × (c.place ≡ Inside n.place k) × IsNode s c × (n.task.item.state ≡ Set)
     go false e h = absurd h
@@ -221,7 +221,7 @@ child_in s n k i is set e =
     )
 
 pub children_ordered : (bodies : List (List Item)) (n : Node) → IsOrdered PartsAt (child_nodes bodies n)
-children_ordered bodies n = go (is_set n.task.item.state)
+children_ordered bodies n = go (expands n.task.item.state)
   where
     go : (b : Bool) → IsOrdered PartsAt (if b then backward (child_node n) (body_of bodies n.task.item.attribute) else [])
     go false = tt

@@ -49,7 +49,7 @@ pub parts_last : (xs : List ℕ) (j k : ℕ) → j < k → Parts (xs ++ k ∷ []
 parts_last [] j k lt = inl lt
 parts_last (x ∷ xs) j k lt = inr (refl, parts_last xs j k lt)
 
--- an occurrence stands inside another, at whatever depth
+-- an occurrence is inside another, at any depth
 abbrev pub Below : Occurrence → Occurrence → Type 0
 Below o (Root list line item) = ⊥
 Below o (Inside parent place) = (o ≡ parent) ⊎ Below o parent
@@ -67,7 +67,7 @@ below_path o (Inside parent place) b =
 pub below_later : (o p : Occurrence) → Below o p → IsEarlier o p
 below_later o p b = let r = below_path o p b in let e = r.2 in rw e (first_beginning (path o) r.0 r.1)
 
--- of an occurrence's parts, or what stands inside them
+-- of the parts of an occurrence, or of the occurrences inside them
 pub below_child : (o p : Occurrence) → Below o p → (k : ℕ) × ((Inside o k ≡ p) ⊎ Below (Inside o k) p)
 below_child o (Root list line item) b = absurd b
 below_child o (Inside parent place) b =

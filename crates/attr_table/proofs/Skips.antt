@@ -8,7 +8,8 @@ use Rattle.attr_table.proofs.Stable.{some_or_none, some_value, entry_is, stable_
 use Rattle.attr_table.proofs.Nodes.{Node}
 use Rattle.attr_table.proofs.Facts.{Facts, Waits, Covers, IsSettled}
 
-module _ (s : Setting) (start : Slots) (done : Slots → Bool) (wanted : List ℕ) (table : Table) (h : Node) (nodes : List Node) (slots : Slots) (facts : Facts s start done wanted table (h ∷ nodes) slots) (filled : is_some (slots h.task.item.attribute) ≡ true) where
+module _ (s : Setting) (start : Slots) (done : Slots → Bool) (wanted : List ℕ) (table : Table) (h : Node) (nodes : List Node) (slots : Slots)
+    (facts : Facts s start done wanted table (h ∷ nodes) slots) (filled : is_some (slots h.task.item.attribute) ≡ true) where
   -- the attribute of the node is settled
   settled : IsSettled start table h.place h.task.item.attribute
   settled =
@@ -42,7 +43,7 @@ module _ (s : Setting) (start : Slots) (done : Slots → Bool) (wanted : List �
       (λ k. inr k)
       (facts.met o i live)
 
-  -- a stable table has no entry at the node or inside it, but those that stand already
+  -- a stable table has no new entry at the node or inside it
   module _ (other : Table) (stable : IsStable s start other) where
     not_entry : other h.task.item.attribute ≡ Some h.place → ⊥
     not_entry e =

@@ -19,7 +19,7 @@ pub some_or_none : {X : Type 0} (o : Option X) → ((x : X) × (o ≡ Some x)) �
 some_or_none None = inr refl
 some_or_none (Some x) = inl (x, refl)
 
--- what stands at an occurrence with an item has a line
+-- an occurrence with an item has a line
 pub origin_of : (s : Setting) (o : Occurrence) (i : Item) → item_at s o ≡ Some i →
     (origin : Origin) × (origin_at s o ≡ Some origin)
 origin_of s (Root list line item) i e = go (line_at s list line) e
@@ -73,7 +73,7 @@ module _ (s : Setting) (start : Slots) (table : Table) (stable : IsStable s star
       absurd (none o i live e))
       (some_or_none (table a))
 
-  -- what stands above a live occurrence is an entry, and sets its attribute
+  -- each parent of a live occurrence is an entry, and sets its attribute
   pub above_live : (o p : Occurrence) → IsReached s table p → Below o p →
       (i : Item) × IsLive s table o i × (i.state ≡ Set) × (table i.attribute ≡ Some o)
   above_live o (Root list line item) h b = absurd b

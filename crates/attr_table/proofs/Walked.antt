@@ -1,5 +1,6 @@
 -- Walks: each has an end, one goes on from another, and tasks whose slots are filled may be left out.
-use Rattle.std.proofs.Common.{◌≡◌, ℕ, zero, suc, ◌+◌, ◌≤◌, List, [], ◌∷◌, ◌++◌, length, ◌<◌, set, Option, Some, None, refl, ⊎_elim, arith, Bool, true, false}
+use Rattle.std.proofs.Common.{◌≡◌, ℕ, zero, suc, ◌+◌, ◌≤◌, List, [], ◌∷◌, ◌++◌, length, ◌<◌, set, Option, Some, None, refl, ⊎_elim, arith, Bool, true}
+use Rattle.std.proofs.Common.{false}
 use Rattle.std.specs.Prelude.{is_some, if◌then◌else◌}
 use Rattle.std.proofs.lemmas.Bool.{cases_eq, eq-eqb, ne_eqb, cases_Bool}
 use Rattle.std.proofs.lemmas.List.{length-append, append_assoc, append-nil, get_or-set_same, get_or-set_other}
@@ -7,7 +8,7 @@ use mathlib.Core.Path.{fun_ext}
 use Rattle.attr_table.specs.Setting.{Item, Origin, Answer, body_of}
 use Rattle.attr_table.specs.Table.{Slots, slots_in}
 use Rattle.attr_table.specs.Cut.{answer_of}
-use Rattle.attr_table.specs.Walk.{Task, Walks, ends, stops, skips, fills, tasks_in, is_set, opened, fill, left_in, free_items}
+use Rattle.attr_table.specs.inner.Walk.{Task, Walks, ends, stops, skips, fills, tasks_in, expands, opened, fill, left_in, free_items}
 use Rattle.attr_table.proofs.Stable.{some_or_none}
 
 pub length-tasks_in : (origin : Origin) (cause : Option ℕ) (items : List Item) →
@@ -21,7 +22,7 @@ length-tasks_in origin cause (i ∷ items) =
 
 pub length-opened : (bodies : List (List Item)) (t : Task) →
     length (opened bodies t) ≤ length (body_of bodies t.item.attribute)
-length-opened bodies t = go (is_set t.item.state)
+length-opened bodies t = go (expands t.item.state)
   where
     go : (b : Bool) →
         length (if b then tasks_in t.origin (Some t.item.attribute) (body_of bodies t.item.attribute) else [])
@@ -207,7 +208,8 @@ leaves_filled slots origin cause [] = none_left
 leaves_filled slots origin cause (i ∷ items) =
     leaves_item slots origin cause i items (leaves_filled slots origin cause items)
 
-pub walks_past : (bodies : List (List Item)) (done : Slots → Bool) (slots final : Slots) (origin : Origin) (cause : Option ℕ) (items : List Item) (rest : List Task) →
+pub walks_past : (bodies : List (List Item)) (done : Slots → Bool) (slots final : Slots) (origin : Origin) (cause : Option ℕ) (items : List Item)
+    (rest : List Task) →
     Walks bodies done (tasks_in origin cause (free_items slots items) ++ rest) slots final →
     Walks bodies done (tasks_in origin cause items ++ rest) slots final
 walks_past bodies done slots final origin cause items rest w =

@@ -2,6 +2,4 @@ pub mod Setting
 pub mod Table
 pub mod Cut
 pub mod Work
-pub mod Worked
-pub mod Walk
-pub mod Plain
+pub mod inner

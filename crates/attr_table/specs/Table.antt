@@ -1,10 +1,11 @@
--- Which item decides an attribute. The gitattributes page has the rule: a later line takes
--- precedence over an earlier one, file by file, and setting a macro sets what its body says.
-use Rattle.std.specs.Prelude.{◌≡◌, ◌≢◌, ℕ, ◌<◌, ◌⊎◌, List, [], ◌∷◌, ◌++◌, Option, Some, None, MatchOption, slice_get, slice_index_or, option_and_then}
+-- The item that decides an attribute (gitattributes): a later line takes precedence over an earlier one, file by file, and an
+-- item that sets a macro assigns the states of its body.
+use Rattle.std.specs.Prelude.{◌≡◌, ◌≢◌, ℕ, ◌<◌, ◌⊎◌, List, [], ◌∷◌, ◌++◌, Option, Some, None, MatchOption, slice_get}
+use Rattle.std.specs.Prelude.{slice_index_or, option_and_then}
 use Rattle.attr_table.specs.Setting.{Set, Item, Line, Setting, Answer, body_of}
 
--- a place where an item is read: a root is an item of a line, by list, line and item; any other
--- stands inside its parent, at a place in the body of the attribute that the parent names
+-- an occurrence of an item: a root is an item of a line, by list, line and item; any other one is inside its parent, at an index
+-- of the body of the parent's attribute
 pub data Occurrence : Type 0 where
   Root : ℕ → ℕ → ℕ → Occurrence
   Inside : Occurrence → ℕ → Occurrence
@@ -19,7 +20,7 @@ item_at s (Root list line item) = option_and_then (λ l. slice_get l.items item)
 item_at s (Inside parent place) =
     option_and_then (λ i. slice_get (body_of s.bodies i.attribute) place) (item_at s parent)
 
--- the way to an occurrence: list, line and item, and then the places in bodies
+-- the path to an occurrence: list, line and item, and then the indices in bodies
 abbrev pub path : Occurrence → List ℕ
 path (Root list line item) = list ∷ line ∷ item ∷ []
 path (Inside parent place) = path parent ++ place ∷ []
@@ -35,12 +36,12 @@ ComesFirst (x ∷ xs) (y ∷ ys) = (y < x) ⊎ ((x ≡ y) × ComesFirst xs ys)
 abbrev pub IsEarlier : Occurrence → Occurrence → Type 0
 IsEarlier o p = ComesFirst (path o) (path p)
 
--- a table gives each attribute the occurrence that decides it, its entry, or none
+-- a table has an entry for an attribute, the occurrence that decides it, or none
 abbrev pub Table : Type 0
 Table = ℕ → Option Occurrence
 
--- a root is always reached; what stands inside a parent is reached if the parent sets its attribute
--- and is that attribute's entry
+-- a root is always reached; an occurrence inside a parent is reached if the parent sets its attribute and is the entry of that
+-- attribute
 abbrev pub IsReached : Setting → Table → Occurrence → Type 0
 IsReached s table (Root list line item) = Unit {0}
 IsReached s table (Inside parent place) =
@@ -58,7 +59,7 @@ IsEarliest s table a (Some o) =
     ((i : Item) × IsLive s table o i × (i.attribute ≡ a))
     × ((p : Occurrence) (i : Item) → IsLive s table p i → i.attribute ≡ a → (o ≡ p) ⊎ IsEarlier o p)
 
--- what is said of each attribute so far
+-- the answers of the attributes so far
 abbrev pub Slots : Type 0
 Slots = ℕ → Option Answer
 

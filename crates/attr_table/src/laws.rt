@@ -1,61 +1,63 @@
-//! What holds of each setting. A law is a function that does nothing, whose clauses are the law.
+//! Laws of each setting. A law is a function that does nothing, whose clauses are the law.
 
 ghost use Rattle.std.specs.Prelude.{◌≡◌, ℕ, ◌⊎◌, List, [], ◌∷◌, ◌++◌, None, Contains};
 ghost use Rattle.attr_table.specs.Setting.{Item, Line, Setting};
 ghost use Rattle.attr_table.specs.Table.{Table, Slots, item_at, IsEarlier, IsStable, OneTable};
 ghost use Rattle.attr_table.specs.Cut.{IsCut, IsSearched, ExtendsCuts, full_answer, is_done, no_answers};
 ghost use Rattle.attr_table.specs.Work.{work_of};
-ghost use Rattle.attr_table.specs.Worked.{cycle, cycle_answers, a_set, b_set, a_on_line, b_in_a, a_in_b};
-ghost use Rattle.attr_table.specs.Walk.{Walks, tasks_of};
+ghost use Rattle.attr_table.specs.inner.Worked.{cycle, cycle_answers, a_set, b_set, a_on_line, b_in_a, a_in_b};
+ghost use Rattle.attr_table.specs.inner.Walk.{Walks, tasks_of};
 
 /// For any setting and start exactly one table is stable, however macros name one another.
 pub fn one_table()
     ensures { (s : Setting) (start : Slots) → OneTable s start }
 {}
 
-/// A walk over all roots that stops once every wanted attribute has an answer leaves the cut of the
-/// stable table.
+/// A walk over all roots that stops once each wanted attribute has an answer returns the cut of the stable table.
 pub fn walk_cuts()
     ensures { (s : Setting) (start final : Slots) (wanted : List ℕ) (table : Table) →
         IsStable s start table → Walks s.bodies (is_done wanted) (tasks_of s.lists) start final →
         IsCut s start table wanted final }
 {}
 
-/// A search's slots are determined: no others are the cut of the stable table.
+/// The slots of a search are unique: no others are the cut of the stable table.
 pub fn one_outcome()
     ensures { (s : Setting) (wanted : List ℕ) (start slots other : Slots) →
         IsSearched s wanted start slots → IsSearched s wanted start other → slots ≡ other }
 {}
 
-/// Stopping early changes no answer: a wanted attribute has its answer by the whole table, and any
-/// other one has that answer or none yet.
+/// To stop early changes no answer: a wanted attribute has its answer in the whole table, and any other one has that
+/// answer or none.
 pub fn stopping_is_unseen()
-    ensures wanted { (s : Setting) (start : Slots) (wanted : List ℕ) (table : Table) (slots : Slots) (a : ℕ) →
+    ensures wanted { (s : Setting) (start : Slots) (wanted : List ℕ) (table : Table)
+        (slots : Slots) (a : ℕ) →
         IsStable s start table → IsCut s start table wanted slots → Contains wanted a →
         slots a ≡ full_answer s (start a) (table a) }
-    ensures others { (s : Setting) (start : Slots) (wanted : List ℕ) (table : Table) (slots : Slots) (a : ℕ) →
+    ensures others { (s : Setting) (start : Slots) (wanted : List ℕ) (table : Table)
+        (slots : Slots) (a : ℕ) →
         IsStable s start table → IsCut s start table wanted slots →
         (slots a ≡ None) ⊎ (slots a ≡ full_answer s (start a) (table a)) }
 {}
 
-/// Two searches, one after the other, leave what one search over the joined lists leaves, from any
-/// start. The lists that are searched first stand last.
+/// Two searches, one after the other, return the slots that one search over the joined lists returns, from any start. The
+/// lists that are searched first are the last.
 pub fn searches_join()
-    ensures { (first second : List (List Line)) (bodies : List (List Item)) (wanted : List ℕ) (start middle slots : Slots) →
+    ensures { (first second : List (List Line)) (bodies : List (List Item)) (wanted : List ℕ)
+        (start middle slots : Slots) →
         IsSearched (record { lists = first; bodies = bodies }) wanted start middle →
         IsSearched (record { lists = second; bodies = bodies }) wanted middle slots →
         IsSearched (record { lists = second ++ first; bodies = bodies }) wanted start slots }
 {}
 
-/// Where a search begins on the cut of some lists from nothing, it leaves the cut from nothing of
-/// its own lists followed by those.
+/// A search that begins with the cut of some lists, from empty slots, returns the cut of its own lists followed by
+/// those, from empty slots.
 pub fn searches_extend_cuts()
     ensures { (s : Setting) (wanted : List ℕ) (before after : Slots) →
         IsSearched s wanted before after → ExtendsCuts s.lists s.bodies wanted before after }
 {}
 
-/// A worked example: of two macros that name each other, the one on the line is decided there, and
-/// the other by its body. The first stands in the second's body again, but comes later there.
+/// An example: of two macros that name each other, the one on the line is decided there, and the other by its body. The
+/// first is an item of the second's body too, which comes later.
 pub fn worked_cycle()
     ensures items { (item_at cycle a_on_line ≡ Some a_set) × (item_at cycle b_in_a ≡ Some b_set)
         × (item_at cycle a_in_b ≡ Some a_set) }

@@ -1,7 +1,7 @@
-//! Which item decides an attribute, over numbers, states and origins alone.
+//! The item that decides an attribute, by the rules of the gitattributes page, with attributes as numbers.
 //!
-//! `specs/` says what the answer is, [`laws`] has what follows from it, and [`plain`] a search that
-//! finds it.
+//! `specs/` defines the answer, [`laws`] has its laws, and [`plain`] is a plain program that finds it. The search that is in
+//! use has the same definitions in its contracts, and a program compares the two.
 #![tactic(auto)]
 
 pub mod laws;

@@ -1,4 +1,5 @@
-//! A plain search, over slices and with a stack. Faster searches are compared with it.
+//! The plain program: a search over slices, with a stack. A program runs it beside the search that is in use, and
+//! compares the slots and the counts of both.
 
 ghost use Rattle.std.specs.Prelude.{◌≡◌, ◌↔◌, IsTrue, ℕ, ◌+◌, ◌-◌, ◌^◌, ◌<◌, ◌≤◌, min, List, [], ◌∷◌, ◌++◌, length, All, OnOk, OnErr, IfOk, is_none, false};
 ghost use Rattle.std.specs.List.{list_any};
@@ -6,58 +7,76 @@ ghost use Rattle.attr_table.specs.Table.{Slots};
 ghost use Rattle.attr_table.specs.Cut;
 ghost use Rattle.attr_table.specs.Cut.{IsSearched, ExtendsCuts, no_answers};
 ghost use Rattle.attr_table.specs.Work.{work_of, newly_filled};
-ghost use Rattle.attr_table.specs.Walk;
-ghost use Rattle.attr_table.specs.Walk.{tasks_in, line_tasks, list_tasks, tasks_of, free_items, left_in, Searches};
-ghost use Rattle.attr_table.specs.Plain.{HaveSlots, IsInRange, RowsHaveSlots, TasksHaveSlots, answers_in, bodies_in, items_seen, line_of, lines_of, lists_of, origin_seen, setting_of, state_seen, task_seen, waiting};
+ghost use Rattle.attr_table.specs.inner.Walk;
+ghost use Rattle.attr_table.specs.inner.Walk.{tasks_in, line_tasks, list_tasks, tasks_of, free_items, left_in, Searches};
+ghost use Rattle.attr_table.specs.inner.Plain.{PlainHaveSlots, IsInRange, RowsHaveSlots, TasksHaveSlots, IsSearchState, ProcessesTask, SearchesTasks, plain_answers, plain_bodies, plain_items, plain_line, plain_lines, plain_lists, plain_origin, plain_setting, plain_state, plain_task, plain_tasks};
 
 use std::alloc::{AllocError, Global};
 
-/// The state that an item gives its attribute.
+/// The state that an item assigns, as the gitattributes page spells it.
 #[derive(Clone, Copy, PartialEq, Eq, Debug)]
 pub enum State<'a> {
+    /// `name`
     Set,
+    /// `-name`
     Unset,
+    /// `name=value`, with the bytes of the value
     Value(&'a [u8]),
+    /// `!name`
     Unspecified,
 }
 
-/// An attribute, by number, and the state that it is given.
+/// An item of a line or of a macro's body.
 #[derive(Clone, Copy, PartialEq, Eq, Debug)]
 pub struct Item<'a> {
+    /// The number of the attribute, from 0.
     pub attribute: usize,
+    /// The state that the item assigns.
     pub state: State<'a>,
 }
 
-/// Where a line stands: its pattern, its file and its number.
+/// The place of a line: its pattern, its file and its number.
 #[derive(Clone, Copy, PartialEq, Eq, Debug)]
 pub struct Origin<'a> {
+    /// The text of the pattern.
     pub text: &'a [u8],
+    /// The bits of the pattern's mode.
     pub mode: u32,
+    /// The index of the first wildcard in the text, if it has one.
     pub wildcard: Option<usize>,
+    /// The path of the file, if the list has one.
     pub source: Option<&'a [u8]>,
+    /// The number of the line, from 1.
     pub line: usize,
 }
 
-/// A line, with whether it matches and defines no macro.
+/// A line of a list, for one path.
 #[derive(Clone, Copy)]
 pub struct Row<'r, 'a> {
+    /// The place of the line.
     pub origin: Origin<'a>,
+    /// The items, in the order of the line.
     pub items: &'r [Item<'a>],
+    /// Whether the line matches the path and defines no macro.
     pub is_match: bool,
 }
 
-/// What a search says of an attribute.
+/// The item that decides an attribute.
 #[derive(Clone, Copy, PartialEq, Eq, Debug)]
 pub struct Answer<'a> {
+    /// The line of the item, or of the macro that expanded to it.
     pub origin: Origin<'a>,
+    /// The item.
     pub assignment: Item<'a>,
+    /// Whether the attribute is a macro: its body has items.
     pub is_macro: bool,
+    /// The macro whose body has the item, none if the line itself has it.
     pub cause: Option<usize>,
 }
 
 /// Whether each item's attribute is below a count.
 fn have_slots(items: &[Item<'_>], count: usize) -> bool
-    ensures { IsTrue result ↔ HaveSlots count items.now }
+    ensures { IsTrue result ↔ PlainHaveSlots count items.now }
 {
     items.iter().all(|item| item.attribute < count)
 }
@@ -68,7 +87,7 @@ fn rows_have_slots(rows: &[Row<'_, '_>], count: usize) -> bool
     rows.iter().all(|row| have_slots(row.items, count))
 }
 
-/// Whether there is a body for each of so many slots, and a slot for each attribute that is named.
+/// Whether there are `count` bodies, and each attribute in the lists, the bodies and `wanted` is below `count`.
 pub fn is_in_range(
     lists: &[&[Row<'_, '_>]],
     bodies: &[&[Item<'_>]],
@@ -83,7 +102,7 @@ pub fn is_in_range(
         && wanted.iter().all(|attribute| *attribute < count)
 }
 
-/// An item that waits.
+/// An item on the stack, with its line and the macro whose body it is in.
 #[derive(Clone, Copy)]
 struct Task<'a> {
     origin: Origin<'a>,
@@ -91,10 +110,23 @@ struct Task<'a> {
     cause: Option<usize>,
 }
 
+/// The state of a search: what it looks up, its stack, and its count. The slots are passed beside it.
+#[derive(Drop)]
+struct SearchState<'s, 'b, 'a> {
+    /// The body of each attribute, by number.
+    bodies: &'s [&'b [Item<'a>]],
+    /// The attributes that the search fills slots for.
+    wanted: &'s [usize],
+    /// The next item is the last.
+    stack: Vec<Task<'a>>,
+    /// The count of items that were popped, up to the greatest `u128`.
+    taken: u128,
+}
+
 /// Whether each wanted attribute has an answer.
 fn is_done(wanted: &[usize], slots: &[Option<Answer<'_>>]) -> bool
     requires { All (λ w. w < length slots.now) wanted.now }
-    ensures { result ≡ Cut.is_done wanted.now (answers_in slots.now) }
+    ensures { result ≡ Cut.is_done wanted.now (plain_answers slots.now) }
 {
     for attribute in wanted {
         if slots[*attribute].is_none() {
@@ -104,10 +136,10 @@ fn is_done(wanted: &[usize], slots: &[Option<Answer<'_>>]) -> bool
     true
 }
 
-/// Whether some item's attribute has no answer.
+/// Whether the attribute of some item has no answer.
 fn has_free(items: &[Item<'_>], slots: &[Option<Answer<'_>>]) -> bool
-    requires { HaveSlots (length slots.now) items.now }
-    ensures { result ≡ list_any (λ i. is_none (answers_in slots.now i.attribute)) items.now }
+    requires { PlainHaveSlots (length slots.now) items.now }
+    ensures { result ≡ list_any (λ i. is_none (plain_answers slots.now i.attribute)) items.now }
 {
     for assignment in items {
         if slots[assignment.attribute].is_none() {
@@ -117,19 +149,20 @@ fn has_free(items: &[Item<'_>], slots: &[Option<Answer<'_>>]) -> bool
     false
 }
 
-/// Lays those items on the stack whose attributes have no answer, the last on top.
-fn lay<'a>(
+/// Pushes the items whose attributes have no answer, in their order: the last is on top.
+fn push_free<'a>(
     stack: &mut Vec<Task<'a>>,
     origin: Origin<'a>,
     cause: Option<usize>,
     items: &[Item<'a>],
     slots: &[Option<Answer<'a>>],
 ) -> Result<(), AllocError>
-    requires { HaveSlots (length slots.now) items.now }
-    ensures laid { OnOk result (waiting stack.new.items
-        ≡ tasks_in (origin_seen origin.entry) cause (free_items (answers_in slots.now) (items_seen items.now))
-        ++ waiting stack.old.items) }
-    ensures in_stack { OnOk result ((n : ℕ) → HaveSlots n items.now →
+    requires { PlainHaveSlots (length slots.now) items.now }
+    ensures pushed { OnOk result (plain_tasks stack.new.items
+        ≡ tasks_in (plain_origin origin.entry) cause
+        (free_items (plain_answers slots.now) (plain_items items.now))
+        ++ plain_tasks stack.old.items) }
+    ensures in_stack { OnOk result ((n : ℕ) → PlainHaveSlots n items.now →
         TasksHaveSlots n stack.old.items → TasksHaveSlots n stack.new.items) }
 {
     for item in items {
@@ -144,9 +177,9 @@ fn lay<'a>(
     Ok(())
 }
 
-/// Only an attribute that is set is expanded: a value sets none.
-fn is_set(state: State<'_>) -> bool
-    ensures { result ≡ Walk.is_set (state_seen state.entry) }
+/// Whether an item with this state expands its macro: only one that sets it does, and a value does not.
+fn expands(state: State<'_>) -> bool
+    ensures { result ≡ Walk.expands (plain_state state.entry) }
 {
     match state {
         State::Set => true,
@@ -158,8 +191,8 @@ fn is_set(state: State<'_>) -> bool
 fn fill<'a>(task: Task<'a>, bodies: &[&[Item<'a>]], slots: &mut [Option<Answer<'a>>])
     requires bodies { length bodies.now ≡ length slots.old }
     requires task { task.item.attribute < length slots.old }
-    ensures { answers_in slots.new
-        ≡ Walk.fill (bodies_in bodies.now) (task_seen task.entry) (answers_in slots.old) }
+    ensures { plain_answers slots.new
+        ≡ Walk.fill (plain_bodies bodies.now) (plain_task task.entry) (plain_answers slots.old) }
 {
     let attribute = task.item.attribute;
     slots[attribute] = Some(Answer {
@@ -170,124 +203,99 @@ fn fill<'a>(task: Task<'a>, bodies: &[&[Item<'a>]], slots: &mut [Option<Answer<'
     });
 }
 
-/// Takes an item: it fills its slot if that is empty, and then, if it sets its attribute, what is
-/// free of that attribute's body is laid on the stack.
-fn take_one<'a>(
-    task: Task<'a>,
-    stack: &mut Vec<Task<'a>>,
-    bodies: &[&[Item<'a>]],
-    slots: &mut [Option<Answer<'a>>],
-) -> Result<(), AllocError>
-    requires bodies { length bodies.now ≡ length slots.old }
-    requires in_bodies { All (λ body. HaveSlots (length slots.old) body.now) bodies.now }
-    requires in_stack { TasksHaveSlots (length slots.old) stack.old.items }
-    requires task { task.item.attribute < length slots.old }
-    ensures in_stack { OnOk result (TasksHaveSlots (length slots.old) stack.new.items) }
-    ensures less { OnOk result (length stack.new.items + left_in (bodies_in bodies.now) (answers_in slots.new)
-        ≤ length stack.old.items + left_in (bodies_in bodies.now) (answers_in slots.old)) }
-    ensures step { OnOk result ((wanted : List ℕ) (final : Slots) (before taken after : ℕ) →
-        Cut.is_done wanted (answers_in slots.old) ≡ false → taken ≡ min (before + 1) (2 ^ 128 - 1) →
-        Searches (bodies_in bodies.now) wanted (waiting stack.new.items) (answers_in slots.new) final taken after →
-        Searches (bodies_in bodies.now) wanted (task_seen task.entry ∷ waiting stack.old.items)
-        (answers_in slots.old) final before after) }
-{
-    if slots[task.item.attribute].is_some() {
-        return Ok(());
-    }
-    fill(task, bodies, slots);
-    if !is_set(task.item.state) {
-        return Ok(());
-    }
-    let body = bodies[task.item.attribute];
-    lay(stack, task.origin, Some(task.item.attribute), body, slots)?;
-    Ok(())
-}
-
-/// Takes items off the stack, until none is left or each wanted attribute has an answer.
-fn drain<'a>(
-    stack: &mut Vec<Task<'a>>,
-    bodies: &[&[Item<'a>]],
-    wanted: &[usize],
-    slots: &mut [Option<Answer<'a>>],
-    taken: &mut u128,
-) -> Result<(), AllocError>
-    requires bodies { length bodies.now ≡ length slots.old }
-    requires in_bodies { All (λ body. HaveSlots (length slots.old) body.now) bodies.now }
-    requires in_stack { TasksHaveSlots (length slots.old) stack.old.items }
-    requires in_wanted { All (λ w. w < length slots.old) wanted.now }
-    ensures empty { OnOk result (stack.new.items ≡ []) }
-    ensures searched { OnOk result (Searches (bodies_in bodies.now) wanted.now (waiting stack.old.items)
-        (answers_in slots.old) (answers_in slots.new) taken.old taken.new) }
-{
-    while !is_done(wanted, slots) {
-        let Some(task) = stack.pop() else {
-            return Ok(());
-        };
-        *taken = taken.saturating_add(1);
-        take_one(task, stack, bodies, slots)?;
-    }
-    stack.clear();
-    Ok(())
-}
-
-/// Goes through the items of a line, the last first, if it matches. A line all of whose items have
-/// an answer is not tested.
-fn search_row<'a>(
-    stack: &mut Vec<Task<'a>>,
-    row: &Row<'_, 'a>,
-    bodies: &[&[Item<'a>]],
-    wanted: &[usize],
-    slots: &mut [Option<Answer<'a>>],
-    taken: &mut u128,
-) -> Result<(), AllocError>
-    requires bodies { length bodies.now ≡ length slots.old }
-    requires in_bodies { All (λ body. HaveSlots (length slots.old) body.now) bodies.now }
-    requires in_row { HaveSlots (length slots.old) row.now.items.now }
-    requires in_wanted { All (λ w. w < length slots.old) wanted.now }
-    requires empty { stack.old.items ≡ [] }
-    ensures empty { OnOk result (stack.new.items ≡ []) }
-    ensures searched { OnOk result (Searches (bodies_in bodies.now) wanted.now (line_tasks (line_of row.now))
-        (answers_in slots.old) (answers_in slots.new) taken.old taken.new) }
-{
-    if !has_free(row.items, slots) {
-        return Ok(());
-    }
-    if !row.is_match {
-        return Ok(());
-    }
-    lay(stack, row.origin, None, row.items, slots)?;
-    drain(stack, bodies, wanted, slots, taken)?;
-    Ok(())
-}
-
-/// Goes through the lines of a list, the last first, until each wanted attribute has an answer.
-fn search_rows<'a>(
-    stack: &mut Vec<Task<'a>>,
-    rows: &[Row<'_, 'a>],
-    bodies: &[&[Item<'a>]],
-    wanted: &[usize],
-    slots: &mut [Option<Answer<'a>>],
-    taken: &mut u128,
-) -> Result<(), AllocError>
-    requires bodies { length bodies.now ≡ length slots.old }
-    requires in_bodies { All (λ body. HaveSlots (length slots.old) body.now) bodies.now }
-    requires in_rows { RowsHaveSlots (length slots.old) rows.now }
-    requires in_wanted { All (λ w. w < length slots.old) wanted.now }
-    requires empty { stack.old.items ≡ [] }
-    ensures empty { OnOk result (stack.new.items ≡ []) }
-    ensures searched { OnOk result (Searches (bodies_in bodies.now) wanted.now (list_tasks (lines_of rows.now))
-        (answers_in slots.old) (answers_in slots.new) taken.old taken.new) }
-{
-    for k in (0..rows.len()).rev() {
-        if is_done(wanted, slots) {
+impl<'s, 'b, 'a> SearchState<'s, 'b, 'a> {
+    /// Fills the slot of a task's attribute, if it is empty. If the task's item sets a macro, the free items of the
+    /// macro's body are pushed.
+    fn process(
+        &mut self,
+        task: Task<'a>,
+        slots: &mut [Option<Answer<'a>>],
+    ) -> Result<(), AllocError>
+        requires state { IsSearchState (length slots.old) self.old }
+        requires task { task.item.attribute < length slots.old }
+        ensures { OnOk result
+            (ProcessesTask (plain_task task.entry) self.old self.new slots.old slots.new) }
+    {
+        if slots[task.item.attribute].is_some() {
             return Ok(());
         }
-        search_row(stack, &rows[k], bodies, wanted, slots, taken)?;
+        fill(task, self.bodies, slots);
+        if !expands(task.item.state) {
+            return Ok(());
+        }
+        let body = self.bodies[task.item.attribute];
+        let cause = Some(task.item.attribute);
+        push_free(&mut self.stack, task.origin, cause, body, slots)?;
+        Ok(())
     }
-    Ok(())
+
+    /// Processes the items on the stack, until none is left or each wanted attribute has an answer.
+    fn run_stack(&mut self, slots: &mut [Option<Answer<'a>>]) -> Result<(), AllocError>
+        requires { IsSearchState (length slots.old) self.old }
+        ensures { OnOk result
+            (SearchesTasks
+            (plain_tasks self.old.stack.items) self.old self.new slots.old slots.new) }
+    {
+        while !is_done(self.wanted, slots) {
+            let Some(task) = self.stack.pop() else {
+                return Ok(());
+            };
+            self.taken = self.taken.saturating_add(1);
+            self.process(task, slots)?;
+        }
+        self.stack.clear();
+        Ok(())
+    }
+
+    /// Processes the items of a line, the last first, if it matches. A line all of whose items have an answer is not
+    /// tested.
+    fn search_row(
+        &mut self,
+        row: &Row<'_, 'a>,
+        slots: &mut [Option<Answer<'a>>],
+    ) -> Result<(), AllocError>
+        requires state { IsSearchState (length slots.old) self.old }
+        requires in_row { PlainHaveSlots (length slots.old) row.now.items.now }
+        requires empty { self.old.stack.items ≡ [] }
+        ensures { OnOk result
+            (SearchesTasks (line_tasks (plain_line row.now))
+            self.old self.new slots.old slots.new) }
+    {
+        if !has_free(row.items, slots) {
+            return Ok(());
+        }
+        if !row.is_match {
+            return Ok(());
+        }
+        push_free(&mut self.stack, row.origin, None, row.items, slots)?;
+        self.run_stack(slots)?;
+        Ok(())
+    }
+
+    /// Processes the lines of a list, the last first, until each wanted attribute has an answer.
+    fn search_rows(
+        &mut self,
+        rows: &[Row<'_, 'a>],
+        slots: &mut [Option<Answer<'a>>],
+    ) -> Result<(), AllocError>
+        requires state { IsSearchState (length slots.old) self.old }
+        requires in_rows { RowsHaveSlots (length slots.old) rows.now }
+        requires empty { self.old.stack.items ≡ [] }
+        ensures { OnOk result
+            (SearchesTasks
+            (list_tasks (plain_lines rows.now)) self.old self.new slots.old slots.new) }
+    {
+        for k in (0..rows.len()).rev() {
+            if is_done(self.wanted, slots) {
+                return Ok(());
+            }
+            self.search_row(&rows[k], slots)?;
+        }
+        Ok(())
+    }
 }
 
-/// Goes through all lists, the last first, and answers how many items it took.
+/// Processes all lists, the last first, and returns how many items were popped.
 fn search_lists<'a>(
     alloc: Global,
     lists: &[&[Row<'_, 'a>]],
@@ -295,32 +303,38 @@ fn search_lists<'a>(
     wanted: &[usize],
     slots: &mut [Option<Answer<'a>>],
 ) -> Result<u128, AllocError>
-    requires bodies { length bodies.now ≡ length slots.old }
-    requires in_bodies { All (λ body. HaveSlots (length slots.old) body.now) bodies.now }
-    requires in_lists { All (λ rows. RowsHaveSlots (length slots.old) rows.now) lists.now }
-    requires in_wanted { All (λ w. w < length slots.old) wanted.now }
-    ensures { IfOk result (λ taken. Searches (bodies_in bodies.now) wanted.now (tasks_of (lists_of lists.now))
-        (answers_in slots.old) (answers_in slots.new) 0 taken) }
+    requires { IsInRange lists.now bodies.now wanted.now (length slots.old) }
+    ensures { IfOk result
+        (λ taken. Searches (plain_bodies bodies.now) wanted.now (tasks_of (plain_lists lists.now))
+        (plain_answers slots.old) (plain_answers slots.new) 0 taken) }
 {
-    let mut stack = Vec::new(alloc);
-    let mut taken = 0;
+    let mut state = SearchState {
+        bodies,
+        wanted,
+        stack: Vec::new(alloc),
+        taken: 0,
+    };
     for k in (0..lists.len()).rev() {
-        search_rows(&mut stack, lists[k], bodies, wanted, slots, &mut taken)?;
+        state.search_rows(lists[k], slots)?;
     }
-    Ok(taken)
+    Ok(state.taken)
 }
 
 /// Empties all slots.
 fn clear(slots: &mut [Option<Answer<'_>>])
-    ensures { answers_in slots.new ≡ no_answers }
+    ensures { plain_answers slots.new ≡ no_answers }
 {
     for slot in slots.iter_mut() {
         *slot = None;
     }
 }
 
-/// Fills the slots, and stops once each wanted attribute has an answer. It answers how many items it
-/// took off its stack. Where memory is refused, no slot keeps an answer.
+/// Fills the slots of attributes, until each wanted attribute has an answer, and returns how many items it popped. The last
+/// list goes first, and in it the last line. A slot that is filled stays as it is.
+///
+/// # Errors
+///
+/// If memory runs out. All slots are empty then.
 pub fn search<'a>(
     alloc: Global,
     lists: &[&[Row<'_, 'a>]],
@@ -330,17 +344,19 @@ pub fn search<'a>(
 ) -> Result<u128, AllocError>
     requires { IsInRange lists.now bodies.now wanted.now (length slots.old) }
 
-    // The slots hold the cut of the only stable table, over the slots before.
-    ensures searched { OnOk result (IsSearched (setting_of lists.now bodies.now) wanted.now
-        (answers_in slots.old) (answers_in slots.new)) }
-    ensures joined { OnOk result (ExtendsCuts (lists_of lists.now) (bodies_in bodies.now) wanted.now
-        (answers_in slots.old) (answers_in slots.new)) }
+    // The slots are the cut of the only stable table, over the slots before.
+    ensures searched { OnOk result (IsSearched (plain_setting lists.now bodies.now) wanted.now
+        (plain_answers slots.old) (plain_answers slots.new)) }
+    ensures joined { OnOk result
+        (ExtendsCuts (plain_lists lists.now) (plain_bodies bodies.now) wanted.now
+        (plain_answers slots.old) (plain_answers slots.new)) }
 
-    // No more is taken than there are items, and no less than there are slots filled.
-    ensures most { IfOk result (λ taken. taken ≤ work_of (setting_of lists.now bodies.now)) }
+    // It pops no more items than there are, and no fewer than it fills slots.
+    ensures most { IfOk result (λ taken. taken ≤ work_of (plain_setting lists.now bodies.now)) }
     ensures least { IfOk result (λ taken.
-        newly_filled (answers_in slots.old) (answers_in slots.new) (length slots.new) ≤ taken) }
-    ensures refused { OnErr result (answers_in slots.new ≡ no_answers) }
+        newly_filled (plain_answers slots.old) (plain_answers slots.new)
+        (length slots.new) ≤ taken) }
+    ensures refused { OnErr result (plain_answers slots.new ≡ no_answers) }
 {
     prove_eq!(bodies.len(), slots.len());
     match search_lists(alloc, lists, bodies, wanted, slots) {

@@ -4,3 +4,4 @@ pub mod WordLaws
 pub mod PrintedLaws
 pub mod LineLemmas
 pub mod LineLaws
+pub mod ForCallers

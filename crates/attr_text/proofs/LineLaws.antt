@@ -1,5 +1,6 @@
 -- The lines that are computed are those that the bytes join, and no others are.
-use Rattle.std.proofs.Common.{◌≡◌, ◌≢◌, ℕ, zero, suc, ◌+◌, ◌-◌, ◌<◌, ◌≤◌, ◌⊎◌, true, false, not, List, [], ◌∷◌, ◌++◌, length, take, drop, get_or, map, refl, sym, ap, ◌∙◌, append_assoc, add-zero, arith, ⊎_elim, inl, inr, subst, length-append, eqb, ltb}
+use Rattle.std.proofs.Common.{◌≡◌, ◌≢◌, ℕ, zero, suc, ◌+◌, ◌-◌, ◌<◌, ◌≤◌, ◌⊎◌, true, false, not, List, [], ◌∷◌, ◌++◌, length, take, drop, get_or, map}
+use Rattle.std.proofs.Common.{refl, sym, ap, ◌∙◌, append_assoc, add-zero, arith, ⊎_elim, inl, inr, subst, length-append, eqb, ltb}
 use Rattle.std.specs.List.{list_all}
 use Rattle.std.proofs.Math.Seq.{take-append_seam, take-append-add, drop-append-add}
 use Rattle.std.proofs.lemmas.List.{take_all, drop_all, get_or-append-add, get_or_append_left}
@@ -8,7 +9,7 @@ use Rattle.std.proofs.lemmas.List.Folds.{list_all-append}
 use Rattle.std.proofs.lemmas.Bool.{cases_Bool, cases_eq, and_parts, and_from, not-true, eqb-true, eqb-false, ne_eqb, lt-ltb}
 use Rattle.bstr.specs.Text.{line_len, lines_of, no_cr, without_terminator}
 use Rattle.bstr.proofs.lemmas.LineLemmas.{line_len-at, line_len-none, lines-step, lines-nil}
-use Rattle.attr_text.specs.LineResults.{marks, without_front, lines_in}
+use Rattle.attr_text.specs.LineResults.{byte_order_marks, without_front, lines_in}
 use Rattle.attr_text.specs.LinesJoined.{line_feed, carriage_return, IsLine, EndsNoReturn, AreLines}
 
 -- the lines of some bytes, without their ends
@@ -16,7 +17,8 @@ abbrev stripped : List ℕ → List (List ℕ)
 stripped bytes = map without_terminator (lines_of bytes)
 
 no_feed : (line : List ℕ) → IsLine line → (k : ℕ) → k < length line → get_or line k 0 ≢ line_feed
-no_feed line is k below = eqb-false (get_or line k 0) line_feed (not-true (eqb (get_or line k 0) line_feed) (AllPass-from_list_all (λ b. not (eqb b line_feed)) line is k 0 below))
+no_feed line is k below = eqb-false (get_or line k 0) line_feed (not-true (eqb (get_or line k 0) line_feed)
+    (AllPass-from_list_all (λ b. not (eqb b line_feed)) line is k 0 below))
 
 -- the last byte of a list with one more byte at its end
 last-push : (front : List ℕ) (b : ℕ) → get_or (front ++ b ∷ []) (length (front ++ b ∷ []) - 1) 0 ≡ b
@@ -50,8 +52,10 @@ fed : (front rest : List ℕ) → IsLine front → stripped (front ++ line_feed 
 fed front rest is =
     let bytes = front ++ line_feed ∷ rest in
     let longer = length-append front (line_feed ∷ rest) in
-    let at : get_or bytes (length front) 0 ≡ line_feed = ap (λ n. get_or bytes n 0) (sym (add-zero (length front))) ∙ get_or-append-add front (line_feed ∷ rest) 0 0 in
-    let before = λ (k : ℕ) (below : k < length front). subst (λ (b : ℕ). b ≢ line_feed) (sym (get_or_append_left front (line_feed ∷ rest) 0 k below)) (no_feed front is k below) in
+    let at : get_or bytes (length front) 0 ≡ line_feed = ap (λ n. get_or bytes n 0) (sym (add-zero (length front))) ∙ get_or-append-add front
+    (line_feed ∷ rest) 0 0 in
+    let before = λ (k : ℕ) (below : k < length front). subst (λ (b : ℕ). b ≢ line_feed) (sym (get_or_append_left front (line_feed ∷ rest) 0 k below))
+    (no_feed front is k below) in
     let len : line_len bytes ≡ length front + 1 = line_len-at bytes (length front) (omega arith) at before in
     ap (map without_terminator) (lines-step bytes (omega arith))
     ∙ (ap (λ n. without_terminator (take n bytes) ∷ stripped (drop n bytes)) len
@@ -74,7 +78,8 @@ unfed line is some =
     ∙ ap (λ l. l ∷ []) (without-none line is some)))))
 
 is_line-return : (line : List ℕ) → IsLine line → IsLine (line ++ carriage_return ∷ [])
-is_line-return line is = list_all-append (λ b. not (eqb b line_feed)) line (carriage_return ∷ []) ∙ and_from (list_all (λ b. not (eqb b line_feed)) line) true is refl
+is_line-return line is = list_all-append (λ b. not (eqb b line_feed)) line (carriage_return ∷ []) ∙ and_from
+    (list_all (λ b. not (eqb b line_feed)) line) true is refl
 
 joined_lines : (bytes : List ℕ) (lines : List (List ℕ)) → AreLines bytes lines → lines ≡ stripped bytes
 joined_lines bytes [] none = sym (ap stripped none ∙ ap (map without_terminator) lines-nil)
@@ -82,7 +87,8 @@ joined_lines bytes (line ∷ others) (is, how) = ⊎_elim
     (λ (w : (rest : List ℕ) × (bytes ≡ line ++ line_feed ∷ rest) × EndsNoReturn line × AreLines rest others).
     sym (ap stripped w.1 ∙ (fed line w.0 is ∙ (ap (λ l. l ∷ stripped w.0) (no_cr-none line w.2)
     ∙ ap (λ l. line ∷ l) (sym (joined_lines w.0 others w.3))))))
-    (λ (other : ((rest : List ℕ) × (bytes ≡ line ++ carriage_return ∷ line_feed ∷ rest) × AreLines rest others) ⊎ ((bytes ≡ line) × (0 < length line) × (others ≡ []))).
+    (λ (other : ((rest : List ℕ) × (bytes ≡ line ++ carriage_return ∷ line_feed ∷ rest) × AreLines rest others) ⊎
+    ((bytes ≡ line) × (0 < length line) × (others ≡ []))).
     ⊎_elim
     (λ (w : (rest : List ℕ) × (bytes ≡ line ++ carriage_return ∷ line_feed ∷ rest) × AreLines rest others).
     sym (ap stripped (w.1 ∙ sym (append_assoc line (carriage_return ∷ []) (line_feed ∷ w.0)))
@@ -93,7 +99,7 @@ joined_lines bytes (line ∷ others) (is, how) = ⊎_elim
     other)
     how
 
--- bytes without a line feed, or bytes up to the first one and what stands behind it
+-- bytes without a line feed, or bytes up to the first one and the bytes after it
 Fed : List ℕ → Type 0
 Fed bytes = IsLine bytes ⊎ ((front : List ℕ) × (rest : List ℕ) × (bytes ≡ front ++ line_feed ∷ rest) × IsLine front)
 
@@ -140,9 +146,11 @@ returned_of (b ∷ c ∷ bs) = returned-more b c bs (returned_of (c ∷ bs))
 
 is_line-front : (line : List ℕ) → IsLine (line ++ carriage_return ∷ []) → IsLine line
 is_line-front line is =
-    (and_parts (list_all (λ b. not (eqb b line_feed)) line) true (sym (list_all-append (λ b. not (eqb b line_feed)) line (carriage_return ∷ [])) ∙ is)).0
+    (and_parts (list_all (λ b. not (eqb b line_feed)) line) true (sym (list_all-append (λ b. not (eqb b line_feed)) line (carriage_return ∷ [])) ∙
+    is)).0
 
-join-fed : (front rest : List ℕ) → IsLine front → AreLines rest (stripped rest) → AreLines (front ++ line_feed ∷ rest) (stripped (front ++ line_feed ∷ rest))
+join-fed : (front rest : List ℕ) → IsLine front → AreLines rest (stripped rest) → AreLines (front ++ line_feed ∷ rest)
+    (stripped (front ++ line_feed ∷ rest))
 unfolding Returned
 join-fed front rest is others = ⊎_elim
     (λ (ends : EndsNoReturn front).
@@ -176,8 +184,8 @@ stripped_joins (suc fuel) bytes enough = ⊎_elim
     subst (λ (l : List ℕ). AreLines l (stripped l)) (sym w.2) (join-fed w.0 w.1 w.3 (stripped_joins fuel w.1 (omega arith))))
     (fed_of bytes)
 
-pub lines_are_joined : (bytes : List ℕ) → AreLines (without_front marks bytes) (lines_in bytes)
-lines_are_joined bytes = stripped_joins (length (without_front marks bytes)) (without_front marks bytes) (omega arith)
+pub lines_are_joined : (bytes : List ℕ) → AreLines (without_front byte_order_marks bytes) (lines_in bytes)
+lines_are_joined bytes = stripped_joins (length (without_front byte_order_marks bytes)) (without_front byte_order_marks bytes) (omega arith)
 
-pub joined_are_lines : (bytes : List ℕ) (lines : List (List ℕ)) → AreLines (without_front marks bytes) lines → lines ≡ lines_in bytes
-joined_are_lines bytes lines are = joined_lines (without_front marks bytes) lines are
+pub joined_are_lines : (bytes : List ℕ) (lines : List (List ℕ)) → AreLines (without_front byte_order_marks bytes) lines → lines ≡ lines_in bytes
+joined_are_lines bytes lines are = joined_lines (without_front byte_order_marks bytes) lines are

@@ -1,5 +1,7 @@
 -- A printed assignment is one word, which reads as the same assignment.
-use Rattle.std.proofs.Common.{◌≡◌, ℕ, ◌+◌, ◌<◌, Bool, true, false, not, ◌&&◌, cond, List, [], ◌∷◌, ◌++◌, length, take, get_or, map, position, Option, Some, None, Ok, IsTrue, IsUtf8, encode_utf8_all, refl, sym, ap, ◌∙◌, arith, subst, eqb, ltb, add-zero, zero-add, length-append}
+use Rattle.std.proofs.Common.{◌≡◌, ℕ, ◌+◌, ◌<◌, Bool, true, false, not, ◌&&◌, cond, List, [], ◌∷◌, ◌++◌, length, take, get_or, map, position, Option}
+use Rattle.std.proofs.Common.{Some, None, Ok, IsTrue, IsUtf8, encode_utf8_all, refl, sym, ap, ◌∙◌, arith, subst, eqb, ltb, add-zero, zero-add}
+use Rattle.std.proofs.Common.{length-append}
 use Rattle.std.specs.List.{position_or_len, before_first, list_all}
 use Rattle.std.proofs.Math.Seq.{take-append_seam, drop-append-add}
 use Rattle.std.proofs.lemmas.List.{append-nil, take_all}
@@ -9,8 +11,8 @@ use Rattle.std.proofs.lemmas.Bool.Decides.{nat_tests}
 use Rattle.std.proofs.lemmas.Str.{utf8_lossy-IsUtf8}
 use Rattle.bstr.proofs.lemmas.LossyLemmas.{lossy_chars-utf8_lossy}
 use Rattle.bstr.specs.Utf8.{lossy_chars}
-use Rattle.attr_glob.specs.Bytes.{exclamation_mark}
-use Rattle.attr_text.specs.Names.{minus, is_name_byte, is_valid_name, is_reserved_name}
+use Rattle.attr_glob.specs.Bytes.{exclamation_mark, hyphen}
+use Rattle.attr_text.specs.Names.{is_name_byte, is_valid_name, is_reserved_name}
 use Rattle.attr_text.specs.Items.{equals, is_equals, is_blank, words, checked_name, with_state, state_from, item_of, items_of, printed_state, printed}
 use Rattle.attr_text.specs.Words.{IsPlain}
 use Rattle.attr_text.specs.declared.state.State.{State}
@@ -18,7 +20,7 @@ use Rattle.attr_text.specs.declared.state.State.TheVariants.{Set, Unset, Value, 
 use Rattle.attr_text.specs.declared.assignment.Assignment.{Assignment}
 use Rattle.attr_text.proofs.WordLaws.{words-run}
 
--- what holds of each byte of a list by one test holds by a weaker one
+-- bytes that pass a test pass a weaker one
 list_all-weaker : (p q : ℕ → Bool) → ((b : ℕ) → p b ≡ true → q b ≡ true) → (bs : List ℕ) → list_all p bs ≡ true → list_all q bs ≡ true
 list_all-weaker p q weaker [] all = refl
 list_all-weaker p q weaker (b ∷ bs) all =
@@ -34,7 +36,7 @@ name_byte_not_equals b e = grind (arith, nat_tests)
 name_byte_not_bang : (b : ℕ) → is_name_byte b ≡ true → eqb b exclamation_mark ≡ false
 name_byte_not_bang b e = grind (arith, nat_tests)
 
--- a list that begins with bytes that fail a test has its first place behind them
+-- if a list begins with bytes that fail a test, the first that passes it comes after them
 place-behind : (p : ℕ → Bool) (xs ys : List ℕ) → list_all (λ b. not (p b)) xs ≡ true → position_or_len p (xs ++ ys) ≡ length xs + position_or_len p ys
 place-behind p [] ys none = sym (zero-add (position_or_len p ys))
 place-behind p (x ∷ xs) ys none =
@@ -43,11 +45,12 @@ place-behind p (x ∷ xs) ys none =
     rw both.0 (omega (arith, rest))
 
 -- the parts of a name
-name-parts : (name : List ℕ) → is_valid_name name ≡ true → (0 < length name) × (eqb (get_or name 0 0) minus ≡ false) × (list_all is_name_byte name ≡ true)
+name-parts : (name : List ℕ) → is_valid_name name ≡ true → (0 < length name) × (eqb (get_or name 0 0) hyphen ≡ false) ×
+    (list_all is_name_byte name ≡ true)
 name-parts name valid =
-    let two = and_parts (ltb 0 (length name) && not (eqb (get_or name 0 0) minus)) (list_all is_name_byte name) valid in
-    let front = and_parts (ltb 0 (length name)) (not (eqb (get_or name 0 0) minus)) two.0 in
-    (ltb-true 0 (length name) front.0, not-true (eqb (get_or name 0 0) minus) front.1, two.1)
+    let two = and_parts (ltb 0 (length name) && not (eqb (get_or name 0 0) hyphen)) (list_all is_name_byte name) valid in
+    let front = and_parts (ltb 0 (length name)) (not (eqb (get_or name 0 0) hyphen)) two.0 in
+    (ltb-true 0 (length name) front.0, not-true (eqb (get_or name 0 0) hyphen) front.1, two.1)
 
 first-not_bang : (name : List ℕ) → 0 < length name → list_all is_name_byte name ≡ true → eqb (get_or name 0 0) exclamation_mark ≡ false
 first-not_bang [] some all = absurd (omega arith)
@@ -68,18 +71,21 @@ printed-value name bytes utf8 = ap (λ shown. name ++ equals ∷ shown) (lossy-p
 one_word : (text : List ℕ) → list_all (λ b. not (is_blank b)) text ≡ true → 0 < length text → words text ≡ text ∷ []
 one_word text none some = ap words (sym (append-nil text)) ∙ words-run text [] none some tt
 
-value-not_blank : (name bytes : List ℕ) → list_all is_name_byte name ≡ true → list_all (λ b. not (is_blank b)) bytes ≡ true → list_all (λ b. not (is_blank b)) (name ++ equals ∷ bytes) ≡ true
+value-not_blank : (name bytes : List ℕ) → list_all is_name_byte name ≡ true → list_all (λ b. not (is_blank b)) bytes ≡ true → list_all
+    (λ b. not (is_blank b)) (name ++ equals ∷ bytes) ≡ true
 value-not_blank name bytes all none =
     list_all-append (λ b. not (is_blank b)) name (equals ∷ bytes)
     ∙ and_from (list_all (λ b. not (is_blank b)) name) (list_all (λ b. not (is_blank b)) bytes) (no_blank name all) none
 
-state-is_word : (name : List ℕ) (state : State) → is_valid_name name ≡ true → IsPlain state → words (printed_state name state) ≡ printed_state name state ∷ []
+state-is_word : (name : List ℕ) (state : State) → is_valid_name name ≡ true → IsPlain state → words (printed_state name state) ≡ printed_state name
+    state ∷ []
 state-is_word name Set valid plain = one_word name (no_blank name (name-parts name valid).2) (name-parts name valid).0
-state-is_word name Unset valid plain = one_word (minus ∷ name) (no_blank name (name-parts name valid).2) (omega arith)
+state-is_word name Unset valid plain = one_word (hyphen ∷ name) (no_blank name (name-parts name valid).2) (omega arith)
 state-is_word name Unspecified valid plain = one_word (exclamation_mark ∷ name) (no_blank name (name-parts name valid).2) (omega arith)
 state-is_word name (Value bytes) valid plain =
     subst (λ (t : List ℕ). words t ≡ t ∷ []) (sym (printed-value name bytes plain.0))
-    (one_word (name ++ equals ∷ bytes) (value-not_blank name bytes (name-parts name valid).2 plain.1) (let both = length-append name (equals ∷ bytes) in omega arith))
+    (one_word (name ++ equals ∷ bytes) (value-not_blank name bytes (name-parts name valid).2 plain.1)
+    (let both = length-append name (equals ∷ bytes) in omega arith))
 
 pub printed_is_word : (a : Assignment) → IsTrue (is_valid_name a.name) → IsPlain a.state → words (printed a) ≡ printed a ∷ []
 printed_is_word a valid plain = state-is_word a.name a.state valid plain
@@ -89,7 +95,8 @@ checked-name name valid free = rw (valid, free) refl
 
 before-equals : (name rest : List ℕ) → list_all (λ b. not (is_equals b)) name ≡ true → before_first is_equals (name ++ equals ∷ rest) ≡ name
 before-equals name rest none =
-    let place : position_or_len is_equals (name ++ equals ∷ rest) ≡ length name = place-behind is_equals name (equals ∷ rest) none ∙ add-zero (length name) in
+    let place : position_or_len is_equals (name ++ equals ∷ rest) ≡ length name = place-behind is_equals name (equals ∷ rest) none ∙ add-zero
+    (length name) in
     ap (λ n. take n (name ++ equals ∷ rest)) place ∙ take-append_seam name (equals ∷ rest)
 
 before-no_equals : (name : List ℕ) → list_all (λ b. not (is_equals b)) name ≡ true → position_or_len is_equals name ≡ length name
@@ -97,17 +104,19 @@ before-no_equals name none = ap (position_or_len is_equals) (sym (append-nil nam
 
 -- a word whose part before the first `=` is this name, with no sign in front
 item-plain : (word name : List ℕ) (place : Option ℕ) → before_first is_equals word ≡ name → position is_equals word ≡ place
-    → eqb (get_or name 0 0) minus ≡ false → eqb (get_or name 0 0) exclamation_mark ≡ false
+    → eqb (get_or name 0 0) hyphen ≡ false → eqb (get_or name 0 0) exclamation_mark ≡ false
     → item_of word ≡ with_state (checked_name name) (state_from word place)
 item-plain word name place before at no_minus no_bang = rw (before, at, no_minus, no_bang) refl
 
-item-unset : (word name : List ℕ) → before_first is_equals word ≡ minus ∷ name → item_of word ≡ with_state (checked_name name) Unset
+item-unset : (word name : List ℕ) → before_first is_equals word ≡ hyphen ∷ name → item_of word ≡ with_state (checked_name name) Unset
 item-unset word name before = rw before refl
 
-item-unspecified : (word name : List ℕ) → before_first is_equals word ≡ exclamation_mark ∷ name → item_of word ≡ with_state (checked_name name) Unspecified
+item-unspecified : (word name : List ℕ) → before_first is_equals word ≡ exclamation_mark ∷ name → item_of word ≡ with_state (checked_name name)
+    Unspecified
 item-unspecified word name before = rw before refl
 
-with-checked : (name : List ℕ) (state : State) → is_valid_name name ≡ true → is_reserved_name name ≡ false → with_state (checked_name name) state ≡ Ok (record { name = name; state = state })
+with-checked : (name : List ℕ) (state : State) → is_valid_name name ≡ true → is_reserved_name name ≡ false → with_state (checked_name name) state ≡ Ok
+    (record { name = name; state = state })
 with-checked name state valid free = ap (λ checked. with_state checked state) (checked-name name valid free)
 
 before-whole : (name : List ℕ) → list_all (λ b. not (is_equals b)) name ≡ true → before_first is_equals name ≡ name
@@ -126,7 +135,8 @@ place-equals name rest none =
     ap (λ n. cond (ltb n (length word)) (Some n) None) place
     ∙ ap (λ t. cond t (Some (length name)) None) (lt-ltb (length name) (length word) (omega arith))
 
-value-reads : (name bytes : List ℕ) → is_valid_name name ≡ true → is_reserved_name name ≡ false → item_of (name ++ equals ∷ bytes) ≡ Ok (record { name = name; state = Value bytes })
+value-reads : (name bytes : List ℕ) → is_valid_name name ≡ true → is_reserved_name name ≡ false → item_of (name ++ equals ∷ bytes) ≡ Ok
+    (record { name = name; state = Value bytes })
 value-reads name bytes valid free =
     let parts = name-parts name valid in
     let none : list_all (λ b. not (is_equals b)) name ≡ true = no_equals name parts.2 in
@@ -135,19 +145,22 @@ value-reads name bytes valid free =
     ∙ (ap (λ rest. with_state (checked_name name) (Value rest)) (drop-append-add name (equals ∷ bytes) 1)
     ∙ with-checked name (Value bytes) valid free)
 
-state-reads : (name : List ℕ) (state : State) → is_valid_name name ≡ true → is_reserved_name name ≡ false → IsPlain state → item_of (printed_state name state) ≡ Ok (record { name = name; state = state })
+state-reads : (name : List ℕ) (state : State) → is_valid_name name ≡ true → is_reserved_name name ≡ false → IsPlain state → item_of
+    (printed_state name state) ≡ Ok (record { name = name; state = state })
 state-reads name Set valid free plain =
     let parts = name-parts name valid in
     let none : list_all (λ b. not (is_equals b)) name ≡ true = no_equals name parts.2 in
     item-plain name name None (before-whole name none) (no_place name none) parts.1 (first-not_bang name parts.0 parts.2)
     ∙ with-checked name Set valid free
 state-reads name Unset valid free plain =
-    item-unset (minus ∷ name) name (before-whole (minus ∷ name) (no_equals name (name-parts name valid).2)) ∙ with-checked name Unset valid free
+    item-unset (hyphen ∷ name) name (before-whole (hyphen ∷ name) (no_equals name (name-parts name valid).2)) ∙ with-checked name Unset valid free
 state-reads name Unspecified valid free plain =
-    item-unspecified (exclamation_mark ∷ name) name (before-whole (exclamation_mark ∷ name) (no_equals name (name-parts name valid).2)) ∙ with-checked name Unspecified valid free
+    item-unspecified (exclamation_mark ∷ name) name (before-whole (exclamation_mark ∷ name) (no_equals name (name-parts name valid).2)) ∙ with-checked
+    name Unspecified valid free
 state-reads name (Value bytes) valid free plain =
     ap item_of (printed-value name bytes plain.0) ∙ value-reads name bytes valid free
 
-pub printed_reads : (a : Assignment) → IsTrue (is_valid_name a.name) → is_reserved_name a.name ≡ false → IsPlain a.state → items_of (printed a) ≡ Ok a ∷ []
+pub printed_reads : (a : Assignment) → IsTrue (is_valid_name a.name) → is_reserved_name a.name ≡ false → IsPlain a.state → items_of (printed a) ≡ Ok a
+    ∷ []
 printed_reads a valid free plain =
     ap (map item_of) (printed_is_word a valid plain) ∙ ap (λ item. item ∷ []) (state-reads a.name a.state valid free plain)

@@ -1,5 +1,6 @@
 -- The words that are computed are the longest runs of bytes that are not blanks.
-use Rattle.std.proofs.Common.{◌≡◌, ℕ, zero, suc, ◌<◌, ◌≤◌, ◌⊎◌, true, false, not, List, [], ◌∷◌, ◌++◌, length, get_or, filter, refl, sym, ap, ◌∙◌, arith, ⊎_elim, inl, inr, subst, length-append}
+use Rattle.std.proofs.Common.{◌≡◌, ℕ, zero, suc, ◌<◌, ◌≤◌, ◌⊎◌, true, false, not, List, [], ◌∷◌, ◌++◌, length, get_or, filter, refl, sym, ap, ◌∙◌}
+use Rattle.std.proofs.Common.{arith, ⊎_elim, inl, inr, subst, length-append}
 use Rattle.std.specs.List.{slice_split, list_all, All}
 use Rattle.std.proofs.lemmas.List.{append-nil}
 use Rattle.std.proofs.lemmas.List.Splits.{slice_split_none, slice_split_at}
@@ -23,7 +24,8 @@ words-blanks (b ∷ gap) text blanks =
     let both = and_parts (is_blank b) (list_all is_blank gap) blanks in
     words-blank b (gap ++ text) both.0 ∙ words-blanks gap text both.1
 
-pub words-run : (word rest : List ℕ) → list_all (λ b. not (is_blank b)) word ≡ true → 0 < length word → EndsRun rest → words (word ++ rest) ≡ word ∷ words rest
+pub words-run : (word rest : List ℕ) → list_all (λ b. not (is_blank b)) word ≡ true → 0 < length word → EndsRun rest → words (word ++ rest) ≡ word ∷
+    words rest
 words-run word [] run some longest =
     simp append-nil (ap (filter is_some_text) (slice_split_none is_blank word (none_blank word run)) ∙ filter-some word [] (some_text word some))
 words-run word (b ∷ rest) run some longest =
@@ -43,7 +45,7 @@ runs_are_words text [] blanks = sym (words-all_blank text blanks)
 runs_are_words text (word ∷ others) (gap, rest, begins, after) =
     ap (λ more. word ∷ more) (runs_are_words rest others after) ∙ sym (words-begins text gap word rest begins)
 
--- a run and what stands behind it
+-- a run and the text after it
 Run : List ℕ → Type 0
 Run text = (run : List ℕ) × (rest : List ℕ) × (text ≡ run ++ rest) × (list_all (λ b. not (is_blank b)) run ≡ true) × EndsRun rest
 

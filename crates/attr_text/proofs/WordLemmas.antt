@@ -1,5 +1,6 @@
--- The words of a text are its first word, and the words of what stands behind it.
-use Rattle.std.proofs.Common.{◌≡◌, ℕ, suc, ◌+◌, ◌<◌, ◌≤◌, ◌⊎◌, Bool, true, false, not, List, [], ◌∷◌, length, take, drop, get_or, filter, position, unwrap_or, refl, sym, ap, ◌∙◌, add-one, drop-cons, arith, ⊎_elim, inl, inr, subst}
+-- The words of a text are its first word, and the words of the text after it.
+use Rattle.std.proofs.Common.{◌≡◌, ℕ, suc, ◌+◌, ◌<◌, ◌≤◌, ◌⊎◌, Bool, true, false, not, List, [], ◌∷◌, length, take, drop, get_or, filter, position}
+use Rattle.std.proofs.Common.{unwrap_or, refl, sym, ap, ◌∙◌, add-one, drop-cons, arith, ⊎_elim, inl, inr, subst}
 use Rattle.std.specs.List.{position_or_len, slice_split, after_first, prefix_len}
 use Rattle.std.proofs.lemmas.List.Splits.{slice_split-cons_yes, slice_split_first, slice_split_none}
 use Rattle.std.proofs.lemmas.List.Sums.{prefix_len-le-length, fails_before_first, passes_at_first}
@@ -11,7 +12,8 @@ use Rattle.attr_text.specs.Items.{is_blank, is_some_text, words, after_blanks, b
 pub place_of_first : {X : Type 0} (p : X → Bool) (xs : List X) → unwrap_or (position p xs) (length xs) ≡ position_or_len p xs
 place_of_first p xs = ⊎_elim
     (λ (h : position_or_len p xs < length xs). rw (lt-ltb (position_or_len p xs) (length xs) h) refl)
-    (λ (h : length xs ≤ position_or_len p xs). rw (le-ltb (position_or_len p xs) (length xs) h) (let m : position_or_len p xs ≤ length xs = prefix_len-le-length (λ x. not (p x)) xs in omega arith))
+    (λ (h : length xs ≤ position_or_len p xs). rw (le-ltb (position_or_len p xs) (length xs) h)
+    (let m : position_or_len p xs ≤ length xs = prefix_len-le-length (λ x. not (p x)) xs in omega arith))
     (cases_lt (position_or_len p xs) (length xs))
 
 pub place_in_text : {X : Type 0} (p : X → Bool) (xs : List X) → position_or_len p xs ≤ length xs
@@ -39,7 +41,8 @@ words-after_blanks (b ∷ bs) = ⊎_elim
     (λ (e : is_blank b ≡ false). ap words (after_blanks-other b bs e))
     (cases_Bool (is_blank b))
 
-pub filter-some : (first : List ℕ) (others : List (List ℕ)) → is_some_text first ≡ true → filter is_some_text (first ∷ others) ≡ first ∷ filter is_some_text others
+pub filter-some : (first : List ℕ) (others : List (List ℕ)) → is_some_text first ≡ true → filter is_some_text (first ∷ others) ≡ first ∷ filter
+    is_some_text others
 filter-some first others e = rw e refl
 
 words-from_blank : (text : List ℕ) → position_or_len is_blank text < length text → words (from_blank text) ≡ words (after_first is_blank text)
@@ -49,13 +52,15 @@ words-from_blank text h =
     ∙ (words-blank (get_or text place 0) (drop (suc place) text) (passes_at_first is_blank text 0 h)
     ∙ ap (λ n. words (drop n text)) (sym (add-one place)))
 
-words-first_of_more : (text : List ℕ) → position_or_len is_blank text < length text → is_some_text (before_blank text) ≡ true → words text ≡ before_blank text ∷ words (from_blank text)
+words-first_of_more : (text : List ℕ) → position_or_len is_blank text < length text → is_some_text (before_blank text) ≡ true → words text ≡
+    before_blank text ∷ words (from_blank text)
 words-first_of_more text h e =
     ap (filter is_some_text) (slice_split_first is_blank text 0 h)
     ∙ (filter-some (before_blank text) (slice_split is_blank (after_first is_blank text)) e
     ∙ ap (λ others. before_blank text ∷ others) (sym (words-from_blank text h)))
 
-words-first_alone : (text : List ℕ) → length text ≤ position_or_len is_blank text → is_some_text (before_blank text) ≡ true → words text ≡ before_blank text ∷ words (from_blank text)
+words-first_alone : (text : List ℕ) → length text ≤ position_or_len is_blank text → is_some_text (before_blank text) ≡ true → words text ≡
+    before_blank text ∷ words (from_blank text)
 words-first_alone text h e =
     let whole : before_blank text ≡ text = take_all (position_or_len is_blank text) text h in
     let nothing : from_blank text ≡ [] = drop_all (position_or_len is_blank text) text h in
@@ -63,7 +68,7 @@ words-first_alone text h e =
     ∙ (filter-some text [] (ap is_some_text (sym whole) ∙ e)
     ∙ (ap (λ first. first ∷ []) (sym whole) ∙ ap (λ rest. before_blank text ∷ words rest) (sym nothing)))
 
--- the words of a text are what stands before its first blank, if it is some text, and the words from there on
+-- the words of a text are the text before its first blank, if there is some, and the words from there on
 pub words-first : (text : List ℕ) → is_some_text (before_blank text) ≡ true → words text ≡ before_blank text ∷ words (from_blank text)
 words-first text e = ⊎_elim
     (λ (h : position_or_len is_blank text < length text). words-first_of_more text h e)
@@ -89,7 +94,7 @@ before_blank-some : (text : List ℕ) → BeginsWord text → is_some_text (befo
 unfolding BeginsWord
 before_blank-some text (b, bs, e, other) = ap (λ t. is_some_text (before_blank t)) e ∙ before_blank-other b bs other
 
--- the step of the iterator: behind the blanks in front the text begins with a word, unless nothing is left
+-- the step of the iterator: after the blanks in front the text begins with a word, unless nothing is left
 pub words-step : (text rest : List ℕ) → rest ≡ after_blanks text → 0 < length rest → words text ≡ before_blank rest ∷ words (from_blank rest)
 words-step text rest e some = ⊎_elim
     (λ (nothing : after_blanks text ≡ []). let gone : length rest ≡ 0 = ap length (e ∙ nothing) in absurd (omega arith))

@@ -6,3 +6,4 @@ pub mod Words
 pub mod LineResults
 pub mod LinesJoined
 pub mod TextViews
+pub mod inner

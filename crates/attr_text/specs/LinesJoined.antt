@@ -1,5 +1,4 @@
--- The lines of a buffer, said of the whole buffer (own): a line ends at a line feed, and a carriage
--- return directly before that belongs to the end.
+-- The lines of a buffer (own): a line ends at a line feed, and a carriage return directly before it belongs to the end.
 use Rattle.std.specs.Prelude.{◌≡◌, ◌≢◌, ℕ, ◌-◌, ◌<◌, true, not, ◌==◌, ◌⊎◌, List, [], ◌∷◌, ◌++◌, length, slice_index}
 use Rattle.std.specs.List.{list_all}
 
@@ -13,12 +12,12 @@ carriage_return = 13
 abbrev pub IsLine : List ℕ → Type 0
 IsLine line = list_all (λ b. not (b == line_feed)) line ≡ true
 
--- a carriage return at its end would be of the line's end
+-- a carriage return at its end would belong to the end
 abbrev pub EndsNoReturn : List ℕ → Type 0
 EndsNoReturn line = 0 < length line → slice_index line (length line - 1) ≢ carriage_return
 
--- The bytes are the lines joined by their ends, a line feed or a carriage return and a line feed,
--- the longer where it fits. The last line may have no end, and is not empty then.
+-- The bytes are the lines joined by their ends: a carriage return and a line feed, or a line feed alone. The last line may have
+-- no end, and is not empty then.
 abbrev pub AreLines : List ℕ → List (List ℕ) → Type 0
 AreLines bytes [] = bytes ≡ []
 AreLines bytes (line ∷ others) = IsLine line

@@ -10,7 +10,7 @@ is_set Unset = false
 is_set (Value bytes) = true
 is_set Unspecified = false
 
--- the bytes of a value, and none of any other state
+-- the bytes of the value, if the state has one
 abbrev pub value_of : State → Option (List ℕ)
 value_of Set = None
 value_of Unset = None

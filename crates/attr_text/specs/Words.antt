@@ -1,5 +1,4 @@
--- The words of a text, said of the whole text: the gitattributes page parts the items of a line
--- by white space.
+-- The words of a text: the gitattributes page separates the items of a line by white space.
 use Rattle.std.specs.Prelude.{◌≡◌, ℕ, ◌<◌, true, not, List, [], ◌∷◌, ◌++◌, length}
 use Rattle.std.specs.List.{list_all}
 use Rattle.std.specs.Str.{IsUtf8}
@@ -25,7 +24,7 @@ abbrev pub AreWords : List ℕ → List (List ℕ) → Type 0
 AreWords text [] = list_all is_blank text ≡ true
 AreWords text (word ∷ others) = (gap : List ℕ) × (rest : List ℕ) × BeginsWith text gap word rest × AreWords rest others
 
--- a value, where the state has one, is UTF-8 and holds no blank
+-- the value, if the state has one, is UTF-8 without blanks
 abbrev pub IsPlain : State → Type 0
 IsPlain Set = Unit {0}
 IsPlain Unset = Unit {0}

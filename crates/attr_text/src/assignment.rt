@@ -6,30 +6,34 @@ use std::alloc::{AllocError, Global};
 use std::default::MadeWith;
 use std::fmt;
 
-/// A name and the state that is assigned to it.
+/// An attribute's name and the state that is assigned to it.
 #[derive(PartialEq, Eq, PartialOrd, Ord, Hash, Debug, Drop)]
 pub struct Assignment {
-    /// The attribute.
+    /// The name of the attribute.
     pub name: Name,
-    /// What is said of it.
+    /// The state that it gets.
     pub state: State,
 }
 
-/// A name and the state that is assigned to it, lent.
+/// A reference to an attribute's name and to the state that is assigned to it.
 #[derive(Clone, Copy, PartialEq, Eq, PartialOrd, Ord, Hash, Debug)]
 pub struct AssignmentRef<'a> {
-    /// The attribute.
+    /// The name of the attribute.
     pub name: NameRef<'a>,
-    /// What is said of it.
+    /// The state that it gets.
     pub state: StateRef<'a>,
 }
 
 impl<'a> AssignmentRef<'a> {
-    ghost use Rattle.attr_text.specs.TextViews.{assigned};
+    ghost use Rattle.attr_text.specs.TextViews.{assignment_view};
 
     /// The assignment with a name and a value of its own.
+    ///
+    /// # Errors
+    ///
+    /// If memory runs out.
     pub fn to_owned(self, alloc: Global) -> Result<Assignment, AllocError>
-        ensures { IfOk result (λ a. a ≡ assigned self.entry) }
+        ensures { IfOk result (λ a. a ≡ assignment_view self.entry) }
     {
         Ok(Assignment {
             name: self.name.to_owned(alloc)?,
@@ -39,11 +43,11 @@ impl<'a> AssignmentRef<'a> {
 }
 
 impl Assignment {
-    ghost use Rattle.attr_text.specs.TextViews.{assigned};
+    ghost use Rattle.attr_text.specs.TextViews.{assignment_view};
 
-    /// The assignment, lent.
+    /// A reference to the assignment.
     pub fn as_ref(&self) -> AssignmentRef<'_>
-        ensures { assigned result ≡ self.now }
+        ensures { assignment_view result ≡ self.now }
     {
         AssignmentRef {
             name: self.name.as_ref(),
@@ -51,7 +55,11 @@ impl Assignment {
         }
     }
 
-    /// A copy with a name and a value of its own.
+    /// A copy, which shares the text of the name and has a value of its own.
+    ///
+    /// # Errors
+    ///
+    /// If memory runs out.
     pub fn clone(&self, alloc: Global) -> Result<Assignment, AllocError>
         ensures { IfOk result (λ copy. copy ≡ self.now) }
     {
@@ -86,13 +94,13 @@ impl Clone for Assignment {
     }
 }
 
-/// As an attributes file spells the assignment: `name`, `-name`, `name=value` or `!name`, with
-/// U+FFFD for each part of a value that is no UTF-8.
+/// The assignment as an attributes file spells it: `name`, `-name`, `name=value` or `!name`, with U+FFFD for each part of a
+/// value that is not UTF-8.
 impl<'a> fmt::Display for AssignmentRef<'a> {
-    ghost use Rattle.attr_text.specs.TextViews.{assigned};
+    ghost use Rattle.attr_text.specs.TextViews.{assignment_view};
     ghost use Rattle.attr_text.specs.Items.{printed};
 
-    ghost output = { λ a. Some (printed (assigned a)) };
+    ghost output = { λ a. Some (printed (assignment_view a)) };
 
     fn fmt<W: fmt::Write>(&self, f: &mut fmt::Formatter<W>) -> fmt::Result {
         let name = self.name.as_str();

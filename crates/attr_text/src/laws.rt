@@ -1,12 +1,11 @@
-//! What holds of the definitions that the contracts cite. Each law is the contract of a function
-//! that does nothing.
+//! Laws of the definitions that the contracts cite. Each law is the contract of a function that does nothing.
 ghost use Rattle.std.specs.Prelude.{◌≡◌, ℕ, List, [], ◌∷◌, true, false, not, IsTrue, Ok, length};
 ghost use Rattle.std.specs.List.{list_all};
 ghost use Rattle.std.specs.Str.{IsUtf8};
 ghost use Rattle.attr_text.specs.Names.{is_valid_name, is_reserved_name};
 ghost use Rattle.attr_text.specs.Items.{words, is_blank, items_of, printed};
 ghost use Rattle.attr_text.specs.Words.{AreWords, IsPlain};
-ghost use Rattle.attr_text.specs.LineResults.{marks, without_front, lines_in};
+ghost use Rattle.attr_text.specs.LineResults.{byte_order_marks, without_front, lines_in};
 ghost use Rattle.attr_text.specs.LinesJoined.{AreLines};
 ghost use Rattle.attr_text.specs.declared.assignment.Assignment.{Assignment};
 
@@ -17,18 +16,21 @@ pub fn words_are_the_longest_runs()
     ensures only { (text : List ℕ) (runs : List (List ℕ)) → AreWords text runs → runs ≡ words text }
 {}
 
-/// A printed assignment is one word, and that reads as the same assignment, where the name is not
-/// reserved and a value is UTF-8 without blanks.
+/// A printed assignment is one word. It reads as the same assignment, if the name is not reserved and a value is UTF-8
+/// without blanks.
 #[tactic(auto, using(crate::proofs::PrintedLaws::printed_is_word, crate::proofs::PrintedLaws::printed_reads))]
 pub fn printed_reads_as_itself()
-    ensures word { (a : Assignment) → IsTrue (is_valid_name a.name) → IsPlain a.state → words (printed a) ≡ printed a ∷ [] }
-    ensures read { (a : Assignment) → IsTrue (is_valid_name a.name) → is_reserved_name a.name ≡ false → IsPlain a.state → items_of (printed a) ≡ Ok a ∷ [] }
+    ensures word { (a : Assignment) → IsTrue (is_valid_name a.name) → IsPlain a.state →
+        words (printed a) ≡ printed a ∷ [] }
+    ensures read { (a : Assignment) → IsTrue (is_valid_name a.name) →
+        is_reserved_name a.name ≡ false → IsPlain a.state → items_of (printed a) ≡ Ok a ∷ [] }
 {}
 
-/// The bytes behind the byte order mark are the lines joined by their ends, and no other lines join
-/// to them.
+/// The bytes after the byte order mark are the lines joined by their ends, and no other lines join to them.
 #[tactic(auto, using(crate::proofs::LineLaws::lines_are_joined, crate::proofs::LineLaws::joined_are_lines))]
 pub fn lines_join_to_the_buffer()
-    ensures holds { (bytes : List ℕ) → AreLines (without_front marks bytes) (lines_in bytes) }
-    ensures only { (bytes : List ℕ) (lines : List (List ℕ)) → AreLines (without_front marks bytes) lines → lines ≡ lines_in bytes }
+    ensures holds { (bytes : List ℕ) →
+        AreLines (without_front byte_order_marks bytes) (lines_in bytes) }
+    ensures only { (bytes : List ℕ) (lines : List (List ℕ)) →
+        AreLines (without_front byte_order_marks bytes) lines → lines ≡ lines_in bytes }
 {}

@@ -1,5 +1,5 @@
-//! What an attributes file says: names of attributes, the states that are assigned to them, and
-//! the lines that assign them, as the gitattributes page describes.
+//! The text of attributes files, as the gitattributes page describes it: names of attributes, their states, and the lines that
+//! assign them.
 #![tactic(auto)]
 
 mod assignment;

@@ -19,15 +19,16 @@ use std::hash::{Hash, Hasher};
 use std::marker::Model;
 use std::rc::RcStr;
 
-/// Why bytes are no name of an attribute.
+/// Why bytes are not the name of an attribute.
 #[derive(Debug, Drop, thiserror::Error)]
 pub enum Error<'a> {
-    /// The bytes, which are empty, begin with `-`, or hold a byte that no name may have.
+    /// The bytes, which are empty, begin with `-`, or have a byte other than an ASCII letter, a digit, `-`, `.` and `_`
+    /// (gitattributes).
     #[error("Attribute has non-ascii characters or starts with '-'")]
     InvalidName(BStr<'a>),
 }
 
-/// A valid name of an attribute, lent. It compares and hashes as its text.
+/// A reference to a valid name of an attribute. It compares and hashes as its text.
 #[derive(Clone, Copy, PartialEq, Eq, PartialOrd, Ord, Hash)]
 pub struct NameRef<'a> {
     text: &'a str,
@@ -40,8 +41,7 @@ pub struct Name {
     text: Text,
 }
 
-// Where a name's text lies. A short list of assignments has places that hold a blank, which has to
-// be made without memory.
+// The text of a name. The unused places of a short list of assignments have a blank, which takes no memory.
 #[derive(Drop)]
 enum Text {
     Shared(RcStr),
@@ -60,7 +60,7 @@ impl Model for Name {
     ghost invariant = { λ n. IsTrue (is_valid_name (text_bytes n.text)) };
 }
 
-// Whether names may have the byte.
+// Whether a name may have the byte.
 fn is_name_byte(b: u8) -> bool
     ensures { result ≡ is_name_byte b }
 {
@@ -85,8 +85,7 @@ fn is_valid(bytes: &[u8]) -> bool
     is_all_name_bytes(bytes)
 }
 
-/// Whether the text is one of the names that are kept for built-in attributes: those that begin
-/// with `builtin_`.
+/// Whether the name is reserved for built-in attributes: it begins with `builtin_` (gitattributes).
 pub(crate) fn is_reserved(name: &[u8]) -> bool
     ensures { result ≡ is_reserved_name name.now }
 {
@@ -104,6 +103,10 @@ impl<'a> NameRef<'a> {
     }
 
     /// The name with a text of its own.
+    ///
+    /// # Errors
+    ///
+    /// If memory runs out.
     pub fn to_owned(self, alloc: Global) -> Result<Name, AllocError>
         ensures { IfOk result (λ name. name ≡ name_text self.entry) }
     {
@@ -145,7 +148,7 @@ impl<'a> fmt::Debug for NameRef<'a> {
 impl Name {
     ghost use Rattle.attr_text.specs.TextViews.{name_text};
 
-    /// The name, lent.
+    /// A reference to the name.
     pub fn as_ref(&self) -> NameRef<'_>
         ensures { name_text result ≡ self.now }
     {
@@ -165,7 +168,11 @@ impl Name {
         }
     }
 
-    /// Another owner of the same text.
+    /// A copy that shares the text.
+    ///
+    /// # Errors
+    ///
+    /// If there are `usize::MAX` copies already.
     pub fn clone(&self, _alloc: Global) -> Result<Name, AllocError>
         ensures { IfOk result (λ copy. copy ≡ self.now) }
     {

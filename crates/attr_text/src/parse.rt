@@ -7,8 +7,9 @@ ghost use Rattle.std.specs.Option.{ForSome};
 ghost use Rattle.std.specs.Result.{result_map_both};
 ghost use Rattle.bstr.specs.BStr.{bstr_bytes};
 ghost use Rattle.attr_text.specs.Items.{is_blank, is_equals, after_blanks, checked_name, with_state, state_from, words, item_of, items_of};
-ghost use Rattle.attr_text.specs.LineResults.{marks, without_front, is_macro, macro_of, target_of, parts_of, result_of, results_of};
-ghost use Rattle.attr_text.specs.TextViews.{name_text, stated, refusal, item_seen, target_seen, told, Tells, TellsKind, SaysLine, SaysFirst, IsOver, Yields};
+ghost use Rattle.attr_text.specs.LineResults.{byte_order_marks, without_front, is_macro_definition, macro_of, target_of, parts_of, result_of, results_of};
+ghost use Rattle.attr_text.specs.TextViews.{name_text, state_view, refusal_view, item_view, target_view, line_view, IsOver, Yields};
+ghost use Rattle.attr_text.specs.inner.LineSteps.{Reports, ReportsKind, ReadsLine, ReadsFirst};
 
 use crate::state::ValueRef;
 use crate::{AssignmentRef, Name, NameRef, StateRef, name};
@@ -19,27 +20,27 @@ use std::alloc::{AllocError, Global};
 use std::borrow::CowSlice;
 use std::marker::Model;
 
-/// What the items of a line are for.
+/// The target of a line's assignments.
 #[derive(PartialEq, Eq, PartialOrd, Ord, Hash, Debug, Drop)]
 pub enum Kind {
     /// The paths that the pattern matches.
     Pattern(Pattern),
-    /// The macro of this name, which the line defines.
+    /// The macro with this name, which the line defines.
     Macro(Name),
 }
 
-/// Why a line of an attributes file is refused.
+/// Why a line of an attributes file has no assignments.
 #[derive(Debug, Drop, thiserror::Error)]
 pub enum Error {
-    /// The name that the line would define a macro by is invalid or reserved.
+    /// The line defines a macro, and its name is invalid or reserved (gitattributes, "Defining macro attributes").
     #[error("Macro in line {line} has an invalid name")]
     MacroName {
         /// The number of the line, from 1.
         line: usize,
-        /// The bytes of the name.
+        /// The bytes of the name, after `[attr]`.
         input: Vec<u8>,
     },
-    /// The line's pattern is negative, which attributes files don't allow.
+    /// The line's pattern begins with `!`, which is forbidden (gitattributes).
     #[error("Line {line} has a negative pattern, for literal characters use \\!")]
     NegativePattern {
         /// The number of the line, from 1.
@@ -47,7 +48,7 @@ pub enum Error {
         /// The pattern text, with its `!`.
         input: Vec<u8>,
     },
-    /// There was no memory for what the line says.
+    /// Memory ran out. No other line follows.
     #[error("out of memory")]
     OutOfMemory,
 }
@@ -64,8 +65,12 @@ impl From<AllocError> for Error {
 
 impl Kind {
     /// A copy with a pattern or a name of its own.
+    ///
+    /// # Errors
+    ///
+    /// If memory runs out.
     pub fn clone(&self, alloc: Global) -> Result<Kind, AllocError>
-        ensures { IfOk result (λ copy. target_seen copy ≡ target_seen self.now) }
+        ensures { IfOk result (λ copy. target_view copy ≡ target_view self.now) }
     {
         match self {
             Kind::Pattern(pattern) => Ok(Kind::Pattern(pattern.clone(alloc)?)),
@@ -74,26 +79,26 @@ impl Kind {
     }
 }
 
-/// Why an item of a line assigns nothing.
+/// Why an item of a line is no assignment.
 #[derive(Debug, Drop, thiserror::Error)]
 pub enum AttrError<'a> {
-    /// The name, which is no valid one.
+    /// The name, which is invalid (gitattributes).
     #[error("Attribute has non-ascii characters or starts with '-'")]
     InvalidName(BStr<'a>),
-    /// The name, which is kept for built-in attributes.
+    /// The name, which begins with `builtin_` and so is reserved for built-in attributes (gitattributes).
     #[error("Attribute name uses the reserved 'builtin_' prefix")]
     Reserved(BStr<'a>),
 }
 
-/// The assignments in a text, one for each of its longest runs of bytes that are not blanks. It
-/// goes on after an error, and takes no memory.
+/// An iterator over the assignments in a text: one for each longest run of bytes that are not a space, a tab or a carriage
+/// return. It goes on after an error, and takes no memory.
 #[derive(Drop)]
 pub struct Iter<'a> {
     text: &'a [u8],
 }
 
-/// What the lines of an attributes file say, one after the other. After a refused line the next one
-/// follows; after want of memory there is no further one.
+/// An iterator over the lines of an attributes file. It goes on after a line that is refused, and ends when memory runs
+/// out.
 #[derive(Drop)]
 pub struct Lines<'a> {
     lines: bstr::Lines<'a>,
@@ -112,7 +117,7 @@ impl<'a> Model for Iter<'a> {
 }
 
 impl<'a> Iter<'a> {
-    /// The assignments in `input`, of which names and values are slices.
+    /// The assignments in `input`. Their names and values are slices of it.
     pub fn new(input: BStr<'a>) -> Iter<'a>
         ensures { result ≡ items_of (bstr_bytes input.entry) }
     {
@@ -125,7 +130,7 @@ impl<'a> Iter<'a> {
 impl<'a> Iterator for Iter<'a> {
     type Item = Result<AssignmentRef<'a>, AttrError<'a>>;
 
-    ghost next_gives = { YieldsFirstBy item_seen (λ items. items) };
+    ghost next_gives = { YieldsFirstBy item_view (λ items. items) };
 
     ghost remaining = { item_count (λ items. items) };
 
@@ -143,9 +148,10 @@ impl<'a> Iterator for Iter<'a> {
     }
 }
 
-// The first word of a text, and what stands behind it.
+// The first word of a text, and the text after it.
 fn first_word<'a>(text: &'a [u8]) -> Option<(&'a [u8], &'a [u8])>
-    ensures { MatchOption result (words text.now ≡ []) (λ p. words text.now ≡ p.0.now ∷ words p.1.now) }
+    ensures { MatchOption result (words text.now ≡ []) (λ p. words text.now
+        ≡ p.0.now ∷ words p.1.now) }
 {
     let text = after_blanks(text);
     if text.is_empty() {
@@ -155,7 +161,7 @@ fn first_word<'a>(text: &'a [u8]) -> Option<(&'a [u8], &'a [u8])>
     Some((word, rest))
 }
 
-// Whether the byte parts the items of a line.
+// Whether the byte separates the items of a line.
 fn is_blank(b: u8) -> bool
     ensures { result ≡ is_blank b }
 {
@@ -203,9 +209,9 @@ fn first_equals(word: &[u8]) -> Option<usize>
     word.iter().position(|b| *b == b'=')
 }
 
-// What a word assigns, or why it assigns nothing.
+// The assignment of a word, or why it is none.
 fn parse_attr<'a>(word: &'a [u8]) -> Result<AssignmentRef<'a>, AttrError<'a>>
-    ensures { item_seen result ≡ item_of word.now }
+    ensures { item_view result ≡ item_of word.now }
 {
     let equals = first_equals(word);
     let name = &word[..equals.unwrap_or(word.len())];
@@ -217,7 +223,7 @@ fn parse_attr<'a>(word: &'a [u8]) -> Result<AssignmentRef<'a>, AttrError<'a>>
 }
 
 fn assign<'a>(name: &'a [u8], state: StateRef<'a>) -> Result<AssignmentRef<'a>, AttrError<'a>>
-    ensures { item_seen result ≡ with_state (checked_name name.now) (stated state.entry) }
+    ensures { item_view result ≡ with_state (checked_name name.now) (state_view state.entry) }
 {
     match check_attr(name) {
         Ok(name) => Ok(AssignmentRef { name, state }),
@@ -227,7 +233,7 @@ fn assign<'a>(name: &'a [u8], state: StateRef<'a>) -> Result<AssignmentRef<'a>, 
 
 fn state_from<'a>(word: &'a [u8], equals: Option<usize>) -> StateRef<'a>
     requires { ForSome equals (λ i. i < length word.now) }
-    ensures { stated result ≡ state_from word.now equals }
+    ensures { state_view result ≡ state_from word.now equals }
 {
     match equals {
         None => StateRef::Set,
@@ -237,7 +243,7 @@ fn state_from<'a>(word: &'a [u8], equals: Option<usize>) -> StateRef<'a>
 
 // The name, if it is valid and not reserved.
 pub(crate) fn check_attr<'a>(attr: &'a [u8]) -> Result<NameRef<'a>, AttrError<'a>>
-    ensures { result_map_both name_text refusal result ≡ checked_name attr.now }
+    ensures { result_map_both name_text refusal_view result ≡ checked_name attr.now }
 {
     match NameRef::try_from(BStr::new(attr)) {
         Err(name::Error::InvalidName(input)) => Err(AttrError::InvalidName(input)),
@@ -251,7 +257,8 @@ pub(crate) fn check_attr<'a>(attr: &'a [u8]) -> Result<NameRef<'a>, AttrError<'a
     }
 }
 
-/// What the lines of the bytes say, in order.
+/// The lines of an attributes file, in order. A byte order mark at the start is skipped. Blank lines and comments are skipped
+/// but counted.
 pub fn parse(alloc: Global, bytes: &[u8]) -> Lines<'_>
     ensures { result.results ≡ results_of bytes.now }
 {
@@ -260,17 +267,18 @@ pub fn parse(alloc: Global, bytes: &[u8]) -> Lines<'_>
 
 impl<'a> Model for Lines<'a> {
     ghost use Rattle.std.specs.Prelude.{◌+◌, ◌^◌, ◌<◌, length};
-    ghost use Rattle.attr_text.specs.LineResults.{Unread, results_from};
+    ghost use Rattle.attr_text.specs.LineResults.{Unread, unread_from};
 
     ghost Value = { Unread };
 
-    ghost view = { λ s. record { results = results_from (s.line_no + 1) s.lines; lines = length s.lines } };
+    ghost view = { λ s. unread_from (s.line_no + 1) s.lines };
 
     ghost invariant = { λ s. s.line_no + length s.lines < 2 ^ 64 };
 }
 
 impl<'a> Lines<'a> {
-    /// What the lines of the bytes say, in order. Each line is counted, also one that says nothing.
+    /// The lines of the bytes, in order. A byte order mark at the start is skipped. Each line is counted, also one that is
+    /// skipped.
     pub fn new(alloc: Global, bytes: &'a [u8]) -> Lines<'a>
         ensures { result.results ≡ results_of bytes.now }
     {
@@ -281,24 +289,24 @@ impl<'a> Lines<'a> {
         }
     }
 
-    // What the next line that says something says.
-    fn first_said(&mut self) -> Option<Result<(Kind, Iter<'a>, usize), Error>>
-        ensures said { SaysFirst self.old.results result self.new.results }
+    // The result of the next line that is not skipped.
+    fn next_result(&mut self) -> Option<Result<(Kind, Iter<'a>, usize), Error>>
+        ensures read { ReadsFirst self.old.results result self.new.results }
         ensures end { IfNone result (self.new.lines ≡ 0) }
         ensures fewer { OnSome result (self.new.lines < self.old.lines) }
     {
-        while let Some(said) = self.read_line() {
-            if let Some(said) = said {
-                return Some(said);
+        while let Some(found) = self.read_line() {
+            if let Some(found) = found {
+                return Some(found);
             }
         }
         None
     }
 
-    // What the next line says, if there is a line, and if it says anything.
+    // The result of the next line, if there is a line, and if it is not skipped.
     fn read_line(&mut self) -> Option<Option<Result<(Kind, Iter<'a>, usize), Error>>>
         ensures end { IfNone result ((self.old.results ≡ []) × IsOver self.new) }
-        ensures said { IfSome result (λ said. SaysLine self.old.results said self.new.results) }
+        ensures read { IfSome result (λ line. ReadsLine self.old.results line self.new.results) }
         ensures fewer { OnSome result (self.new.lines < self.old.lines) }
     {
         let line = self.lines.next()?;
@@ -306,8 +314,8 @@ impl<'a> Lines<'a> {
         Some(parse_line(self.alloc, line, self.line_no))
     }
 
-    // Says nothing further.
-    fn end(&mut self)
+    // Skips all lines that are left.
+    fn finish(&mut self)
         ensures { IsOver self.new }
     {
         let nothing: &[u8] = b"";
@@ -324,23 +332,23 @@ impl<'a> Iterator for Lines<'a> {
     ghost remaining = { λ unread. at_most unread.lines };
 
     fn next(&mut self) -> Option<Result<(Kind, Iter<'a>, usize), Error>> {
-        let said = self.first_said()?;
-        if is_out_of_memory(&said) {
-            self.end();
-            return Some(said);
+        let line = self.next_result()?;
+        if is_out_of_memory(&line) {
+            self.finish();
+            return Some(line);
         }
-        Some(said)
+        Some(line)
     }
 }
 
 // Whether memory ran out.
-fn is_out_of_memory<'a>(said: &Result<(Kind, Iter<'a>, usize), Error>) -> bool
-    ensures { result ≡ is_none (told said.now) }
+fn is_out_of_memory<'a>(line: &Result<(Kind, Iter<'a>, usize), Error>) -> bool
+    ensures { result ≡ is_none (line_view line.now) }
 {
-    match said {
+    match line {
         Err(Error::OutOfMemory) => true,
-        Err(Error::MacroName { line: _, input: _ }) => false,
-        Err(Error::NegativePattern { line: _, input: _ }) => false,
+        Err(Error::MacroName { .. }) => false,
+        Err(Error::NegativePattern { .. }) => false,
         Ok(_) => false,
     }
 }
@@ -355,9 +363,9 @@ const UTF_16_LE_MARK: &[u8] = b"\xFF\xFE";
 
 const UTF_16_BE_MARK: &[u8] = b"\xFE\xFF";
 
-// What stands behind the byte order mark. A mark of UTF-32 may begin as one of UTF-16 does.
+// The bytes after the byte order mark. The marks of UTF-32 come first, since one of them begins with one of UTF-16.
 fn without_mark(bytes: &[u8]) -> &[u8]
-    ensures { result.now ≡ without_front marks bytes.now }
+    ensures { result.now ≡ without_front byte_order_marks bytes.now }
 {
     if bytes.starts_with(UTF_8_MARK) {
         &bytes[UTF_8_MARK.len()..]
@@ -374,13 +382,13 @@ fn without_mark(bytes: &[u8]) -> &[u8]
     }
 }
 
-// What a line says, if it says anything.
+// The result of a line, none if it is blank or a comment.
 fn parse_line<'a>(
     alloc: Global,
     line: &'a [u8],
     line_number: usize,
 ) -> Option<Result<(Kind, Iter<'a>, usize), Error>>
-    ensures { Tells result (result_of line.now line_number) }
+    ensures { Reports result (result_of line.now line_number) }
 {
     let text = after_blanks(line);
     if text.is_empty() || text[0] == b'#' {
@@ -396,8 +404,7 @@ fn parse_line<'a>(
     }
 }
 
-// A line's pattern text, and the text of its items. A quoted text that finds no memory to be undone
-// is never read as it stands.
+// A line's pattern text, and the text of its items. If there is no memory to unquote the pattern, it is not read as it is.
 fn split_text<'a>(alloc: Global, text: &'a [u8]) -> Result<(CowSlice<'a, u8>, &'a [u8]), AllocError>
     ensures { IfOk result (λ parts. (cow_slice_items parts.0, parts.1.now) ≡ parts_of text.now) }
 {
@@ -411,20 +418,20 @@ fn split_text<'a>(alloc: Global, text: &'a [u8]) -> Result<(CowSlice<'a, u8>, &'
     }
 }
 
-const MACRO_MARK: &[u8] = b"[attr]";
+const MACRO_PREFIX: &[u8] = b"[attr]";
 
 fn is_macro(pattern_text: &[u8]) -> bool
-    ensures { result ≡ is_macro pattern_text.now }
+    ensures { result ≡ is_macro_definition pattern_text.now }
 {
-    pattern_text.starts_with(MACRO_MARK) && pattern_text.len() > MACRO_MARK.len()
+    pattern_text.starts_with(MACRO_PREFIX) && pattern_text.len() > MACRO_PREFIX.len()
 }
 
-// What a line's items are for by its pattern text.
+// The target of a line with this pattern text, none if the text is no pattern.
 fn kind_of(alloc: Global, pattern_text: &[u8], line: usize) -> Result<Option<Kind>, Error>
-    ensures { TellsKind result (target_of pattern_text.now line) }
+    ensures { ReportsKind result (target_of pattern_text.now line) }
 {
     if is_macro(pattern_text) {
-        return macro_of(alloc, &pattern_text[MACRO_MARK.len()..], line);
+        return macro_of(alloc, &pattern_text[MACRO_PREFIX.len()..], line);
     }
     let Some(pattern) = Pattern::from_bytes(alloc, pattern_text)? else {
         return Ok(None);
@@ -439,7 +446,7 @@ fn kind_of(alloc: Global, pattern_text: &[u8], line: usize) -> Result<Option<Kin
 }
 
 fn macro_of(alloc: Global, name: &[u8], line: usize) -> Result<Option<Kind>, Error>
-    ensures { TellsKind result (Some (macro_of (checked_name name.now) name.now line)) }
+    ensures { ReportsKind result (Some (macro_of (checked_name name.now) name.now line)) }
 {
     match check_attr(name) {
         Ok(name) => Ok(Some(Kind::Macro(name.to_owned(alloc)?))),

@@ -22,13 +22,13 @@ pub struct Value {
     bytes: Vec<u8>,
 }
 
-/// The bytes of a value, lent. They need not be UTF-8.
+/// A reference to the bytes of a value, which need not be UTF-8.
 #[derive(Clone, Copy, PartialEq, Eq, PartialOrd, Ord, Hash)]
 pub struct ValueRef<'a> {
     bytes: &'a [u8],
 }
 
-/// The state that an attribute can be in, without its name. A value is lent.
+/// The state of an attribute (gitattributes), with a reference to its value.
 #[derive(Clone, Copy, PartialEq, Eq, PartialOrd, Ord, Hash, Debug)]
 pub enum StateRef<'a> {
     /// The attribute is listed by its name alone.
@@ -42,7 +42,7 @@ pub enum StateRef<'a> {
     Unspecified,
 }
 
-/// The state that an attribute can be in, without its name.
+/// The state of an attribute (gitattributes), with a value of its own.
 #[derive(PartialEq, Eq, PartialOrd, Ord, Hash, Debug, Drop)]
 pub enum State {
     /// The attribute is listed by its name alone.
@@ -67,7 +67,7 @@ impl Model for Value {
 impl<'a> ValueRef<'a> {
     ghost use Rattle.attr_text.specs.TextViews.{value_bytes};
 
-    /// Keeps the bytes as a value.
+    /// The bytes as a value.
     pub fn from_bytes(input: &'a [u8]) -> ValueRef<'a>
         ensures { value_bytes result ≡ input.now }
     {
@@ -82,6 +82,10 @@ impl<'a> ValueRef<'a> {
     }
 
     /// The value with bytes of its own.
+    ///
+    /// # Errors
+    ///
+    /// If memory runs out.
     pub fn to_owned(self, alloc: Global) -> Result<Value, AllocError>
         ensures { IfOk result (λ value. value ≡ value_bytes self.entry) }
     {
@@ -112,7 +116,11 @@ impl<'a> fmt::Debug for ValueRef<'a> {
 impl Value {
     ghost use Rattle.attr_text.specs.TextViews.{value_bytes};
 
-    /// A value of the text's bytes.
+    /// A value with a copy of the text's bytes.
+    ///
+    /// # Errors
+    ///
+    /// If memory runs out.
     pub fn from_str_in(alloc: Global, text: &str) -> Result<Value, AllocError>
         ensures { IfOk result (λ value. value ≡ text.now) }
     {
@@ -121,7 +129,7 @@ impl Value {
         })
     }
 
-    /// The value, lent.
+    /// A reference to the value.
     pub fn as_ref(&self) -> ValueRef<'_>
         ensures { value_bytes result ≡ self.now }
     {
@@ -131,6 +139,10 @@ impl Value {
     }
 
     /// A copy with bytes of its own.
+    ///
+    /// # Errors
+    ///
+    /// If memory runs out.
     pub fn clone(&self, alloc: Global) -> Result<Value, AllocError>
         ensures { IfOk result (λ copy. copy ≡ self.now) }
     {
@@ -215,41 +227,41 @@ impl fmt::Debug for Value {
 }
 
 impl<'a> StateRef<'a> {
-    ghost use Rattle.attr_text.specs.TextViews.{stated};
+    ghost use Rattle.attr_text.specs.TextViews.{state_view};
     ghost use Rattle.attr_text.specs.States.{is_set, value_of};
     ghost use Rattle.attr_text.specs.declared.state.State.TheVariants as owned;
 
-    /// Keeps the bytes as a value, whatever they are.
+    /// The state with these bytes as its value, whatever they are.
     pub fn from_bytes(input: &'a [u8]) -> StateRef<'a>
-        ensures { stated result ≡ owned.Value input.now }
+        ensures { state_view result ≡ owned.Value input.now }
     {
         StateRef::Value(ValueRef::from_bytes(input))
     }
 
-    /// Whether the attribute is set, by its name alone or to a value.
+    /// Whether the attribute is set, with or without a value.
     pub fn is_set(&self) -> bool
-        ensures { result ≡ is_set (stated self.now) }
+        ensures { result ≡ is_set (state_view self.now) }
     {
         matches!(self, StateRef::Set | StateRef::Value(_))
     }
 
-    /// Whether the attribute is unset.
+    /// Whether the attribute is unset: listed with a `-`.
     pub fn is_unset(&self) -> bool
-        ensures { IsTrue result ↔ (stated self.now ≡ owned.Unset) }
+        ensures { IsTrue result ↔ (state_view self.now ≡ owned.Unset) }
     {
         matches!(self, StateRef::Unset)
     }
 
-    /// Whether the attribute is unspecified.
+    /// Whether the attribute is unspecified: listed with a `!`, or not listed.
     pub fn is_unspecified(&self) -> bool
-        ensures { IsTrue result ↔ (stated self.now ≡ owned.Unspecified) }
+        ensures { IsTrue result ↔ (state_view self.now ≡ owned.Unspecified) }
     {
         matches!(self, StateRef::Unspecified)
     }
 
-    /// The bytes of a value, and none of any other state.
+    /// The bytes of the value, if the state has one.
     pub fn as_bstr(&self) -> Option<BStr<'a>>
-        ensures { option_map bstr_bytes result ≡ value_of (stated self.now) }
+        ensures { option_map bstr_bytes result ≡ value_of (state_view self.now) }
     {
         match self {
             StateRef::Value(value) => Some(value.as_bstr()),
@@ -258,8 +270,12 @@ impl<'a> StateRef<'a> {
     }
 
     /// The state with a value of its own.
+    ///
+    /// # Errors
+    ///
+    /// If memory runs out.
     pub fn to_owned(self, alloc: Global) -> Result<State, AllocError>
-        ensures { IfOk result (λ state. state ≡ stated self.entry) }
+        ensures { IfOk result (λ state. state ≡ state_view self.entry) }
     {
         match self {
             StateRef::Set => Ok(State::Set),
@@ -271,11 +287,11 @@ impl<'a> StateRef<'a> {
 }
 
 impl State {
-    ghost use Rattle.attr_text.specs.TextViews.{stated};
+    ghost use Rattle.attr_text.specs.TextViews.{state_view};
 
-    /// The state, with its value lent.
+    /// A reference to the state.
     pub fn as_ref(&self) -> StateRef<'_>
-        ensures { stated result ≡ self.now }
+        ensures { state_view result ≡ self.now }
     {
         match self {
             State::Set => StateRef::Set,
@@ -286,6 +302,10 @@ impl State {
     }
 
     /// A copy with a value of its own.
+    ///
+    /// # Errors
+    ///
+    /// If memory runs out.
     pub fn clone(&self, alloc: Global) -> Result<State, AllocError>
         ensures { IfOk result (λ copy. copy ≡ self.now) }
     {

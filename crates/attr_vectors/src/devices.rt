@@ -1,9 +1,9 @@
-//! Readers and writers in memory, which can be made to fail.
+//! Readers and writers in memory, of which a chosen call fails.
 ghost use Rattle.std.specs.Prelude.{◌≡◌, ◌≢◌, ◌≤◌, ◌<◌, ◌-◌, ◌++◌, ℕ, List, [], Ok, Some, true, false, IsErr, IfOk, OnOk, OnErr, MatchResult, length, take, drop, min};
 ghost use Rattle.std.specs.Io.{ReadsAtMost, WritesAtMost};
 ghost use Rattle.std.specs.Io.KnownBytes.{ReadConsumes, WriteAppends};
 ghost use Rattle.gix_attributes.specs.Failures.{Fails, one_more};
-ghost use Rattle.attr_vectors.specs.Devices.{supply_of, store_of, unlimited};
+ghost use Rattle.attr_vectors.specs.Devices.{supply_of, supply_after_failure, supply_after_read, sink_of, sink_after_failure, sink_after_write, sink_after_refusal, sink_after_flush, sink_after_failed_flush, unlimited};
 
 use check_attr::{Pull, Push};
 use std::alloc::{AllocError, Global};
@@ -11,7 +11,7 @@ use std::io;
 use std::io::ErrorKind;
 use std::marker::Model;
 
-/// Bytes that are read all at once or one by one, and of which one read can be made to fail.
+/// A reader of bytes, all at once or one by one. One of its reads can be made to fail.
 #[derive(Drop)]
 pub struct Source<'a> {
     rest: &'a [u8],
@@ -26,13 +26,18 @@ impl<'a> Model for Source<'a> {
 
     ghost Value = { Supply };
 
-    ghost view = { λ s. record { rest = s.rest.now; most = s.most; failing = s.failing; failures = s.failures } };
+    ghost view = { λ s. record {
+      rest = s.rest.now;
+      most = s.most;
+      failing = s.failing;
+      failures = s.failures;
+    } };
 
     ghost invariant = { λ s. 0 < s.most };
 }
 
 impl<'a> Source<'a> {
-    /// Gives as much as a call has room for.
+    /// A reader that fills the buffer of each call.
     pub fn new(bytes: &'a [u8]) -> Source<'a>
         ensures { result ≡ supply_of bytes.now unlimited }
     {
@@ -44,7 +49,7 @@ impl<'a> Source<'a> {
         }
     }
 
-    /// Gives one byte a call.
+    /// A reader that returns one byte a call.
     pub fn one_by_one(bytes: &'a [u8]) -> Source<'a>
         ensures { result ≡ supply_of bytes.now 1 }
     {
@@ -63,7 +68,7 @@ impl<'a> Source<'a> {
         self.failing = nth_read;
     }
 
-    /// What is left to be read.
+    /// The bytes that are left.
     pub fn rest(&self) -> &[u8]
         ensures { result.now ≡ self.now.rest }
     {
@@ -81,9 +86,12 @@ impl<'a> Pull for Source<'a> {
         ensures bytes { ReadConsumes (Some self.old.rest) (Some self.new.rest) result buf.new }
         ensures kept { self.old.failures ≤ self.new.failures }
         ensures err { OnErr result (Fails self.old.failures self.new.failures) }
-        ensures fails { self.old.failing ≡ 1 → IsErr result × (self.new ≡ record self.old { failing = 0; failures = one_more self.old.failures }) }
-        ensures gives { self.old.failing ≢ 1 → IfOk result (λ n. n ≡ min (min (length self.old.rest) self.old.most) (length buf.new)) }
-        ensures goes_on { self.old.failing ≢ 1 → MatchResult result (λ n. self.new ≡ record self.old { rest = drop n self.old.rest; failing = self.old.failing - 1 }) (λ _. ⊥) }
+        ensures fails { self.old.failing ≡ 1 →
+            IsErr result × (self.new ≡ supply_after_failure self.old) }
+        ensures gives { self.old.failing ≢ 1 → IfOk result
+            (λ n. n ≡ min (min (length self.old.rest) self.old.most) (length buf.new)) }
+        ensures goes_on { self.old.failing ≢ 1 →
+            MatchResult result (λ n. self.new ≡ supply_after_read n self.old) (λ _. ⊥) }
     {
         if self.failing == 1 {
             self.failing = 0;
@@ -103,8 +111,8 @@ impl<'a> Pull for Source<'a> {
     }
 }
 
-/// Keeps what is written to it, all at once or one byte a call; a write or the flushes can be made
-/// to fail.
+/// A writer that stores its bytes, all at once or one a call. One write or all flushes can be made to
+/// fail.
 #[derive(Drop)]
 pub struct Sink {
     bytes: Vec<u8>,
@@ -118,36 +126,44 @@ pub struct Sink {
 
 impl Model for Sink {
     ghost use Rattle.std.specs.Prelude.{◌<◌};
-    ghost use Rattle.attr_vectors.specs.Devices.{Store};
+    ghost use Rattle.attr_vectors.specs.Devices.{Sink};
 
-    ghost Value = { Store };
+    ghost Value = { Sink };
 
-    ghost view = { λ s. record { bytes = s.bytes.items; most = s.most; failing = s.failing; fails_flush = s.fails_flush; flushes = s.flushes; is_flushed = s.is_flushed; failures = s.failures } };
+    ghost view = { λ s. record {
+      bytes = s.bytes.items;
+      most = s.most;
+      failing = s.failing;
+      fails_flush = s.fails_flush;
+      flushes = s.flushes;
+      is_flushed = s.is_flushed;
+      failures = s.failures;
+    } };
 
     ghost invariant = { λ s. 0 < s.most };
 }
 
 impl Sink {
-    /// Takes all that a call hands it.
+    /// A writer that takes all bytes of a call.
     pub fn new(alloc: Global) -> Sink
-        ensures { result ≡ store_of unlimited }
+        ensures { result ≡ sink_of unlimited }
     {
         Sink::over(Vec::new(alloc), usize::MAX)
     }
 
-    /// Takes one byte a call.
+    /// A writer that takes one byte a call.
     pub fn one_by_one(alloc: Global) -> Sink
-        ensures { result ≡ store_of 1 }
+        ensures { result ≡ sink_of 1 }
     {
         Sink::over(Vec::new(alloc), 1)
     }
 
-    /// Keeps what is written in this buffer, as long as it has room without more memory, and takes at
-    /// most so many bytes a call.
+    /// A writer that stores its bytes in this buffer, and takes at most `most` bytes a call. It takes
+    /// no memory as long as the buffer has room.
     pub fn over(bytes: Vec<u8>, most: usize) -> Sink
         requires empty { bytes.items ≡ [] }
         requires some { 0 < most }
-        ensures { result ≡ store_of most }
+        ensures { result ≡ sink_of most }
     {
         Sink {
             bytes,
@@ -174,14 +190,14 @@ impl Sink {
         self.fails_flush = true;
     }
 
-    /// What was written so far.
+    /// The bytes that were written so far.
     pub fn bytes(&self) -> &[u8]
         ensures { result.now ≡ self.now.bytes }
     {
         self.bytes.as_slice()
     }
 
-    /// How many flushes there were, failed ones included; the count stays at `u64::MAX`.
+    /// The number of flushes, failed ones included. It stops at `u64::MAX`.
     pub fn flushes(&self) -> u64
         ensures { result ≡ self.now.flushes }
     {
@@ -209,12 +225,16 @@ impl Push for Sink {
         ensures bound { WritesAtMost result bytes.now }
         ensures bytes { WriteAppends (Some self.old.bytes) (Some self.new.bytes) result bytes.now }
         ensures stalls { IfOk result (λ n. n ≡ 0 → 0 < length bytes.now → ⊥) }
-        ensures flushed { self.new.is_flushed ≡ true → (self.old.is_flushed ≡ true) × IfOk result (λ n. n ≡ 0) }
+        ensures flushed { self.new.is_flushed ≡ true →
+            (self.old.is_flushed ≡ true) × IfOk result (λ n. n ≡ 0) }
         ensures kept { self.old.failures ≤ self.new.failures }
         ensures err { OnErr result (Fails self.old.failures self.new.failures) }
-        ensures fails { self.old.failing ≡ 1 → IsErr result × (self.new ≡ record self.old { failing = 0; failures = one_more self.old.failures }) }
+        ensures fails { self.old.failing ≡ 1 →
+            IsErr result × (self.new ≡ sink_after_failure self.old) }
         ensures takes { IfOk result (λ n. n ≡ min (length bytes.now) self.old.most) }
-        ensures goes_on { self.old.failing ≢ 1 → MatchResult result (λ n. self.new ≡ record self.old { bytes = self.old.bytes ++ take n bytes.now; failing = self.old.failing - 1; is_flushed = false }) (λ _. self.new ≡ record self.old { failing = self.old.failing - 1; failures = one_more self.old.failures }) }
+        ensures goes_on { self.old.failing ≢ 1 → MatchResult result
+            (λ n. self.new ≡ sink_after_write (take n bytes.now) self.old)
+            (λ _. self.new ≡ sink_after_refusal self.old) }
     {
         if self.failing == 1 {
             self.failing = 0;
@@ -234,8 +254,10 @@ impl Push for Sink {
     fn flush(&mut self) -> io::Result<()>
         ensures kept { self.old.failures ≤ self.new.failures }
         ensures counted { OnErr result (Fails self.old.failures self.new.failures) }
-        ensures ok { OnOk result ((self.old.fails_flush ≡ false) × (self.new ≡ record self.old { flushes = one_more self.old.flushes; is_flushed = true })) }
-        ensures err { OnErr result ((self.old.fails_flush ≡ true) × (self.new ≡ record self.old { flushes = one_more self.old.flushes; failures = one_more self.old.failures })) }
+        ensures ok { OnOk result
+            ((self.old.fails_flush ≡ false) × (self.new ≡ sink_after_flush self.old)) }
+        ensures err { OnErr result
+            ((self.old.fails_flush ≡ true) × (self.new ≡ sink_after_failed_flush self.old)) }
     {
         self.flushes = self.flushes.saturating_add(1);
         if self.fails_flush {
@@ -251,7 +273,7 @@ impl Push for Sink {
     }
 }
 
-/// Takes no byte, and never fails.
+/// A writer that takes no byte, and never fails.
 #[derive(Drop)]
 pub struct Stuck;
 
@@ -281,7 +303,7 @@ impl Push for Stuck {
     }
 }
 
-/// Refuses each write and each flush.
+/// A writer that refuses each write and each flush.
 #[derive(Drop)]
 pub struct Broken {
     failures: u64,
@@ -296,7 +318,7 @@ impl Model for Broken {
 }
 
 impl Broken {
-    /// No call failed yet.
+    /// The writer, without a failure so far.
     pub fn new() -> Broken
         ensures { result ≡ 0 }
     {

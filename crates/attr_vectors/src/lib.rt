@@ -1,4 +1,5 @@
-//! The tests of `check_attr`: worked rows, hostile inputs, and readers and writers in memory that fail at a chosen call.
+//! The tests of `check_attr`: worked rows, hostile inputs, and devices in memory of which a chosen
+//! call fails.
 #![tactic(auto)]
 
 pub mod devices;

@@ -1,4 +1,4 @@
-//! Worked rows of the program, hostile inputs, and what is printed over devices in memory that fail.
+//! Worked rows of the program, hostile inputs, and runs over devices in memory that fail.
 mod failing;
 mod global_names;
 mod hostile;
@@ -8,7 +8,7 @@ mod scripts;
 mod statuses;
 mod std_devices;
 
-// The worked input of the failing devices, and what is printed of it.
+// The worked input of the failing devices, and the text for it.
 const INPUT: &[u8] = b"!a b\n* a =x b=\n";
 
 const TEXT: &[u8] = b"1! negative\n2: a ? b=\n";

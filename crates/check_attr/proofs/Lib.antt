@@ -1,10 +1,10 @@
 pub mod Bytes
 mod ReportLemmas
-mod SayLemmas
+mod PrintLemmas
 mod ArgLemmas
 mod NameLemmas
 mod ScriptLemmas
-mod KnownLemmas
+mod RegistrationLemmas
 mod AnswerLemmas
 mod RunLemmas
 mod TextLemmas

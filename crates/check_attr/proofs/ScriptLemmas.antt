@@ -1,22 +1,22 @@
 -- Parts of a script.
-use Rattle.std.proofs.Common.{◌≡◌, ℕ, zero, suc, ◌-◌, ◌^◌, ◌<◌, ◌≤◌, Bool, true, false, List, [], ◌∷◌, ◌++◌, Option, Some, None, option_map, refl, sym, ap, ◌∙◌, arith, append_assoc, append-nil, lit≤}
+use Rattle.std.proofs.Common.{◌≡◌, ℕ, zero, suc, ◌-◌, ◌<◌, Bool, true, false, List, [], ◌∷◌, ◌++◌, Option, Some, None, option_map, refl}
+use Rattle.std.proofs.Common.{sym, ap, ◌∙◌, arith, append_assoc, append-nil}
 use Rattle.std.specs.Prelude.{if◌then◌else◌, Result, Ok, Err, MatchResult}
 use Rattle.std.specs.Borrow.{Bor}
 use Rattle.std.specs.Option.{option_copied}
 use Rattle.std.specs.Result.{result_ok}
 use Rattle.std.specs.Str.{IsUtf8, is_utf8}
 use Rattle.std.proofs.lemmas.Str.{IsUtf8-from_is_utf8, is_utf8-from_IsUtf8}
-use Rattle.attr_search.specs.Slots.{table_state}
-use Rattle.attr_text.specs.declared.state.State.{State}
-use Rattle.attr_text.specs.declared.state.State.TheVariants.{Set, Unset, Value, Unspecified}
-use Rattle.check_attr.specs.ScriptText.{is_unspecified}
-use Rattle.check_attr.specs.Script.{◌then◌, part_before, if_text, lines_of}
+use Rattle.gix_attributes.specs.LinesJoined.{line_feed}
+use Rattle.check_attr.specs.Script.{◌then◌, split_once, if_text, text_lines}
 
 -- one line, and then the others
-pub lines_of-step : (n : ℕ) (bytes : List ℕ) → 0 < n →
-    lines_of n bytes ≡ ((part_before 10 bytes then if_text) then λ line. option_map (λ others. (line.0 ∷ others.0, others.1)) (lines_of (n - 1) line.1))
-lines_of-step zero bytes h = absurd (omega arith)
-lines_of-step (suc n) bytes h = ap (λ k. (part_before 10 bytes then if_text) then λ line. option_map (λ others. (line.0 ∷ others.0, others.1)) (lines_of k line.1)) (omega arith)
+pub text_lines-step : (n : ℕ) (bytes : List ℕ) → 0 < n →
+    text_lines n bytes ≡ ((split_once line_feed bytes then if_text) then λ line. option_map (λ others. (line.0 ∷ others.0, others.1))
+    (text_lines (n - 1) line.1))
+text_lines-step zero bytes h = absurd (omega arith)
+text_lines-step (suc n) bytes h = ap (λ k. (split_once line_feed bytes then if_text) then λ line. option_map (λ others. (line.0 ∷ others.0, others.1))
+    (text_lines k line.1)) (omega arith)
 
 -- these lines before others
 abbrev pub before : List (List ℕ) → List (List ℕ) × List ℕ → List (List ℕ) × List ℕ
@@ -28,50 +28,44 @@ one_before line others = (line ∷ others.0, others.1)
 regrouped : (lines : List (List ℕ)) (line : List ℕ) (o : Option (List (List ℕ) × List ℕ)) →
     option_map (before lines) (option_map (one_before line) o) ≡ option_map (before (lines ++ line ∷ [])) o
 regrouped lines line None = refl
-regrouped lines line (Some o) = ap (λ (l : List (List ℕ)). let p : List (List ℕ) × List ℕ = (l, o.1) in Some p) (sym (append_assoc lines (line ∷ []) o.0))
+regrouped lines line (Some o) = ap (λ (l : List (List ℕ)). let p : List (List ℕ) × List ℕ = (l, o.1) in Some p)
+    (sym (append_assoc lines (line ∷ []) o.0))
 
 -- one line more is read
-pub lines_of-more : (whole : Option (List (List ℕ) × List ℕ)) (lines more : List (List ℕ)) (line : List ℕ) (n m : ℕ) (bytes rest : List ℕ) → 0 < n → m ≡ n - 1
-    → whole ≡ option_map (before lines) (lines_of n bytes)
-    → (part_before 10 bytes then if_text) ≡ Some (line, rest) → more ≡ lines ++ line ∷ []
-    → whole ≡ option_map (before more) (lines_of m rest)
-lines_of-more whole lines more line n m bytes rest h m_is whole_is first more_is =
+pub text_lines-more : (whole : Option (List (List ℕ) × List ℕ)) (lines more : List (List ℕ)) (line : List ℕ) (n m : ℕ) (bytes rest : List ℕ) → 0 < n →
+    m ≡ n - 1
+    → whole ≡ option_map (before lines) (text_lines n bytes)
+    → (split_once line_feed bytes then if_text) ≡ Some (line, rest) → more ≡ lines ++ line ∷ []
+    → whole ≡ option_map (before more) (text_lines m rest)
+text_lines-more whole lines more line n m bytes rest h m_is whole_is first more_is =
     whole_is ∙ (ap (option_map (before lines))
-    (lines_of-step n bytes h ∙ (ap (λ (o : Option (List ℕ × List ℕ)). o then λ one. option_map (λ others. (one.0 ∷ others.0, others.1)) (lines_of (n - 1) one.1)) first
-    ∙ ap (λ k. option_map (one_before line) (lines_of k rest)) (sym m_is)))
-    ∙ (regrouped lines line (lines_of m rest)
-    ∙ ap (λ (l : List (List ℕ)). option_map (before l) (lines_of m rest)) (sym more_is)))
+    (text_lines-step n bytes h ∙ (ap (λ (o : Option (List ℕ × List ℕ)). o then λ one. option_map (λ others. (one.0 ∷ others.0, others.1))
+    (text_lines (n - 1) one.1)) first
+    ∙ ap (λ k. option_map (one_before line) (text_lines k rest)) (sym m_is)))
+    ∙ (regrouped lines line (text_lines m rest)
+    ∙ ap (λ (l : List (List ℕ)). option_map (before l) (text_lines m rest)) (sym more_is)))
 
 -- all lines are read
-pub lines_of-done : (whole : Option (List (List ℕ) × List ℕ)) (lines : List (List ℕ)) (n : ℕ) (bytes : List ℕ) → n ≡ 0
-    → whole ≡ option_map (before lines) (lines_of n bytes) → Some (lines, bytes) ≡ whole
-lines_of-done whole lines n bytes none whole_is =
-    sym (whole_is ∙ (ap (λ k. option_map (before lines) (lines_of k bytes)) none ∙ ap (λ (l : List (List ℕ)). let p : List (List ℕ) × List ℕ = (l, bytes) in Some p) (append-nil lines)))
+pub text_lines-done : (whole : Option (List (List ℕ) × List ℕ)) (lines : List (List ℕ)) (n : ℕ) (bytes : List ℕ) → n ≡ 0
+    → whole ≡ option_map (before lines) (text_lines n bytes) → Some (lines, bytes) ≡ whole
+text_lines-done whole lines n bytes none whole_is =
+    sym (whole_is ∙ (ap (λ k. option_map (before lines) (text_lines k bytes)) none ∙ ap
+    (λ (l : List (List ℕ)). let p : List (List ℕ) × List ℕ = (l, bytes) in Some p) (append-nil lines)))
 
 -- no line is left
-pub lines_of-stuck : (whole : Option (List (List ℕ) × List ℕ)) (lines : List (List ℕ)) (n : ℕ) (bytes : List ℕ) → 0 < n
-    → whole ≡ option_map (before lines) (lines_of n bytes)
-    → (part_before 10 bytes then if_text) ≡ None → whole ≡ None
-lines_of-stuck whole lines n bytes h whole_is none =
+pub text_lines-stuck : (whole : Option (List (List ℕ) × List ℕ)) (lines : List (List ℕ)) (n : ℕ) (bytes : List ℕ) → 0 < n
+    → whole ≡ option_map (before lines) (text_lines n bytes)
+    → (split_once line_feed bytes then if_text) ≡ None → whole ≡ None
+text_lines-stuck whole lines n bytes h whole_is none =
     whole_is ∙ ap (option_map (before lines))
-    (lines_of-step n bytes h ∙ ap (λ (o : Option (List ℕ × List ℕ)). o then λ line. option_map (λ others. (line.0 ∷ others.0, others.1)) (lines_of (n - 1) line.1)) none)
-
-pub ten_power_most : (i : ℕ) → i < 8 → 10 ^ i ≤ 10000000
-ten_power_most zero h = lit≤ tt
-ten_power_most (suc zero) h = lit≤ tt
-ten_power_most (suc (suc zero)) h = lit≤ tt
-ten_power_most (suc (suc (suc zero))) h = lit≤ tt
-ten_power_most (suc (suc (suc (suc zero)))) h = lit≤ tt
-ten_power_most (suc (suc (suc (suc (suc zero))))) h = lit≤ tt
-ten_power_most (suc (suc (suc (suc (suc (suc zero)))))) h = lit≤ tt
-ten_power_most (suc (suc (suc (suc (suc (suc (suc zero))))))) h = lit≤ tt
-ten_power_most (suc (suc (suc (suc (suc (suc (suc (suc n)))))))) h = absurd (omega arith)
+    (text_lines-step n bytes h ∙ ap (λ (o : Option (List ℕ × List ℕ)). o then λ line. option_map (λ others. (line.0 ∷ others.0, others.1))
+    (text_lines (n - 1) line.1)) none)
 
 not_true : (b : Bool) → (b ≡ true → ⊥) → b ≡ false
 not_true true h = absurd (h refl)
 not_true false h = refl
 
--- bytes are text where they are UTF-8
+-- bytes are text if they are UTF-8
 pub text_is : {E : Type 0} (r : Result (Bor (List ℕ)) E) (bytes : List ℕ) (P : E → Type 0)
     → MatchResult r (λ s. (s.now ≡ bytes) × IsUtf8 bytes) (λ e. ¬ (IsUtf8 bytes) × P e)
     → option_copied (result_ok r) ≡ (if is_utf8 bytes then Some bytes else None)
@@ -79,13 +73,3 @@ text_is (Ok s) bytes P h =
     ap Some h.0 ∙ ap (λ (b : Bool). if b then Some bytes else None) (sym (is_utf8-from_IsUtf8 bytes h.1))
 text_is (Err e) bytes P h =
     ap (λ (b : Bool). if b then Some bytes else None) (sym (not_true (is_utf8 bytes) (λ yes. h.0 (IsUtf8-from_is_utf8 bytes yes))))
-
--- a state is unspecified for the table where it is so for a line
-pub unspecified_is : (s : State) → s ≡ Unspecified → is_unspecified (table_state s) ≡ true
-unspecified_is s h = ap (λ x. is_unspecified (table_state x)) h
-
-pub specified_is : (s : State) → (s ≡ Unspecified → ⊥) → is_unspecified (table_state s) ≡ false
-specified_is Set h = refl
-specified_is Unset h = refl
-specified_is (Value v) h = refl
-specified_is Unspecified h = absurd (h refl)

@@ -1,17 +1,17 @@
 -- A script writes one text.
 use Rattle.std.proofs.Common.{◌≡◌, ◌≢◌, ℕ, zero, suc, ◌+◌, ◌≤◌, List, [], ◌∷◌, ◌++◌, length, Option, Some, None, refl, sym, ap, ◌∙◌, subst, arith}
 use Rattle.std.specs.Prelude.{option_and_then}
-use Rattle.attr_table.specs.Table.{Table}
-use Rattle.attr_table.specs.Cut.{answer_at, no_answers}
-use Rattle.attr_table.proofs.Ends.{OneTable-of}
+use Rattle.gix_attributes.specs.Table.{Table}
+use Rattle.gix_attributes.specs.Cut.{answer_at, no_answers}
+use Rattle.attr_table.proofs.ForCallers.{OneTable-of}
 use Rattle.check_attr.specs.Script.{Question, Record, add, pop, names, ask, record_of}
 use Rattle.check_attr.specs.ScriptText.{IsRecordText, OneText, Writes, answers_text, asked_setting, ends, breaks, goes_on}
-use Rattle.check_attr.specs.ScriptStates.{ScriptState, after}
+use Rattle.check_attr.specs.ScriptStates.{ScriptState, next_state}
 use Rattle.check_attr.proofs.RunLemmas.{shorter}
 
 -- the answers to a question, by a table
-abbrev told_by : ScriptState → Question → Table → List ℕ
-told_by s q table = answers_text s q (λ number. option_and_then (answer_at (asked_setting s q)) (table number))
+abbrev answers_by : ScriptState → Question → Table → List ℕ
+answers_by s q table = answers_text s q (λ number. option_and_then (answer_at (asked_setting s q)) (table number))
 
 -- each record writes something
 some_record_text : (s : ScriptState) (r : Record) → (text : List ℕ) × IsRecordText s r text
@@ -20,7 +20,7 @@ some_record_text s pop = (_, refl)
 some_record_text s (names selected) = (_, refl)
 some_record_text s (ask q) =
     let one = OneTable-of (asked_setting s q) no_answers in
-    (told_by s q one.0, (one.0, one.1, refl))
+    (answers_by s q one.0, (one.0, one.1, refl))
 
 -- and nothing else
 one_record_text : (s : ScriptState) (r : Record) (text other : List ℕ) → IsRecordText s r text → IsRecordText s r other → text ≡ other
@@ -30,13 +30,13 @@ one_record_text s (names selected) text other is is_other = is ∙ sym is_other
 one_record_text s (ask q) text other is is_other =
     let one = OneTable-of (asked_setting s q) no_answers in
     let tables : is.0 ≡ is_other.0 = one.2 is.0 is.1 ∙ sym (one.2 is_other.0 is_other.1) in
-    is.2 ∙ (ap (told_by s q) tables ∙ sym is_other.2)
+    is.2 ∙ (ap (answers_by s q) tables ∙ sym is_other.2)
 
 abbrev HasText : ScriptState → ℕ → List ℕ → Type 0
 HasText s number script = (malformed : Option ℕ) × (text : List ℕ) × Writes s number script malformed text
 
 text_by : (s : ScriptState) (number : ℕ) (script : List ℕ) → script ≢ [] → (o : Option (Record × List ℕ)) → record_of script ≡ o
-    → ((r : Record) (rest : List ℕ) → record_of script ≡ Some (r, rest) → HasText (after r s) (number + 1) rest) → HasText s number script
+    → ((r : Record) (rest : List ℕ) → record_of script ≡ Some (r, rest) → HasText (next_state r s) (number + 1) rest) → HasText s number script
 text_by s number script some None read others = (Some number, [], breaks some read)
 text_by s number script some (Some p) read others =
     let first = some_record_text s p.0 in
@@ -49,7 +49,7 @@ some_text longest s number [] short = (None, [], ends)
 some_text zero s number (b ∷ bs) short = absurd (omega (arith, short))
 some_text (suc longest) s number (b ∷ bs) short =
     text_by s number (b ∷ bs) (λ e. absurd cc) (record_of (b ∷ bs)) refl
-    (λ r rest read. some_text longest (after r s) (number + 1) rest (omega (arith, short, shorter (b ∷ bs) r rest read)))
+    (λ r rest read. some_text longest (next_state r s) (number + 1) rest (omega (arith, short, shorter (b ∷ bs) r rest read)))
 
 -- what is read is one record and one rest
 abbrev read_in : {X : Type 0} → X → Option (X × List ℕ) → X
@@ -74,12 +74,13 @@ one_text _ _ _ _ _ _ _ (breaks some read) (breaks some' read') = (refl, refl)
 one_text _ _ _ _ _ _ _ (breaks some read) (goes_on r rest first others read' is_text left) = absurd cc
 one_text _ _ _ _ _ _ _ (goes_on r rest first others read is_text left) ends = absurd cc
 one_text _ _ _ _ _ _ _ (goes_on r rest first others read is_text left) (breaks some read') = absurd cc
-one_text s number script malformed other_malformed _ _ (goes_on r rest first others read is_text left) (goes_on r' rest' first' others' read' is_text' left') =
+one_text s number script malformed other_malformed _ _ (goes_on r rest first others read is_text left)
+    (goes_on r' rest' first' others' read' is_text' left') =
     let reads = one_read (record_of script) r r' rest rest' read read' in
     let first_is = one_record_text s r first' first (subst (λ x. IsRecordText s x first') reads.0 is_text') is_text in
-    let left_is = one_text (after r s) (number + 1) rest malformed other_malformed others others' left
-    (subst (λ x. Writes (after x s) (number + 1) rest other_malformed others') reads.0
-    (subst (λ x. Writes (after r' s) (number + 1) x other_malformed others') reads.1 left')) in
+    let left_is = one_text (next_state r s) (number + 1) rest malformed other_malformed others others' left
+    (subst (λ x. Writes (next_state x s) (number + 1) rest other_malformed others') reads.0
+    (subst (λ x. Writes (next_state r' s) (number + 1) x other_malformed others') reads.1 left')) in
     (left_is.0, ap (λ xs. xs ++ others') first_is ∙ ap (λ xs. first ++ xs) left_is.1)
 
 pub OneText-of : (s : ScriptState) (number : ℕ) (script : List ℕ) → OneText s number script

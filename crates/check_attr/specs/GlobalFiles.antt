@@ -1,24 +1,32 @@
--- What stands before a script, from the files of the names that a run was given (own).
-use Rattle.std.specs.Prelude.{ℕ, List, []}
+-- The lists that a script starts from, as they are read from the files of these names (own).
+use Rattle.std.specs.Prelude.{◌≡◌, ℕ, List, []}
 use Rattle.std.specs.List.{flat_map, zip}
-use Rattle.attr_lists.specs.Numbered.{Numbered, nothing_numbered}
-use Rattle.attr_lists.specs.declared.search.Dropped.{Dropped}
-use Rattle.gix_attributes.specs.FileReads.{FileRead}
+use Rattle.gix_attributes.specs.Answers.{ReadAnswer}
+use Rattle.gix_attributes.specs.Collections.{Collection, empty_collection}
+use Rattle.gix_attributes.specs.declared.search.Dropped.{Dropped}
+use Rattle.gix_attributes.specs.FileReads.{AreAnswered, FileRead, ReadInOrder, names_read}
 use Rattle.gix_attributes.specs.Globals.{RefusesGlobals, globals_of}
 use Rattle.gix_attributes.specs.declared.search.files.AddError.{AddError}
 use Rattle.check_attr.specs.ScriptText.{dropped_text}
-use Rattle.check_attr.specs.ScriptStates.{Loaded}
+use Rattle.check_attr.specs.ScriptStates.{GlobalLists}
+
+-- the files of these names were read, one after the other, and each read found its file or found that there is none
+pub record ReadsNames {F : Type 0} (reads : F → List ℕ → ReadAnswer → F → Type 0) (names : List (List ℕ))
+    (old : F) (read : List FileRead) (new : F) : Type 0 where
+  pub in_order : ReadInOrder reads old read new
+  pub named : names_read read ≡ names
+  pub answered : AreAnswered read
 
 -- the global lists of these reads, in an empty collection
-abbrev pub loaded_from : List FileRead → Loaded
+abbrev pub loaded_from : List FileRead → GlobalLists
 loaded_from read =
-    let globals = globals_of nothing_numbered [] read in
+    let globals = globals_of empty_collection [] read in
     record { names = globals.loaded.known.names; lists = globals.loaded.lists; dropped = globals.dropped }
 
--- the files of the wanted names are refused after these reads, with this error
+-- after these reads the files of the names are refused, with this error
 abbrev pub RefusedAt : List (List ℕ) → List FileRead → AddError → Type 0
-RefusedAt wanted read error = (left : Numbered) × RefusesGlobals wanted read nothing_numbered left error
+RefusedAt names read error = (left : Collection) × RefusesGlobals names read empty_collection left error
 
 -- a line for each line that the file of one of these names leaves out, file by file
-abbrev pub left_out_text : List (List ℕ) → List (List Dropped) → List ℕ
-left_out_text names dropped = flat_map (λ file. flat_map (dropped_text file.0) file.1) (zip names dropped)
+abbrev pub all_dropped_text : List (List ℕ) → List (List Dropped) → List ℕ
+all_dropped_text names dropped = flat_map (λ file. flat_map (dropped_text file.0) file.1) (zip names dropped)

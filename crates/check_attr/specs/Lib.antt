@@ -1,12 +1,9 @@
 pub mod Failures
+pub mod GlobalFiles
+pub mod GlobalsView
 pub mod LinesText
 pub mod Program
 pub mod Script
-pub mod ScriptViews
 pub mod ScriptStates
 pub mod ScriptText
-pub mod MatchText
-pub mod Knowing
-pub mod EngineViews
-pub mod LoadedViews
-pub mod GlobalFiles
+pub mod inner

@@ -1,23 +1,24 @@
--- What a script writes (own): the lines that its lists leave out, and for each path that is asked for the answers by the only
--- table that is stable. How answers are written: the git-check-attr page, and own with the place of a pattern.
-use Rattle.std.specs.Prelude.{◌≡◌, ◌≢◌, ℕ, ◌+◌, Bool, true, false, List, [], ◌++◌, length, Option, Some, None, option_and_then, slice_index_or, codes, if◌then◌else◌, ◌==◌}
+-- The text that a script writes (own): the lines that its lists leave out, and for each question the answers of the only stable
+-- table. The form of answers is that of the git-check-attr page; the form with the place of a pattern is own.
+use Rattle.std.specs.Prelude.{◌≡◌, ◌≢◌, ℕ, ◌+◌, ◌==◌, Bool, true, false, List, [], ◌++◌, length, if◌then◌else◌}
+use Rattle.std.specs.Prelude.{Option, Some, None, IfSome, option_and_then, slice_index_or, codes}
 use Rattle.std.specs.List.{flat_map, range_with_len}
 use Rattle.std.specs.Fmt.{decimal}
 use Rattle.std.specs.Io.KnownBytes.{Appends}
-use Rattle.attr_glob.specs.Patterns.{written}
-use Rattle.attr_lists.specs.Numbers.{number_of}
-use Rattle.attr_lists.specs.KeptLists.{dropped_lines}
-use Rattle.attr_lists.specs.declared.search.Dropped.{Dropped}
-use Rattle.attr_lists.specs.declared.search.DropReason.{DropReason}
-use Rattle.attr_lists.specs.declared.search.DropReason.TheVariants.{MacroName, NegativePattern, InvalidName, Reserved}
-use Rattle.attr_table.specs.Setting.{State, Set, Unset, Value, Unspecified, Origin, Setting, Answer}
-use Rattle.attr_table.specs.Table.{Slots, Table, IsStable}
-use Rattle.attr_table.specs.Cut.{answer_at, no_answers}
-use Rattle.gix_attributes.specs.Contents.{called}
-use Rattle.attr_search.specs.Settings.{setting_of}
+use Rattle.gix_attributes.specs.Patterns.{written}
+use Rattle.gix_attributes.specs.Numbers.{number_of}
+use Rattle.gix_attributes.specs.KeptLists.{dropped_lines}
+use Rattle.gix_attributes.specs.declared.search.Dropped.{Dropped}
+use Rattle.gix_attributes.specs.declared.search.DropReason.{DropReason}
+use Rattle.gix_attributes.specs.declared.search.DropReason.TheVariants.{MacroName, NegativePattern, InvalidName, Reserved}
+use Rattle.gix_attributes.specs.Setting.{State, Set, Unset, Value, Unspecified, Origin, Setting, Answer}
+use Rattle.gix_attributes.specs.Table.{Slots, Table, IsStable}
+use Rattle.gix_attributes.specs.Cut.{answer_at, no_answers}
+use Rattle.gix_attributes.specs.Contents.{reported_name}
+use Rattle.gix_attributes.specs.Settings.{setting_of}
 use Rattle.check_attr.specs.Script.{Question, Record, add, pop, names, ask, record_of}
 use Rattle.check_attr.specs.Failures.{AppendsFront}
-use Rattle.check_attr.specs.ScriptStates.{Loaded, ScriptState, after, begun, bodies_by}
+use Rattle.check_attr.specs.ScriptStates.{GlobalLists, ScriptState, next_state, initial_state, bodies_by}
 use Rattle.check_attr.specs.declared.script.Form.{Form}
 use Rattle.check_attr.specs.declared.script.Form.TheVariants as forms
 
@@ -28,16 +29,17 @@ reason_word NegativePattern = codes "negative"
 reason_word InvalidName = codes "attribute-name"
 reason_word Reserved = codes "reserved"
 
--- a line of a source that is left out
+-- the text of a line that a source leaves out
 abbrev pub dropped_text : List ℕ → Dropped → List ℕ
 dropped_text source dropped =
     codes "dropped: " ++ source ++ codes ":" ++ decimal dropped.line ++ codes ": " ++ reason_word dropped.reason ++ codes "\n"
 
--- what is said of an attribute
+-- the state of an attribute
 abbrev pub state_of : Option Answer → State
 state_of None = Unspecified
 state_of (Some answer) = answer.assignment.state
 
+-- the state as the page writes it
 abbrev pub info : State → List ℕ
 info Set = codes "set"
 info Unset = codes "unset"
@@ -50,52 +52,54 @@ is_unspecified Unset = false
 is_unspecified (Value bytes) = false
 is_unspecified Unspecified = true
 
--- the name of the macro that brought an answer, `-` where the line itself says it
+-- the name of the macro whose body gave an answer, or `-` if the line itself gave it
 abbrev pub cause_text : List (List ℕ) → Option ℕ → List ℕ
 cause_text known None = codes "-"
 cause_text known (Some number) = slice_index_or known number []
 
--- where an answer's line stands: its source and number, its pattern, and the macro that brought it
+-- the place of an answer: its source and line number, its pattern, and the macro
 abbrev pub place_text : List (List ℕ) → Origin → Option ℕ → Option (List ℕ) → List ℕ
 place_text known origin cause None = codes "-\t-\t-"
 place_text known origin cause (Some source) =
     source ++ codes ":" ++ decimal origin.line ++ codes "\t"
-    ++ written (record { text = origin.text; mode = origin.mode; wildcard = origin.wildcard }) ++ codes "\t" ++ cause_text known cause
+    ++ written (record { text = origin.text; mode = origin.mode; wildcard = origin.wildcard }) ++ codes "\t"
+    ++ cause_text known cause
 
--- where an answer comes from; what no line says comes from nowhere
+-- the place that an answer comes from; an attribute without a line has none
 abbrev pub origin_text : List (List ℕ) → Option Answer → List ℕ
 origin_text known None = codes "-\t-\t-"
 origin_text known (Some answer) = place_text known answer.origin answer.cause answer.origin.source
 
--- a path, a name and what is said of it
-abbrev pub told_text : List ℕ → List ℕ → List ℕ → State → List ℕ
-told_text path between name state = path ++ between ++ name ++ between ++ info state
+-- a path, a name and its state
+abbrev pub answer_text : List ℕ → List ℕ → List ℕ → State → List ℕ
+answer_text path separator name state = path ++ separator ++ name ++ separator ++ info state
 
--- the same as a line, with NUL behind each part, or as a line with the place that it comes from
+-- the same as a line, with NUL after each part, or as a line with the place
 abbrev pub entry_text : Form → List (List ℕ) → List ℕ → List ℕ → Option Answer → List ℕ
-entry_text forms.Line known path name answer = told_text path (codes ": ") name (state_of answer) ++ codes "\n"
-entry_text forms.Zero known path name answer = told_text path (codes "\0") name (state_of answer) ++ codes "\0"
+entry_text forms.Line known path name answer = answer_text path (codes ": ") name (state_of answer) ++ codes "\n"
+entry_text forms.Zero known path name answer = answer_text path (codes "\0") name (state_of answer) ++ codes "\0"
 entry_text forms.Origin known path name answer =
-    told_text path (codes ": ") name (state_of answer) ++ codes "\t" ++ origin_text known answer ++ codes "\n"
+    answer_text path (codes ": ") name (state_of answer) ++ codes "\t" ++ origin_text known answer ++ codes "\n"
 
--- without a selection, what is unspecified is left out
+-- without a selection, unspecified attributes are left out
 abbrev pub specified_text : Question → List (List ℕ) → List ℕ → Option Answer → List ℕ
 specified_text q known name answer =
     if is_unspecified (state_of answer) then [] else entry_text q.form known q.path name answer
 
--- with one, a name without an answer is unspecified, and a text that is no name is called `invalid`
+-- with one, a name without an answer is unspecified, and a text that is no name is reported as `invalid`
 abbrev pub selected_text : Question → List (List ℕ) → List ℕ → Option Answer → List ℕ
-selected_text q known name None = entry_text q.form known q.path (called name) None
+selected_text q known name None = entry_text q.form known q.path (reported_name name) None
 selected_text q known name (Some answer) = entry_text q.form known q.path name (Some answer)
 
 -- an entry for each name by number, or for each selected text
 abbrev pub answers_text : ScriptState → Question → Slots → List ℕ
 answers_text s q answers =
     if length s.selection == 0
-    then flat_map (λ number. specified_text q s.names (slice_index_or s.names number []) (answers number)) (range_with_len 0 (length s.names))
+    then flat_map (λ number. specified_text q s.names (slice_index_or s.names number []) (answers number))
+    (range_with_len 0 (length s.names))
     else flat_map (λ name. selected_text q s.names name (option_and_then answers (number_of s.names name))) s.selection
 
--- what decides the answers for a path: the lists that stand, and the bodies of their macros
+-- the setting of a question: the lists, and the bodies of their macros
 abbrev pub asked_setting : ScriptState → Question → Setting
 asked_setting s q = setting_of s.lists (bodies_by s) q.path q.case q.is_dir
 
@@ -106,31 +110,40 @@ IsAnswerText s q text =
     (table : Table) × IsStable setting no_answers table
     × (text ≡ answers_text s q (λ number. option_and_then (answer_at setting) (table number)))
 
--- what a record writes
+-- the text that a record writes
 abbrev pub IsRecordText : ScriptState → Record → List ℕ → Type 0
 IsRecordText s (add a) text = text ≡ flat_map (dropped_text a.source) (dropped_lines a.buffer)
 IsRecordText s pop text = text ≡ []
 IsRecordText s (names selected) text = text ≡ []
 IsRecordText s (ask q) text = IsAnswerText s q text
 
--- what a script writes from what stands, where its first record has this number: the texts of its records, up to the first
--- that is malformed, and the number of that one
+-- the text that a script writes from a state, if its first record has this number: the texts of its records up to the first
+-- malformed one, and the number of that one
 pub data Writes : ScriptState → ℕ → List ℕ → Option ℕ → List ℕ → Type 0 where
   ends : {s : ScriptState} {n : ℕ} → Writes s n [] None []
   breaks : {s : ScriptState} {n : ℕ} {script : List ℕ} → script ≢ [] → record_of script ≡ None → Writes s n script (Some n) []
   goes_on : {s : ScriptState} {n : ℕ} {script : List ℕ} {malformed : Option ℕ} (r : Record) (rest first others : List ℕ) →
-      record_of script ≡ Some (r, rest) → IsRecordText s r first → Writes (after r s) (n + 1) rest malformed others →
+      record_of script ≡ Some (r, rest) → IsRecordText s r first → Writes (next_state r s) (n + 1) rest malformed others →
       Writes s n script malformed (first ++ others)
 
--- the text of a script from the global lists, whole or up to its malformed record of this number, was appended, or a beginning of it
-abbrev pub AppendsText : Loaded → List ℕ → Option ℕ → Option (List ℕ) → Option (List ℕ) → Type 0
-AppendsText globals script malformed old new = (text : List ℕ) × Writes (begun globals) 1 script malformed text × Appends old new text
+-- the text of a script from the global lists was appended, whole or up to its malformed record of this number
+abbrev pub AppendsText : GlobalLists → List ℕ → Option ℕ → Option (List ℕ) → Option (List ℕ) → Type 0
+AppendsText globals script malformed old new =
+    (text : List ℕ) × Writes (initial_state globals) 1 script malformed text × Appends old new text
 
-abbrev pub AppendsTextFront : Loaded → List ℕ → Option (List ℕ) → Option (List ℕ) → Type 0
+-- a beginning of that text was appended
+abbrev pub AppendsTextFront : GlobalLists → List ℕ → Option (List ℕ) → Option (List ℕ) → Type 0
 AppendsTextFront globals script old new =
-    (malformed : Option ℕ) × (text : List ℕ) × Writes (begun globals) 1 script malformed text × AppendsFront old new text
+    (malformed : Option ℕ) × (text : List ℕ) × Writes (initial_state globals) 1 script malformed text × AppendsFront old new text
 
--- exactly one text, and at most one malformed record, is what a script writes from what stands
+-- the same, if the bytes of the script are known
+abbrev pub WritesText : GlobalLists → Option (List ℕ) → Option ℕ → Option (List ℕ) → Option (List ℕ) → Type 0
+WritesText globals script malformed old new = IfSome script (λ s. AppendsText globals s malformed old new)
+
+abbrev pub WritesTextFront : GlobalLists → Option (List ℕ) → Option (List ℕ) → Option (List ℕ) → Type 0
+WritesTextFront globals script old new = IfSome script (λ s. AppendsTextFront globals s old new)
+
+-- a script writes exactly one text from a state, and has at most one first malformed record
 abbrev pub OneText : ScriptState → ℕ → List ℕ → Type 0
 OneText s number script =
     (malformed : Option ℕ) × (text : List ℕ) × Writes s number script malformed text

@@ -1,21 +1,24 @@
-//! The answers for a path, as a script's question wants them written.
+//! The text of the answers for a path, in the form of its question.
 
-ghost use Rattle.std.specs.Prelude.{◌≡◌, ◌++◌, OnOk, option_map, slice_index_or, [], Some};
+ghost use Rattle.std.specs.Prelude.{◌≡◌, ◌++◌, OnOk, slice_index_or, [], Some};
 ghost use Rattle.std.specs.List.{flat_map};
-ghost use Rattle.gix_attributes.specs.TextViews.{stated};
-ghost use Rattle.attr_search.specs.Matches.{match_seen, cause_of};
-ghost use Rattle.attr_search.specs.Slots.{table_state};
-ghost use Rattle.check_attr.specs.MatchText.{answer_seen, matched_text, specified_match_text};
-ghost use Rattle.check_attr.specs.ScriptText.{info, cause_text, origin_text, told_text};
-ghost use Rattle.check_attr.specs.ScriptViews.{question_seen};
+ghost use Rattle.gix_attributes.specs.TextViews.{state_view};
+ghost use Rattle.gix_attributes.specs.Matches.{match_view, cause_of};
+ghost use Rattle.gix_attributes.specs.Slots.{table_state};
+ghost use Rattle.check_attr.specs.inner.MatchText.{answer_view, match_entry, specified_entry};
+ghost use Rattle.check_attr.specs.ScriptText.{info, cause_text, origin_text, answer_text};
 
-use crate::gathering::{push_bytes, push_text};
+use crate::buffer::{push_bytes, push_number, push_text};
 use crate::script::{Form, Question};
-use gix_attributes::StateRef;
 use gix_attributes::search::{Match, MatchKind, Matches, MetadataCollection, Selected};
+use gix_attributes::{AssignmentRef, StateRef};
 use std::alloc::{AllocError, Global};
 
-/// Writes an entry for each answer, but for those that are unspecified.
+/// Appends an entry for each answer that is not unspecified.
+///
+/// # Errors
+///
+/// `AllocError` if a buffer could not grow.
 pub fn push_specified(
     alloc: Global,
     out: &mut Vec<u8>,
@@ -23,7 +26,8 @@ pub fn push_specified(
     collection: &MetadataCollection,
     found: Matches<'_>,
 ) -> Result<(), AllocError>
-    ensures { OnOk result (out.new.items ≡ out.old.items ++ flat_map (specified_match_text (question_seen question.entry) collection.now.names) found.entry) }
+    ensures { OnOk result (out.new.items
+        ≡ out.old.items ++ flat_map (specified_entry question.entry collection.now) found.entry) }
 {
     for one in found {
         push_if_specified(alloc, out, question, collection, one)?;
@@ -38,7 +42,8 @@ fn push_if_specified(
     collection: &MetadataCollection,
     one: Match<'_>,
 ) -> Result<(), AllocError>
-    ensures { OnOk result (out.new.items ≡ out.old.items ++ specified_match_text (question_seen question.entry) collection.now.names (match_seen one.entry)) }
+    ensures { OnOk result (out.new.items
+        ≡ out.old.items ++ specified_entry question.entry collection.now (match_view one.entry)) }
 {
     if one.assignment.state.is_unspecified() {
         return Ok(());
@@ -46,7 +51,11 @@ fn push_if_specified(
     push_entry(alloc, out, question, collection, one)
 }
 
-/// Writes an entry for each answer.
+/// Appends an entry for each answer.
+///
+/// # Errors
+///
+/// `AllocError` if a buffer could not grow.
 pub fn push_selected(
     alloc: Global,
     out: &mut Vec<u8>,
@@ -54,7 +63,8 @@ pub fn push_selected(
     collection: &MetadataCollection,
     found: Selected<'_>,
 ) -> Result<(), AllocError>
-    ensures { OnOk result (out.new.items ≡ out.old.items ++ flat_map (matched_text (question_seen question.entry) collection.now.names) found.entry) }
+    ensures { OnOk result (out.new.items
+        ≡ out.old.items ++ flat_map (match_entry question.entry collection.now) found.entry) }
 {
     for one in found {
         push_entry(alloc, out, question, collection, one)?;
@@ -69,19 +79,20 @@ fn push_entry(
     collection: &MetadataCollection,
     one: Match<'_>,
 ) -> Result<(), AllocError>
-    ensures { OnOk result (out.new.items ≡ out.old.items ++ matched_text (question_seen question.entry) collection.now.names (match_seen one.entry)) }
+    ensures { OnOk result (out.new.items
+        ≡ out.old.items ++ match_entry question.entry collection.now (match_view one.entry)) }
 {
     match question.form {
         Form::Line => {
-            push_told(out, question.path, ": ", one)?;
+            push_answer(out, question.path, ": ", one.assignment)?;
             push_text(out, "\n")
         }
         Form::Zero => {
-            push_told(out, question.path, "\0", one)?;
+            push_answer(out, question.path, "\0", one.assignment)?;
             push_text(out, "\0")
         }
         Form::Origin => {
-            push_told(out, question.path, ": ", one)?;
+            push_answer(out, question.path, ": ", one.assignment)?;
             push_text(out, "\t")?;
             push_origin(alloc, out, collection, one)?;
             push_text(out, "\n")
@@ -89,24 +100,27 @@ fn push_entry(
     }
 }
 
-// The path, the attribute and what is said of it.
-fn push_told(
+// The path, the name and the state.
+fn push_answer(
     out: &mut Vec<u8>,
     path: &[u8],
-    between: &str,
-    one: Match<'_>,
+    separator: &str,
+    assignment: AssignmentRef<'_>,
 ) -> Result<(), AllocError>
-    ensures { OnOk result (out.new.items ≡ out.old.items ++ told_text path.now between.now one.entry.assignment.name.text.now (table_state (stated one.entry.assignment.state))) }
+    ensures { OnOk result (out.new.items
+        ≡ out.old.items ++ answer_text path.now separator.now assignment.entry.name.text.now
+        (table_state (state_view assignment.entry.state))) }
 {
     push_bytes(out, path)?;
-    push_text(out, between)?;
-    push_text(out, one.assignment.name.as_str())?;
-    push_text(out, between)?;
-    push_info(out, one.assignment.state)
+    push_text(out, separator)?;
+    push_text(out, assignment.name.as_str())?;
+    push_text(out, separator)?;
+    push_info(out, assignment.state)
 }
 
 fn push_info(out: &mut Vec<u8>, state: StateRef<'_>) -> Result<(), AllocError>
-    ensures { OnOk result (out.new.items ≡ out.old.items ++ info (table_state (stated state.entry))) }
+    ensures { OnOk result (out.new.items
+        ≡ out.old.items ++ info (table_state (state_view state.entry))) }
 {
     match state {
         StateRef::Set => push_text(out, "set"),
@@ -116,20 +130,24 @@ fn push_info(out: &mut Vec<u8>, state: StateRef<'_>) -> Result<(), AllocError>
     }
 }
 
-// Where the line stands that decided, and which macro it named. What no line decided has no source.
+// The source, line and pattern that decided, and the macro. An unspecified attribute has none.
 fn push_origin(
     alloc: Global,
     out: &mut Vec<u8>,
     collection: &MetadataCollection,
     one: Match<'_>,
 ) -> Result<(), AllocError>
-    ensures { OnOk result (out.new.items ≡ out.old.items ++ origin_text collection.now.names (Some (answer_seen (match_seen one.entry)))) }
+    ensures { OnOk result (out.new.items ≡ out.old.items
+        ++ origin_text collection.now.names (Some (answer_view (match_view one.entry)))) }
 {
     let Some(source) = one.location.source else {
         return push_text(out, "-\t-\t-");
     };
     let line = one.location.sequence_number;
-    push_text(out, &format!(in alloc; "{source}:{line}\t")?)?;
+    push_text(out, source)?;
+    push_text(out, ":")?;
+    push_number(out, line)?;
+    push_text(out, "\t")?;
     push_bytes(out, &one.pattern.write_text(alloc)?)?;
     push_text(out, "\t")?;
     push_cause(out, collection, one.kind)
@@ -140,7 +158,8 @@ fn push_cause(
     collection: &MetadataCollection,
     kind: MatchKind,
 ) -> Result<(), AllocError>
-    ensures { OnOk result (out.new.items ≡ out.old.items ++ cause_text collection.now.names (cause_of kind)) }
+    ensures { OnOk result (out.new.items
+        ≡ out.old.items ++ cause_text collection.now.names (cause_of kind)) }
 {
     match kind.source_id() {
         None => push_text(out, "-"),

@@ -1,34 +1,33 @@
 //! The program `check_attr`: its arguments, its statuses, and its texts on standard error.
-ghost use Rattle.std.specs.Prelude.{◌≡◌, ◌⊎◌, ℕ, ⊤, List, Option, Result, IfOk, IfErr, IfSome, IsTrue, OnOk, OnErr, ◌↔◌, map, string_bytes};
+ghost use Rattle.std.specs.Prelude.{◌≡◌, ◌⊎◌, ⊤, List, Result, IfOk, IfErr, IfSome, IsTrue, OnOk, OnErr, ◌↔◌, map, string_bytes};
 ghost use Rattle.std.specs.Io.KnownBytes.{Appends};
 ghost use Rattle.gix_attributes.specs.Additions.{IsIo};
 ghost use Rattle.gix_attributes.specs.Failures.{Fails};
-ghost use Rattle.gix_attributes.specs.FileReads.{AreAnswered, FileRead, ReadInOrder, names_read};
+ghost use Rattle.gix_attributes.specs.FileReads.{FileRead, names_read};
 ghost use Rattle.check_attr.specs.Failures.{AppendsFront};
-ghost use Rattle.check_attr.specs.GlobalFiles.{left_out_text, loaded_from};
-ghost use Rattle.check_attr.specs.LinesText.{lines_text};
-ghost use Rattle.check_attr.specs.Program.{Closes, Ends, IsLinesAlone, Says, fault_line, refusal_line, status_after, status_of};
+ghost use Rattle.check_attr.specs.GlobalFiles.{ReadsNames, all_dropped_text, loaded_from};
+ghost use Rattle.check_attr.specs.LinesText.{WritesLines};
+ghost use Rattle.check_attr.specs.Program.{IsLinesAlone, Prints, PrintsOutcome, PrintsStatus, WritesOutcome, fault_line, refusal_line, status_after, status_of};
 
-use crate::dropped::push_dropped;
+use crate::dropped_lines::push_dropped;
 use crate::fault::Fault;
-use crate::global_files::globals;
+use crate::global_lists::{Globals, read_globals};
 use crate::line_report::lines;
-use crate::loaded::Globals;
 use crate::reading::Pull;
-use crate::running::run;
+use crate::script_run::run;
 use crate::writing::{Push, write_all};
 use gix_attributes::files::Files;
 use gix_attributes::search::{AddError, Dropped};
 use itoa::Buffer;
 use std::alloc::{AllocError, Global};
 
-/// Runs the program with the arguments behind its name, and answers its status. With the one
-/// argument `--lines` it runs [`lines`]; other arguments are names of global files, and it runs a
-/// script over these with [`run`].
+/// Runs the program with the arguments after its name, and returns its status. If the one argument
+/// is `--lines`, it runs [`lines`]. Else the arguments are names of global files, and it runs a
+/// script over their lists with [`run`].
 ///
 /// The status is 0 after success, 2 after a malformed record and else 1. The lines that global files
-/// leave out are said on `errors` before the script is read, and at the end what went wrong, in a
-/// line; what these refuse is passed over.
+/// leave out are printed on `errors` before the script is read, and at the end a line for a run that
+/// ended early. A failure of `errors` is ignored.
 pub fn program<F: Files, R: Pull, W: Push, E: Push>(
     alloc: Global,
     files: &mut F,
@@ -37,33 +36,40 @@ pub fn program<F: Files, R: Pull, W: Push, E: Push>(
     writer: &mut W,
     errors: &mut E,
 ) -> u8
-    ensures done { IsLinesAlone args.now → result ≡ 0 → IfSome (R.remaining reader.old) (λ input. Appends (W.contents writer.old) (W.contents writer.new) (lines_text input)) }
+    ensures done { IsLinesAlone args.now → result ≡ 0 →
+        WritesLines (R.remaining reader.old) (W.contents writer.old) (W.contents writer.new) }
     ensures quiet { IsLinesAlone args.now → result ≡ 0 → errors.new ≡ errors.old }
-    ensures failed { IsLinesAlone args.now → (result ≡ 0) ⊎ ((fault : Fault) × (result ≡ status_of fault) × Says (E.contents errors.old) (E.contents errors.new) (E.failed errors.old) (E.failed errors.new) (E.Stalls errors.new) (fault_line fault)) }
+    ensures failed { IsLinesAlone args.now →
+        PrintsStatus E.contents E.failed E.Stalls errors.old errors.new result }
     ensures files { IsLinesAlone args.now → files.new ≡ files.old }
 
-    // The global files are not read, or memory is wanted, and no script is read then. Or the lines that they leave out are
-    // told, and the script runs over their lists.
+    // If the device fails or memory runs out, the global files are not read, nor is the script.
+    // Else the lines that they leave out are printed, and the script runs over their lists.
     ensures script { (IsLinesAlone args.now → ⊥) →
-        ((e : AddError) × (result ≡ 1) × (reader.new ≡ reader.old) × (writer.new ≡ writer.old) × (IsIo e → Fails (F.failed files.old) (F.failed files.new))
-        × Says (E.contents errors.old) (E.contents errors.new) (E.failed errors.old) (E.failed errors.new) (E.Stalls errors.new) (refusal_line e))
-        ⊎ ((read : List FileRead) × ReadInOrder F.reads files.old read files.new × (names_read read ≡ map string_bytes args.now) × AreAnswered read
-        × (told : E) × Says (E.contents errors.old) (E.contents told) (E.failed errors.old) (E.failed told) (E.Stalls told) (left_out_text (names_read read) (loaded_from read).dropped)
-        × (ended : Result ⊤ Fault) × (result ≡ status_after ended) × Ends (loaded_from read) (R.remaining reader.old) (W.contents writer.old) (W.contents writer.new) ended
-        × Closes E.contents E.failed E.Stalls told errors.new ended) }
+        ((e : AddError) × (result ≡ 1) × (reader.new ≡ reader.old) × (writer.new ≡ writer.old)
+        × (IsIo e → Fails (F.failed files.old) (F.failed files.new))
+        × Prints E.contents E.failed E.Stalls errors.old errors.new (refusal_line e))
+        ⊎ ((read : List FileRead)
+        × ReadsNames F.reads (map string_bytes args.now) files.old read files.new
+        × (warned : E) × Prints E.contents E.failed E.Stalls errors.old warned
+        (all_dropped_text (names_read read) (loaded_from read).dropped)
+        × (outcome : Result ⊤ Fault) × (result ≡ status_after outcome)
+        × WritesOutcome (loaded_from read) (R.remaining reader.old)
+        (W.contents writer.old) (W.contents writer.new) outcome
+        × PrintsOutcome E.contents E.failed E.Stalls warned errors.new outcome) }
 {
     if is_lines_alone(args) {
-        let ended = lines(alloc, reader, writer);
-        return close(errors, &ended);
+        let outcome = lines(alloc, reader, writer);
+        return finish(errors, &outcome);
     }
     match load(alloc, files, args) {
         Ok((globals, text)) => {
-            say(errors, &text);
-            let ended = run(alloc, reader, writer, globals);
-            close(errors, &ended)
+            print(errors, &text);
+            let outcome = run(alloc, reader, writer, globals);
+            finish(errors, &outcome)
         }
         Err(error) => {
-            refuse(errors, &error);
+            print_refusal(errors, &error);
             1
         }
     }
@@ -75,27 +81,29 @@ fn load<F: Files>(
     files: &mut F,
     names: &[String],
 ) -> Result<(Globals, Vec<u8>), AddError>
-    ensures loaded { IfOk result (λ r. (read : List FileRead) × ReadInOrder F.reads files.old read files.new
-        × (names_read read ≡ map string_bytes names.now) × AreAnswered read × (r.0 ≡ loaded_from read)
-        × (r.1.items ≡ left_out_text (map string_bytes names.now) r.0.dropped)) }
+    ensures loaded { IfOk result (λ r. (read : List FileRead)
+        × ReadsNames F.reads (map string_bytes names.now) files.old read files.new
+        × (r.0 ≡ loaded_from read)
+        × (r.1.items ≡ all_dropped_text (map string_bytes names.now) r.0.dropped)) }
     ensures device { IfErr result (λ e. IsIo e → Fails (F.failed files.old) (F.failed files.new)) }
 {
-    let globals = globals(alloc, files, names)?;
-    let text = left_out(alloc, names, globals.dropped())?;
+    let globals = read_globals(alloc, files, names)?;
+    let text = dropped_report(alloc, names, globals.dropped())?;
     Ok((globals, text))
 }
 
 // A line for each line that the file of one of these names leaves out.
-fn left_out(
+fn dropped_report(
     alloc: Global,
     names: &[String],
     dropped: &[Vec<Dropped>],
 ) -> Result<Vec<u8>, AllocError>
-    ensures { IfOk result (λ text. text.items ≡ left_out_text (map string_bytes names.now) (map (λ lines. lines.items) dropped.now)) }
+    ensures { IfOk result (λ text. text.items
+        ≡ all_dropped_text (map string_bytes names.now) (map (λ lines. lines.items) dropped.now)) }
 {
     let mut text = Vec::new(alloc);
     for (name, lines) in names.iter().zip(dropped) {
-        push_dropped(alloc, &mut text, name, lines)?;
+        push_dropped(&mut text, name, lines)?;
     }
     Ok(text)
 }
@@ -118,43 +126,46 @@ fn status_of(fault: &Fault) -> u8
     }
 }
 
-// Says why a run ended early, if it did, and answers the status.
-fn close<E: Push>(errors: &mut E, ended: &Result<(), Fault>) -> u8
-    ensures status { result ≡ status_after ended.now }
-    ensures said { Closes E.contents E.failed E.Stalls errors.old errors.new ended.now }
+// Prints why a run ended early, if it did, and returns the status.
+fn finish<E: Push>(errors: &mut E, outcome: &Result<(), Fault>) -> u8
+    ensures status { result ≡ status_after outcome.now }
+    ensures printed { PrintsOutcome E.contents E.failed E.Stalls errors.old errors.new outcome.now }
 {
-    match ended {
+    match outcome {
         Ok(()) => 0,
         Err(fault) => {
-            report(errors, fault);
+            print_fault(errors, fault);
             status_of(fault)
         }
     }
 }
 
-// Says on standard error why a run ended early, and passes over what that refuses. No memory is
-// taken, since there may be none.
-fn report<E: Push>(errors: &mut E, fault: &Fault)
-    ensures { Says (E.contents errors.old) (E.contents errors.new) (E.failed errors.old) (E.failed errors.new) (E.Stalls errors.new) (fault_line fault.now) }
+// Prints why a run ended early. It takes no memory, since there may be none.
+fn print_fault<E: Push>(errors: &mut E, fault: &Fault)
+    ensures { Prints E.contents E.failed E.Stalls errors.old errors.new (fault_line fault.now) }
 {
     match fault {
-        Fault::Record(number) => say_malformed(errors, *number),
-        Fault::Read => say(errors, b"check_attr: reading failed\n"),
-        Fault::Write => say(errors, b"check_attr: writing failed\n"),
-        Fault::OutOfMemory => say(errors, b"check_attr: out of memory\n"),
+        Fault::Record(number) => print_malformed(errors, *number),
+        Fault::Read => print(errors, b"check_attr: reading failed\n"),
+        Fault::Write => print(errors, b"check_attr: writing failed\n"),
+        Fault::OutOfMemory => print(errors, b"check_attr: out of memory\n"),
     }
 }
 
-fn say_malformed<E: Push>(errors: &mut E, number: usize)
-    ensures { Says (E.contents errors.old) (E.contents errors.new) (E.failed errors.old) (E.failed errors.new) (E.Stalls errors.new) (fault_line (Fault.Record number)) }
+fn print_malformed<E: Push>(errors: &mut E, number: usize)
+    ensures { Prints E.contents E.failed E.Stalls errors.old errors.new
+        (fault_line (Fault.Record number)) }
 {
     let _ = write_malformed(errors, number);
 }
 
 fn write_malformed<E: Push>(errors: &mut E, number: usize) -> Result<(), Fault>
-    ensures ok { OnOk result (Appends (E.contents errors.old) (E.contents errors.new) (fault_line (Fault.Record number))) }
-    ensures front { OnErr result (AppendsFront (E.contents errors.old) (E.contents errors.new) (fault_line (Fault.Record number))) }
-    ensures write { OnErr result (Fails (E.failed errors.old) (E.failed errors.new) ⊎ E.Stalls errors.new) }
+    ensures ok { OnOk result (Appends (E.contents errors.old) (E.contents errors.new)
+        (fault_line (Fault.Record number))) }
+    ensures front { OnErr result (AppendsFront (E.contents errors.old) (E.contents errors.new)
+        (fault_line (Fault.Record number))) }
+    ensures write { OnErr result
+        (Fails (E.failed errors.old) (E.failed errors.new) ⊎ E.Stalls errors.new) }
 {
     let mut digits = Buffer::new();
     write_all(errors, b"check_attr: malformed record ")?;
@@ -162,18 +173,19 @@ fn write_malformed<E: Push>(errors: &mut E, number: usize) -> Result<(), Fault>
     write_all(errors, b"\n")
 }
 
-// Says why the global files aren't read.
-fn refuse<E: Push>(errors: &mut E, error: &AddError)
-    ensures { Says (E.contents errors.old) (E.contents errors.new) (E.failed errors.old) (E.failed errors.new) (E.Stalls errors.new) (refusal_line error.now) }
+// Prints why the global files are not read.
+fn print_refusal<E: Push>(errors: &mut E, error: &AddError)
+    ensures { Prints E.contents E.failed E.Stalls errors.old errors.new (refusal_line error.now) }
 {
     match error {
-        AddError::Io(_) => say(errors, b"check_attr: cannot read a global file\n"),
-        AddError::OutOfMemory => say(errors, b"check_attr: out of memory\n"),
+        AddError::Io(_) => print(errors, b"check_attr: cannot read a global file\n"),
+        AddError::OutOfMemory => print(errors, b"check_attr: out of memory\n"),
     }
 }
 
-fn say<E: Push>(errors: &mut E, text: &[u8])
-    ensures { Says (E.contents errors.old) (E.contents errors.new) (E.failed errors.old) (E.failed errors.new) (E.Stalls errors.new) text.now }
+// Prints a text. A failure of `errors` is ignored, since there is no other place to report it.
+fn print<E: Push>(errors: &mut E, text: &[u8])
+    ensures { Prints E.contents E.failed E.Stalls errors.old errors.new text.now }
 {
     let _ = write_all(errors, text);
 }

@@ -1,39 +1,39 @@
-//! What a script changes, record by record, and what each record writes.
+//! The engine of a script: it applies each record, and appends the text that the record writes.
 
-ghost use Rattle.std.specs.Prelude.{◌≡◌, ℕ, List, ◌++◌, true, false, OnOk};
+ghost use Rattle.std.specs.Prelude.{◌≡◌, ◌++◌, true, false, OnOk};
 ghost use Rattle.std.specs.List.{flat_map};
-ghost use Rattle.attr_lists.specs.KeptLists.{dropped_lines};
-ghost use Rattle.gix_attributes.specs.Contents.{initialized};
-ghost use Rattle.check_attr.specs.EngineViews.{IsSound, fresh, is_current, script_state_of, texts_of};
-ghost use Rattle.check_attr.specs.ScriptText.{IsAnswerText, IsRecordText, dropped_text};
-ghost use Rattle.check_attr.specs.ScriptViews.{addition_seen, is_question, question_seen, record_seen};
-ghost use Rattle.check_attr.specs.ScriptStates.{added, after, begun, popped, selecting};
+ghost use Rattle.gix_attributes.specs.KeptLists.{dropped_lines};
+ghost use Rattle.gix_attributes.specs.Contents.{initial_content};
+ghost use Rattle.check_attr.specs.inner.EngineViews.{AppendsAnswers, AppendsRecord, IsSoundEngine, fresh_content, is_current, script_state_of, selected_texts};
+ghost use Rattle.check_attr.specs.ScriptText.{dropped_text};
+ghost use Rattle.check_attr.specs.inner.ScriptViews.{addition_view, is_question, question_view, record_view};
+ghost use Rattle.check_attr.specs.ScriptStates.{state_with_list, next_state, initial_state, state_without_last, state_selecting};
 
 use crate::answers::{push_selected, push_specified};
-use crate::dropped::push_dropped;
-use crate::loaded::Globals;
+use crate::dropped_lines::push_dropped;
+use crate::global_lists::Globals;
 use crate::script::{Addition, Question, Record};
 use bstr::BStr;
 use gix_attributes::Search;
 use gix_attributes::search::{MetadataCollection, Outcome};
 use std::alloc::{AllocError, Global};
 
-/// The lists that stand, and the names that are selected.
+/// The registered lists, and the selected names.
 #[derive(Drop)]
 pub struct Engine<'a> {
     search: Search,
     collection: MetadataCollection,
     selection: Vec<&'a str>,
     outcome: Outcome,
-    // Whether the outcome was initialised since the collection or the selection changed last.
+    // Whether the outcome was initialised since the lists or the selection changed last.
     is_current: bool,
 }
 
 impl<'a> Engine<'a> {
-    /// Begins with the global lists, and without a selection.
+    /// An engine with the global lists, and without a selection.
     pub fn new(alloc: Global, globals: Globals) -> Engine<'a>
-        ensures sound { IsSound result }
-        ensures state { script_state_of result ≡ begun globals }
+        ensures sound { IsSoundEngine result }
+        ensures state { script_state_of result ≡ initial_state globals }
         ensures current { is_current result ≡ false }
     {
         let (search, collection) = globals.into_parts();
@@ -46,20 +46,26 @@ impl<'a> Engine<'a> {
         }
     }
 
-    /// Does what a record says, and writes what it answers.
+    /// Applies a record, and appends the text that it writes.
+    ///
+    /// # Errors
+    ///
+    /// `AllocError` if a buffer, the lists, the collection or the outcome could not grow.
     pub fn apply(
         &mut self,
         alloc: Global,
-        said: Record<'a>,
+        next: Record<'a>,
         out: &mut Vec<u8>,
     ) -> Result<(), AllocError>
-        requires { IsSound self.old }
-        ensures sound { OnOk result (IsSound self.new) }
-        ensures state { OnOk result (script_state_of self.new ≡ after (record_seen said.entry) (script_state_of self.old)) }
-        ensures current { OnOk result (is_current self.new ≡ is_question said.entry) }
-        ensures text { OnOk result ((text : List ℕ) × IsRecordText (script_state_of self.old) (record_seen said.entry) text × (out.new.items ≡ out.old.items ++ text)) }
+        requires { IsSoundEngine self.old }
+        ensures sound { OnOk result (IsSoundEngine self.new) }
+        ensures state { OnOk result (script_state_of self.new
+            ≡ next_state (record_view next.entry) (script_state_of self.old)) }
+        ensures current { OnOk result (is_current self.new ≡ is_question next.entry) }
+        ensures text { OnOk result (AppendsRecord (script_state_of self.old)
+            (record_view next.entry) out.old.items out.new.items) }
     {
-        match said {
+        match next {
             Record::Add(addition) => self.add(alloc, addition, out),
             Record::Pop => {
                 self.pop();
@@ -79,11 +85,14 @@ impl<'a> Engine<'a> {
         addition: Addition<'_>,
         out: &mut Vec<u8>,
     ) -> Result<(), AllocError>
-        requires { IsSound self.old }
-        ensures sound { OnOk result (IsSound self.new) }
-        ensures state { OnOk result (script_state_of self.new ≡ added (addition_seen addition.entry) (script_state_of self.old)) }
+        requires { IsSoundEngine self.old }
+        ensures sound { OnOk result (IsSoundEngine self.new) }
+        ensures state { OnOk result (script_state_of self.new
+            ≡ state_with_list (addition_view addition.entry) (script_state_of self.old)) }
         ensures current { OnOk result (is_current self.new ≡ false) }
-        ensures text { OnOk result (out.new.items ≡ out.old.items ++ flat_map (dropped_text (addition_seen addition.entry).source) (dropped_lines (addition_seen addition.entry).buffer)) }
+        ensures text { OnOk result (out.new.items ≡ out.old.items
+            ++ flat_map (dropped_text addition.entry.source.now)
+            (dropped_lines addition.entry.buffer.now)) }
     {
         self.is_current = false;
         let dropped = self.search.add_patterns_buffer(
@@ -94,14 +103,14 @@ impl<'a> Engine<'a> {
             &mut self.collection,
             addition.allow_macros,
         )?;
-        push_dropped(alloc, out, addition.source, &dropped)
+        push_dropped(out, addition.source, &dropped)
     }
 
-    // Where no list stands, nothing happens.
+    // Without a list, nothing happens.
     fn pop(&mut self)
-        requires { IsSound self.old }
-        ensures sound { IsSound self.new }
-        ensures state { script_state_of self.new ≡ popped (script_state_of self.old) }
+        requires { IsSoundEngine self.old }
+        ensures sound { IsSoundEngine self.new }
+        ensures state { script_state_of self.new ≡ state_without_last (script_state_of self.old) }
         ensures current { is_current self.new ≡ false }
     {
         self.is_current = false;
@@ -109,9 +118,10 @@ impl<'a> Engine<'a> {
     }
 
     fn select(&mut self, names: Vec<&'a str>)
-        requires { IsSound self.old }
-        ensures sound { IsSound self.new }
-        ensures state { script_state_of self.new ≡ selecting (texts_of names.entry.items) (script_state_of self.old) }
+        requires { IsSoundEngine self.old }
+        ensures sound { IsSoundEngine self.new }
+        ensures state { script_state_of self.new
+            ≡ state_selecting (selected_texts names.entry.items) (script_state_of self.old) }
         ensures current { is_current self.new ≡ false }
     {
         self.selection = names;
@@ -124,11 +134,12 @@ impl<'a> Engine<'a> {
         question: Question<'_>,
         out: &mut Vec<u8>,
     ) -> Result<(), AllocError>
-        requires { IsSound self.old }
-        ensures sound { OnOk result (IsSound self.new) }
+        requires { IsSoundEngine self.old }
+        ensures sound { OnOk result (IsSoundEngine self.new) }
         ensures state { OnOk result (script_state_of self.new ≡ script_state_of self.old) }
         ensures current { OnOk result (is_current self.new ≡ true) }
-        ensures text { OnOk result ((text : List ℕ) × IsAnswerText (script_state_of self.old) (question_seen question.entry) text × (out.new.items ≡ out.old.items ++ text)) }
+        ensures text { OnOk result (AppendsAnswers (script_state_of self.old)
+            (question_view question.entry) out.old.items out.new.items) }
     {
         self.prepare(alloc)?;
         self.search.pattern_matching_relative_path(
@@ -151,13 +162,13 @@ impl<'a> Engine<'a> {
         }
     }
 
-    // Empties the outcome, and initialises it only where it has to be.
+    // Resets the outcome, and initialises it only if the lists or the selection changed.
     fn prepare(&mut self, alloc: Global) -> Result<(), AllocError>
-        requires { IsSound self.old }
-        ensures sound { OnOk result (IsSound self.new) }
+        requires { IsSoundEngine self.old }
+        ensures sound { OnOk result (IsSoundEngine self.new) }
         ensures same { OnOk result (script_state_of self.new ≡ script_state_of self.old) }
         ensures current { OnOk result (is_current self.new ≡ true) }
-        ensures empty { OnOk result (self.new.outcome ≡ fresh self.new) }
+        ensures empty { OnOk result (self.new.outcome ≡ fresh_content self.new) }
     {
         if self.is_current {
             self.outcome.reset();

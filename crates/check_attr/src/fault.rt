@@ -1,4 +1,4 @@
-//! Why a run ends early.
+//! The faults that end a run early.
 ghost use Rattle.std.specs.Prelude.{◌≡◌};
 ghost use Rattle.check_attr.specs.declared.fault.Fault.TheVariants.{OutOfMemory};
 
@@ -8,13 +8,14 @@ use thiserror::Error;
 /// Why a run ends early.
 #[derive(Debug, Drop, Error)]
 pub enum Fault {
-    /// The record of this number, counted from 1, is malformed.
+    /// The record with this number, counted from 1, is malformed. The answers of those before it
+    /// were written.
     #[error("malformed record {0}")]
     Record(usize),
     /// The reader failed. Nothing was written.
     #[error("reading failed")]
     Read,
-    /// The writer failed, or took no byte of some.
+    /// The writer failed, or took no byte of a write that had some.
     #[error("writing failed")]
     Write,
     /// A buffer could not grow.

@@ -2,26 +2,24 @@
 #![tactic(auto)]
 
 mod answers;
+mod buffer;
 mod command;
-mod dropped;
+mod dropped_lines;
 mod engine;
-mod failures;
+mod failure_count;
 mod fault;
-mod gathering;
-mod global_files;
+mod global_lists;
 pub mod laws;
 mod line_report;
-mod loaded;
 mod reading;
-mod running;
 mod script;
+mod script_run;
 mod writing;
 
 pub use crate::command::program;
 pub use crate::fault::Fault;
-pub use crate::global_files::globals;
+pub use crate::global_lists::{Globals, read_globals as globals};
 pub use crate::line_report::lines;
-pub use crate::loaded::Globals;
 pub use crate::reading::{Pull, Reader};
-pub use crate::running::run;
+pub use crate::script_run::run;
 pub use crate::writing::{Push, Writer};

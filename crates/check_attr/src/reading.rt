@@ -1,38 +1,42 @@
-//! Readers that count their failures, and reading to the end.
+//! Readers that count their failures, and a read to the end.
 ghost use Rattle.std.specs.Prelude.{◌≡◌, ◌≢◌, ◌≤◌, ℕ, List, Option, IfOk, IfSome, OnOk, OnErr, IsErrOf};
 ghost use Rattle.std.specs.Io.{ReadsAtMost};
 ghost use Rattle.std.specs.Io.KnownBytes.{IsAtEnd, ReadConsumes};
 ghost use Rattle.check_attr.specs.Failures.{LosesFront};
 ghost use Rattle.gix_attributes.specs.Failures.{Fails};
 
-use crate::failures::counted;
+use crate::failure_count::counted;
 use crate::fault::Fault;
 use std::alloc::Global;
 use std::io;
 use std::io::Read;
 
-/// What bytes are read from: the calls and bytes of std's `Read`, with a count of the errors.
+/// A source of bytes: std's `Read`, with a count of the reads that failed.
 pub trait Pull {
-    // The bytes that reads will give from here on, where they are known.
+    // The bytes that reads will return from here on, if they are known.
     ghost remaining: { Self → Option (List ℕ) };
 
     // How many reads failed so far.
     ghost failed: { Self → ℕ };
 
-    /// Reads some bytes into the front of `buf`, and answers how many: none only at the end, or
-    /// where `buf` has no room.
+    /// Reads some bytes into the front of `buf`, and returns how many: none only at the end, or if
+    /// `buf` has no room.
+    ///
+    /// # Errors
+    ///
+    /// Whatever the reader returns. The failure is counted.
     fn read(&mut self, buf: &mut [u8]) -> io::Result<usize>
         ensures bound { ReadsAtMost result buf.new }
         ensures bytes { ReadConsumes (remaining self.old) (remaining self.new) result buf.new }
         ensures kept { failed self.old ≤ failed self.new }
         ensures err { OnErr result (Fails (failed self.old) (failed self.new)) };
 
-    /// How many reads failed so far, an interrupted one included; the count stays at `u64::MAX`.
+    /// The number of reads that failed so far, interrupted ones included. It stops at `u64::MAX`.
     fn failures(&self) -> u64
         ensures { result ≡ failed self.now };
 }
 
-/// Any reader of std, with its errors counted.
+/// A reader of std, with its failed reads counted.
 #[derive(Drop)]
 pub struct Reader<R> {
     inner: R,
@@ -40,7 +44,7 @@ pub struct Reader<R> {
 }
 
 impl<R: Read> Reader<R> {
-    /// The reader, with no failure counted yet.
+    /// The reader, without a failure so far.
     pub fn new(inner: R) -> Reader<R>
         ensures remaining { ⟦<Reader<R> as Pull>⟧.remaining result ≡ R.remaining inner }
         ensures failed { ⟦<Reader<R> as Pull>⟧.failed result ≡ 0 }
@@ -65,9 +69,15 @@ impl<R: Read> Pull for Reader<R> {
 
 const CHUNK: usize = 8192;
 
-/// Reads all that is left. A read that fails is not tried again, an interrupted one included.
+/// Reads all bytes that are left. A read that fails is not tried again, an interrupted one
+/// included.
+///
+/// # Errors
+///
+/// `Read` if a read failed, and `OutOfMemory` if the buffer could not grow.
 pub(crate) fn read_all<R: Pull>(alloc: Global, reader: &mut R) -> Result<Vec<u8>, Fault>
-    ensures ok { IfOk result (λ input. IfSome (R.remaining reader.old) (λ left. input.items ≡ left)) }
+    ensures ok { IfOk result (λ input.
+        IfSome (R.remaining reader.old) (λ left. input.items ≡ left)) }
     ensures end { OnOk result (IsAtEnd (R.remaining reader.new)) }
     ensures rest { OnErr result (LosesFront (R.remaining reader.old) (R.remaining reader.new)) }
     ensures kept { R.failed reader.old ≤ R.failed reader.new }

@@ -1,136 +1,160 @@
-//! The script that `check_attr` reads: its records, one by one.
+//! The parser of scripts: the records `add`, `pop`, `names` and `ask`, one after the other.
 
 ghost use Rattle.std.specs.Prelude.{◌≡◌, ◌<◌, ◌==◌, ◌||◌, not, slice_index, ◌∷◌, [], true, false, Some, None, IfOk, length, position, option_map, map, codes, if◌then◌else◌};
 ghost use Rattle.std.specs.Char.{is_ascii_digit};
 ghost use Rattle.std.specs.List.{list_all};
 ghost use Rattle.std.specs.Option.{option_copied};
 ghost use Rattle.std.specs.Str.{is_utf8};
-ghost use Rattle.check_attr.specs.Script.{behind, choice_of, part_before, part_of, if_text, is_number, digits_value, number_before, root_length, root_of, lengths_of, addition_of, added_of, names_of, asked_of, lines_of, manner_of, question_of, record_of, ◌then◌};
-ghost use Rattle.check_attr.specs.ScriptViews.{addition_seen, lengths_seen, manner_seen, question_seen, record_seen, with_rest};
+ghost use Rattle.gix_attributes.specs.LinesJoined.{line_feed};
+ghost use Rattle.check_attr.specs.Script.{strip_prefix, choice_of, cases, folder_flags, forms, macro_flags, split_once, split_at, if_text, is_number, digits_value, digit_zero, number_before, root_length, root_of, add_header, addition_of, add_record, names_record, ask_record, text_lines, ask_header, question_of, record_of, ◌then◌};
+ghost use Rattle.check_attr.specs.inner.ScriptViews.{addition_view, add_header_view, ask_header_view, lines_view, part_view, question_view, record_view, with_rest};
 
 use gix_attributes::glob::pattern::Case;
 use std::alloc::{AllocError, Global};
 use std::str;
 
-/// How the answers for a path are written: a line each, parts that NUL ends, or a line with the place of the pattern.
+// The digits that a number may have. A longer number is malformed.
+const MOST_DIGITS: usize = 8;
+
+/// The form in which the answers for a path are written.
 #[derive(Clone, Copy)]
 pub enum Form {
+    /// A line for each answer, as `git check-attr` writes it.
     Line,
+    /// Fields that NUL ends, as `git check-attr -z` writes them.
     Zero,
+    /// A line with the source, line and pattern that decided, and the macro.
     Origin,
 }
 
-/// A record of a script, lent from its bytes.
+/// A record of a script. It borrows from the script's bytes.
 #[derive(Drop)]
 pub enum Record<'a> {
+    /// Adds a list.
     Add(Addition<'a>),
+    /// Removes the last list.
     Pop,
+    /// Selects attributes, or all of them if there is no name.
     Names(Vec<&'a str>),
+    /// Looks up the attributes of a path.
     Ask(Question<'a>),
 }
 
-/// A buffer that is added as the last list.
+/// The attributes file that an `add` record adds as the last list.
 #[derive(Clone, Copy)]
 pub struct Addition<'a> {
+    /// Whether the file may define macros.
     pub allow_macros: bool,
+    /// The path of the file.
     pub source: &'a str,
+    /// The root of the repository, if the file's patterns are relative to its folder.
     pub root: Option<&'a str>,
+    /// The contents of the file.
     pub buffer: &'a [u8],
 }
 
-/// A path that is asked for.
+/// The path that an `ask` record looks up.
 #[derive(Clone, Copy)]
 pub struct Question<'a> {
+    /// The form of the answers.
     pub form: Form,
+    /// How letters compare.
     pub case: Case,
+    /// Whether the path is a folder, if that is known.
     pub is_dir: Option<bool>,
+    /// The path, relative to the root of the repository.
     pub path: &'a [u8],
 }
 
-// How long the parts of an addition are.
+// What comes before the parts of an addition: their lengths in bytes.
 #[derive(Clone, Copy)]
-struct Lengths {
+struct AddHeader {
     allow_macros: bool,
     source: usize,
     root: Option<usize>,
     buffer: usize,
 }
 
-// How a path is asked for.
+// What comes before the path of a question.
 #[derive(Clone, Copy)]
-struct Manner {
+struct AskHeader {
     form: Form,
     case: Case,
     is_dir: Option<bool>,
 }
 
-/// Reads the record in front, and answers it with what stands behind; none where that is malformed.
+/// Parses the first record, and returns it with the bytes after it, or none if it is malformed.
 ///
-/// No memory is reserved for lines or bytes that the record only claims.
+/// A count of lines or bytes in the record reserves no memory.
+///
+/// # Errors
+///
+/// `AllocError` if the list of names could not grow.
 pub fn record_of(alloc: Global, bytes: &[u8]) -> Result<Option<(Record<'_>, &[u8])>, AllocError>
-    ensures { IfOk result (λ read. option_map (with_rest record_seen) read ≡ record_of bytes.now) }
+    ensures { IfOk result (λ read. option_map (with_rest record_view) read ≡ record_of bytes.now) }
 {
     if bytes.starts_with(b"add ") {
-        return Ok(added_of(&bytes[4..]));
+        return Ok(add_record(&bytes[4..]));
     }
     if bytes.starts_with(b"pop\n") {
         return Ok(Some((Record::Pop, &bytes[4..])));
     }
     if bytes.starts_with(b"names ") {
-        return names_of(alloc, &bytes[6..]);
+        return names_record(alloc, &bytes[6..]);
     }
     if bytes.starts_with(b"ask ") {
-        return Ok(asked_of(&bytes[4..]));
+        return Ok(ask_record(&bytes[4..]));
     }
     Ok(None)
 }
 
-fn added_of(bytes: &[u8]) -> Option<(Record<'_>, &[u8])>
-    ensures { option_map (with_rest record_seen) result ≡ added_of bytes.now }
+fn add_record(bytes: &[u8]) -> Option<(Record<'_>, &[u8])>
+    ensures { option_map (with_rest record_view) result ≡ add_record bytes.now }
 {
-    let (lengths, rest) = lengths_of(bytes)?;
-    let (addition, rest) = addition_of(lengths, rest)?;
+    let (header, rest) = add_header(bytes)?;
+    let (addition, rest) = addition_of(header, rest)?;
     Some((Record::Add(addition), rest))
 }
 
-fn asked_of(bytes: &[u8]) -> Option<(Record<'_>, &[u8])>
-    ensures { option_map (with_rest record_seen) result ≡ asked_of bytes.now }
+fn ask_record(bytes: &[u8]) -> Option<(Record<'_>, &[u8])>
+    ensures { option_map (with_rest record_view) result ≡ ask_record bytes.now }
 {
-    let (manner, rest) = manner_of(bytes)?;
-    let (question, rest) = question_of(manner, rest)?;
+    let (header, rest) = ask_header(bytes)?;
+    let (question, rest) = question_of(header, rest)?;
     Some((Record::Ask(question), rest))
 }
 
-fn names_of(alloc: Global, bytes: &[u8]) -> Result<Option<(Record<'_>, &[u8])>, AllocError>
-    ensures { IfOk result (λ read. option_map (with_rest record_seen) read ≡ names_of bytes.now) }
+fn names_record(alloc: Global, bytes: &[u8]) -> Result<Option<(Record<'_>, &[u8])>, AllocError>
+    ensures { IfOk result (λ read.
+        option_map (with_rest record_view) read ≡ names_record bytes.now) }
 {
     let Some((count, rest)) = number_before(b'\n', bytes) else {
         return Ok(None);
     };
-    match lines_of(alloc, count, rest)? {
+    match text_lines(alloc, count, rest)? {
         Some((lines, rest)) => Ok(Some((Record::Names(lines), rest))),
         None => Ok(None),
     }
 }
 
-fn lengths_of(bytes: &[u8]) -> Option<(Lengths, &[u8])>
-    ensures { option_map (with_rest lengths_seen) result ≡ lengths_of bytes.now }
+fn add_header(bytes: &[u8]) -> Option<(AddHeader, &[u8])>
+    ensures { option_map (with_rest add_header_view) result ≡ add_header bytes.now }
 {
-    let (allow_macros, rest) = allowance_of(bytes)?;
+    let (allow_macros, rest) = macro_flag(bytes)?;
     let (source, rest) = number_before(b' ', rest)?;
     let (root, rest) = root_length(rest)?;
     let (buffer, rest) = number_before(b'\n', rest)?;
-    let lengths = Lengths {
+    let header = AddHeader {
         allow_macros,
         source,
         root,
         buffer,
     };
-    Some((lengths, rest))
+    Some((header, rest))
 }
 
-fn allowance_of(bytes: &[u8]) -> Option<(bool, &[u8])>
-    ensures { option_map (with_rest (λ b. b)) result ≡ choice_of ((codes "m ", true) ∷ (codes "- ", false) ∷ []) bytes.now }
+fn macro_flag(bytes: &[u8]) -> Option<(bool, &[u8])>
+    ensures { option_map (with_rest (λ b. b)) result ≡ choice_of macro_flags bytes.now }
 {
     if bytes.starts_with(b"m ") {
         return Some((true, &bytes[2..]));
@@ -151,15 +175,16 @@ fn root_length(bytes: &[u8]) -> Option<(Option<usize>, &[u8])>
     Some((Some(length), rest))
 }
 
-fn addition_of(lengths: Lengths, bytes: &[u8]) -> Option<(Addition<'_>, &[u8])>
-    ensures { option_map (with_rest addition_seen) result ≡ addition_of (lengths_seen lengths) bytes.now }
+fn addition_of(header: AddHeader, bytes: &[u8]) -> Option<(Addition<'_>, &[u8])>
+    ensures { option_map (with_rest addition_view) result
+        ≡ addition_of (add_header_view header) bytes.now }
 {
-    let (source, rest) = text_of(lengths.source, bytes)?;
-    let (root, rest) = root_of(lengths.root, rest)?;
-    let (buffer, rest) = part_of(lengths.buffer, rest)?;
-    let rest = behind(b"\n", rest)?;
+    let (source, rest) = split_text(header.source, bytes)?;
+    let (root, rest) = root_of(header.root, rest)?;
+    let (buffer, rest) = split_at(header.buffer, rest)?;
+    let rest = strip_prefix(b"\n", rest)?;
     let addition = Addition {
-        allow_macros: lengths.allow_macros,
+        allow_macros: header.allow_macros,
         source,
         root,
         buffer,
@@ -173,49 +198,51 @@ fn root_of(length: Option<usize>, bytes: &[u8]) -> Option<(Option<&str>, &[u8])>
     match length {
         None => Some((None, bytes)),
         Some(length) => {
-            let (root, rest) = text_of(length, bytes)?;
+            let (root, rest) = split_text(length, bytes)?;
             Some((Some(root), rest))
         }
     }
 }
 
-fn lines_of(
+fn text_lines(
     alloc: Global,
     count: usize,
     bytes: &[u8],
 ) -> Result<Option<(Vec<&str>, &[u8])>, AllocError>
-    ensures { IfOk result (λ read. option_map (with_rest (λ lines. map (λ line. line.now) lines.items)) read ≡ lines_of count bytes.now) }
+    ensures { IfOk result (λ read.
+        option_map (with_rest lines_view) read ≡ text_lines count bytes.now) }
 {
     let mut lines = Vec::new(alloc);
     let mut rest = bytes;
     while lines.len() < count {
-        let Some((line, behind)) = line_of(rest) else {
+        let Some((line, others)) = text_line(rest) else {
             return Ok(None);
         };
         lines.push(line)?;
-        rest = behind;
+        rest = others;
     }
     Ok(Some((lines, rest)))
 }
 
-fn line_of(bytes: &[u8]) -> Option<(&str, &[u8])>
-    ensures { option_map (with_rest (λ line. line.now)) result ≡ (part_before 10 bytes.now then if_text) }
+fn text_line(bytes: &[u8]) -> Option<(&str, &[u8])>
+    ensures { option_map (with_rest part_view) result
+        ≡ (split_once line_feed bytes.now then if_text) }
 {
-    let (line, rest) = part_before(b'\n', bytes)?;
-    Some((text(line)?, rest))
+    let (line, rest) = split_once(b'\n', bytes)?;
+    Some((as_text(line)?, rest))
 }
 
-fn manner_of(bytes: &[u8]) -> Option<(Manner, &[u8])>
-    ensures { option_map (with_rest manner_seen) result ≡ manner_of bytes.now }
+fn ask_header(bytes: &[u8]) -> Option<(AskHeader, &[u8])>
+    ensures { option_map (with_rest ask_header_view) result ≡ ask_header bytes.now }
 {
     let (form, rest) = form_of(bytes)?;
     let (case, rest) = case_of(rest)?;
-    let (is_dir, rest) = folder_of(rest)?;
-    Some((Manner { form, case, is_dir }, rest))
+    let (is_dir, rest) = folder_flag(rest)?;
+    Some((AskHeader { form, case, is_dir }, rest))
 }
 
 fn form_of(bytes: &[u8]) -> Option<(Form, &[u8])>
-    ensures { option_map (with_rest (λ f. f)) result ≡ choice_of ((codes "l ", Form.Line) ∷ (codes "z ", Form.Zero) ∷ (codes "o ", Form.Origin) ∷ []) bytes.now }
+    ensures { option_map (with_rest (λ f. f)) result ≡ choice_of forms bytes.now }
 {
     if bytes.starts_with(b"l ") {
         return Some((Form::Line, &bytes[2..]));
@@ -230,7 +257,7 @@ fn form_of(bytes: &[u8]) -> Option<(Form, &[u8])>
 }
 
 fn case_of(bytes: &[u8]) -> Option<(Case, &[u8])>
-    ensures { option_map (with_rest (λ c. c)) result ≡ choice_of ((codes "s ", Case.Sensitive) ∷ (codes "i ", Case.Fold) ∷ []) bytes.now }
+    ensures { option_map (with_rest (λ c. c)) result ≡ choice_of cases bytes.now }
 {
     if bytes.starts_with(b"s ") {
         return Some((Case::Sensitive, &bytes[2..]));
@@ -241,8 +268,8 @@ fn case_of(bytes: &[u8]) -> Option<(Case, &[u8])>
     None
 }
 
-fn folder_of(bytes: &[u8]) -> Option<(Option<bool>, &[u8])>
-    ensures { option_map (with_rest (λ d. d)) result ≡ choice_of ((codes "d ", Some true) ∷ (codes "f ", Some false) ∷ (codes "u ", None) ∷ []) bytes.now }
+fn folder_flag(bytes: &[u8]) -> Option<(Option<bool>, &[u8])>
+    ensures { option_map (with_rest (λ d. d)) result ≡ choice_of folder_flags bytes.now }
 {
     if bytes.starts_with(b"d ") {
         return Some((Some(true), &bytes[2..]));
@@ -256,70 +283,67 @@ fn folder_of(bytes: &[u8]) -> Option<(Option<bool>, &[u8])>
     None
 }
 
-fn question_of(manner: Manner, bytes: &[u8]) -> Option<(Question<'_>, &[u8])>
-    ensures { option_map (with_rest question_seen) result ≡ question_of (manner_seen manner) bytes.now }
+fn question_of(header: AskHeader, bytes: &[u8]) -> Option<(Question<'_>, &[u8])>
+    ensures { option_map (with_rest question_view) result
+        ≡ question_of (ask_header_view header) bytes.now }
 {
     let (count, rest) = number_before(b'\n', bytes)?;
-    let (path, rest) = part_of(count, rest)?;
-    let rest = behind(b"\n", rest)?;
+    let (path, rest) = split_at(count, rest)?;
+    let rest = strip_prefix(b"\n", rest)?;
     let question = Question {
-        form: manner.form,
-        case: manner.case,
-        is_dir: manner.is_dir,
+        form: header.form,
+        case: header.case,
+        is_dir: header.is_dir,
         path,
     };
     Some((question, rest))
 }
 
-fn behind<'a>(front: &[u8], bytes: &'a [u8]) -> Option<&'a [u8]>
-    ensures { option_copied result ≡ behind front.now bytes.now }
+fn strip_prefix<'a>(prefix: &[u8], bytes: &'a [u8]) -> Option<&'a [u8]>
+    ensures { option_copied result ≡ strip_prefix prefix.now bytes.now }
 {
-    if bytes.starts_with(front) {
-        return Some(&bytes[front.len()..]);
-    }
-    None
+    bytes.strip_prefix(prefix)
 }
 
-// What stands before the first such byte, and behind it.
-fn part_before(stop: u8, bytes: &[u8]) -> Option<(&[u8], &[u8])>
-    ensures { option_map (with_rest (λ part. part.now)) result ≡ part_before stop bytes.now }
+// The bytes before the first separator, and those after it.
+fn split_once(separator: u8, bytes: &[u8]) -> Option<(&[u8], &[u8])>
+    ensures { option_map (with_rest part_view) result ≡ split_once separator bytes.now }
 {
-    let place = place_of(stop, bytes)?;
+    let place = position_of(separator, bytes)?;
     Some((&bytes[..place], &bytes[place + 1..]))
 }
 
-fn place_of(stop: u8, bytes: &[u8]) -> Option<usize>
-    ensures { result ≡ position (λ b. b == stop) bytes.now }
+fn position_of(separator: u8, bytes: &[u8]) -> Option<usize>
+    ensures { result ≡ position (λ b. b == separator) bytes.now }
 {
-    bytes.iter().position(|b| *b == stop)
+    bytes.iter().position(|b| *b == separator)
 }
 
-fn part_of(count: usize, bytes: &[u8]) -> Option<(&[u8], &[u8])>
-    ensures { option_map (with_rest (λ part. part.now)) result ≡ part_of count bytes.now }
+fn split_at(count: usize, bytes: &[u8]) -> Option<(&[u8], &[u8])>
+    ensures { option_map (with_rest part_view) result ≡ split_at count bytes.now }
 {
-    if count <= bytes.len() {
-        return Some((&bytes[..count], &bytes[count..]));
-    }
-    None
+    bytes.split_at_checked(count)
 }
 
-fn text_of(count: usize, bytes: &[u8]) -> Option<(&str, &[u8])>
-    ensures { option_map (with_rest (λ part. part.now)) result ≡ (part_of count bytes.now then if_text) }
+// The first `count` bytes as text, and those after them.
+fn split_text(count: usize, bytes: &[u8]) -> Option<(&str, &[u8])>
+    ensures { option_map (with_rest part_view) result ≡ (split_at count bytes.now then if_text) }
 {
-    let (part, rest) = part_of(count, bytes)?;
-    Some((text(part)?, rest))
+    let (part, rest) = split_at(count, bytes)?;
+    Some((as_text(part)?, rest))
 }
 
-fn text(bytes: &[u8]) -> Option<&str>
+fn as_text(bytes: &[u8]) -> Option<&str>
     ensures { option_copied result ≡ if is_utf8 bytes.now then Some bytes.now else None }
 {
     str::from_utf8(bytes).ok()
 }
 
-fn number_before(stop: u8, bytes: &[u8]) -> Option<(usize, &[u8])>
-    ensures { option_map (with_rest (λ n. n)) result ≡ number_before stop bytes.now }
+// A number, and the bytes after the separator that ends it.
+fn number_before(separator: u8, bytes: &[u8]) -> Option<(usize, &[u8])>
+    ensures { option_map (with_rest (λ n. n)) result ≡ number_before separator bytes.now }
 {
-    let (word, rest) = part_before(stop, bytes)?;
+    let (word, rest) = split_once(separator, bytes)?;
     if !is_number(word) {
         return None;
     }
@@ -332,7 +356,7 @@ fn is_number(word: &[u8]) -> bool
     if word.is_empty() || word.len() > MOST_DIGITS {
         return false;
     }
-    are_digits(word) && has_no_zero_in_front(word)
+    are_digits(word) && has_no_leading_zero(word)
 }
 
 fn are_digits(word: &[u8]) -> bool
@@ -341,14 +365,12 @@ fn are_digits(word: &[u8]) -> bool
     word.iter().all(|b| b.is_ascii_digit())
 }
 
-fn has_no_zero_in_front(word: &[u8]) -> bool
+fn has_no_leading_zero(word: &[u8]) -> bool
     requires { 0 < length word.now }
-    ensures { result ≡ (length word.now == 1 || not (slice_index word.now 0 == 48)) }
+    ensures { result ≡ (length word.now == 1 || not (slice_index word.now 0 == digit_zero)) }
 {
     word.len() == 1 || word[0] != b'0'
 }
-
-const MOST_DIGITS: usize = 8;
 
 fn digits_value(digits: &[u8]) -> usize
     requires { is_number digits.now ≡ true }

@@ -1,40 +1,49 @@
-//! Writers that count their failures, and writing a whole text.
+//! Writers that count their failures, and a write of a whole text.
 ghost use Rattle.std.specs.Prelude.{◌≡◌, ◌≤◌, ◌<◌, ◌⊎◌, ◌↔◌, ℕ, IsTrue, List, Option, length, IfOk, IfErr, OnOk, OnErr, IsOk};
 ghost use Rattle.std.specs.Io.{WritesAtMost};
 ghost use Rattle.std.specs.Io.KnownBytes.{Appends, Keeps, WriteAppends};
 ghost use Rattle.gix_attributes.specs.Failures.{Fails};
 ghost use Rattle.check_attr.specs.Failures.{AppendsFront};
 
-use crate::failures::counted;
+use crate::failure_count::counted;
 use crate::fault::Fault;
 use std::io;
 use std::io::Write;
 
-/// What bytes are written to: the calls and bytes of std's `Write`, with a count of the errors.
+/// A destination of bytes: std's `Write`, with a count of the calls that failed.
 pub trait Push {
-    // The bytes that the writer holds, where they are known.
+    // The bytes that the writer has taken, if they are known.
     ghost contents: { Self → Option (List ℕ) };
 
     // How many calls failed so far.
     ghost failed: { Self → ℕ };
 
-    // Whether a write took no byte of some.
+    // Whether a write that had bytes took none.
     ghost Stalls: { Self → Type 0 };
 
     // Whether a flush succeeded, and no write took a byte since.
     ghost Flushed: { Self → Type 0 };
 
-    /// Writes the front of `bytes`, and answers how many of them it took.
+    /// Writes the front of `bytes`, and returns how many bytes the writer took.
+    ///
+    /// # Errors
+    ///
+    /// Whatever the writer returns. The failure is counted.
     fn write(&mut self, bytes: &[u8]) -> io::Result<usize>
         ensures bound { WritesAtMost result bytes.now }
         ensures bytes { WriteAppends (contents self.old) (contents self.new) result bytes.now }
         ensures stalls { IfOk result (λ n. n ≡ 0 → 0 < length bytes.now → Stalls self.new) }
-        ensures stalled { Stalls self.new → Stalls self.old ⊎ IfOk result (λ n. (n ≡ 0) × (0 < length bytes.now)) }
+        ensures stalled { Stalls self.new →
+            Stalls self.old ⊎ IfOk result (λ n. (n ≡ 0) × (0 < length bytes.now)) }
         ensures flushed { Flushed self.new → Flushed self.old × IfOk result (λ n. n ≡ 0) }
         ensures kept { failed self.old ≤ failed self.new }
         ensures err { OnErr result (Fails (failed self.old) (failed self.new)) };
 
-    /// Passes on what the writer still keeps to itself.
+    /// Flushes the bytes that the writer still buffers.
+    ///
+    /// # Errors
+    ///
+    /// Whatever the writer returns. The failure is counted.
     fn flush(&mut self) -> io::Result<()>
         ensures bytes { Keeps (contents self.old) (contents self.new) }
         ensures ok { OnOk result (Flushed self.new) }
@@ -43,12 +52,12 @@ pub trait Push {
         ensures kept { failed self.old ≤ failed self.new }
         ensures err { OnErr result (Fails (failed self.old) (failed self.new)) };
 
-    /// How many calls failed so far, an interrupted one included; the count stays at `u64::MAX`.
+    /// The number of calls that failed so far, interrupted ones included. It stops at `u64::MAX`.
     fn failures(&self) -> u64
         ensures { result ≡ failed self.now };
 }
 
-/// Any writer of std, with its errors counted, and marks of what its calls left.
+/// A writer of std, with its failed calls counted, and whether a write stalled and a flush succeeded.
 #[derive(Drop)]
 pub struct Writer<W> {
     inner: W,
@@ -58,7 +67,7 @@ pub struct Writer<W> {
 }
 
 impl<W: Write> Writer<W> {
-    /// The writer, with no failure counted yet.
+    /// The writer, without a failure, a stall or a flush so far.
     pub fn new(inner: W) -> Writer<W>
         ensures contents { ⟦<Writer<W> as Push>⟧.contents result ≡ W.contents inner }
         ensures failed { ⟦<Writer<W> as Push>⟧.failed result ≡ 0 }
@@ -73,7 +82,7 @@ impl<W: Write> Writer<W> {
         }
     }
 
-    /// Whether a write took no byte of some.
+    /// Whether a write that had bytes took none.
     pub fn has_stalled(&self) -> bool
         ensures { IsTrue result ↔ ⟦<Writer<W> as Push>⟧.Stalls self.now }
     {
@@ -119,12 +128,18 @@ impl<W: Write> Push for Writer<W> {
 
 /// Writes a whole text, and flushes once. A call that fails is not tried again, an interrupted one
 /// included.
+///
+/// # Errors
+///
+/// `Write` if a call failed, or if a write took no byte.
 pub(crate) fn write_all<W: Push>(writer: &mut W, text: &[u8]) -> Result<(), Fault>
     ensures ok { OnOk result (Appends (W.contents writer.old) (W.contents writer.new) text.now) }
     ensures flushed { OnOk result (W.Flushed writer.new) }
-    ensures front { OnErr result (AppendsFront (W.contents writer.old) (W.contents writer.new) text.now) }
+    ensures front { OnErr result
+        (AppendsFront (W.contents writer.old) (W.contents writer.new) text.now) }
     ensures kept { W.failed writer.old ≤ W.failed writer.new }
-    ensures write { OnErr result (Fails (W.failed writer.old) (W.failed writer.new) ⊎ W.Stalls writer.new) }
+    ensures write { OnErr result
+        (Fails (W.failed writer.old) (W.failed writer.new) ⊎ W.Stalls writer.new) }
     ensures only { IfErr result (λ fault. fault ≡ Fault.Write) }
 {
     let mut written = 0;

@@ -1,5 +1,5 @@
-//! Answers a script on standard input by attributes files: `check_attr FILE...` reads these as global
-//! files. `check_attr --lines` says what each line of one attributes file on standard input says.
+//! `check_attr FILE...` runs the script on standard input over the lists of these global files.
+//! `check_attr --lines` prints a report of the attributes file on standard input, line by line.
 #![tactic(auto)]
 
 use check_attr::{Reader, Writer, program};
@@ -7,7 +7,7 @@ use gix_attributes::files::Disk;
 use std::process::ExitCode;
 use std::{env, io};
 
-// The arguments behind the program's name.
+// The arguments after the program's name.
 fn arguments(rt: &HostRuntime) -> io::Result<Vec<String>> {
     let mut arguments = env::args(rt)?;
     let _ = arguments.next();

@@ -1,123 +1,158 @@
--- What a collection holds of a search, when lists are added and taken off.
+-- A collection holds a search after lists are added and removed.
 use Rattle.std.proofs.Common.{◌≡◌, ◌≢◌, ℕ, Bool, true, false, List, [], ◌∷◌, ◌++◌, map, refl, sym, ap, ◌∙◌, subst, nat_eq}
 use Rattle.std.specs.Prelude.{All}
 use Rattle.std.specs.Prelude.{◌==◌, ◌||◌, length}
-use Rattle.std.specs.List.{IsDistinct, list_any, AllByRecursion}
+use Rattle.std.specs.List.{AllZip, IsDistinct, list_any, AllByRecursion}
 use Rattle.std.specs.Cmp.{IsEquivalence}
 use Rattle.std.proofs.lemmas.Bool.{eqb-true}
 use Rattle.std.proofs.Common.{Some, eq-eqb}
 use Rattle.std.proofs.lemmas.List.{map-append}
-use Rattle.std.proofs.lemmas.List.Elements.{All-nil, All-cons, All-head, All-tail, All-push, All-pop, All-weaker, All-map, All-from_recursion, recursion_from_All}
+use Rattle.std.proofs.lemmas.List.Elements.{All-nil, All-cons, All-head, All-tail, All-push, All-pop, All-weaker, All-map, All-from_recursion}
+use Rattle.std.proofs.lemmas.List.Elements.{recursion_from_All}
 use Rattle.std.proofs.lemmas.List.Folds.{list_any_none}
 use Rattle.std.proofs.lemmas.Map.Keys.{IsDistinct-push}
-use Rattle.attr_lists.specs.Numbered.{Numbered}
-use Rattle.attr_lists.specs.Definitions.{HoldsList, is_standing}
-use Rattle.attr_lists.specs.ListViews.{entries_of}
-use Rattle.attr_search.specs.Keeping.{KeepsLists}
-use Rattle.gix_attributes.specs.KeepingOthers.{KeepsOthers}
+use Rattle.attr_lists.specs.Collections.{Collection}
+use Rattle.attr_lists.specs.Definitions.{HoldsList, is_active}
+use Rattle.attr_lists.specs.ListViews.{entries_view}
+use Rattle.attr_search.specs.inner.Keeping.{KeepsLists}
+use Rattle.gix_attributes.specs.inner.KeepingOthers.{KeepsOthers}
 use Rattle.gix_attributes.specs.SearchViews.{AreHeld}
-use Rattle.attr_search.specs.Listings.{marks_of}
-use Rattle.attr_search.specs.declared.standing.Standing.{Standing}
+use Rattle.gix_attributes.specs.inner.HeldLists.{AreHeldLists, IsHeldList}
+use Rattle.attr_search.specs.IndexedLists.{list_ids_of, lists_view}
+use Rattle.attr_search.specs.Settings.{Listed}
+use Rattle.attr_search.specs.declared.indexed_list.IndexedList.{IndexedList}
 
 none_parts : (a b : Bool) → a || b ≡ false → (a ≡ false) × (b ≡ false)
 none_parts false b h = (refl, h)
 none_parts true b h = absurd cc
 
--- the list stands
-IsHeld : Numbered → Standing → Type 0
-IsHeld known s = HoldsList known s.mark (entries_of s.list.patterns.items)
-
 true-false : true ≡ false → ⊥
 true-false e = absurd cc
 
-other : (known : Numbered) (mark : ℕ) → is_standing known.marks mark ≡ false → (s : Standing) → IsHeld known s → (b : Bool) → nat_eq mark s.mark ≡ b → b ≡ false
-unfolding IsHeld
-other known mark free s held false e = refl
-other known mark free s held true e =
-    absurd (true-false (sym held.standing ∙ ap (is_standing known.marks) (sym (eqb-true mark s.mark e)) ∙ free))
+other : (known : Collection) (list_id : ℕ) → is_active known.active list_id ≡ false → (s : IndexedList) → IsHeldList known s → (b : Bool)
+    → nat_eq list_id s.list_id ≡ b → b ≡ false
+other known list_id free s held false e = refl
+other known list_id free s held true e =
+    absurd (true-false (sym held.active ∙ ap (is_active known.active) (sym (eqb-true list_id s.list_id e)) ∙ free))
 
--- one more list, under a mark that no standing list has
-pub held_more : (before after : Numbered) (standing : List Standing) (s : Standing)
+-- one more list, under a list id that no other has
+pub held_more : (before after : Collection) (lists : List IndexedList) (s : IndexedList)
     → IsEquivalence nat_eq
-    → KeepsLists before after → HoldsList after s.mark (entries_of s.list.patterns.items) → is_standing before.marks s.mark ≡ false
-    → AreHeld before standing → AreHeld after (standing ++ s ∷ [])
-unfolding IsHeld
-held_more before after standing s laws keeps new free held =
-    let marks = map (λ (x : Standing). x.mark) standing in
-    let others = All-weaker (IsHeld before) (λ x. nat_eq s.mark x.mark ≡ false) (λ x h. other before s.mark free x h (nat_eq s.mark x.mark) refl) standing held.held in
-    let apart = list_any_none (nat_eq s.mark) marks (All-map (λ m. nat_eq s.mark m ≡ false) (λ (x : Standing). x.mark) standing others) in
+    → KeepsLists before after → HoldsList after s.list_id (entries_view s.list.patterns.items) → is_active before.active s.list_id ≡ false
+    → AreHeldLists before lists → AreHeldLists after (lists ++ s ∷ [])
+held_more before after lists s laws keeps new free held =
+    let list_ids = map (λ (x : IndexedList). x.list_id) lists in
+    let others = All-weaker (IsHeldList before) (λ x. nat_eq s.list_id x.list_id ≡ false)
+    (λ x h. other before s.list_id free x h (nat_eq s.list_id x.list_id) refl) lists held.held in
+    let apart = list_any_none (nat_eq s.list_id) list_ids (All-map (λ m. nat_eq s.list_id m ≡ false) (λ (x : IndexedList). x.list_id) lists others)
+    in
     record {
-      distinct = subst (IsDistinct nat_eq) (sym (map-append (λ (x : Standing). x.mark) standing (s ∷ []))) (IsDistinct-push laws marks s.mark held.distinct apart);
-      held = All-push (IsHeld after) standing s (All-weaker (IsHeld before) (IsHeld after) (λ x h. keeps x.mark (entries_of x.list.patterns.items) h) standing held.held) new;
+      distinct = subst (IsDistinct nat_eq) (sym (map-append (λ (x : IndexedList). x.list_id) lists (s ∷ [])))
+          (IsDistinct-push laws list_ids s.list_id held.distinct apart);
+      held = All-push (IsHeldList after) lists s (All-weaker (IsHeldList before) (IsHeldList after)
+          (λ x h. keeps x.list_id (entries_view x.list.patterns.items) h) lists held.held) new;
     }
 
--- of marks that differ the last one differs from those before it
-distinct-parts : (marks : List ℕ) (mark : ℕ) → IsDistinct nat_eq (marks ++ mark ∷ []) → IsDistinct nat_eq marks × All (λ m. nat_eq m mark ≡ false) marks
+-- of list ids that differ the last one differs from those before it
+distinct-parts : (list_ids : List ℕ) (list_id : ℕ) → IsDistinct nat_eq (list_ids ++ list_id ∷ []) → IsDistinct nat_eq list_ids × All
+    (λ m. nat_eq m list_id ≡ false) list_ids
 unfolding IsDistinct
-distinct-parts [] mark d = (tt, All-nil (λ m. nat_eq m mark ≡ false))
-distinct-parts (m ∷ ms) mark d =
-    let rest = distinct-parts ms mark d.1 in
-    let first = All-pop (λ k. nat_eq m k ≡ false) (ms ++ mark ∷ []) ms (Some mark) refl (All-from_recursion (λ k. nat_eq m k ≡ false) (ms ++ mark ∷ []) d.0) in
-    ((recursion_from_All (λ k. nat_eq m k ≡ false) ms first.0, rest.0), All-cons (λ k. nat_eq k mark ≡ false) m ms first.1 rest.1)
+distinct-parts [] list_id d = (tt, All-nil (λ m. nat_eq m list_id ≡ false))
+distinct-parts (m ∷ ms) list_id d =
+    let rest = distinct-parts ms list_id d.1 in
+    let first = All-pop (λ k. nat_eq m k ≡ false) (ms ++ list_id ∷ []) ms (Some list_id) refl
+    (All-from_recursion (λ k. nat_eq m k ≡ false) (ms ++ list_id ∷ []) d.0) in
+    ((recursion_from_All (λ k. nat_eq m k ≡ false) ms first.0, rest.0), All-cons (λ k. nat_eq k list_id ≡ false) m ms first.1 rest.1)
 
 apart : (x y : ℕ) → nat_eq x y ≡ false → x ≢ y
 apart x y differ same = true-false (sym (eq-eqb x y same) ∙ differ)
 
-others-held : (before after : Numbered) (mark : ℕ) → KeepsOthers mark before after → (standing : List Standing)
-    → All (λ m. nat_eq m mark ≡ false) (marks_of standing) → All (IsHeld before) standing → All (IsHeld after) standing
-unfolding IsHeld
-others-held before after mark keeps [] differ held = All-nil (IsHeld after)
-others-held before after mark keeps (s ∷ ss) differ held =
-    All-cons (IsHeld after) s ss
-    (keeps s.mark (entries_of s.list.patterns.items) (apart s.mark mark (All-head (λ m. nat_eq m mark ≡ false) s.mark (marks_of ss) differ)) (All-head (IsHeld before) s ss held))
-    (others-held before after mark keeps ss (All-tail (λ m. nat_eq m mark ≡ false) s.mark (marks_of ss) differ) (All-tail (IsHeld before) s ss held))
+others-held : (before after : Collection) (list_id : ℕ) → KeepsOthers list_id before after → (lists : List IndexedList)
+    → All (λ m. nat_eq m list_id ≡ false) (list_ids_of lists) → All (IsHeldList before) lists → All (IsHeldList after) lists
+others-held before after list_id keeps [] differ held = All-nil (IsHeldList after)
+others-held before after list_id keeps (s ∷ ss) differ held =
+    All-cons (IsHeldList after) s ss
+    (keeps s.list_id (entries_view s.list.patterns.items) (apart s.list_id list_id
+    (All-head (λ m. nat_eq m list_id ≡ false) s.list_id (list_ids_of ss) differ)) (All-head (IsHeldList before) s ss held))
+    (others-held before after list_id keeps ss (All-tail (λ m. nat_eq m list_id ≡ false) s.list_id (list_ids_of ss) differ)
+    (All-tail (IsHeldList before) s ss held))
 
 -- the last of the lists that are held
-pub last_held : (known : Numbered) (standing : List Standing) (s : Standing) → AreHeld known (standing ++ s ∷ []) → HoldsList known s.mark (entries_of s.list.patterns.items)
-unfolding IsHeld
-last_held known standing s held = (All-pop (IsHeld known) (standing ++ s ∷ []) standing (Some s) refl held.held).1
+pub last_held : (known : Collection) (lists : List IndexedList) (s : IndexedList) → AreHeldLists known (lists ++ s ∷ []) → HoldsList known s.list_id
+    (entries_view s.list.patterns.items)
+last_held known lists s held = (All-pop (IsHeldList known) (lists ++ s ∷ []) lists (Some s) refl held.held).1
 
--- the others stay held when the last one's definitions are taken away
-pub held_less : (before after : Numbered) (standing : List Standing) (s : Standing) → KeepsOthers s.mark before after
-    → AreHeld before (standing ++ s ∷ []) → AreHeld after standing
-unfolding IsHeld
-held_less before after standing s keeps held =
-    let parts = distinct-parts (marks_of standing) s.mark (subst (IsDistinct nat_eq) (map-append (λ (x : Standing). x.mark) standing (s ∷ [])) held.distinct) in
+-- the others stay held when the last one is removed
+pub held_less : (before after : Collection) (lists : List IndexedList) (s : IndexedList) → KeepsOthers s.list_id before after
+    → AreHeldLists before (lists ++ s ∷ []) → AreHeldLists after lists
+held_less before after lists s keeps held =
+    let parts = distinct-parts (list_ids_of lists) s.list_id (subst (IsDistinct nat_eq)
+    (map-append (λ (x : IndexedList). x.list_id) lists (s ∷ [])) held.distinct) in
     record {
       distinct = parts.0;
-      held = others-held before after s.mark keeps standing parts.1 (All-pop (IsHeld before) (standing ++ s ∷ []) standing (Some s) refl held.held).0;
+      held = others-held before after s.list_id keeps lists parts.1
+          (All-pop (IsHeldList before) (lists ++ s ∷ []) lists (Some s) refl held.held).0;
     }
 
--- a mark among those of lists
-any-mark : (mark : ℕ) (standing : List Standing) → list_any (nat_eq mark) (marks_of standing) ≡ list_any (λ (s : Standing). mark == s.mark) standing
-any-mark mark [] = refl
-any-mark mark (s ∷ ss) = ap (λ b. nat_eq mark s.mark || b) (any-mark mark ss)
+-- a list id among those of lists
+any-list_id : (list_id : ℕ) (lists : List IndexedList) → list_any (nat_eq list_id) (list_ids_of lists) ≡ list_any
+    (λ (s : IndexedList). list_id == s.list_id) lists
+any-list_id list_id [] = refl
+any-list_id list_id (s ∷ ss) = ap (λ b. nat_eq list_id s.list_id || b) (any-list_id list_id ss)
 
-distinct-any : (mark : ℕ) (marks : List ℕ) → AllByRecursion (λ m. nat_eq mark m ≡ false) marks → list_any (nat_eq mark) marks ≡ false
-distinct-any mark marks h = list_any_none (nat_eq mark) marks (All-from_recursion (λ m. nat_eq mark m ≡ false) marks h)
+distinct-any : (list_id : ℕ) (list_ids : List ℕ) → AllByRecursion (λ m. nat_eq list_id m ≡ false) list_ids → list_any (nat_eq list_id) list_ids ≡
+    false
+distinct-any list_id list_ids h = list_any_none (nat_eq list_id) list_ids (All-from_recursion (λ m. nat_eq list_id m ≡ false) list_ids h)
 
-any-distinct : (mark : ℕ) (marks : List ℕ) → list_any (nat_eq mark) marks ≡ false → AllByRecursion (λ m. nat_eq mark m ≡ false) marks
-any-distinct mark [] h = tt
-any-distinct mark (m ∷ ms) h =
-    let parts = none_parts (nat_eq mark m) (list_any (nat_eq mark) ms) h in
-    (parts.0, any-distinct mark ms parts.1)
+any-distinct : (list_id : ℕ) (list_ids : List ℕ) → list_any (nat_eq list_id) list_ids ≡ false → AllByRecursion (λ m. nat_eq list_id m ≡ false)
+    list_ids
+any-distinct list_id [] h = tt
+any-distinct list_id (m ∷ ms) h =
+    let parts = none_parts (nat_eq list_id m) (list_any (nat_eq list_id) ms) h in
+    (parts.0, any-distinct list_id ms parts.1)
 
--- the marks differ where the first is none of the others, which differ
-pub first_apart : (s : Standing) (others : List Standing) → list_any (λ (x : Standing). s.mark == x.mark) others ≡ false
-    → IsDistinct nat_eq (marks_of others) → IsDistinct nat_eq (marks_of (s ∷ others))
+-- the list ids differ where the first is none of the others, which differ
+pub first_apart : (s : IndexedList) (others : List IndexedList) → list_any (λ (x : IndexedList). s.list_id == x.list_id) others ≡ false
+    → IsDistinct nat_eq (list_ids_of others) → IsDistinct nat_eq (list_ids_of (s ∷ others))
 unfolding IsDistinct
-first_apart s others h d = (any-distinct s.mark (marks_of others) (any-mark s.mark others ∙ h), d)
+first_apart s others h d = (any-distinct s.list_id (list_ids_of others) (any-list_id s.list_id others ∙ h), d)
 
-pub others_apart : (s : Standing) (others : List Standing) → IsDistinct nat_eq (marks_of (s ∷ others)) → IsDistinct nat_eq (marks_of others)
+pub others_apart : (s : IndexedList) (others : List IndexedList) → IsDistinct nat_eq (list_ids_of (s ∷ others)) → IsDistinct nat_eq
+    (list_ids_of others)
 unfolding IsDistinct
 others_apart s others d = d.1
 
-pub first_again : (s : Standing) (others : List Standing) → list_any (λ (x : Standing). s.mark == x.mark) others ≡ true
-    → IsDistinct nat_eq (marks_of (s ∷ others)) → ⊥
+pub first_again : (s : IndexedList) (others : List IndexedList) → list_any (λ (x : IndexedList). s.list_id == x.list_id) others ≡ true
+    → IsDistinct nat_eq (list_ids_of (s ∷ others)) → ⊥
 unfolding IsDistinct
-first_again s others h d = true-false (sym h ∙ sym (any-mark s.mark others) ∙ distinct-any s.mark (marks_of others) d.0)
+first_again s others h d = true-false (sym h ∙ sym (any-list_id s.list_id others) ∙ distinct-any s.list_id (list_ids_of others) d.0)
 
-pub none_apart : (standing : List Standing) → length standing ≡ 0 → IsDistinct nat_eq (marks_of standing)
+pub none_apart : (lists : List IndexedList) → length lists ≡ 0 → IsDistinct nat_eq (list_ids_of lists)
 unfolding IsDistinct
 none_apart [] e = tt
 none_apart (s ∷ ss) e = absurd cc
+
+-- the list of each list id is registered
+IsEach : Collection → ℕ → Listed → Type 0
+IsEach known list_id list = HoldsList known list_id list.lines
+
+zip-of_all : (known : Collection) (lists : List IndexedList) → All (IsHeldList known) lists → AllZip (IsEach known) (list_ids_of lists)
+    (lists_view lists)
+unfolding IsEach
+zip-of_all known [] held = tt
+zip-of_all known (s ∷ ss) held = (All-head (IsHeldList known) s ss held, zip-of_all known ss (All-tail (IsHeldList known) s ss held))
+
+all-of_zip : (known : Collection) (lists : List IndexedList) → AllZip (IsEach known) (list_ids_of lists) (lists_view lists)
+    → All (IsHeldList known) lists
+unfolding IsEach
+all-of_zip known [] each = All-nil (IsHeldList known)
+all-of_zip known (s ∷ ss) each = All-cons (IsHeldList known) s ss each.0 (all-of_zip known ss each.1)
+
+-- what a collection holds by list ids and lists, it holds by indexed lists, and the other way round
+pub held_views : (known : Collection) (lists : List IndexedList) → AreHeldLists known lists → AreHeld known (list_ids_of lists) (lists_view lists)
+unfolding IsEach
+held_views known lists held = record { distinct = held.distinct; each = zip-of_all known lists held.held }
+
+pub held_lists : (known : Collection) (lists : List IndexedList) → AreHeld known (list_ids_of lists) (lists_view lists) → AreHeldLists known lists
+unfolding IsEach
+held_lists known lists held = record { distinct = held.distinct; held = all-of_zip known lists held.each }

@@ -7,3 +7,4 @@ pub mod SearchLaws
 pub mod FileLemmas
 pub mod GlobalLemmas
 pub mod SourceLemmas
+pub mod ForCallers

@@ -1,5 +1,6 @@
 -- What initialising leaves is consistent, and what is wanted of it.
-use Rattle.std.proofs.Common.{◌≡◌, ℕ, zero, suc, ◌+◌, ◌<◌, ◌≤◌, Bool, true, false, cond, List, [], ◌∷◌, length, get_or, drop, slice_get, map, filter, All, Option, Some, None, MatchOption, option_map, unwrap_or, refl, sym, ap, ◌∙◌, ◌-◌, arith}
+use Rattle.std.proofs.Common.{◌≡◌, ℕ, zero, suc, ◌+◌, ◌<◌, ◌≤◌, Bool, true, false, cond, List, [], ◌∷◌, length, get_or, drop, slice_get, map, filter}
+use Rattle.std.proofs.Common.{All, Option, Some, None, MatchOption, option_map, unwrap_or, refl, sym, ap, ◌∙◌, ◌-◌, arith}
 use Rattle.std.specs.Bool.{⊤}
 use Rattle.std.specs.List.{range_with_len, cons_option}
 use Rattle.std.specs.Str.{bytes_eq}
@@ -9,15 +10,16 @@ use Rattle.std.proofs.lemmas.List.Elements.{All-nil, All-cons, All-head, All-tai
 use Rattle.std.proofs.lemmas.Option.{slice_get_within, get_or_from_slice_get}
 use Rattle.std.proofs.lemmas.List.Quantifiers.{position-Some}
 use Rattle.smallvec.specs.SmallVec.{SmallVec}
-use Rattle.attr_lists.specs.Numbered.{Defined, Numbered}
+use Rattle.attr_lists.specs.Collections.{MacroDefinition, Collection}
 use Rattle.attr_lists.specs.Numbers.{number_of}
-use Rattle.attr_lists.specs.Definitions.{IsSound, IsWithin, last_body}
-use Rattle.attr_lists.specs.declared.search.TrackedAssignment.{TrackedAssignment}
-use Rattle.attr_search.specs.Board.{Filled, wanted_in}
-use Rattle.gix_attributes.specs.Contents.{Content, Wanted, bodies_of, emptied, flags_of, found_in, initialized, is_wanted, looked_up, names_selected}
+use Rattle.attr_lists.specs.Definitions.{IsSoundCollection, IsWithin, last_body}
+use Rattle.attr_lists.specs.declared.types.TrackedAssignment.{TrackedAssignment}
+use Rattle.attr_search.specs.inner.SlotContents.{SlotContents, wanted_numbers}
+use Rattle.gix_attributes.specs.Contents.{Content, Wanted, bodies_of, reset_content, flags_of, found_in, initial_content, is_wanted, looked_up}
+use Rattle.gix_attributes.specs.Contents.{names_selected}
 use Rattle.attr_search.specs.Settings.{HaveSlots, BodiesHaveSlots}
-use Rattle.gix_attributes.specs.Selection.{wanted_seen, selection_seen}
-use Rattle.attr_search.specs.Walking.{bodies_in}
+use Rattle.gix_attributes.specs.Selection.{wanted_view, selection_view}
+use Rattle.attr_search.specs.Slots.{bodies_view}
 use Rattle.attr_search.specs.Slots.{Matched}
 use Rattle.gix_attributes.specs.declared.search.selection.SelectedName.{SelectedName}
 
@@ -26,24 +28,28 @@ names_looked_up : (names selected : List (List ℕ)) → names_selected (looked_
 names_looked_up names [] = refl
 names_looked_up names (name ∷ selected) = ap (λ l. name ∷ l) (names_looked_up names selected)
 
-pub looked_up_again : (names selected : List (List ℕ)) (seen : List Wanted) → seen ≡ looked_up names selected → seen ≡ looked_up names (names_selected seen)
+pub looked_up_again : (names selected : List (List ℕ)) (seen : List Wanted) → seen ≡ looked_up names selected → seen ≡ looked_up names
+    (names_selected seen)
 looked_up_again names selected seen e = e ∙ ap (looked_up names) (sym (ap names_selected e ∙ names_looked_up names selected))
 
-pub initialized_by : (known : Numbered) (selected : List (List ℕ)) (seen : List Wanted) → seen ≡ looked_up known.names selected → initialized known (names_selected seen) ≡ initialized known selected
-initialized_by known selected seen e = ap (initialized known) (ap names_selected e ∙ names_looked_up known.names selected)
+pub initialized_by : (known : Collection) (selected : List (List ℕ)) (seen : List Wanted) → seen ≡ looked_up known.names selected → initial_content
+    known (names_selected seen) ≡ initial_content known selected
+initialized_by known selected seen e = ap (initial_content known) (ap names_selected e ∙ names_looked_up known.names selected)
 
 -- a number that is looked up is that of a name
 number_below : (names : List (List ℕ)) (name : List ℕ) (o : Option ℕ) → number_of names name ≡ o → MatchOption o ⊤ (λ n. n < length names)
 number_below names name None e = tt
 number_below names name (Some n) e = (position-Some (bytes_eq name) names n [] e).0
 
-pub selected_below : (selected : List SelectedName) (names texts : List (List ℕ)) → selection_seen selected ≡ looked_up names texts → All (λ s. MatchOption s.number ⊤ (λ n. n < length names)) selected
+pub selected_below : (selected : List SelectedName) (names texts : List (List ℕ)) → selection_view selected ≡ looked_up names texts → All
+    (λ s. MatchOption s.number ⊤ (λ n. n < length names)) selected
 selected_below [] names texts e = All-nil (λ s. MatchOption s.number ⊤ (λ n. n < length names))
 selected_below (s ∷ selected) names [] e = absurd cc
 selected_below (s ∷ selected) names (text ∷ texts) e =
-    let here : number_of names text ≡ s.number = sym (ap (λ (w : Wanted). w.number) (head_same (wanted_seen s) _ (selection_seen selected) _ e)) in
-    let rest : selection_seen selected ≡ looked_up names texts = tail_same (wanted_seen s) _ (selection_seen selected) _ e in
-    All-cons (λ t. MatchOption t.number ⊤ (λ n. n < length names)) s selected (number_below names text s.number here) (selected_below selected names texts rest)
+    let here : number_of names text ≡ s.number = sym (ap (λ (w : Wanted). w.number) (head_same (wanted_view s) _ (selection_view selected) _ e)) in
+    let rest : selection_view selected ≡ looked_up names texts = tail_same (wanted_view s) _ (selection_view selected) _ e in
+    All-cons (λ t. MatchOption t.number ⊤ (λ n. n < length names)) s selected (number_below names text s.number here)
+    (selected_below selected names texts rest)
   where
     head_same : {X : Type 0} (x y : X) (xs ys : List X) → x ∷ xs ≡ y ∷ ys → x ≡ y
     head_same x y xs ys h = cc
@@ -61,43 +67,48 @@ same_empty z [] (y ∷ ys) e = absurd (omega arith)
 same_empty z (x ∷ xs) [] e = absurd (omega arith)
 same_empty z (x ∷ xs) (y ∷ ys) e = ap (λ l. z ∷ l) (same_empty z xs ys (omega arith))
 
-pub length_bodies_of : (known : Numbered) → IsSound known → length (bodies_of known) ≡ length known.names
+pub length_bodies_of : (known : Collection) → IsSoundCollection known → length (bodies_of known) ≡ length known.names
 length_bodies_of known sound = length-map known.definitions last_body ∙ sound.counted
 
-within_same : (n : ℕ) (x d : Defined) → x ≡ d → IsWithin n x → HaveSlots n d.body
+within_same : (n : ℕ) (x d : MacroDefinition) → x ≡ d → IsWithin n x → HaveSlots n d.body
 within_same n x d e w = rw (← e) w
 
-last_within_at : (n : ℕ) (definitions : List Defined) (o : Option Defined) → All (IsWithin n) definitions → slice_get definitions (length definitions - 1) ≡ o → HaveSlots n (unwrap_or (option_map (λ d. d.body) o) [])
+last_within_at : (n : ℕ) (definitions : List MacroDefinition) (o : Option MacroDefinition) → All (IsWithin n) definitions → slice_get definitions
+    (length definitions - 1) ≡ o → HaveSlots n (unwrap_or (option_map (λ d. d.body) o) [])
 last_within_at n definitions None within e = All-nil (λ i. i.id.0 < n)
 last_within_at n definitions (Some d) within e =
     let lt = slice_get_within definitions (length definitions - 1) d e in
-    within_same n (get_or definitions (length definitions - 1) d) d (get_or_from_slice_get definitions (length definitions - 1) d d e) (within (length definitions - 1) d lt)
+    within_same n (get_or definitions (length definitions - 1) d) d (get_or_from_slice_get definitions (length definitions - 1) d d e)
+    (within (length definitions - 1) d lt)
 
 -- the last of some bodies has slots where all have
-last_within : (n : ℕ) (definitions : List Defined) → All (IsWithin n) definitions → HaveSlots n (last_body definitions)
+last_within : (n : ℕ) (definitions : List MacroDefinition) → All (IsWithin n) definitions → HaveSlots n (last_body definitions)
 last_within n definitions within = last_within_at n definitions (slice_get definitions (length definitions - 1)) within refl
 
-pub bodies_within : (known : Numbered) → IsSound known → BodiesHaveSlots (length known.names) (bodies_of known)
+pub bodies_within : (known : Collection) → IsSoundCollection known → BodiesHaveSlots (length known.names) (bodies_of known)
 bodies_within known sound =
     All-map (HaveSlots (length known.names)) last_body known.definitions
-    (All-from_get_or (λ ds. HaveSlots (length known.names) (last_body ds)) known.definitions [] (λ i lt. last_within (length known.names) (get_or known.definitions i []) (sound.within i)))
+    (All-from_get_or (λ ds. HaveSlots (length known.names) (last_body ds)) known.definitions []
+    (λ i lt. last_within (length known.names) (get_or known.definitions i []) (sound.within i)))
 
-shifted_all : (p : ℕ → Bool) (a b n : ℕ) → b ≡ a + 1 → map (λ k. k + a) (map suc (wanted_in (map p (range_with_len b n)))) ≡ map (λ k. k + b) (wanted_in (map p (range_with_len b n)))
-shifted_all p a b n e = shifted (wanted_in (map p (range_with_len b n)))
+shifted_all : (p : ℕ → Bool) (a b n : ℕ) → b ≡ a + 1 → map (λ k. k + a) (map suc (wanted_numbers (map p (range_with_len b n)))) ≡ map (λ k. k + b)
+    (wanted_numbers (map p (range_with_len b n)))
+shifted_all p a b n e = shifted (wanted_numbers (map p (range_with_len b n)))
   where
     shifted : (ks : List ℕ) → map (λ k. k + a) (map suc ks) ≡ map (λ k. k + b) ks
     shifted [] = refl
-    shifted (k ∷ ks) = let here : suc k + a ≡ k + b = omega arith in ap (λ j. j ∷ map (λ i. i + a) (map suc ks)) here ∙ ap (λ l. (k + b) ∷ l) (shifted ks)
+    shifted (k ∷ ks) = let here : suc k + a ≡ k + b = omega arith in ap (λ j. j ∷ map (λ i. i + a) (map suc ks)) here ∙ ap (λ l. (k + b) ∷ l)
+        (shifted ks)
 
 wanted_step : (b : Bool) (a : ℕ) (ks rest : List ℕ) → map (λ k. k + a) (map suc ks) ≡ rest →
     map (λ k. k + a) (cond b (0 ∷ map suc ks) (map suc ks)) ≡ cond b (a ∷ rest) rest
 wanted_step true a ks rest e = let here : 0 + a ≡ a = omega arith in ap (λ j. j ∷ map (λ k. k + a) (map suc ks)) here ∙ ap (λ l. a ∷ l) e
 wanted_step false a ks rest e = e
 
-wanted_from : (p : ℕ → Bool) (a n : ℕ) → map (λ k. k + a) (wanted_in (map p (range_with_len a n))) ≡ filter p (range_with_len a n)
+wanted_from : (p : ℕ → Bool) (a n : ℕ) → map (λ k. k + a) (wanted_numbers (map p (range_with_len a n))) ≡ filter p (range_with_len a n)
 wanted_from p a zero = refl
 wanted_from p a (suc n) =
-    wanted_step (p a) a (wanted_in (map p (range_with_len (a + 1) n))) (filter p (range_with_len (a + 1) n))
+    wanted_step (p a) a (wanted_numbers (map p (range_with_len (a + 1) n))) (filter p (range_with_len (a + 1) n))
     (shifted_all p a (a + 1) n refl ∙ wanted_from p (a + 1) n)
 
 without_shift : (ks : List ℕ) → map (λ k. k + 0) ks ≡ ks
@@ -105,55 +116,55 @@ without_shift [] = refl
 without_shift (k ∷ ks) = let here : k + 0 ≡ k = omega arith in ap (λ j. j ∷ map (λ i. i + 0) ks) here ∙ ap (λ l. k ∷ l) (without_shift ks)
 
 -- the numbers whose flags are set are those that are wanted
-pub wanted_by_flags : (p : ℕ → Bool) (n : ℕ) → wanted_in (map p (range_with_len 0 n)) ≡ filter p (range_with_len 0 n)
-wanted_by_flags p n = sym (without_shift (wanted_in (map p (range_with_len 0 n)))) ∙ wanted_from p 0 n
+pub wanted_by_flags : (p : ℕ → Bool) (n : ℕ) → wanted_numbers (map p (range_with_len 0 n)) ≡ filter p (range_with_len 0 n)
+wanted_by_flags p n = sym (without_shift (wanted_numbers (map p (range_with_len 0 n)))) ∙ wanted_from p 0 n
 
--- a board of empty slots
-pub board_made : (board : Filled) (flags : List Bool) (seen : List Wanted) (count n : ℕ) → board ≡ record { answers = map (λ w. None) flags; wanted = flags; line = None } → flags ≡ flags_of seen count → count ≡ n →
-    (length board.answers ≡ n) × (board.wanted ≡ flags_of seen (length board.answers))
-board_made board flags seen count n made e same =
-    let len : length board.answers ≡ n = ap (λ (b : Filled). length b.answers) made ∙ length-map flags (λ w. None) ∙ length_flags seen count flags e ∙ same in
-    (len, ap (λ (b : Filled). b.wanted) made ∙ e ∙ ap (flags_of seen) (same ∙ sym len))
+-- empty slots
+pub slots_made : (slots : SlotContents) (flags : List Bool) (seen : List Wanted) (count n : ℕ) → slots ≡ record
+    { answers = map (λ w. None) flags; wanted = flags; line = None } → flags ≡ flags_of seen count → count ≡ n →
+    (length slots.answers ≡ n) × (slots.wanted ≡ flags_of seen (length slots.answers))
+slots_made slots flags seen count n made e same =
+    let len : length slots.answers ≡ n = ap (λ (b : SlotContents). length b.answers) made ∙ length-map flags (λ w. None) ∙ length_flags seen count
+    flags e ∙ same in
+    (len, ap (λ (b : SlotContents). b.wanted) made ∙ e ∙ ap (flags_of seen) (same ∙ sym len))
 
--- a board of other answers
-pub board_copied : (board : Filled) (answers : List (Option Matched)) (flags : List Bool) (seen : List Wanted) (count n : ℕ) → board ≡ record { answers = answers; wanted = flags; line = None } → flags ≡ flags_of seen count → count ≡ n → length answers ≡ n →
-    (length board.answers ≡ n) × (board.wanted ≡ flags_of seen (length board.answers))
-board_copied board answers flags seen count n made e same counted =
-    let len : length board.answers ≡ n = ap (λ (b : Filled). length b.answers) made ∙ counted in
-    (len, ap (λ (b : Filled). b.wanted) made ∙ e ∙ ap (flags_of seen) (same ∙ sym len))
-
-pub same_length_bodies : (bodies others : List (SmallVec TrackedAssignment)) → bodies_in bodies ≡ bodies_in others → length bodies ≡ length others
-same_length_bodies bodies others e = sym (length-map bodies (λ b. b.items)) ∙ ap length e ∙ length-map others (λ b. b.items)
-
-pub bodies_counted : (bodies : List (SmallVec TrackedAssignment)) (known : Numbered) → IsSound known → bodies_in bodies ≡ bodies_of known → length bodies ≡ length known.names
+pub bodies_counted : (bodies : List (SmallVec TrackedAssignment)) (known : Collection) → IsSoundCollection known → bodies_view bodies ≡ bodies_of
+    known → length bodies ≡ length known.names
 bodies_counted bodies known sound e = sym (length-map bodies (λ b. b.items)) ∙ ap length e ∙ length_bodies_of known sound
 
-pub bodies_have_slots : (bodies : List (SmallVec TrackedAssignment)) (known : Numbered) (n : ℕ) → IsSound known → bodies_in bodies ≡ bodies_of known → n ≡ length known.names → BodiesHaveSlots n (bodies_in bodies)
+pub bodies_have_slots : (bodies : List (SmallVec TrackedAssignment)) (known : Collection) (n : ℕ) → IsSoundCollection known → bodies_view bodies ≡
+    bodies_of known → n ≡ length known.names → BodiesHaveSlots n (bodies_view bodies)
 bodies_have_slots bodies known n sound e same = rw (e, same) (bodies_within known sound)
 
 -- what is held once all is made
-pub held_as : (known : Numbered) (texts : List (List ℕ)) (slots slots' : List (Option Matched)) (bodies : List (List TrackedAssignment)) (seen : List Wanted) → slots ≡ slots' → bodies ≡ bodies_of known → seen ≡ looked_up known.names texts →
-    record { is_initialized = true; slots = slots; bodies = bodies; selection = seen; taken = 0; tested = 0 } ≡ record (initialized known texts) { slots = slots' }
+pub held_as : (known : Collection) (texts : List (List ℕ)) (slots slots' : List (Option Matched)) (bodies : List (List TrackedAssignment))
+    (seen : List Wanted) → slots ≡ slots' → bodies ≡ bodies_of known → seen ≡ looked_up known.names texts →
+    record { is_initialized = true; slots = slots; bodies = bodies; selection = seen; taken = 0; tested = 0 } ≡ record (initial_content known texts)
+    { slots = slots' }
 held_as known texts slots slots' bodies seen e f g =
-    let Held : List (Option Matched) → List (List TrackedAssignment) → List Wanted → Content = λ s b w. record { is_initialized = true; slots = s; bodies = b; selection = w; taken = 0; tested = 0 } in
+    let Held : List (Option Matched) → List (List TrackedAssignment) → List Wanted → Content = λ s b w. record
+    { is_initialized = true; slots = s; bodies = b; selection = w; taken = 0; tested = 0 } in
     ap (λ s. Held s bodies seen) e ∙ ap (λ b. Held slots' b seen) f ∙ ap (Held slots' (bodies_of known)) g
 
-found_at : (slots : List (Option Matched)) (i : ℕ) (o : Option Matched) → i < length slots → get_or slots i None ≡ o → found_in (drop i slots) ≡ cons_option o (found_in (drop (i + 1) slots))
+found_at : (slots : List (Option Matched)) (i : ℕ) (o : Option Matched) → i < length slots → get_or slots i None ≡ o → found_in (drop i slots) ≡
+    cons_option o (found_in (drop (i + 1) slots))
 found_at slots i o lt e = ap found_in (drop_more slots i None lt) ∙ ap (λ x. cons_option x (found_in (drop (i + 1) slots))) e
 
 -- the answer at a number is the first of those that are left
-pub found_next : (slots : List (Option Matched)) (i : ℕ) (x : Matched) → i < length slots → get_or slots i None ≡ Some x → found_in (drop i slots) ≡ x ∷ found_in (drop (i + 1) slots)
+pub found_next : (slots : List (Option Matched)) (i : ℕ) (x : Matched) → i < length slots → get_or slots i None ≡ Some x → found_in (drop i slots) ≡ x
+    ∷ found_in (drop (i + 1) slots)
 found_next slots i x lt e = found_at slots i (Some x) lt e
 
 -- a number without an answer is passed over
-pub found_skip : (slots : List (Option Matched)) (i : ℕ) → i < length slots → get_or slots i None ≡ None → found_in (drop i slots) ≡ found_in (drop (i + 1) slots)
+pub found_skip : (slots : List (Option Matched)) (i : ℕ) → i < length slots → get_or slots i None ≡ None → found_in (drop i slots) ≡ found_in
+    (drop (i + 1) slots)
 found_skip slots i lt e = found_at slots i None lt e
 
 pub found_none : (slots : List (Option Matched)) (i : ℕ) → length slots ≤ i → found_in (drop i slots) ≡ []
 found_none slots i le = ap found_in (drop_all i slots le)
 
 -- resetting again changes nothing
-pub emptied_again : (held : Content) → emptied (emptied held) ≡ emptied held
+pub emptied_again : (held : Content) → reset_content (reset_content held) ≡ reset_content held
 emptied_again held =
     let Emptied : List (Option Matched) → Content = λ slots. record held { is_initialized = true; slots = slots; taken = 0; tested = 0 } in
     ap Emptied (same_empty None (map (λ slot. None) held.slots) held.slots (length-map held.slots (λ slot. None)))

@@ -1,4 +1,4 @@
--- What a list keeps of a buffer was read of pattern texts, none of them negative.
+-- The lines that a list keeps of a buffer were read from pattern texts, none of them negative.
 use Rattle.std.proofs.Common.{◌≡◌, ℕ, ◌+◌, Bool, true, false, not, List, [], ◌∷◌, Option, Some, None, filter, cond, Result, Ok, Err, refl, ap, ◌∙◌}
 use Rattle.std.specs.Prelude.{⊤, All, option_map, drop, length, ◌==◌, ◌||◌, slice_index, if◌then◌else◌}
 use Rattle.std.specs.List.{list_all, list_any, cons_option}
@@ -6,12 +6,15 @@ use Rattle.std.specs.Option.{option_to_list}
 use Rattle.std.specs.Result.{result_ok, result_map_both}
 use Rattle.attr_glob.specs.Bytes.{number_sign}
 use Rattle.std.proofs.lemmas.List.Elements.{All-nil, All-cons, All-head, All-tail, All-append}
-use Rattle.attr_glob.specs.Patterns.{Reading, reading, read_rest, is_negated, without_negation, without_root, without_end, is_space, is_slash, is_suffix, ends_in_slash, first, set_where, has_flag, no_sub_dir, ends_with, must_be_dir, negative, absolute}
+use Rattle.attr_glob.specs.Patterns.{Reading, reading, read_rest, is_negated, without_negation, without_root, without_end, is_space, is_slash}
+use Rattle.attr_glob.specs.Patterns.{is_suffix, ends_in_slash, first, set_where, has_flag, no_sub_dir, ends_with, must_be_dir, negative, absolute}
 use Rattle.attr_text.specs.Items.{Refusal, checked_name, after_blanks}
-use Rattle.attr_text.specs.LineResults.{Target, pattern, macro, LineResult, RefusedLine, Given, macro_name, negative_pattern, macro_mark, is_macro, macro_of, pattern_of, target_of, parts_of, with_items, result_of_text, result_of, results_from, results_of, lines_in}
-use Rattle.attr_lists.specs.declared.search.TrackedAssignment.{TrackedAssignment}
-use Rattle.attr_lists.specs.declared.search.Dropped.{Dropped}
-use Rattle.attr_lists.specs.declared.search.DropReason.{DropReason}
+use Rattle.attr_text.specs.LineResults.{Target, pattern, macro, LineResult, RefusedLine, Given, macro_name, negative_pattern, macro_prefix}
+use Rattle.attr_text.specs.LineResults.{is_macro_definition, macro_of, pattern_of, target_of, parts_of, with_items, result_of_text, result_of}
+use Rattle.attr_text.specs.LineResults.{results_from, results_of, lines_in}
+use Rattle.attr_lists.specs.declared.types.TrackedAssignment.{TrackedAssignment}
+use Rattle.attr_lists.specs.declared.types.Dropped.{Dropped}
+use Rattle.attr_lists.specs.declared.types.DropReason.{DropReason}
 use Rattle.attr_lists.specs.ListViews.{Entry}
 use Rattle.attr_lists.specs.KeptLists.{items_read, entry_for, line_read, kept_lines, kept_list, kept_list_where, defines_no_macro}
 use Rattle.attr_search.specs.Settings.{IsRead, AreRead}
@@ -74,16 +77,18 @@ unfolding OptionRead TargetRead
 read-pattern text line true read e h = tt
 read-pattern text line false read e h = (text, e, h refl)
 
-read-found : (text : List ℕ) (line : ℕ) (blank : Bool) → reading text ≡ (if blank then None else Some (read_rest (is_negated text) (without_negation text)))
+read-found : (text : List ℕ) (line : ℕ) (blank : Bool) → reading text ≡
+    (if blank then None else Some (read_rest (is_negated text) (without_negation text)))
     → OptionRead (option_map (pattern_of text line) (if blank then None else Some (read_rest (is_negated text) (without_negation text))))
 unfolding OptionRead
 read-found text line true e = tt
-read-found text line false e = read-pattern text line (is_negated text) (read_rest (is_negated text) (without_negation text)) e (rest-not_negative (is_negated text) (without_negation text))
+read-found text line false e = read-pattern text line (is_negated text) (read_rest (is_negated text) (without_negation text)) e
+    (rest-not_negative (is_negated text) (without_negation text))
 
 target_of-read : (text : List ℕ) (line : ℕ) → OptionRead (target_of text line)
 target_of-read text line =
-    let name = drop (length macro_mark) text in
-    read-either (is_macro text) (Some (macro_of (checked_name name) name line)) (option_map (pattern_of text line) (reading text))
+    let name = drop (length macro_prefix) text in
+    read-either (is_macro_definition text) (Some (macro_of (checked_name name) name line)) (option_map (pattern_of text line) (reading text))
     (read-macro (checked_name name) name line) (read-found text line (list_all is_space (without_negation text)) refl)
 
 read-line : (items : List ℕ) (line : ℕ) (target : Option (Result Target RefusedLine)) → OptionRead target
@@ -93,9 +98,9 @@ read-line items line None h = All-nil LineRead
 read-line items line (Some (Ok target)) h = All-cons LineRead _ [] h (All-nil LineRead)
 read-line items line (Some (Err refused)) h = All-cons LineRead _ [] tt (All-nil LineRead)
 
-read-unless : (b : Bool) (said : Option LineResult) → All LineRead (option_to_list said) → All LineRead (option_to_list (cond b None said))
-read-unless true said h = All-nil LineRead
-read-unless false said h = h
+read-unless : (b : Bool) (result : Option LineResult) → All LineRead (option_to_list result) → All LineRead (option_to_list (cond b None result))
+read-unless true result h = All-nil LineRead
+read-unless false result h = h
 
 result_of-read : (line : List ℕ) (number : ℕ) → All LineRead (option_to_list (result_of line number))
 result_of-read line number =
@@ -106,7 +111,8 @@ result_of-read line number =
 results-read : (number : ℕ) (lines : List (List ℕ)) → All LineRead (results_from number lines)
 results-read number [] = All-nil LineRead
 results-read number (line ∷ lines) =
-    All-append LineRead (option_to_list (result_of line number)) (results_from (number + 1) lines) (result_of-read line number) (results-read (number + 1) lines)
+    All-append LineRead (option_to_list (result_of line number)) (results_from (number + 1) lines) (result_of-read line number)
+    (results-read (number + 1) lines)
 
 entry-read : (target : Target) (line : ℕ) (items : List TrackedAssignment) → TargetRead target → IsRead (entry_for target line items)
 unfolding TargetRead
@@ -138,7 +144,8 @@ filter-step false entry others h hs = hs
 filter-read : (test : Entry → Bool) (entries : List Entry) → AreRead entries → AreRead (filter test entries)
 filter-read test [] h = h
 filter-read test (entry ∷ entries) h =
-    filter-step (test entry) entry (filter test entries) (All-head IsRead entry entries h) (filter-read test entries (All-tail IsRead entry entries h))
+    filter-step (test entry) entry (filter test entries) (All-head IsRead entry entries h)
+    (filter-read test entries (All-tail IsRead entry entries h))
 
 kept_list-read : (bytes : List ℕ) → AreRead (kept_list bytes)
 kept_list-read bytes = kept-read (results_of bytes) (results-read 1 (lines_in bytes))
@@ -147,6 +154,6 @@ kept-where : (allow : Bool) (bytes : List ℕ) → AreRead (cond allow (kept_lis
 kept-where true bytes = kept_list-read bytes
 kept-where false bytes = filter-read defines_no_macro (kept_list bytes) (kept_list-read bytes)
 
--- what an addition keeps
+-- the lines that an addition keeps
 pub kept_list_where-read : (allow_macros : Bool) (bytes : List ℕ) → AreRead (kept_list_where allow_macros bytes)
 kept_list_where-read allow_macros bytes = kept-where allow_macros bytes

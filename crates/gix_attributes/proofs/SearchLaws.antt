@@ -1,23 +1,24 @@
--- What the laws of searches say, from the laws of the table.
-use Rattle.std.proofs.Common.{◌≡◌, ◌⊎◌, ◌↔◌, ℕ, zero, suc, ◌+◌, ◌<◌, ◌==◌, ◌||◌, Bool, true, false, cond, List, [], ◌∷◌, ◌++◌, length, get_or, map, filter, All, Option, Some, None, option_map, unwrap_or, refl, sym, ap, ◌∙◌, arith, eq-eqb}
+-- The laws of searches, from the laws of the table.
+use Rattle.std.proofs.Common.{◌≡◌, ◌⊎◌, ◌↔◌, ℕ, zero, suc, ◌+◌, ◌<◌, ◌==◌, ◌||◌, Bool, true, false, cond, List, [], ◌∷◌, ◌++◌, length, get_or, map}
+use Rattle.std.proofs.Common.{filter, All, Option, Some, None, option_map, unwrap_or, refl, sym, ap, ◌∙◌, arith, eq-eqb}
 use Rattle.std.proofs.Math.Path.{subst, fun_ext}
 use Rattle.std.specs.List.{Contains, list_any, range_with_len}
 use Rattle.std.proofs.lemmas.List.Elements.{All-head, All-tail}
 use Rattle.std.proofs.lemmas.List.{append-nil}
 use Rattle.attr_glob.specs.declared.pattern.Case.{Case}
 use Rattle.attr_lists.specs.ListViews.{Entry}
-use Rattle.attr_lists.specs.declared.search.TrackedAssignment.{TrackedAssignment}
+use Rattle.attr_lists.specs.declared.types.TrackedAssignment.{TrackedAssignment}
 use Rattle.attr_table.specs.Setting.{Item, Setting}
 use Rattle.attr_table.specs.Table.{Slots, Table, IsStable}
 use Rattle.attr_table.specs.Cut.{IsCut, IsSearched, full_answer, is_done, no_answers}
-use Rattle.attr_table.specs.Walk.{Walks, line_tasks, list_tasks, tasks_of}
-use Rattle.attr_table.proofs.Cuts.{searched_walked, seen_others, seen_wanted, walked_searched}
-use Rattle.attr_table.proofs.Ends.{OneTable-of}
+use Rattle.attr_table.specs.inner.Walk.{Walks, line_tasks, list_tasks, tasks_of}
+use Rattle.attr_table.proofs.ForCallers.{searched_walked, seen_others, seen_wanted, walked_searched}
+use Rattle.attr_table.proofs.ForCallers.{OneTable-of}
 use Rattle.gix_attributes.specs.Contents.{Content, Wanted, has_number, is_wanted, wanted_of}
 use Rattle.attr_search.specs.Settings.{Listed, gives, line_of, lines_of, origin_in, rest_for, setting_of}
 use Rattle.attr_search.specs.Slots.{Matched, slots_of, table_answer, table_items}
 
--- rows of empty slots answer nothing
+-- empty slots have no answers
 abbrev no_slot : {X : Type 0} → X → Option Matched
 no_slot x = None
 
@@ -50,7 +51,7 @@ in_range a (suc n) (suc k) number lt e =
     let c = in_range (a + 1) n k number (omega (arith, lt)) (omega (arith, e)) in
     (suc c.0, omega (arith, c.1), c.2)
 
--- a number is wanted where all are, or where its name is selected
+-- a number is wanted if there is no selection, or if its name is selected
 pub all_wanted : (held : Content) (number : ℕ) → length held.selection ≡ 0 → number < length held.slots → Contains (wanted_of held) number
 all_wanted held number none lt =
     in_filter (is_wanted held.selection) (range_with_len 0 (length held.slots)) number (in_range 0 (length held.slots) number number lt (omega arith))
@@ -118,7 +119,8 @@ same_tasks : (earlier later : List Listed) (silent : Listed) (path : List ℕ) (
     All (λ line. gives case is_dir (rest_for case path silent) line ≡ false) silent.lines →
     tasks_of (map (lines_of case is_dir path) (earlier ++ silent ∷ later)) ≡ tasks_of (map (lines_of case is_dir path) (earlier ++ later))
 same_tasks [] later silent path case is_dir none =
-    ap (λ ts. tasks_of (map (lines_of case is_dir path) later) ++ ts) (silent_tasks case is_dir silent.source (rest_for case path silent) silent.lines none)
+    ap (λ ts. tasks_of (map (lines_of case is_dir path) later) ++ ts) (silent_tasks case is_dir silent.source (rest_for case path silent) silent.lines
+    none)
     ∙ append-nil (tasks_of (map (lines_of case is_dir path) later))
 same_tasks (l ∷ earlier) later silent path case is_dir none =
     ap (λ ts. ts ++ list_tasks (lines_of case is_dir path l)) (same_tasks earlier later silent path case is_dir none)

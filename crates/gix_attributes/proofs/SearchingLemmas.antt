@@ -1,52 +1,66 @@
--- From what a search says of a board to what it says of an outcome.
-use Rattle.std.proofs.Common.{◌≡◌, ℕ, Bool, true, false, List, length, Option, None, Ok, sym, ap, ◌∙◌}
+-- From what a search leaves of its state to what it leaves of an outcome.
+use Rattle.std.proofs.Common.{◌≡◌, ℕ, Bool, true, false, List, length, map, Option, None, Ok, sym, ap, ◌∙◌}
 use Rattle.std.proofs.Math.Path.{subst}
 use Rattle.std.specs.Result.{is_err}
 use Rattle.std.specs.declared.result.Result.{Result}
-use Rattle.attr_search.specs.Board.{Filled, wanted_in}
-use Rattle.gix_attributes.specs.ContentView.{content}
-use Rattle.gix_attributes.specs.Contents.{Content, emptied, flags_of, is_wanted, wanted_of}
-use Rattle.attr_search.specs.Listings.{listed_in}
-use Rattle.gix_attributes.specs.Selection.{selection_seen}
-use Rattle.attr_search.specs.Walking.{bodies_in}
+use Rattle.bstr.specs.BStr.{bstr_bytes}
+use Rattle.attr_glob.specs.declared.pattern.Case.{Case}
+use Rattle.attr_search.specs.declared.path_query.PathQuery.{PathQuery}
+use Rattle.attr_search.specs.SearchContents.{SearchContents}
+use Rattle.attr_search.specs.inner.SlotContents.{wanted_numbers}
+use Rattle.gix_attributes.specs.ContentView.{outcome_view}
+use Rattle.gix_attributes.specs.Contents.{Content, reset_content, flags_of, is_wanted, wanted_of}
+use Rattle.attr_search.specs.IndexedLists.{lists_view}
+use Rattle.gix_attributes.specs.Selection.{selection_view}
 use Rattle.attr_search.specs.Settings.{Listed}
 use Rattle.attr_search.specs.Slots.{Matched}
-use Rattle.attr_search.specs.declared.standing.Standing.{Standing}
-use Rattle.attr_lists.specs.declared.search.TrackedAssignment.{TrackedAssignment}
-use Rattle.smallvec.specs.SmallVec.{SmallVec}
-use Rattle.attr_search.specs.declared.matching.Counts.{Counts}
+use Rattle.attr_search.specs.declared.indexed_list.IndexedList.{IndexedList}
+use Rattle.attr_lists.specs.declared.types.TrackedAssignment.{TrackedAssignment}
 use Rattle.gix_attributes.specs.declared.search.outcome.Outcome.TheInside.{Inside}
 use Rattle.gix_attributes.proofs.OutcomeLemmas.{same_empty, wanted_by_flags}
 
--- What holds of standing lists, and of an outcome's own bodies and board, holds of what is seen of them.
-pub as_seen : (o : Inside) (held : Content) (lists searched : List Standing) (bodies : List (SmallVec TrackedAssignment)) → content o ≡ held →
-    o.board.wanted ≡ flags_of (selection_seen o.selected.items) (length o.board.answers) → searched ≡ lists → bodies ≡ o.bodies.items →
-    (P : List Listed → List (List TrackedAssignment) → List ℕ → List (Option Matched) → Type 0) →
-    P (listed_in searched) (bodies_in bodies) (wanted_in o.board.wanted) o.board.answers → P (listed_in lists) held.bodies (wanted_of held) held.slots
-as_seen o held lists searched bodies view wanted e f P p =
-    let w : wanted_in o.board.wanted ≡ wanted_of (content o) =
-    ap wanted_in wanted ∙ wanted_by_flags (is_wanted (selection_seen o.selected.items)) (length o.board.answers) in
-    subst (λ h. P (listed_in lists) h.bodies (wanted_of h) h.slots) view
-    (subst (λ ws. P (listed_in lists) (bodies_in o.bodies.items) ws o.board.answers) w
-    (subst (λ ls. P (listed_in ls) (bodies_in o.bodies.items) (wanted_in o.board.wanted) o.board.answers) e
-    (subst (λ bs. P (listed_in searched) (bodies_in bs) (wanted_in o.board.wanted) o.board.answers) f p)))
+-- What holds of lists, of an outcome's own state and of a query holds of what is seen of them.
+pub as_seen : (o : Inside) (held : Content) (lists searched : List IndexedList) (query : PathQuery) (path : List ℕ) (case : Case)
+    (is_dir : Option Bool) →
+    outcome_view o ≡ held → o.state.wanted ≡ flags_of (selection_view o.selected.items) (length o.state.answers) → searched ≡ lists →
+    bstr_bytes query.path ≡ path → query.case ≡ case → query.is_dir ≡ is_dir →
+    (P : List Listed → List (List TrackedAssignment) → List ℕ → List (Option Matched) → List ℕ → Case → Option Bool → Type 0) →
+    P (lists_view searched) o.state.bodies (wanted_numbers o.state.wanted) o.state.answers (bstr_bytes query.path) query.case query.is_dir →
+    P (lists_view lists) held.bodies (wanted_of held) held.slots path case is_dir
+as_seen o held lists searched query path case is_dir view wanted e p c d P known =
+    let w : wanted_numbers o.state.wanted ≡ wanted_of (outcome_view o) =
+    ap wanted_numbers wanted ∙ wanted_by_flags (is_wanted (selection_view o.selected.items)) (length o.state.answers) in
+    subst (λ h. P (lists_view lists) h.bodies (wanted_of h) h.slots path case is_dir) view
+    (subst (λ ws. P (lists_view lists) o.state.bodies ws o.state.answers path case is_dir) w
+    (subst (λ ls. P (lists_view ls) o.state.bodies (wanted_numbers o.state.wanted) o.state.answers path case is_dir) e
+    (subst (λ q. P (lists_view searched) o.state.bodies (wanted_numbers o.state.wanted) o.state.answers q case is_dir) p
+    (subst (λ k. P (lists_view searched) o.state.bodies (wanted_numbers o.state.wanted) o.state.answers (bstr_bytes query.path) k is_dir) c
+    (subst (λ f. P (lists_view searched) o.state.bodies (wanted_numbers o.state.wanted) o.state.answers (bstr_bytes query.path) query.case f) d
+    known)))))
 
--- an outcome with this board and these counts
-abbrev pub with_board : Content → Filled → ℕ → ℕ → Content
-with_board held board taken tested = record held { slots = board.answers; taken = taken; tested = tested }
+-- an outcome with this state of a search
+abbrev pub with_state : Content → SearchContents → Content
+with_state held state =
+    record held { slots = state.answers; bodies = state.bodies; taken = state.taken; tested = state.tested }
 
--- with the same board and the same counts it is the same outcome
-pub same_board : (o : Inside) (board : Filled) (counts : Counts) → board ≡ o.board → counts ≡ o.counts →
-    with_board (content o) board counts.taken counts.tested ≡ content o
-same_board o board counts e f =
-    ap (λ (b : Filled). with_board (content o) b counts.taken counts.tested) e
-    ∙ ap (λ (c : Counts). with_board (content o) o.board c.taken c.tested) f
+-- with the same state it is the same outcome
+pub same_state : (o : Inside) (state : SearchContents) → state ≡ o.state → with_state (outcome_view o) state ≡ outcome_view o
+same_state o state e = ap (with_state (outcome_view o)) e
+
+-- with the same bodies it differs in its answers and counts
+pub same_bodies : (o : Inside) (state : SearchContents) → state.bodies ≡ o.state.bodies →
+    with_state (outcome_view o) state ≡ record (outcome_view o) { slots = state.answers; taken = state.taken; tested = state.tested }
+same_bodies o state e =
+    ap (λ bs. record (outcome_view o) { slots = state.answers; bodies = bs; taken = state.taken; tested = state.tested }) e
 
 -- what is left of an outcome that is reset does not depend on its answers
-pub emptied_alike : (held : Content) (board : Filled) (taken tested : ℕ) → length board.answers ≡ length held.slots →
-    emptied (with_board held board taken tested) ≡ emptied held
-emptied_alike held board taken tested e =
-    ap (λ slots. record held { is_initialized = true; slots = slots; taken = 0; tested = 0 }) (same_empty None board.answers held.slots e)
+pub emptied_alike : (o : Inside) (state : SearchContents) → state.bodies ≡ o.state.bodies → length state.answers ≡ length o.state.answers →
+    reset_content (with_state (outcome_view o) state) ≡ reset_content (outcome_view o)
+emptied_alike o state same e =
+    ap (λ bs. record (outcome_view o)
+    { is_initialized = true; slots = map (λ slot. None) state.answers; bodies = bs; taken = 0; tested = 0 }) same
+    ∙ ap (λ slots. record (outcome_view o) { is_initialized = true; slots = slots; taken = 0; tested = 0 })
+    (same_empty None state.answers o.state.answers e)
 
 pub not_both : {E : Type 0} (r : Result Bool E) → r ≡ Ok false → is_err r ≡ true → ⊥
 not_both r e f = let h : false ≡ true = sym (ap is_err e) ∙ f in absurd cc

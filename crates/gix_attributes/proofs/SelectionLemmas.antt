@@ -1,5 +1,6 @@
 -- Lists that are built element by element, flags of a selection, and bodies that are the same.
-use Rattle.std.proofs.Common.{rules, ◌≡◌, ℕ, zero, suc, ◌+◌, ◌<◌, Bool, true, false, ◌||◌, ◌==◌, List, [], ◌∷◌, ◌++◌, length, get_or, set, take, Some, None, option_map, unwrap_or, refl, sym, ap, ◌∙◌, arith, replicate}
+use Rattle.std.proofs.Common.{rules, ◌≡◌, ℕ, zero, suc, ◌+◌, ◌<◌, Bool, true, false, ◌||◌, ◌==◌, List, [], ◌∷◌, ◌++◌, length, get_or, set, take, Some}
+use Rattle.std.proofs.Common.{None, option_map, unwrap_or, refl, sym, ap, ◌∙◌, arith, replicate}
 use Rattle.std.specs.Bool.{Decides}
 use Rattle.std.specs.List.{list_any}
 use Rattle.std.proofs.Math.ListN.{length-set, length-map}
@@ -7,13 +8,13 @@ use Rattle.std.proofs.lemmas.List.{take_more, map_push, get_or-map, length-repli
 use Rattle.std.proofs.lemmas.List.Folds.{list_any-append}
 use Rattle.std.proofs.lemmas.List.FromFn.{fill_by_all}
 use Rattle.smallvec.specs.SmallVec.{SmallVec}
-use Rattle.attr_lists.specs.Numbered.{Numbered}
-use Rattle.attr_lists.specs.Definitions.{body_of, last_body}
-use Rattle.attr_lists.specs.declared.search.TrackedAssignment.{TrackedAssignment}
-use Rattle.attr_lists.specs.contracts.search.TrackedAssignmentPartialEq.TheImpl as tracked
+use Rattle.attr_lists.specs.Collections.{Collection}
+use Rattle.attr_lists.specs.Definitions.{macro_body, last_body}
+use Rattle.attr_lists.specs.declared.types.TrackedAssignment.{TrackedAssignment}
+use Rattle.attr_lists.specs.contracts.types.TrackedAssignmentPartialEq.TheImpl as tracked
 use Rattle.gix_attributes.specs.Contents.{has_number, is_wanted, flags_of, bodies_of}
-use Rattle.gix_attributes.specs.Selection.{wanted_seen, selection_seen}
-use Rattle.attr_search.specs.Walking.{bodies_in}
+use Rattle.gix_attributes.specs.Selection.{wanted_view, selection_view}
+use Rattle.attr_search.specs.Slots.{bodies_view}
 use Rattle.gix_attributes.specs.declared.search.selection.SelectedName.{SelectedName}
 
 or_pushed : (a b : Bool) → a || (b || false) ≡ a || b
@@ -27,12 +28,13 @@ or_grouped false b c = refl
 
 -- one more selected name
 flag_more : (k : ℕ) (selected : List SelectedName) (i : ℕ) (w : SelectedName) → i < length selected → w ≡ get_or selected i w →
-    list_any (has_number k) (selection_seen (take (i + 1) selected)) ≡ list_any (has_number k) (selection_seen (take i selected)) || has_number k (wanted_seen w)
+    list_any (has_number k) (selection_view (take (i + 1) selected)) ≡ list_any (has_number k) (selection_view (take i selected)) || has_number k
+    (wanted_view w)
 flag_more k selected i w lt at =
-    ap (λ l. list_any (has_number k) (selection_seen l)) (take_more selected i w lt ∙ ap (λ z. take i selected ++ z ∷ []) (sym at))
-    ∙ ap (list_any (has_number k)) (map_push wanted_seen (take i selected) w)
-    ∙ list_any-append (has_number k) (selection_seen (take i selected)) (wanted_seen w ∷ [])
-    ∙ or_pushed (list_any (has_number k) (selection_seen (take i selected))) (has_number k (wanted_seen w))
+    ap (λ l. list_any (has_number k) (selection_view l)) (take_more selected i w lt ∙ ap (λ z. take i selected ++ z ∷ []) (sym at))
+    ∙ ap (list_any (has_number k)) (map_push wanted_view (take i selected) w)
+    ∙ list_any-append (has_number k) (selection_view (take i selected)) (wanted_view w ∷ [])
+    ∙ or_pushed (list_any (has_number k) (selection_view (take i selected))) (has_number k (wanted_view w))
 
 or_true : (b : Bool) → b || true ≡ true
 or_true true = refl
@@ -61,75 +63,86 @@ flag_set (b ∷ flags) (suc n) (suc k) lt = flag_set flags n k (omega arith) ∙
 -- Which flags are set once some of the names are gone through. Without names all of them are.
 pub record AreFlags (flags : List Bool) (count : ℕ) (all : Bool) (selected : List SelectedName) : Type 0 where
   pub same_length : length flags ≡ count
-  pub set : (k : ℕ) → k < count → get_or flags k false ≡ all || list_any (has_number k) (selection_seen selected)
+  pub set : (k : ℕ) → k < count → get_or flags k false ≡ all || list_any (has_number k) (selection_view selected)
 
 -- at first the flags are all the same
-pub flags_begun : (flags : List Bool) (count : ℕ) (all : Bool) (selected : List SelectedName) → flags ≡ replicate count all → AreFlags flags count all (take 0 selected)
+pub flags_begun : (flags : List Bool) (count : ℕ) (all : Bool) (selected : List SelectedName) → flags ≡ replicate count all → AreFlags flags count all
+    (take 0 selected)
 flags_begun flags count all selected made =
     record {
       same_length = ap length made ∙ length-replicate count all;
       set = λ k lt. ap (λ l. get_or l k false) made ∙ get_or-replicate count k all false lt ∙ sym (or_false all);
     }
 
-pub flags_kept : (flags : List Bool) (count : ℕ) (all : Bool) (selected : List SelectedName) (i : ℕ) (w : SelectedName) → i < length selected → w ≡ get_or selected i w → w.number ≡ None →
+pub flags_kept : (flags : List Bool) (count : ℕ) (all : Bool) (selected : List SelectedName) (i : ℕ) (w : SelectedName) → i < length selected → w ≡
+    get_or selected i w → w.number ≡ None →
     AreFlags flags count all (take i selected) → AreFlags flags count all (take (i + 1) selected)
 flags_kept flags count all selected i w lt at none so_far =
     record {
       same_length = so_far.same_length;
       set = λ k below.
           so_far.set k below
-          ∙ sym (ap (λ b. all || b) (flag_more k selected i w lt at ∙ ap (λ n. list_any (has_number k) (selection_seen (take i selected)) || unwrap_or (option_map (λ m. m == k) n) false) none ∙ or_false (list_any (has_number k) (selection_seen (take i selected)))));
+          ∙ sym (ap (λ b. all || b) (flag_more k selected i w lt at ∙ ap
+          (λ n. list_any (has_number k) (selection_view (take i selected)) || unwrap_or (option_map (λ m. m == k) n) false) none ∙ or_false
+          (list_any (has_number k) (selection_view (take i selected)))));
     }
 
-pub flags_set : (flags : List Bool) (count : ℕ) (all : Bool) (selected : List SelectedName) (i n : ℕ) (w : SelectedName) → i < length selected → w ≡ get_or selected i w → w.number ≡ Some n → n < count →
+pub flags_set : (flags : List Bool) (count : ℕ) (all : Bool) (selected : List SelectedName) (i n : ℕ) (w : SelectedName) → i < length selected → w ≡
+    get_or selected i w → w.number ≡ Some n → n < count →
     AreFlags flags count all (take i selected) → AreFlags (set flags n true) count all (take (i + 1) selected)
 flags_set flags count all selected i n w lt at some within so_far =
     let n_within : n < length flags = omega (arith, so_far.same_length) in
     record {
       same_length = length-set flags n true ∙ so_far.same_length;
       set = λ k below.
-          let before = list_any (has_number k) (selection_seen (take i selected)) in
+          let before = list_any (has_number k) (selection_view (take i selected)) in
           flag_set flags n k n_within ∙ ap (λ b. b || (n == k)) (so_far.set k below) ∙ or_grouped all before (n == k)
           ∙ sym (ap (λ b. all || b) (flag_more k selected i w lt at ∙ ap (λ m. before || unwrap_or (option_map (λ j. j == k) m) false) some));
     }
 
-length_selection : (selected : List SelectedName) → length (selection_seen selected) ≡ length selected
-length_selection selected = length-map selected wanted_seen
+length_selection : (selected : List SelectedName) → length (selection_view selected) ≡ length selected
+length_selection selected = length-map selected wanted_view
 
-pub flags_made : (flags : List Bool) (count : ℕ) (all : Bool) (selected done : List SelectedName) → done ≡ selected → all ≡ (length selected == 0) → AreFlags flags count all done → flags ≡ flags_of (selection_seen selected) count
+pub flags_made : (flags : List Bool) (count : ℕ) (all : Bool) (selected done : List SelectedName) → done ≡ selected → all ≡ (length selected == 0) →
+    AreFlags flags count all done → flags ≡ flags_of (selection_view selected) count
 flags_made flags count all selected done whole empty made =
-    fill_by_all (is_wanted (selection_seen selected)) flags count false made.same_length
+    fill_by_all (is_wanted (selection_view selected)) flags count false made.same_length
     (λ k below.
-    made.set k below ∙ ap (λ b. b || list_any (has_number k) (selection_seen done)) (empty ∙ ap (λ n. n == 0) (sym (length_selection selected)))
-    ∙ ap (λ l. (length (selection_seen selected) == 0) || list_any (has_number k) (selection_seen l)) whole)
+    made.set k below ∙ ap (λ b. b || list_any (has_number k) (selection_view done)) (empty ∙ ap (λ n. n == 0) (sym (length_selection selected)))
+    ∙ ap (λ l. (length (selection_view selected) == 0) || list_any (has_number k) (selection_view l)) whole)
 
 -- equal items are one
 pub tracked_decides : (x y : TrackedAssignment) → Decides (tracked.ghosts.eq x y) (x ≡ y)
 tracked_decides x y = search rules
 
 -- the body at a number
-pub body_at : (known : Numbered) (number : ℕ) → number < length known.definitions → get_or (bodies_of known) number [] ≡ body_of known number
+pub body_at : (known : Collection) (number : ℕ) → number < length known.definitions → get_or (bodies_of known) number [] ≡ macro_body known number
 body_at known number lt = get_or-map last_body known.definitions number [] [] lt
 
-pub length_bodies : (known : Numbered) → length (bodies_of known) ≡ length known.definitions
+pub length_bodies : (known : Collection) → length (bodies_of known) ≡ length known.definitions
 length_bodies known = length-map known.definitions last_body
 
 -- one more body that is pushed
-pub bodies_pushed : (bodies bodies' : List (SmallVec TrackedAssignment)) (known : Numbered) (number : ℕ) (body : SmallVec TrackedAssignment) → number < length known.definitions →
-    bodies_in bodies ≡ take number (bodies_of known) → body.items ≡ body_of known number → bodies' ≡ bodies ++ body ∷ [] → bodies_in bodies' ≡ take (number + 1) (bodies_of known)
+pub bodies_pushed : (bodies bodies' : List (SmallVec TrackedAssignment)) (known : Collection) (number : ℕ) (body : SmallVec TrackedAssignment) →
+    number < length known.definitions →
+    bodies_view bodies ≡ take number (bodies_of known) → body.items ≡ macro_body known number → bodies' ≡ bodies ++ body ∷ [] → bodies_view bodies' ≡
+    take (number + 1) (bodies_of known)
 bodies_pushed bodies bodies' known number body lt so_far here pushed =
     let lt' : number < length (bodies_of known) = omega (arith, length_bodies known) in
-    ap bodies_in pushed ∙ map_push (λ b. b.items) bodies body ∙ ap (λ l. l ++ body.items ∷ []) so_far
+    ap bodies_view pushed ∙ map_push (λ b. b.items) bodies body ∙ ap (λ l. l ++ body.items ∷ []) so_far
     ∙ ap (λ z. take number (bodies_of known) ++ z ∷ []) (here ∙ sym (body_at known number lt)) ∙ sym (take_more (bodies_of known) number [] lt')
 
 -- one more body that is the same
-pub bodies_more : (bodies : List (SmallVec TrackedAssignment)) (known : Numbered) (number : ℕ) (d : SmallVec TrackedAssignment) → number < length bodies → number < length known.definitions →
-    bodies_in (take number bodies) ≡ take number (bodies_of known) → (get_or bodies number d).items ≡ body_of known number → bodies_in (take (number + 1) bodies) ≡ take (number + 1) (bodies_of known)
+pub bodies_more : (bodies : List (SmallVec TrackedAssignment)) (known : Collection) (number : ℕ) (d : SmallVec TrackedAssignment) → number < length
+    bodies → number < length known.definitions →
+    bodies_view (take number bodies) ≡ take number (bodies_of known) → (get_or bodies number d).items ≡ macro_body known number → bodies_view
+    (take (number + 1) bodies) ≡ take (number + 1) (bodies_of known)
 bodies_more bodies known number d lt lt' so_far here =
     bodies_pushed (take number bodies) (take (number + 1) bodies) known number (get_or bodies number d) lt' so_far here (take_more bodies number d lt)
 
 -- bodies that are the same are so at each number
-pub bodies_same_at : (bodies : List (SmallVec TrackedAssignment)) (known : Numbered) (number : ℕ) (d : SmallVec TrackedAssignment) → number < length bodies → number < length known.definitions →
-    bodies_in bodies ≡ bodies_of known → (get_or bodies number d).items ≡ body_of known number
+pub bodies_same_at : (bodies : List (SmallVec TrackedAssignment)) (known : Collection) (number : ℕ) (d : SmallVec TrackedAssignment) → number < length
+    bodies → number < length known.definitions →
+    bodies_view bodies ≡ bodies_of known → (get_or bodies number d).items ≡ macro_body known number
 bodies_same_at bodies known number d lt lt' same =
     sym (get_or-map (λ b. b.items) bodies number d [] lt) ∙ ap (λ l. get_or l number []) same ∙ body_at known number lt'

@@ -1,5 +1,6 @@
--- What is left of a text without the slashes at its end, and which variables were asked for.
-use Rattle.std.proofs.Common.{◌≡◌, ◌∙◌, ◌<◌, ◌≤◌, ◌+◌, ◌-◌, ℕ, List, [], ◌∷◌, ◌++◌, length, take, get_or, refl, sym, ap, subst, Option, Some, None, arith, eq-eqb, inl, inr, lit<, Bor, String, Global, string_bytes, Result}
+-- A text without the slashes at its end, and the variables that were looked up.
+use Rattle.std.proofs.Common.{◌≡◌, ◌∙◌, ◌<◌, ◌≤◌, ◌+◌, ◌-◌, ℕ, List, [], ◌∷◌, ◌++◌, length, take, get_or, refl, sym, ap, subst, Option, Some, None}
+use Rattle.std.proofs.Common.{arith, eq-eqb, inl, inr, lit<, Bor, String, Global, string_bytes, Result}
 use Rattle.std.specs.Prelude.{is_some, option_map, IfOk}
 use Rattle.std.specs.Fn.{Mut, CalledAt}
 use Rattle.std.specs.List.{suffix_len}
@@ -13,14 +14,15 @@ use Rattle.gix_attributes.specs.Sources.{Asked, AsksInOrder, location}
 use Rattle.gix_attributes.specs.declared.source.Prefixes.{Prefixes}
 use Rattle.gix_attributes.specs.declared.source.Source.{Source}
 
--- the slashes behind so many bytes were cut
+-- the slashes after so many bytes were cut
 record AreCut (text left : List ℕ) : Type 0 where
   pub front : left ≡ take (length left) text
   pub within : length left ≤ length text
   pub slashes : (k : ℕ) → length left ≤ k → k < length text → get_or text k 0 ≡ 47
 
 -- one byte more
-cut_more : (text mid left : List ℕ) → AreCut text mid → left ≡ take (length mid - 1) mid → 0 < length mid → get_or mid (length mid - 1) 0 ≡ 47 → AreCut text left
+cut_more : (text mid left : List ℕ) → AreCut text mid → left ≡ take (length mid - 1) mid → 0 < length mid → get_or mid (length mid - 1) 0 ≡ 47 →
+    AreCut text left
 cut_more text mid left cut is some last =
     let shorter : length left ≡ length mid - 1 = ap length is ∙ length-take-le (length mid - 1) mid (omega arith) in
     let here : get_or text (length mid - 1) 0 ≡ 47 =
@@ -51,7 +53,8 @@ cut_all text (n ∷ ns) left (mid, cuts, (width, at, boundary), is) =
 last_byte : (left : List ℕ) → IsFullyTrimmed (FindsCharSuffix 47) left → 0 < length left → get_or left (length left - 1) 0 ≡ 47 → ⊥
 last_byte left (None, finds, end) some is =
     finds (take (length left - 1) left)
-    (sym (take_all (length left - 1 + 1) left (omega arith)) ∙ take_more left (length left - 1) 0 (omega arith) ∙ ap (λ b. take (length left - 1) left ++ b ∷ []) is
+    (sym (take_all (length left - 1 + 1) left (omega arith)) ∙ take_more left (length left - 1) 0 (omega arith) ∙ ap
+    (λ b. take (length left - 1) left ++ b ∷ []) is
     ∙ ap (λ bs. take (length left - 1) left ++ bs) (sym (encode_ascii 47 (lit< tt))))
 last_byte left (Some n, finds, end) some is = absurd (omega (arith, finds.0, end))
 
@@ -64,19 +67,22 @@ trimmed text left trims =
     (ap (λ l. get_or l (length left - 1) 0) cut.front ∙ get_or-take (length left) text (length left - 1) 0 (omega arith) ∙ is))) in
     cut.front ∙ ap (λ n. take n text) (omega (arith, cut.within, count))
 
--- a variable that was asked for, with what was answered
+-- a variable that was looked up, with its value
 abbrev pub asked_for : List ℕ → Option (String Global) → Asked
 asked_for name answer = record { name = name; value = option_map string_bytes answer }
 
--- one variable was asked for
-pub asks_one : {F : Type 0} (calls : Mut F (Bor (List ℕ) × Unit {0}) (Option (String Global))) (f : F) (name : List ℕ) (answer : Option (String Global)) (after : F)
+-- one variable was looked up
+pub asks_one : {F : Type 0} (calls : Mut F (Bor (List ℕ) × Unit {0}) (Option (String Global))) (f : F) (name : List ℕ)
+    (answer : Option (String Global)) (after : F)
     → CalledAt calls f name answer after → AsksInOrder calls f (asked_for name answer ∷ [])
 asks_one calls f name answer after called = (after, (after, (answer, called, refl), refl))
 
 -- two were, one after the other
-pub asks_two : {F : Type 0} (calls : Mut F (Bor (List ℕ) × Unit {0}) (Option (String Global))) (f : F) (name : List ℕ) (answer : Option (String Global)) (mid : F)
+pub asks_two : {F : Type 0} (calls : Mut F (Bor (List ℕ) × Unit {0}) (Option (String Global))) (f : F) (name : List ℕ)
+    (answer : Option (String Global)) (mid : F)
     (name' : List ℕ) (answer' : Option (String Global)) (after : F)
-    → CalledAt calls f name answer mid → CalledAt calls mid name' answer' after → AsksInOrder calls f (asked_for name answer ∷ asked_for name' answer' ∷ [])
+    → CalledAt calls f name answer mid → CalledAt calls mid name' answer' after → AsksInOrder calls f
+    (asked_for name answer ∷ asked_for name' answer' ∷ [])
 asks_two calls f name answer mid name' answer' after called called' =
     (after, (mid, (answer, called, refl), (after, (answer', called', refl), refl)))
 
@@ -84,9 +90,11 @@ pub is_some-text : (answer : Option (String Global)) → is_some (option_map str
 is_some-text None = refl
 is_some-text (Some text) = refl
 
--- an answer is where the file of the source lies, if it says so of the same variables
-pub located : {E : Type 0} (source known : Source) (prefixes : Prefixes) (asked : List Asked) (said : Option (List ℕ)) (result : Result (Option (String Global)) E)
-    → source ≡ known → location known prefixes asked ≡ said → IfOk result (λ path. option_map string_bytes path ≡ said)
+-- a result that is the path of a source is the path of the same source by another name
+pub located : {E : Type 0} (source known : Source) (prefixes : Prefixes) (asked : List Asked) (place : Option (List ℕ))
+    (result : Result (Option (String Global)) E)
+    → source ≡ known → location known prefixes asked ≡ place → IfOk result (λ path. option_map string_bytes path ≡ place)
     → IfOk result (λ path. option_map string_bytes path ≡ location source prefixes asked)
-located source known prefixes asked said result is where_ told =
-    subst (λ (l : Option (List ℕ)). IfOk result (λ path. option_map string_bytes path ≡ l)) (sym (ap (λ s. location s prefixes asked) is ∙ where_)) told
+located source known prefixes asked place result is same returned =
+    subst (λ (l : Option (List ℕ)). IfOk result (λ path. option_map string_bytes path ≡ l)) (sym (ap (λ s. location s prefixes asked) is ∙ same))
+    returned

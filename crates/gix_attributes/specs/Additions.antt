@@ -1,68 +1,76 @@
--- What an addition of a buffer or of a file makes of a search and its collection (own).
+-- What adding a buffer or a file does to a search and its collection (own).
 use Rattle.std.specs.Prelude.{◌≡◌, ℕ, Bool, ⊤, List, [], ◌∷◌, ◌++◌, Option, Some}
 use Rattle.attr_glob.specs.Bases.{base_of}
-use Rattle.attr_lists.specs.Definitions.{free_mark, with_list}
+use Rattle.attr_lists.specs.Definitions.{free_id, with_list}
 use Rattle.attr_lists.specs.KeptLists.{kept_list_where, dropped_lines}
-use Rattle.attr_lists.specs.Numbered.{Numbered}
+use Rattle.attr_lists.specs.Collections.{Collection}
+use Rattle.attr_lists.specs.ListViews.{Entry}
 use Rattle.attr_lists.specs.Numbers.{numbered_lines}
-use Rattle.attr_lists.specs.declared.search.Dropped.{Dropped}
+use Rattle.attr_lists.specs.declared.types.Dropped.{Dropped}
 use Rattle.gix_attributes.specs.declared.files.ReadError.{ReadError}
 use Rattle.gix_attributes.specs.declared.files.ReadError.TheVariants.{Device, OutOfMemory as NoMemory}
-use Rattle.gix_attributes.specs.Answers.{Answer, found, missing, device_failed, memory_refused}
-use Rattle.gix_attributes.specs.FileReads.{IsAnswered, is_there, contents_of}
-use Rattle.gix_attributes.specs.SearchViews.{lists_in, marks_in}
+use Rattle.gix_attributes.specs.Answers.{ReadAnswer, found, missing, device_failed, memory_refused}
+use Rattle.gix_attributes.specs.FileReads.{IsAnswered, file_exists, contents_of}
+use Rattle.gix_attributes.specs.SearchViews.{lists_in, list_ids_in}
 use Rattle.attr_search.specs.Settings.{Listed}
 use Rattle.gix_attributes.specs.declared.search.attributes.Search.{Search}
 use Rattle.gix_attributes.specs.declared.search.files.Added.{Added}
 use Rattle.gix_attributes.specs.declared.search.files.AddError.{AddError}
 use Rattle.gix_attributes.specs.declared.search.files.AddError.TheVariants.{Io, OutOfMemory}
 
--- the lists that stand in a search, the marks under which the collection keeps their definitions, and what it knows
-pub record Loaded : Type 0 where
+-- a collection after a list of these lines is registered under the least free list id
+abbrev pub with_registered : List Entry → Collection → Collection
+with_registered entries old = with_list (free_id old.active) entries old
+
+-- the lists of a search, their list ids, and the collection in which they are registered
+pub record RegisteredLists : Type 0 where
   pub lists : List Listed
-  pub marks : List ℕ
-  pub known : Numbered
+  pub list_ids : List ℕ
+  pub known : Collection
 
-abbrev pub loaded_in : Search → Numbered → Loaded
-loaded_in search known = record { lists = lists_in search; marks = marks_in search; known = known }
+abbrev pub registered_lists : Search → Collection → RegisteredLists
+registered_lists search known = record { lists = lists_in search; list_ids = list_ids_in search; known = known }
 
--- A buffer is added: its list stands behind those that stood, below the base that its source has as it is seen from the
--- root, its names are numbered, and its definitions stand under a mark that is free.
-abbrev pub with_buffer : List ℕ → Option (List ℕ) → Bool → List ℕ → Loaded → Loaded
-with_buffer source root allow_macros bytes old =
-    let kept = kept_list_where allow_macros bytes in
-    let mark = free_mark old.known.marks in
-    let known = with_list mark kept old.known in
+-- The list of a buffer, with the numbers of a collection: the lines that are kept of it, below the base that its source has as
+-- it is seen from the root.
+abbrev pub buffer_list : List ℕ → Option (List ℕ) → Bool → List ℕ → Collection → Listed
+buffer_list source root allow_macros bytes known =
     record {
-      lists = old.lists ++ record {
-        source = Some source;
-        base = base_of source root;
-        lines = numbered_lines known.names kept;
-      } ∷ [];
-      marks = old.marks ++ mark ∷ [];
+      source = Some source;
+      base = base_of source root;
+      lines = numbered_lines known.names (kept_list_where allow_macros bytes);
+    }
+
+-- a buffer is added: its list comes after the others, and is registered under the least free list id
+abbrev pub with_buffer : List ℕ → Option (List ℕ) → Bool → List ℕ → RegisteredLists → RegisteredLists
+with_buffer source root allow_macros bytes old =
+    let known = with_registered (kept_list_where allow_macros bytes) old.known in
+    record {
+      lists = old.lists ++ buffer_list source root allow_macros bytes known ∷ [];
+      list_ids = old.list_ids ++ free_id old.known.active ∷ [];
       known = known;
     }
 
--- a file is added as the buffer of what stands in it, and a missing one adds nothing
-abbrev pub with_file : List ℕ → Option (List ℕ) → Bool → Answer → Loaded → Loaded
+-- a file is added as the buffer of its contents, and a missing one adds nothing
+abbrev pub with_file : List ℕ → Option (List ℕ) → Bool → ReadAnswer → RegisteredLists → RegisteredLists
 with_file source root allow_macros (found bytes) old = with_buffer source root allow_macros bytes old
 with_file source root allow_macros missing old = old
 with_file source root allow_macros device_failed old = old
 with_file source root allow_macros memory_refused old = old
 
--- the lines of the file that are left out
-abbrev pub left_out : Answer → List Dropped
-left_out (found bytes) = dropped_lines bytes
-left_out missing = []
-left_out device_failed = []
-left_out memory_refused = []
+-- the lines of the file that are dropped
+abbrev pub dropped_of : ReadAnswer → List Dropped
+dropped_of (found bytes) = dropped_lines bytes
+dropped_of missing = []
+dropped_of device_failed = []
+dropped_of memory_refused = []
 
--- a file is added: what is told of it, the lists and the collection after it, and what is left in the buffer
-pub record AddsFile (source : List ℕ) (root : Option (List ℕ)) (allow_macros : Bool) (answer : Answer) (before after : Loaded)
-    (buffer : List ℕ) (added : Added) : Type 0 where
+-- a file is added: what the call reports of it, the lists and the collection after it, and the contents of the buffer
+pub record AddsFile (source : List ℕ) (root : Option (List ℕ)) (allow_macros : Bool) (answer : ReadAnswer)
+    (before after : RegisteredLists) (buffer : List ℕ) (added : Added) : Type 0 where
   pub answered : IsAnswered answer
-  pub was_added : added.was_added ≡ is_there answer
-  pub dropped : added.dropped.items ≡ left_out answer
+  pub was_added : added.was_added ≡ file_exists answer
+  pub dropped : added.dropped.items ≡ dropped_of answer
   pub loaded : after ≡ with_file source root allow_macros answer before
   pub left : buffer ≡ contents_of answer
 
@@ -71,14 +79,14 @@ abbrev pub IsIo : AddError → Type 0
 IsIo (Io e) = ⊤
 IsIo OutOfMemory = ⊥
 
--- the error of an addition says the same as that of its read
-abbrev pub SaysSame : ReadError → AddError → Type 0
-SaysSame (Device e) error = error ≡ Io e
-SaysSame NoMemory error = error ≡ OutOfMemory
+-- the error of an addition has the cause of its read's error
+abbrev pub HasCauseOf : ReadError → AddError → Type 0
+HasCauseOf (Device e) error = error ≡ Io e
+HasCauseOf NoMemory error = error ≡ OutOfMemory
 
--- an addition is refused because the device failed the read, because the read wanted memory, or because the list of the
--- file that was there did
-abbrev pub RefusedBy : Answer → AddError → Type 0
+-- An addition is refused because the device failed the read, because the read found no memory, or because the list of the file
+-- found none.
+abbrev pub RefusedBy : ReadAnswer → AddError → Type 0
 RefusedBy (found bytes) e = e ≡ OutOfMemory
 RefusedBy missing e = ⊥
 RefusedBy device_failed e = IsIo e

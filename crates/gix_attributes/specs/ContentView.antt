@@ -1,26 +1,22 @@
--- What an outcome holds, and what is true of each (own).
+-- The content of an outcome, and what is true of each (own).
 use Rattle.std.specs.Prelude.{◌≡◌, length}
-use Rattle.attr_glob.specs.Views.{pattern_read}
+use Rattle.attr_glob.specs.Views.{pattern_view}
 use Rattle.gix_attributes.specs.Contents.{Content, flags_of}
-use Rattle.attr_search.specs.Settings.{BodiesHaveSlots}
-use Rattle.gix_attributes.specs.Selection.{selection_seen}
-use Rattle.attr_search.specs.Walking.{bodies_in}
-use Rattle.attr_search.specs.Store.{no_pattern}
+use Rattle.gix_attributes.specs.Selection.{selection_view}
+use Rattle.attr_search.specs.inner.RefMapParts.{no_pattern}
 use Rattle.gix_attributes.specs.declared.search.outcome.Outcome.TheInside.{Inside}
 
-abbrev pub content : Inside → Content
-content o =
+abbrev pub outcome_view : Inside → Content
+outcome_view o =
     record {
       is_initialized = o.is_initialized;
-      slots = o.board.answers;
-      bodies = bodies_in o.bodies.items;
-      selection = selection_seen o.selected.items;
-      taken = o.counts.taken;
-      tested = o.counts.tested;
+      slots = o.state.answers;
+      bodies = o.state.bodies;
+      selection = selection_view o.selected.items;
+      taken = o.state.taken;
+      tested = o.state.tested;
     }
 
 pub record IsConsistent (o : Inside) : Type 0 where
-  pub bodies : length o.bodies.items ≡ length o.board.answers
-  pub in_bodies : BodiesHaveSlots (length o.board.answers) (bodies_in o.bodies.items)
-  pub wanted : o.board.wanted ≡ flags_of (selection_seen o.selected.items) (length o.board.answers)
-  pub no_pattern : pattern_read o.no_pattern ≡ no_pattern
+  pub wanted : o.state.wanted ≡ flags_of (selection_view o.selected.items) (length o.state.answers)
+  pub no_pattern : pattern_view o.no_pattern ≡ no_pattern

@@ -1,4 +1,4 @@
--- Numbers that have slots (own).
+-- Which lists have slots for all their numbers (own).
 use Rattle.std.specs.Prelude.{ℕ, ⊤, ◌<◌, List, All, MatchOption}
 use Rattle.attr_lists.specs.ListViews.{Entry}
 use Rattle.attr_search.specs.Settings.{HaveSlots, Listed}

@@ -2,22 +2,22 @@
 use Rattle.std.specs.Prelude.{◌≡◌, ◌⊎◌, ℕ, true, List, [], ◌∷◌, ◌++◌, map, fold, Option, Some, None, codes, Vec}
 use Rattle.std.specs.Global.{Global}
 use Rattle.std.specs.Option.{option_to_list}
-use Rattle.attr_lists.specs.Numbered.{Numbered}
-use Rattle.attr_lists.specs.declared.search.Dropped.{Dropped}
-use Rattle.gix_attributes.specs.Additions.{Loaded, loaded_in, with_buffer, with_file, left_out, RefusedBy}
+use Rattle.attr_lists.specs.Collections.{Collection}
+use Rattle.attr_lists.specs.declared.types.Dropped.{Dropped}
+use Rattle.gix_attributes.specs.Additions.{RegisteredLists, registered_lists, with_buffer, with_file, dropped_of, RefusedBy}
 use Rattle.gix_attributes.specs.FileReads.{FileRead, AreAnswered, names_read, contents_of}
 use Rattle.gix_attributes.specs.declared.search.attributes.Search.{Search}
 use Rattle.gix_attributes.specs.declared.search.files.AddError.{AddError}
 use Rattle.gix_attributes.specs.declared.search.files.AddError.TheVariants.{OutOfMemory}
 
--- what a call that makes globals leaves: the lists with their collection, the lines that each name's file leaves out, and what
--- the buffer holds
+-- what a call that reads global files leaves: the lists with their collection, the lines that are dropped of each name's file,
+-- and the contents of the buffer
 pub record Globals : Type 0 where
-  pub loaded : Loaded
+  pub loaded : RegisteredLists
   pub dropped : List (List Dropped)
   pub left : List ℕ
 
--- the built-in list, which defines what `binary` stands for, and its source
+-- the built-in list, which defines the macro `binary`, and its source
 unfoldable pub built_in : List ℕ
 built_in = codes "[attr]binary -diff -merge -text"
 
@@ -25,35 +25,35 @@ unfoldable pub built_in_source : List ℕ
 built_in_source = codes "[builtin]"
 
 -- the built-in list alone
-abbrev pub with_built_in : Numbered → Loaded
-with_built_in known = with_buffer built_in_source None true built_in (record { lists = []; marks = []; known = known })
+abbrev pub with_built_in : Collection → RegisteredLists
+with_built_in known = with_buffer built_in_source None true built_in (record { lists = []; list_ids = []; known = known })
 
--- the file of one more name: it has no base, and may define macros
+-- the file of one more name: its list has no base, and may define macros
 abbrev pub with_global : Globals → FileRead → Globals
 with_global old file =
     record {
       loaded = with_file file.name None true file.answer old.loaded;
-      dropped = old.dropped ++ left_out file.answer ∷ [];
+      dropped = old.dropped ++ dropped_of file.answer ∷ [];
       left = contents_of file.answer;
     }
 
 -- the built-in list first, and then each file that is there, in the order of the reads
-abbrev pub globals_of : Numbered → List ℕ → List FileRead → Globals
+abbrev pub globals_of : Collection → List ℕ → List FileRead → Globals
 globals_of known left files = fold with_global (record { loaded = with_built_in known; dropped = []; left = left }) files
 
--- globals as a call answers them
-abbrev pub globals_in : Search → Numbered → List (Vec Dropped Global) → List ℕ → Globals
+-- the globals that a call returns
+abbrev pub globals_in : Search → Collection → List (Vec Dropped Global) → List ℕ → Globals
 globals_in search known dropped left =
-    record { loaded = loaded_in search known; dropped = map (λ lines. lines.items) dropped; left = left }
+    record { loaded = registered_lists search known; dropped = map (λ lines. lines.items) dropped; left = left }
 
--- a call is refused for want of memory between two reads, or by the addition of the last file that was read
+-- a call finds no memory between two reads, or the addition of the last file that was read is refused
 abbrev pub EndsBy : Option FileRead → AddError → Type 0
 EndsBy None e = e ≡ OutOfMemory
 EndsBy (Some file) e = RefusedBy file.answer e
 
--- A call that makes globals is refused after some reads of the names that were wanted: the files of all but the last stand
--- in the collection, behind the built-in list.
-pub record RefusedAfter (wanted : List (List ℕ)) (read : List FileRead) (old new : Numbered) (error : AddError) : Type 0 where
+-- A call that reads global files is refused after some reads of the names that were wanted: the collection has the built-in
+-- list, and after it the files of all but the last.
+pub record RefusedAfter (wanted : List (List ℕ)) (read : List FileRead) (old new : Collection) (error : AddError) : Type 0 where
   pub added : List FileRead
   pub last : Option FileRead
   pub unread : List (List ℕ)
@@ -64,6 +64,6 @@ pub record RefusedAfter (wanted : List (List ℕ)) (read : List FileRead) (old n
   pub known : new ≡ (globals_of old [] added).loaded.known
 
 -- or it is refused before the built-in list is added: nothing is read then, and nothing changes
-abbrev pub RefusesGlobals : List (List ℕ) → List FileRead → Numbered → Numbered → AddError → Type 0
+abbrev pub RefusesGlobals : List (List ℕ) → List FileRead → Collection → Collection → AddError → Type 0
 RefusesGlobals wanted read old new error =
     ((read ≡ []) × (new ≡ old) × (error ≡ OutOfMemory)) ⊎ RefusedAfter wanted read old new error

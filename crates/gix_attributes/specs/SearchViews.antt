@@ -1,31 +1,34 @@
--- What clauses see of a search: its lists, and not where they lie (own).
-use Rattle.std.specs.Prelude.{◌≡◌, ℕ, List, [], ◌∷◌, ◌++◌, All, nat_eq}
-use Rattle.std.specs.List.{IsDistinct}
-use Rattle.attr_lists.specs.Numbered.{Numbered}
-use Rattle.attr_lists.specs.Definitions.{without, HoldsList}
-use Rattle.attr_lists.specs.ListViews.{entries_of}
+-- The view of a search: its lists with their list ids (own).
+use Rattle.std.specs.Prelude.{◌≡◌, ℕ, List, [], ◌∷◌, ◌++◌, nat_eq}
+use Rattle.std.specs.List.{AllZip, IsDistinct}
+use Rattle.attr_lists.specs.Collections.{Collection}
+use Rattle.attr_lists.specs.Definitions.{without_list, HoldsList}
 use Rattle.attr_search.specs.Settings.{Listed}
-use Rattle.attr_search.specs.Listings.{listed_in, marks_of}
-use Rattle.attr_search.specs.declared.standing.Standing.{Standing}
+use Rattle.attr_search.specs.IndexedLists.{lists_view, list_ids_of}
 use Rattle.gix_attributes.specs.declared.search.attributes.Search.{Search}
 
 -- the lists of a search, in the order of their addition
 abbrev pub lists_in : Search → List Listed
-lists_in search = listed_in search.patterns.items
+lists_in search = lists_view search.patterns.items
 
--- the marks under which they stand
-abbrev pub marks_in : Search → List ℕ
-marks_in search = marks_of search.patterns.items
+-- the list ids under which a collection has registered them
+abbrev pub list_ids_in : Search → List ℕ
+list_ids_in search = list_ids_of search.patterns.items
 
--- the lists stand in a collection under different marks, each with its definitions
-pub record AreHeld (known : Numbered) (standing : List Standing) : Type 0 where
-  pub distinct : IsDistinct nat_eq (marks_of standing)
-  pub held : All (λ s. HoldsList known s.mark (entries_of s.list.patterns.items)) standing
+-- the lists are registered in a collection under these list ids, which differ, each with its definitions
+pub record AreHeld (known : Collection) (list_ids : List ℕ) (lists : List Listed) : Type 0 where
+  pub distinct : IsDistinct nat_eq list_ids
+  pub each : AllZip (λ list_id list. HoldsList known list_id list.lines) list_ids lists
 
--- a collection holds a search whose lists stand there, as additions to both leave them
-abbrev pub Holds : Numbered → Search → Type 0
-Holds known search = AreHeld known search.patterns.items
+-- a collection holds a search if all its lists are registered there, as additions to both leave them
+abbrev pub Holds : Collection → Search → Type 0
+Holds known search = AreHeld known (list_ids_in search) (lists_in search)
 
--- the definitions of the last of the lists with these marks are taken away
-abbrev pub RemovesLast : List ℕ → Numbered → Numbered → Type 0
-RemovesLast marks before after = (mark : ℕ) × (others : List ℕ) × (marks ≡ others ++ mark ∷ []) × (after ≡ without mark before)
+-- the last of the list ids is gone
+abbrev pub LosesLast : List ℕ → List ℕ → Type 0
+LosesLast before after = (list_id : ℕ) × (before ≡ after ++ list_id ∷ [])
+
+-- the list of the last of these list ids is removed from the collection, with its definitions
+abbrev pub RemovesLast : List ℕ → Collection → Collection → Type 0
+RemovesLast list_ids before after =
+    (list_id : ℕ) × (others : List ℕ) × (list_ids ≡ others ++ list_id ∷ []) × (after ≡ without_list list_id before)

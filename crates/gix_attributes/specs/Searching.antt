@@ -1,27 +1,27 @@
--- What a search of an outcome goes by, and what it leaves (own).
+-- The setting of a search, and what the search leaves in its outcome (own).
 use Rattle.std.specs.Prelude.{◌≡◌, ℕ, Bool, List, Option, length}
 use Rattle.attr_glob.specs.declared.pattern.Case.{Case}
-use Rattle.attr_table.specs.Cut.{ExtendsCuts, is_done}
+use Rattle.attr_table.specs.Cut.{ExtendsCuts, IsSearched, is_done, no_answers}
 use Rattle.attr_table.specs.Setting.{Setting}
-use Rattle.attr_table.specs.Table.{Slots}
+use Rattle.attr_table.specs.Table.{IsStable, Slots, Table}
 use Rattle.gix_attributes.specs.Contents.{Content, wanted_of}
 use Rattle.attr_search.specs.Settings.{Listed, BodiesAreNamed, HeldAreNamed, ListsAreNamed, setting_of}
 use Rattle.attr_search.specs.Slots.{slots_of}
 
--- what an outcome answers for each number, as the table's slots
+-- the slots of an outcome, as the table has them
 abbrev pub answers_in : Content → Slots
 answers_in held = slots_of held.slots
 
--- the lists that are searched for a path, and the macros' bodies as the outcome was initialised with them
+-- the lists that are searched for a path, with the bodies of macros that the outcome was initialised with
 abbrev pub setting_for : List Listed → Content → List ℕ → Case → Option Bool → Setting
 setting_for lists held path case is_dir = setting_of lists held.bodies path case is_dir
 
--- each attribute that is looked for has an answer
+-- each wanted attribute has an answer
 abbrev pub is_complete : Content → Bool
 is_complete held = is_done (wanted_of held) (answers_in held)
 
--- Where other lists were searched before, for the same path, the lists of both searches stand in one row: those that were
--- searched first take precedence, so they stand last.
+-- If other lists were searched before for the same path, both searches together are one search of all lists: those that were
+-- searched first take precedence, so they come last.
 abbrev pub JoinsSearches : List Listed → List ℕ → Case → Option Bool → Content → Content → Type 0
 JoinsSearches lists path case is_dir before after =
     let setting = setting_for lists before path case is_dir in
@@ -32,8 +32,14 @@ pub record KeepsAllButAnswers (before after : Content) : Type 0 where
   pub count : length after.slots ≡ length before.slots
   pub rest : after ≡ record before { slots = after.slots; taken = after.taken; tested = after.tested }
 
--- answers have the names of their numbers, where all items have them and all answers before
+-- answers have the names of their numbers, if all items have them, and all answers before
 abbrev pub KeepsNames : List Listed → Content → Content → Type 0
 KeepsNames lists before after =
     (names : List (List ℕ)) → ListsAreNamed names lists → BodiesAreNamed names before.bodies → HeldAreNamed names before.slots →
     HeldAreNamed names after.slots
+
+-- a search of an outcome without answers, and the only stable table of what was searched
+pub record IsFirstSearch (setting : Setting) (before after : Content) (table : Table) : Type 0 where
+  pub empty : answers_in before ≡ no_answers
+  pub searched : IsSearched setting (wanted_of before) (answers_in before) (answers_in after)
+  pub stable : IsStable setting no_answers table

@@ -1,6 +1,6 @@
-//! Files by their names: the real disk, and files that are kept in memory.
+//! Sources of files: the trait [`Files`], the real disk ([`Disk`]) and files in memory ([`Memory`]).
 ghost use Rattle.std.specs.Prelude.{◌≡◌, ◌≤◌, ℕ, List, [], false, IfErr};
-ghost use Rattle.gix_attributes.specs.Answers.{Answer, answer_of, IsDevice};
+ghost use Rattle.gix_attributes.specs.Answers.{ReadAnswer, read_answer, IsDevice};
 ghost use Rattle.gix_attributes.specs.Failures.{Fails};
 ghost use Rattle.gix_attributes.specs.declared.files.ReadError.TheVariants.{OutOfMemory};
 
@@ -15,10 +15,10 @@ use std::marker::Model;
 use std::rt::Files as HostFiles;
 use thiserror::Error;
 
-/// Why a read of a file has no answer.
+/// Why a file could not be read.
 #[derive(Debug, Drop, Error)]
 pub enum ReadError {
-    /// The device failed, with its error.
+    /// The device failed, with its error. A file that doesn't exist is no failure.
     #[error("reading failed")]
     Device(io::Error),
     /// The buffer could not grow.
@@ -34,28 +34,34 @@ impl From<AllocError> for ReadError {
     }
 }
 
-/// Files by their names.
+/// A source of files, which a search reads by their paths.
 pub trait Files {
-    // What a read may answer, between the state before it and the state after it.
-    ghost reads: { Self → List ℕ → Answer → Self → Type 0 };
+    // A read of this path from the state before may return this answer and leave the state after.
+    ghost reads: { Self → List ℕ → ReadAnswer → Self → Type 0 };
 
-    // How often the device failed so far.
+    // How many reads the device failed so far.
     ghost failed: { Self → ℕ };
 
-    /// Reads a whole file into `buf`, and answers whether there is one. A folder of that name is
-    /// none. After an error the contents of `buf` are open.
+    /// Reads a whole file into `buf`, in place of what `buf` held, and returns whether the file exists. A folder is
+    /// no file.
+    ///
+    /// # Errors
+    ///
+    /// [`ReadError::Device`] if the device fails, and [`ReadError::OutOfMemory`] if `buf` can't grow. The contents of
+    /// `buf` are not specified then.
     fn read_into(&mut self, path: &str, buf: &mut Vec<u8>) -> Result<bool, ReadError>
-        ensures answer { reads self.old path.now (answer_of result buf.new.items) self.new }
+        ensures answer { reads self.old path.now (read_answer result buf.new.items) self.new }
         ensures missing { result ≡ Ok false → buf.new.items ≡ [] }
         ensures kept { failed self.old ≤ failed self.new }
-        ensures device { IfErr result (λ e. IsDevice e → Fails (failed self.old) (failed self.new)) };
+        ensures device { IfErr result (λ e.
+            IsDevice e → Fails (failed self.old) (failed self.new)) };
 
-    /// How many reads the device failed so far; the count stays at `u64::MAX`.
+    /// The number of reads that the device failed so far, `u64::MAX` if there were more.
     fn failures(&self) -> u64
         ensures { result ≡ failed self.now };
 }
 
-/// The files of the real disk. Links are followed.
+/// The files of the real disk, which are reached through the runtime. Links are followed.
 #[derive(Drop)]
 pub struct Disk<'a, R: HostFiles> {
     rt: &'a R,
@@ -72,7 +78,7 @@ impl<'a, R: HostFiles> Model for Disk<'a, R> {
 }
 
 impl<'a, R: HostFiles> Disk<'a, R> {
-    /// The disk that the runtime reaches, with nothing counted yet.
+    /// The disk of the runtime. Its counts begin at 0.
     pub fn new(rt: &'a R) -> Disk<'a, R>
         ensures { result ≡ record { files_read = 0; failures = 0 } }
     {
@@ -83,7 +89,7 @@ impl<'a, R: HostFiles> Disk<'a, R> {
         }
     }
 
-    /// How many files were read to their ends so far; the count stays at `u64::MAX`.
+    /// The number of files that were read to their ends so far, `u64::MAX` if there were more.
     pub fn files_read(&self) -> u64
         ensures { result ≡ self.now.files_read }
     {
@@ -91,6 +97,7 @@ impl<'a, R: HostFiles> Disk<'a, R> {
     }
 }
 
+// Reads a whole file, in place of the buffer's contents.
 fn read_file<R: HostFiles>(rt: &R, path: &str, buf: &mut Vec<u8>) -> io::Result<()> {
     buf.clear();
     let mut file = File::open(rt, path)?;

@@ -1,4 +1,12 @@
-//! Searches: the lists of patterns that stand, and the attributes that they give a path.
+//! Searches of lists of patterns, and the attributes that they give a path.
+//!
+//! - `attributes`: [`Search`], the lists of patterns, and how one is added, removed and searched.
+//! - `files`: lists that are read from files, and the global ones.
+//! - `collection`: [`MetadataCollection`], the names of attributes by number, with the bodies of macros.
+//! - `outcome`: [`Outcome`], which a search fills.
+//! - `selection`: the names that an outcome looks for.
+//! - `matches`: [`Matches`] and [`Selected`], the iterators over an outcome.
+//! - [`laws`]: facts of all searches.
 
 mod attributes;
 mod collection;
@@ -13,8 +21,8 @@ pub use crate::search::collection::MetadataCollection;
 pub use crate::search::files::{AddError, Added};
 pub use crate::search::matches::{Matches, Selected};
 pub use crate::search::outcome::Outcome;
-pub use attr_lists::numbering::Names;
-pub use attr_lists::search::{
+pub use attr_lists::name_table::Names;
+pub use attr_lists::types::{
     Assignments, AttributeId, Attributes, DropReason, Dropped, Match, MatchKind, MatchLocation,
     Metadata, TrackedAssignment, Value,
 };

@@ -1,25 +1,26 @@
-//! Where the files of global and repository-local attributes lie.
+//! The paths of the attributes files that lie outside a worktree.
 
 ghost use Rattle.std.specs.Prelude.{◌≡◌, IfOk, List, option_map, string_bytes};
 ghost use Rattle.gix_attributes.specs.Sources.{Asked, AsksInOrder, IsAsked, below, is_unset_or_empty, joined, location};
 
 use std::alloc::{AllocError, Global};
 
-/// Where attributes come from that no folder of a worktree has, in ascending precedence: where their files are handed
+/// An attributes file outside the worktree (gitattributes page), in ascending precedence: if files are passed
 /// to [`crate::Search::new_globals`] in this order, the later one wins.
 #[derive(Clone, Copy, PartialEq, Eq, PartialOrd, Ord, Hash, Debug)]
 pub enum Source {
-    /// The file that git's installation brings.
+    /// The file of git's installation, `gitattributes` in its folder.
     GitInstallation,
-    /// The file of the whole system.
+    /// The file of the system, `etc/gitattributes` below its prefix (gitattributes page:
+    /// `$(prefix)/etc/gitattributes`).
     System,
-    /// The file of the user.
+    /// The file of the user, `git/attributes` in `$XDG_CONFIG_HOME` or in `$HOME/.config`.
     Git,
-    /// The file of the repository, relative to its git folder.
+    /// The file of the repository, `info/attributes` in its git folder.
     Local,
 }
 
-/// Where git and the system's configuration are installed, as far as it is known.
+/// The folders in which git and the system's configuration are installed, as far as they are known.
 #[derive(Debug, Drop)]
 pub struct Prefixes {
     /// The folder of the files that git's installation brings.
@@ -29,8 +30,13 @@ pub struct Prefixes {
 }
 
 impl Source {
-    /// Where the source's file lies, if there is such a place. `env_var` answers the value of an environment variable,
-    /// and is asked only for those that matter.
+    /// The path of the source's file, or `None` if it has none: its folder is not known, or the variable
+    /// `GIT_ATTR_NOSYSTEM` is set. `env_var` returns the value of an environment variable, and is called only
+    /// for those that matter. [`Source::Local`] is relative to the git folder of the repository.
+    ///
+    /// # Errors
+    ///
+    /// If there is no memory for the path.
     pub fn storage_location<F: FnMut(&str) -> Option<String> + Drop>(
         self,
         alloc: Global,
@@ -39,7 +45,8 @@ impl Source {
     ) -> Result<Option<String>, AllocError>
         requires { F.IsAlwaysCallable env_var }
         ensures { (asked : List Asked) × AsksInOrder F.FnMut env_var asked × IsAsked self asked
-            × IfOk result (λ path. option_map string_bytes path ≡ location self prefixes.now asked) }
+            × IfOk result (λ path.
+            option_map string_bytes path ≡ location self prefixes.now asked) }
     {
         match self {
             Source::GitInstallation => join_known(alloc, &prefixes.installation, "gitattributes"),
@@ -71,13 +78,14 @@ fn is_unset_or_empty(value: &Option<String>) -> bool
     }
 }
 
-// The path below the folder, if this is known.
+// The path below the folder, if the folder is known.
 fn join_known(
     alloc: Global,
     folder: &Option<String>,
     rest: &str,
 ) -> Result<Option<String>, AllocError>
-    ensures { IfOk result (λ path. option_map string_bytes path ≡ below (option_map string_bytes folder.now) rest.now) }
+    ensures { IfOk result (λ path.
+        option_map string_bytes path ≡ below (option_map string_bytes folder.now) rest.now) }
 {
     match folder {
         Some(folder) => Ok(Some(join(alloc, folder, rest)?)),
@@ -85,7 +93,7 @@ fn join_known(
     }
 }
 
-// The folder without the slashes at its end, a slash and the rest.
+// The folder without the slashes at its end, then a slash and the rest.
 fn join(alloc: Global, folder: &str, rest: &str) -> Result<String, AllocError>
     ensures { IfOk result (λ path. string_bytes path ≡ joined folder.now rest.now) }
 {

@@ -41,34 +41,41 @@ impl<T: Drop> From<AllocFailed<T>> for UndoError {
 /// The plain bytes of the quoted text at the start of `input`, and how many bytes of `input` it takes, both quotes
 /// included. What follows the closing quote isn't read.
 ///
-/// The bytes are lent, and no memory is taken, where the quotes hold no backslash.
+/// The bytes are borrowed, and no memory is taken, if there is no backslash between the quotes.
+///
+/// # Errors
+///
+/// Fails if the text begins with no quote, has no closing quote or a bad escape, and if memory runs out.
 pub fn undo<'a>(alloc: Global, input: BStr<'a>) -> Result<(CowSlice<'a, u8>, usize), UndoError>
-    ensures value { IfOk result (λ r. undone (bstr_bytes input.entry) ≡ Ok (cow_slice_items r.0, r.1)) }
+    ensures value { IfOk result (λ r.
+        undone (bstr_bytes input.entry) ≡ Ok (cow_slice_items r.0, r.1)) }
     ensures refused { IfErr result (IsRefusal (bstr_bytes input.entry)) }
     ensures memory { IsErrOf result OutOfMemory → Contains (bstr_bytes input.entry) backslash }
     ensures lent { IfOk result (λ r. IsOwnedSlice r.0 ↔ HoldsEscape (bstr_bytes input.entry)) }
 {
     let text = input.as_bytes();
-    let [b'"', behind @ ..] = text else {
+    let [b'"', tail @ ..] = text else {
         return Err(UndoError::NotQuoted);
     };
-    let Some(front_len) = first_mark(behind) else {
+    let Some(front_len) = first_mark(tail) else {
         return Err(UndoError::Unclosed);
     };
-    if behind[front_len] == b'"' {
-        return Ok((CowSlice::Borrowed(&behind[..front_len]), front_len + 2));
+    if tail[front_len] == b'"' {
+        return Ok((CowSlice::Borrowed(&tail[..front_len]), front_len + 2));
     }
     let (plain, taken) = undo_escapes(alloc, text)?;
     Ok((CowSlice::Owned(plain), taken))
 }
 
-/// Undoing as it is computed is undoing as it is said of the whole text: each answer holds exactly where its relation
-/// does.
+/// Undoing, as it is computed, decides the relations on the whole text: each result is given if and only if its relation
+/// is true (a law).
 pub fn undone_as_spelled()
-    ensures quoted { (text plain : List ℕ) (taken : ℕ) → (undone text ≡ Ok (plain, taken)) ↔ IsQuoted text plain taken }
+    ensures quoted { (text plain : List ℕ) (taken : ℕ) →
+        (undone text ≡ Ok (plain, taken)) ↔ IsQuoted text plain taken }
     ensures not_quoted { (text : List ℕ) → (undone text ≡ Err not_quoted) ↔ ¬ (BeginsQuoted text) }
     ensures unclosed { (text : List ℕ) → (undone text ≡ Err unclosed) ↔ IsUnclosed text }
-    ensures bad_escape { (text : List ℕ) (place : ℕ) → (undone text ≡ Err (bad_escape place)) ↔ IsBadEscape text place }
+    ensures bad_escape { (text : List ℕ) (place : ℕ) →
+        (undone text ≡ Err (bad_escape place)) ↔ IsBadEscape text place }
 {}
 
 // The place of the first quote or backslash.
@@ -107,21 +114,21 @@ fn undo_escapes(alloc: Global, text: &[u8]) -> Result<(Vec<u8>, usize), UndoErro
     Err(UndoError::Unclosed)
 }
 
-// The byte of the escape that stands behind a backslash, and how many bytes the escape takes there.
-fn escape(behind: &[u8]) -> Option<(u8, usize)>
-    ensures { result ≡ escaped behind.now }
+// The byte of the escape that follows a backslash, and how many bytes the escape takes there.
+fn escape(tail: &[u8]) -> Option<(u8, usize)>
+    ensures { result ≡ escaped tail.now }
 {
-    match letter(*behind.first()?) {
+    match letter(*tail.first()?) {
         Some(byte) => Some((byte, 1)),
-        None => digits(behind).map(|byte| (byte, 3)),
+        None => digits(tail).map(|byte| (byte, 3)),
     }
 }
 
-// The byte that three octal digits behind a backslash stand for.
-fn digits(behind: &[u8]) -> Option<u8>
-    ensures { result ≡ digits_byte behind.now }
+// The byte that three octal digits after a backslash spell.
+fn digits(tail: &[u8]) -> Option<u8>
+    ensures { result ≡ digits_byte tail.now }
 {
-    match behind {
+    match tail {
         [
             high @ b'0'..=b'3',
             middle @ b'0'..=b'7',
@@ -132,7 +139,7 @@ fn digits(behind: &[u8]) -> Option<u8>
     }
 }
 
-// The byte that a letter behind a backslash stands for.
+// The byte that a letter after a backslash spells.
 fn letter(first: u8) -> Option<u8>
     ensures { result ≡ letter_byte first }
 {

@@ -10,16 +10,20 @@ use std::hash::Hash;
 
 /// How the lines of a buffer become patterns with values.
 pub trait Pattern {
-    /// What goes with a pattern.
+    /// What a line assigns, beside its pattern.
     type Value: PartialEq + Eq + PartialOrd + Ord + Hash + fmt::Debug + Clone + Drop;
 
-    /// What is told of a line that is left out.
+    /// What is reported of a line that is left out.
     type Dropped: Drop;
 
-    // What a buffer becomes: its mappings, and what is told of the lines that are left out.
+    // What a buffer becomes: its mappings, and what is reported of the lines that are left out.
     ghost reads: { Self → List ℕ → List (Mapping Self.Value) → List Self.Dropped → Type 0 };
 
     /// Reads a buffer that came from the source.
+    ///
+    /// # Errors
+    ///
+    /// Fails if memory runs out.
     fn bytes_to_patterns(
         &self,
         alloc: Global,

@@ -1,23 +1,22 @@
 //! Lists of patterns that apply below a base.
 
-ghost use Rattle.std.specs.Prelude.{◌≡◌, true, Some, nat_eq, IfOk, IfSome, option_map, string_bytes, length, drop};
-ghost use Rattle.std.specs.Option.{option_copied, option_eq};
-ghost use Rattle.std.specs.String.{string_eq};
-ghost use Rattle.std.specs.Cmp.Lexicographic.{pointwise};
+ghost use Rattle.std.specs.Prelude.{◌≡◌, true, Some, IfOk, IfSome, option_map, string_bytes, length, drop};
+ghost use Rattle.std.specs.Option.{option_copied};
 ghost use Rattle.bstr.specs.BStr.{bstr_bytes};
-ghost use Rattle.attr_glob.specs.Bases.{base_of, place_behind, rest_below, folder, below_root, with_slash};
+ghost use Rattle.attr_glob.specs.Bases.{base_of, place_after, rest_below, folder, below_root, with_slash};
 ghost use Rattle.attr_glob.specs.BaseNames.{base_name_place};
-ghost use Rattle.attr_glob.specs.Folding.{same_text};
+ghost use Rattle.attr_glob.specs.Clones.{IsMappingClone, AreMappingClones};
 ghost use Rattle.attr_glob.specs.Views.{base_bytes};
 
-use crate::pattern::{Case, without_end};
+use crate::pattern::{Case, same_text, without_end};
 use crate::search;
-pub use crate::search::pattern::index::{Index, Scratch};
+pub use crate::search::pattern::index::{Index, IndexBuffers};
 use bstr::BStr;
 use std::alloc::{AllocError, Global};
 
 mod chains;
 mod index;
+pub mod laws;
 
 /// A pattern, with what goes with it.
 #[derive(PartialEq, Eq, PartialOrd, Ord, Hash, Debug, Drop)]
@@ -30,11 +29,14 @@ pub struct Mapping<V> {
     pub sequence_number: usize,
 }
 
-impl<V: Clone + PartialEq> Mapping<V> {
-    /// A copy.
+impl<V: Clone> Mapping<V> {
+    /// A copy: of its value as the value's `Clone` makes it.
+    ///
+    /// # Errors
+    ///
+    /// Fails if memory runs out.
     pub fn clone(&self, alloc: Global) -> Result<Mapping<V>, AllocError>
-        requires { (x y : V) → V.is_clone x y → V.eq y x ≡ true }
-        ensures { IfOk result (λ copy. ⟦<Mapping<V> as PartialEq>⟧.eq copy self.now ≡ true) }
+        ensures { IfOk result (λ copy. IsMappingClone V.is_clone self.now copy) }
     {
         Ok(Mapping {
             pattern: self.pattern.clone(alloc)?,
@@ -49,15 +51,19 @@ impl<V: Clone + PartialEq> Mapping<V> {
 pub struct List<T: search::Pattern> {
     /// The patterns, in the order of their lines.
     pub patterns: Vec<Mapping<T::Value>>,
-    /// Where the patterns were read, as `sub/.gitattributes`.
+    /// The file or another source of the patterns, as `sub/.gitattributes`.
     pub source: Option<String>,
-    /// What the paths begin with to which the list applies, as `sub/`: it applies to what stands behind.
+    /// The folder in which the list applies, with its slash, as `sub/`: the patterns are matched against what follows it.
     pub base: Option<Vec<u8>>,
 }
 
 impl<T: search::Pattern + Drop> List<T> {
     /// Reads the patterns of a buffer that came from the source. They apply below the source's folder, as it is seen
     /// from the root.
+    ///
+    /// # Errors
+    ///
+    /// Fails if memory runs out.
     pub fn from_bytes(
         alloc: Global,
         bytes: &[u8],
@@ -67,7 +73,8 @@ impl<T: search::Pattern + Drop> List<T> {
     ) -> Result<(List<T>, Vec<T::Dropped>), AllocError>
         ensures patterns { IfOk result (λ r. T.reads parse bytes.now r.0.patterns.items r.1.items) }
         ensures source { IfOk result (λ r. r.0.source ≡ Some source) }
-        ensures base { IfOk result (λ r. base_bytes r.0.base ≡ base_of (string_bytes source) (option_copied root.entry)) }
+        ensures base { IfOk result (λ r.
+            base_bytes r.0.base ≡ base_of (string_bytes source) (option_copied root.entry)) }
     {
         let (patterns, dropped) = parse.bytes_to_patterns(alloc, bytes, source.as_str())?;
         let base = base_of(alloc, source.as_str(), root)?;
@@ -81,7 +88,7 @@ impl<T: search::Pattern + Drop> List<T> {
 }
 
 impl<T: search::Pattern> List<T> {
-    /// What stands of the path behind the base, with the place of its base name, where the list applies to the path.
+    /// What follows the base in the path, with the place of its base name. None if the list doesn't apply to the path.
     pub fn strip_base_handle_recompute_basename_pos<'a>(
         &self,
         path: BStr<'a>,
@@ -89,22 +96,30 @@ impl<T: search::Pattern> List<T> {
         case: Case,
     ) -> Option<(BStr<'a>, Option<usize>)>
         requires { basename_pos ≡ base_name_place (bstr_bytes path) }
-        ensures rest { option_map (λ r. bstr_bytes r.0) result ≡ rest_below (base_bytes self.now.base) case (bstr_bytes path.entry) }
+        ensures rest { option_map (λ r. bstr_bytes r.0) result
+            ≡ rest_below (base_bytes self.now.base) case (bstr_bytes path.entry) }
         ensures place { IfSome result (λ r. r.1 ≡ base_name_place (bstr_bytes r.0)) }
     {
         let Some(base) = &self.base else {
             return Some((path, basename_pos));
         };
         let rest = rest_below(base, case, path.as_bytes())?;
-        Some((BStr::new(rest), place_behind(base.len(), basename_pos)))
+        Some((BStr::new(rest), place_after(base.len(), basename_pos)))
     }
 }
 
-impl<T: search::Pattern + PartialEq> List<T> {
-    /// A copy.
+impl<T: search::Pattern> List<T> {
+    /// A copy: of its values as their `Clone` makes them.
+    ///
+    /// # Errors
+    ///
+    /// Fails if memory runs out.
     pub fn clone(&self, alloc: Global) -> Result<List<T>, AllocError>
-        requires { (x y : T.Value) → T.Value.is_clone x y → T.Value.eq y x ≡ true }
-        ensures { IfOk result (λ copy. ⟦<List<T> as PartialEq>⟧.eq copy self.now ≡ true) }
+        ensures patterns { IfOk result (λ copy.
+            AreMappingClones T.Value.is_clone self.now.patterns.items copy.patterns.items) }
+        ensures source { IfOk result (λ copy.
+            option_map string_bytes copy.source ≡ option_map string_bytes self.now.source) }
+        ensures base { IfOk result (λ copy. base_bytes copy.base ≡ base_bytes self.now.base) }
     {
         Ok(List {
             patterns: copies(alloc, &self.patterns)?,
@@ -114,12 +129,11 @@ impl<T: search::Pattern + PartialEq> List<T> {
     }
 }
 
-fn copies<V: Clone + PartialEq + Drop>(
+fn copies<V: Clone + Drop>(
     alloc: Global,
     mappings: &[Mapping<V>],
 ) -> Result<Vec<Mapping<V>>, AllocError>
-    requires { (x y : V) → V.is_clone x y → V.eq y x ≡ true }
-    ensures { IfOk result (λ copies. pointwise ⟦<Mapping<V> as PartialEq>⟧.eq copies.items mappings.now ≡ true) }
+    ensures { IfOk result (λ copies. AreMappingClones V.is_clone mappings.now copies.items) }
 {
     let mut copies = Vec::new(alloc);
     for mapping in mappings {
@@ -128,9 +142,9 @@ fn copies<V: Clone + PartialEq + Drop>(
     Ok(copies)
 }
 
-#[tactic(auto, using(crate::proofs::Copies::bytes_same))]
 fn copy_of_text(alloc: Global, text: &Option<String>) -> Result<Option<String>, AllocError>
-    ensures { IfOk result (λ copy. option_eq string_eq copy text.now ≡ true) }
+    ensures { IfOk result (λ copy.
+        option_map string_bytes copy ≡ option_map string_bytes text.now) }
 {
     match text {
         Some(text) => Ok(Some(String::from_str(alloc, text.as_str())?)),
@@ -138,9 +152,8 @@ fn copy_of_text(alloc: Global, text: &Option<String>) -> Result<Option<String>, 
     }
 }
 
-#[tactic(auto, using(crate::proofs::Copies::bytes_same))]
 fn copy_of_bytes(alloc: Global, bytes: &Option<Vec<u8>>) -> Result<Option<Vec<u8>>, AllocError>
-    ensures { IfOk result (λ copy. option_eq (λ x y. pointwise nat_eq x.items y.items) copy bytes.now ≡ true) }
+    ensures { IfOk result (λ copy. base_bytes copy ≡ base_bytes bytes.now) }
 {
     match bytes {
         Some(bytes) => Ok(Some(Vec::from_slice(alloc, bytes)?)),
@@ -150,7 +163,8 @@ fn copy_of_bytes(alloc: Global, bytes: &Option<Vec<u8>>) -> Result<Option<Vec<u8
 
 // The base of a source.
 fn base_of(alloc: Global, source: &str, root: Option<&str>) -> Result<Option<Vec<u8>>, AllocError>
-    ensures { IfOk result (λ base. base_bytes base ≡ base_of source.now (option_copied root.entry)) }
+    ensures { IfOk result (λ base.
+        base_bytes base ≡ base_of source.now (option_copied root.entry)) }
 {
     let Some(root) = root else {
         return Ok(None);
@@ -161,7 +175,7 @@ fn base_of(alloc: Global, source: &str, root: Option<&str>) -> Result<Option<Vec
     }
 }
 
-// What stands before the last slash.
+// What precedes the last slash.
 fn folder(source: &[u8]) -> &[u8]
     ensures { result.now ≡ folder source.now }
 {
@@ -199,10 +213,10 @@ fn with_slash(alloc: Global, folder: &[u8]) -> Result<Option<Vec<u8>>, AllocErro
     Ok(Some(base))
 }
 
-// What stands of the path behind the base, where the path begins with the base.
+// What follows the base in the path, if the path begins with the base.
 fn rest_below<'a>(base: &[u8], case: Case, path: &'a [u8]) -> Option<&'a [u8]>
     ensures rest { option_copied result ≡ rest_below (Some base.now) case path.now }
-    ensures behind { IfSome result (λ rest. rest.now ≡ drop (length base.now) path.now) }
+    ensures after { IfSome result (λ rest. rest.now ≡ drop (length base.now) path.now) }
 {
     if path.len() < base.len() {
         return None;
@@ -215,21 +229,12 @@ fn rest_below<'a>(base: &[u8], case: Case, path: &'a [u8]) -> Option<&'a [u8]>
     }
 }
 
-// The place as it is seen behind so many bytes.
-fn place_behind(taken: usize, place: Option<usize>) -> Option<usize>
-    ensures { result ≡ place_behind taken place }
+// The place, counted after so many bytes.
+fn place_after(taken: usize, place: Option<usize>) -> Option<usize>
+    ensures { result ≡ place_after taken place }
 {
     match place {
         Some(place) if place > taken => Some(place - taken),
         _ => None,
-    }
-}
-
-pub(crate) fn same_text(case: Case, x: &[u8], y: &[u8]) -> bool
-    ensures { result ≡ same_text case x.now y.now }
-{
-    match case {
-        Case::Sensitive => x == y,
-        Case::Fold => x.eq_ignore_ascii_case(y),
     }
 }

@@ -1,6 +1,6 @@
-//! Matching without a count: what the bytes tell is answered before a row is moved over them.
+//! Matching without a count: a row is moved over the bytes only if nothing simpler decides.
 
-ghost use Rattle.std.specs.Prelude.{◌≡◌, ◌≤◌, ◌<◌, ◌^◌, ◌||◌, ◌∷◌, [], ℕ, Bool, List, IfSome, IfNone, true, false, length, position, vec_capacity};
+ghost use Rattle.std.specs.Prelude.{◌≡◌, ◌≤◌, ◌<◌, ◌^◌, ◌||◌, ◌∷◌, [], ℕ, Bool, List, IfSome, IfNone, true, false, length, position};
 ghost use Rattle.attr_glob.specs.Patterns.{is_slash};
 ghost use Rattle.attr_glob.specs.Tokens.{dirs};
 ghost use Rattle.attr_glob.specs.TokenList.{token_of, tokens_of, is_bordered};
@@ -8,11 +8,12 @@ ghost use Rattle.attr_glob.specs.Deciding.{slash_then, matches};
 
 use crate::pattern::{self, Case};
 use crate::token::Token;
-use crate::wildmatch::{run, skip_front};
+use crate::wildmatch::{MatchBuffers, run, skip_front};
 
-// Whether the token takes the whole value, where it takes any number of bytes.
+// Whether the token takes the whole value, if it is one that takes any number of bytes.
 fn takes_whole(token: &Token, value: &[u8]) -> Option<bool>
-    ensures { (case : Case) → IfSome result (λ answer. answer ≡ matches case (token_of token.now ∷ []) value.now) }
+    ensures { (case : Case) → IfSome result (λ answer.
+        answer ≡ matches case (token_of token.now ∷ []) value.now) }
 {
     match token {
         Token::Star => Some(!pattern::has_slash(value)),
@@ -22,20 +23,21 @@ fn takes_whole(token: &Token, value: &[u8]) -> Option<bool>
     }
 }
 
-// Whether the tokens match the value, where they are none, or one that takes any number of bytes.
+// Whether the tokens match the value, if they are none, or one that takes any number of bytes.
 fn answer_alone(tokens: &[Token], value: &[u8]) -> Option<bool>
-    ensures { (case : Case) → IfSome result (λ answer. answer ≡ matches case (tokens_of tokens.now) value.now) }
+    ensures { (case : Case) → IfSome result (λ answer.
+        answer ≡ matches case (tokens_of tokens.now) value.now) }
 {
-    let Some((token, behind)) = tokens.split_first() else {
+    let Some((token, tail)) = tokens.split_first() else {
         return Some(value.is_empty());
     };
-    if !behind.is_empty() {
+    if !tail.is_empty() {
         return None;
     }
     takes_whole(token, value)
 }
 
-// Whether the tokens match the value, where those of one byte at the front tell.
+// Whether the tokens match the value, if those of one byte at the front decide.
 fn answer_front(tokens: &[Token], value: &[u8], case: Case) -> Option<bool>
     ensures { IfSome result (λ answer. answer ≡ matches case (tokens_of tokens.now) value.now) }
 {
@@ -52,9 +54,10 @@ fn first_slash(value: &[u8]) -> Option<usize>
     value.iter().position(|byte| *byte == b'/')
 }
 
-// What stands behind the first slash, in the next folder.
-fn behind_slash(value: &[u8]) -> Option<&[u8]>
-    ensures next { IfSome result (λ next. (f : List ℕ → Bool) → slash_then f value.now ≡ (f next.now || slash_then f next.now)) }
+// What follows the first slash, in the next folder.
+fn after_slash(value: &[u8]) -> Option<&[u8]>
+    ensures next { IfSome result (λ next. (f : List ℕ → Bool) →
+        slash_then f value.now ≡ (f next.now || slash_then f next.now)) }
     ensures none { IfNone result ((f : List ℕ → Bool) → slash_then f value.now ≡ false) }
     ensures shorter { IfSome result (λ next. length next.now < length value.now) }
 {
@@ -62,60 +65,54 @@ fn behind_slash(value: &[u8]) -> Option<&[u8]>
     Some(&value[place + 1..])
 }
 
-// Whether a folder star and the tokens behind it match the value. It goes on to the next folder while those tokens
-// are told not to match in one; where that isn't told, the row decides from that folder on.
+// Whether a folder star and the tokens after it match the value. It goes on to the next folder while those tokens
+// are found not to match in one; if that isn't decided, the row decides from that folder on.
 fn match_folders(
     tokens: &[Token],
-    behind: &[Token],
+    others: &[Token],
     value: &[u8],
     case: Case,
-    row: &mut Vec<usize>,
-    next: &mut Vec<usize>,
+    rows: &mut MatchBuffers,
 ) -> bool
-    requires folder { tokens_of tokens.now ≡ dirs ∷ tokens_of behind.now }
+    requires folder { tokens_of tokens.now ≡ dirs ∷ tokens_of others.now }
     requires few { length tokens.now < 2 ^ 63 }
     requires bordered { is_bordered true (tokens_of tokens.now) ≡ true }
-    requires room { length tokens.now < vec_capacity row.old }
-    requires room_next { length tokens.now < vec_capacity next.old }
+    requires room { length tokens.now < rows.old }
     ensures matched { result ≡ matches case (tokens_of tokens.now) value.now }
-    ensures room { (n : ℕ) → n ≤ vec_capacity row.old → n ≤ vec_capacity next.old →
-        (n ≤ vec_capacity row.new) × (n ≤ vec_capacity next.new) }
+    ensures room { rows.old ≤ rows.new }
 {
     let mut rest = value;
     loop {
-        match answer_front(behind, rest, case) {
+        match answer_front(others, rest, case) {
             Some(true) => return true,
             Some(false) => {}
-            None => return run(tokens, rest, case, row, next).0,
+            None => return run(tokens, rest, case, &mut rows.row, &mut rows.next).0,
         }
-        let Some(below) = behind_slash(rest) else {
+        let Some(below) = after_slash(rest) else {
             return false;
         };
         rest = below;
     }
 }
 
-// Whether the tokens match the value, by a row only where nothing else tells.
+// Whether the tokens match the value, by a row only if nothing simpler decides.
 pub(crate) fn match_early(
     tokens: &[Token],
     value: &[u8],
     case: Case,
-    row: &mut Vec<usize>,
-    next: &mut Vec<usize>,
+    rows: &mut MatchBuffers,
 ) -> bool
     requires few { length tokens.now < 2 ^ 63 }
     requires bordered { is_bordered true (tokens_of tokens.now) ≡ true }
-    requires room { length tokens.now < vec_capacity row.old }
-    requires room_next { length tokens.now < vec_capacity next.old }
+    requires room { length tokens.now < rows.old }
     ensures matched { result ≡ matches case (tokens_of tokens.now) value.now }
-    ensures room { (n : ℕ) → n ≤ vec_capacity row.old → n ≤ vec_capacity next.old →
-        (n ≤ vec_capacity row.new) × (n ≤ vec_capacity next.new) }
+    ensures room { rows.old ≤ rows.new }
 {
     if let Some(answer) = answer_alone(tokens, value) {
         return answer;
     }
     match tokens {
-        [Token::Dirs, behind @ ..] => match_folders(tokens, behind, value, case, row, next),
-        _ => run(tokens, value, case, row, next).0,
+        [Token::Dirs, others @ ..] => match_folders(tokens, others, value, case, rows),
+        _ => run(tokens, value, case, &mut rows.row, &mut rows.next).0,
     }
 }

@@ -1,4 +1,4 @@
-//! Devices that fail at each place in turn. A call that failed would succeed if it were tried again,
+//! Devices that fail at each call in turn. A call that failed would succeed if it were tried again,
 //! since each fails once, as an interrupted one.
 use super::{INPUT, TEXT};
 use crate::devices::{Broken, Sink, Source, Stuck};
@@ -34,7 +34,7 @@ fn either_read_of_a_whole_input_may_fail(rt: HostRuntime) {
     }
 }
 
-// The calls behind the last ones are never made.
+// No call is made after the last ones.
 #[test]
 fn no_call_follows_the_end(rt: HostRuntime) -> Result<(), Fail> {
     let mut source = Source::one_by_one(INPUT);

@@ -4,7 +4,6 @@ use crate::devices::{Sink, Source};
 use check_attr::program;
 use gix_attributes::files::{Disk, Files, Memory};
 use std::alloc::{AllocError, Global};
-use std::process::Abort;
 
 fn two_files(alloc: Global) -> Result<Memory, AllocError> {
     let mut files = Memory::new(alloc);
@@ -13,8 +12,8 @@ fn two_files(alloc: Global) -> Result<Memory, AllocError> {
     Ok(files)
 }
 
-// The status, what is said on standard error, and what is written.
-fn told<F: Files>(
+// The status, the text on standard error, and the text that is written.
+fn output_of<F: Files>(
     alloc: Global,
     files: &mut F,
     names: &[&str],
@@ -38,41 +37,24 @@ fn told<F: Files>(
     Ok(out)
 }
 
-// Wants the program to say and write this, after its status.
-fn expect<F: Files>(
-    rt: &impl Abort,
-    alloc: Global,
-    files: &mut F,
-    names: &[&str],
-    script: &[u8],
-    answer: &[u8],
-) -> Result<(), AllocError> {
-    let told = told(alloc, files, names, script)?;
-    assert_eq!(rt; told.as_slice(), answer);
+#[test]
+fn dropped_lines_are_printed_first(rt: HostRuntime) -> Result<(), AllocError> {
+    let mut files = two_files(rt.alloc())?;
+    let names = ["g1", "g2", "g3"];
+    let answer = b"0\ndropped: g1:2: negative\nf: a: set\nf: d: set\n".as_slice();
+    let output = output_of(rt.alloc(), &mut files, &names, b"ask l s f 1\nf\n")?;
+    assert_eq!(rt; output.as_slice(), answer);
     Ok(())
 }
 
 #[test]
-fn left_out_lines_are_said_first(rt: HostRuntime) -> Result<(), AllocError> {
-    let mut files = two_files(rt.alloc())?;
-    let names = ["g1", "g2", "g3"];
-    let answer = b"0\ndropped: g1:2: negative\nf: a: set\nf: d: set\n".as_slice();
-    expect(
-        &rt,
-        rt.alloc(),
-        &mut files,
-        &names,
-        b"ask l s f 1\nf\n",
-        answer,
-    )
-}
-
-#[test]
-fn a_malformed_record_is_said_last(rt: HostRuntime) -> Result<(), AllocError> {
+fn a_malformed_record_is_printed_last(rt: HostRuntime) -> Result<(), AllocError> {
     let mut files = two_files(rt.alloc())?;
     let script = b"names 0\nask l s f 9\nabc".as_slice();
     let answer = b"2\ndropped: g1:2: negative\ncheck_attr: malformed record 2\n".as_slice();
-    expect(&rt, rt.alloc(), &mut files, &["g1"], script, answer)
+    let output = output_of(rt.alloc(), &mut files, &["g1"], script)?;
+    assert_eq!(rt; output.as_slice(), answer);
+    Ok(())
 }
 
 #[test]
@@ -80,13 +62,17 @@ fn a_malformed_record_has_its_status(rt: HostRuntime) -> Result<(), AllocError> 
     let mut files = Memory::new(rt.alloc());
     let script = b"names 0\nask l s f 9\nabc".as_slice();
     let answer = b"2\ncheck_attr: malformed record 2\n".as_slice();
-    expect(&rt, rt.alloc(), &mut files, &[], script, answer)
+    let output = output_of(rt.alloc(), &mut files, &[], script)?;
+    assert_eq!(rt; output.as_slice(), answer);
+    Ok(())
 }
 
 #[test]
-fn an_empty_script_says_nothing(rt: HostRuntime) -> Result<(), AllocError> {
+fn an_empty_script_prints_nothing(rt: HostRuntime) -> Result<(), AllocError> {
     let mut files = Memory::new(rt.alloc());
-    expect(&rt, rt.alloc(), &mut files, &[], b"", b"0\n".as_slice())
+    let output = output_of(rt.alloc(), &mut files, &[], b"")?;
+    assert_eq!(rt; output.as_slice(), b"0\n".as_slice());
+    Ok(())
 }
 
 #[test]
@@ -94,14 +80,9 @@ fn a_failed_file_ends_the_program(rt: HostRuntime) -> Result<(), AllocError> {
     let mut files = two_files(rt.alloc())?;
     files.fail_read(2);
     let answer = b"1\ncheck_attr: cannot read a global file\n".as_slice();
-    expect(
-        &rt,
-        rt.alloc(),
-        &mut files,
-        &["g1", "g3"],
-        b"ask l s f 1\nf\n",
-        answer,
-    )?;
+    let script = b"ask l s f 1\nf\n".as_slice();
+    let output = output_of(rt.alloc(), &mut files, &["g1", "g3"], script)?;
+    assert_eq!(rt; output.as_slice(), answer);
     assert_eq!(rt; files.failures(), 1);
     Ok(())
 }
@@ -113,12 +94,8 @@ fn a_name_that_no_disk_takes_ends_the_program(rt: HostRuntime) -> Result<(), All
         long.push('a')?;
     }
     let answer = b"1\ncheck_attr: cannot read a global file\n".as_slice();
-    expect(
-        &rt,
-        rt.alloc(),
-        &mut Disk::new(&rt),
-        &[long.as_str()],
-        b"",
-        answer,
-    )
+    let mut disk = Disk::new(&rt);
+    let output = output_of(rt.alloc(), &mut disk, &[long.as_str()], b"")?;
+    assert_eq!(rt; output.as_slice(), answer);
+    Ok(())
 }

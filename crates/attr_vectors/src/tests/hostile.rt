@@ -1,4 +1,4 @@
-//! Inputs that no one would write: each is answered, and no line is lost.
+//! Inputs that no one would write: each has a report, and no line is lost.
 use crate::devices::{Sink, Source};
 use check_attr::lines;
 use std::alloc::{AllocError, Global};
@@ -6,7 +6,7 @@ use std::test::Fail;
 
 const MILLION: usize = 1_000_000;
 
-// The front, the part as often as that, and the back.
+// The front, the part `count` times, and the back.
 fn repeated(
     alloc: Global,
     front: &[u8],
@@ -22,7 +22,7 @@ fn repeated(
     Ok(out)
 }
 
-// The text behind the number of each line up to `count`.
+// The number of each line up to `count`, and the text after it.
 fn numbered(alloc: Global, count: usize, text: &str) -> Result<Vec<u8>, AllocError> {
     let mut out = Vec::new(alloc);
     for number in 1..=count {
@@ -32,9 +32,9 @@ fn numbered(alloc: Global, count: usize, text: &str) -> Result<Vec<u8>, AllocErr
     Ok(out)
 }
 
-// Blanks, comments and a lone `!` say nothing; any other byte is a pattern without items.
+// Blanks, comments and a lone `!` are no lines; any other byte is a pattern without items.
 #[test]
-fn each_byte_alone_is_answered(rt: HostRuntime) -> Result<(), Fail> {
+fn each_byte_alone_has_a_report(rt: HostRuntime) -> Result<(), Fail> {
     for byte in 0..=u8::MAX {
         let text: &[u8] = match byte {
             b'\t' | b'\n' | 0x0C | b'\r' | b' ' | b'!' | b'#' => b"",
@@ -47,8 +47,8 @@ fn each_byte_alone_is_answered(rt: HostRuntime) -> Result<(), Fail> {
     Ok(())
 }
 
-// A line that begins with `front` and goes on with a million times `part`, and what is printed of
-// it; then an ordinary line.
+// A line that begins with `front` and goes on with a million times `part`, and the text for it;
+// then an ordinary line.
 #[test]
 fn long_lines_are_whole(rt: HostRuntime) -> Result<(), Fail> {
     for (front, part, back, text_front, text_part) in [
@@ -155,7 +155,7 @@ fn long_patterns_hide_no_item(rt: HostRuntime) -> Result<(), Fail> {
             b" x\n* end\n".as_slice(),
             b"1! macro-name\n2: end\n".as_slice(),
         ),
-        // quotes alone: the first two quote nothing, so the line says nothing
+        // quotes alone: the first two quote the empty pattern, so the line is skipped
         (
             b"\"\"".as_slice(),
             b"\"".as_slice(),
@@ -190,7 +190,7 @@ fn many_lines_are_counted(rt: HostRuntime) -> Result<(), Fail> {
 }
 
 #[test]
-fn lines_that_say_nothing_are_counted(rt: HostRuntime) -> Result<(), Fail> {
+fn skipped_lines_are_counted(rt: HostRuntime) -> Result<(), Fail> {
     for line in [
         b"\n".as_slice(),
         b"# c\n",

@@ -7,12 +7,12 @@ use gix_attributes::files::Memory;
 use std::alloc::{AllocError, Global};
 use std::test::Fail;
 
-// A sink that takes no memory until it holds more than 64 bytes.
+// A sink that takes no memory until it has more than 64 bytes.
 fn with_room(alloc: Global) -> Result<Sink, AllocError> {
     Ok(Sink::over(Vec::with_capacity(alloc, 64)?, usize::MAX))
 }
 
-// The writer's memory is reserved before.
+// The memory of the writer is reserved before the run.
 #[test]
 fn without_memory_a_beginning_is_written(rt: HostRuntime) {
     let Ok(mut sink) = with_room(rt.alloc()) else {
@@ -25,9 +25,9 @@ fn without_memory_a_beginning_is_written(rt: HostRuntime) {
     }
 }
 
-// What the program says takes no memory, and `errors` has its own.
+// The line on standard error takes no memory, and `errors` has its own.
 #[test]
-fn without_memory_the_program_says_so(rt: HostRuntime) -> Result<(), Fail> {
+fn without_memory_the_program_prints_it(rt: HostRuntime) -> Result<(), Fail> {
     let Ok(args) = arguments(rt.alloc(), &["--lines"]) else {
         return Ok(());
     };

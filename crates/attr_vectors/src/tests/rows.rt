@@ -5,7 +5,7 @@ use check_attr::{Push, lines};
 use std::test::Fail;
 
 #[test]
-fn lines_print_what_they_say(rt: HostRuntime) -> Result<(), Fail> {
+fn lines_are_printed(rt: HostRuntime) -> Result<(), Fail> {
     for (input, text) in [
         (
             b"*.rs -text !eol diff=rust\n".as_slice(),

@@ -1,4 +1,4 @@
-//! Scripts, read at once and byte by byte, and what they write.
+//! Scripts, read at once and byte by byte, and the text that they write.
 use crate::devices::{Sink, Source, Stuck};
 use check_attr::{Globals, Pull, Push, globals, run};
 use gix_attributes::files::Memory;
@@ -7,13 +7,13 @@ use std::alloc::Global;
 use std::process::Abort;
 use std::test::Fail;
 
-// The built-in list alone, as without global files.
+// The built-in list alone: there are no global files.
 fn built_in(alloc: Global) -> Result<Globals, AddError> {
     globals(alloc, &mut Memory::new(alloc), &[])
 }
 
-// Why the run of a script ends early; nothing where it does not.
-fn ending<W: Push>(
+// The fault that ends the run of a script early, or nothing.
+fn fault_of<W: Push>(
     alloc: Global,
     reader: &mut Source<'_>,
     writer: &mut W,
@@ -24,34 +24,34 @@ fn ending<W: Push>(
     }
 }
 
-// What a run writes, and why it ends early.
-fn told(alloc: Global, reader: &mut Source<'_>) -> Result<Vec<u8>, AddError> {
+// The text that a run writes, and the fault that ends it early.
+fn output_of(alloc: Global, reader: &mut Source<'_>) -> Result<Vec<u8>, AddError> {
     let mut sink = Sink::new(alloc);
-    let end = ending(alloc, reader, &mut sink)?;
+    let end = fault_of(alloc, reader, &mut sink)?;
     let mut out = sink.bytes().to_vec(alloc)?;
     out.extend_from_slice(end.as_bytes())?;
     Ok(out)
 }
 
-// Wants a run to write this, and to end so.
+// Wants a run to have this output.
 fn expect(
     rt: &impl Abort,
     alloc: Global,
     reader: &mut Source<'_>,
     answer: &[u8],
 ) -> Result<(), AddError> {
-    let told = told(alloc, reader)?;
-    assert_eq!(rt; told.as_slice(), answer);
+    let output = output_of(alloc, reader)?;
+    assert_eq!(rt; output.as_slice(), answer);
     Ok(())
 }
 
-// Eighty-four bytes, and what they write.
+// A script of 84 bytes, and the text that it writes.
 const SCRIPT: &[u8] =
     b"add m 14 0 16\n.gitattributes*.sh text eol=lf\nnames 2\ntext\neol\nask l s f 9\nscript.sh\n";
 
 const TEXT: &[u8] = b"script.sh: text: set\nscript.sh: eol: lf\n";
 
-// Scripts with what they write, and at its end why the run ends early.
+// Scripts with their output: the text, and the fault that ends the run early.
 const ROWS: [(&[u8], &[u8]); 20] = [
     (b"", b""),
     (b"names 0\nask l s f 9\nabc", b"malformed record 2"),
@@ -125,7 +125,7 @@ fn scripts_are_read_however_they_are_cut(rt: HostRuntime) -> Result<(), Fail> {
 }
 
 #[test]
-fn each_byte_alone_says_nothing(rt: HostRuntime) -> Result<(), Fail> {
+fn each_byte_alone_has_no_answer(rt: HostRuntime) -> Result<(), Fail> {
     for byte in 0..=u8::MAX {
         let mut script = b"add - 0 - 1\n".as_slice().to_vec(rt.alloc())?;
         script.push(byte)?;
@@ -135,7 +135,7 @@ fn each_byte_alone_says_nothing(rt: HostRuntime) -> Result<(), Fail> {
     Ok(())
 }
 
-// A script that is cut short is malformed where it is cut, unless it ends with a record.
+// A script that is cut short is malformed at its last record, unless it ends after a whole one.
 #[test]
 fn a_cut_script_is_malformed(rt: HostRuntime) -> Result<(), Fail> {
     assert_eq!(rt; SCRIPT.len(), 84);
@@ -163,7 +163,7 @@ fn a_failed_read_writes_nothing(rt: HostRuntime) -> Result<(), Fail> {
     Ok(())
 }
 
-// Wants a run over this sink to end when this is written, after so many flushes.
+// Wants a run over this sink to fail after this text and this many flushes.
 fn expect_stop(
     rt: &impl Abort,
     alloc: Global,
@@ -171,7 +171,7 @@ fn expect_stop(
     written: &[u8],
     flushes: u64,
 ) -> Result<(), AddError> {
-    let end = ending(alloc, &mut Source::new(SCRIPT), sink)?;
+    let end = fault_of(alloc, &mut Source::new(SCRIPT), sink)?;
     assert!(rt; end.as_str() == "writing failed");
     assert_eq!(rt; sink.bytes(), written);
     assert_eq!(rt; (sink.failures(), sink.flushes()), (1, flushes));
@@ -198,7 +198,7 @@ fn a_failed_flush_ends_the_run(rt: HostRuntime) -> Result<(), Fail> {
 
 #[test]
 fn a_stuck_writer_ends_the_run(rt: HostRuntime) -> Result<(), Fail> {
-    let end = ending(rt.alloc(), &mut Source::new(SCRIPT), &mut Stuck)?;
+    let end = fault_of(rt.alloc(), &mut Source::new(SCRIPT), &mut Stuck)?;
     assert!(rt; end.as_str() == "writing failed");
     Ok(())
 }

@@ -1,4 +1,4 @@
-//! The program's status, and what it says of a run that ended early.
+//! The status of the program, and the line on standard error for a run that ended early.
 use super::{INPUT, TEXT};
 use crate::devices::{Broken, Sink, Source, Stuck};
 use check_attr::{Pull, Push, program};
@@ -55,7 +55,7 @@ fn each_byte_alone_succeeds(rt: HostRuntime) -> Result<(), Fail> {
     Ok(())
 }
 
-// Whether a run with these arguments, which name no file that there is, takes its input for a script.
+// Whether a run with these arguments, which name no file that exists, reads its input as a script.
 fn runs_a_script(alloc: Global, words: &[&str]) -> Result<bool, AllocError> {
     let args = arguments(alloc, words)?;
     let mut source = Source::new(INPUT);
@@ -69,8 +69,8 @@ fn runs_a_script(alloc: Global, words: &[&str]) -> Result<bool, AllocError> {
         &mut writer,
         &mut errors,
     );
-    let said = errors.bytes() == b"check_attr: malformed record 1\n".as_slice();
-    Ok(status == 2 && source.rest().is_empty() && writer.bytes().is_empty() && said)
+    let printed = errors.bytes() == b"check_attr: malformed record 1\n".as_slice();
+    Ok(status == 2 && source.rest().is_empty() && writer.bytes().is_empty() && printed)
 }
 
 #[test]
@@ -83,7 +83,7 @@ fn other_arguments_are_names_of_files(rt: HostRuntime) -> Result<(), Fail> {
 }
 
 #[test]
-fn a_failed_read_is_said(rt: HostRuntime) -> Result<(), Fail> {
+fn a_failed_read_is_printed(rt: HostRuntime) -> Result<(), Fail> {
     let args = arguments(rt.alloc(), &["--lines"])?;
     let mut source = Source::new(INPUT);
     source.fail_read(1);
@@ -105,7 +105,7 @@ fn a_failed_read_is_said(rt: HostRuntime) -> Result<(), Fail> {
 }
 
 #[test]
-fn a_failed_write_is_said(rt: HostRuntime) -> Result<(), Fail> {
+fn a_failed_write_is_printed(rt: HostRuntime) -> Result<(), Fail> {
     let args = arguments(rt.alloc(), &["--lines"])?;
     for call in 1..4 {
         let mut writer = Sink::one_by_one(rt.alloc());
@@ -126,7 +126,7 @@ fn a_failed_write_is_said(rt: HostRuntime) -> Result<(), Fail> {
 }
 
 #[test]
-fn a_stuck_writer_is_said(rt: HostRuntime) -> Result<(), Fail> {
+fn a_stuck_writer_is_printed(rt: HostRuntime) -> Result<(), Fail> {
     let args = arguments(rt.alloc(), &["--lines"])?;
     let mut errors = Sink::new(rt.alloc());
     let status = program(
@@ -142,7 +142,7 @@ fn a_stuck_writer_is_said(rt: HostRuntime) -> Result<(), Fail> {
     Ok(())
 }
 
-// What standard error refuses is passed over, and not tried again.
+// A failure of standard error is ignored, and the call is not tried again.
 #[test]
 fn refused_errors_keep_the_status(rt: HostRuntime) -> Result<(), Fail> {
     let args = arguments(rt.alloc(), &["--lines"])?;

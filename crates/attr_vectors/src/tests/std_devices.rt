@@ -61,7 +61,7 @@ impl Write for Full {
 }
 
 #[test]
-fn marks_what_calls_left(rt: HostRuntime) -> Result<(), Fail> {
+fn flags_follow_the_calls(rt: HostRuntime) -> Result<(), Fail> {
     let mut writer = Writer::new(Vec::new(rt.alloc()));
     assert!(rt; !writer.is_flushed());
     for text in [b"a".as_slice(), b"bc".as_slice()] {
@@ -82,7 +82,7 @@ fn marks_what_calls_left(rt: HostRuntime) -> Result<(), Fail> {
 }
 
 #[test]
-fn says_what_failed(rt: HostRuntime) -> Result<(), Fail> {
+fn faults_have_texts(rt: HostRuntime) -> Result<(), Fail> {
     for (fault, text) in [
         (Fault::Record(12), "malformed record 12"),
         (Fault::Read, "reading failed"),

@@ -1,7 +1,7 @@
-//! Files that are kept in memory.
-ghost use Rattle.std.specs.Prelude.{◌≡◌, ℕ, List, OnOk, OnErr};
-ghost use Rattle.gix_attributes.specs.Kept.{no_files, with_file};
-ghost use Rattle.gix_attributes.specs.KeptView.{kept_in};
+//! Files in memory, for tests and for programs that have their files already.
+ghost use Rattle.std.specs.Prelude.{◌≡◌, OnOk, OnErr};
+ghost use Rattle.gix_attributes.specs.MemoryFiles.{StoresFile, no_files};
+ghost use Rattle.gix_attributes.specs.MemoryView.{memory_view};
 
 use super::{Files, ReadError};
 use std::alloc::{AllocError, Global};
@@ -9,7 +9,7 @@ use std::collections::HashMap;
 use std::io;
 use std::io::ErrorKind;
 
-/// Files that are kept in memory, of which one read can be made to fail.
+/// Files in memory. One read of them can be made to fail, as a device fails.
 #[derive(Drop)]
 pub struct Memory {
     alloc: Global,
@@ -19,9 +19,9 @@ pub struct Memory {
 }
 
 impl Memory {
-    /// No files, and no read that fails.
+    /// No files, and no read that fails. It takes no memory.
     pub fn new(alloc: Global) -> Memory
-        ensures { kept_in result ≡ no_files }
+        ensures { memory_view result ≡ no_files }
     {
         Memory {
             alloc,
@@ -31,13 +31,17 @@ impl Memory {
         }
     }
 
-    /// Keeps the bytes under this name, in place of those that stood there.
+    /// Stores the contents of the file with this path, in place of those that it had.
+    ///
+    /// # Errors
+    ///
+    /// If there is no memory for the path or the bytes. Nothing changes then.
     pub fn insert(&mut self, path: &str, bytes: &[u8]) -> Result<(), AllocError>
-        ensures files { OnOk result ((name : List ℕ) →
-            (kept_in self.new).files name ≡ with_file (kept_in self.old).files path.now bytes.now name) }
-        ensures failing { (kept_in self.new).failing ≡ (kept_in self.old).failing }
-        ensures failures { (kept_in self.new).failures ≡ (kept_in self.old).failures }
-        ensures err { OnErr result (kept_in self.new ≡ kept_in self.old) }
+        ensures files { OnOk result
+            (StoresFile path.now bytes.now (memory_view self.old) (memory_view self.new)) }
+        ensures failing { (memory_view self.new).failing ≡ (memory_view self.old).failing }
+        ensures failures { (memory_view self.new).failures ≡ (memory_view self.old).failures }
+        ensures err { OnErr result (memory_view self.new ≡ memory_view self.old) }
     {
         let name = String::from_str(self.alloc, path)?;
         let contents = bytes.to_vec(self.alloc)?;
@@ -45,18 +49,19 @@ impl Memory {
         Ok(())
     }
 
-    /// Makes the `n`th read from now on fail, once; 0 means that none does.
+    /// Makes the `n`th read from now on fail, once. The next read is the first, and with 0 none fails.
     pub fn fail_read(&mut self, n: u64)
-        ensures { kept_in self.new ≡ record (kept_in self.old) { failing = n } }
+        ensures { memory_view self.new ≡ record (memory_view self.old) { failing = n } }
     {
         self.failing = n;
     }
 }
 
 impl Files for Memory {
-    ghost use Rattle.gix_attributes.specs.Kept.{KeptReads};
+    ghost use Rattle.gix_attributes.specs.MemoryFiles.{MemoryReads};
 
-    ghost reads = { λ old path answer new. KeptReads (kept_in old) path answer (kept_in new) };
+    ghost reads = { λ old path answer new.
+        MemoryReads (memory_view old) path answer (memory_view new) };
 
     ghost failed = { λ memory. memory.failures };
 

@@ -1,93 +1,76 @@
-//! Names of attributes with their numbers, and what the macros among them stand for.
+//! The collection of attributes: their names by number, and the definitions of macros of the registered lists.
 
 ghost use Rattle.std.specs.Prelude.{◌≡◌, ◌↔◌, ◌<◌, length, true, false, IfOk, OnOk, OnErr, IsTrue, nat_eq, ◌==◌};
-ghost use Rattle.attr_lists.specs.Numbered.{nothing_numbered};
+ghost use Rattle.attr_lists.specs.Collections.{empty_collection};
 ghost use Rattle.attr_lists.specs.Numbers.{number_of, numbered_lines};
-ghost use Rattle.attr_lists.specs.Definitions.{IsSound, body_of, free_mark, is_standing, with_list, without, HoldsList};
+ghost use Rattle.attr_lists.specs.Definitions.{IsSoundCollection, macro_body, without_list, HoldsList};
 ghost use Rattle.attr_lists.specs.KeptLists.{macros_valid};
-ghost use Rattle.attr_lists.specs.ListViews.{entries_of};
+ghost use Rattle.attr_lists.specs.ListViews.{entries_view};
 ghost use Rattle.attr_lists.specs.NameViews.{names_from, names_left};
 ghost use Rattle.std.specs.List.{IsDistinct, list_any};
-ghost use Rattle.gix_attributes.specs.SearchViews.{AreHeld, Holds};
-ghost use Rattle.attr_search.specs.Listings.{marks_of};
-ghost use Rattle.attr_search.specs.Keeping.{KeepsLists};
+ghost use Rattle.gix_attributes.specs.SearchViews.{Holds};
+ghost use Rattle.attr_search.specs.IndexedLists.{list_ids_of};
 ghost use Rattle.attr_search.specs.Settings.{AreRead};
-ghost use Rattle.gix_attributes.specs.KeepingOthers.{KeepsOthers};
+ghost use Rattle.gix_attributes.specs.Additions.{with_registered};
+ghost use Rattle.gix_attributes.specs.inner.HeldLists.{AreHeldLists};
+ghost use Rattle.gix_attributes.specs.inner.KeepingOthers.{KeepsOthers};
+ghost use Rattle.gix_attributes.specs.inner.Registering.{Registers};
 
 use crate::Search;
 use attr_glob::search::pattern::{List, Mapping};
-use attr_lists::numbering::{Names, Numbering};
-use attr_lists::search::attributes::macros_valid;
-use attr_lists::search::{Assignments, Attributes, Value};
-use attr_search::standing::Standing;
+use attr_lists::name_table::{NameTable, Names};
+use attr_lists::parser::macros_valid;
+use attr_lists::types::{Assignments, Attributes, Value};
+use attr_search::indexed_list::IndexedList;
 use std::alloc::{AllocError, Global};
 use std::marker::Model;
 
-/// The attributes that were seen, each with its number, and the definitions of macros that stand.
+/// The attributes of the lists of searches: each name with its number, and the definitions of macros.
 ///
-/// A name gets the next number where it is first seen, and never loses it. A definition stands as long
-/// as the list that holds it, and a macro stands for what its last standing definition says.
+/// A name gets the next number when it is first seen, and keeps it for good. The definitions of a list are active as
+/// long as the list is registered, and the body of a macro is that of its last active definition.
 #[derive(Debug, Drop)]
 pub struct MetadataCollection {
-    numbering: Numbering,
+    numbering: NameTable,
 }
 
 impl Model for MetadataCollection {
-    ghost use Rattle.attr_lists.specs.Numbered.{Numbered};
+    ghost use Rattle.attr_lists.specs.Collections.{Collection};
 
-    ghost Value = { Numbered };
+    ghost Value = { Collection };
 
     ghost view = { λ c. c.numbering };
 }
 
-// Whether no two lists stand under one mark.
-fn have_marks_apart(standing: &[Standing]) -> bool
-    ensures { IsTrue result ↔ IsDistinct nat_eq (marks_of standing.now) }
-{
-    let mut rest = standing;
-    while let Some((one, others)) = rest.split_first() {
-        if has_mark(others, one.mark) {
-            return false;
-        }
-        rest = others;
-    }
-    true
-}
-
-fn has_mark(standing: &[Standing], mark: usize) -> bool
-    ensures { result ≡ list_any (λ s. mark == s.mark) standing.now }
-{
-    standing.iter().any(|s| mark == s.mark)
-}
-
 impl MetadataCollection {
-    /// No attributes.
+    /// A collection without attributes. It takes no memory.
     pub fn new(alloc: Global) -> MetadataCollection
-        ensures { result ≡ nothing_numbered }
+        ensures { result ≡ empty_collection }
     {
         MetadataCollection {
-            numbering: Numbering::new(alloc),
+            numbering: NameTable::new(alloc),
         }
     }
 
-    // How many names there are. Their numbers are those below.
+    // The number of names. The numbers of the names are those below it.
     pub(crate) fn len(&self) -> usize
         ensures count { result ≡ length self.now.names }
-        ensures sound { IsSound self.now }
+        ensures sound { IsSoundCollection self.now }
     {
         self.numbering.len()
     }
 
+    // The number of a name, if the collection has it.
     pub(crate) fn number_of(&self, name: &str) -> Option<usize>
         ensures { result ≡ number_of self.now.names name.now }
     {
         self.numbering.number_of(name)
     }
 
-    // What the name with this number stands for as a macro.
+    // The body of the name with this number, which is empty if it is no macro.
     pub(crate) fn body(&self, number: usize) -> &Assignments
         requires { number < length self.now.names }
-        ensures { result.now.items ≡ body_of self.now number }
+        ensures { result.now.items ≡ macro_body self.now number }
     {
         match self.numbering.metadata(number) {
             Some(metadata) => &metadata.macro_attributes,
@@ -95,17 +78,26 @@ impl MetadataCollection {
         }
     }
 
-    /// Numbers the names of a list, whose definitions of macros stand from then on for good.
+    /// Registers a list that no search has: its names and items are numbered, and its definitions of macros stay
+    /// active for good. Each macro of the list has to have a valid name, as [`MetadataCollection::macros_valid`]
+    /// tests it.
+    ///
+    /// # Errors
+    ///
+    /// If there is no memory. The collection and the list's numbers are unchanged then.
     pub fn update_from_list(
         &mut self,
         alloc: Global,
         list: &mut List<Attributes>,
     ) -> Result<(), AllocError>
-        requires { macros_valid (entries_of list.old.patterns.items) ≡ true }
-        ensures added { OnOk result (self.new ≡ with_list (free_mark self.old.marks) (entries_of list.old.patterns.items) self.old) }
-        ensures numbered { OnOk result (entries_of list.new.patterns.items ≡ numbered_lines self.new.names (entries_of list.old.patterns.items)) }
+        requires { macros_valid (entries_view list.old.patterns.items) ≡ true }
+        ensures added { OnOk result (self.new
+            ≡ with_registered (entries_view list.old.patterns.items) self.old) }
+        ensures numbered { OnOk result (entries_view list.new.patterns.items
+            ≡ numbered_lines self.new.names (entries_view list.old.patterns.items)) }
         ensures refused { OnErr result (self.new ≡ self.old) }
-        ensures unchanged { OnErr result (entries_of list.new.patterns.items ≡ entries_of list.old.patterns.items) }
+        ensures unchanged { OnErr result
+            (entries_view list.new.patterns.items ≡ entries_view list.old.patterns.items) }
         ensures source { list.new.source ≡ list.old.source }
         ensures base { list.new.base ≡ list.old.base }
     {
@@ -113,69 +105,67 @@ impl MetadataCollection {
         Ok(())
     }
 
-    /// The names with what is kept of them, by number.
+    /// The names by number, each with its [`Metadata`](crate::search::Metadata).
     pub fn iter(&self) -> Names<'_>
         ensures { names_left result ≡ names_from self.now 0 }
     {
         self.numbering.iter()
     }
 
-    // Numbers a list, which stands in the collection from then on.
-    pub(crate) fn stand(
+    // Registers a list under the least free list id, until it is removed.
+    pub(crate) fn register(
         &mut self,
         alloc: Global,
         list: List<Attributes>,
-    ) -> Result<Standing, AllocError>
-        requires read { AreRead (entries_of list.patterns.items) }
-        requires valid { macros_valid (entries_of list.patterns.items) ≡ true }
-        ensures mark { IfOk result (λ s. s.mark ≡ free_mark self.old.marks) }
-        ensures fresh { IfOk result (λ s. is_standing self.old.marks s.mark ≡ false) }
-        ensures lines { IfOk result (λ s. entries_of s.list.patterns.items ≡ numbered_lines self.new.names (entries_of list.patterns.items)) }
-        ensures source { IfOk result (λ s. s.list.source ≡ list.source) }
-        ensures base { IfOk result (λ s. s.list.base ≡ list.base) }
-        ensures added { OnOk result (self.new ≡ with_list (free_mark self.old.marks) (entries_of list.patterns.items) self.old) }
-        ensures holds { IfOk result (λ s. HoldsList self.new s.mark (entries_of s.list.patterns.items)) }
-        ensures others { OnOk result (KeepsLists self.old self.new) }
+    ) -> Result<IndexedList, AllocError>
+        requires read { AreRead (entries_view list.patterns.items) }
+        requires valid { macros_valid (entries_view list.patterns.items) ≡ true }
+        ensures registered { IfOk result (Registers self.old self.new list) }
         ensures refused { OnErr result (self.new ≡ self.old) }
     {
-        Standing::of(alloc, list, &mut self.numbering)
+        let indexed = IndexedList::register(alloc, list, &mut self.numbering)?;
+        Ok(indexed)
     }
 
-    // Takes the definitions of a list away, which stood under the mark.
-    pub(crate) fn remove(&mut self, mark: usize, mappings: &[Mapping<Value>])
-        requires { HoldsList self.old mark (entries_of mappings.now) }
-        ensures removed { self.new ≡ without mark self.old }
-        ensures others { KeepsOthers mark self.old self.new }
+    // Removes the list that is registered under the list id, with its definitions.
+    pub(crate) fn remove(&mut self, list_id: usize, mappings: &[Mapping<Value>])
+        requires { HoldsList self.old list_id (entries_view mappings.now) }
+        ensures removed { self.new ≡ without_list list_id self.old }
+        ensures others { KeepsOthers list_id self.old self.new }
     {
-        self.numbering.remove(mark, mappings);
+        self.numbering.remove(list_id, mappings);
     }
 
-    /// Whether each macro that the list defines has a valid name, as `update_from_list` wants it.
+    /// Whether each macro of the list has a valid name, as [`MetadataCollection::update_from_list`] requires.
     pub fn macros_valid(list: &List<Attributes>) -> bool
-        ensures { result ≡ macros_valid (entries_of list.now.patterns.items) }
+        ensures { result ≡ macros_valid (entries_view list.now.patterns.items) }
     {
         macros_valid(&list.patterns)
     }
 
-    /// Whether the search's lists stand in this collection under different marks, each with its
-    /// definitions, as additions to both leave them. A list can be popped only then.
+    /// Whether the lists of the search are registered in this collection under different list ids, each with its
+    /// definitions, as additions to both leave them. Only then a list can be removed by [`Search::pop_pattern_list`].
     pub fn holds(&self, search: &Search) -> bool
         ensures { IsTrue result ↔ Holds self.now search.now }
     {
-        self.are_held(search.standing())
+        self.are_held(search.lists())
     }
 
-    // The same of lists.
-    fn are_held(&self, standing: &[Standing]) -> bool
-        ensures { IsTrue result ↔ AreHeld self.now standing.now }
+    fn are_held(&self, lists: &[IndexedList]) -> bool
+        ensures { IsTrue result ↔ AreHeldLists self.now lists.now }
     {
-        have_marks_apart(standing)
-            && standing
+        are_list_ids_distinct(lists)
+            && lists
                 .iter()
-                .all(|s| self.numbering.holds(s.mark, &s.list.patterns))
+                .all(|s| self.numbering.holds(s.list_id, &s.list.patterns))
     }
 
-    /// A copy, in which the same lists stand.
+    /// A copy, in which the same lists are registered. The copy and the collection don't follow one another's
+    /// changes.
+    ///
+    /// # Errors
+    ///
+    /// If there is no memory.
     pub fn clone(&self, alloc: Global) -> Result<MetadataCollection, AllocError>
         ensures { IfOk result (λ copy. copy ≡ self.now) }
     {
@@ -183,4 +173,24 @@ impl MetadataCollection {
             numbering: self.numbering.clone(alloc)?,
         })
     }
+}
+
+// Whether no two lists have the same list id.
+fn are_list_ids_distinct(lists: &[IndexedList]) -> bool
+    ensures { IsTrue result ↔ IsDistinct nat_eq (list_ids_of lists.now) }
+{
+    let mut rest = lists;
+    while let Some((one, others)) = rest.split_first() {
+        if has_list_id(others, one.list_id) {
+            return false;
+        }
+        rest = others;
+    }
+    true
+}
+
+fn has_list_id(lists: &[IndexedList], list_id: usize) -> bool
+    ensures { result ≡ list_any (λ s. list_id == s.list_id) lists.now }
+{
+    lists.iter().any(|s| list_id == s.list_id)
 }

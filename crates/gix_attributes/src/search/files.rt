@@ -1,36 +1,36 @@
-//! Lists that come from files: one at a time, and those of global files.
+//! Lists that are read from files: one at a time, and the global ones.
 
 ghost use Rattle.std.specs.Prelude.{◌≡◌, ◌≤◌, List, IfOk, IfErr, OnErr, MatchResult, map, string_bytes};
 ghost use Rattle.std.specs.Option.{option_copied};
-ghost use Rattle.gix_attributes.specs.Additions.{AddsFile, IsIo, RefusedBy, loaded_in};
-ghost use Rattle.gix_attributes.specs.Answers.{Answer};
+ghost use Rattle.gix_attributes.specs.Additions.{AddsFile, IsIo, RefusedBy, registered_lists};
+ghost use Rattle.gix_attributes.specs.Answers.{ReadAnswer};
 ghost use Rattle.gix_attributes.specs.Failures.{Fails};
 ghost use Rattle.gix_attributes.specs.FileReads.{AreAnswered, FileRead, ReadInOrder, names_read};
 ghost use Rattle.gix_attributes.specs.Globals.{RefusesGlobals, globals_in, globals_of, with_built_in};
-ghost use Rattle.gix_attributes.specs.SearchViews.{Holds, lists_in, marks_in};
+ghost use Rattle.gix_attributes.specs.SearchViews.{Holds, lists_in, list_ids_in};
 ghost use Rattle.gix_attributes.specs.declared.search.files.AddError.TheVariants.{OutOfMemory};
 
 use crate::files::{Disk, Files, ReadError};
 use crate::search::{MetadataCollection, Search};
-use attr_lists::search::Dropped;
+use attr_lists::types::Dropped;
 use std::alloc::{AllocError, Global};
 use std::io;
 use std::rt::Files as HostFiles;
 use thiserror::Error;
 
-/// What the addition of a file did.
+/// What [`Search::add_patterns_file`] did.
 #[derive(Debug, Drop)]
 pub struct Added {
-    /// Whether there is such a file.
+    /// Whether the file exists, so that its list was added.
     pub was_added: bool,
-    /// The lines of the file that are left out.
+    /// The lines that are dropped of the file.
     pub dropped: Vec<Dropped>,
 }
 
-/// Why a file is not added.
+/// Why a file could not be added.
 #[derive(Debug, Drop, Error)]
 pub enum AddError {
-    /// The device failed, with its error.
+    /// The device failed, with its error. A file that doesn't exist is no failure.
     #[error("reading failed")]
     Io(io::Error),
     /// The buffer, the list or the collection could not grow.
@@ -47,9 +47,9 @@ impl From<AllocError> for AddError {
 }
 
 impl From<ReadError> for AddError {
-    ghost use Rattle.gix_attributes.specs.Additions.{SaysSame};
+    ghost use Rattle.gix_attributes.specs.Additions.{HasCauseOf};
 
-    ghost from_gives = { SaysSame };
+    ghost from_gives = { HasCauseOf };
 
     fn from(error: ReadError) -> AddError {
         match error {
@@ -60,8 +60,13 @@ impl From<ReadError> for AddError {
 }
 
 impl Search {
-    /// Adds the list of a file, as [`Search::add_patterns_buffer`] adds that of a buffer. Where there is no such file
-    /// nothing is added.
+    /// Adds the list of a file, as [`Search::add_patterns_buffer`] adds that of a buffer. If the file doesn't exist,
+    /// nothing is added. `source` is the path of the file, and `buf` has its contents afterwards.
+    ///
+    /// # Errors
+    ///
+    /// [`AddError::Io`] if the device fails, and [`AddError::OutOfMemory`] if there is no memory. The search and the
+    /// collection are unchanged then.
     pub fn add_patterns_file_from<F: Files>(
         &mut self,
         alloc: Global,
@@ -72,15 +77,19 @@ impl Search {
         collection: &mut MetadataCollection,
         allow_macros: bool,
     ) -> Result<Added, AddError>
-        ensures read { (answer : Answer) × F.reads files.old (string_bytes source) answer files.new
+        ensures read { (answer : ReadAnswer)
+            × F.reads files.old (string_bytes source) answer files.new
             × MatchResult result
-            (AddsFile (string_bytes source) (option_copied root.entry) allow_macros answer (loaded_in self.old collection.old) (loaded_in self.new collection.new) buf.new.items)
+            (AddsFile (string_bytes source) (option_copied root.entry) allow_macros answer
+            (registered_lists self.old collection.old)
+            (registered_lists self.new collection.new) buf.new.items)
             (RefusedBy answer) }
-        ensures device { IfErr result (λ e. IsIo e → Fails (F.failed files.old) (F.failed files.new)) }
+        ensures device { IfErr result (λ e.
+            IsIo e → Fails (F.failed files.old) (F.failed files.new)) }
         ensures count { F.failed files.old ≤ F.failed files.new }
         ensures held { Holds collection.old self.old → Holds collection.new self.new }
         ensures refused { OnErr result (lists_in self.new ≡ lists_in self.old) }
-        ensures refused_marks { OnErr result (marks_in self.new ≡ marks_in self.old) }
+        ensures refused_list_ids { OnErr result (list_ids_in self.new ≡ list_ids_in self.old) }
         ensures unchanged { OnErr result (collection.new ≡ collection.old) }
     {
         if !files.read_into(&source, buf)? {
@@ -97,6 +106,10 @@ impl Search {
     }
 
     /// Adds the list of a file of the real disk, as [`Search::add_patterns_file_from`] does.
+    ///
+    /// # Errors
+    ///
+    /// As those of [`Search::add_patterns_file_from`].
     pub fn add_patterns_file<R: HostFiles>(
         &mut self,
         rt: &R,
@@ -107,12 +120,14 @@ impl Search {
         collection: &mut MetadataCollection,
         allow_macros: bool,
     ) -> Result<Added, AddError>
-        ensures read { (answer : Answer) × MatchResult result
-            (AddsFile (string_bytes source) (option_copied root.entry) allow_macros answer (loaded_in self.old collection.old) (loaded_in self.new collection.new) buf.new.items)
+        ensures read { (answer : ReadAnswer) × MatchResult result
+            (AddsFile (string_bytes source) (option_copied root.entry) allow_macros answer
+            (registered_lists self.old collection.old)
+            (registered_lists self.new collection.new) buf.new.items)
             (RefusedBy answer) }
         ensures held { Holds collection.old self.old → Holds collection.new self.new }
         ensures refused { OnErr result (lists_in self.new ≡ lists_in self.old) }
-        ensures refused_marks { OnErr result (marks_in self.new ≡ marks_in self.old) }
+        ensures refused_list_ids { OnErr result (list_ids_in self.new ≡ list_ids_in self.old) }
         ensures unchanged { OnErr result (collection.new ≡ collection.old) }
     {
         let mut disk = Disk::new(rt);
@@ -127,11 +142,14 @@ impl Search {
         )
     }
 
-    /// A search of the global lists: the built-in one, and then the list of each of these files that there is. Where the
-    /// lists are to be searched, later ones take precedence.
+    /// A search of the global lists: the built-in one, which defines the macro `binary` (gitattributes page), and
+    /// then the list of each of these files that exists. Later ones take precedence, so the names are those of
+    /// [`Source`](crate::Source)s in ascending order. For each name the dropped lines of its file are returned.
     ///
-    /// For each name the lines of its file that are left out are answered. After a refusal the collection has what was
-    /// added before.
+    /// # Errors
+    ///
+    /// [`AddError::Io`] if the device fails a read, and [`AddError::OutOfMemory`] if there is no memory. The
+    /// collection keeps the lists that were added before.
     pub fn new_globals_from<F: Files>(
         alloc: Global,
         files: &mut F,
@@ -139,13 +157,17 @@ impl Search {
         buf: &mut Vec<u8>,
         collection: &mut MetadataCollection,
     ) -> Result<(Search, Vec<Vec<Dropped>>), AddError>
-        ensures globals { IfOk result (λ globals. (read : List FileRead) × ReadInOrder F.reads files.old read files.new
+        ensures globals { IfOk result (λ globals. (read : List FileRead)
+            × ReadInOrder F.reads files.old read files.new
             × (names_read read ≡ map string_bytes names.now) × AreAnswered read
-            × (globals_in globals.0 collection.new globals.1.items buf.new.items ≡ globals_of collection.old buf.old.items read)) }
+            × (globals_in globals.0 collection.new globals.1.items buf.new.items
+            ≡ globals_of collection.old buf.old.items read)) }
         ensures held { IfOk result (λ globals. Holds collection.new globals.0) }
-        ensures refused { IfErr result (λ e. (read : List FileRead) × ReadInOrder F.reads files.old read files.new
+        ensures refused { IfErr result (λ e. (read : List FileRead)
+            × ReadInOrder F.reads files.old read files.new
             × RefusesGlobals (map string_bytes names.now) read collection.old collection.new e) }
-        ensures device { IfErr result (λ e. IsIo e → Fails (F.failed files.old) (F.failed files.new)) }
+        ensures device { IfErr result (λ e.
+            IsIo e → Fails (F.failed files.old) (F.failed files.new)) }
         ensures count { F.failed files.old ≤ F.failed files.new }
     {
         let mut search = built_in_alone(alloc, collection)?;
@@ -161,7 +183,11 @@ impl Search {
         Ok((search, dropped))
     }
 
-    /// A search of the global lists, from files of the real disk, as [`Search::new_globals_from`] makes it.
+    /// A search of the global lists from files of the real disk, as [`Search::new_globals_from`] returns it.
+    ///
+    /// # Errors
+    ///
+    /// As those of [`Search::new_globals_from`].
     pub fn new_globals<R: HostFiles>(
         rt: &R,
         alloc: Global,
@@ -171,9 +197,11 @@ impl Search {
     ) -> Result<(Search, Vec<Vec<Dropped>>), AddError>
         ensures globals { IfOk result (λ globals. (read : List FileRead)
             × (names_read read ≡ map string_bytes names.now) × AreAnswered read
-            × (globals_in globals.0 collection.new globals.1.items buf.new.items ≡ globals_of collection.old buf.old.items read)) }
+            × (globals_in globals.0 collection.new globals.1.items buf.new.items
+            ≡ globals_of collection.old buf.old.items read)) }
         ensures held { IfOk result (λ globals. Holds collection.new globals.0) }
-        ensures refused { IfErr result (λ e. (read : List FileRead) × RefusesGlobals (map string_bytes names.now) read collection.old collection.new e) }
+        ensures refused { IfErr result (λ e. (read : List FileRead)
+            × RefusesGlobals (map string_bytes names.now) read collection.old collection.new e) }
     {
         let mut disk = Disk::new(rt);
         Search::new_globals_from(alloc, &mut disk, names, buf, collection)
@@ -182,7 +210,8 @@ impl Search {
 
 // A search of the built-in list alone.
 fn built_in_alone(alloc: Global, collection: &mut MetadataCollection) -> Result<Search, AllocError>
-    ensures loaded { IfOk result (λ search. loaded_in search collection.new ≡ with_built_in collection.old) }
+    ensures loaded { IfOk result (λ search.
+        registered_lists search collection.new ≡ with_built_in collection.old) }
     ensures held { IfOk result (λ search. Holds collection.new search) }
     ensures refused { OnErr result (collection.new ≡ collection.old) }
 {

@@ -1,12 +1,12 @@
-//! The answers of an outcome, one by one.
+//! Iterators over the matches of an outcome.
 
 ghost use Rattle.std.specs.Prelude.{◌≡◌, [], ◌∷◌, MatchOption, codes, drop};
 ghost use Rattle.std.specs.Iterator.{YieldsFirstBy, item_count};
-ghost use Rattle.attr_glob.specs.Views.{pattern_read};
+ghost use Rattle.attr_glob.specs.Views.{pattern_view};
 ghost use Rattle.attr_text.specs.TextViews.{name_text};
-ghost use Rattle.gix_attributes.specs.Contents.{called, found_in, selected_in, unspecified};
-ghost use Rattle.attr_search.specs.Matches.{match_seen};
-ghost use Rattle.attr_search.specs.Store.{no_pattern};
+ghost use Rattle.gix_attributes.specs.Contents.{reported_name, found_in, selected_in, unspecified};
+ghost use Rattle.attr_search.specs.Matches.{match_view};
+ghost use Rattle.attr_search.specs.inner.RefMapParts.{no_pattern};
 
 use crate::search::outcome::Outcome;
 use crate::search::{AttributeId, Match, MatchKind, MatchLocation};
@@ -15,11 +15,11 @@ use attr_text::{AssignmentRef, NameRef, StateRef};
 use bstr::BStr;
 use std::marker::Model;
 
-/// The answers for the attributes that lines speak of, by number.
+/// An iterator over the matches of an outcome by the number of their attributes, whatever is selected.
 #[derive(Drop)]
 pub struct Matches<'a> {
     outcome: &'a Outcome,
-    // The number from which on answers are left.
+    // The first number whose match may be left.
     next: usize,
 }
 
@@ -44,7 +44,7 @@ impl<'a> Matches<'a> {
 impl<'a> Iterator for Matches<'a> {
     type Item = Match<'a>;
 
-    ghost next_gives = { YieldsFirstBy match_seen (λ left. left) };
+    ghost next_gives = { YieldsFirstBy match_view (λ left. left) };
 
     ghost remaining = { item_count (λ left. left) };
 
@@ -55,9 +55,11 @@ impl<'a> Iterator for Matches<'a> {
     }
 }
 
-// The first answer from a number on, and the number behind its own.
+// The first match from a number on, and the number after its own.
 fn first_match(outcome: &Outcome, from: usize) -> Option<(usize, Match<'_>)>
-    ensures { MatchOption result (found_in (drop from outcome.now.slots) ≡ []) (λ r. found_in (drop from outcome.now.slots) ≡ match_seen r.1 ∷ found_in (drop r.0 outcome.now.slots)) }
+    ensures { MatchOption result (found_in (drop from outcome.now.slots) ≡ [])
+        (λ r. found_in (drop from outcome.now.slots)
+        ≡ match_view r.1 ∷ found_in (drop r.0 outcome.now.slots)) }
 {
     for number in from..outcome.len() {
         if let Some(found) = outcome.match_by_id(AttributeId(number)) {
@@ -67,11 +69,11 @@ fn first_match(outcome: &Outcome, from: usize) -> Option<(usize, Match<'_>)>
     None
 }
 
-/// The answers for the selected names, in their order. A name that no line speaks of is unspecified.
+/// An iterator over the matches of the selected names, in their order. A name that no line has is unspecified.
 #[derive(Drop)]
 pub struct Selected<'a> {
     outcome: &'a Outcome,
-    // The place of the name whose answer is next.
+    // The index of the next name.
     next: usize,
 }
 
@@ -96,7 +98,7 @@ impl<'a> Selected<'a> {
 impl<'a> Iterator for Selected<'a> {
     type Item = Match<'a>;
 
-    ghost next_gives = { YieldsFirstBy match_seen (λ left. left) };
+    ghost next_gives = { YieldsFirstBy match_view (λ left. left) };
 
     ghost remaining = { item_count (λ left. left) };
 
@@ -111,15 +113,15 @@ impl<'a> Iterator for Selected<'a> {
     }
 }
 
-/// The answer for a name that no line speaks of.
+/// The match of a name that no line has: unspecified (gitattributes page), with the empty pattern.
 pub(crate) fn unspecified<'a>(name: &'a str, empty: &'a Pattern) -> Match<'a>
-    requires { pattern_read empty.now ≡ no_pattern }
-    ensures { match_seen result ≡ unspecified name.now }
+    requires { pattern_view empty.now ≡ no_pattern }
+    ensures { match_view result ≡ unspecified name.now }
 {
     Match {
         pattern: empty,
         assignment: AssignmentRef {
-            name: called(name),
+            name: reported_name(name),
             state: StateRef::Unspecified,
         },
         kind: MatchKind::Attribute { macro_id: None },
@@ -130,17 +132,18 @@ pub(crate) fn unspecified<'a>(name: &'a str, empty: &'a Pattern) -> Match<'a>
     }
 }
 
-fn called(name: &str) -> NameRef<'_>
-    ensures { name_text result ≡ called name.now }
+// The name that is reported for a selected text.
+fn reported_name(name: &str) -> NameRef<'_>
+    ensures { name_text result ≡ reported_name name.now }
 {
     match NameRef::try_from(BStr::from(name)) {
         Ok(name) => name,
-        Err(_) => invalid(),
+        Err(_) => invalid_name(),
     }
 }
 
-// What a text is called that is no valid name.
-fn invalid<'a>() -> NameRef<'a>
+// The name that is reported for a text that is no valid name.
+fn invalid_name<'a>() -> NameRef<'a>
     ensures { name_text result ≡ codes "invalid" }
 {
     match NameRef::try_from(BStr::from("invalid")) {

@@ -1,11 +1,9 @@
-//! Selected names as they are looked up, and what else an outcome takes of a collection.
+//! The names that an outcome looks for, with their numbers, and the bodies that it copies from a collection.
 
 ghost use Rattle.std.specs.Prelude.{◌≡◌, ◌↔◌, ◌<◌, ⊤, IsTrue, All, IfOk, MatchOption, length, map};
-ghost use Rattle.std.specs.Rc.{rc_str_bytes};
-ghost use Rattle.attr_lists.specs.Definitions.{IsSound};
 ghost use Rattle.gix_attributes.specs.Contents.{bodies_of, flags_of, looked_up, names_selected};
-ghost use Rattle.gix_attributes.specs.Selection.{selection_seen, wanted_seen};
-ghost use Rattle.attr_search.specs.Walking.{bodies_in};
+ghost use Rattle.gix_attributes.specs.Selection.{selection_view};
+ghost use Rattle.attr_search.specs.Slots.{bodies_view};
 
 use crate::search::collection::MetadataCollection;
 use crate::search::{Assignments, AttributeId};
@@ -19,13 +17,14 @@ pub(crate) struct SelectedName {
     pub number: Option<usize>,
 }
 
-/// Looks names up.
+/// Looks up the numbers of names.
 pub(crate) fn look_up(
     alloc: Global,
     collection: &MetadataCollection,
     names: &[&str],
 ) -> Result<Vec<SelectedName>, AllocError>
-    ensures { IfOk result (λ selected. selection_seen selected.items ≡ looked_up collection.now.names (map (λ name. name.now) names.now)) }
+    ensures { IfOk result (λ selected. selection_view selected.items
+        ≡ looked_up collection.now.names (map (λ name. name.now) names.now)) }
 {
     let mut selected = Vec::new(alloc);
     for name in names {
@@ -36,13 +35,14 @@ pub(crate) fn look_up(
     Ok(selected)
 }
 
-/// Looks selected names up again.
+/// Looks up the numbers of selected names again.
 pub(crate) fn look_up_again(
     alloc: Global,
     collection: &MetadataCollection,
     selected: &[SelectedName],
 ) -> Result<Vec<SelectedName>, AllocError>
-    ensures { IfOk result (λ again. selection_seen again.items ≡ looked_up collection.now.names (names_selected (selection_seen selected.now))) }
+    ensures { IfOk result (λ again. selection_view again.items
+        ≡ looked_up collection.now.names (names_selected (selection_view selected.now))) }
 {
     let mut again = Vec::new(alloc);
     for wanted in selected {
@@ -58,7 +58,7 @@ pub(crate) fn copy_of(
     alloc: Global,
     selected: &[SelectedName],
 ) -> Result<Vec<SelectedName>, AllocError>
-    ensures { IfOk result (λ copy. selection_seen copy.items ≡ selection_seen selected.now) }
+    ensures { IfOk result (λ copy. selection_view copy.items ≡ selection_view selected.now) }
 {
     let mut copy = Vec::new(alloc);
     for wanted in selected {
@@ -71,14 +71,14 @@ pub(crate) fn copy_of(
     Ok(copy)
 }
 
-/// Which of so many numbers are wanted.
+/// For each number below the count whether it is wanted.
 pub(crate) fn flags(
     alloc: Global,
     selected: &[SelectedName],
     count: usize,
 ) -> Result<Vec<bool>, AllocError>
     requires { All (λ s. MatchOption s.number ⊤ (λ n. n < count)) selected.now }
-    ensures { IfOk result (λ flags. flags.items ≡ flags_of (selection_seen selected.now) count) }
+    ensures { IfOk result (λ flags. flags.items ≡ flags_of (selection_view selected.now) count) }
 {
     let mut flags = vec![in alloc; selected.is_empty(); count]?;
     for wanted in selected {
@@ -89,12 +89,12 @@ pub(crate) fn flags(
     Ok(flags)
 }
 
-/// The bodies of a collection, by number.
+/// A copy of the bodies of a collection, by number.
 pub(crate) fn bodies_of(
     alloc: Global,
     collection: &MetadataCollection,
 ) -> Result<Vec<Assignments>, AllocError>
-    ensures { IfOk result (λ bodies. bodies_in bodies.items ≡ bodies_of collection.now) }
+    ensures { IfOk result (λ bodies. bodies_view bodies.items ≡ bodies_of collection.now) }
 {
     let mut bodies = Vec::new(alloc);
     for number in 0..collection.len() {
@@ -102,21 +102,6 @@ pub(crate) fn bodies_of(
         bodies.push(body)?;
     }
     Ok(bodies)
-}
-
-/// A copy of bodies.
-pub(crate) fn copy_of_bodies(
-    alloc: Global,
-    bodies: &[Assignments],
-) -> Result<Vec<Assignments>, AllocError>
-    ensures { IfOk result (λ copy. bodies_in copy.items ≡ bodies_in bodies.now) }
-{
-    let mut copy = Vec::new(alloc);
-    for body in bodies {
-        let body = copy_of_body(body)?;
-        copy.push(body)?;
-    }
-    Ok(copy)
 }
 
 fn copy_of_body(body: &Assignments) -> Result<Assignments, AllocError>
@@ -129,7 +114,7 @@ fn copy_of_body(body: &Assignments) -> Result<Assignments, AllocError>
 pub(crate) fn are_bodies_of(bodies: &[Assignments], collection: &MetadataCollection) -> bool
     requires counted { length collection.now.definitions ≡ length collection.now.names }
     requires len { length bodies.now ≡ length collection.now.names }
-    ensures { IsTrue result ↔ (bodies_in bodies.now ≡ bodies_of collection.now) }
+    ensures { IsTrue result ↔ (bodies_view bodies.now ≡ bodies_of collection.now) }
 {
     for (number, body) in bodies.iter().enumerate() {
         if !is_same(body, collection.body(number)) {

@@ -16,10 +16,12 @@ returns-in_err-last-clause-name c =
 
 pub returns-then-last-eq58-clause-name : goal.returns-then-last-eq58-clause-name
 returns-then-last-eq58-clause-name c =
-    let known = name_in-first c.args.bytes.now c.in_ok-close.close c.in_ok-last.name.now c.in_ok-last.last.now (sym c.in_ok-close.ensures) c.in_ok-last.ensures.cases.0 in
+    let known = name_in-first c.args.bytes.now c.in_ok-close.close c.in_ok-last.name.now c.in_ok-last.last.now (sym c.in_ok-close.ensures)
+    c.in_ok-last.ensures.cases.0 in
     sym (known ∙ ap (λ b. cond (b == colon) (Some c.in_ok-last.name.now) None) c.if-last-eq58.true)
 
 pub returns-clause-name : goal.returns-clause-name
 returns-clause-name c =
-    let known = name_in-first c.args.bytes.now c.in_ok-close.close c.in_ok-last.name.now c.in_ok-last.last.now (sym c.in_ok-close.ensures) c.in_ok-last.ensures.cases.0 in
+    let known = name_in-first c.args.bytes.now c.in_ok-close.close c.in_ok-last.name.now c.in_ok-last.last.now (sym c.in_ok-close.ensures)
+    c.in_ok-last.ensures.cases.0 in
     sym (known ∙ ap (λ v. cond v (Some c.in_ok-last.name.now) None) (unequal _ _ c.if-last-eq58.false))

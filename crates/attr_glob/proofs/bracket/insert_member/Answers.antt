@@ -1,6 +1,6 @@
 use Rattle.std.proofs.Common.{◌≡◌, ◌≤◌, ◌<◌, ◌+◌, ◌&&◌, ◌||◌, ◌==◌, nat_lt, true, arith, sym, ap, ◌∙◌}
 use Rattle.attr_glob.specs.Brackets.{member_holds}
-use Rattle.attr_glob.specs.ByteSets.{has}
+use Rattle.attr_glob.specs.inner.ByteSets.{has}
 use Rattle.attr_glob.proofs.ByteSetLemmas.{put_in, left_out, all_below}
 use Rattle.attr_glob.proofs.bracket.insert_member.Goals as goal
 use Rattle.attr_glob.proofs.bracket.insert_member.Goals.{then-contains, else-contains}

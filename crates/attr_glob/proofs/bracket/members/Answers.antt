@@ -15,8 +15,8 @@ loop-byte-init c = (
 pub loop-byte-preserved : goal.loop-byte-preserved
 loop-byte-preserved c =
     let b = c.in-Some.byte.now in
-    let bs = c.in-Some.behind.now in
-    let rest = c.in-Some-read_member.behind.now in
+    let bs = c.in-Some.tail.now in
+    let rest = c.in-Some-read_member.tail.now in
     let list = c.loop-byte.list.items in
     let before = c.loop-byte.invariant in
     let split : c.loop-byte.rest.now ≡ b ∷ bs = c.in-Some.ensures.cases.0 in

@@ -1,4 +1,4 @@
--- No slash stands behind the place.
+-- No slash follows the place.
 use Rattle.std.proofs.Common.{◌≡◌, ℕ, ◌<◌, ◌≤◌, false, length, get_or}
 use Rattle.attr_glob.specs.Patterns.{is_slash}
 use Rattle.attr_glob.proofs.pattern.base_name_place.Given as goal

@@ -11,7 +11,8 @@ returns-in_err-byte-clause-missed c =
     let left : tokens_of c.loop-token.left.now ≡ tokens_of c.in-Some.before.now ++ t ∷ [] =
     ap tokens_of c.in-Some.ensures.cases.0 ∙ tokens_of-push c.in-Some.before.now c.in-Some.token.now in
     rw c.from_residual.ensures (end_none c.args.case (tokens_of c.args.tokens.now) (tokens_of c.loop-token.left.now) (tokens_of c.in-Some.before.now)
-    c.args.value.now c.loop-token.rest.now t (sym c.may_be_empty.ensures ∙ c.if-may_be_empty.false) left c.in_err-byte.ensures.cases c.loop-token.invariant.1)
+    c.args.value.now c.loop-token.rest.now t (sym c.may_be_empty.ensures ∙ c.if-may_be_empty.false) left c.in_err-byte.ensures.cases
+    c.loop-token.invariant.1)
 
 pub returns-then-not-takes-clause-missed : goal.returns-then-not-takes-clause-missed
 returns-then-not-takes-clause-missed c =

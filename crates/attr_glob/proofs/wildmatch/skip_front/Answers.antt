@@ -8,10 +8,10 @@ loop-token-preserved c =
     let t = token_of c.in-Some.token.now in
     let split = c.in-Some.ensures.cases in
     let bytes = c.in_ok-byte.ensures.cases in
-    let left : tokens_of c.loop-token.left.now ≡ t ∷ tokens_of c.in-Some.behind.now = ap tokens_of split.0 in (
+    let left : tokens_of c.loop-token.left.now ≡ t ∷ tokens_of c.in-Some.tail.now = ap tokens_of split.0 in (
       omega (arith, split.1, c.loop-token.invariant.0),
-      front_step c.args.case (tokens_of c.args.tokens.now) (tokens_of c.loop-token.left.now) (tokens_of c.in-Some.behind.now)
+      front_step c.args.case (tokens_of c.args.tokens.now) (tokens_of c.loop-token.left.now) (tokens_of c.in-Some.tail.now)
           c.args.value.now c.loop-token.rest.now c.in_ok-byte.others.now t c.in_ok-byte.byte.now
           (sym c.may_be_empty.ensures ∙ c.if-may_be_empty.false) left bytes.0 (sym c.takes.ensures ∙ c.if-not-takes.false) c.loop-token.invariant.1,
-      (λ h. bordered-tail t (tokens_of c.in-Some.behind.now) (subst (λ x. is_bordered true x ≡ true) left (c.loop-token.invariant.2 h))),
+      (λ h. bordered-tail t (tokens_of c.in-Some.tail.now) (subst (λ x. is_bordered true x ≡ true) left (c.loop-token.invariant.2 h))),
     )

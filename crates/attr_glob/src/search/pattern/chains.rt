@@ -1,12 +1,12 @@
-//! The lines of a list, chained by what they ask of a base name.
+//! The lines of a list, chained by their keys: what the base name of a path needs if a line may match.
 
 ghost use Rattle.std.specs.Prelude.{◌≡◌, ◌≤◌, ◌-◌, length, drop, ◌==◌, ◌&&◌, ℕ, true, not, List, [], ◌∷◌, ◌++◌, IfOk, OnOk, OnErr, IfSome, map};
 ghost use Rattle.std.specs.List.{list_any, list_all, cons_option};
-ghost use Rattle.attr_glob.specs.Candidates.{Ask, name, end, anything, nothing, asked, places, Extends};
-ghost use Rattle.attr_glob.specs.Chains.{ask_read, folded_ask, asks_of, AreChains, AreHeads, last_place, end_of, asks_met, is_met, is_head, is_at_most, later, passed};
+ghost use Rattle.attr_glob.specs.Candidates.{Key, name, end, anything, nothing, key_of, places_where, AppendsPlaces};
+ghost use Rattle.attr_glob.specs.inner.Chains.{key_view, folded_key, keys_of, AreChains, AddsLine, AreHeads, last_place, end_key, keys_of_name, is_among, is_head, is_at_most, later, passed};
 ghost use Rattle.attr_glob.specs.Folding.{folded};
-ghost use Rattle.attr_glob.specs.Patterns.{has_flag, no_sub_dir, absolute};
-ghost use Rattle.attr_glob.specs.Views.{mode_bits, pattern_read};
+ghost use Rattle.attr_glob.specs.Patterns.{has_flag, no_sub_dir, absolute, all_flags};
+ghost use Rattle.attr_glob.specs.Views.{mode_bits, pattern_view};
 
 use crate::Pattern;
 use crate::pattern::{Case, Mode};
@@ -14,21 +14,21 @@ use bitflags::Flags;
 use std::alloc::{AllocError, Global};
 use std::collections::HashMap;
 
-/// What a pattern asks of the base name of a path.
+/// What the base name of a path needs if the pattern may match.
 #[derive(Clone, Copy)]
 enum Asked<'a> {
-    /// To be this name.
+    /// It is this name.
     Name(&'a [u8]),
-    /// To end in this.
+    /// It ends in this.
     End(&'a [u8]),
-    /// Nothing that could be looked up.
+    /// Any base name may do.
     Anything,
-    /// What no base name has.
+    /// No base name does.
     Nothing,
 }
 
 fn ask_of(pattern: &Pattern) -> Asked<'_>
-    ensures { ask_read result ≡ asked (pattern_read pattern.now) }
+    ensures { key_view result ≡ key_of (pattern_view pattern.now) }
 {
     let mode = pattern.mode;
     if is_macro(mode) {
@@ -46,24 +46,24 @@ fn ask_of(pattern: &Pattern) -> Asked<'_>
     Asked::Anything
 }
 
-/// The lines of a list by what they ask, under one case.
+/// The lines of a list by their keys, under one case.
 #[derive(Debug, Drop)]
 pub(crate) struct Chains {
-    // The last line that asks for a name.
+    // For each name the last line with that key.
     names: HashMap<Vec<u8>, usize>,
-    // The last line that asks for an end.
+    // For each end the last line with that key.
     ends: HashMap<Vec<u8>, usize>,
-    // How long the ends are.
+    // The lengths of the ends.
     lengths: Vec<usize>,
-    // The last line that asks for nothing that could be looked up.
+    // The last line that any base name may match.
     others: Option<usize>,
-    // For each line the last one before it that asks the same.
+    // For each line the last one before it with the same key.
     before: Vec<Option<usize>>,
 }
 
 impl Chains {
     pub(crate) fn of(alloc: Global, patterns: &[Pattern], case: Case) -> Result<Chains, AllocError>
-        ensures { IfOk result (AreChains (asks_of case (map pattern_read patterns.now))) }
+        ensures { IfOk result (AreChains (keys_of case (map pattern_view patterns.now))) }
     {
         let mut chains = Chains::new(alloc);
         for pattern in patterns {
@@ -86,19 +86,19 @@ impl Chains {
 
     // One more line.
     fn push(&mut self, alloc: Global, asked: Asked<'_>, case: Case) -> Result<(), AllocError>
-        ensures { OnOk result ((lines : List Ask) → AreChains lines self.old → AreChains (folded_ask case (ask_read asked.entry) ∷ lines) self.new) }
+        ensures { OnOk result
+            (AddsLine (folded_key case (key_view asked.entry)) self.old self.new) }
     {
         match asked {
-            Asked::Name(text) => self.push_name(folded(alloc, case, text)?)?,
-            Asked::End(text) => self.push_end(folded(alloc, case, text)?)?,
-            Asked::Anything => self.push_other()?,
-            Asked::Nothing => self.push_nothing()?,
+            Asked::Name(text) => self.push_name(folded(alloc, case, text)?),
+            Asked::End(text) => self.push_end(folded(alloc, case, text)?),
+            Asked::Anything => self.push_other(),
+            Asked::Nothing => self.push_nothing(),
         }
-        Ok(())
     }
 
     fn push_name(&mut self, text: Vec<u8>) -> Result<(), AllocError>
-        ensures { OnOk result ((lines : List Ask) → AreChains lines self.old → AreChains (name text.items ∷ lines) self.new) }
+        ensures { OnOk result (AddsLine (name text.items) self.old self.new) }
     {
         let place = self.before.len();
         let before = self.names.insert(text, place)?;
@@ -107,7 +107,7 @@ impl Chains {
     }
 
     fn push_end(&mut self, text: Vec<u8>) -> Result<(), AllocError>
-        ensures { OnOk result ((lines : List Ask) → AreChains lines self.old → AreChains (end text.items ∷ lines) self.new) }
+        ensures { OnOk result (AddsLine (end text.items) self.old self.new) }
     {
         note(&mut self.lengths, text.len())?;
         let place = self.before.len();
@@ -117,7 +117,7 @@ impl Chains {
     }
 
     fn push_other(&mut self) -> Result<(), AllocError>
-        ensures { OnOk result ((lines : List Ask) → AreChains lines self.old → AreChains (anything ∷ lines) self.new) }
+        ensures { OnOk result (AddsLine anything self.old self.new) }
     {
         let place = self.before.len();
         self.before.push(self.others)?;
@@ -126,33 +126,36 @@ impl Chains {
     }
 
     fn push_nothing(&mut self) -> Result<(), AllocError>
-        ensures { OnOk result ((lines : List Ask) → AreChains lines self.old → AreChains (nothing ∷ lines) self.new) }
+        ensures { OnOk result (AddsLine nothing self.old self.new) }
     {
         self.before.push(None)?;
         Ok(())
     }
 
-    // Appends the places of the lines that ask what the base name has, the greatest first.
+    // Appends the places of the lines whose key the base name has, the greatest first.
     pub(crate) fn append(
         &self,
         base: &[u8],
         heads: &mut Vec<Option<usize>>,
         found: &mut Vec<usize>,
     ) -> Result<(), AllocError>
-        requires { (lines : List Ask) × AreChains lines self.now }
-        ensures ok { OnOk result ((lines : List Ask) → AreChains lines self.now → found.new.items ≡ found.old.items ++ places (is_met (asks_met base.now self.now.lengths.items)) lines) }
-        ensures err { OnErr result (Extends found.old.items found.new.items) }
+        requires { (lines : List Key) × AreChains lines self.now }
+        ensures ok { OnOk result ((lines : List Key) → AreChains lines self.now →
+            let keys = keys_of_name base.now self.now.lengths.items in
+            found.new.items ≡ found.old.items ++ places_where (is_among keys) lines) }
+        ensures err { OnErr result (AppendsPlaces found.old.items found.new.items) }
     {
         heads.clear();
         self.find(base, heads)?;
-        self.follow(heads, found)?;
-        Ok(())
+        self.follow(heads, found)
     }
 
-    // Appends for each that the base name has the last line that asks it.
+    // Appends for each key of the base name the last line with that key.
     fn find(&self, base: &[u8], heads: &mut Vec<Option<usize>>) -> Result<(), AllocError>
         requires { heads.old.items ≡ [] }
-        ensures { OnOk result ((lines : List Ask) → AreChains lines self.now → heads.new.items ≡ map (last_place lines) (asks_met base.now self.now.lengths.items)) }
+        ensures { OnOk result ((lines : List Key) → AreChains lines self.now →
+            let keys = keys_of_name base.now self.now.lengths.items in
+            heads.new.items ≡ map (last_place lines) keys) }
     {
         heads.push(self.others)?;
         heads.push(self.names.get(base).copied())?;
@@ -162,14 +165,16 @@ impl Chains {
         Ok(())
     }
 
-    // Appends the last line that asks for the last so many bytes of the base name.
+    // Appends the last line whose key is the end of this length of the base name.
     fn find_end(
         &self,
         base: &[u8],
         length: usize,
         heads: &mut Vec<Option<usize>>,
     ) -> Result<(), AllocError>
-        ensures { OnOk result ((lines : List Ask) → AreChains lines self.now → heads.new.items ≡ heads.old.items ++ map (last_place lines) (cons_option (end_of base.now length) [])) }
+        ensures { OnOk result ((lines : List Key) → AreChains lines self.now →
+            let keys = cons_option (end_key base.now length) [] in
+            heads.new.items ≡ heads.old.items ++ map (last_place lines) keys) }
     {
         if length > base.len() {
             return Ok(());
@@ -181,8 +186,9 @@ impl Chains {
     // Appends the places of the chains from these heads on, the greatest first.
     fn follow(&self, heads: &mut [Option<usize>], found: &mut Vec<usize>) -> Result<(), AllocError>
         requires { AreHeads self.now heads.old }
-        ensures ok { OnOk result ((at : AreHeads self.now heads.old) → found.new.items ≡ found.old.items ++ places (is_met at.asks) at.lines) }
-        ensures err { OnErr result (Extends found.old.items found.new.items) }
+        ensures ok { OnOk result ((at : AreHeads self.now heads.old) →
+            found.new.items ≡ found.old.items ++ places_where (is_among at.keys) at.lines) }
+        ensures err { OnErr result (AppendsPlaces found.old.items found.new.items) }
     {
         while let Some(place) = greatest(heads) {
             found.push(place)?;
@@ -239,10 +245,12 @@ fn passed(place: usize, before: Option<usize>, head: Option<usize>) -> Option<us
     }
 }
 
-// The length is among the lengths.
+// Adds the length, unless it is there.
 fn note(lengths: &mut Vec<usize>, length: usize) -> Result<(), AllocError>
     ensures noted { OnOk result (list_any (λ n. n == length) lengths.new.items ≡ true) }
-    ensures kept { OnOk result ((k : ℕ) → list_any (λ n. n == k) lengths.old.items ≡ true → list_any (λ n. n == k) lengths.new.items ≡ true) }
+    ensures kept { OnOk result ((k : ℕ) →
+        list_any (λ n. n == k) lengths.old.items ≡ true →
+        list_any (λ n. n == k) lengths.new.items ≡ true) }
 {
     if !lengths.contains(&length) {
         lengths.push(length)?;
@@ -263,13 +271,14 @@ fn folded(alloc: Global, case: Case, text: &[u8]) -> Result<Vec<u8>, AllocError>
 }
 
 fn is_macro(mode: Mode) -> bool
-    ensures { result ≡ has_flag (mode_bits mode) 31 }
+    ensures { result ≡ has_flag (mode_bits mode) all_flags }
 {
     mode.contains(Mode::MACRO)
 }
 
 fn asks_name(mode: Mode) -> bool
-    ensures { result ≡ has_flag (mode_bits mode) no_sub_dir && not (has_flag (mode_bits mode) absolute) }
+    ensures { result ≡
+        has_flag (mode_bits mode) no_sub_dir && not (has_flag (mode_bits mode) absolute) }
 {
     mode.contains(Mode::NO_SUB_DIR) && !mode.contains(Mode::ABSOLUTE)
 }

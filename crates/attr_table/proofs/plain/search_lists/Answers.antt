@@ -1,24 +1,39 @@
-use Rattle.std.proofs.Common.{arith}
-use Rattle.attr_table.specs.Walk.{list_tasks}
-use Rattle.attr_table.specs.Plain.{answers_in, bodies_in, lines_of}
+use Rattle.std.proofs.Common.{◌∙◌, refl, length, arith}
+use Rattle.attr_table.specs.inner.Walk.{list_tasks}
+use Rattle.attr_table.specs.inner.Plain.{plain_answers, plain_bodies, plain_lines}
 use Rattle.attr_table.proofs.Listed.{backwards-none}
 use Rattle.attr_table.proofs.Counted.{nothing_taken, more_searched}
+use Rattle.attr_table.proofs.Seen.{no_tasks, searches_before}
 use Rattle.attr_table.proofs.plain.search_lists.Goals as goal
 
 pub loop-k-init : goal.loop-k-init
 loop-k-init c = record {
-  empty = c.new-stack.ensures.items;
+  state = record {
+    bodies = c.requires.bodies;
+    in_bodies = c.requires.in_bodies;
+    in_wanted = c.requires.in_wanted;
+    in_stack = no_tasks (length c.args.slots.now) c.new.result.items c.new.ensures.items;
+  };
+  input = record { bodies = refl; wanted = refl };
+  empty = c.new.ensures.items;
   searched =
-      rw (backwards-none list_tasks (λ rows. lines_of rows.now) c.args.lists.now)
-      (nothing_taken (bodies_in c.args.bodies.now) c.args.wanted.now (answers_in c.args.slots.now) 0);
+      rw (backwards-none list_tasks (λ rows. plain_lines rows.now) c.args.lists.now)
+      (nothing_taken (plain_bodies c.args.bodies.now) c.args.wanted.now (plain_answers c.args.slots.now) 0);
 }
 
 pub loop-k-preserved : goal.loop-k-preserved
-loop-k-preserved c = record {
-  empty = c.in_ok-search_rows.ensures.empty;
-  searched =
-      more_searched (bodies_in c.args.bodies.now) c.args.wanted.now list_tasks (λ rows. lines_of rows.now) c.args.lists.now c.loop-k.k _
-      (answers_in c.args.slots.now) (answers_in c.loop-k.slots) (answers_in c.search_rows.new.slots) 0 c.loop-k.taken
-      c.search_rows.new.taken c.loop-k-test.true (omega arith) c.loop-k.invariant.searched
-      c.in_ok-search_rows.ensures.searched;
-}
+loop-k-preserved c =
+    let rows = c.in_ok-search_rows.ensures in
+    record {
+      state = rows.state;
+      input = record {
+        bodies = rows.input.bodies ∙ c.loop-k.invariant.input.bodies;
+        wanted = rows.input.wanted ∙ c.loop-k.invariant.input.wanted;
+      };
+      empty = rows.empty;
+      searched =
+          more_searched (plain_bodies c.args.bodies.now) c.args.wanted.now list_tasks (λ rows. plain_lines rows.now) c.args.lists.now c.loop-k.k _
+          (plain_answers c.args.slots.now) (plain_answers c.loop-k.slots) (plain_answers c.search_rows.new.slots) 0 c.loop-k.state.taken
+          c.search_rows.new.self.taken c.loop-k-test.true (omega arith) c.loop-k.invariant.searched
+          (searches_before _ c.loop-k.state c.loop-k.invariant.input rows.searched);
+    }

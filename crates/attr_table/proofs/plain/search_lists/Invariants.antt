@@ -1,11 +1,13 @@
-use Rattle.std.proofs.Common.{◌≡◌, [], drop}
-use Rattle.attr_table.specs.Walk.{tasks_of, Searches}
-use Rattle.attr_table.specs.Plain.{answers_in, bodies_in, lists_of}
+use Rattle.std.proofs.Common.{◌≡◌, [], drop, length}
+use Rattle.attr_table.specs.inner.Walk.{tasks_of, Searches}
+use Rattle.attr_table.specs.inner.Plain.{IsSearchState, KeepsInput, plain_answers, plain_bodies, plain_lists}
 use Rattle.attr_table.proofs.plain.search_lists.Given as goal
 
 abbrev pub invariant-loop-k : goal.invariant-loop-k
 invariant-loop-k l = record {
-  empty : l.stack.items ≡ [];
-  searched : Searches (bodies_in l.bodies) l.wanted (tasks_of (lists_of (drop l.k l.lists)))
-      (answers_in l.initial.slots) (answers_in l.slots) 0 l.taken;
+  state : IsSearchState (length l.slots) l.state;
+  input : KeepsInput l.initial.state l.state;
+  empty : l.state.stack.items ≡ [];
+  searched : Searches (plain_bodies l.initial.state.bodies.now) l.initial.state.wanted.now (tasks_of (plain_lists (drop l.k l.lists)))
+      (plain_answers l.initial.slots) (plain_answers l.slots) 0 l.state.taken;
 }

@@ -1,4 +1,4 @@
--- The first word is what stands before the first blank, behind the blanks in front.
+-- The first word is the text before the first blank, after the blanks in front.
 use Rattle.std.proofs.Common.{◌≡◌, ◌<◌, length, sym, arith}
 use Rattle.std.proofs.lemmas.Bool.{eqb-true, eqb-false}
 use Rattle.attr_text.proofs.WordLemmas.{words-step, words-end}

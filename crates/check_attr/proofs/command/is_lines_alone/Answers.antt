@@ -1,4 +1,4 @@
--- The one argument is the text exactly where its bytes are the text's.
+-- The one argument is the text if and only if its bytes are the text's.
 use Rattle.std.proofs.Common.{◌≡◌, Bool, List, ℕ, [], ◌∷◌, length, map, string_bytes, codes, sym, ap, ◌∙◌, subst, arith}
 use Rattle.std.specs.Bool.{Decides}
 use Rattle.std.proofs.lemmas.Slice.Eq.{bytes_eq-Decides}
@@ -13,5 +13,6 @@ returns-in-len1 c =
     let shown : map string_bytes args ≡ string_bytes item ∷ [] = ap (map string_bytes) (one_item args item one c.only-item.is) in
     let text : c.as_str.result.now ≡ string_bytes item = c.as_str.ensures.value in
     let same : Decides c.eq.result (c.as_str.result.now ≡ codes "--lines") =
-    subst (λ (r : Bool). Decides r (c.as_str.result.now ≡ codes "--lines")) (sym c.eq.ensures) (bytes_eq-Decides c.as_str.result.now (codes "--lines")) in
+    subst (λ (r : Bool). Decides r (c.as_str.result.now ≡ codes "--lines")) (sym c.eq.ensures)
+    (bytes_eq-Decides c.as_str.result.now (codes "--lines")) in
     (λ yes. shown ∙ ap (λ (t : List ℕ). t ∷ []) (sym text ∙ same.0 yes), λ is. same.1 (text ∙ same_item _ _ (sym shown ∙ is)))

@@ -3,13 +3,14 @@ use Rattle.std.specs.Fmt.{decimal}
 use Rattle.std.proofs.KnownBytes.{Appends-trans}
 use Rattle.std.specs.Io.KnownBytes.{Appends}
 use Rattle.check_attr.specs.Failures.{AppendsFront}
-use Rattle.check_attr.proofs.SayLemmas.{Front-longer, Front-later, on_err, still_ok, still_err}
+use Rattle.check_attr.proofs.PrintLemmas.{Front-longer, Front-later, on_err, still_ok, still_err}
 use Rattle.check_attr.proofs.command.write_malformed.Goals as goal
 
 pub returns-in_err-write_all-clause-front : goal.returns-in_err-write_all-clause-front
 returns-in_err-write_all-clause-front g c =
     on_err c.from_residual.result _
-    (Front-longer (g.E.Push.contents c.args.errors.now) (g.E.Push.contents c.write_all.new.writer) (codes "check_attr: malformed record ") (decimal c.args.number ++ codes "\n") c.in_err-write_all.ensures.front)
+    (Front-longer (g.E.Push.contents c.args.errors.now) (g.E.Push.contents c.write_all.new.writer) (codes "check_attr: malformed record ")
+    (decimal c.args.number ++ codes "\n") c.in_err-write_all.ensures.front)
 
 pub returns-in_err-write_all-2-clause-front : goal.returns-in_err-write_all-2-clause-front
 returns-in_err-write_all-2-clause-front g c =
@@ -17,7 +18,8 @@ returns-in_err-write_all-2-clause-front g c =
     let new = g.E.Push.contents c.write_all-2.new.writer in
     let digits : c.as_bytes.result.now ≡ decimal c.args.number = c.as_bytes.ensures.value ∙ c.format.ensures.text in
     on_err c.from_residual-in_err-write_all-2.result _
-    (Front-later (g.E.Push.contents c.args.errors.now) mid new (codes "check_attr: malformed record ") (decimal c.args.number ++ codes "\n") c.in_ok-write_all.ensures.ok
+    (Front-later (g.E.Push.contents c.args.errors.now) mid new (codes "check_attr: malformed record ") (decimal c.args.number ++ codes "\n")
+    c.in_ok-write_all.ensures.ok
     (Front-longer mid new (decimal c.args.number) (codes "\n") (subst (AppendsFront mid new) digits c.in_err-write_all-2.ensures.front)))
 
 pub returns-clause-ok : goal.returns-clause-ok

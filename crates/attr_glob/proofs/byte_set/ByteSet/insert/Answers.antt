@@ -1,5 +1,5 @@
 use Rattle.std.proofs.Common.{◌≡◌, ◌/◌, ◌%◌, length, arith, ap, ◌∙◌, rules}
-use Rattle.attr_glob.specs.ByteSets.{is_marked}
+use Rattle.attr_glob.specs.inner.ByteSets.{is_marked}
 use Rattle.attr_glob.proofs.ByteSetLemmas.{marked, with_word}
 use Rattle.attr_glob.proofs.byte_set.ByteSet.insert.Goals as goal
 

@@ -3,7 +3,7 @@ use Rattle.std.specs.List.{starts_with, ends_with}
 use Rattle.std.specs.Cmp.Lexicographic.{pointwise}
 use Rattle.attr_glob.specs.Patterns.{is_wildcard, is_suffix, has_flag, ends_with as ends_with_flag}
 use Rattle.attr_glob.specs.Matching.{same_byte}
-use Rattle.attr_glob.specs.Views.{pattern_read}
+use Rattle.attr_glob.specs.Views.{pattern_view}
 use Rattle.attr_glob.proofs.Literals.{text_matches-literal, text_matches-suffix, text_matches-front, no_wildcard, place_inside}
 use Rattle.attr_glob.proofs.PathLemmas.{reading-wildcard, reading-ends_with}
 use Rattle.attr_glob.proofs.pattern.Pattern.answer_by_bytes.Goals as goal
@@ -11,20 +11,21 @@ use Rattle.attr_glob.proofs.pattern.Pattern.answer_by_bytes.Goals as goal
 pub returns-in_default-clause-matched : goal.returns-in_default-clause-matched
 returns-in_default-clause-matched c = λ text read.
     let own = c.args.self.now.text.items in
-    let none : position is_wildcard own ≡ None = sym (reading-wildcard text (pattern_read c.args.self.now) read) ∙ c.in_default.is in
-    c.is_same.ensures
+    let none : position is_wildcard own ≡ None = sym (reading-wildcard text (pattern_view c.args.self.now) read) ∙ c.in_default.is in
+    c.same_text.ensures.bytes
     ∙ (ap (λ t. pointwise (same_byte c.args.case) t c.args.value.now) c.as_slice-text.ensures.value
     ∙ sym (text_matches-literal c.args.case own c.args.value.now (no_wildcard own none)))
 
 pub returns-then-not-starts_with-clause-matched : goal.returns-then-not-starts_with-clause-matched
 returns-then-not-starts_with-clause-matched c = λ text read.
     let own = c.args.self.now.text.items in
-    let found : position is_wildcard own ≡ Some c.in-Some.place = sym (reading-wildcard text (pattern_read c.args.self.now) read) ∙ c.in-Some.is in
+    let found : position is_wildcard own ≡ Some c.in-Some.place = sym (reading-wildcard text (pattern_view c.args.self.now) read) ∙ c.in-Some.is in
     let inside = place_inside own c.in-Some.place found in
     let same = c.as_slice-text.ensures.value in
     let long : length c.as_slice-text.result.now ≡ length own = ap length same in
     let place : c.min.result ≡ c.in-Some.place = omega (arith, c.min.ensures) in
-    let front : take c.min.result c.as_slice-text.result.now ≡ take c.in-Some.place own = ap (λ n. take n c.as_slice-text.result.now) place ∙ ap (take c.in-Some.place) same in
+    let front : take c.min.result c.as_slice-text.result.now ≡ take c.in-Some.place own = ap (λ n. take n c.as_slice-text.result.now) place ∙ ap
+    (take c.in-Some.place) same in
     let other : starts_with (same_byte c.args.case) c.args.value.now (take c.in-Some.place own) ≡ false =
     sym (ap (starts_with (same_byte c.args.case) c.args.value.now) front) ∙ (sym c.starts_with.ensures ∙ c.if-not-starts_with.true) in
     sym (text_matches-front c.args.case own c.args.value.now c.in-Some.place found other)
@@ -32,10 +33,10 @@ returns-then-not-starts_with-clause-matched c = λ text read.
 pub returns-then-not-has_slash-clause-matched : goal.returns-then-not-has_slash-clause-matched
 returns-then-not-has_slash-clause-matched c = λ text read.
     let own = c.args.self.now.text.items in
-    let r = pattern_read c.args.self.now in
+    let r = pattern_view c.args.self.now in
     let flag : has_flag r.mode ends_with_flag ≡ true = sym (c.contains.ensures tt) ∙ c.if-contains.true in
     let suffix : is_suffix own ≡ true = sym (reading-ends_with text r read) ∙ flag in
     let bare = sym c.has_slash.ensures ∙ c.if-not-has_slash.true in
     c.ends_with.ensures
-    ∙ (ap (ends_with (same_byte c.args.case) c.args.value.now) (c.behind_star.ensures ∙ ap (drop 1) c.as_slice-text.ensures.value)
+    ∙ (ap (ends_with (same_byte c.args.case) c.args.value.now) (c.after_star.ensures ∙ ap (drop 1) c.as_slice-text.ensures.value)
     ∙ sym (text_matches-suffix c.args.case own c.args.value.now suffix bare))

@@ -1,13 +1,13 @@
 use Rattle.std.proofs.Common.{sym, ap, ◌∙◌}
 use Rattle.bstr.specs.BStr.{bstr_bytes}
 use Rattle.attr_glob.specs.Paths.{matched_part}
-use Rattle.attr_glob.specs.Views.{pattern_read}
+use Rattle.attr_glob.specs.Views.{pattern_view}
 use Rattle.attr_glob.proofs.PathLemmas.{path_answer}
 use Rattle.attr_glob.proofs.pattern.Pattern.matches_repo_relative_path.Goals as goal
 
 pub returns-in-Some-clause-matched : goal.returns-in-Some-clause-matched
 returns-in-Some-clause-matched c = λ text read.
-    let r = pattern_read c.args.self.now in
+    let r = pattern_view c.args.self.now in
     path_answer c.args.case r (bstr_bytes c.args.path) c.matched_part-value.result.now c.args.is_dir c.in-Some.answer
     (sym c.takes_kind.ensures ∙ c.if-not-takes_kind.false)
     (c.matched_part-value.ensures ∙ ap (matched_part r) c.as_bytes.ensures) (c.in-Some.ensures.matched text read)

@@ -1,4 +1,4 @@
--- By the first quote or backslash behind the opening quote.
+-- By the first quote or backslash after the opening quote.
 use Rattle.std.proofs.Common.{◌≢◌, ◌-◌, length, drop, take, get_or, position, ap, sym, ◌∙◌, arith}
 use Rattle.std.proofs.lemmas.Slice.{between_to_end}
 use Rattle.attr_glob.specs.Bytes.{quote}
@@ -9,50 +9,50 @@ use Rattle.attr_glob.proofs.quote.ansi_c.undo.Goals as goal
 pub returns-in_default-first_mark-clause-refused : goal.returns-in_default-first_mark-clause-refused
 returns-in_default-first_mark-clause-refused c =
     let text = c.as_bytes-text.result.now in
-    let behind = between_to_end text 1 (length text) (omega arith) in
+    let tail = between_to_end text 1 (length text) (omega arith) in
     let quoted : BeginsQuoted text = omega arith in
-    rw (← c.as_bytes-text.ensures) (undone-unmarked text quoted (ap (position is_mark) (sym behind) ∙ sym c.in_default-first_mark.ensures))
+    rw (← c.as_bytes-text.ensures) (undone-unmarked text quoted (ap (position is_mark) (sym tail) ∙ sym c.in_default-first_mark.ensures))
 
-pub returns-then-behind-front_len-eq34-clause-value : goal.returns-then-behind-front_len-eq34-clause-value
-returns-then-behind-front_len-eq34-clause-value c =
+pub returns-then-tail-front_len-eq34-clause-value : goal.returns-then-tail-front_len-eq34-clause-value
+returns-then-tail-front_len-eq34-clause-value c =
     let text = c.as_bytes-text.result.now in
-    let behind = between_to_end text 1 (length text) (omega arith) in
+    let tail = between_to_end text 1 (length text) (omega arith) in
     let quoted : BeginsQuoted text = omega arith in
-    let at_quote = rw behind at c.if-behind-front_len-eq34.true in
-    let found = ap (position is_mark) (sym behind) ∙ sym c.in-Some.ensures in
-    rw (← c.as_bytes-text.ensures, behind) (undone-marked text c.in-Some.front_len quoted found at_quote)
+    let at_quote = rw tail at c.if-tail-front_len-eq34.true in
+    let found = ap (position is_mark) (sym tail) ∙ sym c.in-Some.ensures in
+    rw (← c.as_bytes-text.ensures, tail) (undone-marked text c.in-Some.front_len quoted found at_quote)
 
-pub returns-then-behind-front_len-eq34-clause-lent : goal.returns-then-behind-front_len-eq34-clause-lent
-returns-then-behind-front_len-eq34-clause-lent c =
+pub returns-then-tail-front_len-eq34-clause-lent : goal.returns-then-tail-front_len-eq34-clause-lent
+returns-then-tail-front_len-eq34-clause-lent c =
     let text = c.as_bytes-text.result.now in
-    let behind = between_to_end text 1 (length text) (omega arith) in
-    let at_quote = rw behind at c.if-behind-front_len-eq34.true in
-    let found = ap (position is_mark) (sym behind) ∙ sym c.in-Some.ensures in
+    let tail = between_to_end text 1 (length text) (omega arith) in
+    let at_quote = rw tail at c.if-tail-front_len-eq34.true in
+    let found = ap (position is_mark) (sym tail) ∙ sym c.in-Some.ensures in
     rw (← c.as_bytes-text.ensures) (λ none. absurd none, no_escape text c.in-Some.front_len found at_quote)
 
 pub undo_escapes-requires : goal.undo_escapes-requires
 undo_escapes-requires c =
     let text = c.as_bytes-text.result.now in
-    let behind = between_to_end text 1 (length text) (omega arith) in
-    let found = ap (position is_mark) (sym behind) ∙ sym c.in-Some.ensures in
+    let tail = between_to_end text 1 (length text) (omega arith) in
+    let found = ap (position is_mark) (sym tail) ∙ sym c.in-Some.ensures in
     let quoted : BeginsQuoted text = omega arith in
     let no_quote : get_or (take (length text - 1) (drop 1 text)) c.in-Some.front_len 0 ≢ quote = λ e. omega arith in
-    HoldsEscape-marked text c.in-Some.front_len quoted found (rw behind at no_quote)
+    HoldsEscape-marked text c.in-Some.front_len quoted found (rw tail at no_quote)
 
 pub returns-clause-lent : goal.returns-clause-lent
 returns-clause-lent c =
     let text = c.as_bytes-text.result.now in
-    let behind = between_to_end text 1 (length text) (omega arith) in
-    let found = ap (position is_mark) (sym behind) ∙ sym c.in-Some.ensures in
+    let tail = between_to_end text 1 (length text) (omega arith) in
+    let found = ap (position is_mark) (sym tail) ∙ sym c.in-Some.ensures in
     let quoted : BeginsQuoted text = omega arith in
     let no_quote : get_or (take (length text - 1) (drop 1 text)) c.in-Some.front_len 0 ≢ quote = λ e. omega arith in
-    rw (← c.as_bytes-text.ensures) (λ _. HoldsEscape-marked text c.in-Some.front_len quoted found (rw behind at no_quote), λ _. tt)
+    rw (← c.as_bytes-text.ensures) (λ _. HoldsEscape-marked text c.in-Some.front_len quoted found (rw tail at no_quote), λ _. tt)
 
 pub returns-in_err-plain-clause-memory : goal.returns-in_err-plain-clause-memory
 returns-in_err-plain-clause-memory c =
     let text = c.as_bytes-text.result.now in
-    let behind = between_to_end text 1 (length text) (omega arith) in
-    let found = ap (position is_mark) (sym behind) ∙ sym c.in-Some.ensures in
+    let tail = between_to_end text 1 (length text) (omega arith) in
+    let found = ap (position is_mark) (sym tail) ∙ sym c.in-Some.ensures in
     let quoted : BeginsQuoted text = omega arith in
     let no_quote : get_or (take (length text - 1) (drop 1 text)) c.in-Some.front_len 0 ≢ quote = λ e. omega arith in
-    rw (← c.as_bytes-text.ensures) (λ _. HoldsEscape-Contains text (HoldsEscape-marked text c.in-Some.front_len quoted found (rw behind at no_quote)))
+    rw (← c.as_bytes-text.ensures) (λ _. HoldsEscape-Contains text (HoldsEscape-marked text c.in-Some.front_len quoted found (rw tail at no_quote)))

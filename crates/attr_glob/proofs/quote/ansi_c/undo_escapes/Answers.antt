@@ -12,7 +12,8 @@ loop-place-preserved-in-92 c =
     let place = c.loop-place.place in
     let read : Some (c.in-Some.byte, c.in-Some.len) ≡ escaped (drop (place + 1) text) =
     c.in-Some.ensures ∙ ap escaped (between_to_end text (place + 1) (length text) (omega arith)) in
-    let turn = undone_from-escape text c.loop-place.plain.items place (c.in-Some.byte, c.in-Some.len) (omega arith) c.in-92.is read (undone text) c.loop-place.invariant.1 in
+    let turn = undone_from-escape text c.loop-place.plain.items place (c.in-Some.byte, c.in-Some.len) (omega arith) c.in-92.is read (undone text)
+    c.loop-place.invariant.1 in
     (turn.inside, rw c.in_ok-push-in-92.ensures.items turn.so_far)
 
 pub loop-place-preserved : goal.loop-place-preserved

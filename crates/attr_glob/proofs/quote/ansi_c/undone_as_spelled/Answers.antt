@@ -1,7 +1,8 @@
 -- Each text is one of four, and each of the four has one answer.
 use Rattle.std.proofs.Common.{◌≡◌, ℕ, List, Ok, Err, ap}
 use Rattle.attr_glob.specs.Quotes.{undone, IsQuoted, IsUnclosed, IsBadEscape, BeginsQuoted, not_quoted, unclosed, bad_escape}
-use Rattle.attr_glob.proofs.Outcomes.{undone-IsQuoted, undone-IsUnclosed, undone-IsBadEscape, undone-unquoted, Outcome, quoted, ends, bad, plain_text, outcome}
+use Rattle.attr_glob.proofs.Outcomes.{undone-IsQuoted, undone-IsUnclosed, undone-IsBadEscape, undone-unquoted, Outcome, quoted, ends, bad, plain_text}
+use Rattle.attr_glob.proofs.Outcomes.{outcome}
 use Rattle.attr_glob.proofs.quote.ansi_c.undone_as_spelled.Goals as goal
 
 IsQuoted-undone : (text plain : List ℕ) (taken : ℕ) → Outcome text → undone text ≡ Ok (plain, taken) → IsQuoted text plain taken

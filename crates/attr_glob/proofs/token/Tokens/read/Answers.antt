@@ -1,8 +1,9 @@
 use Rattle.std.proofs.Common.{◌≡◌, ◌+◌, ◌≤◌, suc, length, true, Some, [], ◌∷◌, ◌++◌, arith, ap, sym, ◌∙◌, refl}
 use Rattle.std.proofs.lemmas.List.{length_push}
-use Rattle.attr_glob.specs.Tokens.{tokens_from, token_at, ends_in_slash}
+use Rattle.attr_glob.specs.Tokens.{tokens_from, token_at, token_ends_in_slash}
 use Rattle.attr_glob.specs.TokenList.{token_of, tokens_of, is_bordered}
-use Rattle.attr_glob.proofs.TokenLemmas.{after, after-nil, tokens_more, tokens_of-push, length-tokens_of, bordered-push, border_after, border_after-push, token_at-fits, fits_border}
+use Rattle.attr_glob.proofs.TokenLemmas.{after, after-nil, tokens_more, tokens_of-push, length-tokens_of, bordered-push, border_after}
+use Rattle.attr_glob.proofs.TokenLemmas.{border_after-push, token_at-fits, fits_border}
 use Rattle.attr_glob.proofs.token.Tokens.read.Goals as goal
 
 pub loop-byte-init : goal.loop-byte-init
@@ -16,9 +17,9 @@ returns-clause-few c = rw length-tokens_of (omega (arith, c.loop-byte.invariant.
 pub loop-byte-preserved : goal.loop-byte-preserved
 loop-byte-preserved c =
     let b = c.in-Some.byte.now in
-    let bs = c.in-Some.behind.now in
+    let bs = c.in-Some.tail.now in
     let t = token_of c.in-Some-2.token in
-    let rest = c.in-Some-2.behind.now in
+    let rest = c.in-Some-2.tail.now in
     let list = c.loop-byte.list.items in
     let before = c.loop-byte.invariant in
     let split : c.loop-byte.rest.now ≡ b ∷ bs = c.in-Some.ensures.cases.0 in
@@ -30,12 +31,12 @@ loop-byte-preserved c =
     let pushed : c.push.new.self.items ≡ list ++ c.in-Some-2.token ∷ [] = c.in_ok-push-in-Some-2.ensures.items in
     let meant : tokens_of c.push.new.self.items ≡ tokens_of list ++ t ∷ [] = ap tokens_of pushed ∙ tokens_of-push list c.in-Some-2.token in
     let longer : length c.push.new.self.items ≡ length list + 1 = ap length pushed ∙ length_push list c.in-Some-2.token in
-    let slash : c.ends_in_slash-border.result ≡ ends_in_slash t = c.ends_in_slash-border.ensures in (
+    let slash : c.ends_in_slash-border.result ≡ token_ends_in_slash t = c.ends_in_slash-border.ensures in (
       omega (arith, before.0),
       next.0,
       next.1,
       before.3 ∙ (ap (λ s. after (tokens_of list) (tokens_from before.1 c.loop-byte.border s)) split ∙
-          (next.2 ∙ (ap (λ x. after x (tokens_from next.0 (ends_in_slash t) rest)) (sym meant) ∙
+          (next.2 ∙ (ap (λ x. after x (tokens_from next.0 (token_ends_in_slash t) rest)) (sym meant) ∙
           ap (λ x. after (tokens_of c.push.new.self.items) (tokens_from next.0 x rest)) (sym slash)))),
       ap (is_bordered true) meant ∙
           bordered-push true (tokens_of list) t before.4 (ap (λ x. fits_border x t) before.5 ∙ token_at-fits c.loop-byte.border b bs t rest read),

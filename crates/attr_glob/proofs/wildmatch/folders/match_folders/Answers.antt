@@ -6,6 +6,6 @@ use Rattle.attr_glob.proofs.wildmatch.folders.match_folders.Goals as goal
 
 pub returns-in-None-clause-matched : goal.returns-in-None-clause-matched
 returns-in-None-clause-matched c =
-    let f = matches c.args.case (tokens_of c.args.behind.now) in
-    exact_answer c.args.case (tokens_of c.args.tokens.now) c.loop-row.rest.now c.run.result.0 c.run.ensures.matched.0 c.run.ensures.matched.1
-    ∙ (ap (λ ts. matches c.args.case ts c.loop-row.rest.now) c.requires.folder ∙ sym c.loop-row.invariant.0)
+    let f = matches c.args.case (tokens_of c.args.others.now) in
+    exact_answer c.args.case (tokens_of c.args.tokens.now) c.loop-rows.rest.now c.run.result.0 c.run.ensures.matched.0 c.run.ensures.matched.1
+    ∙ (ap (λ ts. matches c.args.case ts c.loop-rows.rest.now) c.requires.folder ∙ sym c.loop-rows.invariant.0)

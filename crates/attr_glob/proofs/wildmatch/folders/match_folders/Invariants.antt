@@ -1,15 +1,14 @@
 -- All tokens match the value exactly where they match from this folder on. The buffers keep their room.
-use Rattle.std.proofs.Common.{◌≡◌, ◌≤◌, ◌||◌, length, vec_capacity}
+use Rattle.std.proofs.Common.{◌≡◌, ◌≤◌, ◌||◌, length, min, vec_capacity}
 use Rattle.attr_glob.specs.Deciding.{slash_then, matches}
 use Rattle.attr_glob.specs.TokenList.{tokens_of}
 use Rattle.attr_glob.proofs.wildmatch.folders.match_folders.Given as goal
 
-abbrev pub invariant-loop-row : goal.invariant-loop-row
-invariant-loop-row l =
+abbrev pub invariant-loop-rows : goal.invariant-loop-rows
+invariant-loop-rows l =
     (matches l.case (tokens_of l.tokens) l.value ≡
-    (matches l.case (tokens_of l.behind) l.rest || slash_then (matches l.case (tokens_of l.behind)) l.rest))
-    × (vec_capacity l.fn.row ≤ vec_capacity l.row)
-    × (vec_capacity l.fn.next ≤ vec_capacity l.next)
+    (matches l.case (tokens_of l.others) l.rest || slash_then (matches l.case (tokens_of l.others)) l.rest))
+    × (l.fn.rows ≤ min (vec_capacity l.rows-inside.row) (vec_capacity l.rows-inside.next))
 
-abbrev pub decreases-loop-row : goal.decreases-loop-row
-decreases-loop-row l = length l.rest
+abbrev pub decreases-loop-rows : goal.decreases-loop-rows
+decreases-loop-rows l = length l.rest

@@ -7,7 +7,8 @@ use Rattle.attr_glob.proofs.wildmatch.folders.takes_whole.Goals as goal
 
 pub returns-in-Star : goal.returns-in-Star
 returns-in-Star c = λ case.
-    ap not c.has_slash.ensures ∙ (sym (star_alone case c.args.value.now) ∙ ap (λ t. matches case (token_of t ∷ []) c.args.value.now) (sym c.in-Star.is))
+    ap not c.has_slash.ensures ∙ (sym (star_alone case c.args.value.now) ∙ ap (λ t. matches case (token_of t ∷ []) c.args.value.now)
+    (sym c.in-Star.is))
 
 pub returns-then-is_empty : goal.returns-then-is_empty
 returns-then-is_empty c = λ case.

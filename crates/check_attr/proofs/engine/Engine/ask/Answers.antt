@@ -4,17 +4,17 @@ use Rattle.std.specs.Prelude.{◌==◌}
 use Rattle.std.specs.List.{flat_map}
 use Rattle.std.specs.Borrow.{Bor}
 use Rattle.std.proofs.lemmas.List.{length-map}
-use Rattle.attr_lists.proofs.Lists.{on_ok}
-use Rattle.attr_table.specs.Cut.{IsSearched}
+use Rattle.attr_lists.proofs.ForCallers.{on_ok}
+use Rattle.gix_attributes.specs.Cut.{IsSearched}
 use Rattle.gix_attributes.specs.Contents.{found_in, selected_in, wanted_of}
 use Rattle.gix_attributes.specs.Searching.{answers_in, setting_for}
-use Rattle.gix_attributes.specs.SearchViews.{lists_in, marks_in}
-use Rattle.check_attr.specs.EngineViews.{texts_of}
-use Rattle.check_attr.specs.MatchText.{matched_text, specified_match_text}
+use Rattle.gix_attributes.specs.SearchViews.{lists_in, list_ids_in}
+use Rattle.check_attr.specs.inner.EngineViews.{selected_texts}
+use Rattle.check_attr.specs.inner.MatchText.{matched_text, specified_match_text}
 use Rattle.check_attr.specs.ScriptText.{IsAnswerText}
-use Rattle.check_attr.specs.ScriptViews.{question_seen}
-use Rattle.check_attr.proofs.AnswerLemmas.{unselected, with_selection, emptied-kept}
-use Rattle.check_attr.proofs.KnownLemmas.{always_ok, same_count}
+use Rattle.check_attr.specs.inner.ScriptViews.{question_view}
+use Rattle.check_attr.proofs.AnswerLemmas.{unselected, with_selection, reset_content-kept}
+use Rattle.check_attr.proofs.RegistrationLemmas.{always_ok, same_count}
 use Rattle.check_attr.proofs.engine.Engine.ask.Goals as goal
 
 pub returns-then-is_empty-clause-sound : goal.returns-then-is_empty-clause-sound
@@ -23,28 +23,32 @@ returns-then-is_empty-clause-sound c =
     always_ok c.push_specified.result _ (record {
       held = ready.held;
       known = ready.known;
-      current = λ yes. emptied-kept c.prepare.new.self.outcome c.pattern_matching_relative_path.new.out c.in_ok-pattern_matching_relative_path.ensures.kept ∙ ready.current yes;
+      current = λ yes. reset_content-kept c.prepare.new.self.outcome c.pattern_matching_relative_path.new.out
+          c.in_ok-pattern_matching_relative_path.ensures.kept ∙ ready.current yes;
     })
 
 pub returns-then-is_empty-clause-text : goal.returns-then-is_empty-clause-text
 returns-then-is_empty-clause-text c =
     let engine = c.prepare.new.self in
     let after = c.pattern_matching_relative_path.new.out in
-    let said = c.in_ok-pattern_matching_relative_path.ensures in
-    let q = question_seen c.args.question in
+    let found = c.in_ok-pattern_matching_relative_path.ensures in
+    let q = question_view c.args.question in
     let sel = engine.selection in
     let count : length sel.items ≡ vec_len sel = omega (arith, sel.ok) in
-    let none : (length (texts_of sel.items) == 0) ≡ true =
-    ap (λ n. n == 0) (length-map sel.items (λ (name : Bor (List ℕ)). name.now)) ∙ ((ap (λ n. n == 0) count ∙ sym c.is_empty.ensures) ∙ c.if-is_empty.true) in
-    let searched = subst (λ path. IsSearched (setting_for (lists_in engine.search) engine.outcome path q.case q.is_dir) (wanted_of engine.outcome) (answers_in engine.outcome) (answers_in after))
-    c.from.ensures said.searched in
-    let told = unselected engine.collection (marks_in engine.search) (lists_in engine.search) (texts_of sel.items) q engine.outcome after
-    (same_count engine.search) c.in_ok-prepare.ensures.sound.known c.in_ok-prepare.ensures.empty searched said.named said.kept none in
+    let none : (length (selected_texts sel.items) == 0) ≡ true =
+    ap (λ n. n == 0) (length-map sel.items (λ (name : Bor (List ℕ)). name.now)) ∙
+    ((ap (λ n. n == 0) count ∙ sym c.is_empty.ensures) ∙ c.if-is_empty.true) in
+    let searched = subst (λ path. IsSearched (setting_for (lists_in engine.search) engine.outcome path q.case q.is_dir) (wanted_of engine.outcome)
+    (answers_in engine.outcome) (answers_in after))
+    c.from.ensures found.searched in
+    let answers = unselected engine.collection (list_ids_in engine.search) (lists_in engine.search) (selected_texts sel.items) q
+    engine.outcome after (same_count engine.search) c.in_ok-prepare.ensures.sound.known c.in_ok-prepare.ensures.empty searched
+    found.named found.kept none in
     let text = flat_map (specified_match_text q engine.collection.names) (found_in after.slots) in
     on_ok c.push_specified.result _ _
     (λ written. (
       text,
-      subst (λ s. IsAnswerText s q text) c.in_ok-prepare.ensures.same told,
+      subst (λ s. IsAnswerText s q text) c.in_ok-prepare.ensures.same answers,
       written ∙ ap (λ found. c.args.out.now.items ++ flat_map (specified_match_text q engine.collection.names) found) c.iter.ensures,
     ))
     c.push_specified.ensures
@@ -55,28 +59,32 @@ returns-else-is_empty-clause-sound c =
     always_ok c.push_selected.result _ (record {
       held = ready.held;
       known = ready.known;
-      current = λ yes. emptied-kept c.prepare.new.self.outcome c.pattern_matching_relative_path.new.out c.in_ok-pattern_matching_relative_path.ensures.kept ∙ ready.current yes;
+      current = λ yes. reset_content-kept c.prepare.new.self.outcome c.pattern_matching_relative_path.new.out
+          c.in_ok-pattern_matching_relative_path.ensures.kept ∙ ready.current yes;
     })
 
 pub returns-else-is_empty-clause-text : goal.returns-else-is_empty-clause-text
 returns-else-is_empty-clause-text c =
     let engine = c.prepare.new.self in
     let after = c.pattern_matching_relative_path.new.out in
-    let said = c.in_ok-pattern_matching_relative_path.ensures in
-    let q = question_seen c.args.question in
+    let found = c.in_ok-pattern_matching_relative_path.ensures in
+    let q = question_view c.args.question in
     let sel = engine.selection in
     let count : length sel.items ≡ vec_len sel = omega (arith, sel.ok) in
-    let some : (length (texts_of sel.items) == 0) ≡ false =
-    ap (λ n. n == 0) (length-map sel.items (λ (name : Bor (List ℕ)). name.now)) ∙ ((ap (λ n. n == 0) count ∙ sym c.is_empty.ensures) ∙ c.if-is_empty.false) in
-    let searched = subst (λ path. IsSearched (setting_for (lists_in engine.search) engine.outcome path q.case q.is_dir) (wanted_of engine.outcome) (answers_in engine.outcome) (answers_in after))
-    c.from.ensures said.searched in
-    let told = with_selection engine.collection (marks_in engine.search) (lists_in engine.search) (texts_of sel.items) q engine.outcome after
-    (same_count engine.search) c.in_ok-prepare.ensures.sound.known c.in_ok-prepare.ensures.empty searched said.named said.kept some in
+    let some : (length (selected_texts sel.items) == 0) ≡ false =
+    ap (λ n. n == 0) (length-map sel.items (λ (name : Bor (List ℕ)). name.now)) ∙
+    ((ap (λ n. n == 0) count ∙ sym c.is_empty.ensures) ∙ c.if-is_empty.false) in
+    let searched = subst (λ path. IsSearched (setting_for (lists_in engine.search) engine.outcome path q.case q.is_dir) (wanted_of engine.outcome)
+    (answers_in engine.outcome) (answers_in after))
+    c.from.ensures found.searched in
+    let answers = with_selection engine.collection (list_ids_in engine.search) (lists_in engine.search) (selected_texts sel.items) q
+    engine.outcome after (same_count engine.search) c.in_ok-prepare.ensures.sound.known c.in_ok-prepare.ensures.empty searched
+    found.named found.kept some in
     let text = flat_map (matched_text q engine.collection.names) (selected_in after.slots after.selection) in
     on_ok c.push_selected.result _ _
     (λ written. (
       text,
-      subst (λ s. IsAnswerText s q text) c.in_ok-prepare.ensures.same told,
+      subst (λ s. IsAnswerText s q text) c.in_ok-prepare.ensures.same answers,
       written ∙ ap (λ found. c.args.out.now.items ++ flat_map (matched_text q engine.collection.names) found) c.iter_selected.ensures,
     ))
     c.push_selected.ensures

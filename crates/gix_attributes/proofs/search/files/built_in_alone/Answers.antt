@@ -1,22 +1,26 @@
 use Rattle.std.proofs.Common.{◌≡◌, ◌∙◌, true, List, [], ℕ, None, ap, codes, string_bytes}
-use Rattle.gix_attributes.specs.Additions.{Loaded, loaded_in, with_buffer}
+use Rattle.gix_attributes.specs.Additions.{RegisteredLists, registered_lists, with_buffer}
 use Rattle.gix_attributes.specs.Globals.{built_in, built_in_source}
-use Rattle.gix_attributes.specs.SearchViews.{marks_in}
+use Rattle.gix_attributes.specs.SearchViews.{list_ids_in}
 use Rattle.attr_search.specs.Settings.{Listed}
-use Rattle.gix_attributes.proofs.FileLemmas.{buffer_added, none_held, none_marked}
+use Rattle.gix_attributes.proofs.FileLemmas.{buffer_added, none_held, no_list_ids}
 use Rattle.gix_attributes.proofs.search.files.built_in_alone.Goals as goal
 
 pub returns-clause-loaded : goal.returns-clause-loaded
 unfolding built_in built_in_source
 returns-clause-loaded c =
     let bytes : List ℕ = codes "[attr]binary -diff -merge -text" in
-    let from : List Listed → List ℕ → Loaded = λ lists marks. record { lists = lists; marks = marks; known = c.args.collection.now } in
+    let from : List Listed → List ℕ → RegisteredLists = λ lists list_ids.
+    record { lists = lists; list_ids = list_ids; known = c.args.collection.now } in
     let source : string_bytes c.in_ok-source.source ≡ codes "[builtin]" = c.in_ok-source.ensures.ok in
-    let added = buffer_added (string_bytes c.in_ok-source.source) None true bytes (loaded_in c.new-search.result c.args.collection.now) _ _ _
-    c.in_ok-add_patterns_buffer.ensures.list c.in_ok-add_patterns_buffer.ensures.marks c.in_ok-add_patterns_buffer.ensures.collection in
-    added ∙ ap (λ lists. with_buffer (string_bytes c.in_ok-source.source) None true bytes (from lists (marks_in c.new-search.result))) c.new-search.ensures
-    ∙ (ap (λ marks. with_buffer (string_bytes c.in_ok-source.source) None true bytes (from [] marks)) (none_marked c.new-search.result.patterns.items c.new-search.ensures)
+    let added = buffer_added (string_bytes c.in_ok-source.source) None true bytes (registered_lists c.new-search.result c.args.collection.now) _ _ _
+    c.in_ok-add_patterns_buffer.ensures.list c.in_ok-add_patterns_buffer.ensures.list_ids c.in_ok-add_patterns_buffer.ensures.collection in
+    added ∙ ap (λ lists. with_buffer (string_bytes c.in_ok-source.source) None true bytes (from lists (list_ids_in c.new-search.result)))
+    c.new-search.ensures
+    ∙ (ap (λ list_ids. with_buffer (string_bytes c.in_ok-source.source) None true bytes (from [] list_ids))
+    (no_list_ids c.new-search.result.patterns.items c.new-search.ensures)
     ∙ ap (λ name. with_buffer name None true bytes (from [] [])) source)
 
 pub returns-clause-held : goal.returns-clause-held
-returns-clause-held c = c.in_ok-add_patterns_buffer.ensures.held (none_held c.args.collection.now c.new-search.result.patterns.items c.new-search.ensures)
+returns-clause-held c = c.in_ok-add_patterns_buffer.ensures.held (none_held c.args.collection.now c.new-search.result.patterns.items
+    c.new-search.ensures)

@@ -6,13 +6,13 @@ use Rattle.gix_attributes.proofs.search.laws.answers_are_of_the_only_table.Goals
 pub returns : goal.returns
 returns c =
     record {
-      selected = λ lists path case is_dir before after table name number nothing searched stable selected e lt.
-          answered_by (setting_for lists before path case is_dir) (wanted_of before) (answers_in before) (answers_in after) table number nothing
-          searched stable (name_wanted before name number selected e lt);
-      unselected = λ lists path case is_dir before after table number nothing searched stable none lt.
-          answered_by (setting_for lists before path case is_dir) (wanted_of before) (answers_in before) (answers_in after) table number nothing
-          searched stable (all_wanted before number none lt);
-      others = λ lists path case is_dir before after table number nothing searched stable.
+      selected = λ lists path case is_dir before after table name number first selected e lt.
+          answered_by (setting_for lists before path case is_dir) (wanted_of before) (answers_in before) (answers_in after) table number
+          first.empty first.searched first.stable (name_wanted before name number selected e lt);
+      unselected = λ lists path case is_dir before after table number first none lt.
+          answered_by (setting_for lists before path case is_dir) (wanted_of before) (answers_in before) (answers_in after) table number
+          first.empty first.searched first.stable (all_wanted before number none lt);
+      others = λ lists path case is_dir before after table number first.
           answered_or_not (setting_for lists before path case is_dir) (wanted_of before) (answers_in before) (answers_in after) table number
-          nothing searched stable;
+          first.empty first.searched first.stable;
     }

@@ -1,5 +1,5 @@
 use Rattle.std.proofs.Common.{◌<◌, ◌∙◌, length, sym, arith}
-use Rattle.attr_search.specs.Matches.{match_seen}
+use Rattle.attr_search.specs.Matches.{match_view}
 use Rattle.gix_attributes.proofs.OutcomeLemmas.{found_next, found_skip, found_none}
 use Rattle.gix_attributes.proofs.search.matches.first_match.Goals as goal
 
@@ -7,7 +7,7 @@ pub returns-in-Some : goal.returns-in-Some
 returns-in-Some c =
     let slots = c.args.outcome.now.slots in
     let within : c.loop-number.number < length slots = omega (arith, c.loop-number-test.true, c.len-number-end.ensures) in
-    c.loop-number.invariant ∙ found_next slots c.loop-number.number (match_seen c.in-Some.found) within (sym c.in-Some.ensures)
+    c.loop-number.invariant ∙ found_next slots c.loop-number.number (match_view c.in-Some.found) within (sym c.in-Some.ensures)
 
 pub loop-number-preserved : goal.loop-number-preserved
 loop-number-preserved c =

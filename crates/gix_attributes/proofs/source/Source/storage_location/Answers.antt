@@ -16,7 +16,8 @@ returns-in-GitInstallation g c = (
 pub returns-then-is_some : goal.returns-then-is_some
 returns-then-is_some g c =
     let asked = asked_for no_system c.env_var.result ∷ [] in
-    let known : is_some (option_map string_bytes c.env_var.result) ≡ true = is_some-text c.env_var.result ∙ sym c.is_some.ensures ∙ c.if-is_some.true in (
+    let known : is_some (option_map string_bytes c.env_var.result) ≡ true = is_some-text c.env_var.result ∙ sym c.is_some.ensures ∙ c.if-is_some.true
+    in (
       asked,
       asks_one g.F.FnMut c.args.env_var no_system c.env_var.result _ (record { shown = _; shows = refl; called = c.env_var.ensures }),
       subst (λ s. IsAsked s asked) (sym c.in-System.is) refl,
@@ -27,12 +28,14 @@ returns-then-is_some g c =
 pub returns-in-System : goal.returns-in-System
 returns-in-System g c =
     let asked = asked_for no_system c.env_var.result ∷ [] in
-    let known : is_some (option_map string_bytes c.env_var.result) ≡ false = is_some-text c.env_var.result ∙ sym c.is_some.ensures ∙ c.if-is_some.false in (
+    let known : is_some (option_map string_bytes c.env_var.result) ≡ false = is_some-text c.env_var.result ∙ sym c.is_some.ensures ∙
+    c.if-is_some.false in (
       asked,
       asks_one g.F.FnMut c.args.env_var no_system c.env_var.result _ (record { shown = _; shows = refl; called = c.env_var.ensures }),
       subst (λ s. IsAsked s asked) (sym c.in-System.is) refl,
       located c.args.self System c.args.prefixes.now asked _ c.join_known-in-System.result c.in-System.is
-          (ap (λ b. if b then None else below (option_map string_bytes c.args.prefixes.now.system) (codes "etc/gitattributes")) known) c.join_known-in-System.ensures,
+          (ap (λ b. if b then None else below (option_map string_bytes c.args.prefixes.now.system) (codes "etc/gitattributes")) known)
+          c.join_known-in-System.ensures,
     )
 
 pub returns-then-not-is_unset_or_empty : goal.returns-then-not-is_unset_or_empty
@@ -55,8 +58,10 @@ returns-in-Git g c =
     let known : is_unset_or_empty config ≡ true = sym c.is_unset_or_empty.ensures ∙ c.if-not-is_unset_or_empty.false in (
       asked,
       asks_two g.F.FnMut c.args.env_var config_home c.env_var-config.result _ home c.env_var-home.result _
-          (record { shown = _; shows = refl; called = c.env_var-config.ensures }) (record { shown = _; shows = refl; called = c.env_var-home.ensures }),
+          (record { shown = _; shows = refl; called = c.env_var-config.ensures })
+          (record { shown = _; shows = refl; called = c.env_var-home.ensures }),
       subst (λ s. IsAsked s asked) (sym c.in-Git.is) (ap (λ b. config_home ∷ (if b then home ∷ [] else [])) (sym known)),
       located c.args.self Git c.args.prefixes.now asked _ c.join_known-in-Git.result c.in-Git.is
-          (ap (λ b. if b then below folder (codes ".config/git/attributes") else below config (codes "git/attributes")) known) c.join_known-in-Git.ensures,
+          (ap (λ b. if b then below folder (codes ".config/git/attributes") else below config (codes "git/attributes")) known)
+          c.join_known-in-Git.ensures,
     )

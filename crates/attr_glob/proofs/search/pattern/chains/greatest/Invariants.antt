@@ -1,6 +1,6 @@
 use Rattle.std.proofs.Common.{◌≡◌, true, take, IfSome}
 use Rattle.std.specs.List.{list_any, list_all}
-use Rattle.attr_glob.specs.Chains.{is_head, is_at_most}
+use Rattle.attr_glob.specs.inner.Chains.{is_head, is_at_most}
 use Rattle.attr_glob.proofs.search.pattern.chains.greatest.Given as goal
 
 abbrev pub invariant-loop-head : goal.invariant-loop-head

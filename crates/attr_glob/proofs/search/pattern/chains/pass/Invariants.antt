@@ -1,5 +1,5 @@
 use Rattle.std.proofs.Common.{◌≡◌, ◌++◌, map, take, drop}
-use Rattle.attr_glob.specs.Chains.{passed}
+use Rattle.attr_glob.specs.inner.Chains.{passed}
 use Rattle.attr_glob.proofs.search.pattern.chains.pass.Given as goal
 
 abbrev pub invariant-loop-head : goal.invariant-loop-head

@@ -1,15 +1,17 @@
 use Rattle.std.proofs.Common.{◌≡◌, ◌∙◌, ◌+◌, ◌∷◌, [], ◌++◌, List, Vec, Global, map, drop, string_bytes, sym, ap, subst, arith}
 use Rattle.std.proofs.lemmas.List.{map-append, take_all}
-use Rattle.attr_lists.specs.declared.search.Dropped.{Dropped}
-use Rattle.gix_attributes.specs.Additions.{IsIo, RefusedBy, Loaded}
+use Rattle.attr_lists.specs.declared.types.Dropped.{Dropped}
+use Rattle.gix_attributes.specs.Additions.{IsIo, RefusedBy, RegisteredLists}
 use Rattle.gix_attributes.specs.Globals.{Globals, globals_in, RefusesGlobals}
-use Rattle.gix_attributes.proofs.GlobalLemmas.{AreAdded, none_added, one_added, refused_between, refused_by, fails_later, of_error, names_parted, one_more_name, with_one_more}
+use Rattle.gix_attributes.proofs.GlobalLemmas.{AreAdded, none_added, one_added, refused_between, refused_by, fails_later, of_error, names_parted}
+use Rattle.gix_attributes.proofs.GlobalLemmas.{one_more_name, with_one_more}
 use Rattle.gix_attributes.proofs.search.attributes.Search.new_globals_from.Goals as goal
 
 pub loop-name-init : goal.loop-name-init
 loop-name-init g c =
     let bytes : List (Vec Dropped Global) → List (List Dropped) = λ all. map (λ lines. lines.items) all in
-    let with : Loaded → List (Vec Dropped Global) → Globals = λ loaded all. record { loaded = loaded; dropped = bytes all; left = c.args.buf.now.items } in
+    let with : RegisteredLists → List (Vec Dropped Global) → Globals = λ loaded all. record
+    { loaded = loaded; dropped = bytes all; left = c.args.buf.now.items } in
     record {
       added = none_added g.F.Files.reads c.args.files.now c.args.collection.now c.args.buf.now.items _
           (ap (λ loaded. with loaded c.new-dropped.result.items) c.in_ok-search.ensures.loaded ∙ ap (with _) c.new-dropped.ensures.items);
@@ -37,13 +39,19 @@ pub returns-in_err-added-clause-refused : goal.returns-in_err-added-clause-refus
 returns-in_err-added-clause-refused g c = of_error c.from_residual-in_err-added.result _ _ c.from_residual-in_err-added.ensures.1 (λ e is.
     let i = c.loop-name.name-index in
     let names = c.args.names.now in
-    let said = c.in_err-added.ensures in
-    let next = one_more_name string_bytes names i c.name-item.result (string_bytes c.in_ok-source.source) c.loop-name-test.true c.name-item.is c.in_ok-source.ensures.cases in
-    let refused = refused_by g.F.Files.reads c.args.files.now c.loop-name.files c.add_patterns_file_from.new.files _ (string_bytes c.in_ok-source.source)
-    (map string_bytes (drop (i + 1) names)) _ c.args.collection.now _ _ said.read.0 e c.loop-name.invariant.added said.read.1
+    let ensured = c.in_err-added.ensures in
+    let next = one_more_name string_bytes names i c.name-item.result (string_bytes c.in_ok-source.source) c.loop-name-test.true c.name-item.is
+    c.in_ok-source.ensures.cases in
+    let refused = refused_by g.F.Files.reads c.args.files.now c.loop-name.files c.add_patterns_file_from.new.files _
+    (string_bytes c.in_ok-source.source)
+    (map string_bytes (drop (i + 1) names)) _ c.args.collection.now _ _ ensured.read.0 e c.loop-name.invariant.added ensured.read.1
     (ap (λ ns. ns ++ map string_bytes (drop (i + 1) names)) next ∙ names_parted string_bytes names (i + 1))
-    (subst (RefusedBy said.read.0) (sym is) said.read.2) in
-    (refused.0, refused.1, subst (λ known. RefusesGlobals (map string_bytes names) refused.0 c.args.collection.now known e) (sym said.unchanged) refused.2))
+    (subst (RefusedBy ensured.read.0) (sym is) ensured.read.2) in (
+      refused.0,
+      refused.1,
+      subst (λ known. RefusesGlobals (map string_bytes names) refused.0 c.args.collection.now known e) (sym ensured.unchanged)
+          refused.2,
+    ))
 
 pub returns-in_err-added-clause-device : goal.returns-in_err-added-clause-device
 returns-in_err-added-clause-device g c = of_error c.from_residual-in_err-added.result _ _ c.from_residual-in_err-added.ensures.1 (λ e is. λ io.
@@ -56,28 +64,37 @@ pub loop-name-preserved : goal.loop-name-preserved
 loop-name-preserved g c =
     let i = c.loop-name.name-index in
     let names = c.args.names.now in
-    let said = c.in_ok-added.ensures in
-    let file = said.read.2 in
+    let ensured = c.in_ok-added.ensures in
+    let file = ensured.read.2 in
     let bytes : Vec Dropped Global → List Dropped = λ lines. lines.items in
-    let next = one_more_name string_bytes names i c.name-item.result (string_bytes c.in_ok-source.source) c.loop-name-test.true c.name-item.is c.in_ok-source.ensures.cases in
+    let next = one_more_name string_bytes names i c.name-item.result (string_bytes c.in_ok-source.source) c.loop-name-test.true c.name-item.is
+    c.in_ok-source.ensures.cases in
     let pushed : c.push_reserved.new.self.items ≡ c.loop-name.dropped.items ++ c.in_ok-added.added.dropped ∷ [] =
     c.push_reserved.ensures.items ∙ ap (λ all. all ++ c.in_ok-added.added.dropped ∷ []) c.in_ok-reserve.ensures.items in
     let grown = ap (map bytes) pushed ∙ map-append bytes c.loop-name.dropped.items (c.in_ok-added.added.dropped ∷ []) in
     record {
-      added = subst (λ read. AreAdded g.F.Files.reads c.args.files.now c.add_patterns_file_from.new.files read c.args.collection.now c.args.buf.now.items
-          (globals_in c.add_patterns_file_from.new.self c.add_patterns_file_from.new.collection c.push_reserved.new.self.items c.add_patterns_file_from.new.buf.items)) next
-          (one_added g.F.Files.reads c.args.files.now c.loop-name.files c.add_patterns_file_from.new.files _ (string_bytes c.in_ok-source.source) c.args.collection.now _ _ _
-          said.read.0 c.loop-name.invariant.added said.read.1 file.answered
-          (with_one_more _ _ _ _ _ c.loop-name.buf.items _ said.read.0 _ file.loaded grown file.dropped file.left));
-      held = said.held c.loop-name.invariant.held;
-      count = omega (arith, c.loop-name.invariant.count, said.count);
+      added = subst (λ read. AreAdded g.F.Files.reads c.args.files.now c.add_patterns_file_from.new.files read c.args.collection.now
+          c.args.buf.now.items
+          (globals_in c.add_patterns_file_from.new.self c.add_patterns_file_from.new.collection c.push_reserved.new.self.items
+          c.add_patterns_file_from.new.buf.items)) next
+          (one_added g.F.Files.reads c.args.files.now c.loop-name.files c.add_patterns_file_from.new.files _ (string_bytes c.in_ok-source.source)
+          c.args.collection.now _ _ _
+          ensured.read.0 c.loop-name.invariant.added ensured.read.1 file.answered
+          (with_one_more _ _ _ _ _ c.loop-name.buf.items _ ensured.read.0 _ file.loaded grown file.dropped file.left));
+      held = ensured.held c.loop-name.invariant.held;
+      count = omega (arith, c.loop-name.invariant.count, ensured.count);
     }
 
 pub returns-clause-globals : goal.returns-clause-globals
 returns-clause-globals g c =
     let so_far = c.loop-name.invariant.added in
-    let i = c.loop-name.name-index in
-    (so_far.read, so_far.in_order, so_far.named ∙ ap (map string_bytes) (take_all i c.args.names.now c.loop-name-test.false), so_far.answered, so_far.made)
+    let i = c.loop-name.name-index in (
+      so_far.read,
+      so_far.in_order,
+      so_far.named ∙ ap (map string_bytes) (take_all i c.args.names.now c.loop-name-test.false),
+      so_far.answered,
+      so_far.made,
+    )
 
 pub returns-clause-held : goal.returns-clause-held
 returns-clause-held g c = c.loop-name.invariant.held

@@ -1,7 +1,7 @@
 use Rattle.std.proofs.Common.{◌∙◌, ap}
 use Rattle.std.proofs.lemmas.Result.{on_ok_weaker}
-use Rattle.gix_attributes.specs.Contents.{initialized, names_selected}
-use Rattle.gix_attributes.specs.Selection.{selection_seen}
+use Rattle.gix_attributes.specs.Contents.{initial_content, names_selected}
+use Rattle.gix_attributes.specs.Selection.{selection_view}
 use Rattle.gix_attributes.proofs.OutcomeLemmas.{looked_up_again, initialized_by}
 use Rattle.gix_attributes.proofs.search.outcome.Outcome.initialize.Goals as goal
 
@@ -13,5 +13,6 @@ returns-clause-ok c =
     let known = c.args.collection.now in
     rw (← c.self.view_is)
     (on_ok_weaker c.set_up.result
-    (λ e. e ∙ initialized_by known _ (selection_seen c.in_ok-selected.selected.items) c.in_ok-selected.ensures ∙ ap (λ l. initialized known (names_selected (selection_seen l))) c.deref.ensures.value)
+    (λ e. e ∙ initialized_by known _ (selection_view c.in_ok-selected.selected.items) c.in_ok-selected.ensures ∙ ap
+    (λ l. initial_content known (names_selected (selection_view l))) c.deref.ensures.value)
     c.set_up.ensures.ok)

@@ -1,6 +1,6 @@
 use Rattle.std.proofs.Common.{◌∙◌}
 use Rattle.std.proofs.lemmas.Result.{on_ok_weaker}
-use Rattle.gix_attributes.specs.Selection.{selection_seen}
+use Rattle.gix_attributes.specs.Selection.{selection_view}
 use Rattle.gix_attributes.proofs.OutcomeLemmas.{looked_up_again, initialized_by}
 use Rattle.gix_attributes.proofs.search.outcome.Outcome.initialize_with_selection.Goals as goal
 
@@ -10,5 +10,5 @@ set_up-requires c = looked_up_again _ _ _ c.in_ok-selected.ensures
 pub returns-clause-ok : goal.returns-clause-ok
 returns-clause-ok c =
     on_ok_weaker c.set_up.result
-    (λ e. e ∙ initialized_by c.args.collection.now _ (selection_seen c.in_ok-selected.selected.items) c.in_ok-selected.ensures)
+    (λ e. e ∙ initialized_by c.args.collection.now _ (selection_view c.in_ok-selected.selected.items) c.in_ok-selected.ensures)
     c.set_up.ensures.ok

@@ -1,8 +1,8 @@
 use Rattle.std.proofs.Common.{◌∙◌, ap, length}
 use Rattle.attr_table.specs.Cut.{is_done}
-use Rattle.attr_search.specs.Board.{wanted_in}
+use Rattle.attr_search.specs.inner.SlotContents.{wanted_numbers}
 use Rattle.gix_attributes.specs.Contents.{is_wanted}
-use Rattle.gix_attributes.specs.Selection.{selection_seen}
+use Rattle.gix_attributes.specs.Selection.{selection_view}
 use Rattle.attr_search.specs.Slots.{slots_of}
 use Rattle.gix_attributes.proofs.OutcomeLemmas.{wanted_by_flags}
 use Rattle.gix_attributes.proofs.search.outcome.Outcome.is_done.Goals as goal
@@ -12,4 +12,5 @@ returns c =
     let o = c.self.inside in
     rw (← c.self.view_is)
     (c.is_done.ensures
-    ∙ ap (λ ws. is_done ws (slots_of o.board.answers)) (ap wanted_in c.self.invariant.wanted ∙ wanted_by_flags (is_wanted (selection_seen o.selected.items)) (length o.board.answers)))
+    ∙ ap (λ ws. is_done ws (slots_of o.state.answers)) (ap wanted_numbers c.self.invariant.wanted ∙ wanted_by_flags
+    (is_wanted (selection_view o.selected.items)) (length o.state.answers)))

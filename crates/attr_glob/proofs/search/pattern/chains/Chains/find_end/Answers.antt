@@ -1,7 +1,7 @@
 use Rattle.std.proofs.Common.{◌≡◌, ◌∙◌, ◌-◌, ◌∷◌, [], ◌++◌, length, drop, map, ap, sym, arith}
 use Rattle.std.specs.List.{cons_option}
 use Rattle.attr_glob.specs.Candidates.{end}
-use Rattle.attr_glob.specs.Chains.{last_place}
+use Rattle.attr_glob.specs.inner.Chains.{last_place}
 use Rattle.attr_glob.proofs.HeadLemmas.{end_fits}
 use Rattle.attr_glob.proofs.search.pattern.chains.Chains.find_end.Goals as goal
 

@@ -1,7 +1,7 @@
 -- At each place so far the patterns are read the same.
 use Rattle.std.proofs.Common.{◌≤◌, ◌<◌, length, refl, sym, ap, ◌∙◌, arith, get_or}
 use Rattle.std.proofs.lemmas.Bool.{false≢true}
-use Rattle.attr_glob.specs.Views.{pattern_read}
+use Rattle.attr_glob.specs.Views.{pattern_view}
 use Rattle.attr_glob.proofs.IndexLemmas.{lines_more, lines_at, lines_all}
 use Rattle.attr_glob.proofs.search.pattern.index.Index.is_of.Goals as goal
 
@@ -14,11 +14,11 @@ loop-place-preserved g c =
     let within : place < length mappings = omega (arith, ap length items) in
     let within_index : place < length patterns = omega (arith, ap length items, c.args.list.now.patterns.ok, c.self.inside.patterns.ok) in
     lines_more patterns mappings place c.index.result.now c.mapping-item.result within_index within c.loop-place.invariant
-    (ap pattern_read (sym c.index.ensures) ∙ c.is_same.ensures.0 c.if-not-is_same.false
-    ∙ ap (λ m. pattern_read m.pattern) (c.mapping-item.is ∙ ap (λ l. get_or l place c.mapping-item.result) items))
+    (ap pattern_view (sym c.index.ensures) ∙ c.is_same_pattern.ensures.0 c.if-not-is_same_pattern.false
+    ∙ ap (λ m. pattern_view m.pattern) (c.mapping-item.is ∙ ap (λ l. get_or l place c.mapping-item.result) items))
 
-pub returns-then-not-is_same : goal.returns-then-not-is_same
-returns-then-not-is_same g c =
+pub returns-then-not-is_same_pattern : goal.returns-then-not-is_same_pattern
+returns-then-not-is_same_pattern g c =
     let items = c.deref-mapping-items.ensures.value in
     let mappings = c.args.list.now.patterns.items in
     let patterns = c.self.inside.patterns.items in
@@ -26,9 +26,10 @@ returns-then-not-is_same g c =
     let within : place < length mappings = omega (arith, ap length items) in
     let within_index : place < length patterns = omega (arith, ap length items, c.args.list.now.patterns.ok, c.self.inside.patterns.ok) in (
       λ f. absurd (false≢true f),
-      λ e. sym c.if-not-is_same.true ∙ c.is_same.ensures.1
-          (ap pattern_read c.index.ensures ∙ lines_at patterns mappings place c.index.result.now c.mapping-item.result within_index within (c.self.view_is ∙ e)
-          ∙ ap (λ m. pattern_read m.pattern) (sym (c.mapping-item.is ∙ ap (λ l. get_or l place c.mapping-item.result) items))),
+      λ e. sym c.if-not-is_same_pattern.true ∙ c.is_same_pattern.ensures.1
+          (ap pattern_view c.index.ensures ∙ lines_at patterns mappings place c.index.result.now c.mapping-item.result within_index within
+          (c.self.view_is ∙ e)
+          ∙ ap (λ m. pattern_view m.pattern) (sym (c.mapping-item.is ∙ ap (λ l. get_or l place c.mapping-item.result) items))),
     )
 
 pub returns : goal.returns

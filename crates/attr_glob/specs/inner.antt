@@ -1,0 +1,7 @@
+-- Relations between functions inside the crate (own). No contract of a public call reaches it, so nothing of it has to be
+-- believed.
+pub mod ByteSets
+pub mod Chains
+pub mod IndexInvariant
+pub mod Left
+pub mod RowPlaces

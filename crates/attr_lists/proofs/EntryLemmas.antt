@@ -1,0 +1,280 @@
+-- What is entries of names, by number.
+use Rattle.std.proofs.Common.{◌≡◌, ◌≢◌, ℕ, zero, suc, ◌+◌, ◌<◌, ◌≤◌, ◌⊎◌, inl, inr, Bool, false, not, eqb, List, [], ◌∷◌, ◌++◌, length, get_or, set}
+use Rattle.std.proofs.Common.{take, drop, map, filter, All, unwrap_or, option_map, refl, sym, ap, subst, ◌∙◌, ⊎_elim, arith, ne_eqb, eq-eqb}
+use Rattle.std.proofs.lemmas.Bool.{cases_Bool, cases_eq, cond-true, cond-false}
+use Rattle.std.proofs.lemmas.List.{append-nil, append_assoc, map-append, map-set, length-map, length-append, length-set, get_or_push}
+use Rattle.std.proofs.lemmas.List.{get_or_append_left, get_or_past, get_or_default, get_or-set_same, get_or-set_other, at_drop_more, take_more}
+use Rattle.std.proofs.lemmas.List.Elements.{All-nil, All-cons, All-head, All-tail, All-map, All-filter}
+use Rattle.attr_glob.specs.declared.search.pattern.Mapping.{Mapping}
+use Rattle.attr_lists.specs.declared.name_table.entry.Definition.{Definition}
+use Rattle.attr_lists.specs.declared.name_table.entry.NameEntry.{NameEntry}
+use Rattle.attr_lists.specs.declared.types.AttributeId.{AttributeId}
+use Rattle.attr_lists.specs.declared.types.Value.{Value}
+use Rattle.attr_lists.specs.declared.types.Value.TheVariants.{MacroAssignments}
+use Rattle.smallvec.specs.SmallVec.{SmallVec}
+use Rattle.attr_lists.specs.declared.types.TrackedAssignment.{TrackedAssignment}
+use Rattle.attr_lists.specs.Definitions.{is_definition, bodies_defined, definition_of, is_of_list, of_other_lists}
+use Rattle.attr_lists.specs.inner.EntryViews.{definition_view, definitions_view, all_definitions, definitions_at, IsEntry, AreEntries}
+use Rattle.attr_lists.specs.ListViews.{Entry, entry_view, entries_view, macro_id, items_in}
+use Rattle.attr_lists.specs.Collections.{MacroDefinition}
+use Rattle.attr_lists.specs.Numbers.{id_of, numbered_item, numbered, numbered_lines}
+use Rattle.attr_lists.proofs.DefinitionLemmas.{of_other_lists-again, of_other_lists-more, bodies_defined-cons, bodies_defined-push}
+use Rattle.attr_lists.proofs.DefinitionLemmas.{bodies_defined-one, bodies_defined-none}
+use Rattle.attr_lists.proofs.ListLemmas.{front, front-more, get_or-map}
+
+filter-map : {X Y : Type 0} (p : Y → Bool) (f : X → Y) (xs : List X) → map f (filter (λ x. p (f x)) xs) ≡ filter p (map f xs)
+filter-map p f [] = refl
+filter-map p f (x ∷ xs) =
+    ⊎_elim (λ y. ap (map f) (cond-true (p (f x)) (x ∷ filter (λ z. p (f z)) xs) (filter (λ z. p (f z)) xs) y) ∙ ap (λ l. f x ∷ l) (filter-map p f xs)
+    ∙ sym (cond-true (p (f x)) (f x ∷ filter p (map f xs)) (filter p (map f xs)) y))
+    (λ n. ap (map f) (cond-false (p (f x)) (x ∷ filter (λ z. p (f z)) xs) (filter (λ z. p (f z)) xs) n) ∙ filter-map p f xs ∙ sym
+    (cond-false (p (f x)) (f x ∷ filter p (map f xs)) (filter p (map f xs)) n))
+    (cases_Bool (p (f x)))
+
+-- the definitions that are left
+pub others_kept : (list_id : ℕ) (old new : List Definition) → new ≡ filter (λ d. not (eqb d.list_id list_id)) old → map definition_view new ≡
+    of_other_lists list_id (map definition_view old)
+others_kept list_id old new e = ap (map definition_view) e ∙ filter-map (λ d. not (is_of_list list_id d)) definition_view old
+
+pub ids_kept : (list_id number : ℕ) (old new : List Definition) → new ≡ filter (λ d. not (eqb d.list_id list_id)) old → All
+    (λ d. d.metadata.id.0 ≡ number) old → All (λ d. d.metadata.id.0 ≡ number) new
+ids_kept list_id number old new e h =
+    subst (All (λ (d : Definition). d.metadata.id.0 ≡ number)) (sym e)
+    (All-filter (λ d. not (eqb d.list_id list_id)) (λ (d : Definition). d.metadata.id.0 ≡ number) old h)
+
+push_nothing : {X : Type 0} (xs : List (List X)) (n : ℕ) → get_or (xs ++ [] ∷ []) n [] ≡ get_or xs n []
+push_nothing [] zero = refl
+push_nothing [] (suc n) = refl
+push_nothing (x ∷ xs) zero = refl
+push_nothing (x ∷ xs) (suc n) = push_nothing xs n
+
+-- one more name, without a definition
+pub definitions_at-push : (old new : List NameEntry) (x : NameEntry) (n : ℕ) → new ≡ old ++ x ∷ [] → definitions_view x ≡ [] → definitions_at new n ≡
+    definitions_at old n
+definitions_at-push old new x n e none =
+    ap (λ l. definitions_at l n) e ∙ ap (λ l. get_or l n []) (map-append definitions_view old (x ∷ []) ∙ ap (λ d. all_definitions old ++ d ∷ []) none)
+    ∙ push_nothing (all_definitions old) n
+
+pub AreEntries-push : (old new : List NameEntry) (x : NameEntry) (number : ℕ) → new ≡ old ++ x ∷ [] → length old ≡ number → IsEntry number x →
+    AreEntries old → AreEntries new
+AreEntries-push old new x number e at is all =
+    subst AreEntries (sym e) (λ n d lt.
+    ⊎_elim (λ same. subst (λ k. IsEntry k (get_or (old ++ x ∷ []) n d)) (sym same)
+    (subst (IsEntry number) (sym (get_or_push old x d n (at ∙ sym same))) is))
+    (λ other. let below : n < length old = omega (arith, length-append old (x ∷ [])) in subst (IsEntry n)
+    (sym (get_or_append_left old (x ∷ []) d n below)) (all n d below))
+    (cases_eq n number))
+
+pub AreEntries-set : (entries : List NameEntry) (i : ℕ) (x : NameEntry) → IsEntry i x → AreEntries entries → AreEntries (set entries i x)
+AreEntries-set entries i x is all = λ n d lt.
+    let below : n < length entries = omega (arith, length-set entries i x) in
+    ⊎_elim (λ same. subst (λ k. IsEntry k (get_or (set entries i x) n d)) (sym same)
+    (subst (IsEntry i) (sym (ap (λ k. get_or (set entries i x) k d) same ∙ get_or-set_same entries i x d
+    (subst (λ k. k < length entries) same below)))
+    is))
+    (λ other. subst (IsEntry n) (sym (get_or-set_other entries i n x d other)) (all n d below))
+    (cases_eq n i)
+
+-- the definitions of the name that changes, and of the others
+pub definitions_at-same : (entries : List NameEntry) (i : ℕ) (x : NameEntry) → i < length entries → definitions_at (set entries i x) i ≡
+    definitions_view x
+definitions_at-same entries i x lt =
+    ap (λ l. get_or l i []) (map-set definitions_view entries i x) ∙ get_or-set_same (all_definitions entries) i (definitions_view x) []
+    (omega (arith, length-map entries definitions_view))
+
+pub definitions_at-other : (entries : List NameEntry) (i n : ℕ) (x : NameEntry) → n ≢ i → definitions_at (set entries i x) n ≡ definitions_at entries
+    n
+definitions_at-other entries i n x other =
+    ap (λ l. get_or l n []) (map-set definitions_view entries i x) ∙ get_or-set_other (all_definitions entries) i n (definitions_view x) [] other
+
+pub definitions_at-within : (entries : List NameEntry) (i : ℕ) (d : NameEntry) → i < length entries → definitions_at entries i ≡ definitions_view
+    (get_or entries i d)
+definitions_at-within entries i d lt =
+    get_or_default (all_definitions entries) i [] (definitions_view d) (omega (arith, length-map entries definitions_view)) ∙ get_or-map
+    definitions_view
+    entries i d
+
+pub definitions_at-past : (entries : List NameEntry) (i : ℕ) → length entries ≤ i → definitions_at entries i ≡ []
+definitions_at-past entries i h = get_or_past (all_definitions entries) i [] (omega (arith, length-map entries definitions_view))
+
+-- the value that a write leaves is what is entries of the name at that place
+pub AreEntries-set-element : (entries : List NameEntry) (i : ℕ) (d x : NameEntry) {n : ℕ} → length entries ≡ n → i < n →
+    (IsEntry i (get_or entries i d) → IsEntry i x) → AreEntries entries → AreEntries (set entries i x)
+AreEntries-set-element entries i d x {n} len lt keeps all = AreEntries-set entries i x (keeps (all i d (omega arith))) all
+
+-- the definitions are removed from one more name
+pub remove_all_step : (list_id : ℕ) (start entries : List NameEntry) (i : ℕ) (d x : NameEntry) → i < length start → all_definitions entries ≡ front
+    (of_other_lists list_id) i (all_definitions start) → definitions_view x ≡ of_other_lists list_id (definitions_view (get_or entries i d)) →
+    all_definitions (set entries i x) ≡ front (of_other_lists list_id) (i + 1) (all_definitions start)
+remove_all_step list_id start entries i d x lt e is =
+    map-set definitions_view entries i x
+    ∙ front-more (of_other_lists list_id) i (all_definitions start) (all_definitions entries) (definitions_view x) (definitions_view d)
+    (omega (arith, length-map start definitions_view))
+    (is ∙ ap (of_other_lists list_id) (sym (get_or-map definitions_view entries i d))) e
+
+-- the definitions of a name after those of one more line are removed
+pub remove_list_step : (list_id number : ℕ) (start entries now : List NameEntry) (lines : List (Mapping Value)) (i : ℕ) (line : Mapping Value) → i <
+    length lines → line ≡ get_or lines i line
+    → (definitions_at entries number ≡ of_other_lists list_id (definitions_at start number)) ⊎
+    ((definitions_at entries number ≡ definitions_at start number) × (bodies_defined number (entries_view (take i lines)) ≡ []))
+    → (definitions_at now number ≡ of_other_lists list_id (definitions_at entries number)) ⊎
+    ((definitions_at now number ≡ definitions_at entries number) × (bodies_defined number (entry_view line ∷ []) ≡ []))
+    → (definitions_at now number ≡ of_other_lists list_id (definitions_at start number)) ⊎
+    ((definitions_at now number ≡ definitions_at start number) × (bodies_defined number (entries_view (take (i + 1) lines)) ≡ []))
+remove_list_step list_id number start entries now lines i line lt at before here =
+    ⊎_elim
+    (λ gone. inl (⊎_elim (λ g. g ∙ ap (of_other_lists list_id) gone ∙ of_other_lists-again list_id (definitions_at start number))
+    (λ kept. kept.0 ∙ gone) here))
+    (λ kept. ⊎_elim (λ g. inl (g ∙ ap (of_other_lists list_id) kept.0))
+    (λ same. inr (
+      same.0 ∙ kept.0,
+      ap (λ l. bodies_defined number (entries_view l)) (take_more lines i line lt) ∙ ap (bodies_defined number)
+          (map-append entry_view (take i lines) (get_or lines i line ∷ []))
+          ∙ bodies_defined-push number (entries_view (take i lines)) (entry_view (get_or lines i line))
+          ∙ ap (λ b. b ++ bodies_defined number (entry_view (get_or lines i line) ∷ [])) kept.1 ∙ ap (λ l. bodies_defined number (entry_view l ∷ []))
+          (sym at) ∙ same.1,
+    ))
+    here)
+    before
+
+-- the definitions of a name after those of one more line are added
+pub define_list_step : (names : List (List ℕ)) (list_id number : ℕ) (start entries now : List NameEntry) (lines : List (Mapping Value)) (i : ℕ)
+    (line : Mapping Value) → i < length lines → line ≡ get_or lines i line
+    → definitions_at entries number ++ map (definition_of list_id) (bodies_defined number (numbered_lines names (entries_view (drop i lines)))) ≡
+    definitions_at start number ++ map (definition_of list_id) (bodies_defined number (numbered_lines names (entries_view lines)))
+    → definitions_at now number ≡ definitions_at entries number ++ map (definition_of list_id)
+    (bodies_defined number (numbered names (entry_view line) ∷ []))
+    → definitions_at now number ++ map (definition_of list_id) (bodies_defined number (numbered_lines names (entries_view (drop (i + 1) lines)))) ≡
+    definitions_at start number ++ map (definition_of list_id) (bodies_defined number (numbered_lines names (entries_view lines)))
+define_list_step names list_id number start entries now lines i line lt at before here =
+    let rest = numbered_lines names (entries_view (drop (i + 1) lines)) in
+    let first = λ (l : Mapping Value). numbered names (entry_view l) in
+    let bodies = λ (es : List Entry). map (definition_of list_id) (bodies_defined number es) in
+    ap (λ l. l ++ bodies rest) (here ∙ ap (λ l. definitions_at entries number ++ bodies (first l ∷ [])) at)
+    ∙ append_assoc (definitions_at entries number) (bodies (first (get_or lines i line) ∷ [])) (bodies rest)
+    ∙ ap (λ l. definitions_at entries number ++ l) (sym (map-append (definition_of list_id) (bodies_defined number (first (get_or lines i line) ∷ []))
+    (bodies_defined number rest))
+    ∙ ap (map (definition_of list_id)) (sym (bodies_defined-cons number (first (get_or lines i line)) rest))
+    ∙ sym (at_drop_more (λ (l : List (Mapping Value)). bodies (numbered_lines names (entries_view l))) lines i line lt))
+    ∙ before
+
+-- the definitions of a name after the definitions of another one may have changed
+definitions_at-cases : (P : List MacroDefinition → Type 0) (entries : List NameEntry) (i n : ℕ) (d x : NameEntry) → i < length entries →
+    (definitions_view (get_or entries i d) ≡ definitions_at entries n → i ≡ n → P (definitions_view x)) → ((i ≡ n → ⊥) → P (definitions_at entries n))
+    → P
+    (definitions_at (set entries i x) n)
+definitions_at-cases P entries i n d x lt here there =
+    ⊎_elim
+    (λ same. let at : definitions_at (set entries i x) n ≡ definitions_view x = ap (definitions_at (set entries i x)) (sym same) ∙ definitions_at-same
+    entries i x lt in
+    subst P (sym at) (here (sym (definitions_at-within entries i d lt) ∙ ap (definitions_at entries) same) same))
+    (λ other. subst P (sym (definitions_at-other entries i n x (λ e. other (sym e)))) (there other))
+    (cases_eq i n)
+
+-- a line defines no other macro than its own
+no_body : (mapping : Mapping Value) (id : AttributeId) (v : SmallVec TrackedAssignment) (n : ℕ) → mapping.value ≡ MacroAssignments id v →
+    (id.0 ≡ n → ⊥) → bodies_defined n (entry_view mapping ∷ []) ≡ []
+no_body mapping id v n is other =
+    bodies_defined-none n (entry_view mapping) (ap (λ value. unwrap_or (option_map (λ (i : AttributeId). eqb i.0 n) (macro_id value)) false) is ∙
+    ne_eqb id.0 n other)
+
+defines : (names : List (List ℕ)) (mapping : Mapping Value) (id : AttributeId) (v : SmallVec TrackedAssignment) (n : ℕ) → mapping.value ≡
+    MacroAssignments id v → is_definition n (numbered names (entry_view mapping)) ≡ eqb (id_of names mapping.pattern.text.items).0 n
+defines names mapping id v n is = ap (λ value. unwrap_or (option_map (λ (i : AttributeId). eqb i.0 n)
+    (option_map (λ _. id_of names mapping.pattern.text.items) (macro_id value))) false) is
+
+-- the definitions of one name are removed
+pub removed_at : (list_id n : ℕ) (entries : List NameEntry) (mapping : Mapping Value) (id : AttributeId) (v : SmallVec TrackedAssignment)
+    (d x : NameEntry) → mapping.value ≡ MacroAssignments id v → id.0 < length entries → definitions_view x ≡ of_other_lists list_id
+    (definitions_view (get_or entries id.0 d))
+    → (definitions_at (set entries id.0 x) n ≡ of_other_lists list_id (definitions_at entries n)) ⊎
+    ((definitions_at (set entries id.0 x) n ≡ definitions_at entries n) × (bodies_defined n (entry_view mapping ∷ []) ≡ []))
+removed_at list_id n entries mapping id v d x is lt e =
+    definitions_at-cases (λ ds. (ds ≡ of_other_lists list_id (definitions_at entries n)) ⊎
+    ((ds ≡ definitions_at entries n) × (bodies_defined n (entry_view mapping ∷ []) ≡ []))) entries id.0 n d x lt
+    (λ at same. inl (e ∙ ap (of_other_lists list_id) at))
+    (λ other. inr (refl, no_body mapping id v n is other))
+
+-- of a number that no name has nothing is entries
+pub removed_past : (list_id n : ℕ) (entries : List NameEntry) (mapping : Mapping Value) (id : AttributeId) (v : SmallVec TrackedAssignment) →
+    mapping.value ≡ MacroAssignments id v → length entries ≤ id.0
+    → (definitions_at entries n ≡ of_other_lists list_id (definitions_at entries n)) ⊎
+    ((definitions_at entries n ≡ definitions_at entries n) × (bodies_defined n (entry_view mapping ∷ []) ≡ []))
+removed_past list_id n entries mapping id v is past =
+    ⊎_elim
+    (λ same. let none : definitions_at entries n ≡ [] = definitions_at-past entries n (subst (λ k. length entries ≤ k) same past) in inl
+    (none ∙ ap (of_other_lists list_id) (sym none)))
+    (λ other. inr (refl, no_body mapping id v n is other))
+    (cases_eq id.0 n)
+
+-- a name has one more definition
+pub defined_at : (names : List (List ℕ)) (list_id n : ℕ) (entries : List NameEntry) (mapping : Mapping Value) (id own : AttributeId)
+    (v : SmallVec TrackedAssignment) (body : List TrackedAssignment) (d x : NameEntry) → mapping.value ≡ MacroAssignments id v → own ≡ id_of names
+    mapping.pattern.text.items → body ≡ map (numbered_item names) v.items → own.0 < length entries
+    → definitions_view x ≡ definitions_view (get_or entries own.0 d) ++ definition_of list_id body ∷ []
+    → definitions_at (set entries own.0 x) n ≡ definitions_at entries n ++ map (definition_of list_id)
+    (bodies_defined n (numbered names (entry_view mapping) ∷ []))
+defined_at names list_id n entries mapping id own v body d x is own_is body_is lt e =
+    let entry = numbered names (entry_view mapping) in
+    let defines_own : is_definition n entry ≡ eqb own.0 n = defines names mapping id v n is ∙ ap (λ (i : AttributeId). eqb i.0 n) (sym own_is) in
+    definitions_at-cases (λ ds. ds ≡ definitions_at entries n ++ map (definition_of list_id) (bodies_defined n (entry ∷ []))) entries own.0 n d x lt
+    (λ at same.
+    let items : body ≡ entry.items = body_is ∙ ap (λ value. map (numbered_item names) (items_in value)) (sym is) in
+    e ∙ ap (λ l. l ++ definition_of list_id body ∷ []) at ∙ ap (λ b. definitions_at entries n ++ definition_of list_id b ∷ []) items
+    ∙ ap (λ b. definitions_at entries n ++ map (definition_of list_id) b) (sym (bodies_defined-one n entry (defines_own ∙ eq-eqb own.0 n same))))
+    (λ other. sym (append-nil (definitions_at entries n)) ∙ ap (λ b. definitions_at entries n ++ map (definition_of list_id) b)
+    (sym (bodies_defined-none n entry (defines_own ∙ ne_eqb own.0 n other))))
+
+pub defined_past : (names : List (List ℕ)) (list_id n : ℕ) (entries : List NameEntry) (mapping : Mapping Value) (id own : AttributeId)
+    (v : SmallVec TrackedAssignment) → mapping.value ≡ MacroAssignments id v → own ≡ id_of names mapping.pattern.text.items → length entries ≤ own.0 →
+    n
+    < length entries
+    → definitions_at entries n ≡ definitions_at entries n ++ map (definition_of list_id) (bodies_defined n (numbered names (entry_view mapping) ∷ []))
+defined_past names list_id n entries mapping id own v is own_is past lt =
+    let entry = numbered names (entry_view mapping) in
+    let none : is_definition n entry ≡ false = defines names mapping id v n is ∙ ap (λ (i : AttributeId). eqb i.0 n) (sym own_is) ∙ ne_eqb own.0 n
+    (λ same. omega arith) in
+    sym (append-nil (definitions_at entries n)) ∙ ap (λ b. definitions_at entries n ++ map (definition_of list_id) b)
+    (sym (bodies_defined-none n entry none))
+
+-- the definitions of other lists stay
+pub others_at : (list_id i n : ℕ) (entries : List NameEntry) (d x : NameEntry) (body : List TrackedAssignment) → i < length entries → definitions_view
+    x ≡
+    definitions_view (get_or entries i d) ++ definition_of list_id body ∷ [] → of_other_lists list_id (definitions_at (set entries i x) n) ≡
+    of_other_lists list_id (definitions_at entries n)
+others_at list_id i n entries d x body lt e =
+    definitions_at-cases (λ ds. of_other_lists list_id ds ≡ of_other_lists list_id (definitions_at entries n)) entries i n d x lt
+    (λ at same. ap (of_other_lists list_id) e ∙ of_other_lists-more list_id (definitions_view (get_or entries i d)) (body ∷ []) ∙ ap
+    (of_other_lists list_id) at)
+    (λ other. refl)
+
+pub same_at : (i n : ℕ) (entries : List NameEntry) (d x : NameEntry) → i < length entries → definitions_view x ≡ definitions_view (get_or entries i d)
+    →
+    definitions_at (set entries i x) n ≡ definitions_at entries n
+same_at i n entries d x lt e = definitions_at-cases (λ ds. ds ≡ definitions_at entries n) entries i n d x lt (λ at same. e ∙ at) (λ other. refl)
+
+all_of_map : {X Y : Type 0} (P : Y → Type 0) (f : X → Y) (xs : List X) → All P (map f xs) → All (λ x. P (f x)) xs
+all_of_map P f [] h = All-nil (λ x. P (f x))
+all_of_map P f (x ∷ xs) h = All-cons (λ y. P (f y)) x xs (All-head P (f x) (map f xs) h) (all_of_map P f xs (All-tail P (f x) (map f xs) h))
+
+pub ids_copied : (number : ℕ) (old new : List Definition) → map (λ (d : Definition). d.metadata.id.0) new ≡ map (λ (d : Definition). d.metadata.id.0)
+    old → All (λ d. d.metadata.id.0 ≡ number) old → All (λ d. d.metadata.id.0 ≡ number) new
+ids_copied number old new e h =
+    all_of_map (λ id. id ≡ number) (λ (d : Definition). d.metadata.id.0) new
+    (subst (All (λ id. id ≡ number)) (sym e) (All-map (λ id. id ≡ number) (λ (d : Definition). d.metadata.id.0) old h))
+
+-- one more name is copied
+pub copied_step : (entries copy now : List NameEntry) (i : ℕ) (item x : NameEntry) → i < length entries → item ≡ get_or entries i item → now ≡ copy ++
+    x ∷
+    [] → definitions_view x ≡ definitions_view item → all_definitions copy ≡ all_definitions (take i entries) → all_definitions now ≡ all_definitions
+    (take (i + 1) entries)
+copied_step entries copy now i item x lt at pushed same so_far =
+    ap all_definitions pushed ∙ map-append definitions_view copy (x ∷ []) ∙ ap (λ l. l ++ definitions_view x ∷ []) so_far
+    ∙ ap (λ d. all_definitions (take i entries) ++ d ∷ []) (same ∙ ap definitions_view at)
+    ∙ sym (ap all_definitions (take_more entries i item lt) ∙ map-append definitions_view (take i entries) (get_or entries i item ∷ []))
+
+pub copied_entries : (entries copy now : List NameEntry) (i : ℕ) (item x : NameEntry) → i < length entries → item ≡ get_or entries i item → now ≡ copy
+    ++ x ∷
+    [] → length copy ≡ i → ((n : ℕ) → IsEntry n item → IsEntry n x) → AreEntries entries → AreEntries copy → AreEntries now
+copied_entries entries copy now i item x lt at pushed count keeps all so_far =
+    AreEntries-push copy now x i pushed count (keeps i (subst (IsEntry i) (sym at) (all i item lt))) so_far

@@ -1,0 +1,14 @@
+-- Lemmas for the crates above, beside the contracts and the laws.
+
+-- Definitions of macros. `of_other_lists-append`: the definitions of other lists in two parts. `of_other_lists-own`: a list's own
+-- definitions are none of another list's. `bodies_past`: no line defines a macro with a number that no name has.
+pub use Rattle.attr_lists.proofs.DefinitionLemmas.{of_other_lists-append, of_other_lists-own}
+pub use Rattle.attr_lists.proofs.NameTableLaws.{bodies_past}
+-- Names. `with_names-extends`: new names are appended. `count_more`: there are no fewer names after that. `list_numbered`: the lines of
+-- a list that is added have the numbers of their names.
+pub use Rattle.attr_lists.proofs.NameLemmas.{with_names-extends}
+pub use Rattle.attr_lists.proofs.NameTableLaws.{count_more, list_numbered}
+-- Lists. `kept_macros_valid_where`: the macros that a list keeps of a buffer have valid names.
+pub use Rattle.attr_lists.proofs.KeptLaws.{kept_macros_valid_where}
+-- Reasoning on lists and results. `get_or-map`: an element of a mapped list. `on_ok`: a weaker fact about a result.
+pub use Rattle.attr_lists.proofs.ListLemmas.{get_or-map, on_ok}

@@ -1,0 +1,66 @@
+-- Lists and their images under a function.
+use Rattle.std.proofs.Common.{◌≡◌, ℕ, ◌+◌, ◌<◌, Bool, true, not, cond, ◌||◌, ltb, List, [], ◌∷◌, ◌++◌, length, get_or, map, position, slice_get, take}
+use Rattle.std.proofs.Common.{drop, set, Some, None, Result, Ok, Err, OnOk, OnErr, refl, sym, ap, ◌∙◌, arith, zero, suc, add-one}
+use Rattle.std.specs.List.{list_any, list_all, prefix_len, position_or_len}
+use Rattle.std.proofs.lemmas.Bool.{and_parts}
+use Rattle.std.proofs.lemmas.List.{length-map}
+
+pub list_any-map : {X Y : Type 0} (p : Y → Bool) (f : X → Y) (xs : List X) → list_any p (map f xs) ≡ list_any (λ x. p (f x)) xs
+list_any-map p f [] = refl
+list_any-map p f (x ∷ xs) = ap (λ b. p (f x) || b) (list_any-map p f xs)
+
+prefix_len-map : {X Y : Type 0} (p : Y → Bool) (f : X → Y) (xs : List X) → prefix_len p (map f xs) ≡ prefix_len (λ x. p (f x)) xs
+prefix_len-map p f [] = refl
+prefix_len-map p f (x ∷ xs) = ap (λ n. cond (p (f x)) (1 + n) 0) (prefix_len-map p f xs)
+
+pub position-map : {X Y : Type 0} (p : Y → Bool) (f : X → Y) (xs : List X) → position p (map f xs) ≡ position (λ x. p (f x)) xs
+position-map p f xs =
+    ap (λ n. cond (ltb n (length (map f xs))) (Some n) None) (prefix_len-map (λ y. not (p y)) f xs)
+    ∙ ap (λ l. cond (ltb (position_or_len (λ x. p (f x)) xs) l) (Some (position_or_len (λ x. p (f x)) xs)) None) (length-map xs f)
+
+-- the element at an index within the list
+pub slice_get-within : {X : Type 0} (xs : List X) (i : ℕ) (d : X) → i < length xs → slice_get xs i ≡ Some (get_or xs i d)
+slice_get-within [] i d h = absurd (omega arith)
+slice_get-within (x ∷ xs) zero d h = refl
+slice_get-within (x ∷ xs) (suc i) d h = slice_get-within xs i d (omega arith)
+
+-- the element at an index of a mapped list
+pub get_or-map : {X Y : Type 0} (f : X → Y) (xs : List X) (i : ℕ) (d : X) → get_or (map f xs) i (f d) ≡ f (get_or xs i d)
+get_or-map f [] i d = refl
+get_or-map f (x ∷ xs) zero d = refl
+get_or-map f (x ∷ xs) (suc i) d = get_or-map f xs i d
+
+-- f of the first so many elements, and the others as they are
+abbrev pub front : {X : Type 0} → (X → X) → ℕ → List X → List X
+front f i xs = map f (take i xs) ++ drop i xs
+
+pub front-at : {X : Type 0} (f : X → X) (i : ℕ) (xs : List X) (d : X) → get_or (front f i xs) i d ≡ get_or xs i d
+front-at f zero xs d = refl
+front-at f (suc i) [] d = refl
+front-at f (suc i) (x ∷ xs) d = front-at f i xs d
+
+front-set : {X : Type 0} (f : X → X) (i : ℕ) (xs : List X) (d : X) → i < length xs → set (front f i xs) i (f (get_or xs i d)) ≡ front f (suc i) xs
+front-set f i [] d h = absurd (omega arith)
+front-set f zero (x ∷ xs) d h = refl
+front-set f (suc i) (x ∷ xs) d h = ap (λ l. f x ∷ l) (front-set f i xs d (omega arith))
+
+-- one more element is changed
+pub front-more : {X : Type 0} (f : X → X) (i : ℕ) (start now : List X) (x d : X) → i < length start → x ≡ f (get_or now i d) → now ≡ front f i start →
+    set now i x ≡ front f (i + 1) start
+front-more f i start now x d h is e =
+    ap (set now i) (is ∙ ap (λ l. f (get_or l i d)) e ∙ ap f (front-at f i start d))
+    ∙ ap (λ l. set l i (f (get_or start i d))) e ∙ front-set f i start d h ∙ ap (λ n. front f n start) (sym (add-one i))
+
+pub on_ok : {T E : Type 0} (r : Result T E) (P Q : Type 0) → (P → Q) → OnOk r P → OnOk r Q
+on_ok (Ok x) P Q f h = f h
+on_ok (Err e) P Q f h = h
+
+pub on_err : {T E : Type 0} (r : Result T E) (P : Type 0) → P → OnErr r P
+on_err (Ok x) P h = tt
+on_err (Err e) P h = h
+
+-- each element passes
+pub list_all-within : {X : Type 0} (p : X → Bool) (xs : List X) (i : ℕ) (d : X) → i < length xs → list_all p xs ≡ true → p (get_or xs i d) ≡ true
+list_all-within p [] i d lt h = absurd (omega arith)
+list_all-within p (x ∷ xs) zero d lt h = (and_parts (p x) (list_all p xs) h).0
+list_all-within p (x ∷ xs) (suc i) d lt h = list_all-within p xs i d (omega arith) (and_parts (p x) (list_all p xs) h).1

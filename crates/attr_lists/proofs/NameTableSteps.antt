@@ -1,0 +1,150 @@
+-- What the steps of an addition and of a removal do to a name table.
+use Rattle.std.proofs.Common.{◌≡◌, ℕ, ◌<◌, ◌≤◌, ◌⊎◌, Bool, false, List, [], ◌++◌, length, get_or, set, take, map, All, Some, sym, ap, subst, ◌∙◌}
+use Rattle.std.proofs.Common.{⊎_elim, arith}
+use Rattle.std.proofs.lemmas.List.{length-map, length-take, get_or-take, get_or_past, ext_get_or, take_at}
+use Rattle.std.proofs.lemmas.List.FromFn.{fill_by_all}
+use Rattle.std.proofs.lemmas.Bool.{cases_lt}
+use Rattle.attr_lists.specs.declared.name_table.entry.NameEntry.{NameEntry}
+use Rattle.attr_lists.specs.Definitions.{bodies_defined, definition_of, of_other_lists, by_number, is_active, free_id, with_list}
+use Rattle.attr_lists.specs.Definitions.{without_list, HoldsList, KeepsNumbers, StayRegistered, IsSoundCollection}
+use Rattle.attr_lists.specs.inner.EntrySteps.{HasBodies, KeepsOtherDefinitions, RemovesDefinitions}
+use Rattle.attr_lists.specs.inner.EntryViews.{definitions_view, all_definitions, definitions_at, IsEntry, AreEntries, AreValid}
+use Rattle.attr_lists.specs.inner.NameSteps.{AppendsNames}
+use Rattle.attr_lists.specs.inner.NameTableView.{rolled_back, IsPartlyAdded}
+use Rattle.attr_lists.specs.ListViews.{Entry}
+use Rattle.attr_lists.specs.Collections.{MacroDefinition, Collection}
+use Rattle.attr_lists.specs.Numbers.{names_in, with_names, number_of, numbered_lines, IsNumbered}
+use Rattle.attr_lists.proofs.ListLemmas.{get_or-map}
+use Rattle.attr_lists.proofs.NameTableLaws.{of_other_lists-free, free_of, free_is, added_sound, added_holds, added_keeps, list_numbered, number_stays}
+
+-- the table of these parts
+abbrev pub table_of : List (List ℕ) → List NameEntry → List Bool → Collection
+table_of names entries active = record { names = names; definitions = all_definitions entries; active = active }
+
+pub AreEntries-take : (n : ℕ) (entries : List NameEntry) → AreEntries entries → AreEntries (take n entries)
+AreEntries-take n entries all = λ k d lt.
+    subst (IsEntry k) (sym (get_or-take n entries k d (omega (arith, length-take n entries)))) (all k d (omega (arith, length-take n entries)))
+
+-- the definitions of all names, from those of each name
+pub all_defined : (start before now : List NameEntry) (names : List (List ℕ)) (list_id : ℕ) (lines : List Entry) → length now ≡ length names
+    → ((n : ℕ) → n < length now → definitions_at now n ≡ definitions_at before n ++ map (definition_of list_id) (bodies_defined n lines))
+    → ((n : ℕ) → definitions_at before n ≡ definitions_at start n)
+    → all_definitions now ≡ by_number (length names) (λ n. definitions_at start n ++ map (definition_of list_id) (bodies_defined n lines))
+all_defined start before now names list_id lines len defined same =
+    fill_by_all (λ n. definitions_at start n ++ map (definition_of list_id) (bodies_defined n lines)) (all_definitions now) (length names) []
+    (length-map now definitions_view ∙ len)
+    (λ n lt. defined n (omega arith) ∙ ap (λ l. l ++ map (definition_of list_id) (bodies_defined n lines)) (same n))
+
+-- lists of definitions are equal if they have the same ones for each number
+same_definitions : (xs ys : List (List MacroDefinition)) → length xs ≡ length ys → ((n : ℕ) → get_or xs n [] ≡ get_or ys n []) → xs ≡ ys
+same_definitions xs ys len same = ext_get_or [] xs ys len (λ n lt. same n)
+
+-- a roll back leaves the definitions that were there before the addition
+definitions_back : (start mid : List (List MacroDefinition)) (list_id : ℕ) → length start ≤ length mid
+    → ((n : ℕ) → of_other_lists list_id (get_or mid n []) ≡ of_other_lists list_id (get_or start n []))
+    → ((n : ℕ) → of_other_lists list_id (get_or start n []) ≡ get_or start n [])
+    → map (of_other_lists list_id) (take (length start) mid) ≡ start
+definitions_back start mid list_id more same free =
+    let len : length (take (length start) mid) ≡ length start = omega (arith, length-take (length start) mid) in
+    same_definitions (map (of_other_lists list_id) (take (length start) mid)) start
+    (length-map (take (length start) mid) (of_other_lists list_id) ∙ len)
+    (λ n. get_or-map (of_other_lists list_id) (take (length start) mid) n []
+    ∙ ⊎_elim
+    (λ lt. ap (of_other_lists list_id) (get_or-take (length start) mid n [] lt) ∙ same n ∙ free n)
+    (λ past. ap (of_other_lists list_id) (get_or_past (take (length start) mid) n [] (omega arith)) ∙ sym (get_or_past start n [] past))
+    (cases_lt n (length start)))
+
+-- a roll back leaves the table that was there before the addition
+pub rolled_back_is : (old mid : Collection) (list_id count : ℕ) → IsSoundCollection old → is_active old.active list_id ≡ false
+    → count ≡ length old.definitions → IsPartlyAdded list_id old mid → rolled_back count list_id mid ≡ old
+rolled_back_is old mid list_id count sound free count_is part =
+    let len : length old.names ≡ count = omega (arith, sound.counted, count_is) in
+    let names : take count mid.names ≡ old.names = ap (take count) part.names.1 ∙ take_at old.names part.names.0 count len in
+    let definitions : map (of_other_lists list_id) (take count mid.definitions) ≡ old.definitions =
+    ap (λ k. map (of_other_lists list_id) (take k mid.definitions)) count_is
+    ∙ definitions_back old.definitions mid.definitions list_id part.counted part.definitions (λ n. free_of old list_id n sound free) in
+    λ j. record { names = names j; definitions = definitions j; active = part.active j }
+
+-- the table after an addition ran out of memory
+pub partly_added : (names names' : List (List ℕ)) (active active' : List Bool) (old new items : List NameEntry) (list_id : ℕ)
+    → AppendsNames names names' → length old ≤ length new → KeepsOtherDefinitions list_id old new → items ≡ new → active' ≡ active
+    → IsPartlyAdded list_id (table_of names old active) (table_of names' items active')
+partly_added names names' active active' old new items list_id more longer others items_is same = record {
+  names = more;
+  counted = omega (arith, length-map old definitions_view, length-map items definitions_view, ap length items_is, longer);
+  definitions = λ n. ap (λ l. of_other_lists list_id (definitions_at l n)) items_is ∙ others n;
+  active = same;
+}
+
+-- the same after the definitions of the list were added: `borrowed` are the entries before, `now` those after
+pub partly_defined : (names names' : List (List ℕ)) (active active' : List Bool) (old before borrowed now items : List NameEntry) (list_id : ℕ)
+    → AppendsNames names names' → length old ≤ length before → ((n : ℕ) → definitions_at before n ≡ definitions_at old n)
+    → borrowed ≡ before → length now ≡ length borrowed → KeepsOtherDefinitions list_id borrowed now → items ≡ now → active' ≡ active
+    → IsPartlyAdded list_id (table_of names old active) (table_of names' items active')
+partly_defined names names' active active' old before borrowed now items list_id more longer extended borrowed_is len others items_is same =
+    partly_added names names' active active' old now items list_id more (omega (arith, len, ap length borrowed_is, longer))
+    (λ n. others n ∙ ap (λ l. of_other_lists list_id (definitions_at l n)) borrowed_is ∙ ap (of_other_lists list_id) (extended n)) items_is same
+
+-- the definitions of a registered list are removed
+all_removed : (old now : List NameEntry) (list_id : ℕ) (lines : List Entry) → length now ≡ length old
+    → ((n : ℕ) → HasBodies list_id n lines (definitions_at old n))
+    → RemovesDefinitions list_id lines old now
+    → all_definitions now ≡ map (of_other_lists list_id) (all_definitions old)
+all_removed old now list_id lines len bodies gone =
+    same_definitions (all_definitions now) (map (of_other_lists list_id) (all_definitions old))
+    (length-map now definitions_view ∙ len ∙ sym (length-map old definitions_view) ∙ sym
+    (length-map (all_definitions old) (of_other_lists list_id)))
+    (λ n. ⊎_elim (λ g. g) (λ kept. kept.0 ∙ sym (of_other_lists-free list_id (definitions_at old n) (bodies n ∙ kept.1))) (gone n) ∙ sym
+    (get_or-map (of_other_lists list_id) (all_definitions old) n []))
+
+-- the table after a registered list is removed
+pub removed_is : (names : List (List ℕ)) (active : List Bool) (old borrowed now items : List NameEntry) (list_id : ℕ) (lines : List Entry)
+    → borrowed ≡ old → length now ≡ length borrowed → items ≡ now
+    → ((n : ℕ) → HasBodies list_id n lines (definitions_at old n))
+    → RemovesDefinitions list_id lines borrowed now
+    → table_of names items (set active list_id false) ≡ without_list list_id (table_of names old active)
+removed_is names active old borrowed now items list_id lines same len items_is bodies gone =
+    let all = all_removed borrowed now list_id lines len (λ n. subst (λ l. HasBodies list_id n lines (definitions_at l n)) (sym same) (bodies n)) gone
+    in
+    ap (λ d. record { names = names; definitions = d; active = set active list_id false })
+    (ap all_definitions items_is ∙ all ∙ ap (λ l. map (of_other_lists list_id) (all_definitions l)) same)
+
+-- the clauses of an addition
+module _ (old now new : Collection) (list_id : ℕ) (entries lines : List Entry) (is : old ≡ now) (id_is : list_id ≡ free_id old.active)
+    (added : new ≡ with_list list_id entries old) (numbered_is : lines ≡ numbered_lines new.names entries) (sound : IsSoundCollection old) where
+  names_are : new.names ≡ with_names old.names (names_in entries)
+  names_are = ap (λ (v : Collection). v.names) added
+
+  exact : with_list (free_id old.active) entries old ≡ new
+  exact = sym (added ∙ ap (λ m. with_list m entries old) id_is)
+
+  lines_are : numbered_lines (with_names old.names (names_in entries)) entries ≡ lines
+  lines_are = sym (numbered_is ∙ ap (λ names. numbered_lines names entries) names_are)
+
+  pub is_fresh : is_active now.active list_id ≡ false
+  is_fresh = ap (λ (v : Collection). is_active v.active list_id) (sym is) ∙ ap (is_active old.active) id_is ∙ free_is old.active
+
+  pub is_added : new ≡ with_list list_id entries now
+  is_added = added ∙ ap (with_list list_id entries) is
+
+  pub is_sound : (AreValid old.names → AreValid new.names) → IsSoundCollection new
+  is_sound valid = subst IsSoundCollection exact (added_sound old entries sound (subst AreValid names_are (valid sound.valid)))
+
+  pub are_numbered : All (IsNumbered new.names) lines
+  are_numbered = subst (λ ls. All (IsNumbered new.names) ls) (sym numbered_is)
+      (subst (λ names. All (IsNumbered names) (numbered_lines names entries)) (sym names_are) (list_numbered old.names entries))
+
+  pub are_kept : KeepsNumbers now new
+  are_kept name number h =
+      subst (λ names. number_of names name ≡ Some number) (sym names_are)
+      (number_stays old.names (names_in entries) name number (subst (λ (v : Collection). number_of v.names name ≡ Some number) (sym is) h))
+
+  pub is_held : HoldsList new list_id lines
+  is_held =
+      subst (λ v. HoldsList v list_id lines) exact
+      (subst (λ m. HoldsList (with_list (free_id old.active) entries old) m lines) (sym id_is)
+      (subst (HoldsList (with_list (free_id old.active) entries old) (free_id old.active)) lines_are (added_holds old entries sound)))
+
+  pub are_held : StayRegistered now new
+  are_held other es h =
+      subst (λ v. HoldsList v other es) exact (added_keeps old entries sound other es (subst (λ v. HoldsList v other es) (sym is) h))

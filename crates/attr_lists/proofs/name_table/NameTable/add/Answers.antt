@@ -1,0 +1,71 @@
+-- The table has the list after that, or is the one that was there.
+use Rattle.std.proofs.Common.{◌≡◌, false, ap, sym, ◌∙◌, subst, arith}
+use Rattle.std.proofs.lemmas.List.{length-map}
+use Rattle.attr_lists.specs.Definitions.{free_id, with_list, is_active, IsSoundCollection}
+use Rattle.attr_lists.specs.inner.EntryViews.{definitions_view}
+use Rattle.attr_lists.specs.ListViews.{entries_view}
+use Rattle.attr_lists.specs.inner.NameTableView.{parts_view}
+use Rattle.attr_lists.proofs.NameTableLaws.{free_is}
+use Rattle.attr_lists.proofs.NameTableSteps.{rolled_back_is, is_fresh, is_added, is_sound, are_numbered, are_kept, is_held, are_held}
+use Rattle.attr_lists.proofs.name_table.NameTable.add.Goals as goal
+
+id_is : (c : goal.After-mappings-1) → c.free_id-list_id.result ≡ free_id c.self.inside.parts.active.items
+id_is c = c.free_id-list_id.ensures ∙ ap free_id c.deref.ensures.value
+
+pub returns-in-Ok-clause-added : goal.returns-in-Ok-clause-added
+returns-in-Ok-clause-added c =
+    is_added (parts_view c.self.inside.parts) c.args.self.now _ c.free_id-list_id.result (entries_view c.args.mappings.now)
+    (entries_view c.number_list.new.mappings) c.self.view_is (id_is c) c.in-Ok.ensures.added c.number_list.ensures c.self.invariant.sound
+
+pub returns-in-Ok-clause-fresh : goal.returns-in-Ok-clause-fresh
+returns-in-Ok-clause-fresh c =
+    is_fresh (parts_view c.self.inside.parts) c.args.self.now _ c.free_id-list_id.result (entries_view c.args.mappings.now)
+    (entries_view c.number_list.new.mappings) c.self.view_is (id_is c) c.in-Ok.ensures.added c.number_list.ensures c.self.invariant.sound
+
+pub returns-in-Ok-clause-numbers : goal.returns-in-Ok-clause-numbers
+returns-in-Ok-clause-numbers c =
+    are_numbered (parts_view c.self.inside.parts) c.args.self.now _ c.free_id-list_id.result (entries_view c.args.mappings.now)
+    (entries_view c.number_list.new.mappings) c.self.view_is (id_is c) c.in-Ok.ensures.added c.number_list.ensures c.self.invariant.sound
+
+pub returns-in-Ok-clause-kept : goal.returns-in-Ok-clause-kept
+returns-in-Ok-clause-kept c =
+    are_kept (parts_view c.self.inside.parts) c.args.self.now _ c.free_id-list_id.result (entries_view c.args.mappings.now)
+    (entries_view c.number_list.new.mappings) c.self.view_is (id_is c) c.in-Ok.ensures.added c.number_list.ensures c.self.invariant.sound
+
+pub returns-in-Ok-clause-holds : goal.returns-in-Ok-clause-holds
+returns-in-Ok-clause-holds c =
+    is_held (parts_view c.self.inside.parts) c.args.self.now _ c.free_id-list_id.result (entries_view c.args.mappings.now)
+    (entries_view c.number_list.new.mappings) c.self.view_is (id_is c) c.in-Ok.ensures.added c.number_list.ensures c.self.invariant.sound
+
+pub returns-in-Ok-clause-others : goal.returns-in-Ok-clause-others
+returns-in-Ok-clause-others c =
+    are_held (parts_view c.self.inside.parts) c.args.self.now _ c.free_id-list_id.result (entries_view c.args.mappings.now)
+    (entries_view c.number_list.new.mappings) c.self.view_is (id_is c) c.in-Ok.ensures.added c.number_list.ensures c.self.invariant.sound
+
+pub invariant_of-self : goal.invariant_of-self
+invariant_of-self c = record {
+  sound = is_sound (parts_view c.self.inside.parts) c.args.self.now _ c.free_id-list_id.result (entries_view c.args.mappings.now)
+      (entries_view c.number_list.new.mappings) c.self.view_is (id_is c) c.in-Ok.ensures.added c.number_list.ensures c.self.invariant.sound
+      c.in-Ok.ensures.valid;
+  entries = c.insert.ensures.entries c.self.invariant.entries;
+}
+
+same : (c : goal.After-roll_back) → parts_view c.roll_back.new.self ≡ parts_view c.self.inside.parts
+same c =
+    let free : is_active c.self.inside.parts.active.items c.free_id-list_id.result ≡ false =
+    ap (is_active c.self.inside.parts.active.items) (c.free_id-list_id.ensures ∙ ap free_id c.deref.ensures.value)
+    ∙ free_is c.self.inside.parts.active.items in
+    c.roll_back.ensures.table
+    ∙ rolled_back_is (parts_view c.self.inside.parts) (parts_view c.insert.new.self) c.free_id-list_id.result c.len-count.result
+    c.self.invariant.sound free
+    (omega (arith, c.len-count.ensures, c.self.inside.parts.entries.ok.0, length-map c.self.inside.parts.entries.items definitions_view))
+    c.in-Err.ensures.err
+
+pub returns-in-Err-clause-err : goal.returns-in-Err-clause-err
+returns-in-Err-clause-err c = same c ∙ c.self.view_is
+
+pub invariant_of-self-in-Err : goal.invariant_of-self-in-Err
+invariant_of-self-in-Err c = record {
+  sound = subst IsSoundCollection (sym (same c)) c.self.invariant.sound;
+  entries = c.roll_back.ensures.entries (c.insert.ensures.entries c.self.invariant.entries);
+}

@@ -1,7 +1,0 @@
-use Rattle.std.proofs.Common.{◌≡◌, ◌++◌, map, take, drop}
-use Rattle.attr_lists.specs.KnownViews.{texts_of}
-use Rattle.attr_lists.specs.Numbers.{numbered_item}
-use Rattle.attr_lists.proofs.numbering.numbers.number_items.Given as goal
-
-abbrev pub invariant-loop-item : goal.invariant-loop-item
-invariant-loop-item l = l.items ≡ map (numbered_item (texts_of l.names)) (take l.item-index l.initial.items) ++ drop l.item-index l.initial.items

@@ -1,0 +1,25 @@
+use Rattle.std.proofs.Common.{◌≡◌, ◌∙◌, ap}
+use Rattle.std.specs.Result.{result_ok, result_err}
+use Rattle.attr_lists.specs.ListViews.{entries_view}
+use Rattle.attr_lists.specs.KeptLists.{line_read, kept_list, macros_valid}
+use Rattle.attr_lists.proofs.KeptLemmas.{given-more, given-all}
+use Rattle.attr_lists.proofs.KeptLaws.{kept_macros_valid}
+use Rattle.attr_lists.proofs.parser.AttributesPattern.bytes_to_patterns.Goals as goal
+
+pub loop-line-preserved : goal.loop-line-preserved
+loop-line-preserved c = record {
+  kept = given-more _ line_read result_ok _ _ _ _ _ _ _ c.loop-line.invariant.kept c.in-Some.ensures.steps c.in_ok-read.ensures
+      c.in_ok-push_line.ensures.kept;
+  left_out = given-more _ line_read result_err _ _ _ _ _ _ _ c.loop-line.invariant.left_out c.in-Some.ensures.steps c.in_ok-read.ensures
+      c.in_ok-push_line.ensures.left_out;
+}
+
+pub returns : goal.returns
+returns c =
+    let kept : entries_view c.loop-line.mappings.items ≡ kept_list c.args.bytes.now = given-all _ _ _ _ c.loop-line.invariant.kept
+    c.in-None.ensures.steps.0 in
+    record {
+      kept = kept;
+      left_out = given-all _ _ _ _ c.loop-line.invariant.left_out c.in-None.ensures.steps.0;
+      valid = ap macros_valid kept ∙ kept_macros_valid c.args.bytes.now;
+    }

@@ -1,0 +1,7 @@
+-- Relations between functions inside the crate (own). No contract of a public call reaches them, so none of them has to be
+-- believed.
+pub mod EntryViews
+pub mod EntrySteps
+pub mod NameSteps
+pub mod NameTableView
+pub mod LineSteps

@@ -1,0 +1,206 @@
+//! Numbers of attribute names, and the definitions of macros in the lists that are registered.
+//!
+//! A definition belongs to a list, and is removed with it. Each list is registered under a list id.
+ghost use Rattle.std.specs.Prelude.{◌≡◌, true, false, ◌<◌, ◌↔◌, length, All, Some, None, nat_lt, if◌then◌else◌, option_map, IfOk, OnOk, OnErr, IfSome, IsSome, IsTrue};
+ghost use Rattle.attr_lists.specs.Definitions.{macro_body, is_active, free_id, with_list, without_list, HoldsList, KeepsNumbers, StayRegistered, OthersStayRegistered, IsSoundCollection};
+ghost use Rattle.std.specs.Iterator.{YieldsFirstBy, item_count};
+ghost use Rattle.attr_lists.specs.NameViews.{named_body, names_from, named_view, names_left};
+ghost use Rattle.attr_lists.specs.KeptLists.{macros_valid};
+ghost use Rattle.attr_lists.specs.ListViews.{entries_view};
+ghost use Rattle.attr_lists.specs.Collections.{empty_collection};
+ghost use Rattle.attr_lists.specs.Numbers.{number_of, numbered_lines, IsNumbered};
+
+mod entry;
+mod numbers;
+mod parts;
+
+use crate::name_table::parts::{Parts, free_id, is_active};
+use crate::types::{Metadata, Value};
+use attr_glob::search::pattern::Mapping;
+use indexmap::IndexSet;
+use std::alloc::{AllocError, Global};
+use std::marker::Model;
+
+/// Attribute names by number, and the definitions of macros, each under the list id of its list.
+#[derive(Debug, Drop)]
+pub struct NameTable {
+    parts: Parts,
+}
+
+impl Model for NameTable {
+    ghost use Rattle.attr_lists.specs.Collections.{Collection};
+
+    ghost Value = { Collection };
+
+    ghost use Rattle.attr_lists.specs.inner.NameTableView.{name_table_view, IsNameTable};
+
+    ghost view = { name_table_view };
+
+    ghost invariant = { IsNameTable };
+}
+
+impl NameTable {
+    /// A table without names and lists. It takes no memory.
+    pub fn new(alloc: Global) -> NameTable
+        ensures { result ≡ empty_collection }
+    {
+        NameTable {
+            parts: Parts {
+                names: IndexSet::new(alloc),
+                entries: Vec::new(alloc),
+                active: Vec::new(alloc),
+            },
+        }
+    }
+
+    /// The count of names. The numbers of the names are those below it.
+    pub fn len(&self) -> usize
+        ensures count { result ≡ length self.now.names }
+        ensures sound { IsSoundCollection self.now }
+    {
+        self.parts.names.len()
+    }
+
+    /// The number of a name, if the table has it.
+    pub fn number_of(&self, name: &str) -> Option<usize>
+        ensures { result ≡ number_of self.now.names name.now }
+    {
+        numbers::number_of(&self.parts.names, name)
+    }
+
+    /// The number of the name and the items that it expands to, if there is a name with this number.
+    pub fn metadata(&self, number: usize) -> Option<&Metadata>
+        ensures variant { IsSome result ↔ (number < length self.now.names) }
+        ensures id { IfSome result (λ metadata. metadata.now.id.0 ≡ number) }
+        ensures body { IfSome result (λ m. m.now.macro_attributes.items
+            ≡ macro_body self.now number) }
+    {
+        let entry = self.parts.entries.get(number)?;
+        Some(entry.metadata())
+    }
+
+    /// The names with their metadata, by number.
+    pub fn iter(&self) -> Names<'_>
+        ensures { names_left result ≡ names_from self.now 0 }
+    {
+        Names {
+            table: self,
+            number: 0,
+        }
+    }
+
+    fn named(&self, number: usize) -> Option<(&str, &Metadata)>
+        ensures { option_map named_view result
+            ≡ (if nat_lt number (length self.now.names)
+            then Some (named_body self.now number) else None) }
+    {
+        let name = self.parts.names.get_index(number)?;
+        let entry = self.parts.entries.get(number)?;
+        Some((name.as_str(), entry.metadata()))
+    }
+
+    /// Registers a list and returns its list id, the least that is free. The list's new names get the next numbers, its
+    /// items and macros the numbers of their names, and its definitions come after those of the other lists.
+    ///
+    /// # Errors
+    ///
+    /// If memory runs out. The table and the list are then as they were.
+    pub fn add(
+        &mut self,
+        alloc: Global,
+        mappings: &mut [Mapping<Value>],
+    ) -> Result<usize, AllocError>
+        requires { macros_valid (entries_view mappings.old) ≡ true }
+        ensures list_id { IfOk result (λ list_id. list_id ≡ free_id self.old.active) }
+        ensures fresh { IfOk result (λ list_id. is_active self.old.active list_id ≡ false) }
+        ensures added { IfOk result (λ list_id. self.new
+            ≡ with_list list_id (entries_view mappings.old) self.old) }
+        ensures numbered { OnOk result (entries_view mappings.new
+            ≡ numbered_lines self.new.names (entries_view mappings.old)) }
+        ensures numbers { OnOk result
+            (All (IsNumbered self.new.names) (entries_view mappings.new)) }
+        ensures kept { OnOk result (KeepsNumbers self.old self.new) }
+        ensures holds { IfOk result
+            (λ list_id. HoldsList self.new list_id (entries_view mappings.new)) }
+        ensures others { OnOk result (StayRegistered self.old self.new) }
+        ensures err { OnErr result (self.new ≡ self.old) }
+        ensures err_list { OnErr result (mappings.new ≡ mappings.old) }
+    {
+        let count = self.parts.entries.len();
+        let list_id = free_id(&self.parts.active);
+        match self.parts.insert(alloc, list_id, mappings) {
+            Ok(()) => {
+                numbers::number_list(&self.parts.names, mappings);
+                Ok(list_id)
+            }
+            Err(error) => {
+                self.parts.roll_back(count, list_id);
+                Err(error)
+            }
+        }
+    }
+
+    /// Removes the list with this list id and its definitions. Each name then has the body of the last definition that is left,
+    /// and keeps its number. It takes no memory, and looks only at the names that the list defines.
+    pub fn remove(&mut self, list_id: usize, mappings: &[Mapping<Value>])
+        requires { HoldsList self.old list_id (entries_view mappings.now) }
+        ensures removed { self.new ≡ without_list list_id self.old }
+        ensures others { OthersStayRegistered list_id self.old self.new }
+    {
+        entry::remove_list(&mut self.parts.entries, list_id, mappings);
+        self.parts.active[list_id] = false;
+    }
+
+    /// Whether the list is registered under the list id: its macros have the numbers of their names, and for each name the
+    /// definitions under the list id are, in their order, those of the list. It takes no memory. It goes through the list once
+    /// for each name that the list defines.
+    pub fn holds(&self, list_id: usize, mappings: &[Mapping<Value>]) -> bool
+        ensures { IsTrue result ↔ HoldsList self.now list_id (entries_view mappings.now) }
+    {
+        is_active(&self.parts.active, list_id) && self.parts.has_list(list_id, mappings)
+    }
+
+    /// A copy, with the lists that are registered.
+    ///
+    /// # Errors
+    ///
+    /// If memory runs out.
+    pub fn clone(&self, alloc: Global) -> Result<NameTable, AllocError>
+        ensures { IfOk result (λ copy. copy ≡ self.now) }
+    {
+        let names = numbers::clone_names(alloc, &self.parts.names)?;
+        let entries = entry::clone_entries(alloc, &self.parts.entries)?;
+        let active = Vec::from_slice(alloc, &self.parts.active)?;
+        Ok(NameTable {
+            parts: Parts {
+                names,
+                entries,
+                active,
+            },
+        })
+    }
+}
+
+/// An iterator over names and their metadata, by number.
+#[derive(Drop)]
+pub struct Names<'a> {
+    table: &'a NameTable,
+    number: usize,
+}
+
+impl<'a> Iterator for Names<'a> {
+    type Item = (&'a str, &'a Metadata);
+
+    ghost next_gives = { YieldsFirstBy named_view names_left };
+
+    ghost remaining = { item_count names_left };
+
+    fn next(&mut self) -> Option<(&'a str, &'a Metadata)> {
+        if self.number >= self.table.len() {
+            return None;
+        }
+        let named = self.table.named(self.number)?;
+        self.number += 1;
+        Some(named)
+    }
+}

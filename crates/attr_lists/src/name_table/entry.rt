@@ -1,0 +1,361 @@
+//! The entries of names: their definitions as macros.
+ghost use Rattle.std.specs.Prelude.{◌≡◌, true, ◌≤◌, ◌<◌, ◌↔◌, ◌==◌, not, filter, ◌++◌, [], ◌∷◌, ℕ, length, map, option_map, MatchOption, IfOk, OnOk, OnErr, IsTrue};
+ghost use Rattle.std.specs.List.{list_any, list_all};
+ghost use Rattle.std.specs.Option.{option_to_list};
+ghost use Rattle.attr_lists.specs.Definitions.{bodies_defined, definition_of, is_of_list, of_other_lists, last_body};
+ghost use Rattle.attr_lists.specs.KeptLists.{macro_valid, macros_valid};
+ghost use Rattle.attr_lists.specs.inner.EntrySteps.{AddsDefinitions, KeepsOtherDefinitions, RemovesDefinitions, HasBodies, AgreesOn};
+ghost use Rattle.attr_lists.specs.inner.EntryViews.{numbered_view, definition_view, definitions_view, is_defined_in, all_definitions, definitions_at, IsEntry, AreEntries};
+ghost use Rattle.attr_lists.specs.ListViews.{entry_view, entries_view};
+
+use crate::name_table::numbers::{id_of, macro_name, numbered_copy};
+use crate::types::{Assignments, AttributeId, Metadata, TrackedAssignment, Value};
+use attr_glob::search::pattern::Mapping;
+use indexmap::IndexSet;
+use std::alloc::{AllocError, Global};
+use std::rc::RcStr;
+
+/// The definitions of a name.
+#[derive(Debug, Drop)]
+pub(super) struct NameEntry {
+    // The metadata without a definition: no body.
+    undefined: Metadata,
+    // The latest is the last.
+    definitions: Vec<Definition>,
+}
+
+/// A definition of a macro.
+#[derive(Debug, Drop)]
+struct Definition {
+    // The list id of its list.
+    list_id: usize,
+    metadata: Metadata,
+}
+
+impl NameEntry {
+    fn of(alloc: Global, number: usize) -> NameEntry
+        ensures entry { IsEntry number result }
+        ensures definitions { definitions_view result ≡ [] }
+    {
+        NameEntry {
+            undefined: Metadata::of(alloc, AttributeId(number)),
+            definitions: Vec::new(alloc),
+        }
+    }
+
+    /// The number, and the body of the last definition.
+    pub(super) fn metadata(&self) -> &Metadata
+        ensures id { (number : ℕ) → IsEntry number self.now → result.now.id.0 ≡ number }
+        ensures body { (number : ℕ) → IsEntry number self.now →
+            result.now.macro_attributes.items ≡ last_body (definitions_view self.now) }
+    {
+        match self.definitions.last() {
+            Some(definition) => &definition.metadata,
+            None => &self.undefined,
+        }
+    }
+
+    // Adds a definition.
+    fn define(&mut self, list_id: usize, metadata: Metadata) -> Result<(), AllocError>
+        ensures ok { OnOk result (definitions_view self.new
+            ≡ definitions_view self.old
+            ++ definition_of list_id metadata.macro_attributes.items ∷ []) }
+        ensures err { OnErr result (definitions_view self.new ≡ definitions_view self.old) }
+        ensures entry { IsEntry metadata.id.0 self.old → IsEntry metadata.id.0 self.new }
+    {
+        self.definitions.push(Definition { list_id, metadata })?;
+        Ok(())
+    }
+
+    // Removes the definitions of a list.
+    fn remove(&mut self, list_id: usize)
+        ensures definitions { definitions_view self.new
+            ≡ of_other_lists list_id (definitions_view self.old) }
+        ensures entry { (number : ℕ) → IsEntry number self.old → IsEntry number self.new }
+    {
+        retain_others(&mut self.definitions, list_id);
+    }
+
+    // Whether the list with this list id defines the name.
+    fn is_defined_by(&self, list_id: usize) -> bool
+        ensures { result ≡ list_any (is_of_list list_id) (definitions_view self.now) }
+    {
+        is_any_of(&self.definitions, list_id)
+    }
+
+    // Whether the definitions under the list id are those of the list, if there are any.
+    fn agrees(&self, list_id: usize, number: usize, mappings: &[Mapping<Value>]) -> bool
+        ensures { IsTrue result
+            ↔ AgreesOn list_id number (entries_view mappings.now) (definitions_view self.now) }
+    {
+        !self.is_defined_by(list_id) || self.has_bodies(list_id, number, mappings)
+    }
+
+    // Whether the definitions under the list id are those of the list.
+    fn has_bodies(&self, list_id: usize, number: usize, mappings: &[Mapping<Value>]) -> bool
+        ensures { IsTrue result
+            ↔ HasBodies list_id number (entries_view mappings.now) (definitions_view self.now) }
+    {
+        let mut rest = mappings;
+        for definition in &self.definitions {
+            if definition.list_id == list_id {
+                let Some((body, others)) = first_body(number, rest) else {
+                    return false;
+                };
+                if !is_same(&definition.metadata.macro_attributes, body) {
+                    return false;
+                }
+                rest = others;
+            }
+        }
+        first_body(number, rest).is_none()
+    }
+
+    fn clone(&self, alloc: Global) -> Result<NameEntry, AllocError>
+        ensures definitions { IfOk result (λ copy. definitions_view copy
+            ≡ definitions_view self.now) }
+        ensures entry { IfOk result (λ copy.
+            (number : ℕ) → IsEntry number self.now → IsEntry number copy) }
+    {
+        let undefined = self.undefined.clone(alloc)?;
+        let definitions = clone_definitions(alloc, &self.definitions)?;
+        Ok(NameEntry {
+            undefined,
+            definitions,
+        })
+    }
+}
+
+fn clone_definitions(
+    alloc: Global,
+    definitions: &[Definition],
+) -> Result<Vec<Definition>, AllocError>
+    ensures definitions { IfOk result (λ copy. map definition_view copy.items
+        ≡ map definition_view definitions.now) }
+    ensures ids { IfOk result (λ copy. map (λ d. d.metadata.id.0) copy.items
+        ≡ map (λ d. d.metadata.id.0) definitions.now) }
+{
+    let mut copy = Vec::new(alloc);
+    for definition in definitions {
+        copy.push(Definition {
+            list_id: definition.list_id,
+            metadata: definition.metadata.clone(alloc)?,
+        })?;
+    }
+    Ok(copy)
+}
+
+fn is_any_of(definitions: &[Definition], list_id: usize) -> bool
+    ensures { result ≡ list_any (λ d. d.list_id == list_id) definitions.now }
+{
+    definitions
+        .iter()
+        .any(|definition| definition.list_id == list_id)
+}
+
+fn is_same(x: &[TrackedAssignment], y: &[TrackedAssignment]) -> bool
+    ensures { IsTrue result ↔ (x.now ≡ y.now) }
+{
+    x == y
+}
+
+// The body in the first line that defines the name, and the lines after it.
+fn first_body(
+    number: usize,
+    mappings: &[Mapping<Value>],
+) -> Option<(&Assignments, &[Mapping<Value>])>
+    ensures { MatchOption result
+        (bodies_defined number (entries_view mappings.now) ≡ [])
+        (λ r. bodies_defined number (entries_view mappings.now)
+        ≡ r.0.now.items ∷ bodies_defined number (entries_view r.1.now)) }
+{
+    for (index, mapping) in mappings.iter().enumerate() {
+        if let Some(body) = body_of(number, mapping) {
+            return Some((body, &mappings[index + 1..]));
+        }
+    }
+    None
+}
+
+fn body_of(number: usize, mapping: &Mapping<Value>) -> Option<&Assignments>
+    ensures { bodies_defined number (entry_view mapping.now ∷ [])
+        ≡ option_to_list (option_map (λ body. body.now.items) result) }
+{
+    match &mapping.value {
+        Value::MacroAssignments { id, assignments } if id.0 == number => Some(assignments),
+        _ => None,
+    }
+}
+
+// Retains the definitions of all other lists.
+fn retain_others(definitions: &mut Vec<Definition>, list_id: usize)
+    ensures { definitions.new.items
+        ≡ filter (λ d. not (d.list_id == list_id)) definitions.old.items }
+{
+    definitions.retain(|definition| definition.list_id != list_id);
+}
+
+/// Appends entries without a definition, until there are `count`.
+pub(super) fn extend(
+    alloc: Global,
+    entries: &mut Vec<NameEntry>,
+    count: usize,
+) -> Result<(), AllocError>
+    requires { length entries.old.items ≤ count }
+    ensures ok { OnOk result (length entries.new.items ≡ count) }
+    ensures more { length entries.old.items ≤ length entries.new.items }
+    ensures definitions { (number : ℕ) → definitions_at entries.new.items number
+        ≡ definitions_at entries.old.items number }
+    ensures entries { AreEntries entries.old.items → AreEntries entries.new.items }
+{
+    for number in entries.len()..count {
+        entries.push(NameEntry::of(alloc, number))?;
+    }
+    Ok(())
+}
+
+/// Adds the definitions of a list.
+pub(super) fn define_list(
+    alloc: Global,
+    names: &IndexSet<RcStr>,
+    entries: &mut [NameEntry],
+    list_id: usize,
+    mappings: &[Mapping<Value>],
+) -> Result<(), AllocError>
+    requires { macros_valid (entries_view mappings.now) ≡ true }
+    ensures ok { OnOk result (AddsDefinitions list_id
+        (numbered_view names.now mappings.now) entries.old entries.new) }
+    ensures others { KeepsOtherDefinitions list_id entries.old entries.new }
+    ensures entries { AreEntries entries.old → AreEntries entries.new }
+{
+    for mapping in mappings {
+        define_line(alloc, names, entries, list_id, mapping)?;
+    }
+    Ok(())
+}
+
+fn define_line(
+    alloc: Global,
+    names: &IndexSet<RcStr>,
+    entries: &mut [NameEntry],
+    list_id: usize,
+    mapping: &Mapping<Value>,
+) -> Result<(), AllocError>
+    requires { macro_valid (entry_view mapping.now) ≡ true }
+    ensures ok { OnOk result (AddsDefinitions list_id
+        (numbered_view names.now (mapping.now ∷ [])) entries.old entries.new) }
+    ensures others { KeepsOtherDefinitions list_id entries.old entries.new }
+    ensures entries { AreEntries entries.old → AreEntries entries.new }
+{
+    let Value::MacroAssignments { assignments, .. } = &mapping.value else {
+        return Ok(());
+    };
+    let id = id_of(names, macro_name(&mapping.pattern));
+    if id.0 >= entries.len() {
+        return Ok(());
+    }
+    let macro_attributes = numbered_copy(alloc, names, assignments)?;
+    let metadata = Metadata {
+        id,
+        macro_attributes,
+    };
+    entries[id.0].define(list_id, metadata)?;
+    Ok(())
+}
+
+/// Removes all definitions of a list.
+pub(super) fn remove_definitions(entries: &mut [NameEntry], list_id: usize)
+    ensures definitions { all_definitions entries.new
+        ≡ map (of_other_lists list_id) (all_definitions entries.old) }
+    ensures entries { AreEntries entries.old → AreEntries entries.new }
+{
+    for entry in entries.iter_mut() {
+        entry.remove(list_id);
+    }
+}
+
+/// Removes the definitions of a list from the names that its lines define.
+pub(super) fn remove_list(entries: &mut [NameEntry], list_id: usize, mappings: &[Mapping<Value>])
+    ensures definitions { RemovesDefinitions list_id
+        (entries_view mappings.now) entries.old entries.new }
+    ensures entries { AreEntries entries.old → AreEntries entries.new }
+{
+    for mapping in mappings {
+        remove_line(entries, list_id, mapping);
+    }
+}
+
+fn remove_line(entries: &mut [NameEntry], list_id: usize, mapping: &Mapping<Value>)
+    ensures definitions { RemovesDefinitions list_id
+        (entry_view mapping.now ∷ []) entries.old entries.new }
+    ensures entries { AreEntries entries.old → AreEntries entries.new }
+{
+    let Value::MacroAssignments { id, .. } = &mapping.value else {
+        return;
+    };
+    if id.0 < entries.len() {
+        entries[id.0].remove(list_id);
+    }
+}
+
+/// Whether, for each name, the definitions under the list id are those of the lines.
+pub(super) fn has_definitions(
+    entries: &[NameEntry],
+    list_id: usize,
+    mappings: &[Mapping<Value>],
+) -> bool
+    ensures { IsTrue result ↔ ((number : ℕ) →
+        HasBodies list_id number (entries_view mappings.now) (definitions_at entries.now number)) }
+{
+    are_defined(entries, list_id, mappings) && all_agree(entries, list_id, mappings)
+}
+
+// Whether the list has a definition of each macro that the lines define.
+fn are_defined(entries: &[NameEntry], list_id: usize, mappings: &[Mapping<Value>]) -> bool
+    ensures { result ≡ list_all
+        (λ m. is_defined_in list_id entries.now (entry_view m)) mappings.now }
+{
+    mappings
+        .iter()
+        .all(|mapping| is_defined(entries, list_id, mapping))
+}
+
+fn is_defined(entries: &[NameEntry], list_id: usize, mapping: &Mapping<Value>) -> bool
+    ensures { result ≡ is_defined_in list_id entries.now (entry_view mapping.now) }
+{
+    match &mapping.value {
+        Value::MacroAssignments { id, .. } => {
+            id.0 < entries.len() && entries[id.0].is_defined_by(list_id)
+        }
+        Value::Assignments(_) => true,
+    }
+}
+
+// Whether each name that the list defines has the definitions of the lines.
+fn all_agree(entries: &[NameEntry], list_id: usize, mappings: &[Mapping<Value>]) -> bool
+    ensures { IsTrue result ↔ ((number : ℕ) → number < length entries.now →
+        AgreesOn list_id number (entries_view mappings.now) (definitions_at entries.now number)) }
+{
+    for (number, entry) in entries.iter().enumerate() {
+        if !entry.agrees(list_id, number, mappings) {
+            return false;
+        }
+    }
+    true
+}
+
+/// A copy of the entries.
+pub(super) fn clone_entries(
+    alloc: Global,
+    entries: &[NameEntry],
+) -> Result<Vec<NameEntry>, AllocError>
+    ensures definitions { IfOk result (λ copy. all_definitions copy.items
+        ≡ all_definitions entries.now) }
+    ensures entries { IfOk result (λ copy. AreEntries entries.now → AreEntries copy.items) }
+{
+    let mut copy = Vec::new(alloc);
+    for entry in entries {
+        copy.push(entry.clone(alloc)?)?;
+    }
+    Ok(copy)
+}

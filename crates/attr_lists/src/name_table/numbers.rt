@@ -1,0 +1,261 @@
+//! Names by number, and the numbers in the lines of a list.
+ghost use Rattle.std.specs.Prelude.{◌≡◌, true, [], ◌∷◌, map, option_map, bytes_eq, IfOk, OnOk, OnErr, IsTrue};
+ghost use Rattle.std.specs.List.{IsDistinct, list_all};
+ghost use Rattle.std.specs.Rc.{rc_str_bytes};
+ghost use Rattle.attr_text.specs.Names.{is_valid_name};
+ghost use Rattle.attr_lists.specs.KeptLists.{macro_valid, macros_valid};
+ghost use Rattle.attr_lists.specs.inner.EntryViews.{name_texts, numbered_view, is_number_of, has_macro_number, AreValid};
+ghost use Rattle.attr_lists.specs.inner.NameSteps.{InsertsNames, AppendsNames};
+ghost use Rattle.attr_lists.specs.ListViews.{entry_view, entries_view, macro_id, items_in};
+ghost use Rattle.attr_lists.specs.Numbers.{macro_names, names_of, names_in, number_of, id_of, numbered_item, numbered};
+
+use crate::types::{Assignments, AttributeId, TrackedAssignment, Value};
+use attr_glob::Pattern;
+use attr_glob::search::pattern::Mapping;
+use bstr::ByteSlice;
+use indexmap::IndexSet;
+use smallvec::SmallVec;
+use std::alloc::{AllocError, Global};
+use std::rc::RcStr;
+
+/// Inserts the names of a list that are new.
+pub(super) fn insert_names(
+    alloc: Global,
+    names: &mut IndexSet<RcStr>,
+    mappings: &[Mapping<Value>],
+) -> Result<(), AllocError>
+    requires { macros_valid (entries_view mappings.now) ≡ true }
+    ensures ok { OnOk result
+        (InsertsNames (names_in (entries_view mappings.now)) names.old names.new) }
+    ensures valid { OnOk result (AreValid (name_texts names.old) →
+        AreValid (name_texts names.new)) }
+    ensures err { OnErr result (AppendsNames (name_texts names.old) (name_texts names.new)) }
+{
+    for mapping in mappings {
+        insert_line(alloc, names, mapping)?;
+    }
+    Ok(())
+}
+
+fn insert_line(
+    alloc: Global,
+    names: &mut IndexSet<RcStr>,
+    mapping: &Mapping<Value>,
+) -> Result<(), AllocError>
+    requires { macro_valid (entry_view mapping.now) ≡ true }
+    ensures ok { OnOk result
+        (InsertsNames (names_of (entry_view mapping.now)) names.old names.new) }
+    ensures valid { OnOk result (AreValid (name_texts names.old) →
+        AreValid (name_texts names.new)) }
+    ensures err { OnErr result (AppendsNames (name_texts names.old) (name_texts names.new)) }
+{
+    insert_macro(alloc, names, mapping)?;
+    insert_items(alloc, names, items_in(&mapping.value))?;
+    Ok(())
+}
+
+fn insert_macro(
+    alloc: Global,
+    names: &mut IndexSet<RcStr>,
+    mapping: &Mapping<Value>,
+) -> Result<(), AllocError>
+    requires { macro_valid (entry_view mapping.now) ≡ true }
+    ensures ok { OnOk result
+        (InsertsNames (macro_names (entry_view mapping.now)) names.old names.new) }
+    ensures valid { OnOk result (AreValid (name_texts names.old) →
+        AreValid (name_texts names.new)) }
+    ensures err { OnErr result (name_texts names.new ≡ name_texts names.old) }
+{
+    if let Value::MacroAssignments { .. } = &mapping.value {
+        insert_name(alloc, names, macro_name(&mapping.pattern))?;
+    }
+    Ok(())
+}
+
+fn items_in(value: &Value) -> &[TrackedAssignment]
+    ensures { result.now ≡ items_in value.now }
+{
+    match value {
+        Value::MacroAssignments { assignments, .. } => assignments,
+        Value::Assignments(assignments) => assignments,
+    }
+}
+
+fn insert_items(
+    alloc: Global,
+    names: &mut IndexSet<RcStr>,
+    items: &[TrackedAssignment],
+) -> Result<(), AllocError>
+    ensures ok { OnOk result
+        (InsertsNames (map (λ item. item.inner.name) items.now) names.old names.new) }
+    ensures valid { OnOk result (AreValid (name_texts names.old) →
+        AreValid (name_texts names.new)) }
+    ensures err { OnErr result (AppendsNames (name_texts names.old) (name_texts names.new)) }
+{
+    for item in items {
+        insert_name(alloc, names, item.inner.name.as_str())?;
+    }
+    Ok(())
+}
+
+fn insert_name(alloc: Global, names: &mut IndexSet<RcStr>, name: &str) -> Result<(), AllocError>
+    requires { IsTrue (is_valid_name name.now) }
+    ensures ok { OnOk result (InsertsNames (name.now ∷ []) names.old names.new) }
+    ensures valid { OnOk result (AreValid (name_texts names.old) →
+        AreValid (name_texts names.new)) }
+    ensures err { OnErr result (name_texts names.new ≡ name_texts names.old) }
+{
+    if names.contains(name) {
+        return Ok(());
+    }
+    names.insert(RcStr::from_str(alloc, name)?)?;
+    Ok(())
+}
+
+/// The name of the macro that a line defines, which is the text of its pattern.
+pub(super) fn macro_name(pattern: &Pattern) -> &str
+    requires { IsTrue (is_valid_name pattern.now.text.items) }
+    ensures { result.now ≡ pattern.now.text.items }
+{
+    match pattern.text.as_slice().to_str() {
+        Ok(name) => name,
+        Err(_) => unreachable!(),
+    }
+}
+
+/// The id of a name, which is `AttributeId::default()` if the name is not among them.
+pub(super) fn id_of(names: &IndexSet<RcStr>, name: &str) -> AttributeId
+    ensures { result ≡ id_of (name_texts names.now) name.now }
+{
+    match number_of(names, name) {
+        Some(number) => AttributeId(number),
+        None => AttributeId::default(),
+    }
+}
+
+/// The number of a name, which is its index.
+pub(super) fn number_of(names: &IndexSet<RcStr>, name: &str) -> Option<usize>
+    ensures { result ≡ number_of (name_texts names.now) name.now }
+{
+    names.get_index_of(name)
+}
+
+/// A copy of the items, with the numbers of their names.
+pub(super) fn numbered_copy(
+    alloc: Global,
+    names: &IndexSet<RcStr>,
+    items: &[TrackedAssignment],
+) -> Result<Assignments, AllocError>
+    ensures { IfOk result (λ copy. copy.items
+        ≡ map (numbered_item (name_texts names.now)) items.now) }
+{
+    let mut copy = SmallVec::new(alloc);
+    for item in items {
+        copy.push(TrackedAssignment {
+            id: id_of(names, item.inner.name.as_str()),
+            inner: item.inner.clone(alloc)?,
+        })?;
+    }
+    Ok(copy)
+}
+
+/// Sets the numbers of a list: those of its items, and those of the macros that it defines.
+pub(super) fn number_list(names: &IndexSet<RcStr>, mappings: &mut [Mapping<Value>])
+    requires { macros_valid (entries_view mappings.old) ≡ true }
+    ensures { entries_view mappings.new ≡ numbered_view names.now mappings.old }
+{
+    for mapping in mappings.iter_mut() {
+        number_line(names, mapping);
+    }
+}
+
+fn number_line(names: &IndexSet<RcStr>, mapping: &mut Mapping<Value>)
+    requires { macro_valid (entry_view mapping.old) ≡ true }
+    ensures { entry_view mapping.new ≡ numbered (name_texts names.now) (entry_view mapping.old) }
+{
+    number_macro(names, mapping);
+    number_assignments(names, &mut mapping.value);
+}
+
+fn number_macro(names: &IndexSet<RcStr>, mapping: &mut Mapping<Value>)
+    requires { macro_valid (entry_view mapping.old) ≡ true }
+    ensures pattern { mapping.new.pattern ≡ mapping.old.pattern }
+    ensures defined { macro_id mapping.new.value
+        ≡ option_map (λ _. id_of (name_texts names.now) mapping.old.pattern.text.items)
+        (macro_id mapping.old.value) }
+    ensures items { items_in mapping.new.value ≡ items_in mapping.old.value }
+    ensures line { mapping.new.sequence_number ≡ mapping.old.sequence_number }
+{
+    if let Value::MacroAssignments { id, .. } = &mut mapping.value {
+        *id = id_of(names, macro_name(&mapping.pattern));
+    }
+}
+
+fn number_assignments(names: &IndexSet<RcStr>, value: &mut Value)
+    ensures defined { macro_id value.new ≡ macro_id value.old }
+    ensures items { items_in value.new
+        ≡ map (numbered_item (name_texts names.now)) (items_in value.old) }
+{
+    match value {
+        Value::MacroAssignments { assignments, .. } => number_items(names, assignments),
+        Value::Assignments(assignments) => number_items(names, assignments),
+    }
+}
+
+fn number_items(names: &IndexSet<RcStr>, items: &mut [TrackedAssignment])
+    ensures { items.new ≡ map (numbered_item (name_texts names.now)) items.old }
+{
+    for item in items.iter_mut() {
+        item.id = id_of(names, item.inner.name.as_str());
+    }
+}
+
+/// Whether each macro that the list defines has the number of its name.
+pub(super) fn are_macros_numbered(names: &IndexSet<RcStr>, mappings: &[Mapping<Value>]) -> bool
+    ensures { result ≡ list_all
+        (λ m. has_macro_number (name_texts names.now) (entry_view m)) mappings.now }
+{
+    mappings
+        .iter()
+        .all(|mapping| has_macro_number(names, mapping))
+}
+
+fn has_macro_number(names: &IndexSet<RcStr>, mapping: &Mapping<Value>) -> bool
+    ensures { result ≡ has_macro_number (name_texts names.now) (entry_view mapping.now) }
+{
+    match &mapping.value {
+        Value::MacroAssignments { id, .. } => { is_number_of(names, &mapping.pattern.text, *id) }
+        Value::Assignments(_) => true,
+    }
+}
+
+fn is_number_of(names: &IndexSet<RcStr>, name: &[u8], id: AttributeId) -> bool
+    ensures { result ≡ is_number_of (name_texts names.now) name.now id }
+{
+    match names.get_index(id.0) {
+        Some(text) => name == text.as_bytes(),
+        None => false,
+    }
+}
+
+/// A copy of the names, in their order.
+pub(super) fn clone_names(
+    alloc: Global,
+    names: &IndexSet<RcStr>,
+) -> Result<IndexSet<RcStr>, AllocError>
+    requires { IsDistinct bytes_eq (name_texts names.now) }
+    ensures { IfOk result (λ copy. name_texts copy ≡ name_texts names.now) }
+{
+    let mut copy = IndexSet::new(alloc);
+    for name in names.as_slice() {
+        insert(&mut copy, name)?;
+    }
+    Ok(copy)
+}
+
+fn insert(names: &mut IndexSet<RcStr>, name: &RcStr) -> Result<(), AllocError>
+    ensures { OnOk result (InsertsNames (rc_str_bytes name.now ∷ []) names.old names.new) }
+{
+    names.insert(name.clone()?)?;
+    Ok(())
+}

@@ -1,0 +1,114 @@
+//! The parts of a name table, and the steps that add a list to them.
+ghost use Rattle.std.specs.Prelude.{◌≡◌, true, ◌↔◌, ℕ, length, All, OnOk, OnErr, IsTrue};
+ghost use Rattle.attr_lists.specs.Definitions.{bodies_defined, bodies_of_list, free_id, is_active, with_active, with_list};
+ghost use Rattle.attr_lists.specs.KeptLists.{macros_valid};
+ghost use Rattle.attr_lists.specs.ListViews.{entries_view};
+ghost use Rattle.attr_lists.specs.Numbers.{HasMacroNumber};
+ghost use Rattle.attr_lists.specs.inner.EntrySteps.{HasBodies};
+ghost use Rattle.attr_lists.specs.inner.EntryViews.{name_texts, definitions_at, AreEntries, AreValid};
+ghost use Rattle.attr_lists.specs.inner.NameTableView.{parts_view, rolled_back, IsPartlyAdded};
+
+use crate::name_table::entry::NameEntry;
+use crate::name_table::{entry, numbers};
+use crate::types::Value;
+use attr_glob::search::pattern::Mapping;
+use indexmap::IndexSet;
+use std::alloc::{AllocError, Global};
+use std::rc::RcStr;
+
+/// The parts of a table. While a list is added, a name may lack its entry.
+#[derive(Debug, Drop)]
+pub(super) struct Parts {
+    /// The index of a name is its number.
+    pub(super) names: IndexSet<RcStr>,
+    /// The entries of the names, by number.
+    pub(super) entries: Vec<NameEntry>,
+    /// Whether a list is registered under this list id.
+    pub(super) active: Vec<bool>,
+}
+
+impl Parts {
+    /// Adds the names and the definitions of a list under a free list id.
+    ///
+    /// # Errors
+    ///
+    /// If memory runs out. Some names and definitions may have been added then, which `roll_back` removes.
+    pub(super) fn insert(
+        &mut self,
+        alloc: Global,
+        list_id: usize,
+        mappings: &[Mapping<Value>],
+    ) -> Result<(), AllocError>
+        requires valid { macros_valid (entries_view mappings.now) ≡ true }
+        requires counted { length self.old.entries.items ≡ length (name_texts self.old.names) }
+        ensures added { OnOk result (parts_view self.new
+            ≡ with_list list_id (entries_view mappings.now) (parts_view self.old)) }
+        ensures valid { OnOk result (AreValid (name_texts self.old.names) →
+            AreValid (name_texts self.new.names)) }
+        ensures entries { AreEntries self.old.entries.items → AreEntries self.new.entries.items }
+        ensures err { OnErr result
+            (IsPartlyAdded list_id (parts_view self.old) (parts_view self.new)) }
+    {
+        numbers::insert_names(alloc, &mut self.names, mappings)?;
+        entry::extend(alloc, &mut self.entries, self.names.len())?;
+        entry::define_list(alloc, &self.names, &mut self.entries, list_id, mappings)?;
+        mark_active(&mut self.active, list_id)?;
+        Ok(())
+    }
+
+    /// Removes the names from this number on, and all definitions of a list.
+    pub(super) fn roll_back(&mut self, count: usize, list_id: usize)
+        ensures table { parts_view self.new ≡ rolled_back count list_id (parts_view self.old) }
+        ensures entries { AreEntries self.old.entries.items → AreEntries self.new.entries.items }
+    {
+        self.names.truncate(count);
+        self.entries.truncate(count);
+        entry::remove_definitions(&mut self.entries, list_id);
+    }
+
+    /// Whether the list's macros have the numbers of their names, and its definitions are those under the list id.
+    pub(super) fn has_list(&self, list_id: usize, mappings: &[Mapping<Value>]) -> bool
+        ensures { IsTrue result ↔
+            All (HasMacroNumber (name_texts self.now.names)) (entries_view mappings.now)
+            × ((number : ℕ) →
+            HasBodies list_id number (entries_view mappings.now)
+            (definitions_at self.now.entries.items number)) }
+    {
+        numbers::are_macros_numbered(&self.names, mappings)
+            && entry::has_definitions(&self.entries, list_id, mappings)
+    }
+}
+
+pub(super) fn is_active(active: &[bool], list_id: usize) -> bool
+    ensures { result ≡ is_active active.now list_id }
+{
+    if list_id < active.len() {
+        active[list_id]
+    } else {
+        false
+    }
+}
+
+/// The least list id under which no list is registered.
+pub(super) fn free_id(active: &[bool]) -> usize
+    ensures { result ≡ free_id active.now }
+{
+    for (list_id, is_active) in active.iter().enumerate() {
+        if !*is_active {
+            return list_id;
+        }
+    }
+    active.len()
+}
+
+fn mark_active(active: &mut Vec<bool>, list_id: usize) -> Result<(), AllocError>
+    ensures ok { OnOk result (active.new.items ≡ with_active list_id active.old.items) }
+    ensures err { OnErr result (active.new.items ≡ active.old.items) }
+{
+    if list_id < active.len() {
+        active[list_id] = true;
+    } else {
+        active.push(true)?;
+    }
+    Ok(())
+}

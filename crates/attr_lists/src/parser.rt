@@ -1,0 +1,221 @@
+//! The lines of an attributes file as the mappings of a list.
+
+ghost use Rattle.std.specs.Prelude.{◌≡◌, ◌++◌, true, Ok, IfOk, OnOk, MatchOption, filter};
+ghost use Rattle.std.specs.Option.{option_to_list};
+ghost use Rattle.std.specs.Result.{result_ok, result_err, result_map_both};
+ghost use Rattle.attr_glob.specs.Views.{mode_bits, pattern_view};
+ghost use Rattle.attr_text.specs.Names.{is_valid_name};
+ghost use Rattle.attr_text.specs.TextViews.{item_view, target_view, line_view};
+ghost use Rattle.attr_lists.specs.inner.LineSteps.{given_by, IsLineRead, kept_line_view};
+ghost use Rattle.attr_lists.specs.ListViews.{entry_view, entries_view};
+ghost use Rattle.attr_lists.specs.KeptLists.{tracked, reason_of, items_read, macro_mode, macro_pattern, entry_for, line_read, defines_no_macro, macro_valid, macros_valid};
+
+use crate::types::{Assignments, AttributeId, DropReason, Dropped, TrackedAssignment, Value};
+use attr_glob::pattern::Mode;
+use attr_glob::search;
+use attr_glob::search::pattern::Mapping;
+use attr_text::parse::{AttrError, Error, Iter, Kind, parse};
+use attr_text::{AssignmentRef, NameRef};
+use bitflags::Flags;
+use bstr::BStr;
+use smallvec::SmallVec;
+use std::alloc::{AllocError, Global};
+
+/// The patterns of attributes files, whose values are the assignments of their lines.
+#[derive(Clone, Copy, PartialEq, Eq, PartialOrd, Ord, Hash, Debug, Default)]
+pub struct Attributes;
+
+impl search::Pattern for Attributes {
+    type Value = Value;
+
+    type Dropped = Dropped;
+
+    ghost use Rattle.attr_lists.specs.KeptLists.{IsReadAs};
+
+    ghost reads = { λ parse bytes mappings dropped. IsReadAs bytes mappings dropped };
+
+    // The path of the file changes nothing in the lines.
+    fn bytes_to_patterns(
+        &self,
+        alloc: Global,
+        bytes: &[u8],
+        _source: &str,
+    ) -> Result<(Vec<Mapping<Value>>, Vec<Dropped>), AllocError> {
+        let mut mappings = Vec::new(alloc);
+        let mut dropped = Vec::new(alloc);
+        for line in parse(alloc, bytes) {
+            let read = read_line(alloc, line)?;
+            push_line(&mut mappings, &mut dropped, read)?;
+        }
+        Ok((mappings, dropped))
+    }
+}
+
+// Pushes a line to the mappings, or to the lines that are left out.
+fn push_line(
+    mappings: &mut Vec<Mapping<Value>>,
+    dropped: &mut Vec<Dropped>,
+    line: Result<Mapping<Value>, Dropped>,
+) -> Result<(), AllocError>
+    ensures kept { OnOk result (entries_view mappings.new.items
+        ≡ entries_view mappings.old.items ++ option_to_list (result_ok (kept_line_view line))) }
+    ensures left_out { OnOk result (dropped.new.items
+        ≡ dropped.old.items ++ option_to_list (result_err (kept_line_view line))) }
+{
+    match line {
+        Ok(mapping) => mappings.push(mapping)?,
+        Err(line) => dropped.push(line)?,
+    }
+    Ok(())
+}
+
+// The mapping of a line, or the line that is left out.
+fn read_line(
+    alloc: Global,
+    line: Result<(Kind, Iter<'_>, usize), Error>,
+) -> Result<Result<Mapping<Value>, Dropped>, AllocError>
+    ensures { IfOk result (λ read. IsLineRead (line_view line.entry) (kept_line_view read)) }
+{
+    match line {
+        Ok((kind, items, number)) => read_given(alloc, kind, items, number),
+        Err(Error::MacroName { line, .. }) => Ok(Err(Dropped {
+            line,
+            reason: DropReason::MacroName,
+        })),
+        Err(Error::NegativePattern { line, .. }) => Ok(Err(Dropped {
+            line,
+            reason: DropReason::NegativePattern,
+        })),
+        Err(Error::OutOfMemory) => Err(AllocError),
+    }
+}
+
+fn read_given(
+    alloc: Global,
+    kind: Kind,
+    items: Iter<'_>,
+    line: usize,
+) -> Result<Result<Mapping<Value>, Dropped>, AllocError>
+    ensures { IfOk result (λ read. kept_line_view read
+        ≡ line_read (Ok (given_by kind items.entry line))) }
+{
+    match read_items(alloc, items)? {
+        Ok(assignments) => Ok(Ok(mapping_of(alloc, kind, line, assignments)?)),
+        Err(reason) => Ok(Err(Dropped { line, reason })),
+    }
+}
+
+// The assignments of a line, or why one of its items is refused.
+fn read_items(alloc: Global, items: Iter<'_>) -> Result<Result<Assignments, DropReason>, AllocError>
+    ensures { IfOk result (λ read. result_map_both (λ a. a.items) (λ reason. reason) read
+        ≡ items_read items.entry) }
+{
+    let mut assignments = SmallVec::new(alloc);
+    for item in items {
+        match read_item(alloc, item)? {
+            Ok(assignment) => assignments.push(assignment)?,
+            Err(reason) => return Ok(Err(reason)),
+        }
+    }
+    Ok(Ok(assignments))
+}
+
+fn read_item(
+    alloc: Global,
+    item: Result<AssignmentRef<'_>, AttrError<'_>>,
+) -> Result<Result<TrackedAssignment, DropReason>, AllocError>
+    ensures { IfOk result (λ read. read
+        ≡ result_map_both tracked reason_of (item_view item.entry)) }
+{
+    match item {
+        Ok(assignment) => Ok(Ok(TrackedAssignment {
+            id: AttributeId::default(),
+            inner: assignment.to_owned(alloc)?,
+        })),
+        Err(AttrError::InvalidName(_)) => Ok(Err(DropReason::InvalidName)),
+        Err(AttrError::Reserved(_)) => Ok(Err(DropReason::Reserved)),
+    }
+}
+
+fn mapping_of(
+    alloc: Global,
+    kind: Kind,
+    line: usize,
+    assignments: Assignments,
+) -> Result<Mapping<Value>, AllocError>
+    ensures { IfOk result (λ mapping. entry_view mapping
+        ≡ entry_for (target_view kind) line assignments.items) }
+{
+    match kind {
+        Kind::Pattern(pattern) => Ok(Mapping {
+            pattern,
+            value: Value::Assignments(assignments),
+            sequence_number: line,
+        }),
+        Kind::Macro(name) => Ok(Mapping {
+            pattern: macro_pattern(alloc, name.as_str())?,
+            value: Value::MacroAssignments {
+                id: AttributeId::default(),
+                assignments,
+            },
+            sequence_number: line,
+        }),
+    }
+}
+
+// The pattern of a line that defines a macro, which matches no path (own).
+fn macro_pattern(alloc: Global, name: &str) -> Result<attr_glob::Pattern, AllocError>
+    ensures { IfOk result (λ pattern. pattern_view pattern ≡ macro_pattern name.now) }
+{
+    Ok(attr_glob::Pattern {
+        text: Vec::from_slice(alloc, name.as_bytes())?,
+        mode: macro_mode(),
+        first_wildcard_pos: None,
+    })
+}
+
+fn macro_mode() -> Mode
+    ensures { mode_bits result ≡ macro_mode }
+{
+    Mode::all()
+}
+
+/// The mappings that define no macro, in their order. It takes no memory.
+pub fn without_macros(mut mappings: Vec<Mapping<Value>>) -> Vec<Mapping<Value>>
+    ensures left { entries_view result.items
+        ≡ filter defines_no_macro (entries_view mappings.items) }
+    ensures valid { macros_valid (entries_view mappings.items) ≡ true →
+        macros_valid (entries_view result.items) ≡ true }
+{
+    mappings.retain(|mapping| defines_no_macro(mapping));
+    mappings
+}
+
+fn defines_no_macro(mapping: &Mapping<Value>) -> bool
+    ensures { result ≡ defines_no_macro (entry_view mapping.now) }
+{
+    match &mapping.value {
+        Value::MacroAssignments { .. } => false,
+        Value::Assignments(_) => true,
+    }
+}
+
+/// Whether each macro that the mappings define has a valid name. Mappings that are read from a buffer define no others, but
+/// those that a program makes may.
+pub fn macros_valid(mappings: &[Mapping<Value>]) -> bool
+    ensures { result ≡ macros_valid (entries_view mappings.now) }
+{
+    mappings.iter().all(|mapping| macro_valid(mapping))
+}
+
+fn macro_valid(mapping: &Mapping<Value>) -> bool
+    ensures { result ≡ macro_valid (entry_view mapping.now) }
+{
+    defines_no_macro(mapping) || is_valid_name(&mapping.pattern.text)
+}
+
+fn is_valid_name(text: &[u8]) -> bool
+    ensures { result ≡ is_valid_name text.now }
+{
+    NameRef::try_from(BStr::new(text)).is_ok()
+}

@@ -1,0 +1,144 @@
+-- What a whole search leaves, and whether it found what was wanted.
+use Rattle.std.proofs.Common.{◌≡◌, ℕ, suc, ◌+◌, ◌<◌, ◌≤◌, Bool, true, false, ◌&&◌, ◌||◌, List, [], ◌∷◌, length, map, get_or, Option, Some, None, refl}
+use Rattle.std.proofs.Common.{sym, ap, subst, ◌∙◌, arith, nat_lt}
+use Rattle.std.specs.Prelude.{is_some, is_none, option_map}
+use Rattle.std.specs.List.{list_any}
+use Rattle.std.proofs.lemmas.Bool.Decides.{nat_tests}
+use Rattle.attr_glob.specs.declared.pattern.Case.{Case}
+use Rattle.attr_glob.proofs.ForCallers.{by_test}
+use Rattle.attr_table.specs.Setting.{Item, Setting}
+use Rattle.attr_table.specs.Table.{Slots}
+use Rattle.attr_table.specs.Cut.{is_done, no_answers, IsSearched, ExtendsCuts}
+use Rattle.attr_table.specs.inner.Walk.{Task, Walks, ends, stops, skips, fills, Searches, tasks_of}
+use Rattle.attr_table.proofs.ForCallers.{fill_keeps}
+use Rattle.attr_table.proofs.ForCallers.{searched_joined}
+use Rattle.attr_search.specs.inner.SlotContents.{wanted_numbers, remaining_at, count_remaining}
+use Rattle.attr_search.specs.Slots.{Matched, table_answer, slots_of}
+use Rattle.attr_search.specs.Settings.{Listed, is_found, lines_of}
+
+-- slots that are filled stay so
+walks_keep : (bodies : List (List Item)) (done : Slots → Bool) {ts : List Task} {before after : Slots} →
+    Walks bodies done ts before after → (a : ℕ) → is_some (before a) ≡ true → is_some (after a) ≡ true
+walks_keep bodies done ends a e = e
+walks_keep bodies done (stops d) a e = e
+walks_keep bodies done (skips f w) a e = walks_keep bodies done w a e
+walks_keep bodies done (fills {t = t} {slots = slots} d f w) a e =
+    walks_keep bodies done w a (fill_keeps bodies t slots a e)
+
+some-map : {X Y : Type 0} (f : X → Y) (o : Option X) → is_some (option_map f o) ≡ is_some o
+some-map f None = refl
+some-map f (Some x) = refl
+
+none-map : {X Y : Type 0} (f : X → Y) (o : Option X) → is_none (option_map f o) ≡ is_none o
+none-map f None = refl
+none-map f (Some x) = refl
+
+any-map : {X Y : Type 0} (p : Y → Bool) (f : X → Y) (xs : List X) → list_any p (map f xs) ≡ list_any (λ x. p (f x)) xs
+any-map p f [] = refl
+any-map p f (x ∷ xs) = ap (λ b. p (f x) || b) (any-map p f xs)
+
+any-same : {X : Type 0} (p q : X → Bool) (xs : List X) → ((x : X) → p x ≡ q x) → list_any p xs ≡ list_any q xs
+any-same p q [] same = refl
+any-same p q (x ∷ xs) same = ap (λ b. b || list_any p xs) (same x) ∙ ap (λ b. q x || b) (any-same p q xs same)
+
+any-none : {X : Type 0} (p : X → Bool) (xs : List X) → ((x : X) → p x ≡ false) → list_any p xs ≡ false
+any-none p [] none = refl
+any-none p (x ∷ xs) none = ap (λ b. b || list_any p xs) (none x) ∙ any-none p xs none
+
+-- fewer are left where something wanted was found, and else as many
+record IsLeft (found : Bool) (old new : ℕ) : Type 0 where
+  some : found ≡ true → new < old
+  none : found ≡ false → new ≡ old
+
+less_left : (found : Bool) (old new : ℕ) → IsLeft found old new → new ≤ old
+less_left found old new left =
+    by_test found (λ t. let h = left.some t in omega arith) (λ f. let h = left.none f in omega arith)
+
+left_past : (found : Bool) (old new h : ℕ) → IsLeft found old new → IsLeft found (h + old) (h + new)
+left_past found old new h left =
+    record {
+      some = λ t. let l = left.some t in omega arith;
+      none = λ f. let l = left.none f in omega arith;
+    }
+
+left_here : {X : Type 0} (w : Bool) (o n : Option X) (rest : Bool) (old new : ℕ) →
+    (is_some o ≡ true → is_some n ≡ true) → IsLeft rest old new →
+    IsLeft ((w && (is_none o && is_some n)) || rest) (remaining_at w o + old) (remaining_at w n + new)
+left_here false o n rest old new kept left = left_past rest old new 0 left
+left_here true None None rest old new kept left = left_past rest old new 1 left
+left_here true None (Some y) rest old new kept left =
+    let le = less_left rest old new left in
+    record { some = λ t. omega arith; none = λ f. absurd (cc) }
+left_here true (Some x) None rest old new kept left = let e : false ≡ true = kept refl in absurd (cc)
+left_here true (Some x) (Some y) rest old new kept left = left_past rest old new 0 left
+
+-- whether a slot was filled
+abbrev newly : {X : Type 0} → List (Option X) → List (Option X) → ℕ → Bool
+newly old new a = is_none (get_or old a None) && is_some (get_or new a None)
+
+any_wanted : (w : Bool) (flags : List Bool) (p : ℕ → Bool) →
+    list_any p (wanted_numbers (w ∷ flags)) ≡ (w && p 0) || list_any (λ a. p (suc a)) (wanted_numbers flags)
+any_wanted true flags p = ap (λ b. p 0 || b) (any-map p suc (wanted_numbers flags))
+any_wanted false flags p = any-map p suc (wanted_numbers flags)
+
+left_by : {X : Type 0} (flags : List Bool) (old new : List (Option X)) → length old ≡ length new →
+    ((a : ℕ) → is_some (get_or old a None) ≡ true → is_some (get_or new a None) ≡ true) →
+    IsLeft (list_any (newly old new) (wanted_numbers flags)) (count_remaining flags old) (count_remaining flags new)
+left_by [] old new same kept = record { some = λ t. absurd (cc); none = λ f. refl }
+left_by {X = X} (w ∷ flags) [] [] same kept =
+    let none = any-none (newly {X = X} [] []) (wanted_numbers (w ∷ flags)) (λ a. refl) in
+    record { some = λ t. let e : true ≡ false = sym t ∙ none in absurd (cc); none = λ f. refl }
+left_by (w ∷ flags) [] (n ∷ ns) same kept = absurd (omega arith)
+left_by (w ∷ flags) (o ∷ os) [] same kept = absurd (omega arith)
+left_by (w ∷ flags) (o ∷ os) (n ∷ ns) same kept =
+    let rest = left_by flags os ns (omega arith) (λ a. kept (suc a)) in
+    rw (any_wanted w flags (newly (o ∷ os) (n ∷ ns)))
+    (left_here w o n (list_any (newly os ns) (wanted_numbers flags)) (count_remaining flags os) (count_remaining flags ns) (kept 0) rest)
+
+-- the answer of a search
+pub found_is : (bodies : List (List Item)) (wanted : List ℕ) (ts : List Task) (flags flags' : List Bool) (old new : List (Option Matched))
+    (left left' a b : ℕ) →
+    Searches bodies wanted ts (slots_of old) (slots_of new) a b → length new ≡ length old → flags' ≡ flags →
+    left ≡ count_remaining flags old → left' ≡ count_remaining flags' new →
+    nat_lt left' left ≡ is_found (wanted_numbers flags) (slots_of old) (slots_of new)
+found_is bodies wanted ts flags flags' old new left left' a b p same flagged e e' =
+    let kept : (k : ℕ) → is_some (get_or old k None) ≡ true → is_some (get_or new k None) ≡ true =
+    λ k t. sym (some-map (table_answer k) (get_or new k None))
+    ∙ walks_keep bodies (is_done wanted) p.walks k (some-map (table_answer k) (get_or old k None) ∙ t) in
+    let told : list_any (newly old new) (wanted_numbers flags) ≡ is_found (wanted_numbers flags) (slots_of old) (slots_of new) =
+    any-same (newly old new) (λ w. is_none (slots_of old w) && is_some (slots_of new w)) (wanted_numbers flags)
+    (λ w. ap (λ x. x && is_some (get_or new w None)) (sym (none-map (table_answer w) (get_or old w None)))
+    ∙ ap (λ x. is_none (slots_of old w) && x) (sym (some-map (table_answer w) (get_or new w None)))) in
+    let counted : left' ≡ count_remaining flags new = e' ∙ ap (λ (f : List Bool). count_remaining f new) flagged in
+    let l = left_by flags old new (sym same) kept in
+    by_test (list_any (newly old new) (wanted_numbers flags))
+    (λ t. let less = l.some t in let lt : left' < left = omega (arith, e, counted, less) in
+    let yes : nat_lt left' left ≡ true = grind (arith, nat_tests) in yes ∙ (sym t ∙ told))
+    (λ f. let equal = l.none f in
+    by_test (nat_lt left' left)
+    (λ t. let lt : left' < left = grind (arith, nat_tests) in absurd (omega (arith, e, counted, equal, lt)))
+    (λ n. n ∙ (sym f ∙ told)))
+
+pub nothing_found : (wanted : List ℕ) (slots : Slots) → false ≡ is_found wanted slots slots
+nothing_found wanted slots = sym (any-none (λ w. is_none (slots w) && is_some (slots w)) wanted (λ w. neither (slots w)))
+  where
+    neither : {X : Type 0} (o : Option X) → is_none o && is_some o ≡ false
+    neither None = refl
+    neither (Some x) = refl
+
+-- what a search over all lists goes through, as it was asked
+pub as_asked : (bodies : List (List Item)) (wanted : List ℕ) (case case' : Case) (is_dir is_dir' : Option Bool) (path path' : List ℕ)
+    (lists : List Listed) (before after : Slots) (a b : ℕ) →
+    path' ≡ path → case' ≡ case → is_dir' ≡ is_dir →
+    Searches bodies wanted (tasks_of (map (lines_of case' is_dir' path') lists)) before after a b →
+    Searches bodies wanted (tasks_of (map (lines_of case is_dir path) lists)) before after a b
+as_asked bodies wanted case case' is_dir is_dir' path path' lists before after a b p c d s =
+    subst (λ (x : List ℕ). Searches bodies wanted (tasks_of (map (lines_of case is_dir x) lists)) before after a b) p
+    (subst (λ (x : Case). Searches bodies wanted (tasks_of (map (lines_of x is_dir path') lists)) before after a b) c
+    (subst (λ (x : Option Bool). Searches bodies wanted (tasks_of (map (lines_of case' x path') lists)) before after a b) d s))
+
+-- the slots after a search, over other lists that were searched before
+pub extends : (s : Setting) (wanted : List ℕ) (before after : Slots) → IsSearched s wanted before after →
+    ExtendsCuts s.lists s.bodies wanted before after
+extends s wanted before after searched = λ lists first.
+    searched_joined lists s.lists s.bodies wanted no_answers before after first searched

@@ -1,0 +1,213 @@
+-- The lines of a list, of which a search goes through the candidates alone.
+use Rattle.std.proofs.Common.{◌≡◌, ℕ, ◌+◌, ◌<◌, Bool, true, false, ◌&&◌, List, [], ◌∷◌, ◌++◌, length, map, get_or, take, drop, Option, Some, None, Ok}
+use Rattle.std.proofs.Common.{Err, Result, refl, sym, ap, subst, ◌∙◌, arith}
+use Rattle.std.specs.Prelude.{All, IfOk, IsTrue, ◌↔◌, is_none}
+use Rattle.std.specs.List.{flat_map, list_any}
+use Rattle.std.proofs.Math.Logic.{∥∥₁_elim}
+use Rattle.std.proofs.Math.Bool.{Bool-set}
+use Rattle.std.proofs.lemmas.Bool.{or_parts}
+use Rattle.std.proofs.lemmas.List.{length-map, append-nil, get_or-map, take_more, take-append-drop}
+use Rattle.std.proofs.lemmas.Grind.{flat_map-append}
+use Rattle.attr_glob.specs.declared.pattern.Case.{Case}
+use Rattle.attr_glob.specs.declared.search.pattern.Mapping.{Mapping}
+use Rattle.attr_glob.specs.Candidates.{places_where}
+use Rattle.attr_glob.specs.Paths.{PathMatches, path_matches}
+use Rattle.attr_glob.specs.Patterns.{Reading, reading, has_flag, negative}
+use Rattle.attr_glob.specs.Views.{patterns_of}
+use Rattle.attr_glob.proofs.ForCallers.{by_test}
+use Rattle.attr_glob.proofs.ForCallers.{same_answer}
+use Rattle.attr_glob.proofs.ForCallers.{path_match_of_test, test_of_path_match}
+use Rattle.attr_lists.specs.declared.types.Value.{Value}
+use Rattle.attr_lists.specs.declared.types.AttributeId.{AttributeId}
+use Rattle.attr_lists.specs.declared.types.TrackedAssignment.{TrackedAssignment}
+use Rattle.attr_lists.specs.ListViews.{Entry, entry_view, entries_view, items_in, macro_id}
+use Rattle.attr_table.specs.Setting.{Item}
+use Rattle.attr_table.specs.Table.{Slots}
+use Rattle.attr_table.specs.Cut.{is_done}
+use Rattle.attr_table.specs.inner.Walk.{Task, Searches, free_items, tasks_in}
+use Rattle.attr_table.proofs.ForCallers.{nothing_taken, done_taken, row_filled, then_searches}
+use Rattle.attr_search.specs.Slots.{origin_of, table_items}
+use Rattle.attr_search.specs.inner.SlotContents.{wanted_numbers}
+use Rattle.attr_search.specs.Settings.{HaveSlots, AreNamed, LinesHaveSlots, LinesAreNamed, AreRead, gives, origin_in}
+use Rattle.attr_search.specs.inner.Lines.{no_entry, entry_at, entry_tasks}
+
+-- the patterns of a list are those of its lines
+pub lines_patterns : (ms : List (Mapping Value)) → patterns_of ms ≡ map (λ entry. entry.pattern) (entries_view ms)
+lines_patterns [] = refl
+lines_patterns (m ∷ ms) = let e = lines_patterns ms in cc
+
+pattern_at : (ms : List (Mapping Value)) (place : ℕ) (r : Reading) → place < length ms → r ≡ get_or (patterns_of ms) place r →
+    r ≡ (entry_at (entries_view ms) place).pattern
+pattern_at ms place r lt is =
+    let n = length-map ms entry_view in
+    is
+    ∙ (ap (λ (xs : List Reading). get_or xs place r) (lines_patterns ms)
+    ∙ get_or-map (λ (entry : Entry). entry.pattern) (entries_view ms) place no_entry r (omega arith))
+
+-- what is known of a line that defines no macro
+read_at : (lines : List Entry) (place : ℕ) → AreRead lines → place < length lines → (entry_at lines place).macro ≡ None →
+    (text : List ℕ) × (reading text ≡ Some (entry_at lines place).pattern) × (has_flag (entry_at lines place).pattern.mode negative ≡ false)
+read_at lines place all lt none = rw none at (all place no_entry lt)
+
+-- the answer of a matcher is the test of its line
+told_is : (case : Case) (entry : Entry) (r : Reading) (path : List ℕ) (is_dir : Option Bool) (answer : Bool) →
+    r ≡ entry.pattern → ((text : List ℕ) × (reading text ≡ Some entry.pattern) × (has_flag entry.pattern.mode negative ≡ false)) →
+    ((text : List ℕ) → reading text ≡ Some r → IsTrue answer ↔ PathMatches case r path is_dir) →
+    answer ≡ path_matches case entry.pattern path is_dir
+told_is case entry r path is_dir answer same known told =
+    let both = told known.0 (known.1 ∙ ap (λ (x : Reading). Some x) (sym same)) in
+    let exact : answer ≡ path_matches case r path is_dir =
+    same_answer answer (path_matches case r path is_dir)
+    (λ t. test_of_path_match case r path is_dir (both.0 t))
+    (λ t. both.1 (path_match_of_test case r path is_dir t)) in
+    exact ∙ ap (λ (x : Reading). path_matches case x path is_dir) same
+
+pub matched_answer : {E : Type 0} (ms : List (Mapping Value)) (matchers : List Reading) (place : ℕ) (r : Reading) (case : Case) (path : List ℕ)
+    (is_dir : Option Bool) (result : Result Bool E) →
+    matchers ≡ patterns_of ms → ∥ AreRead (entries_view ms) ∥₁ → place < length ms →
+    (entry_at (entries_view ms) place).macro ≡ None → r ≡ get_or matchers place r →
+    IfOk result (λ answer. (text : List ℕ) → reading text ≡ Some r → IsTrue answer ↔ PathMatches case r path is_dir) →
+    IfOk result (λ answer. answer ≡ path_matches case (entry_at (entries_view ms) place).pattern path is_dir)
+matched_answer ms matchers place r case path is_dir (Err e) all read lt none is told = tt
+matched_answer ms matchers place r case path is_dir (Ok answer) all read lt none is told =
+    let entry = entry_at (entries_view ms) place in
+    let same = pattern_at ms place r lt (is ∙ ap (λ (xs : List Reading). get_or xs place r) all) in
+    let n = length-map ms entry_view in
+    ∥∥₁_elim read (Bool-set answer (path_matches case entry.pattern path is_dir))
+    (λ lines. told_is case entry r path is_dir answer same (read_at (entries_view ms) place lines (omega arith) none) told)
+
+-- the line at a place is that of the mapping there
+pub entry_is : (ms : List (Mapping Value)) (place : ℕ) (m : Mapping Value) → place < length ms → m ≡ get_or ms place m →
+    entry_at (entries_view ms) place ≡ entry_view m
+entry_is ms place m lt is = get_or-map entry_view ms place m no_entry lt ∙ ap entry_view (sym is)
+
+-- a line that gives nothing
+not_given : (bodies : List (List Item)) (wanted : List ℕ) (case : Case) (is_dir : Option Bool) (source : Option (List ℕ)) (rest : List ℕ)
+    (entry : Entry) (slots : Slots) (taken : ℕ) →
+    gives case is_dir (Some rest) entry ≡ false →
+    Searches bodies wanted (entry_tasks case is_dir source rest entry) slots slots taken taken
+not_given bodies wanted case is_dir source rest entry slots taken none = rw none (nothing_taken bodies wanted slots taken)
+
+-- a line that defines a macro, and one that does not match
+pub line_defines : (bodies : List (List Item)) (wanted : List ℕ) (case : Case) (is_dir : Option Bool) (source : Option (List ℕ)) (rest : List ℕ)
+    (ms : List (Mapping Value)) (place : ℕ) (m : Mapping Value) (slots : Slots) (taken : ℕ) →
+    place < length ms → m ≡ get_or ms place m → is_none (macro_id m.value) ≡ false →
+    Searches bodies wanted (entry_tasks case is_dir source rest (entry_at (entries_view ms) place)) slots slots taken taken
+line_defines bodies wanted case is_dir source rest ms place m slots taken lt is defines =
+    rw (entry_is ms place m lt is)
+    (not_given bodies wanted case is_dir source rest (entry_view m) slots taken
+    (ap (λ (b : Bool). b && path_matches case (entry_view m).pattern rest is_dir) defines))
+
+no_both : (a b : Bool) → b ≡ false → a && b ≡ false
+no_both true b e = e
+no_both false b e = refl
+
+pub line_differs : (bodies : List (List Item)) (wanted : List ℕ) (case : Case) (is_dir : Option Bool) (source : Option (List ℕ)) (rest : List ℕ)
+    (lines : List Entry) (place : ℕ) (slots : Slots) (taken : ℕ) (answer : Bool) →
+    answer ≡ path_matches case (entry_at lines place).pattern rest is_dir → answer ≡ false →
+    Searches bodies wanted (entry_tasks case is_dir source rest (entry_at lines place)) slots slots taken taken
+line_differs bodies wanted case is_dir source rest lines place slots taken answer told other =
+    not_given bodies wanted case is_dir source rest (entry_at lines place) slots taken
+    (no_both (is_none (entry_at lines place).macro) (path_matches case (entry_at lines place).pattern rest is_dir) (sym told ∙ other))
+
+-- a line without a free item
+none_free : (slots : Slots) (items : List TrackedAssignment) → list_any (λ i. is_none (slots i.id.0)) items ≡ false →
+    free_items slots (table_items items) ≡ []
+none_free slots [] e = refl
+none_free slots (i ∷ items) e =
+    let parts = or_parts (is_none (slots i.id.0)) (list_any (λ i. is_none (slots i.id.0)) items) e in
+    let first = parts.0 in
+    rw first (none_free slots items parts.1)
+
+pub line_filled : (bodies : List (List Item)) (wanted : List ℕ) (case : Case) (is_dir : Option Bool) (source : Option (List ℕ)) (rest : List ℕ)
+    (ms : List (Mapping Value)) (place : ℕ) (m : Mapping Value) (items : List TrackedAssignment) (slots : Slots) (taken : ℕ) →
+    place < length ms → m ≡ get_or ms place m → items ≡ items_in m.value →
+    false ≡ list_any (λ i. is_none (slots i.id.0)) items →
+    Searches bodies wanted (entry_tasks case is_dir source rest (entry_at (entries_view ms) place)) slots slots taken taken
+line_filled bodies wanted case is_dir source rest ms place m items slots taken lt is given none =
+    rw (entry_is ms place m lt is)
+    (by_test (gives case is_dir (Some rest) (entry_view m))
+    (λ t. rw t (row_filled bodies wanted (origin_in source (entry_view m)) None (table_items (items_in m.value)) slots taken
+    (none_free slots (items_in m.value) (rw given at (sym none)))))
+    (λ f. not_given bodies wanted case is_dir source rest (entry_view m) slots taken f))
+
+-- a line with a free item is no line without one
+pub some_free : (ms : List (Mapping Value)) (place : ℕ) (m : Mapping Value) (items : List TrackedAssignment) (slots : Slots) →
+    place < length ms → m ≡ get_or ms place m → items ≡ items_in m.value →
+    true ≡ list_any (λ i. is_none (slots i.id.0)) items →
+    list_any (λ i. is_none (slots i.id.0)) (entry_at (entries_view ms) place).items ≡ false → ⊥
+some_free ms place m items slots lt is given some none =
+    let p : TrackedAssignment → Bool = λ i. is_none (slots i.id.0) in
+    let e : true ≡ false =
+    some ∙ (ap (list_any p) (given ∙ sym (ap (λ (x : Entry). x.items) (entry_is ms place m lt is))) ∙ none) in
+    absurd (cc)
+
+-- a line that matches
+pub line_matched : (bodies : List (List Item)) (wanted : List ℕ) (case : Case) (is_dir : Option Bool) (source : Option (List ℕ)) (rest : List ℕ)
+    (ms : List (Mapping Value)) (place : ℕ) (m : Mapping Value) (items : List TrackedAssignment) (before after : Slots) (a b : ℕ) (answer : Bool) →
+    place < length ms → m ≡ get_or ms place m → items ≡ items_in m.value → macro_id m.value ≡ None →
+    answer ≡ path_matches case (entry_at (entries_view ms) place).pattern rest is_dir → answer ≡ true →
+    Searches bodies wanted (tasks_in (origin_of source m) None (table_items items)) before after a b →
+    Searches bodies wanted (entry_tasks case is_dir source rest (entry_at (entries_view ms) place)) before after a b
+line_matched bodies wanted case is_dir source rest ms place m items before after a b answer lt is given plain told same p =
+    let e = entry_is ms place m lt is in
+    let match : path_matches case (entry_view m).pattern rest is_dir ≡ true =
+    ap (λ (x : Entry). path_matches case x.pattern rest is_dir) (sym e) ∙ (sym told ∙ same) in
+    let gives_it : gives case is_dir (Some rest) (entry_view m) ≡ true =
+    ap (λ (o : Option AttributeId). is_none o && path_matches case (entry_view m).pattern rest is_dir) plain ∙ match in
+    rw (e, gives_it) (rw given at p)
+
+-- what is known of the line at a place
+pub slots_at : (n : ℕ) (ms : List (Mapping Value)) (place : ℕ) (m : Mapping Value) (items : List TrackedAssignment) →
+    place < length ms → m ≡ get_or ms place m → items ≡ items_in m.value → LinesHaveSlots n (entries_view ms) → HaveSlots n items
+slots_at n ms place m items lt is given all =
+    let long = length-map ms entry_view in
+    let here : HaveSlots n (entry_at (entries_view ms) place).items = all place no_entry (omega arith) in
+    rw given (rw (entry_is ms place m lt is) at here)
+
+pub named_at : (names : List (List ℕ)) (ms : List (Mapping Value)) (place : ℕ) (m : Mapping Value) (items : List TrackedAssignment) →
+    place < length ms → m ≡ get_or ms place m → items ≡ items_in m.value → LinesAreNamed names (entries_view ms) → AreNamed names items
+named_at names ms place m items lt is given all =
+    let long = length-map ms entry_view in
+    let here : AreNamed names (entry_at (entries_view ms) place).items = all place no_entry (omega arith) in
+    rw given (rw (entry_is ms place m lt is) at here)
+
+-- places that are gone through: one more, and what is left where the search is done
+pub places_more : (bodies : List (List Item)) (wanted wanted' : List Bool) (f : ℕ → List Task) (places_where places' : List ℕ) (k place : ℕ)
+    (first second third : Slots) (a b c : ℕ) →
+    wanted' ≡ wanted → places' ≡ places_where → k < length places_where → place ≡ get_or places' k place →
+    Searches bodies (wanted_numbers wanted) (flat_map f (take k places_where)) first second a b →
+    Searches bodies (wanted_numbers wanted') (f place) second third b c →
+    Searches bodies (wanted_numbers wanted) (flat_map f (take (k + 1) places_where)) first third a c
+places_more bodies wanted wanted' f places_where places' k place first second third a b c same kept lt is p q =
+    let here : place ≡ get_or places_where k place = is ∙ ap (λ (xs : List ℕ). get_or xs k place) kept in
+    let more : flat_map f (take (k + 1) places_where) ≡ flat_map f (take k places_where) ++ f place =
+    ap (flat_map f) (take_more places_where k place lt)
+    ∙ (flat_map-append f (take k places_where) (get_or places_where k place ∷ [])
+    ∙ (ap (λ (ts : List Task). flat_map f (take k places_where) ++ ts) (append-nil (f (get_or places_where k place)))
+    ∙ ap (λ (x : ℕ). flat_map f (take k places_where) ++ f x) (sym here))) in
+    let q' = subst (λ (w : List Bool). Searches bodies (wanted_numbers w) (f place) second third b c) same q in
+    subst (λ (ts : List Task). Searches bodies (wanted_numbers wanted) ts first third a c) (sym more)
+    (then_searches bodies (wanted_numbers wanted) (flat_map f (take k places_where)) (f place) first second third a b c p q')
+
+pub places_stopped : (bodies : List (List Item)) (wanted wanted' : List Bool) (f : ℕ → List Task) (places_where : List ℕ) (k : ℕ)
+    (first second : Slots) (a b : ℕ) →
+    wanted' ≡ wanted → is_done (wanted_numbers wanted') second ≡ true →
+    Searches bodies (wanted_numbers wanted) (flat_map f (take k places_where)) first second a b →
+    Searches bodies (wanted_numbers wanted) (flat_map f places_where) first second a b
+places_stopped bodies wanted wanted' f places_where k first second a b same done p =
+    let whole : flat_map f places_where ≡ flat_map f (take k places_where) ++ flat_map f (drop k places_where) =
+    ap (flat_map f) (sym (take-append-drop k places_where)) ∙ flat_map-append f (take k places_where) (drop k places_where) in
+    let done' = subst (λ (w : List Bool). is_done (wanted_numbers w) second ≡ true) same done in
+    subst (λ (ts : List Task). Searches bodies (wanted_numbers wanted) ts first second a b) (sym whole)
+    (then_searches bodies (wanted_numbers wanted) (flat_map f (take k places_where)) (flat_map f (drop k places_where)) first second second a b b p
+    (done_taken bodies (wanted_numbers wanted) (flat_map f (drop k places_where)) second b done'))
+
+-- places are those of lines
+pub place_at : (n : ℕ) (places_where places' : List ℕ) (k place : ℕ) → places' ≡ places_where → k < length places_where → place ≡ get_or places' k
+    place →
+    All (λ place. place < n) places_where → place < n
+place_at n places_where places' k place kept lt is all =
+    let here : place ≡ get_or places_where k place = is ∙ ap (λ (xs : List ℕ). get_or xs k place) kept in
+    let fits = all k place lt in
+    omega (arith, here, fits)

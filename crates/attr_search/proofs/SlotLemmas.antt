@@ -1,0 +1,238 @@
+-- What is left to fill, and slots over what is stored.
+use Rattle.std.proofs.Common.{◌≡◌, ℕ, zero, suc, ◌+◌, ◌-◌, ◌<◌, ◌≤◌, Bool, true, false, ◌&&◌, cond, nat_eq, List, [], ◌∷◌, ◌++◌, length, get_or, set}
+use Rattle.std.proofs.Common.{take, map, Option, Some, None, is_some, option_map, MatchOption, refl, sym, ap, ◌∙◌, arith, Result, Ok, Err, zero-add}
+use Rattle.std.proofs.Common.{length-take}
+use Rattle.std.specs.Bool.{⊤}
+use Rattle.std.specs.List.{list_all}
+use Rattle.std.specs.Result.{OnErr, OnOk}
+use mir.Val.{bool_byte}
+use Rattle.std.proofs.lemmas.List.{take_more, map-set, get_or_default}
+use Rattle.std.proofs.lemmas.List.Elements.{All-set, All-weaker, All-head, All-tail, All-same, All-map}
+use Rattle.attr_table.specs.Cut.{is_done}
+use Rattle.attr_table.specs.Setting.{Origin}
+use Rattle.attr_search.specs.inner.SlotContents.{count_remaining, remaining_at, wanted_numbers}
+use Rattle.attr_search.specs.inner.Refs.{IsOriginRef, RefersTo, IsMatchRef, AreMatchRefs, origin_by_ref, match_by_ref, matches_by_ref}
+use Rattle.attr_search.specs.Slots.{Matched, slots_of, table_answer}
+use Rattle.attr_search.specs.inner.RefMapParts.{RefMapParts, KeepsRefs, Grows, no_pattern, no_assignment}
+use Rattle.attr_search.specs.declared.refmap.OriginRef.{OriginRef}
+use Rattle.attr_search.specs.declared.refmap.MatchRef.{MatchRef}
+use Rattle.attr_search.proofs.RefLemmas.{grows_at, grows_length}
+
+-- a fact that holds anyway holds on a value, and on an error
+pub on_ok : {T E F : Type 0} (r : Result T E) → F → OnOk r F
+on_ok (Ok x) f = f
+on_ok (Err e) f = tt
+
+pub on_err : {T E F : Type 0} (r : Result T E) → F → OnErr r F
+on_err (Ok x) f = tt
+on_err (Err e) f = f
+
+is_some_map : {X Y : Type 0} (f : X → Y) (o : Option X) → is_some (option_map f o) ≡ is_some o
+is_some_map f None = refl
+is_some_map f (Some x) = refl
+
+all_mapped : {X Y : Type 0} (test : Y → Bool) (f : X → Y) (xs : List X) → list_all test (map f xs) ≡ list_all (λ x. test (f x)) xs
+all_mapped test f [] = refl
+all_mapped test f (x ∷ xs) = ap (λ b. test (f x) && b) (all_mapped test f xs)
+
+more_left : (n : ℕ) → nat_eq (1 + n) 0 ≡ false
+more_left n = grind arith
+
+-- nothing is left where each wanted slot is filled
+pub left_done : {X Y : Type 0} (flags : List Bool) (slots : List (Option X)) (found : ℕ → Option Y) → length flags ≡ length slots →
+    ((a : ℕ) → is_some (found a) ≡ is_some (get_or slots a None)) → nat_eq (count_remaining flags slots) 0 ≡ list_all (λ w. is_some (found w))
+    (wanted_numbers flags)
+left_done [] slots found e same = refl
+left_done (w ∷ flags) [] found e same = absurd (omega arith)
+left_done (true ∷ flags) (None ∷ slots) found e same =
+    more_left (count_remaining flags slots) ∙ sym (ap (λ b. b && list_all (λ v. is_some (found v)) (map suc (wanted_numbers flags))) (same 0))
+left_done (true ∷ flags) (Some x ∷ slots) found e same =
+    ap (λ n. nat_eq n 0) (zero-add (count_remaining flags slots))
+    ∙ left_done flags slots (λ a. found (suc a)) (omega arith) (λ a. same (suc a))
+    ∙ sym (all_mapped (λ v. is_some (found v)) suc (wanted_numbers flags))
+    ∙ sym (ap (λ b. b && list_all (λ v. is_some (found v)) (map suc (wanted_numbers flags))) (same 0))
+left_done (false ∷ flags) (o ∷ slots) found e same =
+    ap (λ n. nat_eq n 0) (zero-add (count_remaining flags slots))
+    ∙ left_done flags slots (λ a. found (suc a)) (omega arith) (λ a. same (suc a))
+    ∙ sym (all_mapped (λ v. is_some (found v)) suc (wanted_numbers flags))
+
+-- a slot is seen as filled where it is filled
+pub seen_filled : (store : RefMapParts) (slots : List (Option MatchRef)) (a : ℕ) → is_some (slots_of (matches_by_ref store slots) a) ≡ is_some
+    (get_or slots a None)
+seen_filled store [] a = refl
+seen_filled store (o ∷ slots) zero = is_some_map (table_answer 0) (option_map (match_by_ref store) o) ∙ is_some_map (match_by_ref store) o
+seen_filled store (o ∷ slots) (suc a) =
+    is_some_map (table_answer (suc a)) (get_or (matches_by_ref store slots) a None) ∙ sym
+    (is_some_map (table_answer a) (get_or (matches_by_ref store slots) a None)) ∙ seen_filled store slots a
+
+pub is_done_left : (flags : List Bool) (store : RefMapParts) (slots : List (Option MatchRef)) (left : ℕ) → length flags ≡ length slots → left ≡
+    count_remaining flags slots →
+    nat_eq left 0 ≡ is_done (wanted_numbers flags) (slots_of (matches_by_ref store slots))
+is_done_left flags store slots left same counted =
+    ap (λ n. nat_eq n 0) counted ∙ left_done flags slots (slots_of (matches_by_ref store slots)) same (seen_filled store slots)
+
+count_left_push : {X : Type 0} (flags : List Bool) (slots : List (Option X)) (w : Bool) (o : Option X) → length flags ≡ length slots →
+    count_remaining (flags ++ w ∷ []) (slots ++ o ∷ []) ≡ count_remaining flags slots + remaining_at w o
+count_left_push [] [] w o e = omega arith
+count_left_push [] (p ∷ slots) w o e = absurd (omega arith)
+count_left_push (v ∷ flags) [] w o e = absurd (omega arith)
+count_left_push (v ∷ flags) (p ∷ slots) w o e =
+    let rest : length flags ≡ length slots = omega arith in
+    let more = count_left_push flags slots w o rest in
+    omega arith
+
+-- one more slot
+pub count_left_more : {X : Type 0} (flags : List Bool) (slots : List (Option X)) (i : ℕ) → i < length flags → length flags ≡ length slots →
+    count_remaining (take (i + 1) flags) (take (i + 1) slots) ≡ count_remaining (take i flags) (take i slots) + remaining_at (get_or flags i false)
+    (get_or slots i None)
+count_left_more flags slots i lt same =
+    let lt' : i < length slots = omega arith in
+    let fronts : length (take i flags) ≡ length (take i slots) = omega (arith, length-take i flags, length-take i slots) in
+    ap (λ l. count_remaining l (take (i + 1) slots)) (take_more flags i false lt)
+    ∙ ap (count_remaining (take i flags ++ get_or flags i false ∷ [])) (take_more slots i None lt')
+    ∙ count_left_push (take i flags) (take i slots) (get_or flags i false) (get_or slots i None) fronts
+
+-- a wanted slot that is filled is left no more
+pub count_left_set : {X : Type 0} (flags : List Bool) (slots : List (Option X)) (i : ℕ) (x : X) → length flags ≡ length slots → i < length slots →
+    is_some (get_or slots i None) ≡ false →
+    count_remaining flags (set slots i (Some x)) + cond (get_or flags i false) 1 0 ≡ count_remaining flags slots
+count_left_set flags [] i x e lt free = absurd (omega arith)
+count_left_set [] (o ∷ slots) i x e lt free = absurd (omega arith)
+count_left_set (true ∷ flags) (None ∷ slots) zero x e lt free = omega arith
+count_left_set (false ∷ flags) (None ∷ slots) zero x e lt free = omega arith
+count_left_set (w ∷ flags) (Some y ∷ slots) zero x e lt free = absurd cc
+count_left_set (w ∷ flags) (o ∷ slots) (suc i) x e lt free =
+    let rest : length flags ≡ length slots = omega arith in
+    let lt' : i < length slots = omega arith in
+    let more = count_left_set flags slots i x rest lt' free in
+    omega arith
+
+-- slots that are all empty
+pub all_empty : {X Y : Type 0} (slots : List (Option X)) (old : List Y) → length slots ≡ length old →
+    ((k : ℕ) → k < length slots → get_or slots k None ≡ None) → slots ≡ map (λ y. None) old
+all_empty [] [] e empty = refl
+all_empty [] (y ∷ old) e empty = absurd (omega arith)
+all_empty (o ∷ slots) [] e empty = absurd (omega arith)
+all_empty (o ∷ slots) (y ∷ old) e empty =
+    let first : o ≡ None = empty 0 (omega arith) in
+    let rest = all_empty slots old (omega arith) (λ k lt. empty (suc k) (omega arith)) in
+    cc
+
+source_stays : (sources more : List (List ℕ)) (place : Option ℕ) → Grows sources more → MatchOption place ⊤ (λ s. s < length sources) →
+    MatchOption place ⊤ (λ s. s < length more) × (option_map (λ s. get_or more s []) place ≡ option_map (λ s. get_or sources s []) place)
+source_stays sources more None grows within = (tt, refl)
+source_stays sources more (Some s) grows within = (omega (arith, grows_length sources more grows), ap Some (grows_at sources more s [] grows within))
+
+-- a stored line stays what it is
+pub line_stays : (old new : RefMapParts) (l : OriginRef) → KeepsRefs old new → IsOriginRef old l → RefersTo new l (origin_by_ref old l)
+line_stays old new l extends within =
+    let pattern = grows_at old.patterns new.patterns l.pattern no_pattern extends.patterns within.pattern in
+    let source = source_stays old.sources new.sources l.source extends.sources within.source in
+    record {
+      within = record { pattern = omega (arith, grows_length old.patterns new.patterns extends.patterns, within.pattern); source = source.0 };
+      same = cc (pattern, source.1);
+    }
+
+-- and a stored match
+pub match_stays : (old new : RefMapParts) (m : MatchRef) → KeepsRefs old new → IsMatchRef old m → IsMatchRef new m ×
+    (match_by_ref new m ≡ match_by_ref old m)
+match_stays old new m extends within =
+    let line = line_stays old new m.line extends within.line in
+    let assignment = grows_at old.assignments new.assignments m.assignment no_assignment extends.assignments within.assignment in (
+      record { line = line.within; assignment = omega (arith, grows_length old.assignments new.assignments extends.assignments, within.assignment) },
+      cc (line.same, assignment),
+    )
+
+slot_stays : (old new : RefMapParts) (o : Option MatchRef) → KeepsRefs old new → MatchOption o ⊤ (IsMatchRef old) →
+    MatchOption o ⊤ (IsMatchRef new) × (option_map (match_by_ref new) o ≡ option_map (match_by_ref old) o)
+slot_stays old new None extends within = (tt, refl)
+slot_stays old new (Some m) extends within =
+    let stays = match_stays old new m extends within in
+    (stays.0, ap Some stays.1)
+
+-- and what all slots hold
+pub slots_stay : (old new : RefMapParts) (slots : List (Option MatchRef)) → KeepsRefs old new → AreMatchRefs old slots → AreMatchRefs new slots
+slots_stay old new slots extends within =
+    All-weaker (λ o. MatchOption o ⊤ (IsMatchRef old)) (λ o. MatchOption o ⊤ (IsMatchRef new)) (λ o w. (slot_stays old new o extends w).0) slots
+    within
+
+pub matches_stay : (old new : RefMapParts) (slots : List (Option MatchRef)) → KeepsRefs old new → AreMatchRefs old slots → matches_by_ref new slots ≡
+    matches_by_ref old slots
+matches_stay old new [] extends within = refl
+matches_stay old new (o ∷ slots) extends within =
+    let P : Option MatchRef → Type 0 = λ o. MatchOption o ⊤ (IsMatchRef old) in
+    let first = (slot_stays old new o extends (All-head P o slots within)).1 in
+    let rest = matches_stay old new slots extends (All-tail P o slots within) in
+    cc (first, rest)
+
+-- one slot is filled in
+pub slots_filled : (old new : RefMapParts) (slots : List (Option MatchRef)) (i : ℕ) (m : MatchRef) → KeepsRefs old new → AreMatchRefs old slots →
+    IsMatchRef new m → AreMatchRefs new (set slots i (Some m))
+slots_filled old new slots i m extends within here =
+    All-set (λ o. MatchOption o ⊤ (IsMatchRef new)) slots i (Some m) here (slots_stay old new slots extends within)
+
+pub matches_filled : (old new : RefMapParts) (slots : List (Option MatchRef)) (i : ℕ) (m : MatchRef) (x : Matched) → KeepsRefs old new → AreMatchRefs
+    old slots → match_by_ref new m ≡ x →
+    matches_by_ref new (set slots i (Some m)) ≡ set (matches_by_ref old slots) i (Some x)
+matches_filled old new slots i m x extends within here =
+    map-set (λ o. option_map (match_by_ref new) o) slots i (Some m)
+    ∙ ap (λ l. set l i (Some (match_by_ref new m))) (matches_stay old new slots extends within)
+    ∙ ap (λ y. set (matches_by_ref old slots) i (Some y)) here
+
+map_map : {X Y Z : Type 0} (g : Y → Z) (f : X → Y) (xs : List X) → map g (map f xs) ≡ map (λ x. g (f x)) xs
+map_map g f [] = refl
+map_map g f (x ∷ xs) = ap (λ l. g (f x) ∷ l) (map_map g f xs)
+
+-- empty slots hold no match
+pub empty_within : {X : Type 0} (store : RefMapParts) (slots : List (Option MatchRef)) (xs : List X) → slots ≡ map (λ x. None) xs → AreMatchRefs store
+    slots
+empty_within store slots xs e =
+    let P : Option MatchRef → Type 0 = λ o. MatchOption o ⊤ (IsMatchRef store) in
+    All-same P slots (map (λ x. None) xs) e (All-map P (λ x. None) xs (λ k d lt. tt))
+
+pub empty_seen : {X : Type 0} (store : RefMapParts) (slots : List (Option MatchRef)) (xs : List X) → slots ≡ map (λ x. None) xs → matches_by_ref store
+    slots ≡ map (λ x. None) xs
+empty_seen store slots xs e = ap (matches_by_ref store) e ∙ map_map (λ o. option_map (match_by_ref store) o) (λ x. None) xs
+
+-- emptied slots are seen as such
+pub emptied_seen : (store : RefMapParts) (slots slots' : List (Option MatchRef)) (held : List (Option Matched)) → matches_by_ref store slots ≡ held →
+    slots' ≡ map (λ o. None) slots →
+    matches_by_ref store slots' ≡ map (λ o. None) held
+emptied_seen store slots slots' held is e =
+    empty_seen store slots' slots e ∙ sym (map_map (λ (m : Option Matched). None) (λ o. option_map (match_by_ref store) o) slots) ∙ ap
+    (map (λ o. None)) is
+
+byte_is : (b : Bool) → bool_byte b ≡ cond b 1 0
+byte_is true = refl
+byte_is false = refl
+
+-- one slot less is left where a wanted one is filled
+pub fill_counts : {X : Type 0} (flags : List Bool) (slots : List (Option X)) (i : ℕ) (x : X) (w : Bool) (left taken : ℕ) → length flags ≡ length slots
+    → i < length slots → is_some (get_or slots i None) ≡ false →
+    left ≡ count_remaining flags slots → w ≡ get_or flags i w → taken ≡ bool_byte w → (taken ≤ left) ×
+    (left - taken ≡ count_remaining flags (set slots i (Some x)))
+fill_counts flags slots i x w left taken same lt free counted read byte =
+    let lt' : i < length flags = omega arith in
+    let step = count_left_set flags slots i x same lt free in
+    let one : taken ≡ cond (get_or flags i false) 1 0 = byte ∙ byte_is w ∙ ap (λ b. cond b 1 0) (read ∙ get_or_default flags i w false lt') in
+    (omega arith, omega arith)
+
+pub line_kept : (store : RefMapParts) (origin : Origin) (l : Option OriginRef) → MatchOption l ⊤ (λ s. RefersTo store s origin) → MatchOption l ⊤
+    (IsOriginRef store)
+line_kept store origin None h = tt
+line_kept store origin (Some l) h = h.within
+
+-- answers that are seen are as many as the slots that hold them
+remaining_at-seen : (store : RefMapParts) (w : Bool) (slot : Option MatchRef) → remaining_at w slot ≡ remaining_at w
+    (option_map (match_by_ref store) slot)
+remaining_at-seen store w None = refl
+remaining_at-seen store w (Some m) = refl
+
+pub left_seen : (flags : List Bool) (store : RefMapParts) (slots : List (Option MatchRef)) → count_remaining flags slots ≡ count_remaining flags
+    (matches_by_ref store slots)
+left_seen [] store slots = refl
+left_seen (w ∷ flags) store [] = refl
+left_seen (w ∷ flags) store (slot ∷ slots) =
+    let a = remaining_at-seen store w slot in
+    let b = left_seen flags store slots in
+    omega arith

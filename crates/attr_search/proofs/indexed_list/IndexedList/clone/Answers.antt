@@ -1,0 +1,22 @@
+use Rattle.std.proofs.Common.{◌≡◌, ◌∙◌, sym, ap, subst}
+use Rattle.std.proofs.Math.Logic.{∥∥₁_map}
+use Rattle.attr_glob.specs.Views.{patterns_of}
+use Rattle.attr_lists.specs.ListViews.{entries_view}
+use Rattle.attr_search.specs.Settings.{AreRead}
+use Rattle.attr_search.proofs.IndexedListLemmas.{copied_lines, copied_list}
+use Rattle.attr_search.proofs.indexed_list.IndexedList.clone.Goals as goal
+
+pub invariant_of-result : goal.invariant_of-result
+invariant_of-result c =
+    let own = c.args.self.now.list.patterns.items in
+    let lines : entries_view c.in_ok-list.list.patterns.items ≡ entries_view own =
+    copied_lines own c.in_ok-list.list.patterns.items c.in_ok-list.ensures.patterns in
+    record {
+      indexed = c.in_ok-index.ensures;
+      matched = c.in_ok-matchers.ensures ∙ ap patterns_of c.deref.ensures.value;
+      read = ∥∥₁_map c.args.self.now.read (subst AreRead (sym lines));
+    }
+
+pub returns-clause-list : goal.returns-clause-list
+returns-clause-list c =
+    copied_list c.args.self.now.list c.in_ok-list.list c.in_ok-list.ensures.patterns c.in_ok-list.ensures.source c.in_ok-list.ensures.base

@@ -1,0 +1,39 @@
+use Rattle.std.proofs.Common.{◌≡◌, ◌∙◌, sym, ap, subst, length}
+use Rattle.attr_glob.specs.Views.{patterns_of}
+use Rattle.attr_lists.specs.ListViews.{entries_view}
+use Rattle.attr_lists.specs.Numbers.{numbered_lines}
+use Rattle.attr_lists.specs.Definitions.{with_list, HoldsList}
+use Rattle.attr_search.specs.Settings.{AreRead}
+use Rattle.attr_search.proofs.IndexedListLemmas.{numbered_lines_read, numbered_read, numbered_length, written}
+use Rattle.attr_search.proofs.indexed_list.IndexedList.register.Goals as goal
+
+pub invariant_of-result : goal.invariant_of-result
+invariant_of-result c =
+    let names = c.add.new.self.names in
+    let before = c.args.list.patterns.items in
+    let after = c.add.new.mappings in
+    let numbered = c.in_ok-list_id.ensures.numbered ∙ ap (λ ms. numbered_lines names (entries_view ms)) c.deref_mut.ensures.value in
+    let whole = written before after c.args.list.patterns.len (sym c.deref_mut.ensures.len ∙ ap length c.deref_mut.ensures.value)
+    (numbered_length names before after numbered) in
+    let same = ap patterns_of whole ∙ numbered_lines_read names before after numbered in
+    record {
+      indexed = c.in_ok-index.ensures ∙ sym same;
+      matched = c.in_ok-matchers.ensures ∙ ap patterns_of c.deref.ensures.value ∙ sym same;
+      read = ∣ subst AreRead (sym (ap entries_view whole ∙ numbered)) (numbered_read names (entries_view before) c.requires.read) ∣₁;
+    }
+
+pub returns-clause-added : goal.returns-clause-added
+returns-clause-added c =
+    subst (λ list_id. c.add.new.self ≡ with_list list_id (entries_view c.args.list.patterns.items) c.args.names.now)
+    c.in_ok-list_id.ensures.list_id
+    (c.in_ok-list_id.ensures.added ∙ ap (λ ms. with_list c.in_ok-list_id.list_id (entries_view ms) c.args.names.now) c.deref_mut.ensures.value)
+
+pub returns-clause-holds : goal.returns-clause-holds
+returns-clause-holds c =
+    let names = c.add.new.self.names in
+    let before = c.args.list.patterns.items in
+    let after = c.add.new.mappings in
+    let numbered = c.in_ok-list_id.ensures.numbered ∙ ap (λ ms. numbered_lines names (entries_view ms)) c.deref_mut.ensures.value in
+    let whole = written before after c.args.list.patterns.len (sym c.deref_mut.ensures.len ∙ ap length c.deref_mut.ensures.value)
+    (numbered_length names before after numbered) in
+    subst (λ ms. HoldsList c.add.new.self c.in_ok-list_id.list_id (entries_view ms)) (sym whole) c.in_ok-list_id.ensures.holds

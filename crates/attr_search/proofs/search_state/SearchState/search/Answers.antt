@@ -1,0 +1,106 @@
+use Rattle.std.proofs.Common.{◌+◌, ◌≤◌, sym, length, arith}
+use Rattle.attr_table.specs.inner.Walk.{stops}
+use Rattle.attr_table.proofs.ForCallers.{taken_most, taken_least}
+use Rattle.attr_table.proofs.ForCallers.{walked_searched}
+use Rattle.attr_table.proofs.ForCallers.{OneTable-of}
+use Rattle.attr_search.specs.IndexedLists.{lists_view}
+use Rattle.attr_search.specs.inner.Searched.{query_candidates, query_setting, state_bodies, state_slots, state_wanted}
+use Rattle.attr_search.proofs.TaggedLines.{roots_most}
+use Rattle.attr_search.proofs.FoundAnswers.{found_is, nothing_found, extends}
+use Rattle.attr_search.proofs.SearchedLemmas.{state_kept}
+use Rattle.attr_search.proofs.search_state.SearchState.search.Goals as goal
+
+pub returns-then-is_done-clause-kept : goal.returns-then-is_done-clause-kept
+returns-then-is_done-clause-kept c = state_kept c.args.self.now
+
+pub returns-then-is_done-clause-one : goal.returns-then-is_done-clause-one
+returns-then-is_done-clause-one c =
+    OneTable-of (query_setting c.args.self.now (lists_view c.args.lists.now) c.args.query) (state_slots c.args.self.now)
+
+pub returns-then-is_done-clause-searched : goal.returns-then-is_done-clause-searched
+returns-then-is_done-clause-searched c =
+    let slots = state_slots c.args.self.now in
+    walked_searched (query_setting c.args.self.now (lists_view c.args.lists.now) c.args.query) (state_wanted c.args.self.now) slots slots
+    (stops (sym c.if-is_done.ensures))
+
+pub returns-then-is_done-clause-joined : goal.returns-then-is_done-clause-joined
+returns-then-is_done-clause-joined c =
+    let s = query_setting c.args.self.now (lists_view c.args.lists.now) c.args.query in
+    let slots = state_slots c.args.self.now in
+    extends s (state_wanted c.args.self.now) slots slots
+    (walked_searched s (state_wanted c.args.self.now) slots slots (stops (sym c.if-is_done.ensures)))
+
+pub returns-then-is_done-clause-found : goal.returns-then-is_done-clause-found
+returns-then-is_done-clause-found c = nothing_found (state_wanted c.args.self.now) (state_slots c.args.self.now)
+
+pub search_lists-requires : goal.search_lists-requires
+search_lists-requires c = record { in_lists = rw c.begin_counts.ensures c.requires.in_lists }
+
+pub returns-in_err-search_lists-clause-kept : goal.returns-in_err-search_lists-clause-kept
+returns-in_err-search_lists-clause-kept c =
+    let kept = rw c.begin_counts.ensures at c.search_lists.ensures.kept in
+    record { wanted = kept.wanted; bodies = kept.bodies; len = kept.len }
+
+pub returns-in_err-search_lists-clause-one : goal.returns-in_err-search_lists-clause-one
+returns-in_err-search_lists-clause-one c =
+    OneTable-of (query_setting c.args.self.now (lists_view c.args.lists.now) c.args.query) (state_slots c.args.self.now)
+
+pub returns-clause-kept : goal.returns-clause-kept
+returns-clause-kept c =
+    let kept = rw c.begin_counts.ensures at c.search_lists.ensures.kept in
+    record { wanted = kept.wanted; bodies = kept.bodies; len = kept.len }
+
+pub returns-clause-one : goal.returns-clause-one
+returns-clause-one c =
+    OneTable-of (query_setting c.args.self.now (lists_view c.args.lists.now) c.args.query) (state_slots c.args.self.now)
+
+pub returns-clause-searched : goal.returns-clause-searched
+returns-clause-searched c =
+    let p = rw c.begin_counts.ensures at c.in_ok-search_lists.ensures.searched in
+    walked_searched (query_setting c.args.self.now (lists_view c.args.lists.now) c.args.query) (state_wanted c.args.self.now)
+    (state_slots c.args.self.now) (state_slots c.search_lists.new.self) p.searches.walks
+
+pub returns-clause-joined : goal.returns-clause-joined
+returns-clause-joined c =
+    let p = rw c.begin_counts.ensures at c.in_ok-search_lists.ensures.searched in
+    let s = query_setting c.args.self.now (lists_view c.args.lists.now) c.args.query in
+    extends s (state_wanted c.args.self.now) (state_slots c.args.self.now) (state_slots c.search_lists.new.self)
+    (walked_searched s (state_wanted c.args.self.now) (state_slots c.args.self.now) (state_slots c.search_lists.new.self) p.searches.walks)
+
+pub returns-clause-found : goal.returns-clause-found
+returns-clause-found c =
+    let p = rw c.begin_counts.ensures at c.in_ok-search_lists.ensures.searched in
+    let kept = rw c.begin_counts.ensures at c.search_lists.ensures.kept in
+    found_is (state_bodies c.args.self.now) (state_wanted c.args.self.now) _ c.args.self.now.wanted c.search_lists.new.self.wanted
+    c.args.self.now.answers c.search_lists.new.self.answers c.remaining-remaining.result c.remaining.result
+    0 c.search_lists.new.self.taken p.searches kept.len kept.wanted c.remaining-remaining.ensures c.remaining.ensures
+
+pub returns-clause-named : goal.returns-clause-named
+returns-clause-named c = rw c.begin_counts.ensures at c.in_ok-search_lists.ensures.named
+
+pub returns-clause-most : goal.returns-clause-most
+returns-clause-most c = λ undone.
+    let p = rw c.begin_counts.ensures at c.in_ok-search_lists.ensures.searched in
+    taken_most (query_setting c.args.self.now (lists_view c.args.lists.now) c.args.query) (state_wanted c.args.self.now)
+    (state_slots c.args.self.now) (state_slots c.search_lists.new.self) c.search_lists.new.self.taken p.searches
+
+pub returns-clause-least : goal.returns-clause-least
+returns-clause-least c = λ undone.
+    let p = rw c.begin_counts.ensures at c.in_ok-search_lists.ensures.searched in
+    let kept = rw c.begin_counts.ensures at c.search_lists.ensures.kept in
+    let long = kept.len in
+    taken_least (query_setting c.args.self.now (lists_view c.args.lists.now) c.args.query) (state_wanted c.args.self.now)
+    (state_slots c.args.self.now) (state_slots c.search_lists.new.self) c.search_lists.new.self.taken (length c.search_lists.new.self.answers)
+    (omega (arith, long, c.len.ensures)) p.searches
+
+pub returns-clause-tested : goal.returns-clause-tested
+returns-clause-tested c = λ undone.
+    let most : c.search_lists.new.self.tested ≤ 0 + query_candidates (lists_view c.args.lists.now) c.args.query =
+    rw c.begin_counts.ensures at c.in_ok-search_lists.ensures.tested in
+    omega (arith, most)
+
+pub returns-clause-roots : goal.returns-clause-roots
+returns-clause-roots c = λ undone table stable.
+    let p = rw c.begin_counts.ensures at c.in_ok-search_lists.ensures.searched in
+    roots_most (query_setting c.args.self.now (lists_view c.args.lists.now) c.args.query) (state_wanted c.args.self.now)
+    (state_slots c.args.self.now) (state_slots c.search_lists.new.self) c.search_lists.new.self.tested table stable p.rounds

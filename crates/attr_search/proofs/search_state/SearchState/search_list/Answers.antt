@@ -1,0 +1,51 @@
+use Rattle.std.proofs.Common.{◌∙◌, refl}
+use Rattle.std.proofs.lemmas.Result.{on_ok_weaker}
+use Rattle.bstr.specs.BStr.{bstr_bytes}
+use Rattle.attr_glob.specs.BaseNames.{base_name}
+use Rattle.attr_search.specs.IndexedLists.{listed_view}
+use Rattle.attr_search.proofs.CandidateLemmas.{candidates_fit, tested_most}
+use Rattle.attr_search.proofs.SearchedLemmas.{list_apart, list_by_candidates, state_kept}
+use Rattle.attr_search.proofs.search_state.SearchState.search_list.Goals as goal
+
+pub returns-in_default-clause-kept : goal.returns-in_default-clause-kept
+returns-in_default-clause-kept c = state_kept c.args.self.now
+
+pub returns-in_default-clause-searched : goal.returns-in_default-clause-searched
+returns-in_default-clause-searched c = list_apart c.args.query (listed_view c.args.list.now) c.args.self.now c.in_default.ensures.path
+
+pub returns-in_err-places-clause-kept : goal.returns-in_err-places-clause-kept
+returns-in_err-places-clause-kept c = rw c.find_candidates.ensures.unchanged (state_kept c.args.self.now)
+
+pub search_places-searched-requires-clause-places : goal.search_places-searched-requires-clause-places
+search_places-searched-requires-clause-places c =
+    rw c.deref.ensures.value (candidates_fit c.in-Some.rest.case (base_name (bstr_bytes c.in-Some.rest.path))
+    c.args.list.now.list.patterns.items c.in_ok-places.places.items c.in_ok-places.ensures.places)
+
+pub search_places-searched-requires-clause-in_lines : goal.search_places-searched-requires-clause-in_lines
+search_places-searched-requires-clause-in_lines c = rw c.find_candidates.ensures.unchanged c.requires.in_lines
+
+pub returns-clause-kept : goal.returns-clause-kept
+returns-clause-kept c =
+    rw c.keep_buffer.ensures (rw c.find_candidates.ensures.unchanged at c.search_places-searched.ensures.kept)
+
+pub returns-clause-named : goal.returns-clause-named
+returns-clause-named c =
+    rw c.keep_buffer.ensures (rw c.find_candidates.ensures.unchanged at c.search_places-searched.ensures.named)
+
+pub returns-clause-tested : goal.returns-clause-tested
+returns-clause-tested c =
+    let list = c.args.list.now in
+    let found = c.deref.ensures.value ∙ c.in_ok-places.ensures.places in
+    rw c.keep_buffer.ensures (on_ok_weaker c.search_places-searched.result
+    (λ tested. tested_most c.args.query.case c.in-Some.rest.case (bstr_bytes c.args.query.path) (bstr_bytes c.in-Some.rest.path)
+    (listed_view list) list.list.patterns.items c.deref.result.now c.args.self.now.tested c.search_places-searched.new.self.tested refl
+    c.in-Some.ensures.path c.in-Some.ensures.case found tested)
+    (rw c.find_candidates.ensures.unchanged at c.search_places-searched.ensures.tested))
+
+pub returns-clause-searched : goal.returns-clause-searched
+returns-clause-searched c =
+    let found = c.deref.ensures.value ∙ c.in_ok-places.ensures.places in
+    rw c.keep_buffer.ensures (on_ok_weaker c.search_places-searched.result
+    (λ searched. list_by_candidates c.args.query c.in-Some.rest c.args.list.now c.deref.result.now c.args.self.now
+    c.search_places-searched.new.self c.in-Some.ensures.path c.in-Some.ensures.case c.in-Some.ensures.is_dir found searched)
+    (rw c.find_candidates.ensures.unchanged at c.search_places-searched.ensures.searched))

@@ -1,0 +1,60 @@
+use Rattle.std.proofs.Common.{◌∙◌, ap, length, refl}
+use Rattle.std.proofs.lemmas.List.Elements.{All-nil}
+use Rattle.std.proofs.lemmas.Result.{on_ok_weaker}
+use Rattle.attr_search.specs.Slots.{bodies_view}
+use Rattle.attr_search.specs.inner.Filling.{filler_slots}
+use Rattle.attr_search.specs.inner.Pending.{IsPlaced, line_origin}
+use Rattle.attr_search.proofs.FillingLemmas.{line_walked}
+use Rattle.attr_search.proofs.slot_filler.SlotFiller.fill_attributes.Goals as goal
+
+pub push_free-requires : goal.push_free-requires
+push_free-requires c = rw c.begin_line.ensures c.requires.can_fill.in_line
+
+pub returns-in_err-push_free-clause-kept : goal.returns-in_err-push_free-clause-kept
+returns-in_err-push_free-clause-kept c = record {
+  wanted = ap (λ s. s.wanted) c.begin_line.ensures;
+  len = ap (λ s. length s.answers) c.begin_line.ensures;
+  bodies = refl;
+}
+
+pub run_stack-requires : goal.run_stack-requires
+run_stack-requires c =
+    let bodies = bodies_view c.args.self.now.bodies.items in
+    record {
+      at_line =
+          record {
+            can_fill =
+                record {
+                  bodies = rw c.begin_line.ensures c.requires.can_fill.bodies;
+                  in_line = rw c.begin_line.ensures c.requires.can_fill.in_line;
+                };
+            placed = c.in_ok-push_free.ensures.placed c.args.line.items.now bodies refl
+                (rw c.clear.ensures.items (All-nil (IsPlaced c.args.line.items.now bodies)));
+            origin = rw c.begin_line.ensures tt;
+          };
+    }
+
+pub returns-clause-kept : goal.returns-clause-kept
+returns-clause-kept c = record {
+  wanted = c.run_stack.ensures.kept.wanted ∙ ap (λ s. s.wanted) c.begin_line.ensures;
+  len = c.run_stack.ensures.kept.len ∙ ap (λ s. length s.answers) c.begin_line.ensures;
+  bodies = c.run_stack.ensures.kept.bodies;
+}
+
+pub returns-clause-named : goal.returns-clause-named
+returns-clause-named c =
+    on_ok_weaker c.run_stack.result
+    (λ filled names line bodies held. filled names line bodies (rw c.begin_line.ensures held))
+    c.run_stack.ensures.named
+
+pub returns-clause-filled : goal.returns-clause-filled
+returns-clause-filled c =
+    let line = c.args.line in
+    let before = c.args.self.now in
+    on_ok_weaker c.run_stack.result
+    (λ filled. line_walked (bodies_view before.bodies.items) (line_origin line) line.items.now before.slots c.begin_line.new.self
+    (filler_slots c.run_stack.new.self) c.clear.new.self.items c.push_free.new.stack.items before.taken c.run_stack.new.self.taken
+    c.begin_line.ensures c.clear.ensures.items
+    (c.in_ok-push_free.ensures.pushed (line_origin line) line.items.now (bodies_view before.bodies.items) refl)
+    filled)
+    c.run_stack.ensures.filled

@@ -1,0 +1,51 @@
+use Rattle.std.proofs.Common.{◌∙◌, sym, refl, arith}
+use Rattle.attr_search.specs.Slots.{bodies_view}
+use Rattle.attr_search.specs.inner.Filling.{filler_slots, stack_tasks}
+use Rattle.attr_search.specs.inner.Pending.{line_origin, table_bodies}
+use Rattle.attr_search.specs.inner.SlotContents.{wanted_numbers}
+use Rattle.attr_table.proofs.ForCallers.{nothing_taken, done_taken}
+use Rattle.attr_search.proofs.FillingLemmas.{pending_tasks-none, pending_tasks-top}
+use Rattle.attr_search.proofs.slot_filler.SlotFiller.run_stack.Goals as goal
+
+pub loop-alloc-init : goal.loop-alloc-init
+loop-alloc-init c = record {
+  at_line = c.requires.at_line;
+  kept = record { wanted = refl; len = refl; bodies = refl };
+  named = λ names line bodies held. held;
+  filled = λ final later p. p;
+}
+
+pub returns-in_default-clause-filled : goal.returns-in_default-clause-filled
+returns-in_default-clause-filled c =
+    let now = c.loop-alloc.self in
+    let x = c.in_default.ensures.cases in
+    let none = pending_tasks-none (line_origin c.args.line) c.args.line.items.now (bodies_view now.bodies.items)
+    now.stack.items (omega arith) in
+    c.loop-alloc.invariant.filled (filler_slots now) now.taken
+    (rw none (nothing_taken (table_bodies now.bodies.items) (wanted_numbers now.slots.wanted) (filler_slots now) now.taken))
+
+pub loop-alloc-preserved : goal.loop-alloc-preserved
+loop-alloc-preserved c = record {
+  at_line = c.in_ok-process.ensures.at_line;
+  kept = record {
+    wanted = c.process.ensures.kept.wanted ∙ c.loop-alloc.invariant.kept.wanted;
+    len = c.process.ensures.kept.len ∙ c.loop-alloc.invariant.kept.len;
+    bodies = c.process.ensures.kept.bodies ∙ c.loop-alloc.invariant.kept.bodies;
+  };
+  named = λ names line bodies held.
+      c.in_ok-process.ensures.named names line (rw c.loop-alloc.invariant.kept.bodies bodies)
+      (c.loop-alloc.invariant.named names line bodies held);
+  filled = λ final later p.
+      let now = c.loop-alloc.self in
+      let top = pending_tasks-top (line_origin c.args.line) c.args.line.items.now (bodies_view now.bodies.items)
+      now.stack.items c.pop.new.self.items c.in-Some.top c.in-Some.ensures.items in
+      c.loop-alloc.invariant.filled final later
+      (rw top (c.in_ok-process.ensures.processed (sym c.loop-alloc-test.ensures) final now.taken later c.saturating_add-self.ensures p));
+}
+
+pub returns-clause-filled : goal.returns-clause-filled
+returns-clause-filled c =
+    let now = c.loop-alloc.self in
+    c.loop-alloc.invariant.filled (filler_slots now) now.taken
+    (done_taken (table_bodies now.bodies.items) (wanted_numbers now.slots.wanted)
+    (stack_tasks c.args.line now.bodies.items now.stack.items) (filler_slots now) now.taken (sym c.loop-alloc-test.ensures))

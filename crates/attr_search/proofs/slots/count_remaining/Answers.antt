@@ -1,0 +1,22 @@
+use Rattle.std.proofs.Common.{◌≡◌, cond, get_or, false, None, sym, ap, ◌∙◌, arith}
+use Rattle.attr_search.specs.inner.SlotContents.{remaining_at}
+use Rattle.attr_search.proofs.SlotLemmas.{count_left_more}
+use Rattle.attr_search.proofs.slots.count_remaining.Goals as goal
+use Rattle.attr_search.proofs.slots.count_remaining.Goals.{then-is_remaining, else-is_remaining}
+
+pub loop-place-preserved : goal.loop-place-preserved
+loop-place-preserved c =
+    let wanted = c.args.wanted.now in
+    let slots = c.args.slots.now in
+    let place = c.loop-place.place in
+    let more = count_left_more wanted slots place c.loop-place-test.true c.requires in
+    let told : remaining_at (get_or wanted place false) (get_or slots place None) ≡ cond c.is_remaining.result 1 0 = ap (λ b. cond b 1 0)
+    (sym c.is_remaining.ensures) in
+    elim c.if-is_remaining.branch [
+      | then-is_remaining w ↦
+          let one = told ∙ ap (λ b. cond b 1 0) w.if-is_remaining.true in
+          record { counted = omega (arith, more, one, w.remaining-is); small = omega (arith, w.remaining-is) }
+      | else-is_remaining w ↦
+          let none = told ∙ ap (λ b. cond b 1 0) w.if-is_remaining.false in
+          record { counted = omega (arith, more, none, w.remaining-is); small = omega (arith, w.remaining-is) }
+    ]

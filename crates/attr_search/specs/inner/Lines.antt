@@ -1,0 +1,32 @@
+-- The lines that functions search (own). Nothing here has to be believed.
+use Rattle.std.specs.Prelude.{ℕ, List, [], map, Bool, Option, Some, None, slice_index_or}
+use Rattle.bstr.specs.BStr.{bstr_bytes}
+use Rattle.attr_glob.specs.declared.pattern.Case.{Case}
+use Rattle.attr_lists.specs.ListViews.{Entry}
+use Rattle.attr_table.specs.Setting.{Line}
+use Rattle.attr_table.specs.inner.Walk.{Task, line_tasks}
+use Rattle.attr_search.specs.declared.path_query.PathQuery.{PathQuery}
+use Rattle.attr_search.specs.Settings.{Listed, line_of, lines_of}
+
+-- the empty line, for places past the last line
+abbrev pub no_entry : Entry
+no_entry = record { pattern = record { text = []; mode = 0; wildcard = None }; macro = None; items = []; line = 0 }
+
+abbrev pub entry_at : List Entry → ℕ → Entry
+entry_at lines place = slice_index_or lines place no_entry
+
+-- the tasks of a line, for what is left of a path below the base
+abbrev pub entry_tasks : Case → Option Bool → Option (List ℕ) → List ℕ → Entry → List Task
+entry_tasks case is_dir source rest entry = line_tasks (line_of case is_dir source (Some rest) entry)
+
+-- the tasks of the line at a place of a list
+abbrev pub place_tasks : PathQuery → Listed → ℕ → List Task
+place_tasks rest listed place =
+    entry_tasks rest.case rest.is_dir listed.source (bstr_bytes rest.path) (entry_at listed.lines place)
+
+-- the lines of a list, and those of lists, for the path of a query
+abbrev pub query_lines : PathQuery → Listed → List Line
+query_lines query listed = lines_of query.case query.is_dir (bstr_bytes query.path) listed
+
+abbrev pub all_lines : PathQuery → List Listed → List (List Line)
+all_lines query lists = map (query_lines query) lists

@@ -1,0 +1,64 @@
+-- What waits on the stack of a search (own). Nothing here has to be believed.
+use Rattle.std.specs.Prelude.{◌≡◌, ℕ, ◌<◌, List, [], ◌∷◌, ◌++◌, map, length, All, Option, Some, None, slice_index_or, option_map, string_bytes}
+use Rattle.smallvec.specs.SmallVec.{SmallVec}
+use Rattle.attr_text.specs.declared.state.State.TheVariants.{Unspecified}
+use Rattle.attr_lists.specs.declared.types.MatchKind.{MatchKind}
+use Rattle.attr_lists.specs.declared.types.TrackedAssignment.{TrackedAssignment}
+use Rattle.attr_table.specs.Setting.{Origin, Item}
+use Rattle.attr_table.specs.Table.{Slots}
+use Rattle.attr_table.specs.inner.Walk.{Task, backwards, tasks_in, free_items}
+use Rattle.attr_search.specs.declared.matching_line.PendingItem.{PendingItem}
+use Rattle.attr_search.specs.declared.matching_line.MatchingLine.{MatchingLine}
+use Rattle.attr_search.specs.Matches.{is_macro_kind, cause_of}
+use Rattle.attr_search.specs.Slots.{Matched, origin_of, table_item, table_items, bodies_view}
+
+-- the line that a match refers to
+abbrev pub line_origin : MatchingLine → Origin
+line_origin line = origin_of (option_map string_bytes line.source.now) line.mapping.now
+
+-- the match by an item of a line, or of a body that the line leads to
+abbrev pub item_match : MatchingLine → TrackedAssignment → MatchKind → Matched
+item_match line item kind =
+    record { origin = line_origin line; assignment = item.inner; is_macro = is_macro_kind kind; cause = cause_of kind }
+
+-- the bodies, as the table knows them
+abbrev pub table_bodies : List (SmallVec TrackedAssignment) → List (List Item)
+table_bodies bodies = map table_items (bodies_view bodies)
+
+-- the items of the line, or of its cause's body
+abbrev pub items_beside : List TrackedAssignment → List (List TrackedAssignment) → Option ℕ → List TrackedAssignment
+items_beside items bodies None = items
+items_beside items bodies (Some attribute) = slice_index_or bodies attribute []
+
+abbrev pub no_item : TrackedAssignment
+no_item = record { id = record { 0 = 0 }; inner = record { name = []; state = Unspecified } }
+
+-- the item that waits
+abbrev pub pending_item : List TrackedAssignment → List (List TrackedAssignment) → PendingItem → TrackedAssignment
+pending_item items bodies w = slice_index_or (items_beside items bodies w.cause) w.place no_item
+
+-- there is one
+abbrev pub IsPlaced : List TrackedAssignment → List (List TrackedAssignment) → PendingItem → Type 0
+IsPlaced items bodies w = w.place < length (items_beside items bodies w.cause)
+
+abbrev pub task_of : Origin → List TrackedAssignment → List (List TrackedAssignment) → PendingItem → Task
+task_of origin items bodies w =
+    record { origin = origin; item = table_item (pending_item items bodies w); cause = w.cause }
+
+-- what waits, the top of the stack first
+abbrev pub pending_tasks : Origin → List TrackedAssignment → List (List TrackedAssignment) → List PendingItem → List Task
+pending_tasks origin items bodies stack = backwards (λ w. task_of origin items bodies w ∷ []) stack
+
+-- the free ones of some items were pushed, the last on top
+abbrev pub PushesFree : Slots → Option ℕ → List TrackedAssignment → List PendingItem → List PendingItem → Type 0
+PushesFree slots cause items before after =
+    (origin : Origin) (line : List TrackedAssignment) (bodies : List (List TrackedAssignment)) →
+    items_beside line bodies cause ≡ items →
+    pending_tasks origin line bodies after
+    ≡ tasks_in origin cause (free_items slots (table_items items)) ++ pending_tasks origin line bodies before
+
+-- what was pushed is there
+abbrev pub PushesPlaced : Option ℕ → List TrackedAssignment → List PendingItem → List PendingItem → Type 0
+PushesPlaced cause items before after =
+    (line : List TrackedAssignment) (bodies : List (List TrackedAssignment)) → items_beside line bodies cause ≡ items →
+    All (IsPlaced line bodies) before → All (IsPlaced line bodies) after

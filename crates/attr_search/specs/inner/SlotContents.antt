@@ -1,0 +1,29 @@
+-- What a search fills (own).
+use Rattle.std.specs.Prelude.{ℕ, suc, ◌+◌, Bool, cond, List, [], ◌∷◌, map, Option, None, is_none, ◌&&◌}
+use Rattle.attr_table.specs.Setting.{Origin}
+use Rattle.attr_search.specs.Slots.{Matched}
+
+-- the answers by number, which numbers are wanted, and the line whose pattern and source were looked up last
+pub record SlotContents : Type 0 where
+  pub answers : List (Option Matched)
+  pub wanted : List Bool
+  pub line : Option Origin
+
+-- empty slots, of which some are wanted
+abbrev pub empty_slots : List Bool → SlotContents
+empty_slots wanted = record { answers = map (λ w. None) wanted; wanted = wanted; line = None }
+
+-- the numbers that are wanted
+abbrev pub wanted_numbers : List Bool → List ℕ
+wanted_numbers [] = []
+wanted_numbers (wanted ∷ rest) = cond wanted (0 ∷ map suc (wanted_numbers rest)) (map suc (wanted_numbers rest))
+
+-- one if a slot is wanted and free
+abbrev pub remaining_at : {X : Type 0} → Bool → Option X → ℕ
+remaining_at wanted slot = cond (wanted && is_none slot) 1 0
+
+-- how many wanted slots are free
+abbrev pub count_remaining : {X : Type 0} → List Bool → List (Option X) → ℕ
+count_remaining [] slots = 0
+count_remaining (wanted ∷ flags) [] = 0
+count_remaining (wanted ∷ flags) (slot ∷ slots) = remaining_at wanted slot + count_remaining flags slots

@@ -1,0 +1,19 @@
+-- The answers in slots, and that the places they refer to are in use (own).
+use Rattle.std.specs.Prelude.{◌≡◌, ⊤, length, MatchOption, option_map}
+use Rattle.attr_search.specs.inner.SlotContents.{SlotContents, count_remaining}
+use Rattle.attr_search.specs.inner.Refs.{IsOriginRef, AreMatchRefs, origin_by_ref, matches_by_ref}
+use Rattle.attr_search.specs.declared.slots.AnswerSlots.TheInside.{Inside}
+
+abbrev pub slots_view : Inside → SlotContents
+slots_view b =
+    record {
+      answers = matches_by_ref b.matches.refs b.slots.items;
+      wanted = b.wanted.items;
+      line = option_map (origin_by_ref b.matches.refs) b.matches.line;
+    }
+
+pub record AreSoundSlots (b : Inside) : Type 0 where
+  pub same_length : length b.wanted.items ≡ length b.slots.items
+  pub within : AreMatchRefs b.matches.refs b.slots.items
+  pub line : MatchOption b.matches.line ⊤ (IsOriginRef b.matches.refs)
+  pub counted : b.remaining ≡ count_remaining b.wanted.items b.slots.items

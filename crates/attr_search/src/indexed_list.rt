@@ -1,0 +1,179 @@
+//! A list of a search, with what is made of its patterns once.
+
+ghost use Rattle.std.specs.Prelude.{◌≡◌, ◌<◌, None, length, true, false, IfOk, OnOk, OnErr, map};
+ghost use Rattle.bstr.specs.BStr.{bstr_bytes};
+ghost use Rattle.attr_glob.specs.BaseNames.{base_name};
+ghost use Rattle.attr_glob.specs.Candidates.{candidates};
+ghost use Rattle.attr_glob.specs.Paths.{path_matches};
+ghost use Rattle.attr_search.specs.inner.Lines.{entry_at};
+ghost use Rattle.attr_glob.specs.Views.{patterns_of};
+ghost use Rattle.attr_lists.specs.Definitions.{free_id, is_active, with_list, HoldsList};
+ghost use Rattle.attr_lists.specs.KeptLists.{macros_valid};
+ghost use Rattle.attr_lists.specs.ListViews.{entries_view};
+ghost use Rattle.attr_lists.specs.Numbers.{numbered_lines};
+ghost use Rattle.attr_search.specs.Settings.{AreRead};
+ghost use Rattle.attr_search.specs.inner.Keeping.{KeepsLists};
+
+use crate::path_query::PathQuery;
+use attr_glob::matcher::Matcher;
+use attr_glob::pattern::base_name;
+use attr_glob::search::pattern::{Index, IndexBuffers, List, Mapping};
+use attr_glob::wildmatch::MatchBuffers;
+use attr_lists::name_table::NameTable;
+use attr_lists::types::{Attributes, Value};
+use std::alloc::{AllocError, Global};
+
+/// A list of a search, with an index of its patterns. It compares as the list.
+#[derive(Drop)]
+#[derive_where(PartialEq, Eq, PartialOrd, Ord, Hash, Debug)]
+pub struct IndexedList {
+    /// The lines, where they were read, and the base below which they apply.
+    pub list: List<Attributes>,
+    /// Which of the list's patterns a path has to be matched against.
+    #[derive_where(skip)]
+    pub index: Index,
+    /// The patterns with their tokens.
+    #[derive_where(skip)]
+    pub matchers: Vec<Matcher>,
+    /// The number under which the list is active in its collection.
+    #[derive_where(skip)]
+    pub list_id: usize,
+    ghost indexed: { index ≡ patterns_of list.patterns.items },
+    ghost matched: { matchers.items ≡ patterns_of list.patterns.items },
+    ghost read: { ∥ AreRead (entries_view list.patterns.items) ∥₁ },
+}
+
+impl IndexedList {
+    ghost use Rattle.attr_search.specs.IndexedLists.{listed_view};
+    ghost use Rattle.attr_search.specs.IndexedLists.{list_ids_of};
+
+    /// Registers a list: its attributes and macros get their numbers in the table, and its definitions of macros are
+    /// active from then on.
+    ///
+    /// # Errors
+    ///
+    /// If memory is refused. The table is as it was then.
+    pub fn register(
+        alloc: Global,
+        mut list: List<Attributes>,
+        names: &mut NameTable,
+    ) -> Result<IndexedList, AllocError>
+        requires read { AreRead (entries_view list.patterns.items) }
+        requires valid { macros_valid (entries_view list.patterns.items) ≡ true }
+        ensures list_id { IfOk result (λ s. s.list_id ≡ free_id names.old.active) }
+        ensures fresh { IfOk result (λ s. is_active names.old.active s.list_id ≡ false) }
+        ensures lines { IfOk result (λ s. entries_view s.list.patterns.items
+            ≡ numbered_lines names.new.names (entries_view list.patterns.items)) }
+        ensures source { IfOk result (λ s. s.list.source ≡ list.source) }
+        ensures base { IfOk result (λ s. s.list.base ≡ list.base) }
+        ensures added { OnOk result (names.new
+            ≡ with_list (free_id names.old.active) (entries_view list.patterns.items) names.old) }
+        ensures holds { IfOk result (λ s.
+            HoldsList names.new s.list_id (entries_view s.list.patterns.items)) }
+        ensures others { OnOk result (KeepsLists names.old names.new) }
+        ensures refused { OnErr result (names.new ≡ names.old) }
+    {
+        let index = Index::of(alloc, &list)?;
+        let matchers = matchers_of(alloc, &list.patterns)?;
+        let list_id = names.add(alloc, &mut list.patterns)?;
+        Ok(IndexedList {
+            list,
+            index,
+            matchers,
+            list_id,
+        })
+    }
+
+    /// Finds the places of the lines that are to be matched against what is left of a path, the greatest first.
+    /// They take the place of what the buffer had.
+    ///
+    /// # Errors
+    ///
+    /// If memory is refused.
+    pub fn find_candidates(
+        &self,
+        rest: PathQuery<'_>,
+        buffers: &mut IndexBuffers,
+        places: &mut Vec<usize>,
+    ) -> Result<(), AllocError>
+        ensures { OnOk result (places.new.items ≡ candidates rest.entry.case
+            (base_name (bstr_bytes rest.entry.path)) (patterns_of self.now.list.patterns.items)) }
+    {
+        places.clear();
+        let name = base_name(rest.path.as_bytes(), rest.name_place);
+        self.index
+            .append_candidates(name, rest.case, buffers, places)
+    }
+
+    /// Whether the pattern of a line that defines no macro matches what is left of a path.
+    ///
+    /// # Errors
+    ///
+    /// If memory is refused.
+    pub fn matches(
+        &self,
+        place: usize,
+        rest: PathQuery<'_>,
+        buffers: &mut MatchBuffers,
+    ) -> Result<bool, AllocError>
+        requires place { place < length self.now.list.patterns.items }
+        requires no_macro { (entry_at (entries_view self.now.list.patterns.items) place).macro
+            ≡ None }
+        ensures { IfOk result (λ answer. answer ≡ path_matches rest.entry.case
+            (entry_at (entries_view self.now.list.patterns.items) place).pattern
+            (bstr_bytes rest.entry.path) rest.entry.is_dir) }
+    {
+        self.matchers[place].matches_repo_relative_path(
+            rest.path,
+            rest.name_place,
+            rest.is_dir,
+            rest.case,
+            buffers,
+        )
+    }
+
+    // A copy, of the same number.
+    fn clone(&self, alloc: Global) -> Result<IndexedList, AllocError>
+        ensures list { IfOk result (λ copy. listed_view copy ≡ listed_view self.now) }
+        ensures list_id { IfOk result (λ copy. copy.list_id ≡ self.now.list_id) }
+    {
+        let list = self.list.clone(alloc)?;
+        let index = Index::of(alloc, &list)?;
+        let matchers = matchers_of(alloc, &list.patterns)?;
+        Ok(IndexedList {
+            list,
+            index,
+            matchers,
+            list_id: self.list_id,
+        })
+    }
+
+    /// Copies of lists, each of the same number.
+    ///
+    /// # Errors
+    ///
+    /// If memory is refused.
+    pub fn copies(alloc: Global, lists: &[IndexedList]) -> Result<Vec<IndexedList>, AllocError>
+        ensures lists { IfOk result (λ copies.
+            map listed_view copies.items ≡ map listed_view lists.now) }
+        ensures list_ids { IfOk result (λ copies.
+            list_ids_of copies.items ≡ list_ids_of lists.now) }
+    {
+        let mut copies = Vec::new(alloc);
+        for list in lists {
+            copies.push(list.clone(alloc)?)?;
+        }
+        Ok(copies)
+    }
+}
+
+// The patterns of mappings with their tokens.
+fn matchers_of(alloc: Global, mappings: &[Mapping<Value>]) -> Result<Vec<Matcher>, AllocError>
+    ensures { IfOk result (λ matchers. matchers.items ≡ patterns_of mappings.now) }
+{
+    let mut matchers = Vec::new(alloc);
+    for mapping in mappings {
+        matchers.push(Matcher::of(alloc, &mapping.pattern)?)?;
+    }
+    Ok(matchers)
+}

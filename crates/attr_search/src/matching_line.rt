@@ -1,0 +1,67 @@
+//! A line that matches a path, and the items of it and of macros' bodies that are still to be processed.
+
+ghost use Rattle.std.specs.Prelude.{◌≡◌, ◌<◌, [], length, slice_index_or};
+ghost use Rattle.attr_search.specs.Matches.{cause_of, is_macro_kind};
+ghost use Rattle.attr_search.specs.Slots.{bodies_view};
+ghost use Rattle.attr_search.specs.inner.Pending.{pending_item, IsPlaced};
+
+use attr_glob::search::pattern::Mapping;
+use attr_lists::types::{Assignments, AttributeId, MatchKind, TrackedAssignment, Value};
+
+/// A line that matches, with its list's source and with its items.
+#[derive(Clone, Copy)]
+pub struct MatchingLine<'a> {
+    pub mapping: &'a Mapping<Value>,
+    pub source: &'a Option<String>,
+    pub items: &'a [TrackedAssignment],
+}
+
+/// An item that is still to be processed: its place in its line, or in the body of the macro that causes it.
+#[derive(Clone, Copy, PartialEq, Eq, Debug)]
+pub struct PendingItem {
+    pub cause: Option<usize>,
+    pub place: usize,
+}
+
+impl PendingItem {
+    /// The item, of its line's items or of the bodies of macros by number.
+    pub fn item<'a>(
+        self,
+        items: &'a [TrackedAssignment],
+        bodies: &'a [Assignments],
+    ) -> &'a TrackedAssignment
+        requires { IsPlaced items.now (bodies_view bodies.now) self }
+        ensures { result.now ≡ pending_item items.now (bodies_view bodies.now) self }
+    {
+        match self.cause {
+            None => &items[self.place],
+            Some(attribute) => &body_of(bodies, attribute)[self.place],
+        }
+    }
+
+    /// How a match by the item came about: whether it is a macro, and which macro's body it is in.
+    pub fn kind(self, is_macro: bool) -> MatchKind
+        ensures kind { is_macro_kind result ≡ is_macro }
+        ensures cause { cause_of result ≡ self.cause }
+    {
+        let cause = match self.cause {
+            Some(number) => Some(AttributeId(number)),
+            None => None,
+        };
+        if is_macro {
+            MatchKind::Macro {
+                parent_macro_id: cause,
+            }
+        } else {
+            MatchKind::Attribute { macro_id: cause }
+        }
+    }
+}
+
+/// What an attribute is as a macro, by its number.
+pub fn body_of(bodies: &[Assignments], attribute: usize) -> &[TrackedAssignment]
+    requires { attribute < length bodies.now }
+    ensures { result.now ≡ slice_index_or (bodies_view bodies.now) attribute [] }
+{
+    bodies[attribute].as_slice()
+}

@@ -1,0 +1,59 @@
+//! What a search looks up in lists: a path.
+
+ghost use Rattle.std.specs.Prelude.{◌≡◌, IfSome, option_map};
+ghost use Rattle.bstr.specs.BStr.{bstr_bytes};
+ghost use Rattle.attr_glob.specs.BaseNames.{base_name_place};
+ghost use Rattle.attr_glob.specs.Bases.{rest_below};
+ghost use Rattle.attr_glob.specs.Views.{base_bytes};
+
+use attr_glob::pattern::{Case, base_name_place};
+use attr_glob::search::pattern::List;
+use attr_lists::types::Attributes;
+use bstr::BStr;
+
+/// A path with the place of its base name, and how it is matched.
+#[derive(Clone, Copy)]
+pub struct PathQuery<'a> {
+    pub path: BStr<'a>,
+    pub name_place: Option<usize>,
+    pub case: Case,
+    pub is_dir: Option<bool>,
+    ghost placed: { name_place ≡ base_name_place (bstr_bytes path) },
+}
+
+impl<'a> PathQuery<'a> {
+    /// A query for a path without a leading slash. `is_dir` is whether it is a folder, if that is known.
+    pub fn new(path: BStr<'a>, case: Case, is_dir: Option<bool>) -> PathQuery<'a>
+        ensures path { bstr_bytes result.path ≡ bstr_bytes path.entry }
+        ensures case { result.case ≡ case }
+        ensures is_dir { result.is_dir ≡ is_dir }
+    {
+        let name_place = base_name_place(path.as_bytes());
+        PathQuery {
+            path,
+            name_place,
+            case,
+            is_dir,
+        }
+    }
+
+    /// What is left of the path below the list's base, none if the list does not apply to the path.
+    pub fn below(self, list: &List<Attributes>) -> Option<PathQuery<'a>>
+        ensures path { option_map (λ r. bstr_bytes r.path) result
+            ≡ rest_below (base_bytes list.now.base) self.entry.case (bstr_bytes self.entry.path) }
+        ensures case { IfSome result (λ r. r.case ≡ self.entry.case) }
+        ensures is_dir { IfSome result (λ r. r.is_dir ≡ self.entry.is_dir) }
+    {
+        let (path, name_place) = list.strip_base_handle_recompute_basename_pos(
+            self.path,
+            self.name_place,
+            self.case,
+        )?;
+        Some(PathQuery {
+            path,
+            name_place,
+            case: self.case,
+            is_dir: self.is_dir,
+        })
+    }
+}

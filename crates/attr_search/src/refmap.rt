@@ -1,0 +1,268 @@
+//! The parts of matches, each of which is stored once.
+
+ghost use Rattle.std.specs.Prelude.{◌≡◌, ◌<◌, ⊤, [], Some, IfOk, MatchOption, length, map, option_map, slice_get, slice_index_or, string_bytes};
+ghost use Rattle.attr_glob.specs.Views.{pattern_view};
+ghost use Rattle.attr_search.specs.inner.Pending.{line_origin};
+ghost use Rattle.attr_search.specs.inner.RefMapParts.{KeepsRefs, Grows, no_assignment, no_pattern};
+ghost use Rattle.attr_search.specs.Matches.{match_view};
+ghost use Rattle.attr_search.specs.inner.Refs.{RefersTo, IsMatchRef, match_by_ref};
+
+use crate::matching_line::MatchingLine;
+use attr_glob::Pattern;
+use attr_lists::types::{Match, MatchKind, MatchLocation};
+use attr_text::Assignment;
+use indexmap::IndexSet;
+use std::alloc::{AllocError, Global};
+use std::marker::Model;
+
+/// Where a line's pattern and its source are stored, and its number.
+#[derive(Clone, Copy)]
+pub struct OriginRef {
+    pub pattern: usize,
+    pub source: Option<usize>,
+    pub number: usize,
+}
+
+/// Where a match's line and assignment are stored, and how the match came about.
+#[derive(Clone, Copy)]
+pub struct MatchRef {
+    pub line: OriginRef,
+    pub assignment: usize,
+    pub kind: MatchKind,
+}
+
+/// The patterns, assignments and sources of matches, each stored once.
+#[derive(Drop)]
+pub struct RefMap {
+    patterns: IndexSet<Pattern>,
+    assignments: IndexSet<Assignment>,
+    sources: IndexSet<String>,
+}
+
+impl Model for RefMap {
+    ghost use Rattle.attr_search.specs.inner.RefMapParts.{RefMapParts};
+
+    ghost Value = { RefMapParts };
+
+    ghost use Rattle.attr_search.specs.inner.RefMapView.{ref_map_view};
+
+    ghost view = { ref_map_view };
+}
+
+impl RefMap {
+    /// Nothing is stored. It takes no memory.
+    pub fn new(alloc: Global) -> RefMap
+        ensures { result ≡ record { patterns = []; assignments = []; sources = [] } }
+    {
+        RefMap {
+            patterns: IndexSet::new(alloc),
+            assignments: IndexSet::new(alloc),
+            sources: IndexSet::new(alloc),
+        }
+    }
+
+    /// Stores what is new of a line's pattern and source. What was stored keeps its place.
+    ///
+    /// # Errors
+    ///
+    /// If memory is refused. What was stored keeps its place then, too.
+    pub fn line(&mut self, alloc: Global, line: MatchingLine<'_>) -> Result<OriginRef, AllocError>
+        ensures line { IfOk result (λ l. RefersTo self.new l (line_origin line.entry)) }
+        ensures extends { KeepsRefs self.old self.new }
+    {
+        let pattern = pattern_place(&mut self.patterns, alloc, &line.mapping.pattern)?;
+        let source = optional_source_place(&mut self.sources, alloc, line.source)?;
+        Ok(OriginRef {
+            pattern,
+            source,
+            number: line.mapping.sequence_number,
+        })
+    }
+
+    /// Stores an assignment if it is new, and returns its place. What was stored keeps its place.
+    ///
+    /// # Errors
+    ///
+    /// If memory is refused. What was stored keeps its place then, too.
+    pub fn assignment(
+        &mut self,
+        alloc: Global,
+        assignment: &Assignment,
+    ) -> Result<usize, AllocError>
+        ensures place { IfOk result (λ place.
+            slice_get self.new.assignments place ≡ Some assignment.now) }
+        ensures extends { KeepsRefs self.old self.new }
+    {
+        assignment_place(&mut self.assignments, alloc, assignment)
+    }
+
+    /// A copy, in which all is at the same places.
+    ///
+    /// # Errors
+    ///
+    /// If memory is refused.
+    pub fn clone(&self, alloc: Global) -> Result<RefMap, AllocError>
+        ensures { IfOk result (λ copy. copy ≡ self.now) }
+    {
+        Ok(RefMap {
+            patterns: copy_of_patterns(alloc, &self.patterns)?,
+            assignments: copy_of_assignments(alloc, &self.assignments)?,
+            sources: copy_of_sources(alloc, &self.sources)?,
+        })
+    }
+
+    /// The match with these parts, which have to be stored.
+    pub fn get(&self, found: MatchRef) -> Match<'_>
+        requires { IsMatchRef self.now found }
+        ensures { match_view result ≡ match_by_ref self.now found }
+    {
+        let line = found.line;
+        let source = match line.source {
+            Some(place) => Some(self.source_at(place)),
+            None => None,
+        };
+        Match {
+            pattern: self.pattern_at(line.pattern),
+            assignment: self.assignment_at(found.assignment).as_ref(),
+            kind: found.kind,
+            location: MatchLocation {
+                source,
+                sequence_number: line.number,
+            },
+        }
+    }
+
+    fn pattern_at(&self, place: usize) -> &Pattern
+        requires { place < length self.now.patterns }
+        ensures { pattern_view result.now ≡ slice_index_or self.now.patterns place no_pattern }
+    {
+        match self.patterns.get_index(place) {
+            Some(pattern) => pattern,
+            None => unreachable!(),
+        }
+    }
+
+    fn assignment_at(&self, place: usize) -> &Assignment
+        requires { place < length self.now.assignments }
+        ensures { result.now ≡ slice_index_or self.now.assignments place no_assignment }
+    {
+        match self.assignments.get_index(place) {
+            Some(assignment) => assignment,
+            None => unreachable!(),
+        }
+    }
+
+    fn source_at(&self, place: usize) -> &str
+        requires { place < length self.now.sources }
+        ensures { result.now ≡ slice_index_or self.now.sources place [] }
+    {
+        match self.sources.get_index(place) {
+            Some(source) => source.as_str(),
+            None => unreachable!(),
+        }
+    }
+}
+
+fn pattern_place(
+    patterns: &mut IndexSet<Pattern>,
+    alloc: Global,
+    pattern: &Pattern,
+) -> Result<usize, AllocError>
+    ensures place { IfOk result (λ place. option_map pattern_view
+        (slice_get patterns.new.keys place) ≡ Some (pattern_view pattern.now)) }
+    ensures grows { Grows patterns.old.keys patterns.new.keys }
+{
+    if let Some(place) = patterns.get_index_of(pattern) {
+        return Ok(place);
+    }
+    let (place, _) = patterns.insert_full(pattern.clone(alloc)?)?;
+    Ok(place)
+}
+
+fn assignment_place(
+    assignments: &mut IndexSet<Assignment>,
+    alloc: Global,
+    assignment: &Assignment,
+) -> Result<usize, AllocError>
+    ensures place { IfOk result (λ place.
+        slice_get assignments.new.keys place ≡ Some assignment.now) }
+    ensures grows { Grows assignments.old.keys assignments.new.keys }
+{
+    if let Some(place) = assignments.get_index_of(assignment) {
+        return Ok(place);
+    }
+    let (place, _) = assignments.insert_full(assignment.clone(alloc)?)?;
+    Ok(place)
+}
+
+fn optional_source_place(
+    sources: &mut IndexSet<String>,
+    alloc: Global,
+    source: &Option<String>,
+) -> Result<Option<usize>, AllocError>
+    ensures place { IfOk result (λ place.
+        option_map (λ s. option_map string_bytes (slice_get sources.new.keys s)) place
+        ≡ option_map (λ s. Some (string_bytes s)) source.now) }
+    ensures grows { Grows sources.old.keys sources.new.keys }
+{
+    match source {
+        Some(source) => Ok(Some(source_place(sources, alloc, source.as_str())?)),
+        None => Ok(None),
+    }
+}
+
+fn source_place(
+    sources: &mut IndexSet<String>,
+    alloc: Global,
+    source: &str,
+) -> Result<usize, AllocError>
+    ensures place { IfOk result (λ place.
+        option_map string_bytes (slice_get sources.new.keys place) ≡ Some source.now) }
+    ensures grows { Grows sources.old.keys sources.new.keys }
+{
+    if let Some(place) = sources.get_index_of(source) {
+        return Ok(place);
+    }
+    let (place, _) = sources.insert_full(String::from_str(alloc, source)?)?;
+    Ok(place)
+}
+
+fn copy_of_patterns(
+    alloc: Global,
+    patterns: &IndexSet<Pattern>,
+) -> Result<IndexSet<Pattern>, AllocError>
+    ensures { IfOk result (λ copy.
+        map pattern_view copy.keys ≡ map pattern_view patterns.now.keys) }
+{
+    let mut copy = IndexSet::new(alloc);
+    for pattern in patterns.as_slice() {
+        copy.insert(pattern.clone(alloc)?)?;
+    }
+    Ok(copy)
+}
+
+fn copy_of_assignments(
+    alloc: Global,
+    assignments: &IndexSet<Assignment>,
+) -> Result<IndexSet<Assignment>, AllocError>
+    ensures { IfOk result (λ copy. copy.keys ≡ assignments.now.keys) }
+{
+    let mut copy = IndexSet::new(alloc);
+    for assignment in assignments.as_slice() {
+        copy.insert(assignment.clone(alloc)?)?;
+    }
+    Ok(copy)
+}
+
+fn copy_of_sources(
+    alloc: Global,
+    sources: &IndexSet<String>,
+) -> Result<IndexSet<String>, AllocError>
+    ensures { IfOk result (λ copy. map string_bytes copy.keys ≡ map string_bytes sources.now.keys) }
+{
+    let mut copy = IndexSet::new(alloc);
+    for source in sources.as_slice() {
+        copy.insert(String::from_str(alloc, source.as_str())?)?;
+    }
+    Ok(copy)
+}

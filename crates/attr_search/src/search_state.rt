@@ -1,0 +1,445 @@
+//! The state of a search over lists: slots that are filled by the lines that match a path.
+
+ghost use Rattle.std.specs.Prelude.{◌≡◌, ◌+◌, ◌<◌, ◌≤◌, [], length, map, All, OnErr, OnOk, IfOk, IfSome, IsNone, is_none, false, true, Ok, None, option_map, slice_index_or};
+ghost use Rattle.bstr.specs.BStr.{bstr_bytes};
+ghost use Rattle.attr_glob.specs.BaseNames.{base_name};
+ghost use Rattle.attr_glob.specs.Candidates.{candidates};
+ghost use Rattle.attr_glob.specs.Views.{patterns_of};
+ghost use Rattle.attr_lists.specs.ListViews.{items_in, macro_id};
+ghost use Rattle.attr_table.specs.Table.{OneTable};
+ghost use Rattle.attr_table.specs.Cut.{IsSearched, ExtendsCuts, is_done};
+ghost use Rattle.attr_table.specs.Work.{work_of, newly_filled};
+ghost use Rattle.attr_search.specs.IndexedLists.{listed_view, lists_view};
+ghost use Rattle.attr_search.specs.Matches.{match_view};
+ghost use Rattle.attr_search.specs.Settings.{LinesHaveSlots, ListsHaveSlots, candidates_in, is_found};
+ghost use Rattle.attr_search.specs.Slots.{bodies_view};
+ghost use Rattle.attr_search.specs.inner.Filling.{BodiesFit};
+ghost use Rattle.attr_search.specs.inner.Lines.{entry_at};
+ghost use Rattle.attr_search.specs.inner.Searched.{KeepsState, ListKeepsNamed, ListsKeepNamed, SearchedLine, SearchedList, SearchedLists, SearchedPlaces, TestsRoots, has_free_item, query_candidates, query_setting, state_slots, state_wanted};
+ghost use Rattle.attr_search.specs.inner.SlotContents.{count_remaining};
+
+use crate::indexed_list::IndexedList;
+use crate::matching_line::MatchingLine;
+use crate::path_query::PathQuery;
+use crate::slot_filler::SlotFiller;
+use crate::slots::AnswerSlots;
+use attr_glob::search::pattern::IndexBuffers;
+use attr_glob::wildmatch::MatchBuffers;
+use attr_lists::types::{Assignments, Match, TrackedAssignment, Value};
+use std::alloc::{AllocError, Global};
+use std::marker::Model;
+use std::mem;
+
+/// What a search fills, and what it works with: the slots with the bodies of macros, buffers that need not grow for
+/// each path, and what the last search counted.
+#[derive(Drop)]
+pub struct SearchState {
+    filler: SlotFiller,
+    buffers: SearchBuffers,
+    // How many lines the last search tested.
+    tested: u128,
+}
+
+#[derive(Drop)]
+struct SearchBuffers {
+    matching: MatchBuffers,
+    index: IndexBuffers,
+    places: Vec<usize>,
+}
+
+impl Model for SearchState {
+    ghost use Rattle.attr_search.specs.SearchContents.{SearchContents};
+
+    ghost Value = { SearchContents };
+
+    ghost use Rattle.attr_search.specs.inner.SearchView.{IsSoundSearch, search_view};
+
+    ghost view = { search_view };
+
+    ghost invariant = { IsSoundSearch };
+}
+
+impl SearchState {
+    /// No slots. It takes no memory.
+    pub fn new(alloc: Global) -> SearchState
+        ensures { result ≡ record
+            { answers = []; wanted = []; bodies = []; taken = 0; tested = 0 } }
+    {
+        SearchState::of(alloc, AnswerSlots::new(alloc), Vec::new(alloc))
+    }
+
+    fn of(alloc: Global, slots: AnswerSlots, bodies: Vec<Assignments>) -> SearchState
+        requires { BodiesFit (length slots.answers) bodies.items }
+        ensures { result ≡ record {
+          answers = slots.answers;
+          wanted = slots.wanted;
+          bodies = bodies_view bodies.items;
+          taken = 0;
+          tested = 0;
+        } }
+    {
+        SearchState {
+            filler: SlotFiller {
+                slots,
+                bodies,
+                stack: Vec::new(alloc),
+                taken: 0,
+            },
+            buffers: SearchBuffers {
+                matching: MatchBuffers::new(alloc),
+                index: IndexBuffers::new(alloc),
+                places: Vec::new(alloc),
+            },
+            tested: 0,
+        }
+    }
+
+    /// Takes other slots, and a body for each of them, in place of its own.
+    pub fn set_up(&mut self, slots: AnswerSlots, bodies: Vec<Assignments>)
+        requires { BodiesFit (length slots.answers) bodies.items }
+        ensures { self.new ≡ record {
+          answers = slots.answers;
+          wanted = slots.wanted;
+          bodies = bodies_view bodies.items;
+          taken = 0;
+          tested = 0;
+        } }
+    {
+        self.filler.slots = slots;
+        self.filler.bodies = bodies;
+        self.filler.taken = 0;
+        self.tested = 0;
+    }
+
+    /// Empties the slots. It takes no memory.
+    pub fn reset(&mut self)
+        ensures { self.new ≡ record self.old
+            { answers = map (λ a. None) self.old.answers; taken = 0; tested = 0 } }
+    {
+        self.filler.slots.reset();
+        self.filler.taken = 0;
+        self.tested = 0;
+    }
+
+    /// A copy, with empty buffers.
+    ///
+    /// # Errors
+    ///
+    /// If memory is refused.
+    pub fn clone(&self, alloc: Global) -> Result<SearchState, AllocError>
+        ensures { IfOk result (λ copy. copy ≡ self.now) }
+    {
+        let slots = self.filler.slots.clone(alloc)?;
+        let bodies = copy_of_bodies(alloc, &self.filler.bodies)?;
+        let mut copy = SearchState::of(alloc, slots, bodies);
+        copy.filler.taken = self.filler.taken;
+        copy.tested = self.tested;
+        Ok(copy)
+    }
+
+    /// Takes copies of the slots and bodies of another state in place of its own, and looks for the wanted numbers.
+    ///
+    /// # Errors
+    ///
+    /// If memory is refused. Nothing changes then.
+    pub fn copy_from(
+        &mut self,
+        alloc: Global,
+        other: &SearchState,
+        wanted: Vec<bool>,
+    ) -> Result<(), AllocError>
+        requires { length wanted.items ≡ length other.now.answers }
+        ensures copied { OnOk result (self.new ≡ record other.now
+            { wanted = wanted.items; taken = 0; tested = 0 }) }
+        ensures refused { OnErr result (self.new ≡ self.old) }
+    {
+        let slots = other.filler.slots.copy(alloc, wanted)?;
+        let bodies = copy_of_bodies(alloc, &other.filler.bodies)?;
+        self.set_up(slots, bodies);
+        Ok(())
+    }
+
+    /// How many slots there are.
+    pub fn len(&self) -> usize
+        ensures { result ≡ length self.now.answers }
+    {
+        self.filler.slots.len()
+    }
+
+    /// Whether each wanted slot is filled.
+    pub fn is_done(&self) -> bool
+        ensures { result ≡ is_done (state_wanted self.now) (state_slots self.now) }
+    {
+        self.filler.slots.is_done()
+    }
+
+    /// How many wanted slots are free.
+    pub fn remaining(&self) -> usize
+        ensures { result ≡ count_remaining self.now.wanted self.now.answers }
+    {
+        self.filler.slots.remaining()
+    }
+
+    /// The answer for a number, none past the last one.
+    pub fn get(&self, attribute: usize) -> Option<Match<'_>>
+        ensures { option_map match_view result ≡ slice_index_or self.now.answers attribute None }
+    {
+        self.filler.slots.get(attribute)
+    }
+
+    /// What each attribute is as a macro, by number.
+    pub fn bodies(&self) -> &[Assignments]
+        ensures bodies { bodies_view result.now ≡ self.now.bodies }
+        ensures len { length result.now ≡ length self.now.answers }
+    {
+        &self.filler.bodies
+    }
+
+    /// How many items the last search took off its stack.
+    pub fn taken(&self) -> u128
+        ensures { result ≡ self.now.taken }
+    {
+        self.filler.taken
+    }
+
+    /// How many lines the last search tested.
+    pub fn tested(&self) -> u128
+        ensures { result ≡ self.now.tested }
+    {
+        self.tested
+    }
+
+    /// Fills the slots by the lines of lists that match a path, until each wanted attribute has an answer, and returns
+    /// whether one of these was found. Nothing changes if each has an answer at the start.
+    ///
+    /// # Errors
+    ///
+    /// If memory is refused. Which slots are filled is open then.
+    pub fn search(
+        &mut self,
+        alloc: Global,
+        lists: &[IndexedList],
+        query: PathQuery<'_>,
+    ) -> Result<bool, AllocError>
+        requires in_lists { ListsHaveSlots (length self.old.answers) (lists_view lists.now) }
+        ensures kept { KeepsState self.old self.new }
+
+        // The slots are the cut of the only stable table, over the slots before.
+        ensures one { OneTable (query_setting self.old (lists_view lists.now) query.entry)
+            (state_slots self.old) }
+        ensures searched { OnOk result (IsSearched
+            (query_setting self.old (lists_view lists.now) query.entry)
+            (state_wanted self.old) (state_slots self.old) (state_slots self.new)) }
+        ensures joined { OnOk result (
+            let setting = query_setting self.old (lists_view lists.now) query.entry in
+            ExtendsCuts setting.lists setting.bodies
+            (state_wanted self.old) (state_slots self.old) (state_slots self.new)) }
+        ensures found { IfOk result (λ found. found
+            ≡ is_found (state_wanted self.old) (state_slots self.old) (state_slots self.new)) }
+        ensures named { OnOk result (ListsKeepNamed (lists_view lists.now) self.old self.new) }
+
+        // No more items are taken than there are, and no fewer than there are slots filled; no more lines are tested
+        // than are candidates, and no fewer than those at which the roots are of the slots filled.
+        ensures most { is_done (state_wanted self.old) (state_slots self.old) ≡ false →
+            OnOk result (self.new.taken
+            ≤ work_of (query_setting self.old (lists_view lists.now) query.entry)) }
+        ensures least { is_done (state_wanted self.old) (state_slots self.old) ≡ false →
+            OnOk result (newly_filled (state_slots self.old) (state_slots self.new)
+            (length self.new.answers) ≤ self.new.taken) }
+        ensures tested { is_done (state_wanted self.old) (state_slots self.old) ≡ false →
+            OnOk result (self.new.tested ≤ query_candidates (lists_view lists.now) query.entry) }
+        ensures roots { is_done (state_wanted self.old) (state_slots self.old) ≡ false →
+            OnOk result (TestsRoots (query_setting self.old (lists_view lists.now) query.entry)
+            self.old self.new) }
+
+        // If each wanted attribute has an answer, nothing changes.
+        ensures done { is_done (state_wanted self.old) (state_slots self.old) ≡ true →
+            result ≡ Ok false }
+        ensures unchanged { is_done (state_wanted self.old) (state_slots self.old) ≡ true →
+            self.new ≡ self.old }
+    {
+        // Slots can be counted.
+        prove!(self.len() <= usize::MAX);
+        if self.is_done() {
+            return Ok(false);
+        }
+        let remaining = self.remaining();
+        self.begin_counts();
+        self.search_lists(alloc, lists, query)?;
+        Ok(self.remaining() < remaining)
+    }
+
+    /// Sets the counts to zero, as each search does first.
+    pub fn begin_counts(&mut self)
+        ensures { self.new ≡ record self.old { taken = 0; tested = 0 } }
+    {
+        self.filler.taken = 0;
+        self.tested = 0;
+    }
+
+    // Searches all lists, the last first, until each wanted attribute has an answer.
+    fn search_lists(
+        &mut self,
+        alloc: Global,
+        lists: &[IndexedList],
+        query: PathQuery<'_>,
+    ) -> Result<(), AllocError>
+        requires in_lists { ListsHaveSlots (length self.old.answers) (lists_view lists.now) }
+        ensures kept { KeepsState self.old self.new }
+        ensures named { OnOk result (ListsKeepNamed (lists_view lists.now) self.old self.new) }
+        ensures tested { OnOk result (self.new.tested
+            ≤ self.old.tested + query_candidates (lists_view lists.now) query.entry) }
+        ensures searched { OnOk result (SearchedLists
+            query.entry (lists_view lists.now) self.old self.new) }
+    {
+        for k in (0..lists.len()).rev() {
+            if self.is_done() {
+                return Ok(());
+            }
+            self.search_list(alloc, &lists[k], query)?;
+        }
+        Ok(())
+    }
+
+    // Searches the lines of a list that may match, the last first, if the list applies to the path.
+    fn search_list(
+        &mut self,
+        alloc: Global,
+        list: &IndexedList,
+        query: PathQuery<'_>,
+    ) -> Result<(), AllocError>
+        requires in_lines { LinesHaveSlots (length self.old.answers) (listed_view list.now).lines }
+        ensures kept { KeepsState self.old self.new }
+        ensures named { OnOk result (ListKeepsNamed (listed_view list.now) self.old self.new) }
+        ensures tested { OnOk result (self.new.tested ≤ self.old.tested
+            + candidates_in query.entry.case (bstr_bytes query.entry.path) (listed_view list.now)) }
+        ensures searched { OnOk result (SearchedList
+            query.entry (listed_view list.now) self.old self.new) }
+    {
+        let Some(rest) = query.below(&list.list) else {
+            return Ok(());
+        };
+        let places = self.find_candidates(alloc, list, rest)?;
+        let searched = self.search_places(alloc, list, &places, rest);
+        self.keep_buffer(places);
+        searched
+    }
+
+    // The places of the lines to test, the greatest first, in the buffer of places.
+    fn find_candidates(
+        &mut self,
+        alloc: Global,
+        list: &IndexedList,
+        rest: PathQuery<'_>,
+    ) -> Result<Vec<usize>, AllocError>
+        ensures unchanged { self.new ≡ self.old }
+        ensures places { IfOk result (λ places. places.items ≡ candidates rest.entry.case
+            (base_name (bstr_bytes rest.entry.path)) (patterns_of list.now.list.patterns.items)) }
+    {
+        let buffers = &mut self.buffers;
+        list.find_candidates(rest, &mut buffers.index, &mut buffers.places)?;
+        Ok(mem::replace(&mut buffers.places, Vec::new(alloc)))
+    }
+
+    fn keep_buffer(&mut self, places: Vec<usize>)
+        ensures { self.new ≡ self.old }
+    {
+        self.buffers.places = places;
+    }
+
+    // Searches the lines at some places, in their order, until each wanted attribute has an answer.
+    fn search_places(
+        &mut self,
+        alloc: Global,
+        list: &IndexedList,
+        places: &[usize],
+        rest: PathQuery<'_>,
+    ) -> Result<(), AllocError>
+        requires places { All (λ place. place < length list.now.list.patterns.items) places.now }
+        requires in_lines { LinesHaveSlots (length self.old.answers) (listed_view list.now).lines }
+        ensures kept { KeepsState self.old self.new }
+        ensures named { OnOk result (ListKeepsNamed (listed_view list.now) self.old self.new) }
+        ensures tested { OnOk result (self.new.tested ≤ self.old.tested + length places.now) }
+        ensures searched { OnOk result (SearchedPlaces
+            rest.entry (listed_view list.now) places.now self.old self.new) }
+    {
+        for place in places {
+            if self.is_done() {
+                return Ok(());
+            }
+            self.search_line(alloc, list, *place, rest)?;
+        }
+        Ok(())
+    }
+
+    // Fills slots by the items of a line, the last first, if the line matches. A line all of whose items have an
+    // answer is not tested, nor is one that defines a macro.
+    fn search_line(
+        &mut self,
+        alloc: Global,
+        list: &IndexedList,
+        place: usize,
+        rest: PathQuery<'_>,
+    ) -> Result<(), AllocError>
+        requires place { place < length list.now.list.patterns.items }
+        requires in_lines { LinesHaveSlots (length self.old.answers) (listed_view list.now).lines }
+        ensures kept { KeepsState self.old self.new }
+        ensures named { OnOk result (ListKeepsNamed (listed_view list.now) self.old self.new) }
+        ensures tested { self.new.tested ≤ self.old.tested + 1 }
+        ensures passed { OnOk result (has_free_item self.old
+            (entry_at (listed_view list.now).lines place).items ≡ false →
+            self.new.tested ≡ self.old.tested) }
+        ensures searched { OnOk result (SearchedLine
+            rest.entry (listed_view list.now) place self.old self.new) }
+    {
+        let mapping = &list.list.patterns[place];
+        let Some(items) = assigned(&mapping.value) else {
+            return Ok(());
+        };
+        if !self.filler.slots.has_free(items) {
+            return Ok(());
+        }
+        self.tested = self.tested.saturating_add(1);
+        if !list.matches(place, rest, &mut self.buffers.matching)? {
+            return Ok(());
+        }
+        let line = MatchingLine {
+            mapping,
+            source: &list.list.source,
+            items,
+        };
+        self.filler.fill_attributes(alloc, line)
+    }
+}
+
+// The items of a line that defines no macro.
+fn assigned(value: &Value) -> Option<&[TrackedAssignment]>
+    ensures definition { IsNone result → is_none (macro_id value.now) ≡ false }
+    ensures line { IfSome result (λ items. macro_id value.now ≡ None) }
+    ensures items { IfSome result (λ items. items.now ≡ items_in value.now) }
+{
+    match value {
+        Value::MacroAssignments {
+            id: _,
+            assignments: _,
+        } => None,
+        Value::Assignments(assignments) => Some(assignments.as_slice()),
+    }
+}
+
+fn copy_of_bodies(alloc: Global, bodies: &[Assignments]) -> Result<Vec<Assignments>, AllocError>
+    ensures { IfOk result (λ copy. bodies_view copy.items ≡ bodies_view bodies.now) }
+{
+    let mut copy = Vec::new(alloc);
+    for body in bodies {
+        let body = copy_of_body(body)?;
+        copy.push(body)?;
+    }
+    Ok(copy)
+}
+
+fn copy_of_body(body: &Assignments) -> Result<Assignments, AllocError>
+    ensures { IfOk result (λ copy. copy.items ≡ body.now.items) }
+{
+    body.clone()
+}

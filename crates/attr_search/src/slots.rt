@@ -1,0 +1,309 @@
+//! What a search fills: a slot for each attribute, some of which are wanted.
+
+ghost use Rattle.std.specs.Prelude.{◌≡◌, ◌<◌, ◌&&◌, ⊤, false, None, Some, [], IfOk, OnErr, OnOk, MatchOption, is_none, is_some, length, map, not, option_map, set, slice_index_or};
+ghost use Rattle.std.specs.List.{list_any};
+ghost use Rattle.attr_table.specs.Cut.{is_done};
+ghost use Rattle.attr_search.specs.Matches.{match_view};
+ghost use Rattle.attr_search.specs.Settings.{HaveSlots};
+ghost use Rattle.attr_search.specs.Slots.{slots_of};
+ghost use Rattle.attr_search.specs.inner.Pending.{item_match, line_origin};
+ghost use Rattle.attr_search.specs.inner.RefMapParts.{KeepsRefs};
+ghost use Rattle.attr_search.specs.inner.Refs.{AreMatchRefs, RefersTo, IsMatchRef, match_by_ref, matches_by_ref};
+ghost use Rattle.attr_search.specs.inner.SlotContents.{SlotContents, count_remaining, empty_slots, wanted_numbers};
+
+use crate::matching_line::MatchingLine;
+use crate::refmap::{MatchRef, OriginRef, RefMap};
+use attr_lists::types::{Match, MatchKind, TrackedAssignment};
+use std::alloc::{AllocError, Global};
+use std::marker::Model;
+
+/// A slot for each attribute, and which of them are wanted.
+#[derive(Drop)]
+pub struct AnswerSlots {
+    slots: Vec<Option<MatchRef>>,
+    wanted: Vec<bool>,
+    // How many wanted slots are free.
+    remaining: usize,
+    matches: MatchStore,
+}
+
+// What the matches in slots refer to.
+#[derive(Drop)]
+struct MatchStore {
+    refs: RefMap,
+    // Where the line is stored whose items are filled in, once it has filled a slot.
+    line: Option<OriginRef>,
+}
+
+impl Model for AnswerSlots {
+    ghost use Rattle.attr_search.specs.inner.SlotContents.{SlotContents};
+
+    ghost Value = { SlotContents };
+
+    ghost use Rattle.attr_search.specs.inner.SlotsView.{AreSoundSlots, slots_view};
+
+    ghost view = { slots_view };
+
+    ghost invariant = { AreSoundSlots };
+}
+
+impl AnswerSlots {
+    /// No slots.
+    pub fn new(alloc: Global) -> AnswerSlots
+        ensures { result ≡ record { answers = []; wanted = []; line = None } }
+    {
+        AnswerSlots {
+            slots: Vec::new(alloc),
+            wanted: Vec::new(alloc),
+            remaining: 0,
+            matches: MatchStore::of(RefMap::new(alloc)),
+        }
+    }
+
+    /// Empty slots, of which those are wanted whose flags are set.
+    ///
+    /// # Errors
+    ///
+    /// If memory is refused.
+    pub fn sized(alloc: Global, wanted: Vec<bool>) -> Result<AnswerSlots, AllocError>
+        ensures { IfOk result (λ slots. slots ≡ empty_slots wanted.items) }
+    {
+        let slots = no_slots(alloc, &wanted)?;
+        Ok(AnswerSlots::of(slots, wanted, RefMap::new(alloc)))
+    }
+
+    fn of(slots: Vec<Option<MatchRef>>, wanted: Vec<bool>, refs: RefMap) -> AnswerSlots
+        requires len { length wanted.items ≡ length slots.items }
+        requires within { AreMatchRefs refs slots.items }
+        ensures { result ≡ record
+            { answers = matches_by_ref refs slots.items; wanted = wanted.items; line = None } }
+    {
+        let remaining = count_remaining(&wanted, &slots);
+        AnswerSlots {
+            slots,
+            wanted,
+            remaining,
+            matches: MatchStore::of(refs),
+        }
+    }
+
+    /// How many wanted slots are free.
+    pub fn remaining(&self) -> usize
+        ensures { result ≡ count_remaining self.now.wanted self.now.answers }
+    {
+        self.remaining
+    }
+
+    /// A copy of the slots, with other slots wanted.
+    ///
+    /// # Errors
+    ///
+    /// If memory is refused.
+    pub fn copy(&self, alloc: Global, wanted: Vec<bool>) -> Result<AnswerSlots, AllocError>
+        requires { length wanted.items ≡ length self.now.answers }
+        ensures { IfOk result (λ slots. slots ≡ record
+            { answers = self.now.answers; wanted = wanted.items; line = None }) }
+    {
+        let slots = Vec::from_slice(alloc, &self.slots)?;
+        let refs = self.matches.refs.clone(alloc)?;
+        Ok(AnswerSlots::of(slots, wanted, refs))
+    }
+
+    /// A copy of the slots, of which the same are wanted.
+    ///
+    /// # Errors
+    ///
+    /// If memory is refused.
+    pub fn clone(&self, alloc: Global) -> Result<AnswerSlots, AllocError>
+        ensures { IfOk result (λ slots. slots ≡ record self.now { line = None }) }
+    {
+        let wanted = Vec::from_slice(alloc, &self.wanted)?;
+        self.copy(alloc, wanted)
+    }
+
+    /// How many slots there are.
+    pub fn len(&self) -> usize
+        ensures answers { result ≡ length self.now.answers }
+        ensures wanted { result ≡ length self.now.wanted }
+    {
+        self.slots.len()
+    }
+
+    /// Whether the slot of an attribute has no answer.
+    pub fn is_free(&self, attribute: usize) -> bool
+        requires { attribute < length self.now.answers }
+        ensures { result ≡ not (is_some (slots_of self.now.answers attribute)) }
+    {
+        self.slots[attribute].is_none()
+    }
+
+    /// Whether some item's attribute has no answer.
+    pub fn has_free(&self, items: &[TrackedAssignment]) -> bool
+        requires { HaveSlots (length self.now.answers) items.now }
+        ensures { result ≡ list_any (λ i. is_none (slots_of self.now.answers i.id.0)) items.now }
+    {
+        for item in items {
+            if self.is_free(item.id.0) {
+                return true;
+            }
+        }
+        false
+    }
+
+    /// Whether each wanted slot is filled.
+    pub fn is_done(&self) -> bool
+        ensures { result ≡ is_done (wanted_numbers self.now.wanted) (slots_of self.now.answers) }
+    {
+        self.remaining == 0
+    }
+
+    /// What is filled in from here on is of another line.
+    pub fn begin_line(&mut self)
+        ensures { self.new ≡ record self.old { line = None } }
+    {
+        self.matches.line = None;
+    }
+
+    /// Fills a free slot by an item of the line, or of a body that the line leads to.
+    ///
+    /// # Errors
+    ///
+    /// If memory is refused. The answers are as they were then.
+    pub fn fill(
+        &mut self,
+        alloc: Global,
+        line: MatchingLine<'_>,
+        item: &TrackedAssignment,
+        kind: MatchKind,
+    ) -> Result<(), AllocError>
+        requires within { item.now.id.0 < length self.old.answers }
+        requires free { is_some (slots_of self.old.answers item.now.id.0) ≡ false }
+        requires line { MatchOption self.old.line ⊤ (λ o. o ≡ line_origin line) }
+        ensures answers { OnOk result (self.new.answers
+            ≡ set self.old.answers item.now.id.0 (Some (item_match line.entry item.now kind))) }
+        ensures refused { OnErr result (self.new.answers ≡ self.old.answers) }
+        ensures wanted { self.new.wanted ≡ self.old.wanted }
+        ensures line { MatchOption self.new.line ⊤ (λ o. o ≡ line_origin line.entry) }
+    {
+        let found = self.matches.store(alloc, line, item, kind)?;
+        let attribute = item.id.0;
+        self.remaining -= usize::from(self.wanted[attribute]);
+        self.slots[attribute] = Some(found);
+        Ok(())
+    }
+
+    /// Empties the slots. What is stored stays.
+    pub fn reset(&mut self)
+        ensures { self.new ≡ record self.old
+            { answers = map (λ a. None) self.old.answers; line = None } }
+    {
+        empty(&mut self.slots, &self.wanted, &mut self.remaining);
+        self.matches.line = None;
+    }
+
+    /// The answer for a number, none past the last one.
+    pub fn get(&self, attribute: usize) -> Option<Match<'_>>
+        ensures { option_map match_view result ≡ slice_index_or self.now.answers attribute None }
+    {
+        match self.slots.get(attribute) {
+            Some(Some(found)) => Some(self.matches.refs.get(*found)),
+            _ => None,
+        }
+    }
+}
+
+impl MatchStore {
+    fn of(refs: RefMap) -> MatchStore
+        ensures refs { result.refs ≡ refs }
+        ensures line { result.line ≡ None }
+    {
+        MatchStore { refs, line: None }
+    }
+
+    // Stores an item, and its line if that wasn't done yet.
+    fn store(
+        &mut self,
+        alloc: Global,
+        line: MatchingLine<'_>,
+        item: &TrackedAssignment,
+        kind: MatchKind,
+    ) -> Result<MatchRef, AllocError>
+        requires { MatchOption self.old.line ⊤
+            (λ l. RefersTo self.old.refs l (line_origin line)) }
+        ensures extends { KeepsRefs self.old.refs self.new.refs }
+        ensures line { MatchOption self.new.line ⊤
+            (λ l. RefersTo self.new.refs l (line_origin line.entry)) }
+        ensures within { IfOk result (IsMatchRef self.new.refs) }
+        ensures found { IfOk result (λ m.
+            match_by_ref self.new.refs m ≡ item_match line.entry item.now kind) }
+    {
+        let origin = self.store_line(alloc, line)?;
+        let assignment = self.refs.assignment(alloc, &item.inner)?;
+        Ok(MatchRef {
+            line: origin,
+            assignment,
+            kind,
+        })
+    }
+
+    fn store_line(&mut self, alloc: Global, line: MatchingLine<'_>) -> Result<OriginRef, AllocError>
+        requires { MatchOption self.old.line ⊤
+            (λ l. RefersTo self.old.refs l (line_origin line)) }
+        ensures extends { KeepsRefs self.old.refs self.new.refs }
+        ensures line { MatchOption self.new.line ⊤
+            (λ l. RefersTo self.new.refs l (line_origin line.entry)) }
+        ensures found { IfOk result (λ l. RefersTo self.new.refs l (line_origin line.entry)) }
+    {
+        if let Some(origin) = self.line {
+            return Ok(origin);
+        }
+        let origin = self.refs.line(alloc, line)?;
+        self.line = Some(origin);
+        Ok(origin)
+    }
+}
+
+// How many wanted slots are free.
+fn count_remaining(wanted: &[bool], slots: &[Option<MatchRef>]) -> usize
+    requires { length wanted.now ≡ length slots.now }
+    ensures { result ≡ count_remaining wanted.now slots.now }
+{
+    let mut remaining = 0;
+    for place in 0..wanted.len() {
+        if is_remaining(wanted[place], slots[place]) {
+            remaining += 1;
+        }
+    }
+    remaining
+}
+
+fn is_remaining(wanted: bool, slot: Option<MatchRef>) -> bool
+    ensures { result ≡ wanted && is_none slot }
+{
+    wanted && slot.is_none()
+}
+
+// Empties the slots, and counts anew how many wanted slots are free.
+fn empty(slots: &mut Vec<Option<MatchRef>>, wanted: &[bool], remaining: &mut usize)
+    requires { length wanted.now ≡ length slots.old.items }
+    ensures slots { slots.new.items ≡ map (λ slot. None) slots.old.items }
+    ensures remaining { remaining.new ≡ count_remaining wanted.now slots.new.items }
+{
+    clear(slots);
+    *remaining = count_remaining(wanted, slots);
+}
+
+fn clear(slots: &mut Vec<Option<MatchRef>>)
+    ensures items { slots.new.items ≡ map (λ slot. None) slots.old.items }
+    ensures len { length slots.new.items ≡ length slots.old.items }
+{
+    for place in 0..slots.len() {
+        slots[place] = None;
+    }
+}
+
+fn no_slots(alloc: Global, wanted: &[bool]) -> Result<Vec<Option<MatchRef>>, AllocError>
+    ensures { IfOk result (λ slots. slots.items ≡ map (λ w. None) wanted.now) }
+{
+    wanted.iter().map(|_| None).collect(alloc)
+}

@@ -1,0 +1,33 @@
+-- Lemmas for the crates above, beside the contracts and the laws.
+
+-- Tasks in the order of a search, from the last element of a list. `backwards-append`: of two lists the second comes first.
+-- `backwards-none`: before the search there are no tasks. `backwards-more`: one more element appends its tasks.
+-- `backwards-split`: the tasks so far, and then those of the rest. `length-tasks_in`: there is a task for each item.
+-- `tasks_push`, `tasks_pass`: an item adds its task to the free ones if its attribute has no answer, and none if it has one.
+-- `length-free`: there are no more free items than items.
+pub use Rattle.attr_table.proofs.Listed.{backwards-append, backwards-none, backwards-more, backwards-split}
+pub use Rattle.attr_table.proofs.Walked.{length-tasks_in}
+pub use Rattle.attr_table.proofs.Seen.{tasks_push, tasks_pass}
+pub use Rattle.attr_table.proofs.Counted.{length-free}
+-- Walks. `fill_keeps`: a task keeps the slots that are filled. `fill_other`: a task keeps the slots of other attributes.
+-- `then_walks`: one walk after another is a walk over the tasks of both.
+pub use Rattle.attr_table.proofs.Walked.{fill_keeps, fill_other, then_walks}
+-- Parts of a search, with their counts. `nothing_taken`: a search without tasks changes nothing. `done_taken`: neither does one whose
+-- wanted attributes have answers. `then_searches`: one part after another. `taken_skip`: a task whose slot is filled.
+-- `taken_closed`, `taken_open`: a task that fills its slot, and sets no macro, or sets one. `row_filled`: items none of which is free.
+-- `row_searched`: the free items count for all items. `more_searched`: one more element of a list.
+pub use Rattle.attr_table.proofs.Counted.{nothing_taken, done_taken, then_searches, taken_skip, taken_closed, taken_open, row_filled, row_searched}
+pub use Rattle.attr_table.proofs.Counted.{more_searched}
+-- Counts. `top`: the greatest count. `left_in-less`: a task that fills its slot takes its body off the items that are left.
+-- `left_in-open`: with the free items of the body on the stack there is no more work than before. `taken_most`: a search takes no
+-- more than the work of its setting. `taken_least`: it takes no less than the slots that it fills.
+pub use Rattle.attr_table.proofs.Counted.{top, left_in-less, left_in-open, taken_most, taken_least}
+-- Tables. `OneTable-of`: there is exactly one stable table. `entry_is`: an entry of a stable table is the earliest of its live
+-- occurrences. `some_or_none`, `none_value`: an entry is there or not.
+pub use Rattle.attr_table.proofs.Ends.{OneTable-of}
+pub use Rattle.attr_table.proofs.Stable.{entry_is, some_or_none, none_value}
+-- Cuts. `walked_searched`, `searched_walked`: a walk over all lists is a search, and the other way round. `searched_joined`: a search
+-- after another is a search over the joined lists. `seen_wanted`: a wanted attribute has its answer in the whole table.
+-- `seen_others`: any other attribute has that answer or none. `Mem`: membership, in which a setting is read.
+pub use Rattle.attr_table.proofs.Cuts.{walked_searched, searched_walked, searched_joined, seen_wanted, seen_others}
+pub use Rattle.attr_table.proofs.Listed.{Mem}

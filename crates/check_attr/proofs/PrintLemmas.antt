@@ -1,0 +1,48 @@
+-- A text that was written whole, or a beginning of it before the writer failed.
+use Rattle.std.proofs.Common.{◌≡◌, ◌+◌, ℕ, zero, suc, List, [], ◌∷◌, ◌++◌, length, take, Option, Result, Ok, Err, OnOk, OnErr, ◌⊎◌, inl, inr}
+use Rattle.std.proofs.Common.{refl, ap, ◌∙◌, arith, subst}
+use Rattle.std.proofs.KnownBytes.{Appends-trans}
+use Rattle.std.specs.Io.KnownBytes.{Appends}
+use Rattle.gix_attributes.specs.Failures.{Fails}
+use Rattle.check_attr.specs.Failures.{AppendsFront}
+use Rattle.check_attr.specs.Program.{Prints}
+
+-- what a call that writes a text returns, as one fact
+pub Prints-written : {T X E : Type 0} (contents : E → Option (List ℕ)) (failed : E → ℕ) (stalls : E → Type 0) (r : Result T X) (old new : E)
+    (text : List ℕ)
+    → OnOk r (Appends (contents old) (contents new) text) → OnErr r (AppendsFront (contents old) (contents new) text)
+    → OnErr r (Fails (failed old) (failed new) ⊎ stalls new) → Prints contents failed stalls old new text
+Prints-written contents failed stalls (Ok x) old new text whole front cause = inl whole
+Prints-written contents failed stalls (Err e) old new text whole front cause = inr (cause, front)
+
+-- a beginning of a text is one of a longer text
+front_fits : (n : ℕ) (xs ys : List ℕ) → (m : ℕ) × (take n xs ≡ take m (xs ++ ys))
+front_fits zero xs ys = (0, refl)
+front_fits (suc n) [] ys = (0, refl)
+front_fits (suc n) (x ∷ xs) ys = let rest = front_fits n xs ys in (suc rest.0, ap (λ zs. x ∷ zs) rest.1)
+
+pub Front-longer : (old new : Option (List ℕ)) (xs ys : List ℕ) → AppendsFront old new xs → AppendsFront old new (xs ++ ys)
+Front-longer old new xs ys front = let fits = front_fits front.0 xs ys in (fits.0, subst (Appends old new) fits.1 front.1)
+
+front_after : (xs ys : List ℕ) (n : ℕ) → xs ++ take n ys ≡ take (n + length xs) (xs ++ ys)
+front_after [] ys n = let e : n ≡ n + 0 = omega arith in ap (λ m. take m ys) e
+front_after (x ∷ xs) ys n =
+    let e : suc (n + length xs) ≡ n + length (x ∷ xs) = omega arith in
+    ap (λ zs. x ∷ zs) (front_after xs ys n) ∙ ap (λ m. take m (x ∷ xs ++ ys)) e
+
+-- a beginning of a text after another text
+pub Front-later : (old mid new : Option (List ℕ)) (xs ys : List ℕ) → Appends old mid xs → AppendsFront mid new ys → AppendsFront old new (xs ++ ys)
+Front-later old mid new xs ys first front =
+    (front.0 + length xs, subst (Appends old new) (front_after xs ys front.0) (Appends-trans old mid new xs (take front.0 ys) first front.1))
+
+pub on_err : {T E : Type 0} (r : Result T E) (P : Type 0) → P → OnErr r P
+on_err (Ok x) P p = tt
+on_err (Err e) P p = p
+
+pub still_ok : {T E : Type 0} (r : Result T E) (P Q : Type 0) → OnOk r P → (P → Q) → OnOk r Q
+still_ok (Ok x) P Q p from = from p
+still_ok (Err e) P Q p from = tt
+
+pub still_err : {T E : Type 0} (r : Result T E) (P Q : Type 0) → OnErr r P → (P → Q) → OnErr r Q
+still_err (Ok x) P Q p from = tt
+still_err (Err e) P Q p from = from p

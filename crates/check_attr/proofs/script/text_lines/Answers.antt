@@ -1,0 +1,27 @@
+use Rattle.std.proofs.Common.{◌≡◌, ℕ, ◌+◌, ◌-◌, List, [], ◌∷◌, ◌++◌, map, vec_len, sym, ap, ◌∙◌, arith}
+use Rattle.std.specs.Borrow.{Bor}
+use Rattle.std.proofs.lemmas.List.{map-append}
+use Rattle.check_attr.proofs.ScriptLemmas.{text_lines-more, text_lines-done, text_lines-stuck}
+use Rattle.check_attr.proofs.script.text_lines.Goals as goal
+
+pub loop-rest-preserved : goal.loop-rest-preserved
+loop-rest-preserved c =
+    let old = c.loop-rest.lines in
+    let new = c.push.new.self in
+    let now : Bor (List ℕ) → List ℕ = λ line. line.now in
+    let more : map now new.items ≡ map now old.items ++ now c.in-Some.line ∷ [] = ap (map now) c.in_ok-push.ensures.items ∙ map-append now old.items
+    (c.in-Some.line ∷ []) in
+    let longer : vec_len new ≡ vec_len old + 1 = c.in_ok-push.ensures.len in
+    record {
+      within = omega (arith, longer);
+      read = text_lines-more _ (map now old.items) (map now new.items) (now c.in-Some.line) (c.args.count - vec_len old) (c.args.count - vec_len new)
+          c.loop-rest.rest.now c.in-Some.others.now
+          (omega arith) (omega (arith, longer)) c.loop-rest.invariant.read (sym c.in-Some.ensures) more;
+    }
+
+pub returns-in_default : goal.returns-in_default
+returns-in_default c = sym (text_lines-stuck _ _ (c.args.count - vec_len c.loop-rest.lines) _ (omega arith) c.loop-rest.invariant.read
+    (sym c.in_default.ensures))
+
+pub returns : goal.returns
+returns c = text_lines-done _ _ (c.args.count - vec_len c.loop-rest.lines) _ (omega arith) c.loop-rest.invariant.read

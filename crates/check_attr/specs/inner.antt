@@ -1,0 +1,6 @@
+-- Relations between inner functions (own). No contract of a public call reaches them, so nothing here has to be believed.
+pub mod EngineViews
+pub mod GlobalsView
+pub mod MatchText
+pub mod Registration
+pub mod ScriptViews

@@ -1,0 +1,107 @@
+//! The lists that a script starts from: the built-in one, and those of global files.
+
+ghost use Rattle.std.specs.Prelude.{◌≡◌, ◌≤◌, List, IfErr, IfOk, map, string_bytes};
+ghost use Rattle.gix_attributes.specs.Additions.{IsIo};
+ghost use Rattle.gix_attributes.specs.Failures.{Fails};
+ghost use Rattle.gix_attributes.specs.SearchViews.{Holds, lists_in, list_ids_in};
+ghost use Rattle.gix_attributes.specs.FileReads.{FileRead, ReadInOrder};
+ghost use Rattle.check_attr.specs.inner.Registration.{RegistersExactly};
+ghost use Rattle.check_attr.specs.GlobalFiles.{ReadsNames, RefusedAt, loaded_from};
+
+use gix_attributes::Search;
+use gix_attributes::files::Files;
+use gix_attributes::search::{AddError, Dropped, MetadataCollection};
+use std::alloc::Global;
+use std::marker::Model;
+
+/// Global lists, with the collection that numbers their names.
+#[derive(Drop)]
+pub struct Globals {
+    search: Search,
+    collection: MetadataCollection,
+    dropped: Vec<Vec<Dropped>>,
+}
+
+impl Model for Globals {
+    ghost use Rattle.check_attr.specs.ScriptStates.{GlobalLists};
+
+    ghost Value = { GlobalLists };
+
+    ghost use Rattle.check_attr.specs.GlobalsView.{global_lists_view};
+    ghost use Rattle.check_attr.specs.inner.GlobalsView.{IsSoundGlobals};
+
+    ghost view = { global_lists_view };
+
+    ghost invariant = { IsSoundGlobals };
+}
+
+impl Globals {
+    // The collection registers the lists of the search, and no others.
+    pub(crate) fn of(
+        search: Search,
+        collection: MetadataCollection,
+        dropped: Vec<Vec<Dropped>>,
+    ) -> Globals
+        requires held { Holds collection search }
+        requires known { RegistersExactly collection (list_ids_in search) (lists_in search) }
+        ensures names { result.names ≡ collection.names }
+        ensures lists { result.lists ≡ lists_in search }
+        ensures dropped { result.dropped ≡ map (λ lines. lines.items) dropped.items }
+    {
+        Globals {
+            search,
+            collection,
+            dropped,
+        }
+    }
+
+    /// The lines that the global files leave out, a list for each file name.
+    pub fn dropped(&self) -> &[Vec<Dropped>]
+        ensures { map (λ lines. lines.items) result.now ≡ self.now.dropped }
+    {
+        &self.dropped
+    }
+
+    // The lists, and the collection that registers them.
+    pub(crate) fn into_parts(self) -> (Search, MetadataCollection)
+        ensures held { Holds result.1 result.0 }
+        ensures known { RegistersExactly result.1 (list_ids_in result.0) (lists_in result.0) }
+        ensures names { result.1.names ≡ self.names }
+        ensures lists { lists_in result.0 ≡ self.lists }
+    {
+        (self.search, self.collection)
+    }
+}
+
+/// The built-in list, and then the list of each of these files that exists. Later lists take
+/// precedence.
+///
+/// # Errors
+///
+/// `Io` if the device failed, and `OutOfMemory` if a buffer, the lists or the collection could not
+/// grow.
+pub fn read_globals<F: Files>(
+    alloc: Global,
+    files: &mut F,
+    names: &[String],
+) -> Result<Globals, AddError>
+    ensures loaded { IfOk result (λ globals. (read : List FileRead)
+        × ReadsNames F.reads (map string_bytes names.now) files.old read files.new
+        × (globals ≡ loaded_from read)) }
+    ensures refused { IfErr result (λ e. (read : List FileRead)
+        × ReadInOrder F.reads files.old read files.new
+        × RefusedAt (map string_bytes names.now) read e) }
+    ensures device { IfErr result (λ e. IsIo e → Fails (F.failed files.old) (F.failed files.new)) }
+    ensures count { F.failed files.old ≤ F.failed files.new }
+{
+    let mut collection = MetadataCollection::new(alloc);
+    let mut buf = Vec::new(alloc);
+    let (search, dropped) = Search::new_globals_from(
+        alloc,
+        files,
+        names,
+        &mut buf,
+        &mut collection,
+    )?;
+    Ok(Globals::of(search, collection, dropped))
+}

@@ -1,0 +1,174 @@
+//! Outcomes that are searched, copied, and initialised again.
+use super::scene::Step::{
+    Add, Begin, Clone, CopyFor, Count, Find, Fit, Numbers, Places, Reset, Select, Show, Turn,
+};
+use super::scene::{TOP, expect};
+use gix_attributes::glob::pattern::Case::Sensitive;
+use std::alloc::AllocError;
+
+#[test]
+fn a_done_outcome_stays_as_it_is(rt: HostRuntime) -> Result<(), AllocError> {
+    for (text, names, answer) in [
+        (
+            "* a=1\n* c b\n",
+            ["b"].as_slice(),
+            "true\ndone 1 1\nfalse\ndone 1 1\nOutcome(b)\n",
+        ),
+        (
+            "* text",
+            ["text", "text"].as_slice(),
+            "true\ndone 1 1\nfalse\ndone 1 1\nOutcome(text, text)\n",
+        ),
+        (
+            "",
+            ["nope", "in valid"].as_slice(),
+            "false\ndone 0 0\nfalse\ndone 0 0\nOutcome(!nope, !invalid)\n",
+        ),
+    ] {
+        let steps = [
+            Add(TOP, text),
+            Select(names),
+            Find("f", Sensitive),
+            Count,
+            Find("f", Sensitive),
+            Count,
+            Show,
+        ];
+        expect(&rt, rt.alloc(), &steps, answer)?;
+    }
+    Ok(())
+}
+
+#[test]
+fn only_filled_numbers_are_answered(rt: HostRuntime) -> Result<(), AllocError> {
+    for (text, names, answer) in [
+        ("* a=1\n* c b\n", ["b"].as_slice(), "true\n2\n"),
+        ("[attr]m x y\n* m\n", ["y"].as_slice(), "true\n0\n2\n"),
+    ] {
+        let steps = [Add(TOP, text), Select(names), Find("f", Sensitive), Numbers];
+        expect(&rt, rt.alloc(), &steps, answer)?;
+    }
+    Ok(())
+}
+
+#[test]
+fn an_unspecified_name_has_no_place(rt: HostRuntime) -> Result<(), AllocError> {
+    let steps = [
+        Add(TOP, "/f a\n"),
+        Select(&["a", "z"]),
+        Find("f", Sensitive),
+        Places,
+    ];
+    expect(&rt, rt.alloc(), &steps, "true\n.gitattributes:1:/f\n-:0:\n")
+}
+
+#[test]
+fn names_that_are_unknown_are_done_at_once(rt: HostRuntime) -> Result<(), AllocError> {
+    let steps = [Add(TOP, ""), Select(&["nope", "in valid"]), Count, Places];
+    expect(&rt, rt.alloc(), &steps, "done 0 0\n-:0:\n-:0:\n")
+}
+
+#[test]
+fn a_name_is_looked_up_again(rt: HostRuntime) -> Result<(), AllocError> {
+    let steps = [
+        Add(TOP, "* a"),
+        Select(&["z"]),
+        Count,
+        Add(TOP, "* z"),
+        Begin,
+        Count,
+        Find("f", Sensitive),
+        Show,
+    ];
+    expect(
+        &rt,
+        rt.alloc(),
+        &steps,
+        "done 0 0\nopen 0 0\ntrue\nOutcome(z)\n",
+    )
+}
+
+// The later search first, then the other, and each of them once more.
+#[test]
+fn searches_follow_one_another(rt: HostRuntime) -> Result<(), AllocError> {
+    let steps = [
+        Add(TOP, "* a=1 c"),
+        Turn,
+        Add(TOP, "* a=2"),
+        Select(&[]),
+        Find("f", Sensitive),
+        Turn,
+        Find("f", Sensitive),
+        Find("f", Sensitive),
+        Turn,
+        Find("f", Sensitive),
+        Show,
+    ];
+    expect(
+        &rt,
+        rt.alloc(),
+        &steps,
+        "true\ntrue\nfalse\nfalse\nOutcome(a=2, c)\n",
+    )
+}
+
+#[test]
+fn an_older_outcome_covers_no_new_numbers(rt: HostRuntime) -> Result<(), AllocError> {
+    let steps = [
+        Add(TOP, "* a"),
+        Select(&[]),
+        Fit,
+        Add(TOP, "* b"),
+        Fit,
+        Begin,
+        Fit,
+        Find("f", Sensitive),
+        Show,
+    ];
+    expect(
+        &rt,
+        rt.alloc(),
+        &steps,
+        "true true\nfalse false\ntrue true\ntrue\nOutcome(a, b)\n",
+    )
+}
+
+#[test]
+fn answers_are_copied_under_another_selection(rt: HostRuntime) -> Result<(), AllocError> {
+    for (names, answer) in [
+        (["b"].as_slice(), "true\ndone 0 0\nOutcome(b)\n"),
+        ([].as_slice(), "true\nopen 0 0\nOutcome(a, b)\n"),
+    ] {
+        let steps = [
+            Add(TOP, "* a b\ng c\n"),
+            Select(&[]),
+            Find("f", Sensitive),
+            CopyFor(names),
+            Count,
+            Show,
+        ];
+        expect(&rt, rt.alloc(), &steps, answer)?;
+    }
+    Ok(())
+}
+
+#[test]
+fn a_clone_keeps_what_is_reset(rt: HostRuntime) -> Result<(), AllocError> {
+    let steps = [
+        Add(TOP, "* a b\n"),
+        Select(&[]),
+        Find("f", Sensitive),
+        Clone,
+        Count,
+        Show,
+        Reset,
+        Count,
+        Show,
+    ];
+    expect(
+        &rt,
+        rt.alloc(),
+        &steps,
+        "true\ndone 2 1\nOutcome(a, b)\nopen 0 0\nOutcome\n",
+    )
+}

@@ -1,0 +1,71 @@
+//! Lists that are removed, and the answers of the others.
+use super::scene::Step::{Add, Begin, Find, Fit, Pop, Rows, Select, Show};
+use super::scene::{TOP, expect};
+use gix_attributes::glob::pattern::Case::Sensitive;
+use std::alloc::AllocError;
+
+#[test]
+fn a_popped_list_has_no_effect(rt: HostRuntime) -> Result<(), AllocError> {
+    let steps = [
+        Add(TOP, "* a=1"),
+        Add("sub/.gitattributes", "* a=2"),
+        Pop,
+        Select(&[]),
+        Find("sub/f", Sensitive),
+        Show,
+    ];
+    expect(&rt, rt.alloc(), &steps, "true\nOutcome(a=1)\n")
+}
+
+#[test]
+fn a_popped_body_makes_room_for_the_one_before(rt: HostRuntime) -> Result<(), AllocError> {
+    for (first, second, answer) in [
+        (
+            "[attr]m x\n* m\n",
+            "[attr]m y\n",
+            "true\nm macro - 2\ny attribute 0 2\ntrue\nm macro - 2\nx attribute 0 2\n",
+        ),
+        (
+            "* m\n",
+            "[attr]m x\n",
+            "true\nm macro - 1\nx attribute 0 1\ntrue\nm attribute - 1\n",
+        ),
+        (
+            "[attr]m x\n* m\n",
+            "[attr]m y\n[attr]m z\n",
+            "true\nm macro - 2\nz attribute 0 2\ntrue\nm macro - 2\nx attribute 0 2\n",
+        ),
+        (
+            "[attr]m x\n* m\n",
+            "[attr]m\n",
+            "true\nm attribute - 2\ntrue\nm macro - 2\nx attribute 0 2\n",
+        ),
+    ] {
+        let steps = [
+            Add(TOP, first),
+            Add(TOP, second),
+            Select(&[]),
+            Find("f", Sensitive),
+            Rows,
+            Pop,
+            Begin,
+            Find("f", Sensitive),
+            Rows,
+        ];
+        expect(&rt, rt.alloc(), &steps, answer)?;
+    }
+    Ok(())
+}
+
+#[test]
+fn a_pop_makes_outcomes_old(rt: HostRuntime) -> Result<(), AllocError> {
+    let steps = [
+        Add(TOP, "* m"),
+        Add(TOP, "[attr]m x"),
+        Select(&[]),
+        Fit,
+        Pop,
+        Fit,
+    ];
+    expect(&rt, rt.alloc(), &steps, "true true\ntrue false\n")
+}

@@ -1,0 +1,385 @@
+//! Steps of a test: lists are added and removed, outcomes are initialised and searched, and what they have is reported.
+//!
+//! The tests of searches are lists of steps, since a function that owns a search and an outcome takes long to prove.
+use bstr::BStr;
+use gix_attributes::Search;
+use gix_attributes::glob::pattern::Case;
+use gix_attributes::search::{AttributeId, Match, MatchKind, MetadataCollection, Outcome};
+use std::alloc::{AllocError, Global};
+use std::mem;
+use std::process::Abort;
+
+/// The file in the top folder.
+pub(super) const TOP: &str = ".gitattributes";
+
+/// What a test does with a scene.
+#[derive(Clone, Copy, Drop)]
+pub(super) enum Step<'a> {
+    /// Adds the lines of a file with this name.
+    Add(&'a str, &'a str),
+    /// Adds lines of the file at the top, in which macros are not allowed.
+    AddWithoutMacros(&'a str),
+    /// Removes the last list.
+    Pop,
+    /// Changes to the other search over the same collection.
+    Turn,
+    /// Initialises the outcome for these names, and for all if there are none.
+    Select(&'a [&'a str]),
+    /// Initialises the outcome again, for the same names.
+    Begin,
+    /// Resets the outcome.
+    Reset,
+    /// Copies the answers of the outcome to the other one, which is initialised for these names, and changes to that.
+    CopyFor(&'a [&'a str]),
+    /// Copies the answers of the outcome to the other one as that is, and changes to that.
+    Copy,
+    /// Changes to the other outcome.
+    TurnOutcomes,
+    /// Changes to a clone of the outcome, and resets the outcome itself.
+    Clone,
+    /// Searches for a path that is no folder, and reports whether a name was found.
+    Find(&'a str, Case),
+    /// Reports the outcome as `Debug` prints it.
+    Show,
+    /// Reports whether the outcome is done, and how many items were taken and patterns tested.
+    Count,
+    /// Reports whether the outcome covers the search, and whether it is current.
+    Fit,
+    /// Reports each match with its kind, the number of its macro and its line.
+    Rows,
+    /// Reports the source, the line and the pattern of the match of each selected name.
+    Places,
+    /// Reports which of the first eight numbers have a match.
+    Numbers,
+}
+
+/// The path of a search, and how it compares with patterns.
+#[derive(Clone, Copy)]
+struct Query<'a> {
+    path: &'a str,
+    case: Case,
+}
+
+/// A collection with two searches, and two outcomes, of which steps use one each.
+#[derive(Drop)]
+struct Scene {
+    collection: MetadataCollection,
+    search: Search,
+    other_search: Search,
+    outcome: Outcome,
+    other_outcome: Outcome,
+}
+
+/// Expects this report of a scene that takes these steps.
+pub(super) fn expect(
+    rt: &impl Abort,
+    alloc: Global,
+    steps: &[Step<'_>],
+    answer: &str,
+) -> Result<(), AllocError> {
+    let report = report(rt, alloc, steps)?;
+    assert_eq!(rt; report.as_str(), answer);
+    Ok(())
+}
+
+/// The report of a scene that takes these steps.
+pub(super) fn report(
+    rt: &impl Abort,
+    alloc: Global,
+    steps: &[Step<'_>],
+) -> Result<String, AllocError> {
+    let mut out = String::new(alloc);
+    take_all(rt, alloc, steps, &mut out)?;
+    Ok(out)
+}
+
+/// Expects this report of a scene that takes each step once more if it finds no memory.
+pub(super) fn expect_again(
+    rt: &impl Abort,
+    alloc: Global,
+    steps: &[Step<'_>],
+    answer: &str,
+) -> Result<(), AllocError> {
+    let report = report_again(rt, alloc, steps)?;
+    assert_eq!(rt; report.as_str(), answer);
+    Ok(())
+}
+
+/// The report of a scene that takes each step once more if it finds no memory.
+pub(super) fn report_again(
+    rt: &impl Abort,
+    alloc: Global,
+    steps: &[Step<'_>],
+) -> Result<String, AllocError> {
+    let mut out = String::new(alloc);
+    let mut scene = Scene::new(alloc);
+    scene.take_all_again(rt, alloc, steps, &mut out)?;
+    Ok(out)
+}
+
+// Nothing else owns a scene, which takes long to drop in a proof.
+fn take_all(
+    rt: &impl Abort,
+    alloc: Global,
+    steps: &[Step<'_>],
+    out: &mut String,
+) -> Result<(), AllocError> {
+    let mut scene = Scene::new(alloc);
+    scene.take_all(rt, alloc, steps, out)
+}
+
+impl Scene {
+    fn new(alloc: Global) -> Scene {
+        Scene {
+            collection: MetadataCollection::new(alloc),
+            search: Search::new(alloc),
+            other_search: Search::new(alloc),
+            outcome: Outcome::new(alloc),
+            other_outcome: Outcome::new(alloc),
+        }
+    }
+
+    fn take_all(
+        &mut self,
+        rt: &impl Abort,
+        alloc: Global,
+        steps: &[Step<'_>],
+        out: &mut String,
+    ) -> Result<(), AllocError> {
+        for step in steps {
+            self.take(rt, alloc, *step, out)?;
+        }
+        Ok(())
+    }
+
+    fn take_all_again(
+        &mut self,
+        rt: &impl Abort,
+        alloc: Global,
+        steps: &[Step<'_>],
+        out: &mut String,
+    ) -> Result<(), AllocError> {
+        for step in steps {
+            self.take_again(rt, alloc, *step, out)?;
+        }
+        Ok(())
+    }
+
+    // A step that finds no memory leaves lists and names as they were.
+    fn take_again(
+        &mut self,
+        rt: &impl Abort,
+        alloc: Global,
+        step: Step<'_>,
+        out: &mut String,
+    ) -> Result<(), AllocError> {
+        let (lists, names) = (
+            self.search.num_pattern_lists(),
+            count_of_names(&self.collection),
+        );
+        let mut report = String::new(alloc);
+        if self.take(rt, alloc, step, &mut report).is_err() {
+            assert_eq!(rt; self.search.num_pattern_lists(), lists);
+            assert_eq!(rt; count_of_names(&self.collection), names);
+            report.clear();
+            self.take(rt, alloc, step, &mut report)?;
+        }
+        out.push_str(report.as_str())
+            .or_else(|_| out.push_str(report.as_str()))
+    }
+
+    fn take(
+        &mut self,
+        rt: &impl Abort,
+        alloc: Global,
+        step: Step<'_>,
+        out: &mut String,
+    ) -> Result<(), AllocError> {
+        match step {
+            Step::Add(source, text) => self.add(alloc, source, text, true),
+            Step::AddWithoutMacros(text) => self.add(alloc, TOP, text, false),
+            Step::Pop => self.pop(rt),
+            Step::Turn => self.turn(),
+            Step::Select(names) => self.select(alloc, names),
+            Step::Begin => self.outcome.initialize(alloc, &self.collection),
+            Step::Reset => self.reset(),
+            Step::CopyFor(names) => self.copy_for(rt, alloc, names),
+            Step::Copy => self.copy(rt, alloc),
+            Step::TurnOutcomes => self.turn_outcomes(),
+            Step::Clone => self.clone_outcome(alloc),
+            Step::Find(path, case) => self.find(rt, alloc, Query { path, case }, out),
+            Step::Show => self.show(alloc, out),
+            Step::Count => self.count(rt, alloc, out),
+            Step::Fit => self.fit(alloc, out),
+            Step::Rows => push_rows(alloc, &self.outcome, out),
+            Step::Places => push_places(alloc, &self.outcome, out),
+            Step::Numbers => push_numbers(alloc, &self.outcome, out),
+        }
+    }
+
+    fn add(
+        &mut self,
+        alloc: Global,
+        source: &str,
+        text: &str,
+        allow_macros: bool,
+    ) -> Result<(), AllocError> {
+        let source = String::from_str(alloc, source)?;
+        let bytes = text.as_bytes();
+        let collection = &mut self.collection;
+        self.search
+            .add_patterns_buffer(alloc, bytes, source, Some(""), collection, allow_macros)?;
+        Ok(())
+    }
+
+    fn pop(&mut self, rt: &impl Abort) -> Result<(), AllocError> {
+        assert!(rt; self.collection.holds(&self.search));
+        let _ = self.search.pop_pattern_list(&mut self.collection);
+        Ok(())
+    }
+
+    fn turn(&mut self) -> Result<(), AllocError> {
+        mem::swap(&mut self.search, &mut self.other_search);
+        Ok(())
+    }
+
+    fn select(&mut self, alloc: Global, names: &[&str]) -> Result<(), AllocError> {
+        self.outcome
+            .initialize_with_selection(alloc, &self.collection, names)
+    }
+
+    fn reset(&mut self) -> Result<(), AllocError> {
+        self.outcome.reset();
+        Ok(())
+    }
+
+    fn copy_for(
+        &mut self,
+        rt: &impl Abort,
+        alloc: Global,
+        names: &[&str],
+    ) -> Result<(), AllocError> {
+        self.other_outcome
+            .initialize_with_selection(alloc, &self.collection, names)?;
+        self.copy(rt, alloc)
+    }
+
+    fn copy(&mut self, rt: &impl Abort, alloc: Global) -> Result<(), AllocError> {
+        assert!(rt; self.outcome.is_initialized());
+        assert!(rt; self.outcome.is_current(&self.collection));
+        let copy = &mut self.other_outcome;
+        self.outcome.copy_into(alloc, &self.collection, copy)?;
+        self.turn_outcomes()
+    }
+
+    fn clone_outcome(&mut self, alloc: Global) -> Result<(), AllocError> {
+        self.other_outcome = self.outcome.clone(alloc)?;
+        self.outcome.reset();
+        self.turn_outcomes()
+    }
+
+    fn turn_outcomes(&mut self) -> Result<(), AllocError> {
+        mem::swap(&mut self.outcome, &mut self.other_outcome);
+        Ok(())
+    }
+
+    fn find(
+        &mut self,
+        rt: &impl Abort,
+        alloc: Global,
+        query: Query<'_>,
+        out: &mut String,
+    ) -> Result<(), AllocError> {
+        assert!(rt; self.outcome.is_initialized());
+        assert!(rt; self.outcome.covers(&self.search));
+        let (path, case) = (BStr::new(query.path.as_bytes()), query.case);
+        // The report of a search gets its memory first, so that only the search can be refused.
+        out.reserve(6)?;
+        let searched = self
+            .search
+            .pattern_matching_relative_path(alloc, path, case, Some(false), &mut self.outcome);
+        assert!(rt; searched.is_ok() || self.is_reset());
+        out.push_str(if searched? { "true\n" } else { "false\n" })
+    }
+
+    fn is_reset(&self) -> bool {
+        let outcome = &self.outcome;
+        outcome.iter().next().is_none() && outcome.taken() == 0 && outcome.tested() == 0
+    }
+
+    fn show(&self, alloc: Global, out: &mut String) -> Result<(), AllocError> {
+        let outcome = &self.outcome;
+        out.push_str(format!(in alloc; "{outcome:?}\n")?.as_str())
+    }
+
+    fn count(&self, rt: &impl Abort, alloc: Global, out: &mut String) -> Result<(), AllocError> {
+        assert!(rt; self.outcome.is_initialized());
+        let state = if self.outcome.is_done() {
+            "done"
+        } else {
+            "open"
+        };
+        let (taken, tested) = (self.outcome.taken(), self.outcome.tested());
+        out.push_str(format!(in alloc; "{state} {taken} {tested}\n")?.as_str())
+    }
+
+    fn fit(&self, alloc: Global, out: &mut String) -> Result<(), AllocError> {
+        let covers = self.outcome.covers(&self.search);
+        let is_current = self.outcome.is_current(&self.collection);
+        out.push_str(format!(in alloc; "{covers} {is_current}\n")?.as_str())
+    }
+}
+
+/// The number of names in a collection.
+pub(super) fn count_of_names(collection: &MetadataCollection) -> usize {
+    let mut count = 0usize;
+    for _ in collection.iter() {
+        count = count.saturating_add(1);
+    }
+    count
+}
+
+fn push_rows(alloc: Global, outcome: &Outcome, out: &mut String) -> Result<(), AllocError> {
+    for found in outcome.iter() {
+        push_row(alloc, out, found)?;
+    }
+    Ok(())
+}
+
+// `x=1 macro 0 2`: the assignment, the kind, the number of the macro that it comes from, and the line.
+fn push_row(alloc: Global, out: &mut String, found: Match<'_>) -> Result<(), AllocError> {
+    let kind = match found.kind {
+        MatchKind::Attribute { macro_id: _ } => "attribute",
+        MatchKind::Macro { parent_macro_id: _ } => "macro",
+    };
+    let line = found.location.sequence_number;
+    let row = match found.kind.source_id() {
+        Some(id) => format!(in alloc; "{} {kind} {} {line}\n", found.assignment, id.0)?,
+        None => format!(in alloc; "{} {kind} - {line}\n", found.assignment)?,
+    };
+    out.push_str(row.as_str())
+}
+
+fn push_places(alloc: Global, outcome: &Outcome, out: &mut String) -> Result<(), AllocError> {
+    for found in outcome.iter_selected() {
+        push_place(alloc, out, found)?;
+    }
+    Ok(())
+}
+
+fn push_place(alloc: Global, out: &mut String, found: Match<'_>) -> Result<(), AllocError> {
+    let source = found.location.source.unwrap_or("-");
+    let line = found.location.sequence_number;
+    let pattern = found.pattern.write_text(alloc)?;
+    let row = format!(in alloc; "{source}:{line}:{}\n", BStr::new(pattern.as_slice()))?;
+    out.push_str(row.as_str())
+}
+
+fn push_numbers(alloc: Global, outcome: &Outcome, out: &mut String) -> Result<(), AllocError> {
+    for number in 0..8 {
+        if outcome.match_by_id(AttributeId(number)).is_some() {
+            out.push_str(format!(in alloc; "{number}\n")?.as_str())?;
+        }
+    }
+    Ok(())
+}

@@ -1,0 +1,187 @@
+//! The answers of searches.
+use super::scene::Step::{Add, AddWithoutMacros, Count, Find, Rows, Select, Show};
+use super::scene::{TOP, expect};
+use gix_attributes::glob::pattern::Case::{Fold, Sensitive};
+use std::alloc::AllocError;
+
+#[test]
+fn later_lines_and_items_decide(rt: HostRuntime) -> Result<(), AllocError> {
+    for (text, path, answer) in [
+        ("* a=1 a=2", "f", "true\nOutcome(a=2)\n"),
+        ("* a=1\n* a=2\n", "f", "true\nOutcome(a=2)\n"),
+        ("/a x\na y\nd/a z\n", "d/a", "true\nOutcome(y, z)\n"),
+        ("/a x\na y\nd/a z\n", "a", "true\nOutcome(x, y)\n"),
+        ("\\!a b", "!a", "true\nOutcome(b)\n"),
+        ("\"a b.txt\"x", "a b.txt", "true\nOutcome(x)\n"),
+        ("* a =x", "f", "false\nOutcome\n"),
+        ("* a !b", "f", "true\nOutcome(a, !b)\n"),
+        ("\"\\400\" a", "\"400\"", "true\nOutcome(a)\n"),
+        ("\"[attr]\" x", "t", "true\nOutcome(x)\n"),
+        ("\"\" a", "f", "false\nOutcome\n"),
+    ] {
+        let steps = [Add(TOP, text), Select(&[]), Find(path, Sensitive), Show];
+        expect(&rt, rt.alloc(), &steps, answer)?;
+    }
+    Ok(())
+}
+
+#[test]
+fn the_deciding_line_is_reported(rt: HostRuntime) -> Result<(), AllocError> {
+    let steps = [
+        Add(TOP, "* a=1\n* a=2\n"),
+        Select(&[]),
+        Find("f", Sensitive),
+        Rows,
+    ];
+    expect(&rt, rt.alloc(), &steps, "true\na=2 attribute - 2\n")
+}
+
+#[test]
+fn selected_names_are_answered_in_their_order(rt: HostRuntime) -> Result<(), AllocError> {
+    for (text, names, path, answer) in [
+        (
+            "[attr]m x y=1\n* m\n",
+            ["y", "z", "x"].as_slice(),
+            "f",
+            "true\nOutcome(y=1, !z, x)\n",
+        ),
+        (
+            "*.sh text eol=lf",
+            ["text", "eol"].as_slice(),
+            "script.sh",
+            "true\nOutcome(text, eol=lf)\n",
+        ),
+    ] {
+        let steps = [Add(TOP, text), Select(names), Find(path, Sensitive), Show];
+        expect(&rt, rt.alloc(), &steps, answer)?;
+    }
+    Ok(())
+}
+
+#[test]
+fn lines_apply_below_their_base(rt: HostRuntime) -> Result<(), AllocError> {
+    let below = "sub/.gitattributes";
+    for (first, second, path, case, answer) in [
+        ("* a=1", "* a=2", "sub/f", Sensitive, "true\nOutcome(a=2)\n"),
+        ("* a=1", "* a=2", "f", Sensitive, "true\nOutcome(a=1)\n"),
+        ("", "/x a", "sub/x", Sensitive, "true\nOutcome(a)\n"),
+        ("", "/x a", "x", Sensitive, "false\nOutcome\n"),
+        ("", "/x a", "sub/d/x", Sensitive, "false\nOutcome\n"),
+        ("", "/x a", "SUB/X", Sensitive, "false\nOutcome\n"),
+        ("", "/x a", "SUB/X", Fold, "true\nOutcome(a)\n"),
+    ] {
+        let steps = [
+            Add(TOP, first),
+            Add(below, second),
+            Select(&[]),
+            Find(path, case),
+            Show,
+        ];
+        expect(&rt, rt.alloc(), &steps, answer)?;
+    }
+    Ok(())
+}
+
+#[test]
+fn macros_may_name_one_another(rt: HostRuntime) -> Result<(), AllocError> {
+    for (text, names, rows) in [
+        (
+            "[attr]a b\n[attr]b a\n* a\n",
+            [].as_slice(),
+            "true\ndone 2 1\na macro - 3\nb macro 0 3\n",
+        ),
+        (
+            "[attr]a b\n[attr]b -a c\n* b\n",
+            [].as_slice(),
+            "true\ndone 3 1\n-a macro 1 3\nb macro - 3\nc attribute 1 3\n",
+        ),
+        (
+            "[attr]m x=1\n[attr]n m x=2\n* n\n",
+            [].as_slice(),
+            "true\ndone 3 1\nm macro 2 3\nx=2 attribute 2 3\nn macro - 3\n",
+        ),
+        (
+            "[attr]m x=1\n[attr]n x=2 m\n* n\n",
+            [].as_slice(),
+            "true\ndone 3 1\nm macro 2 3\nx=1 attribute 0 3\nn macro - 3\n",
+        ),
+        (
+            "[attr]m x\n* m=1\n",
+            [].as_slice(),
+            "true\nopen 1 1\nm=1 macro - 2\n",
+        ),
+        (
+            "[attr]m m x\n* m\n",
+            [].as_slice(),
+            "true\ndone 2 1\nm macro - 2\nx attribute 0 2\n",
+        ),
+        (
+            "[attr]m x=2\n* m\n* x=1\n",
+            [].as_slice(),
+            "true\ndone 2 2\nm macro - 2\nx=1 attribute - 3\n",
+        ),
+        (
+            "[attr]m x=2\n* x=1 m\n",
+            [].as_slice(),
+            "true\ndone 2 1\nm macro - 2\nx=2 attribute 0 2\n",
+        ),
+        (
+            "[attr]m x=2\n* m x=1\n",
+            [].as_slice(),
+            "true\ndone 2 1\nm macro - 2\nx=1 attribute - 2\n",
+        ),
+        (
+            "[attr]m x\n* m\n* -m\n",
+            [].as_slice(),
+            "true\nopen 1 1\n-m macro - 3\n",
+        ),
+        (
+            "[attr]m x\n[attr]m\n* m\n",
+            [].as_slice(),
+            "true\nopen 1 1\nm attribute - 3\n",
+        ),
+        (
+            "[attr]m x y\n* m\n",
+            ["y"].as_slice(),
+            "true\ndone 2 1\nm macro - 2\ny attribute 0 2\n",
+        ),
+    ] {
+        let steps = [
+            Add(TOP, text),
+            Select(names),
+            Find("f", Sensitive),
+            Count,
+            Rows,
+        ];
+        expect(&rt, rt.alloc(), &steps, rows)?;
+    }
+    Ok(())
+}
+
+#[test]
+fn the_built_in_macro_has_a_body(rt: HostRuntime) -> Result<(), AllocError> {
+    let steps = [
+        Add("[builtin]", "[attr]binary -diff -merge -text"),
+        Add(TOP, "\n*.png binary\n"),
+        Select(&[]),
+        Find("a.png", Sensitive),
+        Rows,
+    ];
+    expect(
+        &rt,
+        rt.alloc(),
+        &steps,
+        "true\nbinary macro - 2\n-diff attribute 0 2\n-merge attribute 0 2\n-text attribute 0 2\n",
+    )
+}
+
+#[test]
+fn macros_that_are_not_allowed_are_left_out(rt: HostRuntime) -> Result<(), AllocError> {
+    let steps = [
+        AddWithoutMacros("[attr]m x\n* m\n"),
+        Select(&[]),
+        Find("f", Sensitive),
+        Rows,
+    ];
+    expect(&rt, rt.alloc(), &steps, "true\nm attribute - 2\n")
+}

@@ -1,0 +1,74 @@
+//! The lists that the search of `gix_attributes` goes through, for one pair of bodies.
+
+use crate::settings::{COUNT, SOURCE, START, START_SOURCE, push_items, push_macros, push_rows};
+use attr_table::plain::{Item, Row, State};
+use gix_attributes::Search;
+use gix_attributes::search::MetadataCollection;
+use std::alloc::{AllocError, Global};
+
+/// Searches over one collection that has the macros.
+#[derive(Drop)]
+pub struct Lists {
+    pub collection: MetadataCollection,
+    /// For each attribute a search whose only line unsets it.
+    pub starts: Vec<Search>,
+    /// For each file a search of its lines.
+    pub files: Vec<Search>,
+}
+
+impl Lists {
+    /// Registers the attributes in the order of their numbers, the bodies and the lists of files.
+    pub fn new(
+        alloc: Global,
+        bodies: &[&[Item<'static>]],
+        files: &[&[Row<'_, 'static>]],
+    ) -> Result<Lists, AllocError> {
+        let mut lists = Lists {
+            collection: MetadataCollection::new(alloc),
+            starts: Vec::new(alloc),
+            files: Vec::new(alloc),
+        };
+        lists.add_macros(alloc, bodies)?;
+        for attribute in 0..COUNT {
+            lists.add_start(alloc, attribute)?;
+        }
+        for rows in files {
+            lists.add_file(alloc, rows)?;
+        }
+        Ok(lists)
+    }
+
+    // The first line is never searched. It has the names in the order of their numbers.
+    fn add_macros(&mut self, alloc: Global, bodies: &[&[Item<'static>]]) -> Result<(), AllocError> {
+        let mut text = String::from_str(alloc, "* m n a\n")?;
+        push_macros(&mut text, bodies)?;
+        let _ = self.search_of(alloc, "macros", text.as_str())?;
+        Ok(())
+    }
+
+    fn add_start(&mut self, alloc: Global, attribute: usize) -> Result<(), AllocError> {
+        let state = State::Unset;
+        let mut text = String::from_str(alloc, START.spelling)?;
+        push_items(&mut text, &[Item { attribute, state }])?;
+        let search = self.search_of(alloc, START_SOURCE, text.as_str())?;
+        self.starts.push(search)?;
+        Ok(())
+    }
+
+    fn add_file(&mut self, alloc: Global, rows: &[Row<'_, 'static>]) -> Result<(), AllocError> {
+        let mut text = String::new(alloc);
+        push_rows(&mut text, rows)?;
+        let search = self.search_of(alloc, SOURCE, text.as_str())?;
+        self.files.push(search)?;
+        Ok(())
+    }
+
+    // A search of one list.
+    fn search_of(&mut self, alloc: Global, source: &str, text: &str) -> Result<Search, AllocError> {
+        let mut search = Search::new(alloc);
+        let source = String::from_str(alloc, source)?;
+        let collection = &mut self.collection;
+        search.add_patterns_buffer(alloc, text.as_bytes(), source, None, collection, true)?;
+        Ok(search)
+    }
+}

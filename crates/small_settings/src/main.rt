@@ -1,0 +1,36 @@
+//! Compares the search of `gix_attributes` with the plain one of `attr_table` over every small
+//! setting, and prints how many there are. The first difference is printed, and ends the program
+//! with status 1.
+//!
+//! A small setting has three attributes, two of which are macros with bodies of at most two items;
+//! one line of at most two items, or two lines of one item each; a selection of some of the
+//! attributes; and no slot, or one slot, that is filled before the search. An item sets its
+//! attribute or unsets it.
+#![tactic(auto)]
+
+mod comparison;
+mod fault;
+mod lists;
+mod plain_search;
+mod real_search;
+mod settings;
+
+use crate::comparison::compare_all;
+use crate::fault::Fault;
+use std::process::ExitCode;
+
+fn run(rt: &(impl Print + AllocGlobal)) -> Result<(), Fault> {
+    let compared = compare_all(rt.alloc())?;
+    println!(rt; "{compared} settings agree")?;
+    Ok(())
+}
+
+fn main(rt: HostRuntime) -> ExitCode {
+    match run(&rt) {
+        Ok(()) => ExitCode::SUCCESS,
+        Err(fault) => {
+            let _ = eprintln!(rt; "small_settings: {fault}");
+            ExitCode::FAILURE
+        }
+    }
+}

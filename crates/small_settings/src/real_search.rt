@@ -1,0 +1,163 @@
+//! The search of `gix_attributes`, and its answers in the words of the plain one.
+
+use crate::fault::Fault;
+use crate::lists::Lists;
+use crate::plain_search::Slots;
+use crate::settings::{COUNT, NAMES, PATH, Selection};
+use attr_table::plain::{Answer, Item, Origin, State};
+use bitflags::Flags;
+use bstr::BStr;
+use gix_attributes::glob::pattern::Case;
+use gix_attributes::search::{AttributeId, Match, MatchKind, Outcome};
+use gix_attributes::{Search, StateRef};
+use std::alloc::{AllocError, Global};
+
+/// The lists of one pair of bodies, and an outcome for what is looked for.
+#[derive(Drop)]
+pub struct RealSearch<'l> {
+    alloc: Global,
+    lists: &'l Lists,
+    outcome: Outcome,
+    // An outcome for all attributes, from which a slot is copied where nothing is looked for.
+    complete: Outcome,
+}
+
+impl<'l> RealSearch<'l> {
+    /// Outcomes over the collection of these lists, one of them for all attributes.
+    ///
+    /// # Errors
+    ///
+    /// If memory is refused.
+    pub fn new(alloc: Global, lists: &'l Lists) -> Result<RealSearch<'l>, AllocError> {
+        let mut complete = Outcome::new(alloc);
+        complete.initialize(alloc, &lists.collection)?;
+        Ok(RealSearch {
+            alloc,
+            lists,
+            outcome: Outcome::new(alloc),
+            complete,
+        })
+    }
+
+    /// Selects the attributes that are looked for from here on.
+    pub fn select(&mut self, selection: &Selection) -> Result<(), AllocError> {
+        let names = selection.names;
+        self.outcome
+            .initialize_with_selection(self.alloc, &self.lists.collection, names)
+    }
+
+    /// Empties the slots, and fills one of them.
+    pub fn begin(&mut self, start: Option<usize>) -> Result<(), Fault> {
+        self.outcome.reset();
+        let Some(attribute) = start else {
+            return Ok(());
+        };
+        let search = self.lists.starts.get(attribute).ok_or(Fault::NotReady)?;
+        if self.outcome.is_done() {
+            self.complete.reset();
+            search_into(self.alloc, search, &mut self.complete)?;
+            self.copy()
+        } else {
+            search_into(self.alloc, search, &mut self.outcome)?;
+            Ok(())
+        }
+    }
+
+    // A search for nothing fills no slot, but a copy has those of the outcome that it is made from.
+    fn copy(&mut self) -> Result<(), Fault> {
+        let collection = &self.lists.collection;
+        if !self.complete.is_initialized() || !self.complete.is_current(collection) {
+            return Err(Fault::NotReady);
+        }
+        self.complete
+            .copy_into(self.alloc, collection, &mut self.outcome)?;
+        Ok(())
+    }
+
+    /// Searches the lines of a file, and reports whether an attribute was found that is looked for.
+    pub fn search(&mut self, file: usize) -> Result<bool, Fault> {
+        let search = self.lists.files.get(file).ok_or(Fault::NotReady)?;
+        search_into(self.alloc, search, &mut self.outcome)
+    }
+
+    /// How many items the last search took.
+    pub fn taken(&self) -> u128 {
+        self.outcome.taken()
+    }
+
+    /// Whether the slots have these answers, by number.
+    pub fn has(&self, slots: &Slots) -> bool {
+        for number in 0..COUNT {
+            if !is_same(self.slot(number), slots[number]) {
+                return false;
+            }
+        }
+        true
+    }
+
+    fn slot(&self, number: usize) -> Option<Answer<'_>> {
+        let found = self.outcome.match_by_id(AttributeId(number))?;
+        Some(answer_of(found))
+    }
+}
+
+fn search_into(alloc: Global, search: &Search, outcome: &mut Outcome) -> Result<bool, Fault> {
+    if !outcome.is_initialized() || !outcome.covers(search) {
+        return Err(Fault::NotReady);
+    }
+    let path = BStr::new(PATH.as_bytes());
+    let found = search.pattern_matching_relative_path(
+        alloc,
+        path,
+        Case::Sensitive,
+        Some(false),
+        outcome,
+    )?;
+    Ok(found)
+}
+
+fn is_same<'a>(one: Option<Answer<'a>>, other: Option<Answer<'a>>) -> bool {
+    one == other
+}
+
+fn answer_of(found: Match<'_>) -> Answer<'_> {
+    Answer {
+        origin: Origin {
+            text: found.pattern.text.as_slice(),
+            mode: found.pattern.mode.bits(),
+            wildcard: found.pattern.first_wildcard_pos,
+            source: found.location.source.map(|source| source.as_bytes()),
+            line: found.location.sequence_number,
+        },
+        assignment: Item {
+            attribute: number_of(found.assignment.name.as_str()),
+            state: state_of(found.assignment.state),
+        },
+        is_macro: is_macro(found.kind),
+        cause: found.kind.source_id().map(|id| id.0),
+    }
+}
+
+// A name that is none of the three has a number that no slot has.
+fn number_of(name: &str) -> usize {
+    NAMES
+        .iter()
+        .position(|known| *known == name)
+        .unwrap_or(COUNT)
+}
+
+fn state_of(state: StateRef<'_>) -> State<'_> {
+    match state {
+        StateRef::Set => State::Set,
+        StateRef::Unset => State::Unset,
+        StateRef::Value(value) => State::Value(value.as_bstr().as_bytes()),
+        StateRef::Unspecified => State::Unspecified,
+    }
+}
+
+fn is_macro(kind: MatchKind) -> bool {
+    match kind {
+        MatchKind::Attribute { macro_id: _ } => false,
+        MatchKind::Macro { parent_macro_id: _ } => true,
+    }
+}

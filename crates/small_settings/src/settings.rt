@@ -1,0 +1,204 @@
+//! The parts of small settings, as numbers and as texts of attributes files.
+
+use attr_table::plain::{Item, Origin, Row, State};
+use std::alloc::{AllocError, Global};
+
+/// How many attributes there are.
+pub const COUNT: usize = 3;
+
+/// The names of the attributes, by number. Only the first two have bodies.
+pub const NAMES: [&str; COUNT] = ["m", "n", "a"];
+
+/// The path that is searched for. Each line matches it.
+pub const PATH: &str = "f";
+
+/// The file of the lines.
+pub const SOURCE: &str = ".gitattributes";
+
+/// The file whose line fills a slot before the search.
+pub const START_SOURCE: &str = "info/attributes";
+
+// The bits of a pattern's mode.
+const NO_SUB_DIR: u32 = 1;
+
+const ENDS_WITH: u32 = 2;
+
+const ABSOLUTE: u32 = 16;
+
+/// A few items, in their order.
+pub type Items = Vec<Item<'static>>;
+
+/// The items of each line of a file, in its order.
+pub type Lines = Vec<Items>;
+
+/// Which attributes are looked for: their numbers, and names that select them.
+#[derive(Clone, Copy)]
+pub struct Selection {
+    pub wanted: &'static [usize],
+    pub names: &'static [&'static str],
+}
+
+/// Each selection of some of the attributes. A name that no list has selects nothing, and no names
+/// select all.
+pub static SELECTIONS: [Selection; 8] = [
+    Selection {
+        wanted: &[],
+        names: &["other"],
+    },
+    Selection {
+        wanted: &[0],
+        names: &["m"],
+    },
+    Selection {
+        wanted: &[1],
+        names: &["n"],
+    },
+    Selection {
+        wanted: &[2],
+        names: &["a"],
+    },
+    Selection {
+        wanted: &[0, 1],
+        names: &["m", "n"],
+    },
+    Selection {
+        wanted: &[0, 2],
+        names: &["m", "a"],
+    },
+    Selection {
+        wanted: &[1, 2],
+        names: &["n", "a"],
+    },
+    Selection {
+        wanted: &[0, 1, 2],
+        names: &[],
+    },
+];
+
+/// The attributes whose slot is filled before the search: none, or one.
+pub const STARTS: [Option<usize>; 4] = [None, Some(0), Some(1), Some(2)];
+
+/// A pattern, as a file spells it, and where it is.
+#[derive(Clone, Copy)]
+pub struct Place {
+    pub spelling: &'static str,
+    pub origin: Origin<'static>,
+}
+
+/// The place of a first line.
+pub const FIRST: Place = Place {
+    spelling: "*",
+    origin: Origin {
+        text: b"*",
+        mode: NO_SUB_DIR | ENDS_WITH,
+        wildcard: Some(0),
+        source: Some(b".gitattributes"),
+        line: 1,
+    },
+};
+
+/// The place of a second line.
+pub const SECOND: Place = Place {
+    spelling: "f",
+    origin: Origin {
+        text: b"f",
+        mode: NO_SUB_DIR,
+        wildcard: None,
+        source: Some(b".gitattributes"),
+        line: 2,
+    },
+};
+
+/// The place of the line that fills a slot before the search.
+pub const START: Place = Place {
+    spelling: "/f",
+    origin: Origin {
+        text: b"f",
+        mode: NO_SUB_DIR | ABSOLUTE,
+        wildcard: None,
+        source: Some(b"info/attributes"),
+        line: 1,
+    },
+};
+
+/// Each attribute, set and unset: 6 items.
+fn items(alloc: Global) -> Result<Items, AllocError> {
+    let mut items = Vec::new(alloc);
+    for attribute in 0..COUNT {
+        for state in [State::Set, State::Unset] {
+            items.push(Item { attribute, state })?;
+        }
+    }
+    Ok(items)
+}
+
+/// Every list of at most two items: 43 lists.
+pub fn short_lists(alloc: Global) -> Result<Vec<Items>, AllocError> {
+    let items = items(alloc)?;
+    let mut lists = Vec::new(alloc);
+    lists.push(Vec::new(alloc))?;
+    for first in items.iter() {
+        lists.push(vec![in alloc; *first]?)?;
+        for second in items.iter() {
+            lists.push(vec![in alloc; *first, *second]?)?;
+        }
+    }
+    Ok(lists)
+}
+
+/// The files of one line of at most two items, and those of two lines of one item each: 79 files.
+pub fn files(alloc: Global) -> Result<Vec<Lines>, AllocError> {
+    let mut files = Vec::new(alloc);
+    for line in short_lists(alloc)? {
+        files.push(vec![in alloc; line]?)?;
+    }
+    let items = items(alloc)?;
+    for first in items.iter() {
+        for second in items.iter() {
+            let lines = vec![in alloc; vec![in alloc; *first]?, vec![in alloc; *second]?]?;
+            files.push(lines)?;
+        }
+    }
+    Ok(files)
+}
+
+/// Appends items as an attributes file spells them, each after a blank, and ends the line.
+pub fn push_items(text: &mut String, items: &[Item<'static>]) -> Result<(), AllocError> {
+    for item in items {
+        text.push_str(if item.state == State::Unset {
+            " -"
+        } else {
+            " "
+        })?;
+        text.push_str(NAMES.get(item.attribute).copied().unwrap_or("?"))?;
+    }
+    text.push('\n')
+}
+
+/// Appends the definitions of the first two attributes as macros.
+pub fn push_macros(text: &mut String, bodies: &[&[Item<'static>]]) -> Result<(), AllocError> {
+    for (name, body) in NAMES.iter().zip(bodies.iter()).take(2) {
+        text.push_str("[attr]")?;
+        text.push_str(name)?;
+        push_items(text, body)?;
+    }
+    Ok(())
+}
+
+/// Appends the lines of a list.
+pub fn push_rows(text: &mut String, rows: &[Row<'_, 'static>]) -> Result<(), AllocError> {
+    for (place, row) in [FIRST, SECOND].iter().zip(rows.iter()) {
+        text.push_str(place.spelling)?;
+        push_items(text, row.items)?;
+    }
+    Ok(())
+}
+
+/// Appends names of attributes, each after a blank.
+pub fn push_names(text: &mut String, attributes: &[usize]) -> Result<(), AllocError> {
+    for attribute in attributes {
+        text.push(' ')?;
+        text.push_str(NAMES.get(*attribute).copied().unwrap_or("?"))?;
+    }
+    Ok(())
+}
