@@ -195,7 +195,7 @@ part='files of the user, the system and the repository'
 git init -q "$room/files"
 cd "$room/files"
 mkdir -p sub/deep .git/info "$HOME/.config/git" "$room/xdg/git" "$room/etc"
-printf '[attr]m1 top\n[attr]m2 m1 second\n* t=top m1 top=1\n*.d !u\n' >.gitattributes
+printf '[attr]m1 top\n[attr]m2 m1 second\n* t=top m1 top=1\n*.d !u\nsub/ folder=sub\ndeep/ folder=deep\n' >.gitattributes
 printf '[attr]m2 not\n* t=sub\n!x y\n* sub m2\n' >sub/.gitattributes
 printf '* t=deep deep -deeper\n' >sub/deep/.gitattributes
 printf '[attr]m1 info\n*.i t=info info\n[attr]m3 m4\n[attr]m4 m3 circle\n*.i m3\n' >.git/info/attributes
@@ -204,7 +204,7 @@ printf '* u=config config\n' >"$HOME/.config/git/attributes"
 printf '* u=xdg xdg\n' >"$room/xdg/git/attributes"
 printf '* u=below\n' >sub/user
 printf '[attr]m1 system\n* s=system u=system system m1 t=system\n' >"$room/etc/gitattributes"
-printf '%s\n' f f.i f.d sub/f sub/f.i sub/deep/f sub/deep/f.i sub/deep/f.d sub/ sub >"$room/some"
+printf '%s\n' f f.i f.d sub/f sub/f.i sub/deep/f sub/deep/f.i sub/deep/f.d sub/ sub sub/deep sub/deep/ sub/deep/. >"$room/some"
 tr '\n' '\0' <"$room/some" >"$room/paths"
 each_form "$room/paths"
 XDG_CONFIG_HOME=$room/xdg
