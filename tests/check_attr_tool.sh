@@ -129,8 +129,6 @@ for quotes in true false; do
     same --stdin diff -z
 done
 same -a -- "$line" "$line/f.c" "$line/sub/$line.c" -dash/-- --
-# A name that looks like what the program writes for a line that is left out.
-same -a -- "$(printf 'dropped: .gitattributes:1: negative\nf.c')" "$(printf 'dropped: .gitattributes:1: negative\n')" f.c
 cd "$line/sub"
 same -a f.c "../$line.c" .. ../../zü/f.c
 mkdir "$room/odd/$last"
@@ -138,6 +136,15 @@ cd "$room/odd"
 same -a "$last/f.c"
 echo '* text' >"$last/.gitattributes"
 refused 128 'is not UTF-8' -a "$last/f.c"
+# Names that look like what the program writes for a line that is left out, before another answer.
+git init -q "$room/left_out"
+cd "$room/left_out"
+mkdir sub
+printf '!n x\n* y\n' >sub/.gitattributes
+same -a -- "$(printf 'dropped: sub/.gitattributes:1: negative\nsub/f')" sub/f
+printf '!n x\n* z\n' >.gitattributes
+same -a -- "$(printf 'dropped: .gitattributes:1: negative\nf.c')" "$(printf 'dropped: .gitattributes:1: negative\n')" f.c
+same z -- "$(printf 'dropped: .gitattributes:1: negative\nf.c')" "$(printf 'dropped: .gitattributes:1: negative\n')" f.c
 cd "$room"
 
 part='files from the index'
