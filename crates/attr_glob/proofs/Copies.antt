@@ -1,6 +1,6 @@
 -- Copies of lists.
 use Rattle.std.proofs.Common.{◌≡◌, Bool, true, ◌&&◌, List, [], ◌∷◌, ◌++◌, Option, Some, None, String, Vec, refl, sym, subst, ap, ◌∙◌, ℕ, ◌+◌, ◌<◌}
-use Rattle.std.proofs.Common.{length, get_or, take, map}
+use Rattle.std.proofs.Common.{length, get_or, take}
 use Rattle.std.proofs.Common.{nat_eq, option_map, string_bytes}
 use Rattle.std.proofs.lemmas.List.{take_more}
 use Rattle.std.proofs.lemmas.Slice.Zip.{all_zipped_more}
@@ -27,15 +27,6 @@ clones_equal IsClone eq same [] (y ∷ ys) h = absurd h
 clones_equal IsClone eq same (x ∷ xs) [] h = absurd h
 clones_equal IsClone eq same (x ∷ xs) (y ∷ ys) h =
     ap (λ b. b && pointwise eq ys xs) (same x y h.0) ∙ clones_equal IsClone eq same xs ys h.1
-
--- clones have the views of their originals
-pub clones_view : {X Y : Type 0} (IsClone : X → X → Type 0) (view : X → Y) → ((x copy : X) → IsClone x copy → view copy ≡ view x) →
-    (xs copies : List X) → AllZip IsClone xs copies → map view copies ≡ map view xs
-clones_view IsClone view same [] [] h = refl
-clones_view IsClone view same [] (y ∷ ys) h = absurd h
-clones_view IsClone view same (x ∷ xs) [] h = absurd h
-clones_view IsClone view same (x ∷ xs) (y ∷ ys) h =
-    ap (λ v. v ∷ map view ys) (same x y h.0) ∙ ap (λ l. view x ∷ l) (clones_view IsClone view same xs ys h.1)
 
 -- texts of the same bytes are equal
 pub text_equal : {A : Type 0} (x y : Option (String A)) → option_map string_bytes x ≡ option_map string_bytes y → option_eq string_eq x y ≡ true

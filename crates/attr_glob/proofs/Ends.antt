@@ -2,7 +2,7 @@
 use Rattle.std.proofs.Common.{◌≡◌, ℕ, Bool, true, false, ◌&&◌, List, [], ◌∷◌, ◌++◌, length, refl, sym, ap, subst, ◌∙◌, arith}
 use Rattle.attr_glob.specs.declared.pattern.Case.{Case}
 use Rattle.attr_glob.specs.Tokens.{Token, lit, one, set, star, dirs, rest, token_ends_in_slash}
-use Rattle.attr_glob.specs.TokenList.{is_bordered}
+use Rattle.attr_glob.specs.inner.Bordered.{is_bordered}
 use Rattle.attr_glob.specs.Matching.{Match}
 use Rattle.attr_glob.specs.Deciding.{takes_byte, matches}
 use Rattle.attr_glob.specs.inner.RowPlaces.{may_be_nothing}

@@ -64,11 +64,11 @@ same_folded Fold (c ∷ cs) (b ∷ bs) h =
 same_text_of : (case : Case) (x y : List ℕ) → pointwise (same_byte case) x y ≡ true → same_text case x y ≡ true
 same_text_of case x y h = (bytes_decides (folded case x) (folded case y)).1 (same_folded case x y h)
 
-length-folded : (case : Case) (x : List ℕ) → length (folded case x) ≡ length x
+pub length-folded : (case : Case) (x : List ℕ) → length (folded case x) ≡ length x
 length-folded Sensitive x = refl
 length-folded Fold x = length-map x to_ascii_lowercase
 
-drop-folded : (case : Case) (n : ℕ) (x : List ℕ) → drop n (folded case x) ≡ folded case (drop n x)
+pub drop-folded : (case : Case) (n : ℕ) (x : List ℕ) → drop n (folded case x) ≡ folded case (drop n x)
 drop-folded Sensitive n x = refl
 drop-folded Fold n x = drop-map to_ascii_lowercase n x
 

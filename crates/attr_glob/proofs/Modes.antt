@@ -45,37 +45,43 @@ joined_flags false false false true false = refl
 joined_flags false false false false true = refl
 joined_flags false false false false false = refl
 
--- of the flags that are added, each is found again
+-- of the flags that are added, these two are found again
+added-found : (a b c d e : Bool) → (has_flag (added a b c d e) ends_with ≡ b) × (has_flag (added a b c d e) negative ≡ d)
+added-found true true true true true = (refl, refl)
+added-found true true true true false = (refl, refl)
+added-found true true true false true = (refl, refl)
+added-found true true true false false = (refl, refl)
+added-found true true false true true = (refl, refl)
+added-found true true false true false = (refl, refl)
+added-found true true false false true = (refl, refl)
+added-found true true false false false = (refl, refl)
+added-found true false true true true = (refl, refl)
+added-found true false true true false = (refl, refl)
+added-found true false true false true = (refl, refl)
+added-found true false true false false = (refl, refl)
+added-found true false false true true = (refl, refl)
+added-found true false false true false = (refl, refl)
+added-found true false false false true = (refl, refl)
+added-found true false false false false = (refl, refl)
+added-found false true true true true = (refl, refl)
+added-found false true true true false = (refl, refl)
+added-found false true true false true = (refl, refl)
+added-found false true true false false = (refl, refl)
+added-found false true false true true = (refl, refl)
+added-found false true false true false = (refl, refl)
+added-found false true false false true = (refl, refl)
+added-found false true false false false = (refl, refl)
+added-found false false true true true = (refl, refl)
+added-found false false true true false = (refl, refl)
+added-found false false true false true = (refl, refl)
+added-found false false true false false = (refl, refl)
+added-found false false false true true = (refl, refl)
+added-found false false false true false = (refl, refl)
+added-found false false false false true = (refl, refl)
+added-found false false false false false = (refl, refl)
+
 pub added-ends_with : (a b c d e : Bool) → has_flag (added a b c d e) ends_with ≡ b
-added-ends_with true true true true true = refl
-added-ends_with true true true true false = refl
-added-ends_with true true true false true = refl
-added-ends_with true true true false false = refl
-added-ends_with true true false true true = refl
-added-ends_with true true false true false = refl
-added-ends_with true true false false true = refl
-added-ends_with true true false false false = refl
-added-ends_with true false true true true = refl
-added-ends_with true false true true false = refl
-added-ends_with true false true false true = refl
-added-ends_with true false true false false = refl
-added-ends_with true false false true true = refl
-added-ends_with true false false true false = refl
-added-ends_with true false false false true = refl
-added-ends_with true false false false false = refl
-added-ends_with false true true true true = refl
-added-ends_with false true true true false = refl
-added-ends_with false true true false true = refl
-added-ends_with false true true false false = refl
-added-ends_with false true false true true = refl
-added-ends_with false true false true false = refl
-added-ends_with false true false false true = refl
-added-ends_with false true false false false = refl
-added-ends_with false false true true true = refl
-added-ends_with false false true true false = refl
-added-ends_with false false true false true = refl
-added-ends_with false false true false false = refl
-added-ends_with false false false true true = refl
-added-ends_with false false false true false = refl
-added-ends_with false false false false true = refl
-added-ends_with false false false false false = refl
+added-ends_with a b c d e = (added-found a b c d e).0
+
+pub added-negative : (a b c d e : Bool) → has_flag (added a b c d e) negative ≡ d
+added-negative a b c d e = (added-found a b c d e).1

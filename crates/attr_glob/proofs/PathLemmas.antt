@@ -6,13 +6,13 @@ use Rattle.std.proofs.lemmas.List.{length-reverse, length-drop}
 use Rattle.std.proofs.lemmas.List.Sums.{suffix_len_is}
 use Rattle.attr_glob.specs.declared.pattern.Case.{Case}
 use Rattle.attr_glob.specs.Patterns.{Reading, reading, read_rest, is_slash, is_space, is_wildcard, is_suffix, is_negated, without_negation}
-use Rattle.attr_glob.specs.Patterns.{without_root, without_end, first, ends_in_slash, has_flag, ends_with, must_be_dir}
+use Rattle.attr_glob.specs.Patterns.{without_root, without_end, first, ends_in_slash, has_flag, ends_with, must_be_dir, negative}
 use Rattle.attr_glob.specs.Deciding.{text_matches}
 use Rattle.attr_glob.specs.Paths.{matched_part, is_directory, PathMatches, path_matches}
 use Rattle.attr_glob.specs.BaseNames.{base_name, base_name_place}
 use Rattle.attr_glob.proofs.Basics.{by_test, and_parts, and_both, or_left, or_right, reverse-cons}
 use Rattle.attr_glob.proofs.DecidingLemmas.{text_match_of_test, test_of_text_match}
-use Rattle.attr_glob.proofs.Modes.{added-ends_with}
+use Rattle.attr_glob.proofs.Modes.{added-ends_with, added-negative}
 
 read_of : {A : Type 0} (blank : Bool) (a b : A) → cond blank None (Some a) ≡ Some b → a ≡ b
 read_of true a b h = cc
@@ -34,6 +34,13 @@ reading-ends_with text r h =
     let P : Reading → Type 0 = λ x. has_flag x.mode ends_with ≡ is_suffix x.text in
     subst P (read_is text r h)
     (added-ends_with (not (list_any is_slash body)) (is_suffix body) (ends_in_slash below) (is_negated text) (is_slash (first rest)))
+
+-- what is read after a negation has its flag
+pub read_rest-negative : (negated : Bool) (rest : List ℕ) → has_flag (read_rest negated rest).mode negative ≡ negated
+read_rest-negative negated rest =
+    let below = without_root rest in
+    let body = without_end below in
+    added-negative (not (list_any is_slash body)) (is_suffix body) (ends_in_slash below) negated (is_slash (first rest))
 
 directory : (is_dir : Option Bool) → is_directory is_dir ≡ true → is_dir ≡ Some true
 directory None h = cc

@@ -6,7 +6,7 @@ use Rattle.std.proofs.lemmas.Bool.Decides.{nat_tests}
 use Rattle.std.proofs.lemmas.List.{length-reverse, length-drop, reverse-append}
 use Rattle.std.proofs.lemmas.List.Folds.{prefix_len-append}
 use Rattle.std.proofs.lemmas.List.Sums.{suffix_len-le-length}
-use Rattle.attr_glob.specs.Bases.{place_after}
+use Rattle.attr_glob.specs.inner.PlacesAfter.{place_after}
 use Rattle.attr_glob.specs.BaseNames.{base_name, base_name_place}
 use Rattle.attr_glob.specs.Patterns.{is_slash}
 

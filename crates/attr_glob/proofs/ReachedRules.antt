@@ -4,7 +4,7 @@ use Rattle.std.proofs.Common.{Option, Some, None, refl, sym, ap, subst, ◌∙�
 use Rattle.attr_glob.specs.declared.pattern.Case.{Case}
 use Rattle.attr_glob.specs.Bytes.{slash}
 use Rattle.attr_glob.specs.Tokens.{Token, lit, one, set, star, dirs, rest, token_ends_in_slash}
-use Rattle.attr_glob.specs.TokenList.{is_bordered}
+use Rattle.attr_glob.specs.inner.Bordered.{is_bordered}
 use Rattle.attr_glob.specs.Deciding.{takes_byte, star_then, rest_then}
 use Rattle.attr_glob.specs.inner.RowPlaces.{may_be_nothing, is_dirs, continues_with, ends_at, may_skip, is_folder, stays_on, advances_on}
 use Rattle.attr_glob.specs.inner.RowPlaces.{token_before, IsStep}

@@ -5,7 +5,7 @@ use Rattle.std.proofs.lemmas.List.{reverse-append}
 use Rattle.attr_glob.specs.declared.pattern.Case.{Case}
 use Rattle.attr_glob.specs.Bytes.{slash}
 use Rattle.attr_glob.specs.Tokens.{Token, lit, one, set, star, dirs, rest, token_ends_in_slash}
-use Rattle.attr_glob.specs.TokenList.{is_bordered}
+use Rattle.attr_glob.specs.inner.Bordered.{is_bordered}
 use Rattle.attr_glob.specs.Deciding.{byte_then, star_then, rest_then}
 use Rattle.attr_glob.specs.inner.RowPlaces.{may_be_nothing, may_skip, is_folder, IsGrowing}
 use Rattle.attr_glob.proofs.Basics.{by_test, and_parts, or_left, true_false}

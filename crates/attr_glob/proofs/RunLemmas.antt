@@ -8,7 +8,7 @@ use Rattle.std.proofs.lemmas.List.Sums.{length-filter, sum_by-le-sum_by, sum_by-
 use Rattle.std.proofs.lemmas.List.FromFn.{length-range_with_len}
 use Rattle.attr_glob.specs.declared.pattern.Case.{Case}
 use Rattle.attr_glob.specs.Tokens.{Token}
-use Rattle.attr_glob.specs.TokenList.{is_bordered}
+use Rattle.attr_glob.specs.inner.Bordered.{is_bordered}
 use Rattle.attr_glob.specs.Matching.{Match, ReachedAtMost, pairs_passed}
 use Rattle.attr_glob.specs.inner.RowPlaces.{places_below, is_folder, IsStep, IsRow}
 use Rattle.attr_glob.proofs.Basics.{by_test, true_false, Each, all_of_each}

@@ -7,7 +7,8 @@ use Rattle.attr_glob.specs.declared.bracket.Member.{Member}
 use Rattle.attr_glob.specs.Bytes.{asterisk, question_mark, backslash, open_bracket}
 use Rattle.attr_glob.specs.Tokens.{Token, lit, one, set, star, dirs, rest, tokens_from, token_at, bracket_at, escape_at, token_ends_in_slash}
 use Rattle.attr_glob.specs.Brackets.{members, negates}
-use Rattle.attr_glob.specs.TokenList.{token_of, tokens_of, is_bordered}
+use Rattle.attr_glob.specs.TokenList.{token_of, tokens_of}
+use Rattle.attr_glob.specs.inner.Bordered.{is_bordered}
 use Rattle.attr_glob.proofs.Basics.{by_test}
 
 -- what was read before, and then what is read here

@@ -1,5 +1,5 @@
 -- Where the patterns of a source apply (own; the gitattributes page matches them relative to the folder of their file).
-use Rattle.std.specs.Prelude.{ℕ, ◌+◌, ◌-◌, ◌==◌, ◌&&◌, List, [], ◌∷◌, ◌++◌, length, take, drop, slice_index, nat_eq, nat_lt, Option, Some, None, option_and_then, if◌then◌else◌}
+use Rattle.std.specs.Prelude.{ℕ, ◌+◌, ◌==◌, ◌&&◌, List, [], ◌∷◌, ◌++◌, length, take, drop, slice_index, nat_eq, Option, Some, None, option_and_then, if◌then◌else◌}
 use Rattle.std.specs.List.{starts_with, before_last}
 use Rattle.attr_glob.specs.declared.pattern.Case.{Case}
 use Rattle.attr_glob.specs.Bytes.{slash}
@@ -35,8 +35,3 @@ abbrev pub rest_below : Option (List ℕ) → Case → List ℕ → Option (List
 rest_below None case path = Some path
 rest_below (Some base) case path =
     if same_text case base (take (length base) path) then Some (drop (length base) path) else None
-
--- a place, counted after so many bytes, and none if it is not after them
-abbrev pub place_after : ℕ → Option ℕ → Option ℕ
-place_after taken None = None
-place_after taken (Some place) = if nat_lt taken place then Some (place - taken) else None

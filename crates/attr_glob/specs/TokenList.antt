@@ -1,8 +1,8 @@
--- What the tokens of the code mean, and that a folder star is only at the places where git has one (gitignore page).
-use Rattle.std.specs.Prelude.{Bool, true, ◌&&◌, List, [], ◌∷◌}
+-- What the tokens of the code mean (gitignore page).
+use Rattle.std.specs.Prelude.{List, [], ◌∷◌}
 use Rattle.attr_glob.specs.declared.token.Token as written
 use Rattle.attr_glob.specs.declared.token.Token.TheVariants.{Lit, One, Set, Star, Dirs, Rest}
-use Rattle.attr_glob.specs.Tokens.{Token, lit, one, set, star, dirs, rest, token_ends_in_slash}
+use Rattle.attr_glob.specs.Tokens.{Token, lit, one, set, star, dirs, rest}
 
 -- the meaning of a token
 abbrev pub token_of : written.Token → Token
@@ -17,9 +17,3 @@ token_of Rest = rest
 abbrev pub tokens_of : List written.Token → List Token
 tokens_of [] = []
 tokens_of (t ∷ ts) = token_of t ∷ tokens_of ts
-
--- each folder star is at the start or after a token that ends in a slash
-abbrev pub is_bordered : Bool → List Token → Bool
-is_bordered border [] = true
-is_bordered border (dirs ∷ ts) = border && is_bordered true ts
-is_bordered border (t ∷ ts) = is_bordered (token_ends_in_slash t) ts

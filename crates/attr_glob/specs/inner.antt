@@ -1,7 +1,9 @@
 -- Relations between functions inside the crate (own). No contract of a public call reaches it, so nothing of it has to be
 -- believed.
+pub mod Bordered
 pub mod ByteSets
-pub mod Chains
 pub mod IndexInvariant
 pub mod Left
+pub mod LineShapes
+pub mod PlacesAfter
 pub mod RowPlaces

@@ -120,6 +120,8 @@ impl Pattern {
     /// Fails if memory runs out, which takes a text that is a pattern.
     pub fn from_bytes(alloc: Global, text: &[u8]) -> Result<Option<Pattern>, AllocError>
         ensures ok { IfOk result (λ found. option_map pattern_view found ≡ reading text.now) }
+        ensures negative { IfOk result (λ found. IfSome found (λ pattern.
+            has_flag (pattern_view pattern).mode negative ≡ is_negated text.now)) }
         ensures err { OnErr result (IsSome (reading text.now)) }
     {
         let rest = without_negation(text);

@@ -5,7 +5,8 @@ ghost use Rattle.attr_glob.specs.Tokens.{Token as Meaning, after_stars, stars_at
 ghost use Rattle.attr_glob.specs.Spelling.{AreTokens};
 ghost use Rattle.attr_glob.specs.Deciding.{takes_byte};
 ghost use Rattle.attr_glob.specs.inner.RowPlaces.{may_be_nothing, is_dirs, continues_with, ends_at};
-ghost use Rattle.attr_glob.specs.TokenList.{token_of, tokens_of, is_bordered};
+ghost use Rattle.attr_glob.specs.TokenList.{token_of, tokens_of};
+ghost use Rattle.attr_glob.specs.inner.Bordered.{is_bordered};
 
 use crate::bracket::{self, MemberSet};
 use crate::pattern::Case;
@@ -186,7 +187,8 @@ pub struct Tokens {
 impl Model for Tokens {
     ghost use Rattle.std.specs.Prelude.{◌≡◌, List, true};
     ghost use Rattle.attr_glob.specs.Tokens.{Token as Meaning};
-    ghost use Rattle.attr_glob.specs.TokenList.{tokens_of, is_bordered};
+    ghost use Rattle.attr_glob.specs.TokenList.{tokens_of};
+    ghost use Rattle.attr_glob.specs.inner.Bordered.{is_bordered};
 
     ghost Value = { List Meaning };
 

@@ -5,7 +5,8 @@
 
 ghost use Rattle.std.specs.Prelude.{◌≡◌, ◌+◌, ◌*◌, ◌≤◌, ◌<◌, ◌^◌, ◌↔◌, ◌++◌, ◌∷◌, [], ℕ, Bool, List, All, IfOk, IsOk, IsSome, IfSome, IfNone, OnOk, IsTrue, option_map, IsFalse, true, false, length, slice_get, vec_capacity};
 ghost use Rattle.attr_glob.specs.Tokens.{Token as Meaning};
-ghost use Rattle.attr_glob.specs.TokenList.{token_of, tokens_of, is_bordered};
+ghost use Rattle.attr_glob.specs.TokenList.{token_of, tokens_of};
+ghost use Rattle.attr_glob.specs.inner.Bordered.{is_bordered};
 ghost use Rattle.attr_glob.specs.Spelling.{AreTokens};
 ghost use Rattle.attr_glob.specs.Matching.{Match, ReachedAtMost, TextMatches};
 ghost use Rattle.attr_glob.specs.Deciding.{matches, text_matches};

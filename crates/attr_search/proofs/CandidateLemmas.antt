@@ -17,7 +17,7 @@ use Rattle.attr_glob.specs.Candidates.{has_macro_mode, is_candidate, places_wher
 use Rattle.attr_glob.specs.Paths.{path_matches}
 use Rattle.attr_glob.specs.Patterns.{Reading, reading, has_flag, negative, no_sub_dir, ends_with, must_be_dir, absolute}
 use Rattle.attr_glob.specs.Views.{patterns_of}
-use Rattle.attr_glob.proofs.ForCallers.{by_test, equal, equal_so, reverse-cons, matching_line_is_candidate}
+use Rattle.attr_glob.proofs.ForCallers.{by_test, equal, equal_so, reverse-cons}
 use Rattle.attr_lists.specs.declared.types.AttributeId.{AttributeId}
 use Rattle.attr_lists.specs.declared.types.Value.{Value}
 use Rattle.attr_lists.specs.ListViews.{Entry, entries_view}
@@ -25,8 +25,10 @@ use Rattle.attr_table.specs.Setting.{Item, Line}
 use Rattle.attr_table.specs.Table.{Slots}
 use Rattle.attr_table.specs.inner.Walk.{Task, Searches, backwards, line_tasks, list_tasks}
 use Rattle.attr_table.proofs.ForCallers.{nothing_taken}
-use Rattle.attr_search.specs.Settings.{Listed, AreRead, gives, line_of, lines_of, candidates_in}
+use Rattle.attr_search.specs.Settings.{Listed, gives, line_of, lines_of, candidates_in}
+use Rattle.attr_search.specs.inner.ReadLines.{AreRead}
 use Rattle.attr_search.specs.inner.Lines.{no_entry, entry_at, entry_tasks}
+use Rattle.attr_search.specs.inner.Trying.{AreTried, TakesMatching}
 use Rattle.attr_search.proofs.LineLemmas.{lines_patterns}
 
 -- the tasks of the lines at some places
@@ -48,23 +50,25 @@ not_macro r plain =
     (λ f. f)
 
 -- a line that is no candidate gives nothing
-passed_by : (case : Case) (is_dir : Option Bool) (rest : List ℕ) (o : Option AttributeId) (r : Reading) →
+passed_by : (case : Case) (is_dir : Option Bool) (rest : List ℕ) (test : Reading → Bool) → TakesMatching case rest test →
+    (o : Option AttributeId) (r : Reading) →
     MatchOption o ((text : List ℕ) × (reading text ≡ Some r) × (has_flag r.mode negative ≡ false)) (λ id. ⊤) →
-    is_candidate case (base_name rest) r ≡ false → is_none o && path_matches case r rest is_dir ≡ false
-passed_by case is_dir rest (Some id) r known out = refl
-passed_by case is_dir rest None r known out =
+    test r ≡ false → is_none o && path_matches case r rest is_dir ≡ false
+passed_by case is_dir rest test takes (Some id) r known out = refl
+passed_by case is_dir rest test takes None r known out =
     by_test (path_matches case r rest is_dir)
     (λ t.
-    let e : true ≡ false = sym (matching_line_is_candidate case known.0 r rest is_dir known.1 (not_macro r known.2) t) ∙ out in
+    let e : true ≡ false = sym (takes known.0 r is_dir known.1 (not_macro r known.2) t) ∙ out in
     absurd (cc))
     (λ f. f)
 
-passed_at : (case : Case) (is_dir : Option Bool) (rest : List ℕ) (lines : List Entry) → ∥ AreRead lines ∥₁ →
-    (k : ℕ) (d : Entry) → k < length lines → is_candidate case (base_name rest) (get_or lines k d).pattern ≡ false →
+passed_at : (case : Case) (is_dir : Option Bool) (rest : List ℕ) (test : Reading → Bool) → TakesMatching case rest test →
+    (lines : List Entry) → ∥ AreRead lines ∥₁ →
+    (k : ℕ) (d : Entry) → k < length lines → test (get_or lines k d).pattern ≡ false →
     gives case is_dir (Some rest) (get_or lines k d) ≡ false
-passed_at case is_dir rest lines read k d lt out =
+passed_at case is_dir rest test takes lines read k d lt out =
     ∥∥₁_elim read (Bool-set (gives case is_dir (Some rest) (get_or lines k d)) false)
-    (λ all. passed_by case is_dir rest (get_or lines k d).macro (get_or lines k d).pattern (all k d lt) out)
+    (λ all. passed_by case is_dir rest test takes (get_or lines k d).macro (get_or lines k d).pattern (all k d lt) out)
 
 -- a list that is gone through from its end, reversed
 pub backwards-reverse : {X Y : Type 0} (f : X → List Y) (xs : List X) → backwards f xs ≡ flat_map f (reverse xs)
@@ -116,37 +120,38 @@ turned_at xs k d lt =
     let long = length-reverse xs in
     ap (λ n. get_or xs (n - 1 - k) d) long ∙ sym (get_or-reverse xs k d (omega arith))
 
-pub passed_entry : (case : Case) (is_dir : Option Bool) (source : Option (List ℕ)) (rest : List ℕ) (lines : List Entry) → ∥ AreRead lines ∥₁ →
-    (k : ℕ) → k < length (reverse lines) → is_candidate case (base_name rest) (get_or (reverse lines) k no_entry).pattern ≡ false →
+pub passed_entry : (case : Case) (is_dir : Option Bool) (source : Option (List ℕ)) (rest : List ℕ) (test : Reading → Bool) →
+    TakesMatching case rest test → (lines : List Entry) → ∥ AreRead lines ∥₁ →
+    (k : ℕ) → k < length (reverse lines) → test (get_or (reverse lines) k no_entry).pattern ≡ false →
     entry_tasks case is_dir source rest (get_or (reverse lines) k no_entry) ≡ []
-passed_entry case is_dir source rest lines read k lt out =
+passed_entry case is_dir source rest test takes lines read k lt out =
     let long = length-reverse lines in
     let within : k < length lines = omega arith in
     let back : length lines - 1 - k < length lines = omega arith in
     let e = get_or-reverse lines k no_entry within in
     let nothing : gives case is_dir (Some rest) (get_or (reverse lines) k no_entry) ≡ false =
-    rw e (passed_at case is_dir rest lines read (length lines - 1 - k) no_entry back (rw e at out)) in
+    rw e (passed_at case is_dir rest test takes lines read (length lines - 1 - k) no_entry back (rw e at out)) in
     rw nothing refl
 
-pub candidates_turned : (case : Case) (base : List ℕ) (lines : List Entry) →
-    candidates case base (map (λ entry. entry.pattern) lines) ≡ places_where (λ entry. is_candidate case base entry.pattern) (reverse lines)
-candidates_turned case base lines =
-    ap (places_where (is_candidate case base)) (map-reverse (λ (entry : Entry). entry.pattern) lines)
-    ∙ places_where-map (is_candidate case base) (λ (entry : Entry). entry.pattern) (reverse lines)
+pub tried_turned : (test : Reading → Bool) (lines : List Entry) →
+    places_where test (reverse (map (λ entry. entry.pattern) lines)) ≡ places_where (λ entry. test entry.pattern) (reverse lines)
+tried_turned test lines =
+    ap (places_where test) (map-reverse (λ (entry : Entry). entry.pattern) lines)
+    ∙ places_where-map test (λ (entry : Entry). entry.pattern) (reverse lines)
 
-pub list_candidates : (case : Case) (is_dir : Option Bool) (source : Option (List ℕ)) (rest : List ℕ) (lines : List Entry) →
-    ∥ AreRead lines ∥₁ →
+list_tried : (case : Case) (is_dir : Option Bool) (source : Option (List ℕ)) (rest : List ℕ) (taken : Reading → Bool) →
+    TakesMatching case rest taken → (lines : List Entry) → ∥ AreRead lines ∥₁ →
     list_tasks (map (line_of case is_dir source (Some rest)) lines)
-    ≡ tasks_at case is_dir source rest lines (candidates case (base_name rest) (map (λ entry. entry.pattern) lines))
-list_candidates case is_dir source rest lines read =
+    ≡ tasks_at case is_dir source rest lines (places_where taken (reverse (map (λ entry. entry.pattern) lines)))
+list_tried case is_dir source rest taken takes lines read =
     let f : Entry → List Task = entry_tasks case is_dir source rest in
-    let test : Entry → Bool = λ entry. is_candidate case (base_name rest) entry.pattern in
+    let test : Entry → Bool = λ entry. taken entry.pattern in
     backwards-map (line_of case is_dir source (Some rest)) lines
     ∙ (backwards-reverse f lines
     ∙ (by_places f test lines (reverse lines) no_entry
     (λ k lt. turned_at lines k no_entry lt)
-    (λ k lt out. passed_entry case is_dir source rest lines read k lt out)
-    ∙ ap (tasks_at case is_dir source rest lines) (sym (candidates_turned case (base_name rest) lines))))
+    (λ k lt out. passed_entry case is_dir source rest taken takes lines read k lt out)
+    ∙ ap (tasks_at case is_dir source rest lines) (sym (tried_turned taken lines))))
   where
     backwards-map : (g : Entry → Line) (xs : List Entry) → backwards line_tasks (map g xs) ≡ backwards (λ x. line_tasks (g x)) xs
     backwards-map g [] = refl
@@ -166,12 +171,12 @@ places_fit test (x ∷ xs) n le =
     (λ t. rw t (fits_step n (length xs) (places_where test xs) (omega arith) (places_fit test xs n (omega arith))))
     (λ f. rw f (places_fit test xs n (omega arith)))
 
-pub candidates_fit : (case : Case) (base : List ℕ) (ms : List (Mapping Value)) (found : List ℕ) →
-    found ≡ candidates case base (patterns_of ms) → All (λ place. place < length ms) found
-candidates_fit case base ms found is =
+pub tried_fit : (case : Case) (rest : List ℕ) (ms : List (Mapping Value)) (found : List ℕ) →
+    AreTried case rest (patterns_of ms) found → All (λ place. place < length ms) found
+tried_fit case rest ms found are =
     let n = length-reverse (patterns_of ms) in
     let m = length-map ms (λ (m : Mapping Value). read m) in
-    rw is (places_fit (is_candidate case base) (reverse (patterns_of ms)) (length ms) (omega arith))
+    rw are.tried (places_fit are.test (reverse (patterns_of ms)) (length ms) (omega arith))
   where
     read : Mapping Value → Reading
     read m = record { text = m.pattern.text.items; mode = m.pattern.mode.0; wildcard = m.pattern.first_wildcard_pos }
@@ -193,34 +198,45 @@ list_passed bodies wanted case is_dir path listed slots taken none =
 pub list_walked : (bodies : List (List Item)) (wanted : List ℕ) (case case' : Case) (is_dir is_dir' : Option Bool) (path rest : List ℕ)
     (listed : Listed) (ms : List (Mapping Value)) (found : List ℕ) (before after : Slots) (a b : ℕ) →
     listed.lines ≡ entries_view ms → Some rest ≡ rest_below listed.base case path → case' ≡ case → is_dir' ≡ is_dir →
-    found ≡ candidates case' (base_name rest) (patterns_of ms) → ∥ AreRead (entries_view ms) ∥₁ →
+    AreTried case' rest (patterns_of ms) found → ∥ AreRead (entries_view ms) ∥₁ →
     Searches bodies wanted (tasks_at case' is_dir' listed.source rest listed.lines found) before after a b →
     Searches bodies wanted (list_tasks (lines_of case is_dir path listed)) before after a b
-list_walked bodies wanted case case' is_dir is_dir' path rest listed ms found before after a b lines below same dir is read p =
+list_walked bodies wanted case case' is_dir is_dir' path rest listed ms found before after a b lines below same dir are read p =
     let tasks : list_tasks (lines_of case is_dir path listed) ≡ tasks_at case' is_dir' listed.source rest listed.lines found =
     ap (λ (r : Option (List ℕ)). list_tasks (map (line_of case is_dir listed.source r) listed.lines)) (sym below)
     ∙ (ap (λ (c : Case). list_tasks (map (line_of c is_dir listed.source (Some rest)) listed.lines)) (sym same)
     ∙ (ap (λ (d : Option Bool). list_tasks (map (line_of case' d listed.source (Some rest)) listed.lines)) (sym dir)
     ∙ (ap (λ (ls : List Entry). list_tasks (map (line_of case' is_dir' listed.source (Some rest)) ls)) lines
-    ∙ (list_candidates case' is_dir' listed.source rest (entries_view ms) read
-    ∙ (ap (λ (rs : List Reading). tasks_at case' is_dir' listed.source rest (entries_view ms) (candidates case' (base_name rest) rs))
+    ∙ (list_tried case' is_dir' listed.source rest are.test are.matching (entries_view ms) read
+    ∙ (ap (λ (rs : List Reading). tasks_at case' is_dir' listed.source rest (entries_view ms) (places_where are.test (reverse rs)))
     (sym (lines_patterns ms))
-    ∙ (ap (λ (ps : List ℕ). tasks_at case' is_dir' listed.source rest (entries_view ms) ps) (sym is)
+    ∙ (ap (λ (ps : List ℕ). tasks_at case' is_dir' listed.source rest (entries_view ms) ps) (sym are.tried)
     ∙ ap (λ (ls : List Entry). tasks_at case' is_dir' listed.source rest ls found) (sym lines))))))) in
     subst (λ (ts : List Task). Searches bodies wanted ts before after a b) (sym tasks) p
+
+-- a test that implies another passes at no more places
+fewer_places : {X : Type 0} (p q : X → Bool) → ((x : X) → p x ≡ true → q x ≡ true) → (xs : List X) →
+    length (places_where p xs) ≤ length (places_where q xs)
+fewer_places p q so [] = omega arith
+fewer_places p q so (x ∷ xs) =
+    let rest = fewer_places p q so xs in
+    by_test (p x)
+    (λ t. let u = so x t in rw (t, u) (omega arith))
+    (λ f. by_test (q x) (λ u. rw (f, u) (omega arith)) (λ u. rw (f, u) rest))
 
 -- no more lines are tested than there are candidates
 pub tested_most : (case case' : Case) (path rest : List ℕ) (listed : Listed) (ms : List (Mapping Value)) (found : List ℕ) (m n : ℕ) →
     listed.lines ≡ entries_view ms → Some rest ≡ rest_below listed.base case path → case' ≡ case →
-    found ≡ candidates case' (base_name rest) (patterns_of ms) → n ≤ m + length found → n ≤ m + candidates_in case path listed
-tested_most case case' path rest listed ms found m n lines below same is le =
-    let count : length found ≡ candidates_in case path listed =
-    ap length is
-    ∙ (ap (λ (c : Case). length (candidates c (base_name rest) (patterns_of ms))) same
+    AreTried case' rest (patterns_of ms) found → n ≤ m + length found → n ≤ m + candidates_in case path listed
+tested_most case case' path rest listed ms found m n lines below same are le =
+    let few = fewer_places are.test (is_candidate case' (base_name rest)) are.candidate (reverse (patterns_of ms)) in
+    let those = ap length are.tried in
+    let count : length (candidates case' (base_name rest) (patterns_of ms)) ≡ candidates_in case path listed =
+    (ap (λ (c : Case). length (candidates c (base_name rest) (patterns_of ms))) same
     ∙ (ap (λ (rs : List Reading). length (candidates case (base_name rest) rs)) (lines_patterns ms)
     ∙ (ap (λ (ls : List Entry). length (candidates case (base_name rest) (map (λ entry. entry.pattern) ls))) (sym lines)
     ∙ counted))) in
-    omega (arith, le, count)
+    omega (arith, le, count, few, those)
   where
     counted : length (candidates case (base_name rest) (map (λ entry. entry.pattern) listed.lines)) ≡ candidates_in case path listed
     counted = rw (← below) refl

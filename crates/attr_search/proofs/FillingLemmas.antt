@@ -20,14 +20,16 @@ use Rattle.attr_table.proofs.ForCallers.{tasks_push, tasks_pass}
 use Rattle.attr_search.specs.declared.matching_line.PendingItem.{PendingItem}
 use Rattle.attr_search.specs.Slots.{Matched, table_item, table_items, table_answer, table_state, slots_of}
 use Rattle.attr_search.specs.inner.SlotContents.{SlotContents, wanted_numbers}
-use Rattle.attr_search.specs.Settings.{HaveSlots, BodiesHaveSlots, AreNamed, BodiesAreNamed, HeldAreNamed}
+use Rattle.attr_search.specs.Settings.{HaveSlots, BodiesAreNamed, HeldAreNamed}
+use Rattle.attr_search.specs.inner.Slotted.{BodiesHaveSlots}
+use Rattle.attr_lists.specs.Numbers.{AreNamed}
 use Rattle.smallvec.specs.SmallVec.{SmallVec}
 use Rattle.attr_search.specs.declared.matching_line.MatchingLine.{MatchingLine}
 use Rattle.attr_search.specs.declared.slot_filler.SlotFiller.{SlotFiller}
 use Rattle.attr_lists.specs.declared.types.MatchKind.{MatchKind}
 use Rattle.attr_search.specs.Matches.{is_macro_kind, cause_of}
 use Rattle.attr_search.specs.inner.Filling.{AtLine, BodiesFit, KeepsFiller}
-use Rattle.attr_search.specs.Slots.{bodies_view}
+use Rattle.attr_search.specs.inner.Slotted.{bodies_view}
 use Rattle.std.specs.Prelude.{MatchOption, ⊤}
 use Rattle.attr_search.specs.inner.Pending.{item_match, line_origin, items_beside, pending_item, IsPlaced, task_of, pending_tasks, no_item}
 

@@ -17,7 +17,7 @@ use Rattle.attr_lists.specs.declared.types.Value.TheVariants.{MacroAssignments, 
 use Rattle.attr_lists.specs.ListViews.{Entry, SameValue, entry_view, entries_view, items_in, macro_id}
 use Rattle.attr_lists.specs.Numbers.{numbered, numbered_lines}
 use Rattle.attr_search.specs.ListView.{list_view}
-use Rattle.attr_search.specs.Settings.{IsRead, AreRead}
+use Rattle.attr_search.specs.inner.ReadLines.{IsRead, AreRead}
 
 -- one more pattern
 pub lines_more : {V : Type 0} (readings : List Reading) (mappings : List (Mapping V)) (i : ℕ) (d : Mapping V) (more : List Reading)

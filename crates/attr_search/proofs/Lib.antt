@@ -5,6 +5,7 @@ pub mod RefCopies
 pub mod FillingLemmas
 pub mod LineLemmas
 pub mod CandidateLemmas
+pub mod TryingLemmas
 pub mod ListLemmas
 pub mod FoundAnswers
 pub mod RoundLemmas

@@ -26,9 +26,13 @@ use Rattle.attr_table.specs.Table.{Slots}
 use Rattle.attr_table.specs.Cut.{is_done}
 use Rattle.attr_table.specs.inner.Walk.{Task, Searches, free_items, tasks_in}
 use Rattle.attr_table.proofs.ForCallers.{nothing_taken, done_taken, row_filled, then_searches}
-use Rattle.attr_search.specs.Slots.{origin_of, table_items}
+use Rattle.attr_search.specs.Slots.{table_items}
+use Rattle.attr_search.specs.inner.Slotted.{origin_of}
 use Rattle.attr_search.specs.inner.SlotContents.{wanted_numbers}
-use Rattle.attr_search.specs.Settings.{HaveSlots, AreNamed, LinesHaveSlots, LinesAreNamed, AreRead, gives, origin_in}
+use Rattle.attr_search.specs.Settings.{HaveSlots, LinesAreNamed, gives, origin_in}
+use Rattle.attr_lists.specs.Numbers.{AreNamed}
+use Rattle.attr_search.specs.inner.Slotted.{LinesHaveSlots}
+use Rattle.attr_search.specs.inner.ReadLines.{AreRead}
 use Rattle.attr_search.specs.inner.Lines.{no_entry, entry_at, entry_tasks}
 
 -- the patterns of a list are those of its lines

@@ -5,9 +5,8 @@ use Rattle.std.proofs.lemmas.List.{map-append, take_more, take-append-drop}
 use Rattle.std.proofs.lemmas.List.Concat.{flat_map_single}
 use Rattle.attr_glob.specs.declared.pattern.Case.{Case}
 use Rattle.attr_glob.specs.declared.search.pattern.Mapping.{Mapping}
-use Rattle.attr_glob.specs.BaseNames.{base_name}
 use Rattle.attr_glob.specs.Bases.{rest_below}
-use Rattle.attr_glob.specs.Candidates.{is_candidate, places_where, candidates}
+use Rattle.attr_glob.specs.Candidates.{places_where}
 use Rattle.attr_glob.specs.Views.{patterns_of}
 use Rattle.attr_glob.proofs.ForCallers.{by_test}
 use Rattle.attr_lists.specs.declared.types.Value.{Value}
@@ -18,11 +17,13 @@ use Rattle.attr_table.specs.Cut.{is_done}
 use Rattle.attr_table.specs.inner.Walk.{Task, Walks, ends, stops, Searches, backwards, line_tasks}
 use Rattle.attr_table.proofs.ForCallers.{backwards-none, backwards-more, backwards-split}
 use Rattle.attr_search.specs.inner.SlotContents.{wanted_numbers}
-use Rattle.attr_search.specs.Settings.{Listed, AreRead, line_of, lines_of}
+use Rattle.attr_search.specs.Settings.{Listed, line_of, lines_of}
+use Rattle.attr_search.specs.inner.ReadLines.{AreRead}
 use Rattle.attr_search.specs.inner.Lines.{no_entry, entry_at, entry_tasks}
 use Rattle.attr_search.specs.inner.Rounds.{Rounds, over, round, list_rounds, rounds_of}
+use Rattle.attr_search.specs.inner.Trying.{AreTried}
 use Rattle.attr_search.proofs.LineLemmas.{lines_patterns}
-use Rattle.attr_search.proofs.CandidateLemmas.{backwards-reverse, turned_at, passed_entry, candidates_turned}
+use Rattle.attr_search.proofs.CandidateLemmas.{backwards-reverse, turned_at, passed_entry, tried_turned}
 
 -- one line
 pub one_round : (bodies : List (List Item)) (wanted : List ℕ) (ts : List Task) (before after : Slots) (a b m n : ℕ) →
@@ -121,22 +122,22 @@ list_turned g lines =
 pub list_round : (bodies : List (List Item)) (wanted : List ℕ) (case case' : Case) (is_dir is_dir' : Option Bool) (path rest : List ℕ)
     (listed : Listed) (ms : List (Mapping Value)) (found : List ℕ) (before after : Slots) (a b : ℕ) →
     listed.lines ≡ entries_view ms → Some rest ≡ rest_below listed.base case path → case' ≡ case → is_dir' ≡ is_dir →
-    found ≡ candidates case' (base_name rest) (patterns_of ms) → ∥ AreRead (entries_view ms) ∥₁ →
+    AreTried case' rest (patterns_of ms) found → ∥ AreRead (entries_view ms) ∥₁ →
     Rounds bodies wanted (map (λ place. entry_tasks case' is_dir' listed.source rest (entry_at listed.lines place)) found) before after a b →
     Rounds bodies wanted (list_rounds (lines_of case is_dir path listed)) before after a b
-list_round bodies wanted case case' is_dir is_dir' path rest listed ms found before after a b lines below same dir is read p =
+list_round bodies wanted case case' is_dir is_dir' path rest listed ms found before after a b lines below same dir are read p =
     let all = entries_view ms in
     let f : Entry → List Task = entry_tasks case' is_dir' listed.source rest in
-    let test : Entry → Bool = λ entry. is_candidate case' (base_name rest) entry.pattern in
+    let test : Entry → Bool = λ entry. are.test entry.pattern in
     let turned : found ≡ places_where test (reverse all) =
-    is ∙ (ap (candidates case' (base_name rest)) (lines_patterns ms) ∙ candidates_turned case' (base_name rest) all) in
+    are.tried ∙ (ap (λ rs. places_where are.test (reverse rs)) (lines_patterns ms) ∙ tried_turned are.test all) in
     let p' : Rounds bodies wanted (map (λ place. f (get_or all place no_entry)) (places_where test (reverse all))) before after a b =
     subst (λ (ls : List (List Task)). Rounds bodies wanted ls before after a b)
     (ap (λ (es : List Entry). map (λ place. f (entry_at es place)) found) lines
     ∙ ap (λ (ps : List ℕ). map (λ place. f (entry_at all place)) ps) turned) p in
     let q = rounds_passed bodies wanted f test all (reverse all) no_entry
     (λ k lt. turned_at all k no_entry lt)
-    (λ k lt out. passed_entry case' is_dir' listed.source rest all read k lt out) p' in
+    (λ k lt out. passed_entry case' is_dir' listed.source rest are.test are.matching all read k lt out) p' in
     let whole : list_rounds (lines_of case is_dir path listed) ≡ map f (reverse all) =
     ap (λ (r : Option (List ℕ)). list_rounds (map (line_of case is_dir listed.source r) listed.lines)) (sym below)
     ∙ (ap (λ (c : Case). list_rounds (map (line_of c is_dir listed.source (Some rest)) listed.lines)) (sym same)

@@ -2,9 +2,7 @@
 use Rattle.std.proofs.Common.{◌≡◌, ℕ, ◌+◌, ◌-◌, ◌^◌, ◌<◌, ◌≤◌, ◌⊎◌, min, true, List, [], ◌∷◌, length, map, get_or, take, drop, Some, None}
 use Rattle.std.proofs.Common.{refl, subst, ◌∙◌}
 use Rattle.bstr.specs.BStr.{bstr_bytes}
-use Rattle.attr_glob.specs.BaseNames.{base_name}
 use Rattle.attr_glob.specs.Bases.{rest_below}
-use Rattle.attr_glob.specs.Candidates.{candidates}
 use Rattle.attr_glob.specs.Views.{patterns_of}
 use Rattle.attr_lists.specs.declared.types.TrackedAssignment.{TrackedAssignment}
 use Rattle.attr_table.specs.Cut.{is_done}
@@ -22,6 +20,7 @@ use Rattle.attr_search.specs.inner.Searched.{KeepsState, Searched, SearchedLine,
 use Rattle.attr_search.specs.inner.Searched.{state_slots}
 use Rattle.attr_search.specs.inner.Searched.{state_wanted}
 use Rattle.attr_search.specs.inner.SlotContents.{wanted_numbers}
+use Rattle.attr_search.specs.inner.Trying.{AreTried}
 use Rattle.attr_search.proofs.LineLemmas.{places_more, places_stopped}
 use Rattle.attr_search.proofs.ListLemmas.{lists_begun, lists_more, lists_over, lists_stopped}
 use Rattle.attr_search.proofs.CandidateLemmas.{list_passed, list_walked}
@@ -117,16 +116,16 @@ list_apart query listed state none =
 pub list_by_candidates : (query rest : PathQuery) (list : IndexedList) (found : List ℕ) (before after : SearchContents) →
     Some (bstr_bytes rest.path) ≡ rest_below (listed_view list).base query.case (bstr_bytes query.path) →
     rest.case ≡ query.case → rest.is_dir ≡ query.is_dir →
-    found ≡ candidates rest.case (base_name (bstr_bytes rest.path)) (patterns_of list.list.patterns.items) →
+    AreTried rest.case (bstr_bytes rest.path) (patterns_of list.list.patterns.items) found →
     SearchedPlaces rest (listed_view list) found before after → SearchedList query (listed_view list) before after
-list_by_candidates query rest list found before after below case dir is p =
+list_by_candidates query rest list found before after below case dir are p =
     record {
       searches = list_walked (state_bodies before) (state_wanted before) query.case rest.case query.is_dir rest.is_dir (bstr_bytes query.path)
           (bstr_bytes rest.path) (listed_view list) list.list.patterns.items found (state_slots before) (state_slots after) before.taken
-          after.taken refl below case dir is list.read p.searches;
+          after.taken refl below case dir are list.read p.searches;
       rounds = list_round (state_bodies before) (state_wanted before) query.case rest.case query.is_dir rest.is_dir (bstr_bytes query.path)
           (bstr_bytes rest.path) (listed_view list) list.list.patterns.items found (state_slots before) (state_slots after) before.tested
-          after.tested refl below case dir is list.read p.rounds;
+          after.tested refl below case dir are list.read p.rounds;
     }
 
 -- lists from a number on, of which the last is searched first

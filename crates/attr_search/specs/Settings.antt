@@ -1,13 +1,14 @@
 -- The setting of a search, as the table of the gitattributes page knows it: which lines give their items to a path.
-use Rattle.std.specs.Prelude.{◌≡◌, ℕ, ◌<◌, Bool, false, ◌&&◌, List, [], map, length, sum_by, All, Option, Some, None, MatchOption, ⊤, is_none, is_some, slice_get, slice_index_or, if◌then◌else◌}
+use Rattle.std.specs.Prelude.{◌≡◌, ℕ, ◌<◌, Bool, false, ◌&&◌, List, [], map, length, sum_by, All, Option, Some, None, MatchOption, ⊤}
+use Rattle.std.specs.Prelude.{is_none, is_some, slice_get, slice_index_or, if◌then◌else◌}
 use Rattle.std.specs.List.{list_any}
 use Rattle.attr_glob.specs.declared.pattern.Case.{Case}
 use Rattle.attr_glob.specs.BaseNames.{base_name}
 use Rattle.attr_glob.specs.Bases.{rest_below}
 use Rattle.attr_glob.specs.Candidates.{candidates}
 use Rattle.attr_glob.specs.Paths.{path_matches}
-use Rattle.attr_glob.specs.Patterns.{reading, has_flag, negative}
 use Rattle.attr_lists.specs.ListViews.{Entry}
+use Rattle.attr_lists.specs.Numbers.{AreNamed}
 use Rattle.attr_lists.specs.declared.types.TrackedAssignment.{TrackedAssignment}
 use Rattle.attr_table.specs.Setting.{Origin, Line, Setting}
 use Rattle.attr_table.specs.Table.{Slots}
@@ -71,35 +72,11 @@ candidate_lines lists path case = sum_by (candidates_in case path) lists
 abbrev pub is_found : List ℕ → Slots → Slots → Bool
 is_found wanted before after = list_any (λ w. is_none (before w) && is_some (after w)) wanted
 
--- a line defines a macro, or its pattern was read of a text and isn't negative
-abbrev pub IsRead : Entry → Type 0
-IsRead entry =
-    MatchOption entry.macro
-    ((text : List ℕ) × (reading text ≡ Some entry.pattern) × (has_flag entry.pattern.mode negative ≡ false))
-    (λ id. ⊤)
-
-abbrev pub AreRead : List Entry → Type 0
-AreRead lines = All IsRead lines
-
 -- each item's attribute has one of n slots
 abbrev pub HaveSlots : ℕ → List TrackedAssignment → Type 0
 HaveSlots n items = All (λ i. i.id.0 < n) items
 
--- the same of all bodies, and of all lines of lists
-abbrev pub BodiesHaveSlots : ℕ → List (List TrackedAssignment) → Type 0
-BodiesHaveSlots n bodies = All (HaveSlots n) bodies
-
-abbrev pub LinesHaveSlots : ℕ → List Entry → Type 0
-LinesHaveSlots n lines = All (λ entry. HaveSlots n entry.items) lines
-
-abbrev pub ListsHaveSlots : ℕ → List Listed → Type 0
-ListsHaveSlots n lists = All (λ listed. LinesHaveSlots n listed.lines) lists
-
--- each item has the name of its number
-abbrev pub AreNamed : List (List ℕ) → List TrackedAssignment → Type 0
-AreNamed names items = All (λ i. slice_get names i.id.0 ≡ Some i.inner.name) items
-
--- the same of all bodies, of all lines of lists, and of the answers
+-- the items of all bodies, and of all lines of lists, have the numbers of their names, and so have the answers
 abbrev pub BodiesAreNamed : List (List ℕ) → List (List TrackedAssignment) → Type 0
 BodiesAreNamed names bodies = All (AreNamed names) bodies
 

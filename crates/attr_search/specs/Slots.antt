@@ -1,14 +1,10 @@
 -- The answer of an outcome for each attribute, and how it is seen as slots of the table that the
 -- gitattributes page describes (own).
 use Rattle.std.specs.Prelude.{ℕ, Bool, List, map, Option, None, option_map, slice_index_or}
-use Rattle.smallvec.specs.SmallVec.{SmallVec}
-use Rattle.attr_glob.specs.declared.search.pattern.Mapping.{Mapping}
-use Rattle.attr_glob.specs.Views.{pattern_view}
 use Rattle.attr_text.specs.declared.assignment.Assignment.{Assignment}
 use Rattle.attr_text.specs.declared.state.State.{State}
 use Rattle.attr_text.specs.declared.state.State.TheVariants.{Set, Unset, Value, Unspecified}
 use Rattle.attr_lists.specs.declared.types.TrackedAssignment.{TrackedAssignment}
-use Rattle.attr_lists.specs.declared.types.Value.{Value as LineValue}
 use Rattle.attr_table.specs.Setting.{State as TableState, Set as TableSet, Unset as TableUnset, Value as TableValue, Unspecified as TableUnspecified, Item, Origin, Answer}
 use Rattle.attr_table.specs.Table.{Slots}
 
@@ -19,17 +15,6 @@ pub record Matched : Type 0 where
   pub assignment : Assignment
   pub is_macro : Bool
   pub cause : Option ℕ
-
--- where a line is
-abbrev pub origin_of : Option (List ℕ) → Mapping LineValue → Origin
-origin_of source m =
-    record {
-      text = (pattern_view m.pattern).text;
-      mode = (pattern_view m.pattern).mode;
-      wildcard = (pattern_view m.pattern).wildcard;
-      source = source;
-      line = m.sequence_number;
-    }
 
 -- a state, as the table knows it
 abbrev pub table_state : State → TableState
@@ -58,7 +43,3 @@ table_answer a m =
 -- the answers for all numbers, as the table's slots
 abbrev pub slots_of : List (Option Matched) → Slots
 slots_of answers a = option_map (table_answer a) (slice_index_or answers a None)
-
--- the bodies by number
-abbrev pub bodies_view : List (SmallVec TrackedAssignment) → List (List TrackedAssignment)
-bodies_view bodies = map (λ body. body.items) bodies

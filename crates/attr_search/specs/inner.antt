@@ -1,14 +1,16 @@
 -- What contracts of functions inside the crate name (own). No contract of a public call reaches it, so nothing of it has to be
 -- believed.
 pub mod Filling
-pub mod Keeping
 pub mod Lines
 pub mod Pending
 pub mod RefMapParts
 pub mod RefMapView
+pub mod ReadLines
 pub mod Refs
 pub mod Rounds
 pub mod SearchView
 pub mod Searched
 pub mod SlotContents
 pub mod SlotsView
+pub mod Slotted
+pub mod Trying

@@ -2,43 +2,44 @@
 
 ghost use Rattle.std.specs.Prelude.{◌≡◌, ◌<◌, None, length, true, false, IfOk, OnOk, OnErr, map};
 ghost use Rattle.bstr.specs.BStr.{bstr_bytes};
-ghost use Rattle.attr_glob.specs.BaseNames.{base_name};
-ghost use Rattle.attr_glob.specs.Candidates.{candidates};
 ghost use Rattle.attr_glob.specs.Paths.{path_matches};
 ghost use Rattle.attr_search.specs.inner.Lines.{entry_at};
+ghost use Rattle.attr_search.specs.inner.Trying.{AreTried, key_of_line};
 ghost use Rattle.attr_glob.specs.Views.{patterns_of};
-ghost use Rattle.attr_lists.specs.Definitions.{free_id, is_active, with_list, HoldsList};
+ghost use Rattle.attr_lists.specs.Definitions.{free_id, is_active, with_list, HoldsList, IsSoundCollection};
 ghost use Rattle.attr_lists.specs.KeptLists.{macros_valid};
 ghost use Rattle.attr_lists.specs.ListViews.{entries_view};
 ghost use Rattle.attr_lists.specs.Numbers.{numbered_lines};
-ghost use Rattle.attr_search.specs.Settings.{AreRead};
-ghost use Rattle.attr_search.specs.inner.Keeping.{KeepsLists};
+ghost use Rattle.attr_search.specs.inner.ReadLines.{AreRead};
+ghost use Rattle.attr_lists.specs.inner.Keeping.{StayRegistered};
 
+use crate::line_keys::{folds, line_keys};
 use crate::path_query::PathQuery;
 use attr_glob::matcher::Matcher;
 use attr_glob::pattern::base_name;
-use attr_glob::search::pattern::{Index, IndexBuffers, List, Mapping};
+use attr_glob::search::pattern::{List, Mapping};
 use attr_glob::wildmatch::MatchBuffers;
+use attr_keys::key_index::{KeyIndex, Texts};
 use attr_lists::name_table::NameTable;
 use attr_lists::types::{Attributes, Value};
 use std::alloc::{AllocError, Global};
 
-/// A list of a search, with an index of its patterns. It compares as the list.
+/// A list of a search, with the keys of its lines. It compares as the list.
 #[derive(Drop)]
 #[derive_where(PartialEq, Eq, PartialOrd, Ord, Hash, Debug)]
 pub struct IndexedList {
     /// The lines, where they were read, and the base below which they apply.
     pub list: List<Attributes>,
-    /// Which of the list's patterns a path has to be matched against.
+    /// The keys of the lines, by which those are found that a path has to be matched against.
     #[derive_where(skip)]
-    pub index: Index,
+    pub keys: KeyIndex,
     /// The patterns with their tokens.
     #[derive_where(skip)]
     pub matchers: Vec<Matcher>,
     /// The number under which the list is active in its collection.
     #[derive_where(skip)]
     pub list_id: usize,
-    ghost indexed: { index ≡ patterns_of list.patterns.items },
+    ghost keyed: { keys ≡ map key_of_line (patterns_of list.patterns.items) },
     ghost matched: { matchers.items ≡ patterns_of list.patterns.items },
     ghost read: { ∥ AreRead (entries_view list.patterns.items) ∥₁ },
 }
@@ -70,22 +71,23 @@ impl IndexedList {
             ≡ with_list (free_id names.old.active) (entries_view list.patterns.items) names.old) }
         ensures holds { IfOk result (λ s.
             HoldsList names.new s.list_id (entries_view s.list.patterns.items)) }
-        ensures others { OnOk result (KeepsLists names.old names.new) }
+        ensures others { OnOk result (StayRegistered names.old names.new) }
+        ensures sound { OnOk result (IsSoundCollection names.new) }
         ensures refused { OnErr result (names.new ≡ names.old) }
     {
-        let index = Index::of(alloc, &list)?;
+        let keys = line_keys(alloc, &list.patterns)?;
         let matchers = matchers_of(alloc, &list.patterns)?;
         let list_id = names.add(alloc, &mut list.patterns)?;
         Ok(IndexedList {
             list,
-            index,
+            keys,
             matchers,
             list_id,
         })
     }
 
     /// Finds the places of the lines that are to be matched against what is left of a path, the greatest first.
-    /// They take the place of what the buffer had.
+    /// They take the place of what the buffer had. `turned` is another buffer.
     ///
     /// # Errors
     ///
@@ -93,16 +95,19 @@ impl IndexedList {
     pub fn find_candidates(
         &self,
         rest: PathQuery<'_>,
-        buffers: &mut IndexBuffers,
+        turned: &mut Vec<u8>,
         places: &mut Vec<usize>,
     ) -> Result<(), AllocError>
-        ensures { OnOk result (places.new.items ≡ candidates rest.entry.case
-            (base_name (bstr_bytes rest.entry.path)) (patterns_of self.now.list.patterns.items)) }
+        ensures { OnOk result (AreTried rest.entry.case (bstr_bytes rest.entry.path)
+            (patterns_of self.now.list.patterns.items) places.new.items) }
     {
-        places.clear();
-        let name = base_name(rest.path.as_bytes(), rest.name_place);
-        self.index
-            .append_candidates(name, rest.case, buffers, places)
+        let path = rest.path.as_bytes();
+        let texts = Texts {
+            name: base_name(path, rest.name_place),
+            path,
+            fold: folds(rest.case),
+        };
+        self.keys.find(texts, turned, places)
     }
 
     /// Whether the pattern of a line that defines no macro matches what is left of a path.
@@ -138,11 +143,11 @@ impl IndexedList {
         ensures list_id { IfOk result (λ copy. copy.list_id ≡ self.now.list_id) }
     {
         let list = self.list.clone(alloc)?;
-        let index = Index::of(alloc, &list)?;
+        let keys = line_keys(alloc, &list.patterns)?;
         let matchers = matchers_of(alloc, &list.patterns)?;
         Ok(IndexedList {
             list,
-            index,
+            keys,
             matchers,
             list_id: self.list_id,
         })

@@ -3,6 +3,7 @@
 #![tactic(auto)]
 
 pub mod indexed_list;
+mod line_keys;
 pub mod matching_line;
 pub mod path_query;
 pub mod refmap;

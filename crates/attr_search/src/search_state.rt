@@ -2,8 +2,6 @@
 
 ghost use Rattle.std.specs.Prelude.{◌≡◌, ◌+◌, ◌<◌, ◌≤◌, [], length, map, All, OnErr, OnOk, IfOk, IfSome, IsNone, is_none, false, true, Ok, None, option_map, slice_index_or};
 ghost use Rattle.bstr.specs.BStr.{bstr_bytes};
-ghost use Rattle.attr_glob.specs.BaseNames.{base_name};
-ghost use Rattle.attr_glob.specs.Candidates.{candidates};
 ghost use Rattle.attr_glob.specs.Views.{patterns_of};
 ghost use Rattle.attr_lists.specs.ListViews.{items_in, macro_id};
 ghost use Rattle.attr_table.specs.Table.{OneTable};
@@ -11,19 +9,20 @@ ghost use Rattle.attr_table.specs.Cut.{IsSearched, ExtendsCuts, is_done};
 ghost use Rattle.attr_table.specs.Work.{work_of, newly_filled};
 ghost use Rattle.attr_search.specs.IndexedLists.{listed_view, lists_view};
 ghost use Rattle.attr_search.specs.Matches.{match_view};
-ghost use Rattle.attr_search.specs.Settings.{LinesHaveSlots, ListsHaveSlots, candidates_in, is_found};
-ghost use Rattle.attr_search.specs.Slots.{bodies_view};
+ghost use Rattle.attr_search.specs.Settings.{candidates_in, is_found};
+ghost use Rattle.attr_search.specs.inner.Slotted.{LinesHaveSlots, ListsHaveSlots};
+ghost use Rattle.attr_search.specs.inner.Slotted.{bodies_view};
 ghost use Rattle.attr_search.specs.inner.Filling.{BodiesFit};
 ghost use Rattle.attr_search.specs.inner.Lines.{entry_at};
 ghost use Rattle.attr_search.specs.inner.Searched.{KeepsState, ListKeepsNamed, ListsKeepNamed, SearchedLine, SearchedList, SearchedLists, SearchedPlaces, TestsRoots, has_free_item, query_candidates, query_setting, state_slots, state_wanted};
 ghost use Rattle.attr_search.specs.inner.SlotContents.{count_remaining};
+ghost use Rattle.attr_search.specs.inner.Trying.{AreTried};
 
 use crate::indexed_list::IndexedList;
 use crate::matching_line::MatchingLine;
 use crate::path_query::PathQuery;
 use crate::slot_filler::SlotFiller;
 use crate::slots::AnswerSlots;
-use attr_glob::search::pattern::IndexBuffers;
 use attr_glob::wildmatch::MatchBuffers;
 use attr_lists::types::{Assignments, Match, TrackedAssignment, Value};
 use std::alloc::{AllocError, Global};
@@ -43,7 +42,8 @@ pub struct SearchState {
 #[derive(Drop)]
 struct SearchBuffers {
     matching: MatchBuffers,
-    index: IndexBuffers,
+    // A base name turned round.
+    turned: Vec<u8>,
     places: Vec<usize>,
 }
 
@@ -87,7 +87,7 @@ impl SearchState {
             },
             buffers: SearchBuffers {
                 matching: MatchBuffers::new(alloc),
-                index: IndexBuffers::new(alloc),
+                turned: Vec::new(alloc),
                 places: Vec::new(alloc),
             },
             tested: 0,
@@ -333,11 +333,11 @@ impl SearchState {
         rest: PathQuery<'_>,
     ) -> Result<Vec<usize>, AllocError>
         ensures unchanged { self.new ≡ self.old }
-        ensures places { IfOk result (λ places. places.items ≡ candidates rest.entry.case
-            (base_name (bstr_bytes rest.entry.path)) (patterns_of list.now.list.patterns.items)) }
+        ensures places { IfOk result (λ places. AreTried rest.entry.case
+            (bstr_bytes rest.entry.path) (patterns_of list.now.list.patterns.items) places.items) }
     {
         let buffers = &mut self.buffers;
-        list.find_candidates(rest, &mut buffers.index, &mut buffers.places)?;
+        list.find_candidates(rest, &mut buffers.turned, &mut buffers.places)?;
         Ok(mem::replace(&mut buffers.places, Vec::new(alloc)))
     }
 

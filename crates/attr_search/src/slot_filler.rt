@@ -4,7 +4,8 @@ ghost use Rattle.std.specs.Prelude.{◌≡◌, ◌≤◌, None, OnOk, length};
 ghost use Rattle.attr_table.specs.inner.Walk;
 ghost use Rattle.attr_table.specs.inner.Walk.{tasks_in};
 ghost use Rattle.attr_search.specs.Settings.{HaveSlots};
-ghost use Rattle.attr_search.specs.Slots.{bodies_view, slots_of, table_items, table_state};
+ghost use Rattle.attr_search.specs.Slots.{slots_of, table_items, table_state};
+ghost use Rattle.attr_search.specs.inner.Slotted.{bodies_view};
 ghost use Rattle.attr_search.specs.inner.Filling.{AtLine, CanFill, Fills, FillsNamed, KeepsFiller, Processes, most_left, stack_tasks};
 ghost use Rattle.attr_search.specs.inner.Pending.{IsPlaced, PushesFree, PushesPlaced, line_origin};
 

@@ -1,4 +1,5 @@
 //! Worked rows, crate by crate.
+mod key_index;
 mod matchers;
 mod memory;
 mod pattern_lists;

@@ -2,7 +2,7 @@
 use Rattle.std.specs.Prelude.{◌≡◌, ℕ, true, List}
 use Rattle.attr_glob.specs.declared.pattern.Case.{Case}
 use Rattle.attr_glob.specs.Deciding.{matches}
-use Rattle.attr_glob.specs.TokenList.{is_bordered}
+use Rattle.attr_glob.specs.inner.Bordered.{is_bordered}
 use Rattle.attr_glob.specs.Tokens.{Token}
 
 -- what is left matches if and only if all did

@@ -1,6 +1,6 @@
 //! Git's C-style quoting: a text in double quotes, with backslashes in front of escapes.
 
-ghost use Rattle.std.specs.Prelude.{ℕ, ◌≡◌, ◌↔◌, ◌<◌, length, List, Option, Some, Ok, Err, IfOk, IfErr, IsErrOf, Contains, position};
+ghost use Rattle.std.specs.Prelude.{ℕ, ◌≡◌, ◌↔◌, ◌≤◌, ◌<◌, length, List, Option, Some, Ok, Err, IfOk, IfErr, IsErrOf, Contains, position};
 ghost use Rattle.std.specs.Cow.{cow_slice_items, IsOwnedSlice};
 ghost use Rattle.bstr.specs.BStr.{bstr_bytes};
 ghost use Rattle.attr_glob.specs.declared.quote.ansi_c.UndoError.TheVariants.{OutOfMemory};
@@ -49,6 +49,9 @@ impl<T: Drop> From<AllocFailed<T>> for UndoError {
 pub fn undo<'a>(alloc: Global, input: BStr<'a>) -> Result<(CowSlice<'a, u8>, usize), UndoError>
     ensures value { IfOk result (λ r.
         undone (bstr_bytes input.entry) ≡ Ok (cow_slice_items r.0, r.1)) }
+    ensures quoted { IfOk result (λ r.
+        IsQuoted (bstr_bytes input.entry) (cow_slice_items r.0) r.1) }
+    ensures inside { IfOk result (λ r. r.1 ≤ length (bstr_bytes input.entry)) }
     ensures refused { IfErr result (IsRefusal (bstr_bytes input.entry)) }
     ensures memory { IsErrOf result OutOfMemory → Contains (bstr_bytes input.entry) backslash }
     ensures lent { IfOk result (λ r. IsOwnedSlice r.0 ↔ HoldsEscape (bstr_bytes input.entry)) }

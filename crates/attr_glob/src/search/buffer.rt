@@ -16,8 +16,9 @@ pub trait Pattern {
     /// What is reported of a line that is left out.
     type Dropped: Drop;
 
-    // What a buffer becomes: its mappings, and what is reported of the lines that are left out.
-    ghost reads: { Self → List ℕ → List (Mapping Self.Value) → List Self.Dropped → Type 0 };
+    // What a buffer from a source becomes: its mappings, and what is reported of the lines that are left out.
+    ghost reads: { Self → List ℕ → List ℕ →
+        List (Mapping Self.Value) → List Self.Dropped → Type 0 };
 
     /// Reads a buffer that came from the source.
     ///
@@ -30,5 +31,5 @@ pub trait Pattern {
         bytes: &[u8],
         source: &str,
     ) -> Result<(Vec<Mapping<Self::Value>>, Vec<Self::Dropped>), AllocError>
-        ensures { IfOk result (λ r. reads self.now bytes.now r.0.items r.1.items) };
+        ensures { IfOk result (λ r. reads self.now bytes.now source.now r.0.items r.1.items) };
 }

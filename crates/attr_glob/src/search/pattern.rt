@@ -3,7 +3,8 @@
 ghost use Rattle.std.specs.Prelude.{◌≡◌, true, Some, IfOk, IfSome, option_map, string_bytes, length, drop};
 ghost use Rattle.std.specs.Option.{option_copied};
 ghost use Rattle.bstr.specs.BStr.{bstr_bytes};
-ghost use Rattle.attr_glob.specs.Bases.{base_of, place_after, rest_below, folder, below_root, with_slash};
+ghost use Rattle.attr_glob.specs.Bases.{base_of, rest_below, folder, below_root, with_slash};
+ghost use Rattle.attr_glob.specs.inner.PlacesAfter.{place_after};
 ghost use Rattle.attr_glob.specs.BaseNames.{base_name_place};
 ghost use Rattle.attr_glob.specs.Clones.{IsMappingClone, AreMappingClones};
 ghost use Rattle.attr_glob.specs.Views.{base_bytes};
@@ -14,7 +15,6 @@ pub use crate::search::pattern::index::{Index, IndexBuffers};
 use bstr::BStr;
 use std::alloc::{AllocError, Global};
 
-mod chains;
 mod index;
 pub mod laws;
 
@@ -71,7 +71,8 @@ impl<T: search::Pattern + Drop> List<T> {
         root: Option<&str>,
         parse: T,
     ) -> Result<(List<T>, Vec<T::Dropped>), AllocError>
-        ensures patterns { IfOk result (λ r. T.reads parse bytes.now r.0.patterns.items r.1.items) }
+        ensures patterns { IfOk result (λ r.
+            T.reads parse bytes.now (string_bytes source) r.0.patterns.items r.1.items) }
         ensures source { IfOk result (λ r. r.0.source ≡ Some source) }
         ensures base { IfOk result (λ r.
             base_bytes r.0.base ≡ base_of (string_bytes source) (option_copied root.entry)) }

@@ -3,7 +3,8 @@
 ghost use Rattle.std.specs.Prelude.{◌≡◌, ◌≤◌, ◌<◌, ◌^◌, ◌||◌, ◌∷◌, [], ℕ, Bool, List, IfSome, IfNone, true, false, length, position};
 ghost use Rattle.attr_glob.specs.Patterns.{is_slash};
 ghost use Rattle.attr_glob.specs.Tokens.{dirs};
-ghost use Rattle.attr_glob.specs.TokenList.{token_of, tokens_of, is_bordered};
+ghost use Rattle.attr_glob.specs.TokenList.{token_of, tokens_of};
+ghost use Rattle.attr_glob.specs.inner.Bordered.{is_bordered};
 ghost use Rattle.attr_glob.specs.Deciding.{slash_then, matches};
 
 use crate::pattern::{self, Case};

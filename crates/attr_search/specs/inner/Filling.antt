@@ -8,8 +8,11 @@ use Rattle.attr_table.specs.inner.Walk.{Task, Searches, left_in}
 use Rattle.attr_search.specs.declared.matching_line.MatchingLine.{MatchingLine}
 use Rattle.attr_search.specs.declared.matching_line.PendingItem.{PendingItem}
 use Rattle.attr_search.specs.declared.slot_filler.SlotFiller.{SlotFiller}
-use Rattle.attr_search.specs.Settings.{AreNamed, BodiesAreNamed, BodiesHaveSlots, HaveSlots, HeldAreNamed}
-use Rattle.attr_search.specs.Slots.{slots_of, bodies_view}
+use Rattle.attr_search.specs.Settings.{BodiesAreNamed, HaveSlots, HeldAreNamed}
+use Rattle.attr_lists.specs.Numbers.{AreNamed}
+use Rattle.attr_search.specs.inner.Slotted.{BodiesHaveSlots}
+use Rattle.attr_search.specs.Slots.{slots_of}
+use Rattle.attr_search.specs.inner.Slotted.{bodies_view}
 use Rattle.attr_search.specs.inner.Pending.{IsPlaced, line_origin, pending_tasks, table_bodies, task_of}
 use Rattle.attr_search.specs.inner.SlotContents.{wanted_numbers}
 

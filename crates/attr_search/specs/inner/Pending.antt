@@ -10,7 +10,8 @@ use Rattle.attr_table.specs.inner.Walk.{Task, backwards, tasks_in, free_items}
 use Rattle.attr_search.specs.declared.matching_line.PendingItem.{PendingItem}
 use Rattle.attr_search.specs.declared.matching_line.MatchingLine.{MatchingLine}
 use Rattle.attr_search.specs.Matches.{is_macro_kind, cause_of}
-use Rattle.attr_search.specs.Slots.{Matched, origin_of, table_item, table_items, bodies_view}
+use Rattle.attr_search.specs.Slots.{Matched, table_item, table_items}
+use Rattle.attr_search.specs.inner.Slotted.{origin_of, bodies_view}
 
 -- the line that a match refers to
 abbrev pub line_origin : MatchingLine → Origin

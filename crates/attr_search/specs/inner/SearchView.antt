@@ -1,7 +1,7 @@
 -- The content of a search's state, and that its bodies fit its slots (own).
 use Rattle.std.specs.Prelude.{length}
 use Rattle.attr_search.specs.SearchContents.{SearchContents}
-use Rattle.attr_search.specs.Slots.{bodies_view}
+use Rattle.attr_search.specs.inner.Slotted.{bodies_view}
 use Rattle.attr_search.specs.inner.Filling.{BodiesFit}
 use Rattle.attr_search.specs.declared.search_state.SearchState.TheInside.{Inside}
 

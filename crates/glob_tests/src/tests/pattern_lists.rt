@@ -1,4 +1,6 @@
 //! Worked rows: lists of patterns, their bases, and their index.
+ghost use Rattle.std.specs.Prelude.{◌≡◌, [], ◌∷◌, IfOk, map, string_bytes};
+
 use attr_glob::pattern::Case;
 use attr_glob::search::pattern::{Index, IndexBuffers, List, Mapping};
 use attr_glob::{Pattern, search};
@@ -17,7 +19,7 @@ impl search::Pattern for Lines {
 
     ghost use Rattle.std.specs.Prelude.{⊤};
 
-    ghost reads = { λ parse bytes patterns dropped. ⊤ };
+    ghost reads = { λ parse bytes source patterns dropped. ⊤ };
 
     fn bytes_to_patterns(
         &self,
@@ -39,6 +41,50 @@ impl search::Pattern for Lines {
         }
         Ok((patterns, dropped))
     }
+}
+
+// No mappings: the file that was read is reported.
+#[derive(PartialEq, Eq, PartialOrd, Ord, Hash, Debug, Drop)]
+struct FileName;
+
+impl search::Pattern for FileName {
+    type Value = u8;
+
+    type Dropped = String;
+
+    ghost use Rattle.std.specs.Prelude.{◌≡◌, List, [], ◌∷◌, map, string_bytes};
+
+    ghost reads = { λ parse bytes source patterns dropped.
+        (patterns ≡ []) × (map string_bytes dropped ≡ source ∷ []) };
+
+    fn bytes_to_patterns(
+        &self,
+        alloc: Global,
+        _bytes: &[u8],
+        source: &str,
+    ) -> Result<(Vec<Mapping<u8>>, Vec<String>), AllocError> {
+        let mut names = Vec::new(alloc);
+        names.push(String::from_str(alloc, source)?)?;
+        Ok((Vec::new(alloc), names))
+    }
+}
+
+// The file from which a list is read, as the list's parser sees it.
+fn file_read(alloc: Global, source: String) -> Result<Vec<String>, AllocError>
+    ensures { IfOk result (λ names. map string_bytes names.items ≡ string_bytes source ∷ []) }
+{
+    let (_, names) = List::from_bytes(alloc, b"* a", source, Some(""), FileName)?;
+    Ok(names)
+}
+
+#[test]
+fn sources_reach_the_parser(rt: HostRuntime) -> Result<(), Fail> {
+    for source in ["", ".gitattributes", "sub/.gitattributes"] {
+        let names = file_read(rt.alloc(), String::from_str(rt.alloc(), source)?)?;
+        assert_eq!(rt; names.len(), 1);
+        assert_eq!(rt; names[0].as_str(), source);
+    }
+    Ok(())
 }
 
 #[test]

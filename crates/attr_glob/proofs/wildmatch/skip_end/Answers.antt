@@ -1,6 +1,7 @@
 use Rattle.std.proofs.Common.{◌≡◌, true, [], ◌∷◌, ◌++◌, ◌&&◌, sym, ap, subst, ◌∙◌, arith}
 use Rattle.attr_glob.specs.Deciding.{matches}
-use Rattle.attr_glob.specs.TokenList.{token_of, tokens_of, is_bordered}
+use Rattle.attr_glob.specs.TokenList.{token_of, tokens_of}
+use Rattle.attr_glob.specs.inner.Bordered.{is_bordered}
 use Rattle.attr_glob.proofs.TokenLemmas.{tokens_of-push}
 use Rattle.attr_glob.proofs.Ends.{end_step, end_none, bordered-init}
 use Rattle.attr_glob.proofs.wildmatch.skip_end.Goals as goal

@@ -1,7 +1,8 @@
 -- What is left matches exactly where all did.
 use Rattle.std.proofs.Common.{◌≡◌, ◌≤◌, true, length}
 use Rattle.attr_glob.specs.Deciding.{matches}
-use Rattle.attr_glob.specs.TokenList.{tokens_of, is_bordered}
+use Rattle.attr_glob.specs.TokenList.{tokens_of}
+use Rattle.attr_glob.specs.inner.Bordered.{is_bordered}
 use Rattle.attr_glob.proofs.wildmatch.skip_end.Given as goal
 
 abbrev pub invariant-loop-token : goal.invariant-loop-token

@@ -1,5 +1,6 @@
 use Rattle.std.proofs.Common.{◌≡◌, true, ◌∷◌, sym, ap, subst, ◌∙◌, arith}
-use Rattle.attr_glob.specs.TokenList.{token_of, tokens_of, is_bordered}
+use Rattle.attr_glob.specs.TokenList.{token_of, tokens_of}
+use Rattle.attr_glob.specs.inner.Bordered.{is_bordered}
 use Rattle.attr_glob.proofs.Ends.{front_step, bordered-tail}
 use Rattle.attr_glob.proofs.wildmatch.skip_front.Goals as goal
 

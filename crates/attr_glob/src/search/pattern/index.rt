@@ -1,16 +1,19 @@
 //! Which patterns of a list a path has to be matched against.
 
 ghost use Rattle.std.specs.Prelude.{◌≡◌, ◌↔◌, ◌++◌, IfOk, OnOk, OnErr, IsTrue, map};
-ghost use Rattle.std.specs.Char.{to_ascii_lowercase};
 ghost use Rattle.bstr.specs.BStr.{bstr_bytes};
 ghost use Rattle.attr_glob.specs.BaseNames.{base_name, base_name_place};
 ghost use Rattle.attr_glob.specs.Candidates.{candidates, AppendsPlaces};
 ghost use Rattle.attr_glob.specs.Views.{pattern_view, patterns_of};
+ghost use Rattle.attr_keys.specs.inner.LineKeys.{shape_content};
+ghost use Rattle.attr_glob.specs.inner.LineShapes.{folds, shape_reading};
 
-use crate::pattern::{Case, base_name};
+use crate::pattern::{Case, Mode, base_name};
 use crate::search::pattern::List;
-use crate::search::pattern::chains::Chains;
 use crate::{Pattern, search};
+use attr_keys::key_index::{KeyIndex, Texts};
+use attr_keys::line_key::{Shape, candidate_key};
+use bitflags::Flags;
 use bstr::BStr;
 use std::alloc::{AllocError, Global};
 use std::marker::Model;
@@ -20,8 +23,7 @@ use std::marker::Model;
 #[derive(Debug, Drop)]
 pub struct Index {
     patterns: Vec<Pattern>,
-    exact: Chains,
-    folded: Chains,
+    keys: KeyIndex,
 }
 
 impl Model for Index {
@@ -41,16 +43,16 @@ impl Model for Index {
 /// Buffers for the searches in an index, so that they need not grow for each path.
 #[derive(Debug, Drop)]
 pub struct IndexBuffers {
-    base: Vec<u8>,
-    heads: Vec<Option<usize>>,
+    turned: Vec<u8>,
+    found: Vec<usize>,
 }
 
 impl IndexBuffers {
     /// Empty buffers, for which no memory is taken.
     pub fn new(alloc: Global) -> IndexBuffers {
         IndexBuffers {
-            base: Vec::new(alloc),
-            heads: Vec::new(alloc),
+            turned: Vec::new(alloc),
+            found: Vec::new(alloc),
         }
     }
 }
@@ -74,12 +76,13 @@ impl Index {
     fn from_patterns(alloc: Global, patterns: Vec<Pattern>) -> Result<Index, AllocError>
         ensures { IfOk result (λ index. index ≡ map pattern_view patterns.items) }
     {
-        let exact = Chains::of(alloc, &patterns, Case::Sensitive)?;
-        let folded = Chains::of(alloc, &patterns, Case::Fold)?;
+        let mut keys = Vec::new(alloc);
+        for pattern in &patterns {
+            keys.push(candidate_key(alloc, shape_of(pattern))?)?;
+        }
         Ok(Index {
             patterns,
-            exact,
-            folded,
+            keys: KeyIndex::of(alloc, keys)?,
         })
     }
 
@@ -140,14 +143,14 @@ impl Index {
             places.new.items ≡ places.old.items ++ candidates case base_name.now self.now) }
         ensures err { OnErr result (AppendsPlaces places.old.items places.new.items) }
     {
-        match case {
-            Case::Sensitive => self.exact.append(base_name, &mut buffers.heads, places),
-            Case::Fold => {
-                fold_into(base_name, &mut buffers.base)?;
-                self.folded
-                    .append(&buffers.base, &mut buffers.heads, places)
-            }
-        }
+        let texts = Texts {
+            name: base_name,
+            path: base_name,
+            fold: folds(case),
+        };
+        self.keys
+            .find(texts, &mut buffers.turned, &mut buffers.found)?;
+        places.extend_from_slice(&buffers.found)
     }
 }
 
@@ -157,13 +160,26 @@ fn is_same_pattern(x: &Pattern, y: &Pattern) -> bool
     x == y
 }
 
-// The text with small letters, in place of what the buffer had.
-fn fold_into(text: &[u8], buffer: &mut Vec<u8>) -> Result<(), AllocError>
-    ensures { OnOk result (buffer.new.items ≡ map to_ascii_lowercase text.now) }
+// Whether letters of different case are the same.
+fn folds(case: Case) -> bool
+    ensures { result ≡ folds case }
 {
-    buffer.clear();
-    for byte in text {
-        buffer.push(byte.to_ascii_lowercase())?;
+    match case {
+        Case::Sensitive => false,
+        Case::Fold => true,
     }
-    Ok(())
+}
+
+// What the key of a line with this pattern is made of.
+fn shape_of(pattern: &Pattern) -> Shape<'_>
+    ensures { shape_content result ≡ shape_reading (pattern_view pattern.now) }
+{
+    let mode = pattern.mode;
+    Shape {
+        text: &pattern.text,
+        wildcard: pattern.first_wildcard_pos,
+        is_macro: mode.contains(Mode::MACRO),
+        asks_name: mode.contains(Mode::NO_SUB_DIR) && !mode.contains(Mode::ABSOLUTE),
+        is_end: mode.contains(Mode::ENDS_WITH),
+    }
 }

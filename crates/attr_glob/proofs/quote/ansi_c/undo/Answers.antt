@@ -4,6 +4,7 @@ use Rattle.std.proofs.lemmas.Slice.{between_to_end}
 use Rattle.attr_glob.specs.Bytes.{quote}
 use Rattle.attr_glob.specs.Quotes.{is_mark, BeginsQuoted}
 use Rattle.attr_glob.proofs.Fronts.{undone-unmarked, undone-marked, HoldsEscape-marked, HoldsEscape-Contains, no_escape}
+use Rattle.attr_glob.proofs.UndoneTexts.{IsQuoted-undone, IsQuoted-inside}
 use Rattle.attr_glob.proofs.quote.ansi_c.undo.Goals as goal
 
 pub returns-in_default-first_mark-clause-refused : goal.returns-in_default-first_mark-clause-refused
@@ -21,6 +22,24 @@ returns-then-tail-front_len-eq34-clause-value c =
     let at_quote = rw tail at c.if-tail-front_len-eq34.true in
     let found = ap (position is_mark) (sym tail) ∙ sym c.in-Some.ensures in
     rw (← c.as_bytes-text.ensures, tail) (undone-marked text c.in-Some.front_len quoted found at_quote)
+
+pub returns-then-tail-front_len-eq34-clause-quoted : goal.returns-then-tail-front_len-eq34-clause-quoted
+returns-then-tail-front_len-eq34-clause-quoted c =
+    let text = c.as_bytes-text.result.now in
+    let tail = between_to_end text 1 (length text) (omega arith) in
+    let quoted : BeginsQuoted text = omega arith in
+    let at_quote = rw tail at c.if-tail-front_len-eq34.true in
+    let found = ap (position is_mark) (sym tail) ∙ sym c.in-Some.ensures in
+    rw (← c.as_bytes-text.ensures, tail) (IsQuoted-undone text _ _ (undone-marked text c.in-Some.front_len quoted found at_quote))
+
+pub returns-clause-quoted : goal.returns-clause-quoted
+returns-clause-quoted c = rw (← c.as_bytes-text.ensures) (IsQuoted-undone c.as_bytes-text.result.now _ _ c.in_ok-plain.ensures.value)
+
+pub returns-clause-inside : goal.returns-clause-inside
+returns-clause-inside c =
+    let text = c.as_bytes-text.result.now in
+    let quoted = IsQuoted-undone text _ _ c.in_ok-plain.ensures.value in
+    rw (← c.as_bytes-text.ensures) (IsQuoted-inside text _ _ quoted)
 
 pub returns-then-tail-front_len-eq34-clause-lent : goal.returns-then-tail-front_len-eq34-clause-lent
 returns-then-tail-front_len-eq34-clause-lent c =

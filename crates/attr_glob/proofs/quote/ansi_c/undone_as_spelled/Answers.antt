@@ -1,20 +1,10 @@
 -- Each text is one of four, and each of the four has one answer.
-use Rattle.std.proofs.Common.{◌≡◌, ℕ, List, Ok, Err, ap}
-use Rattle.attr_glob.specs.Quotes.{undone, IsQuoted, IsUnclosed, IsBadEscape, BeginsQuoted, not_quoted, unclosed, bad_escape}
+use Rattle.std.proofs.Common.{◌≡◌, ℕ, List, Err}
+use Rattle.attr_glob.specs.Quotes.{undone, IsUnclosed, IsBadEscape, BeginsQuoted, not_quoted, unclosed, bad_escape}
 use Rattle.attr_glob.proofs.Outcomes.{undone-IsQuoted, undone-IsUnclosed, undone-IsBadEscape, undone-unquoted, Outcome, quoted, ends, bad, plain_text}
 use Rattle.attr_glob.proofs.Outcomes.{outcome}
+use Rattle.attr_glob.proofs.UndoneTexts.{IsQuoted-undone}
 use Rattle.attr_glob.proofs.quote.ansi_c.undone_as_spelled.Goals as goal
-
-IsQuoted-undone : (text plain : List ℕ) (taken : ℕ) → Outcome text → undone text ≡ Ok (plain, taken) → IsQuoted text plain taken
-IsQuoted-undone text plain taken (quoted plain' taken' q) e =
-    let e' = undone-IsQuoted text plain' taken' q in
-    let pair : ◌≡◌ {A = List ℕ × ℕ} (plain', taken') (plain, taken) = cc in
-    let same_plain : plain' ≡ plain = ap (λ p. p.0) pair in
-    let same_taken : taken' ≡ taken = ap (λ p. p.1) pair in
-    rw (same_plain, same_taken) at q
-IsQuoted-undone text plain taken (ends u) e = let e' = undone-IsUnclosed text u in absurd cc
-IsQuoted-undone text plain taken (bad place b) e = let e' = undone-IsBadEscape text place b in absurd cc
-IsQuoted-undone text plain taken (plain_text n) e = let e' = undone-unquoted text n in absurd cc
 
 IsUnclosed-undone : (text : List ℕ) → Outcome text → undone text ≡ Err unclosed → IsUnclosed text
 IsUnclosed-undone text (quoted plain taken q) e = let e' = undone-IsQuoted text plain taken q in absurd cc
@@ -39,7 +29,7 @@ unquoted-undone text (plain_text n) e = n
 
 pub returns : goal.returns
 returns c = record {
-  quoted = λ text plain taken. (IsQuoted-undone text plain taken (outcome text), undone-IsQuoted text plain taken);
+  quoted = λ text plain taken. (IsQuoted-undone text plain taken, undone-IsQuoted text plain taken);
   not_quoted = λ text. (unquoted-undone text (outcome text), undone-unquoted text);
   unclosed = λ text. (IsUnclosed-undone text (outcome text), undone-IsUnclosed text);
   bad_escape = λ text place. (IsBadEscape-undone text place (outcome text), undone-IsBadEscape text place);

@@ -1,7 +1,8 @@
 use Rattle.std.proofs.Common.{◌≡◌, ◌+◌, ◌≤◌, suc, length, true, Some, [], ◌∷◌, ◌++◌, arith, ap, sym, ◌∙◌, refl}
 use Rattle.std.proofs.lemmas.List.{length_push}
 use Rattle.attr_glob.specs.Tokens.{tokens_from, token_at, token_ends_in_slash}
-use Rattle.attr_glob.specs.TokenList.{token_of, tokens_of, is_bordered}
+use Rattle.attr_glob.specs.TokenList.{token_of, tokens_of}
+use Rattle.attr_glob.specs.inner.Bordered.{is_bordered}
 use Rattle.attr_glob.proofs.TokenLemmas.{after, after-nil, tokens_more, tokens_of-push, length-tokens_of, bordered-push, border_after}
 use Rattle.attr_glob.proofs.TokenLemmas.{border_after-push, token_at-fits, fits_border}
 use Rattle.attr_glob.proofs.token.Tokens.read.Goals as goal

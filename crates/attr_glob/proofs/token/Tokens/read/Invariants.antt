@@ -1,6 +1,7 @@
 use Rattle.std.proofs.Common.{◌≡◌, ◌≤◌, ◌+◌, ℕ, true, length}
 use Rattle.attr_glob.specs.Tokens.{tokens_from}
-use Rattle.attr_glob.specs.TokenList.{tokens_of, is_bordered}
+use Rattle.attr_glob.specs.TokenList.{tokens_of}
+use Rattle.attr_glob.specs.inner.Bordered.{is_bordered}
 use Rattle.attr_glob.proofs.TokenLemmas.{after, border_after}
 use Rattle.attr_glob.proofs.token.Tokens.read.Given as goal
 

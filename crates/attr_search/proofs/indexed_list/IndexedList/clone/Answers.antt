@@ -1,8 +1,9 @@
-use Rattle.std.proofs.Common.{◌≡◌, ◌∙◌, sym, ap, subst}
+use Rattle.std.proofs.Common.{◌≡◌, ◌∙◌, sym, ap, subst, map}
 use Rattle.std.proofs.Math.Logic.{∥∥₁_map}
 use Rattle.attr_glob.specs.Views.{patterns_of}
 use Rattle.attr_lists.specs.ListViews.{entries_view}
-use Rattle.attr_search.specs.Settings.{AreRead}
+use Rattle.attr_search.specs.inner.ReadLines.{AreRead}
+use Rattle.attr_search.specs.inner.Trying.{key_of_line}
 use Rattle.attr_search.proofs.IndexedListLemmas.{copied_lines, copied_list}
 use Rattle.attr_search.proofs.indexed_list.IndexedList.clone.Goals as goal
 
@@ -12,8 +13,8 @@ invariant_of-result c =
     let lines : entries_view c.in_ok-list.list.patterns.items ≡ entries_view own =
     copied_lines own c.in_ok-list.list.patterns.items c.in_ok-list.ensures.patterns in
     record {
-      indexed = c.in_ok-index.ensures;
-      matched = c.in_ok-matchers.ensures ∙ ap patterns_of c.deref.ensures.value;
+      keyed = c.in_ok-keys.ensures ∙ ap (λ ms. map key_of_line (patterns_of ms)) c.deref.ensures.value;
+      matched = c.in_ok-matchers.ensures ∙ ap patterns_of c.deref-2.ensures.value;
       read = ∥∥₁_map c.args.self.now.read (subst AreRead (sym lines));
     }
 

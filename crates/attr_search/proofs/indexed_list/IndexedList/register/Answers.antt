@@ -1,9 +1,10 @@
-use Rattle.std.proofs.Common.{◌≡◌, ◌∙◌, sym, ap, subst, length}
+use Rattle.std.proofs.Common.{◌≡◌, ◌∙◌, sym, ap, subst, length, map}
 use Rattle.attr_glob.specs.Views.{patterns_of}
 use Rattle.attr_lists.specs.ListViews.{entries_view}
 use Rattle.attr_lists.specs.Numbers.{numbered_lines}
 use Rattle.attr_lists.specs.Definitions.{with_list, HoldsList}
-use Rattle.attr_search.specs.Settings.{AreRead}
+use Rattle.attr_search.specs.inner.ReadLines.{AreRead}
+use Rattle.attr_search.specs.inner.Trying.{key_of_line}
 use Rattle.attr_search.proofs.IndexedListLemmas.{numbered_lines_read, numbered_read, numbered_length, written}
 use Rattle.attr_search.proofs.indexed_list.IndexedList.register.Goals as goal
 
@@ -17,8 +18,8 @@ invariant_of-result c =
     (numbered_length names before after numbered) in
     let same = ap patterns_of whole ∙ numbered_lines_read names before after numbered in
     record {
-      indexed = c.in_ok-index.ensures ∙ sym same;
-      matched = c.in_ok-matchers.ensures ∙ ap patterns_of c.deref.ensures.value ∙ sym same;
+      keyed = c.in_ok-keys.ensures ∙ ap (λ ms. map key_of_line (patterns_of ms)) c.deref.ensures.value ∙ sym (ap (map key_of_line) same);
+      matched = c.in_ok-matchers.ensures ∙ ap patterns_of c.deref-2.ensures.value ∙ sym same;
       read = ∣ subst AreRead (sym (ap entries_view whole ∙ numbered)) (numbered_read names (entries_view before) c.requires.read) ∣₁;
     }
 

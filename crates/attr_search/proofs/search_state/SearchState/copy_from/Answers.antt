@@ -1,5 +1,5 @@
 use Rattle.std.proofs.Common.{◌∙◌, ap, length}
-use Rattle.attr_search.specs.Slots.{bodies_view}
+use Rattle.attr_search.specs.inner.Slotted.{bodies_view}
 use Rattle.attr_search.proofs.FillingLemmas.{copies_fit}
 use Rattle.attr_search.proofs.search_state.SearchState.copy_from.Goals as goal
 

@@ -1,9 +1,8 @@
-use Rattle.std.proofs.Common.{◌∙◌, refl}
+use Rattle.std.proofs.Common.{refl}
 use Rattle.std.proofs.lemmas.Result.{on_ok_weaker}
 use Rattle.bstr.specs.BStr.{bstr_bytes}
-use Rattle.attr_glob.specs.BaseNames.{base_name}
 use Rattle.attr_search.specs.IndexedLists.{listed_view}
-use Rattle.attr_search.proofs.CandidateLemmas.{candidates_fit, tested_most}
+use Rattle.attr_search.proofs.CandidateLemmas.{tried_fit, tested_most}
 use Rattle.attr_search.proofs.SearchedLemmas.{list_apart, list_by_candidates, state_kept}
 use Rattle.attr_search.proofs.search_state.SearchState.search_list.Goals as goal
 
@@ -18,7 +17,7 @@ returns-in_err-places-clause-kept c = rw c.find_candidates.ensures.unchanged (st
 
 pub search_places-searched-requires-clause-places : goal.search_places-searched-requires-clause-places
 search_places-searched-requires-clause-places c =
-    rw c.deref.ensures.value (candidates_fit c.in-Some.rest.case (base_name (bstr_bytes c.in-Some.rest.path))
+    rw c.deref.ensures.value (tried_fit c.in-Some.rest.case (bstr_bytes c.in-Some.rest.path)
     c.args.list.now.list.patterns.items c.in_ok-places.places.items c.in_ok-places.ensures.places)
 
 pub search_places-searched-requires-clause-in_lines : goal.search_places-searched-requires-clause-in_lines
@@ -35,7 +34,7 @@ returns-clause-named c =
 pub returns-clause-tested : goal.returns-clause-tested
 returns-clause-tested c =
     let list = c.args.list.now in
-    let found = c.deref.ensures.value ∙ c.in_ok-places.ensures.places in
+    let found = rw (← c.deref.ensures.value) at c.in_ok-places.ensures.places in
     rw c.keep_buffer.ensures (on_ok_weaker c.search_places-searched.result
     (λ tested. tested_most c.args.query.case c.in-Some.rest.case (bstr_bytes c.args.query.path) (bstr_bytes c.in-Some.rest.path)
     (listed_view list) list.list.patterns.items c.deref.result.now c.args.self.now.tested c.search_places-searched.new.self.tested refl
@@ -44,7 +43,7 @@ returns-clause-tested c =
 
 pub returns-clause-searched : goal.returns-clause-searched
 returns-clause-searched c =
-    let found = c.deref.ensures.value ∙ c.in_ok-places.ensures.places in
+    let found = rw (← c.deref.ensures.value) at c.in_ok-places.ensures.places in
     rw c.keep_buffer.ensures (on_ok_weaker c.search_places-searched.result
     (λ searched. list_by_candidates c.args.query c.in-Some.rest c.args.list.now c.deref.result.now c.args.self.now
     c.search_places-searched.new.self c.in-Some.ensures.path c.in-Some.ensures.case c.in-Some.ensures.is_dir found searched)

@@ -1,7 +1,7 @@
 use Rattle.std.proofs.Common.{◌∙◌, ap, length, refl}
 use Rattle.std.proofs.lemmas.List.Elements.{All-nil}
 use Rattle.std.proofs.lemmas.Result.{on_ok_weaker}
-use Rattle.attr_search.specs.Slots.{bodies_view}
+use Rattle.attr_search.specs.inner.Slotted.{bodies_view}
 use Rattle.attr_search.specs.inner.Filling.{filler_slots}
 use Rattle.attr_search.specs.inner.Pending.{IsPlaced, line_origin}
 use Rattle.attr_search.proofs.FillingLemmas.{line_walked}

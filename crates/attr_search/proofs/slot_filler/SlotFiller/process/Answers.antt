@@ -2,7 +2,8 @@ use Rattle.std.proofs.Common.{◌∙◌, ap, sym, length, refl, []}
 use Rattle.std.proofs.Math.ListN.{length-set}
 use Rattle.std.specs.Prelude.{slice_index_or}
 use Rattle.std.proofs.lemmas.Result.{on_ok_weaker}
-use Rattle.attr_search.specs.Slots.{slots_of, bodies_view}
+use Rattle.attr_search.specs.Slots.{slots_of}
+use Rattle.attr_search.specs.inner.Slotted.{bodies_view}
 use Rattle.attr_search.specs.inner.Pending.{line_origin, pending_item, table_bodies}
 use Rattle.attr_search.specs.inner.Filling.{stack_tasks}
 use Rattle.attr_search.proofs.FillingLemmas.{has_slot, item_filled, less_closed, less_open, named_fill, step_closed, step_open, step_skip}

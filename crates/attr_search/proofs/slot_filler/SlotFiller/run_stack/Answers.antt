@@ -1,5 +1,5 @@
 use Rattle.std.proofs.Common.{◌∙◌, sym, refl, arith}
-use Rattle.attr_search.specs.Slots.{bodies_view}
+use Rattle.attr_search.specs.inner.Slotted.{bodies_view}
 use Rattle.attr_search.specs.inner.Filling.{filler_slots, stack_tasks}
 use Rattle.attr_search.specs.inner.Pending.{line_origin, table_bodies}
 use Rattle.attr_search.specs.inner.SlotContents.{wanted_numbers}

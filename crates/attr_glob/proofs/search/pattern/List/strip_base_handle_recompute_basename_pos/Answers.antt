@@ -1,7 +1,7 @@
 -- The base name's place is seen after the base, as the place in the path is.
 use Rattle.std.proofs.Common.{◌≡◌, length, drop, ap, ◌∙◌, sym, arith}
 use Rattle.bstr.specs.BStr.{bstr_bytes}
-use Rattle.attr_glob.specs.Bases.{place_after}
+use Rattle.attr_glob.specs.inner.PlacesAfter.{place_after}
 use Rattle.attr_glob.specs.BaseNames.{base_name_place}
 use Rattle.attr_glob.proofs.Places.{base_name_place-drop}
 use Rattle.attr_glob.proofs.search.pattern.List.strip_base_handle_recompute_basename_pos.Goals as goal

@@ -1,0 +1,59 @@
+-- A base name has the key of a line just if the line is a candidate.
+use Rattle.std.proofs.Common.{◌≡◌, ℕ, zero, suc, List, [], ◌∷◌, ◌++◌, refl, ap, ◌∙◌, map}
+use Rattle.std.proofs.Common.{Result, Ok, Err, OnOk}
+use Rattle.std.specs.Prelude.{is_none, is_ok, slice_get, if◌then◌else◌}
+use Rattle.attr_keys.specs.declared.key.Subject.TheVariants.{Name}
+use Rattle.attr_keys.specs.inner.LineKeys.{candidate_content}
+use Rattle.attr_keys.specs.KeyContents.{KeyContent}
+use Rattle.attr_keys.specs.inner.Meeting.{content_met, content_met_at}
+use Rattle.attr_keys.specs.inner.Rows.{has_row, IsFalling}
+use Rattle.attr_glob.specs.declared.pattern.Case.{Case}
+use Rattle.attr_glob.specs.Candidates.{has_macro_mode, matches_base_name, is_candidate, candidates}
+use Rattle.attr_glob.specs.Patterns.{Reading, has_flag, ends_with}
+use Rattle.attr_glob.specs.declared.pattern.Pattern.{Pattern}
+use Rattle.attr_glob.specs.Views.{pattern_view}
+use Rattle.attr_glob.specs.inner.LineShapes.{folds, shape_reading}
+use Rattle.attr_glob.proofs.Basics.{by_test}
+use Rattle.attr_glob.proofs.FallingPlaces.{falling_places, passes}
+use Rattle.attr_glob.proofs.KeyTexts.{whole_met, end_met}
+
+pub candidate_met : (case : Case) (base : List ℕ) (line : Reading) →
+    content_met (folds case) base base (candidate_content (shape_reading line)) ≡ is_candidate case base line
+candidate_met case base line =
+    by_test (has_macro_mode line)
+    (λ m. rw m refl)
+    (λ m. by_test (matches_base_name line)
+    (λ n. by_test (is_none line.wildcard)
+    (λ w. rw (m, n, w) (whole_met case Name line.text base))
+    (λ w. by_test (has_flag line.mode ends_with)
+    (λ e. rw (m, n, w, e) (end_met case base _))
+    (λ e. rw (m, n, w, e) refl)))
+    (λ n. rw (m, n) refl))
+
+met_at : (case : Case) (base : List ℕ) (lines : List Reading) (row : ℕ) →
+    content_met_at (folds case) base base (slice_get (map (λ line. candidate_content (shape_reading line)) lines) row)
+    ≡ passes (is_candidate case base) (slice_get lines row)
+met_at case base [] row = refl
+met_at case base (line ∷ lines) zero = candidate_met case base line
+met_at case base (line ∷ lines) (suc row) = met_at case base lines row
+
+-- the places that were found by the keys of lines are those of the candidates
+pub found_candidates : (case : Case) (base : List ℕ) (lines : List Reading) (keys : List KeyContent) (found : List ℕ) →
+    keys ≡ map (λ line. candidate_content (shape_reading line)) lines → IsFalling found →
+    ((row : ℕ) → has_row found row ≡ content_met_at (folds case) base base (slice_get keys row)) → found ≡ candidates case base lines
+found_candidates case base lines keys found is down has =
+    falling_places (is_candidate case base) lines found down
+    (λ row. has row ∙ (ap (λ l. content_met_at (folds case) base base (slice_get l row)) is ∙ met_at case base lines row))
+
+pub appended : {T E : Type 0} (r : Result T E) (new old more wanted : List ℕ) → new ≡ (if is_ok r then old ++ more else old) → more ≡ wanted →
+    OnOk r (new ≡ old ++ wanted)
+appended (Ok x) new old more wanted e same = e ∙ ap (λ l. old ++ l) same
+appended (Err x) new old more wanted e same = tt
+
+-- the keys of patterns
+abbrev pub key_of_pattern : Pattern → KeyContent
+key_of_pattern pattern = candidate_content (shape_reading (pattern_view pattern))
+
+pub keys_of_views : (patterns : List Pattern) → map key_of_pattern patterns ≡ map (λ line. candidate_content (shape_reading line)) (map pattern_view patterns)
+keys_of_views [] = refl
+keys_of_views (p ∷ ps) = ap (λ l. key_of_pattern p ∷ l) (keys_of_views ps)

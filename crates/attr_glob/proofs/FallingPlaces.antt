@@ -1,0 +1,122 @@
+-- Places that fall and are just those of the lines that pass a test.
+use Rattle.std.proofs.Common.{◌≡◌, ◌≢◌, ℕ, zero, suc, ◌+◌, ◌<◌, ◌≤◌, Bool, true, false, ◌||◌, List, [], ◌∷◌, ◌++◌, length, reverse, Option, Some, None}
+use Rattle.std.proofs.Common.{refl, sym, ap, ◌∙◌, arith, eqb}
+use Rattle.std.specs.Prelude.{slice_get}
+use Rattle.std.proofs.lemmas.Bool.{eqb-true}
+use Rattle.std.proofs.lemmas.Bool.Decides.{nat_tests}
+use Rattle.std.proofs.lemmas.List.{length-reverse, reverse-reverse}
+use Rattle.attr_keys.specs.inner.Rows.{has_row, IsFalling}
+use Rattle.attr_glob.specs.Candidates.{places_where}
+use Rattle.attr_glob.proofs.Basics.{by_test, reverse-cons}
+
+-- there is a line, which passes the test
+abbrev pub passes : {X : Type 0} → (X → Bool) → Option X → Bool
+passes test None = false
+passes test (Some line) = test line
+
+get_snoc_last : {X : Type 0} (xs : List X) (x : X) → slice_get (xs ++ x ∷ []) (length xs) ≡ Some x
+get_snoc_last [] x = refl
+get_snoc_last (y ∷ xs) x = get_snoc_last xs x
+
+get_snoc_other : {X : Type 0} (xs : List X) (x : X) (k : ℕ) → k ≢ length xs → slice_get (xs ++ x ∷ []) k ≡ slice_get xs k
+get_snoc_other [] x zero apart = absurd (apart refl)
+get_snoc_other [] x (suc k) apart = refl
+get_snoc_other (y ∷ xs) x zero apart = refl
+get_snoc_other (y ∷ xs) x (suc k) apart = get_snoc_other xs x k (λ e. apart (ap suc e))
+
+get_past : {X : Type 0} (xs : List X) (k : ℕ) → length xs ≤ k → slice_get xs k ≡ None
+get_past [] k le = refl
+get_past (x ∷ xs) zero le = absurd (omega arith)
+get_past (x ∷ xs) (suc k) le = get_past xs k (omega arith)
+
+passes_within : {X : Type 0} (test : X → Bool) (xs : List X) (k : ℕ) → passes test (slice_get xs k) ≡ true → k < length xs
+passes_within test [] k h = absurd cc
+passes_within test (x ∷ xs) zero h = omega arith
+passes_within test (x ∷ xs) (suc k) h = let lt = passes_within test xs k h in omega arith
+
+falling_tail : (p : ℕ) (ps : List ℕ) → IsFalling (p ∷ ps) → IsFalling ps
+falling_tail p ps down k lt =
+    let e : suc k + 1 ≡ suc (k + 1) = omega arith in
+    rw e at (down (suc k) (omega arith))
+
+below_head : (p : ℕ) (ps : List ℕ) → IsFalling (p ∷ ps) → (row : ℕ) → has_row ps row ≡ true → row < p
+below_head p [] down row h = absurd cc
+below_head p (q ∷ ps) down row h =
+    let lt : q < p = down 0 (omega arith) in
+    by_test (eqb q row)
+    (λ t. let e = eqb-true q row t in omega arith)
+    (λ f. let l = below_head q ps (falling_tail p (q ∷ ps) down) row (rw f at h) in omega arith)
+
+unequal : (a b : ℕ) → eqb a b ≡ false → a ≢ b
+unequal a b f e = grind (arith, nat_tests)
+
+apart : (a b : ℕ) → a ≢ b → eqb a b ≡ false
+apart a b ne = grind (arith, nat_tests)
+
+nothing_there : (found : List ℕ) → ((row : ℕ) → has_row found row ≡ false) → found ≡ []
+nothing_there [] none = refl
+nothing_there (p ∷ ps) none = absurd (clash (none p))
+  where
+    clash : eqb p p || has_row ps p ≡ false → ⊥
+    clash h = let t : eqb p p ≡ true = grind (arith, nat_tests) in let e : true ≡ false = rw t at h in cc
+
+length_snoc : {X : Type 0} (zs : List X) (x : X) → length (zs ++ x ∷ []) ≡ length zs + 1
+length_snoc [] x = refl
+length_snoc (z ∷ zs) x = let e = length_snoc zs x in omega arith
+
+-- the test passes at no further place
+fewer : {X : Type 0} (test : X → Bool) (ys : List X) (x : X) (found : List ℕ) →
+    has_row found (length ys) ≡ false → ((row : ℕ) → has_row found row ≡ passes test (slice_get (ys ++ x ∷ []) row)) →
+    (row : ℕ) → has_row found row ≡ passes test (slice_get ys row)
+fewer test ys x found none has row =
+    by_test (eqb row (length ys))
+    (λ t.
+    let e = eqb-true row (length ys) t in
+    ap (has_row found) e ∙ (none ∙ sym (ap (passes test) (get_past ys row (omega arith)))))
+    (λ f. has row ∙ ap (passes test) (get_snoc_other ys x row (unequal row (length ys) f)))
+
+places_by : {X : Type 0} (test : X → Bool) (rev : List X) (found : List ℕ) → IsFalling found →
+    ((row : ℕ) → has_row found row ≡ passes test (slice_get (reverse rev) row)) → found ≡ places_where test rev
+places_by test [] found down has = nothing_there found has
+places_by {X} test (x ∷ before) found down has =
+    let ys = reverse before in
+    let len : length ys ≡ length before = length-reverse before in
+    let has' : (row : ℕ) → has_row found row ≡ passes test (slice_get (ys ++ x ∷ []) row) =
+    λ row. has row ∙ ap (λ l. passes test (slice_get l row)) (reverse-cons x before) in
+    let last : has_row found (length ys) ≡ test x = has' (length ys) ∙ ap (passes test) (get_snoc_last ys x) in
+    by_test (test x)
+    (λ t. rw t (by_head (λ l d h. places_by test before l d h) found down has' (last ∙ t)))
+    (λ f. rw f (places_by test before found down (fewer test ys x found (last ∙ f) has')))
+  where
+    by_head : ((l : List ℕ) → IsFalling l → ((row : ℕ) → has_row l row ≡ passes test (slice_get (reverse before) row)) → l ≡ places_where test before) →
+        (l : List ℕ) → IsFalling l → ((row : ℕ) → has_row l row ≡ passes test (slice_get (reverse before ++ x ∷ []) row)) →
+        has_row l (length (reverse before)) ≡ true → l ≡ length before ∷ places_where test before
+    by_head go [] d h here = absurd cc
+    by_head go (p ∷ ps) d h here =
+        let ys = reverse before in
+        let len : length ys ≡ length before = length-reverse before in
+        let self : eqb p p ≡ true = grind (arith, nat_tests) in
+        let in_range : p < length (ys ++ x ∷ []) = passes_within test (ys ++ x ∷ []) p (sym (h p) ∙ ap (λ b. b || has_row ps p) self) in
+        let n : length (ys ++ x ∷ []) ≡ length ys + 1 = length_snoc ys x in
+        let same : p ≡ length ys =
+        by_test (eqb p (length ys)) (λ t. eqb-true p (length ys) t)
+        (λ f. let lt = below_head p ps d (length ys) (rw f at here) in absurd (omega arith)) in
+        let none : has_row ps (length ys) ≡ false =
+        by_test (has_row ps (length ys)) (λ t. let lt = below_head p ps d (length ys) t in absurd (omega arith)) (λ f. f) in
+        let rest : (row : ℕ) → has_row ps row ≡ passes test (slice_get ys row) =
+        λ row.
+        by_test (eqb row (length ys))
+        (λ t.
+        let e = eqb-true row (length ys) t in
+        ap (has_row ps) e ∙ (none ∙ sym (ap (passes test) (get_past ys row (omega arith)))))
+        (λ f.
+        let ne = unequal row (length ys) f in
+        let off : eqb p row ≡ false = apart p row (λ e. ne (sym e ∙ same)) in
+        sym (ap (λ b. b || has_row ps row) off) ∙ (h row ∙ ap (passes test) (get_snoc_other ys x row ne))) in
+        ap (λ q. q ∷ ps) (same ∙ len) ∙ ap (λ l. length before ∷ l) (go ps (falling_tail p ps d) rest)
+
+-- places that fall, and that pass the test, are those of the lines that pass it
+pub falling_places : {X : Type 0} (test : X → Bool) (lines : List X) (found : List ℕ) → IsFalling found →
+    ((row : ℕ) → has_row found row ≡ passes test (slice_get lines row)) → found ≡ places_where test (reverse lines)
+falling_places test lines found down has =
+    places_by test (reverse lines) found down (λ row. has row ∙ ap (λ l. passes test (slice_get l row)) (sym (reverse-reverse lines)))

@@ -1,0 +1,153 @@
+-- A text has a key if it is that text, begins with it or ends in it, under the case.
+use Rattle.std.proofs.Common.{◌≡◌, ℕ, zero, suc, ◌+◌, ◌-◌, ◌<◌, ◌≤◌, true, false, ◌&&◌, ◌==◌, ◌⊎◌, inl, inr, List, [], ◌∷◌, ◌++◌, length, take, drop, map, reverse}
+use Rattle.std.proofs.Common.{refl, sym, ap, ◌∙◌, arith, nat_eq}
+use Rattle.std.specs.Char.{to_ascii_lowercase}
+use Rattle.std.specs.Cmp.Lexicographic.{pointwise, bytes_decides}
+use Rattle.std.specs.List.{starts_with, ends_with}
+use Rattle.std.proofs.lemmas.Bool.Decides.{nat_tests}
+use Rattle.std.proofs.lemmas.List.{length-reverse, length-drop, reverse-append, reverse-reverse, take-append-drop}
+use Rattle.attr_keys.specs.declared.key.Subject.{Subject}
+use Rattle.attr_keys.specs.declared.key.Subject.TheVariants.{End}
+use Rattle.attr_keys.specs.inner.Codes.{byte_code}
+use Rattle.attr_keys.specs.inner.LineKeys.{whole_text, turned_end}
+use Rattle.attr_keys.specs.KeyContents.{KeyContent}
+use Rattle.attr_keys.specs.inner.Meeting.{has_content}
+use Rattle.attr_glob.specs.declared.pattern.Case.{Case}
+use Rattle.attr_glob.specs.declared.pattern.Case.TheVariants.{Sensitive, Fold}
+use Rattle.attr_glob.specs.Folding.{folded, same_text}
+use Rattle.attr_glob.specs.Matching.{same_byte}
+use Rattle.attr_glob.specs.inner.LineShapes.{folds}
+use Rattle.attr_glob.proofs.Basics.{reverse-cons}
+use Rattle.attr_glob.proofs.Ends.{same_answer}
+use Rattle.attr_glob.proofs.MatchingLines.{length-folded, drop-folded}
+
+shifted : (a b : ℕ) → nat_eq (a + 2) (b + 2) ≡ nat_eq a b
+shifted a b = grind (arith, nat_tests)
+
+turned : (a b : ℕ) → nat_eq a b ≡ (b == a)
+turned a b = grind (arith, nat_tests)
+
+no_end : (a : ℕ) → nat_eq (a + 2) 1 ≡ false
+no_end a = grind (arith, nat_tests)
+
+no_byte : (a : ℕ) → nat_eq 1 (a + 2) ≡ false
+no_byte a = grind (arith, nat_tests)
+
+-- a whole key is had by the text that is the same
+pub whole_met : (case : Case) (subject : Subject) (text name : List ℕ) → has_content (folds case) name (whole_text subject text) ≡ same_text case text name
+whole_met case subject [] [] = by_case case
+  where
+    by_case : (c : Case) → true ≡ same_text c [] []
+    by_case Sensitive = refl
+    by_case Fold = refl
+whole_met Sensitive subject [] (b ∷ bs) = ap (λ t. t && true) (no_byte b)
+whole_met Fold subject [] (b ∷ bs) = ap (λ t. t && true) (no_byte (to_ascii_lowercase b))
+whole_met Sensitive subject (c ∷ cs) [] = ap (λ t. t && pointwise nat_eq (map (byte_code false) cs ++ 1 ∷ []) (take (length (map (byte_code false) cs ++ 1 ∷ [])) [])) (no_end c)
+whole_met Fold subject (c ∷ cs) [] = ap (λ t. t && pointwise nat_eq (map (byte_code true) cs ++ 1 ∷ []) (take (length (map (byte_code true) cs ++ 1 ∷ [])) [])) (no_end (to_ascii_lowercase c))
+whole_met Sensitive subject (c ∷ cs) (b ∷ bs) =
+    ap (λ t. t && has_content false bs (whole_text subject cs)) (shifted c b) ∙ ap (λ t. nat_eq c b && t) (whole_met Sensitive subject cs bs)
+whole_met Fold subject (c ∷ cs) (b ∷ bs) =
+    ap (λ t. t && has_content true bs (whole_text subject cs)) (shifted (to_ascii_lowercase c) (to_ascii_lowercase b))
+    ∙ ap (λ t. nat_eq (to_ascii_lowercase c) (to_ascii_lowercase b) && t) (whole_met Fold subject cs bs)
+
+-- a key that isn't whole is had by the text that begins with it
+abbrev pub front_text : Subject → List ℕ → KeyContent
+front_text subject text = record { subject = subject; text = text; is_whole = false }
+
+pub front_met : (case : Case) (subject : Subject) (front text : List ℕ) →
+    has_content (folds case) text (front_text subject front) ≡ starts_with (same_byte case) text front
+front_met case subject [] text = refl
+front_met Sensitive subject (c ∷ cs) [] = ap (λ t. t && pointwise nat_eq (map (byte_code false) cs ++ []) (take (length (map (byte_code false) cs ++ [])) [])) (no_end c)
+front_met Fold subject (c ∷ cs) [] = ap (λ t. t && pointwise nat_eq (map (byte_code true) cs ++ []) (take (length (map (byte_code true) cs ++ [])) [])) (no_end (to_ascii_lowercase c))
+front_met Sensitive subject (c ∷ cs) (b ∷ bs) =
+    ap (λ t. t && has_content false bs (front_text subject cs)) (shifted c b ∙ turned c b)
+    ∙ ap (λ t. (b == c) && t) (front_met Sensitive subject cs bs)
+front_met Fold subject (c ∷ cs) (b ∷ bs) =
+    ap (λ t. t && has_content true bs (front_text subject cs)) (shifted (to_ascii_lowercase c) (to_ascii_lowercase b) ∙ turned (to_ascii_lowercase c) (to_ascii_lowercase b))
+    ∙ ap (λ t. (to_ascii_lowercase b == to_ascii_lowercase c) && t) (front_met Fold subject cs bs)
+
+-- texts are the same byte by byte just if they fold to the same
+pub bytewise : (case : Case) (x y : List ℕ) → pointwise (same_byte case) x y ≡ pointwise nat_eq (folded case x) (folded case y)
+bytewise Sensitive [] [] = refl
+bytewise Sensitive [] (b ∷ bs) = refl
+bytewise Sensitive (c ∷ cs) [] = refl
+bytewise Sensitive (c ∷ cs) (b ∷ bs) = ap (λ t. t && pointwise (same_byte Sensitive) cs bs) (sym (turned c b)) ∙ ap (λ t. nat_eq c b && t) (bytewise Sensitive cs bs)
+bytewise Fold [] [] = refl
+bytewise Fold [] (b ∷ bs) = refl
+bytewise Fold (c ∷ cs) [] = refl
+bytewise Fold (c ∷ cs) (b ∷ bs) =
+    ap (λ t. t && pointwise (same_byte Fold) cs bs) (sym (turned (to_ascii_lowercase c) (to_ascii_lowercase b)))
+    ∙ ap (λ t. nat_eq (to_ascii_lowercase c) (to_ascii_lowercase b) && t) (bytewise Fold cs bs)
+
+map_reverse : (f : ℕ → ℕ) (x : List ℕ) → map f (reverse x) ≡ reverse (map f x)
+map_reverse f [] = refl
+map_reverse f (b ∷ bs) =
+    ap (map f) (reverse-cons b bs) ∙ (map_snoc (reverse bs) b ∙ (ap (λ l. l ++ f b ∷ []) (map_reverse f bs) ∙ sym (reverse-cons (f b) (map f bs))))
+  where
+    map_snoc : (l : List ℕ) (c : ℕ) → map f (l ++ c ∷ []) ≡ map f l ++ f c ∷ []
+    map_snoc [] c = refl
+    map_snoc (d ∷ l) c = ap (λ m. f d ∷ m) (map_snoc l c)
+
+folded-reverse : (case : Case) (x : List ℕ) → folded case (reverse x) ≡ reverse (folded case x)
+folded-reverse Sensitive x = refl
+folded-reverse Fold x = map_reverse to_ascii_lowercase x
+
+same_reversed : (x y : List ℕ) → pointwise nat_eq (reverse x) (reverse y) ≡ pointwise nat_eq x y
+same_reversed x y =
+    same_answer (pointwise nat_eq (reverse x) (reverse y)) (pointwise nat_eq x y)
+    (λ t. (bytes_decides x y).1 (sym (reverse-reverse x) ∙ (ap reverse ((bytes_decides (reverse x) (reverse y)).0 t) ∙ reverse-reverse y)))
+    (λ t. (bytes_decides (reverse x) (reverse y)).1 (ap reverse ((bytes_decides x y).0 t)))
+
+take_exact : (xs ys : List ℕ) (n : ℕ) → length xs ≡ n → take n (xs ++ ys) ≡ xs
+take_exact [] ys zero e = refl
+take_exact [] ys (suc n) e = absurd (omega arith)
+take_exact (x ∷ xs) ys zero e = absurd (omega arith)
+take_exact (x ∷ xs) ys (suc n) e = ap (λ l. x ∷ l) (take_exact xs ys n (omega arith))
+
+take_long : (n : ℕ) (xs : List ℕ) → length xs ≤ n → take n xs ≡ xs
+take_long zero [] le = refl
+take_long (suc n) [] le = refl
+take_long zero (x ∷ xs) le = absurd (omega arith)
+take_long (suc n) (x ∷ xs) le = ap (λ l. x ∷ l) (take_long n xs (omega arith))
+
+-- the first bytes of a text turned round are its last ones
+turned_front : (n : ℕ) (text : List ℕ) → take n (reverse text) ≡ reverse (drop (length text - n) text)
+turned_front n text = elim (sides n (length text)) [ inl le ↦ inside le | inr lt ↦ outside lt ]
+  where
+    inside : n ≤ length text → take n (reverse text) ≡ reverse (drop (length text - n) text)
+    inside le =
+        let m = length text - n in
+        let back = reverse (drop m text) in
+        let len : length back ≡ n = let a = length-reverse (drop m text) in let b = length-drop m text in omega arith in
+        ap (take n) (ap reverse (sym (take-append-drop m text)) ∙ reverse-append (take m text) (drop m text)) ∙ take_exact back (reverse (take m text)) n len
+
+    outside : length text < n → take n (reverse text) ≡ reverse (drop (length text - n) text)
+    outside lt =
+        let m : length text - n ≡ 0 = omega arith in
+        let len = length-reverse text in
+        take_long n (reverse text) (omega arith) ∙ sym (ap (λ k. reverse (drop k text)) m)
+
+    sides : (a b : ℕ) → (a ≤ b) ⊎ (b < a)
+    sides zero b = inl (omega arith)
+    sides (suc a) zero = inr (omega arith)
+    sides (suc a) (suc b) = elim (sides a b) [ inl l ↦ inl (omega arith) | inr l ↦ inr (omega arith) ]
+
+-- an end, turned round
+pub end_met : (case : Case) (base end : List ℕ) →
+    has_content (folds case) (reverse base) (turned_end end) ≡ ends_with nat_eq (folded case base) (folded case end)
+end_met case base end =
+    let n = length end in
+    let m = length base - n in
+    let lr : length (reverse end) ≡ n = length-reverse end in
+    front_met case End (reverse end) (reverse base)
+    ∙ (ap (λ k. pointwise (same_byte case) (reverse end) (take k (reverse base))) lr
+    ∙ (ap (pointwise (same_byte case) (reverse end)) (turned_front n base)
+    ∙ (bytewise case (reverse end) (reverse (drop m base))
+    ∙ (ap (λ l. pointwise nat_eq l (folded case (reverse (drop m base)))) (folded-reverse case end)
+    ∙ (ap (pointwise nat_eq (reverse (folded case end))) (folded-reverse case (drop m base))
+    ∙ (same_reversed (folded case end) (folded case (drop m base))
+    ∙ (ap (pointwise nat_eq (folded case end)) (sym (drop-folded case m base))
+    ∙ ap (λ k. pointwise nat_eq (folded case end) (drop k (folded case base))) lens)))))))
+  where
+    lens : length base - length end ≡ length (folded case base) - length (folded case end)
+    lens = let a = length-folded case base in let b = length-folded case end in omega arith

@@ -1,0 +1,6 @@
+pub mod Narrowing
+pub mod RowLemmas
+pub mod Fronts
+pub mod Searching
+pub mod Ordering
+pub mod Meetings

@@ -1,0 +1,2 @@
+pub mod KeyContents
+pub mod inner

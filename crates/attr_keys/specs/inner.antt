@@ -1,0 +1,7 @@
+-- Relations between functions (own). No contract of a public call reaches it, so nothing of it has to be believed.
+pub mod Codes
+pub mod Rows
+pub mod Meeting
+pub mod Orders
+pub mod KeyIndexView
+pub mod LineKeys

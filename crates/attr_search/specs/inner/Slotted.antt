@@ -1,0 +1,35 @@
+-- Which attributes have slots, and views of lines and of bodies (own).
+use Rattle.std.specs.Prelude.{ℕ, List, map, All, Option}
+use Rattle.smallvec.specs.SmallVec.{SmallVec}
+use Rattle.attr_glob.specs.declared.search.pattern.Mapping.{Mapping}
+use Rattle.attr_glob.specs.Views.{pattern_view}
+use Rattle.attr_lists.specs.ListViews.{Entry}
+use Rattle.attr_lists.specs.declared.types.TrackedAssignment.{TrackedAssignment}
+use Rattle.attr_lists.specs.declared.types.Value.{Value as LineValue}
+use Rattle.attr_table.specs.Setting.{Origin}
+use Rattle.attr_search.specs.Settings.{HaveSlots, Listed}
+
+-- the items of all bodies, and of all lines of lists, have slots
+abbrev pub BodiesHaveSlots : ℕ → List (List TrackedAssignment) → Type 0
+BodiesHaveSlots n bodies = All (HaveSlots n) bodies
+
+abbrev pub LinesHaveSlots : ℕ → List Entry → Type 0
+LinesHaveSlots n lines = All (λ entry. HaveSlots n entry.items) lines
+
+abbrev pub ListsHaveSlots : ℕ → List Listed → Type 0
+ListsHaveSlots n lists = All (λ listed. LinesHaveSlots n listed.lines) lists
+
+-- where a line is
+abbrev pub origin_of : Option (List ℕ) → Mapping LineValue → Origin
+origin_of source m =
+    record {
+      text = (pattern_view m.pattern).text;
+      mode = (pattern_view m.pattern).mode;
+      wildcard = (pattern_view m.pattern).wildcard;
+      source = source;
+      line = m.sequence_number;
+    }
+
+-- the bodies by number
+abbrev pub bodies_view : List (SmallVec TrackedAssignment) → List (List TrackedAssignment)
+bodies_view bodies = map (λ body. body.items) bodies

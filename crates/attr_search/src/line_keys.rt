@@ -1,0 +1,63 @@
+//! The keys of a list's lines.
+
+ghost use Rattle.std.specs.Prelude.{◌≡◌, IfOk, map};
+ghost use Rattle.attr_glob.specs.Patterns.{all_flags};
+ghost use Rattle.attr_glob.specs.Views.{mode_bits, pattern_view, patterns_of};
+ghost use Rattle.attr_glob.specs.inner.LineShapes.{folds, shape_reading};
+ghost use Rattle.attr_keys.specs.inner.LineKeys.{shape_content};
+ghost use Rattle.attr_search.specs.inner.Trying.{key_of_line};
+
+use attr_glob::Pattern;
+use attr_glob::pattern::{Case, Mode};
+use attr_glob::search::pattern::Mapping;
+use attr_keys::key_index::KeyIndex;
+use attr_keys::line_key::{Shape, line_key};
+use attr_lists::types::Value;
+use bitflags::Flags;
+use std::alloc::{AllocError, Global};
+
+/// The keys of lines, in their order.
+///
+/// # Errors
+///
+/// If memory is refused.
+pub fn line_keys(alloc: Global, mappings: &[Mapping<Value>]) -> Result<KeyIndex, AllocError>
+    ensures { IfOk result (λ keys. keys ≡ map key_of_line (patterns_of mappings.now)) }
+{
+    let mut keys = Vec::new(alloc);
+    for mapping in mappings {
+        keys.push(line_key(alloc, shape_of(&mapping.pattern))?)?;
+    }
+    KeyIndex::of(alloc, keys)
+}
+
+/// Whether letters of different case are the same.
+pub fn folds(case: Case) -> bool
+    ensures { result ≡ folds case }
+{
+    match case {
+        Case::Sensitive => false,
+        Case::Fold => true,
+    }
+}
+
+// What the key of a line with this pattern is made of.
+fn shape_of(pattern: &Pattern) -> Shape<'_>
+    ensures { shape_content result ≡ shape_reading (pattern_view pattern.now) }
+{
+    let mode = pattern.mode;
+    Shape {
+        text: &pattern.text,
+        wildcard: pattern.first_wildcard_pos,
+        is_macro: mode.contains(all_flags()),
+        asks_name: mode.contains(Mode::NO_SUB_DIR) && !mode.contains(Mode::ABSOLUTE),
+        is_end: mode.contains(Mode::ENDS_WITH),
+    }
+}
+
+// All five flags, as in the pattern of a line that defines a macro.
+fn all_flags() -> Mode
+    ensures { mode_bits result ≡ all_flags }
+{
+    Mode::all()
+}
