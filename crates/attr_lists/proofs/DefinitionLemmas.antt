@@ -4,7 +4,7 @@ use Rattle.std.proofs.lemmas.Bool.{cases_Bool, cond-true, cond-false}
 use Rattle.std.proofs.lemmas.List.{append-nil, map-append}
 use Rattle.std.proofs.lemmas.List.Elements.{filter-append}
 use Rattle.attr_lists.specs.declared.types.TrackedAssignment.{TrackedAssignment}
-use Rattle.attr_lists.specs.Definitions.{is_definition, bodies_defined, definition_of, is_of_list, of_other_lists}
+use Rattle.attr_lists.specs.Definitions.{is_definition, bodies_defined, defines_name, bodies_named, definition_of, is_of_list, of_other_lists}
 use Rattle.attr_lists.specs.ListViews.{Entry}
 use Rattle.attr_lists.specs.Collections.{MacroDefinition}
 
@@ -71,3 +71,22 @@ bodies_defined-one number entry e = ap (map (λ (x : Entry). x.items)) (cond-tru
 
 pub bodies_defined-none : (number : ℕ) (entry : Entry) → is_definition number entry ≡ false → bodies_defined number (entry ∷ []) ≡ []
 bodies_defined-none number entry e = ap (map (λ (x : Entry). x.items)) (cond-false (is_definition number entry) (entry ∷ []) [] e)
+
+-- the same of the bodies that lines define for a name
+pub bodies_named-cons : (name : List ℕ) (entry : Entry) (entries : List Entry) → bodies_named name (entry ∷ entries) ≡ bodies_named name
+    (entry ∷ []) ++ bodies_named name entries
+bodies_named-cons name entry entries =
+    ap (map (λ (e : Entry). e.items)) (filter-append (defines_name name) (entry ∷ []) entries)
+    ∙ map-append (λ (e : Entry). e.items) (filter (defines_name name) (entry ∷ [])) (filter (defines_name name) entries)
+
+pub bodies_named-push : (name : List ℕ) (entries : List Entry) (entry : Entry) → bodies_named name (entries ++ entry ∷ []) ≡ bodies_named
+    name entries ++ bodies_named name (entry ∷ [])
+bodies_named-push name entries entry =
+    ap (map (λ (e : Entry). e.items)) (filter-append (defines_name name) entries (entry ∷ []))
+    ∙ map-append (λ (e : Entry). e.items) (filter (defines_name name) entries) (filter (defines_name name) (entry ∷ []))
+
+pub bodies_named-one : (name : List ℕ) (entry : Entry) → defines_name name entry ≡ true → bodies_named name (entry ∷ []) ≡ entry.items ∷ []
+bodies_named-one name entry e = ap (map (λ (x : Entry). x.items)) (cond-true (defines_name name entry) (entry ∷ []) [] e)
+
+pub bodies_named-none : (name : List ℕ) (entry : Entry) → defines_name name entry ≡ false → bodies_named name (entry ∷ []) ≡ []
+bodies_named-none name entry e = ap (map (λ (x : Entry). x.items)) (cond-false (defines_name name entry) (entry ∷ []) [] e)

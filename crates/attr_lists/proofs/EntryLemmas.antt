@@ -1,6 +1,9 @@
 -- What is entries of names, by number.
 use Rattle.std.proofs.Common.{◌≡◌, ◌≢◌, ℕ, zero, suc, ◌+◌, ◌<◌, ◌≤◌, ◌⊎◌, inl, inr, Bool, false, not, eqb, List, [], ◌∷◌, ◌++◌, length, get_or, set}
 use Rattle.std.proofs.Common.{take, drop, map, filter, All, unwrap_or, option_map, refl, sym, ap, subst, ◌∙◌, ⊎_elim, arith, ne_eqb, eq-eqb}
+use Rattle.std.proofs.Common.{Option, Some, None, true, bytes_eq}
+use Rattle.std.specs.Prelude.{is_some, ◌&&◌}
+use Rattle.std.specs.Cmp.Lexicographic.{bytes_decides}
 use Rattle.std.proofs.lemmas.Bool.{cases_Bool, cases_eq, cond-true, cond-false}
 use Rattle.std.proofs.lemmas.List.{append-nil, append_assoc, map-append, map-set, length-map, length-append, length-set, get_or_push}
 use Rattle.std.proofs.lemmas.List.{get_or_append_left, get_or_past, get_or_default, get_or-set_same, get_or-set_other, at_drop_more, take_more}
@@ -13,14 +16,20 @@ use Rattle.attr_lists.specs.declared.types.Value.{Value}
 use Rattle.attr_lists.specs.declared.types.Value.TheVariants.{MacroAssignments}
 use Rattle.smallvec.specs.SmallVec.{SmallVec}
 use Rattle.attr_lists.specs.declared.types.TrackedAssignment.{TrackedAssignment}
-use Rattle.attr_lists.specs.Definitions.{is_definition, bodies_defined, definition_of, is_of_list, of_other_lists}
+use Rattle.attr_lists.specs.Definitions.{is_definition, bodies_defined, bodies_named, definition_of, is_of_list, of_other_lists}
 use Rattle.attr_lists.specs.inner.EntryViews.{definition_view, definitions_view, all_definitions, definitions_at, IsEntry, AreEntries}
 use Rattle.attr_lists.specs.ListViews.{Entry, entry_view, entries_view, macro_id, items_in}
 use Rattle.attr_lists.specs.Collections.{MacroDefinition}
-use Rattle.attr_lists.specs.Numbers.{id_of, numbered_item, numbered, numbered_lines}
-use Rattle.attr_lists.proofs.DefinitionLemmas.{of_other_lists-again, of_other_lists-more, bodies_defined-cons, bodies_defined-push}
-use Rattle.attr_lists.proofs.DefinitionLemmas.{bodies_defined-one, bodies_defined-none}
+use Rattle.attr_lists.specs.Numbers.{id_of, number_of, numbered_item, numbered, numbered_lines}
+use Rattle.attr_lists.proofs.DefinitionLemmas.{of_other_lists-again, of_other_lists-more, bodies_defined-cons, bodies_named-push}
+use Rattle.attr_lists.proofs.DefinitionLemmas.{bodies_defined-one, bodies_defined-none, bodies_named-none}
 use Rattle.attr_lists.proofs.ListLemmas.{front, front-more, get_or-map}
+
+some_is : {a b : ℕ} → Some a ≡ Some b → a ≡ b
+some_is e = cc
+
+none_is : {b : ℕ} → None ≡ Some b → ⊥
+none_is e = cc
 
 filter-map : {X Y : Type 0} (p : Y → Bool) (f : X → Y) (xs : List X) → map f (filter (λ x. p (f x)) xs) ≡ filter p (map f xs)
 filter-map p f [] = refl
@@ -113,25 +122,25 @@ remove_all_step list_id start entries i d x lt e is =
     (is ∙ ap (of_other_lists list_id) (sym (get_or-map definitions_view entries i d))) e
 
 -- the definitions of a name after those of one more line are removed
-pub remove_list_step : (list_id number : ℕ) (start entries now : List NameEntry) (lines : List (Mapping Value)) (i : ℕ) (line : Mapping Value) → i <
+pub remove_list_step : (list_id number : ℕ) (name : List ℕ) (start entries now : List NameEntry) (lines : List (Mapping Value)) (i : ℕ) (line : Mapping Value) → i <
     length lines → line ≡ get_or lines i line
     → (definitions_at entries number ≡ of_other_lists list_id (definitions_at start number)) ⊎
-    ((definitions_at entries number ≡ definitions_at start number) × (bodies_defined number (entries_view (take i lines)) ≡ []))
+    ((definitions_at entries number ≡ definitions_at start number) × (bodies_named name (entries_view (take i lines)) ≡ []))
     → (definitions_at now number ≡ of_other_lists list_id (definitions_at entries number)) ⊎
-    ((definitions_at now number ≡ definitions_at entries number) × (bodies_defined number (entry_view line ∷ []) ≡ []))
+    ((definitions_at now number ≡ definitions_at entries number) × (bodies_named name (entry_view line ∷ []) ≡ []))
     → (definitions_at now number ≡ of_other_lists list_id (definitions_at start number)) ⊎
-    ((definitions_at now number ≡ definitions_at start number) × (bodies_defined number (entries_view (take (i + 1) lines)) ≡ []))
-remove_list_step list_id number start entries now lines i line lt at before here =
+    ((definitions_at now number ≡ definitions_at start number) × (bodies_named name (entries_view (take (i + 1) lines)) ≡ []))
+remove_list_step list_id number name start entries now lines i line lt at before here =
     ⊎_elim
     (λ gone. inl (⊎_elim (λ g. g ∙ ap (of_other_lists list_id) gone ∙ of_other_lists-again list_id (definitions_at start number))
     (λ kept. kept.0 ∙ gone) here))
     (λ kept. ⊎_elim (λ g. inl (g ∙ ap (of_other_lists list_id) kept.0))
     (λ same. inr (
       same.0 ∙ kept.0,
-      ap (λ l. bodies_defined number (entries_view l)) (take_more lines i line lt) ∙ ap (bodies_defined number)
+      ap (λ l. bodies_named name (entries_view l)) (take_more lines i line lt) ∙ ap (bodies_named name)
           (map-append entry_view (take i lines) (get_or lines i line ∷ []))
-          ∙ bodies_defined-push number (entries_view (take i lines)) (entry_view (get_or lines i line))
-          ∙ ap (λ b. b ++ bodies_defined number (entry_view (get_or lines i line) ∷ [])) kept.1 ∙ ap (λ l. bodies_defined number (entry_view l ∷ []))
+          ∙ bodies_named-push name (entries_view (take i lines)) (entry_view (get_or lines i line))
+          ∙ ap (λ b. b ++ bodies_named name (entry_view (get_or lines i line) ∷ [])) kept.1 ∙ ap (λ l. bodies_named name (entry_view l ∷ []))
           (sym at) ∙ same.1,
     ))
     here)
@@ -172,11 +181,18 @@ definitions_at-cases P entries i n d x lt here there =
     (cases_eq i n)
 
 -- a line defines no other macro than its own
-no_body : (mapping : Mapping Value) (id : AttributeId) (v : SmallVec TrackedAssignment) (n : ℕ) → mapping.value ≡ MacroAssignments id v →
-    (id.0 ≡ n → ⊥) → bodies_defined n (entry_view mapping ∷ []) ≡ []
-no_body mapping id v n is other =
-    bodies_defined-none n (entry_view mapping) (ap (λ value. unwrap_or (option_map (λ (i : AttributeId). eqb i.0 n) (macro_id value)) false) is ∙
-    ne_eqb id.0 n other)
+no_body : (names : List (List ℕ)) (entry : Entry) (name : List ℕ) (n : ℕ) (own : Option ℕ) → number_of names name ≡ Some n
+    → number_of names entry.pattern.text ≡ own → (own ≡ Some n → ⊥) → bodies_named name (entry ∷ []) ≡ []
+no_body names entry name n own e is other =
+    bodies_named-none name entry (⊎_elim
+    (λ (same : bytes_eq name entry.pattern.text ≡ true).
+    absurd (other (sym is ∙ (ap (number_of names) (sym ((bytes_decides name entry.pattern.text).0 same)) ∙ e))))
+    (λ (differ : bytes_eq name entry.pattern.text ≡ false). ap (λ b. is_some entry.macro && b) differ ∙ nothing entry.macro)
+    (cases_Bool (bytes_eq name entry.pattern.text)))
+  where
+    nothing : (m : Option AttributeId) → (is_some m && false) ≡ false
+    nothing None = refl
+    nothing (Some id) = refl
 
 defines : (names : List (List ℕ)) (mapping : Mapping Value) (id : AttributeId) (v : SmallVec TrackedAssignment) (n : ℕ) → mapping.value ≡
     MacroAssignments id v → is_definition n (numbered names (entry_view mapping)) ≡ eqb (id_of names mapping.pattern.text.items).0 n
@@ -184,28 +200,33 @@ defines names mapping id v n is = ap (λ value. unwrap_or (option_map (λ (i : A
     (option_map (λ _. id_of names mapping.pattern.text.items) (macro_id value))) false) is
 
 -- the definitions of one name are removed
-pub removed_at : (list_id n : ℕ) (entries : List NameEntry) (mapping : Mapping Value) (id : AttributeId) (v : SmallVec TrackedAssignment)
-    (d x : NameEntry) → mapping.value ≡ MacroAssignments id v → id.0 < length entries → definitions_view x ≡ of_other_lists list_id
-    (definitions_view (get_or entries id.0 d))
-    → (definitions_at (set entries id.0 x) n ≡ of_other_lists list_id (definitions_at entries n)) ⊎
-    ((definitions_at (set entries id.0 x) n ≡ definitions_at entries n) × (bodies_defined n (entry_view mapping ∷ []) ≡ []))
-removed_at list_id n entries mapping id v d x is lt e =
+pub removed_at : (names : List (List ℕ)) (list_id n : ℕ) (name : List ℕ) (entries : List NameEntry) (mapping : Mapping Value) (own : ℕ)
+    (d x : NameEntry) → number_of names name ≡ Some n → number_of names mapping.pattern.text.items ≡ Some own → own < length entries
+    → definitions_view x ≡ of_other_lists list_id (definitions_view (get_or entries own d))
+    → (definitions_at (set entries own x) n ≡ of_other_lists list_id (definitions_at entries n)) ⊎
+    ((definitions_at (set entries own x) n ≡ definitions_at entries n) × (bodies_named name (entry_view mapping ∷ []) ≡ []))
+removed_at names list_id n name entries mapping own d x e is lt gone =
     definitions_at-cases (λ ds. (ds ≡ of_other_lists list_id (definitions_at entries n)) ⊎
-    ((ds ≡ definitions_at entries n) × (bodies_defined n (entry_view mapping ∷ []) ≡ []))) entries id.0 n d x lt
-    (λ at same. inl (e ∙ ap (of_other_lists list_id) at))
-    (λ other. inr (refl, no_body mapping id v n is other))
+    ((ds ≡ definitions_at entries n) × (bodies_named name (entry_view mapping ∷ []) ≡ []))) entries own n d x lt
+    (λ at same. inl (gone ∙ ap (of_other_lists list_id) at))
+    (λ other. inr (refl, no_body names (entry_view mapping) name n (Some own) e is (λ same. other (some_is same))))
 
 -- of a number that no name has nothing is entries
-pub removed_past : (list_id n : ℕ) (entries : List NameEntry) (mapping : Mapping Value) (id : AttributeId) (v : SmallVec TrackedAssignment) →
-    mapping.value ≡ MacroAssignments id v → length entries ≤ id.0
+pub removed_past : (names : List (List ℕ)) (list_id n : ℕ) (name : List ℕ) (entries : List NameEntry) (mapping : Mapping Value) (own : ℕ)
+    → number_of names name ≡ Some n → number_of names mapping.pattern.text.items ≡ Some own → length entries ≤ own
     → (definitions_at entries n ≡ of_other_lists list_id (definitions_at entries n)) ⊎
-    ((definitions_at entries n ≡ definitions_at entries n) × (bodies_defined n (entry_view mapping ∷ []) ≡ []))
-removed_past list_id n entries mapping id v is past =
+    ((definitions_at entries n ≡ definitions_at entries n) × (bodies_named name (entry_view mapping ∷ []) ≡ []))
+removed_past names list_id n name entries mapping own e is past =
     ⊎_elim
     (λ same. let none : definitions_at entries n ≡ [] = definitions_at-past entries n (subst (λ k. length entries ≤ k) same past) in inl
     (none ∙ ap (of_other_lists list_id) (sym none)))
-    (λ other. inr (refl, no_body mapping id v n is other))
-    (cases_eq id.0 n)
+    (λ other. inr (refl, no_body names (entry_view mapping) name n (Some own) e is (λ same. other (some_is same))))
+    (cases_eq own n)
+
+-- nor of a text that is no name
+pub removed_none : (names : List (List ℕ)) (n : ℕ) (name : List ℕ) (mapping : Mapping Value) → number_of names name ≡ Some n
+    → number_of names mapping.pattern.text.items ≡ None → bodies_named name (entry_view mapping ∷ []) ≡ []
+removed_none names n name mapping e is = no_body names (entry_view mapping) name n None e is none_is
 
 -- a name has one more definition
 pub defined_at : (names : List (List ℕ)) (list_id n : ℕ) (entries : List NameEntry) (mapping : Mapping Value) (id own : AttributeId)

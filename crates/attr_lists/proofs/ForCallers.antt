@@ -2,12 +2,14 @@
 
 -- Definitions of macros. `of_other_lists-append`: the definitions of other lists in two parts. `of_other_lists-own`: a list's own
 -- definitions are none of another list's. `bodies_past`: no line defines a macro with a number that no name has.
+-- `added_for`, `removed_for`: the definitions of a name after a list is added, and after one is removed.
 pub use Rattle.attr_lists.proofs.DefinitionLemmas.{of_other_lists-append, of_other_lists-own}
-pub use Rattle.attr_lists.proofs.NameTableLaws.{bodies_past}
+pub use Rattle.attr_lists.proofs.NameTableLaws.{added_for, bodies_past, removed_for}
 -- Names. `with_names-extends`: new names are appended. `count_more`: there are no fewer names after that. `list_numbered`: the lines of
--- a list that is added have the numbers of their names.
+-- a list that is added have the numbers of their names. `number_at`: of names that differ, the one at a number has this number.
 pub use Rattle.attr_lists.proofs.NameLemmas.{with_names-extends}
 pub use Rattle.attr_lists.proofs.NameTableLaws.{count_more, list_numbered}
+pub use Rattle.attr_lists.proofs.NamedDefinitions.{number_at}
 -- Lists. `kept_macros_valid_where`: the macros that a list keeps of a buffer have valid names.
 pub use Rattle.attr_lists.proofs.KeptLaws.{kept_macros_valid_where}
 -- Reasoning on lists and results. `get_or-map`: an element of a mapped list. `on_ok`: a weaker fact about a result.

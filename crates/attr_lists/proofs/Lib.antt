@@ -4,10 +4,10 @@ pub mod KeptLaws
 pub mod KeptLemmas
 pub mod ListDefinitions
 pub mod ListLemmas
-pub mod MacroNumbers
 pub mod NameLemmas
 pub mod NameTableLaws
 pub mod NameTableSteps
+pub mod NamedDefinitions
 pub mod NumberLemmas
 pub mod SameItems
 pub mod ForCallers

@@ -8,31 +8,27 @@ use Rattle.std.proofs.lemmas.Bool.{cases_Bool, cases_eq, cases_lt, cond-true, co
 use Rattle.std.proofs.lemmas.List.{append-nil, map-append, length-map, length-append, get_or_append_left, get_or_past, get_or_push, get_or-set_same}
 use Rattle.std.proofs.lemmas.List.{get_or-set_other}
 use Rattle.std.proofs.lemmas.List.Elements.{All-nil, All-cons, All-head, All-tail, All-append, All-filter, All-map, All-weaker, filter-append}
-use Rattle.std.proofs.lemmas.List.Folds.{list_any-append, list_any_none, prefix_len-append}
+use Rattle.std.proofs.lemmas.List.Folds.{list_any-append, prefix_len-append}
 use Rattle.std.proofs.lemmas.List.FromFn.{length-map-range_with_len, get_or-map-range_with_len}
-use Rattle.std.proofs.lemmas.List.Sums.{fails_before_first, passes_at_first}
+use Rattle.std.proofs.lemmas.List.Sums.{passes_at_first}
 use Rattle.attr_text.specs.Names.{is_valid_name}
 use Rattle.attr_lists.specs.declared.types.AttributeId.{AttributeId}
 use Rattle.attr_lists.specs.declared.types.TrackedAssignment.{TrackedAssignment}
-use Rattle.attr_lists.specs.Definitions.{is_definition, bodies_defined, definition_of, is_of_list, bodies_of_list, of_other_lists, definitions_of}
+use Rattle.attr_lists.specs.Definitions.{is_definition, bodies_defined, bodies_named, definition_of, is_of_list, bodies_of_list, of_other_lists}
+use Rattle.attr_lists.specs.Definitions.{definitions_of, definitions_for}
+use Rattle.attr_lists.specs.inner.Keeping.{HasMacroNumber, IsNumbered}
+use Rattle.attr_lists.proofs.NamedDefinitions.{Has, itself, place_of, number_at, number_name, defined_by_name, none_by_name}
 use Rattle.attr_lists.specs.Definitions.{is_active, free_id, with_active, with_list, without_list, HoldsList, IsWithin, IsSoundCollection}
 use Rattle.attr_lists.specs.inner.EntryViews.{AreValid}
 use Rattle.attr_lists.specs.ListViews.{Entry}
 use Rattle.attr_lists.specs.Collections.{MacroDefinition, Collection, empty_collection}
 use Rattle.attr_lists.specs.Numbers.{macro_names, names_of, names_in, with_name, with_names, number_of, id_of, numbered_item, numbered}
-use Rattle.attr_lists.specs.Numbers.{numbered_lines, IsNumberOf, HasMacroNumber, IsNumbered}
+use Rattle.attr_lists.specs.Numbers.{numbered_lines, AreNamed, IsNumberOf}
 use Rattle.attr_lists.proofs.DefinitionLemmas.{bodies_defined-cons, bodies_defined-none}
 use Rattle.attr_lists.proofs.ListLemmas.{get_or-map, slice_get-within}
 use Rattle.attr_lists.proofs.NameLemmas.{with_name-known, with_name-new, with_names-extends, with_names-distinct}
 
 -- ---- numbers
-
--- the name is among the names
-abbrev Has : List (List ℕ) → List ℕ → Type 0
-Has names name = list_any (bytes_eq name) names ≡ true
-
-itself : (name : List ℕ) → bytes_eq name name ≡ true
-itself name = (bytes_decides name name).1 refl
 
 has_kept : (names more : List (List ℕ)) (name : List ℕ) → Has names name → Has (names ++ more) name
 has_kept names more name h = list_any-append (bytes_eq name) names more ∙ or_left (list_any (bytes_eq name) names) (list_any (bytes_eq name) more) h
@@ -66,13 +62,6 @@ all_right P (x ∷ xs) ys h = all_right P xs ys (All-tail P x (xs ++ ys) h)
 all_of_map : {X Y : Type 0} (P : Y → Type 0) (f : X → Y) (xs : List X) → All P (map f xs) → All (λ x. P (f x)) xs
 all_of_map P f [] h = All-nil (λ x. P (f x))
 all_of_map P f (x ∷ xs) h = All-cons (λ y. P (f y)) x xs (All-head P (f x) (map f xs) h) (all_of_map P f xs (All-tail P (f x) (map f xs) h))
-
--- a name among the names has the number of its place
-place_of : (names : List (List ℕ)) (name : List ℕ) → Has names name → position_or_len (bytes_eq name) names < length names
-place_of names name h =
-    ⊎_elim (λ lt. lt)
-    (λ past. absurd (true≢false (sym h ∙ list_any_none (bytes_eq name) names (λ k d lt. fails_before_first (bytes_eq name) names k d (omega arith)))))
-    (cases_lt (position_or_len (bytes_eq name) names) (length names))
 
 pub number_is : (names : List (List ℕ)) (name : List ℕ) → Has names name → IsNumberOf names name (id_of names name)
 number_is names name h =
@@ -161,13 +150,11 @@ number_still : (known names : List (List ℕ)) (name : List ℕ) (id : Attribute
 number_still known names name id h =
     let more = with_names-extends known names in subst (λ l. slice_get l id.0 ≡ Some name) (sym more.1) (get_still known more.0 id.0 name h)
 
-macro_number_still : (known names : List (List ℕ)) (entry : Entry) → HasMacroNumber known entry → HasMacroNumber (with_names known names) entry
-macro_number_still known names entry = macro_still entry.macro
-  where
-    macro_still : (m : Option AttributeId) → IfSome m (IsNumberOf known entry.pattern.text) → IfSome m
-        (IsNumberOf (with_names known names) entry.pattern.text)
-    macro_still None a = tt
-    macro_still (Some id) a = number_still known names entry.pattern.text id a
+-- items stay named
+pub named_still : (known names : List (List ℕ)) (items : List TrackedAssignment) → AreNamed known items → AreNamed (with_names known names) items
+named_still known names items h = All-weaker (λ (item : TrackedAssignment). IsNumberOf known item.inner.name item.id)
+    (λ (item : TrackedAssignment). IsNumberOf (with_names known names) item.inner.name item.id)
+    (λ item at. number_still known names item.inner.name item.id at) items h
 
 -- ---- definitions
 
@@ -196,6 +183,15 @@ bodies_within names list_id number lines h =
     (All-weaker (IsNumbered names) (λ (e : Entry). IsIn e.items) (λ e is. All-weaker
     (λ (item : TrackedAssignment). IsNumberOf names item.inner.name item.id) (λ (item : TrackedAssignment). item.id.0 < length names)
     (λ item at. below names item.id.0 item.inner.name at) e.items is.items) lines h)))
+
+-- and they are named
+bodies_named_by : (names : List (List ℕ)) (list_id number : ℕ) (lines : List Entry) → All (IsNumbered names) lines → All
+    (λ d. AreNamed names d.body) (map (definition_of list_id) (bodies_defined number lines))
+bodies_named_by names list_id number lines h =
+    All-map (λ (d : MacroDefinition). AreNamed names d.body) (definition_of list_id) (bodies_defined number lines)
+    (All-map (AreNamed names) (λ (e : Entry). e.items) (filter (is_definition number) lines)
+    (All-filter (is_definition number) (λ (e : Entry). AreNamed names e.items) lines
+    (All-weaker (IsNumbered names) (λ (e : Entry). AreNamed names e.items) (λ e is. is.items) lines h)))
 
 bodies_of_list-append : (list_id : ℕ) (xs ys : List MacroDefinition) → bodies_of_list list_id (xs ++ ys) ≡ bodies_of_list list_id xs ++ bodies_of_list
     list_id ys
@@ -275,6 +271,21 @@ bodies_of_list-of_other_lists other list_id (d ∷ ds) apart =
     one true x xs ys e = ap (λ l. x.body ∷ l) e
     one false x xs ys e = e
 
+-- what is true of all definitions of each number is true of those of a name
+pub all_for : (known : Collection) (name : List ℕ) (P : MacroDefinition → Type 0) → ((number : ℕ) → All P (definitions_of known number))
+    → All P (definitions_for known name)
+all_for known name P all = at (number_of known.names name)
+  where
+    at : (o : Option ℕ) → All P (unwrap_or (option_map (definitions_of known) o) [])
+    at None = All-nil P
+    at (Some n) = all n
+
+some_is : {a b : ℕ} → Some a ≡ Some b → a ≡ b
+some_is e = cc
+
+none_is : {b : ℕ} → None ≡ Some b → ⊥
+none_is e = cc
+
 -- ---- list ids
 
 free_within : (active : List Bool) → free_id active ≤ length active
@@ -347,6 +358,47 @@ module _ (old : Collection) (entries : List Entry) (sound : IsSoundCollection ol
   past_old : (number : ℕ) → length names ≤ number → definitions_of old number ≡ []
   past_old number past = get_or_past old.definitions number [] (omega (arith, more, sound.counted))
 
+  macros_numbered : All (HasMacroNumber names) lines
+  macros_numbered = All-weaker (IsNumbered names) (HasMacroNumber names) (λ e is. is.macro) lines (list_numbered old.names entries)
+
+  distinct_now : IsDistinct bytes_eq names
+  distinct_now = with_names-distinct old.names (names_in entries) sound.distinct
+
+  -- the definitions that a name had
+  had_before : (name : List ℕ) (n : ℕ) → number_of names name ≡ Some n → (o : Option ℕ) → number_of old.names name ≡ o
+      → definitions_of old n ≡ unwrap_or (option_map (definitions_of old) o) []
+  had_before name n e (Some k) f =
+      ap (definitions_of old) (some_is (sym e ∙ number_stays old.names (names_in entries) name k f))
+  had_before name n e None f =
+      ⊎_elim
+      (λ (lt : n < length old.names).
+      let more = with_names-extends old.names (names_in entries) in
+      let at : get_or old.names n [] ≡ name =
+      sym (ap (λ ns. get_or ns n []) more.1 ∙ get_or_append_left old.names more.0 [] n lt) ∙ (number_name names name n e).1 in
+      absurd (none_is (sym f ∙ ap (number_of old.names) (sym at) ∙ number_at old.names n sound.distinct lt)))
+      (λ past. get_or_past old.definitions n [] (omega (arith, past, sound.counted)))
+      (cases_lt n (length old.names))
+
+  -- a name that is not there now was not there before
+  none_before : (name : List ℕ) → number_of names name ≡ None → (o : Option ℕ) → number_of old.names name ≡ o
+      → unwrap_or (option_map (definitions_of old) o) [] ≡ []
+  none_before name e (Some k) f = absurd (none_is (sym e ∙ number_stays old.names (names_in entries) name k f))
+  none_before name e None f = refl
+
+  added_at : (name : List ℕ) (o : Option ℕ) → number_of names name ≡ o → unwrap_or (option_map (definitions_of new) o) []
+      ≡ definitions_for old name ++ map (definition_of list_id) (bodies_named name lines)
+  added_at name None e =
+      sym (ap (λ ds. ds ++ map (definition_of list_id) (bodies_named name lines)) (none_before name e (number_of old.names name) refl)
+      ∙ ap (map (definition_of list_id)) (none_by_name names distinct_now name e lines macros_numbered))
+  added_at name (Some n) e =
+      at_name n (number_name names name n e).0
+      ∙ (ap (λ ds. ds ++ map (definition_of list_id) (bodies_defined n lines)) (had_before name n e (number_of old.names name) refl)
+      ∙ ap (λ bs. definitions_for old name ++ map (definition_of list_id) bs) (defined_by_name names distinct_now name n e lines macros_numbered))
+
+  -- the definitions of a name after an addition
+  pub added_for : (name : List ℕ) → definitions_for new name ≡ definitions_for old name ++ map (definition_of list_id) (bodies_named name lines)
+  added_for name = added_at name (number_of names name) refl
+
   at_number : (P : List MacroDefinition → Type 0) (number : ℕ) → (number < length names → P
       (definitions_of old number ++ map (definition_of list_id) (bodies_defined number lines))) → P [] → P (definitions_of new number)
   at_number P number here none =
@@ -366,6 +418,12 @@ module _ (old : Collection) (entries : List Entry) (sound : IsSoundCollection ol
         (λ item i. omega (arith, more)) d.body h) (definitions_of old number) (sound.within number))
         (bodies_within names list_id number lines (list_numbered old.names entries)))
         (All-nil (IsWithin (length names)));
+    named = λ number. at_number (All (λ d. AreNamed names d.body)) number
+        (λ lt. All-append (λ d. AreNamed names d.body) (definitions_of old number) (map (definition_of list_id) (bodies_defined number lines))
+        (All-weaker (λ d. AreNamed old.names d.body) (λ d. AreNamed names d.body)
+        (λ d h. named_still old.names (names_in entries) d.body h) (definitions_of old number) (sound.named number))
+        (bodies_named_by names list_id number lines (list_numbered old.names entries)))
+        (All-nil (λ d. AreNamed names d.body));
     active = λ number. at_number (All (λ d. is_active (with_active list_id old.active) d.list_id ≡ true)) number
         (λ lt. All-append (λ d. is_active (with_active list_id old.active) d.list_id ≡ true) (definitions_of old number)
         (map (definition_of list_id) (bodies_defined number lines))
@@ -380,15 +438,12 @@ module _ (old : Collection) (entries : List Entry) (sound : IsSoundCollection ol
   pub added_holds : HoldsList new list_id lines
   added_holds = record {
     active = is_active_now old.active list_id (free_within old.active);
-    numbered = All-weaker (IsNumbered names) (HasMacroNumber names) (λ e is. is.macro) lines (list_numbered old.names entries);
-    bodies = λ number. ⊎_elim
-        (λ lt. ap (bodies_of_list list_id) (at_name number lt) ∙ bodies_of_list-append list_id (definitions_of old number)
-        (map (definition_of list_id) (bodies_defined number lines))
-        ∙ ap (λ l. l ++ bodies_of_list list_id (map (definition_of list_id) (bodies_defined number lines)))
-        (bodies_of_list-free old.active list_id (definitions_of old number) free (sound.active number)) ∙ bodies_of_list-own list_id
-        (bodies_defined number lines))
-        (λ past. ap (bodies_of_list list_id) (past_names number past) ∙ sym (bodies_past names lines number past (list_numbered old.names entries)))
-        (cases_lt number (length names));
+    bodies = λ name. ap (bodies_of_list list_id) (added_for name)
+        ∙ (bodies_of_list-append list_id (definitions_for old name) (map (definition_of list_id) (bodies_named name lines))
+        ∙ (ap (λ l. l ++ bodies_of_list list_id (map (definition_of list_id) (bodies_named name lines)))
+        (bodies_of_list-free old.active list_id (definitions_for old name) free
+        (all_for old name (λ d. is_active old.active d.list_id ≡ true) sound.active))
+        ∙ bodies_of_list-own list_id (bodies_named name lines)));
   }
 
   -- the other lists stay registered
@@ -397,15 +452,10 @@ module _ (old : Collection) (entries : List Entry) (sound : IsSoundCollection ol
       let apart : other ≢ list_id = λ e. true≢false (sym h.active ∙ ap (is_active old.active) e ∙ free) in
       record {
         active = is_active_still old.active list_id other (free_within old.active) h.active;
-        numbered = All-weaker (HasMacroNumber old.names) (HasMacroNumber names) (λ e is. macro_number_still old.names (names_in entries) e is) es
-            h.numbered;
-        bodies = λ number. ⊎_elim
-            (λ lt. ap (bodies_of_list other) (at_name number lt) ∙ bodies_of_list-append other (definitions_of old number)
-            (map (definition_of list_id) (bodies_defined number lines))
-            ∙ ap (λ l. bodies_of_list other (definitions_of old number) ++ l) (bodies_of_list-other other list_id (bodies_defined number lines) apart)
-            ∙ append-nil (bodies_of_list other (definitions_of old number)) ∙ h.bodies number)
-            (λ past. ap (bodies_of_list other) (past_names number past ∙ sym (past_old number past)) ∙ h.bodies number)
-            (cases_lt number (length names));
+        bodies = λ name. ap (bodies_of_list other) (added_for name)
+            ∙ (bodies_of_list-append other (definitions_for old name) (map (definition_of list_id) (bodies_named name lines))
+            ∙ (ap (λ l. bodies_of_list other (definitions_for old name) ++ l) (bodies_of_list-other other list_id (bodies_named name lines) apart)
+            ∙ (append-nil (bodies_of_list other (definitions_for old name)) ∙ h.bodies name)));
       }
 
 -- no definition belongs to a list that is not registered
@@ -419,6 +469,15 @@ free_of table list_id number sound free = of_other_lists-free list_id (definitio
 module _ (old : Collection) (gone : ℕ) where
   at_all : (number : ℕ) → definitions_of (without_list gone old) number ≡ of_other_lists gone (definitions_of old number)
   at_all number = get_or-map (of_other_lists gone) old.definitions number []
+
+  removed_at : (name : List ℕ) (o : Option ℕ) → unwrap_or (option_map (definitions_of (without_list gone old)) o) []
+      ≡ of_other_lists gone (unwrap_or (option_map (definitions_of old) o) [])
+  removed_at name None = refl
+  removed_at name (Some n) = at_all n
+
+  -- the definitions of a name after a removal
+  pub removed_for : (name : List ℕ) → definitions_for (without_list gone old) name ≡ of_other_lists gone (definitions_for old name)
+  removed_for name = removed_at name (number_of old.names name)
 
   not_gone : (ds : List MacroDefinition) → All (λ d. is_active old.active d.list_id ≡ true) ds → All
       (λ d. is_active (set old.active gone false) d.list_id ≡ true) (of_other_lists gone ds)
@@ -441,6 +500,8 @@ module _ (old : Collection) (gone : ℕ) where
     counted = length-map old.definitions (of_other_lists gone) ∙ sound.counted;
     within = λ number. subst (All (IsWithin (length old.names))) (sym (at_all number))
         (All-filter (λ d. not (is_of_list gone d)) (IsWithin (length old.names)) (definitions_of old number) (sound.within number));
+    named = λ number. subst (All (λ d. AreNamed old.names d.body)) (sym (at_all number))
+        (All-filter (λ d. not (is_of_list gone d)) (λ d. AreNamed old.names d.body) (definitions_of old number) (sound.named number));
     active = λ number. subst (All (λ d. is_active (set old.active gone false) d.list_id ≡ true)) (sym (at_all number))
         (not_gone (definitions_of old number) (sound.active number));
   }
@@ -449,9 +510,8 @@ module _ (old : Collection) (gone : ℕ) where
   pub removed_keeps : (other : ℕ) (es : List Entry) → other ≢ gone → HoldsList old other es → HoldsList (without_list gone old) other es
   removed_keeps other es apart h = record {
     active = get_or-set_other old.active gone other false false apart ∙ h.active;
-    numbered = h.numbered;
-    bodies = λ number. ap (bodies_of_list other) (at_all number) ∙ bodies_of_list-of_other_lists other gone (definitions_of old number) apart ∙
-        h.bodies number;
+    bodies = λ name. ap (bodies_of_list other) (removed_for name)
+        ∙ (bodies_of_list-of_other_lists other gone (definitions_for old name) apart ∙ h.bodies name);
   }
 
 pub nothing_sound : IsSoundCollection empty_collection
@@ -461,5 +521,6 @@ nothing_sound = record {
   distinct = tt;
   counted = refl;
   within = λ number. All-nil (IsWithin 0);
+  named = λ number. All-nil (λ d. AreNamed [] d.body);
   active = λ number. All-nil (λ d. is_active [] d.list_id ≡ true);
 }

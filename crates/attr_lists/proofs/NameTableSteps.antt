@@ -1,21 +1,24 @@
 -- What the steps of an addition and of a removal do to a name table.
-use Rattle.std.proofs.Common.{◌≡◌, ℕ, ◌<◌, ◌≤◌, ◌⊎◌, Bool, false, List, [], ◌++◌, length, get_or, set, take, map, All, Some, sym, ap, subst, ◌∙◌}
-use Rattle.std.proofs.Common.{⊎_elim, arith}
+use Rattle.std.proofs.Common.{◌≡◌, ℕ, ◌<◌, ◌≤◌, Bool, false, List, [], ◌++◌, length, get_or, set, take, map, All, sym, ap, subst, ◌∙◌}
+use Rattle.std.proofs.Common.{⊎_elim, arith, bytes_eq, Option, unwrap_or, option_map}
+use Rattle.std.specs.List.{IsDistinct}
 use Rattle.std.proofs.lemmas.List.{length-map, length-take, get_or-take, get_or_past, ext_get_or, take_at}
 use Rattle.std.proofs.lemmas.List.FromFn.{fill_by_all}
 use Rattle.std.proofs.lemmas.Bool.{cases_lt}
 use Rattle.attr_lists.specs.declared.name_table.entry.NameEntry.{NameEntry}
 use Rattle.attr_lists.specs.Definitions.{bodies_defined, definition_of, of_other_lists, by_number, is_active, free_id, with_list}
-use Rattle.attr_lists.specs.Definitions.{without_list, HoldsList, KeepsNumbers, StayRegistered, IsSoundCollection}
+use Rattle.attr_lists.specs.Definitions.{definitions_for, without_list, HoldsList, IsSoundCollection}
+use Rattle.attr_lists.specs.inner.Keeping.{StayRegistered, IsNumbered}
 use Rattle.attr_lists.specs.inner.EntrySteps.{HasBodies, KeepsOtherDefinitions, RemovesDefinitions}
-use Rattle.attr_lists.specs.inner.EntryViews.{definitions_view, all_definitions, definitions_at, IsEntry, AreEntries, AreValid}
-use Rattle.attr_lists.specs.inner.NameSteps.{AppendsNames}
+use Rattle.attr_lists.specs.inner.EntryViews.{definitions_view, all_definitions, definitions_at, definitions_by, IsEntry, AreEntries, AreValid}
 use Rattle.attr_lists.specs.inner.NameTableView.{rolled_back, IsPartlyAdded}
 use Rattle.attr_lists.specs.ListViews.{Entry}
 use Rattle.attr_lists.specs.Collections.{MacroDefinition, Collection}
-use Rattle.attr_lists.specs.Numbers.{names_in, with_names, number_of, numbered_lines, IsNumbered}
+use Rattle.attr_lists.specs.Numbers.{AppendsNames, names_in, with_names, numbered_lines}
 use Rattle.attr_lists.proofs.ListLemmas.{get_or-map}
-use Rattle.attr_lists.proofs.NameTableLaws.{of_other_lists-free, free_of, free_is, added_sound, added_holds, added_keeps, list_numbered, number_stays}
+use Rattle.attr_lists.proofs.NameLemmas.{with_names-extends}
+use Rattle.attr_lists.proofs.NamedDefinitions.{number_at}
+use Rattle.attr_lists.proofs.NameTableLaws.{of_other_lists-free, free_of, free_is, added_sound, added_holds, added_keeps, list_numbered}
 
 -- the table of these parts
 abbrev pub table_of : List (List ℕ) → List NameEntry → List Bool → Collection
@@ -86,25 +89,38 @@ partly_defined names names' active active' old before borrowed now items list_id
     (λ n. others n ∙ ap (λ l. of_other_lists list_id (definitions_at l n)) borrowed_is ∙ ap (of_other_lists list_id) (extended n)) items_is same
 
 -- the definitions of a registered list are removed
-all_removed : (old now : List NameEntry) (list_id : ℕ) (lines : List Entry) → length now ≡ length old
-    → ((n : ℕ) → HasBodies list_id n lines (definitions_at old n))
-    → RemovesDefinitions list_id lines old now
+all_removed : (names : List (List ℕ)) (old now : List NameEntry) (list_id : ℕ) (lines : List Entry) → length now ≡ length old
+    → length old ≡ length names → IsDistinct bytes_eq names
+    → ((name : List ℕ) → HasBodies list_id name lines (definitions_by names old name))
+    → RemovesDefinitions list_id names lines old now
     → all_definitions now ≡ map (of_other_lists list_id) (all_definitions old)
-all_removed old now list_id lines len bodies gone =
+all_removed names old now list_id lines len count distinct bodies gone =
     same_definitions (all_definitions now) (map (of_other_lists list_id) (all_definitions old))
     (length-map now definitions_view ∙ len ∙ sym (length-map old definitions_view) ∙ sym
     (length-map (all_definitions old) (of_other_lists list_id)))
-    (λ n. ⊎_elim (λ g. g) (λ kept. kept.0 ∙ sym (of_other_lists-free list_id (definitions_at old n) (bodies n ∙ kept.1))) (gone n) ∙ sym
-    (get_or-map (of_other_lists list_id) (all_definitions old) n []))
+    (λ n. ⊎_elim
+    (λ (lt : n < length names).
+    let name = get_or names n [] in
+    let number = number_at names n distinct lt in
+    let own : HasBodies list_id name lines (definitions_at old n) =
+    subst (λ (o : Option ℕ). HasBodies list_id name lines (unwrap_or (option_map (definitions_at old) o) [])) number (bodies name) in
+    ⊎_elim (λ g. g) (λ kept. kept.0 ∙ sym (of_other_lists-free list_id (definitions_at old n) (own ∙ kept.1))) (gone name n number))
+    (λ (past : length names ≤ n).
+    get_or_past (all_definitions now) n [] (omega (arith, past, len, count, length-map now definitions_view))
+    ∙ ap (of_other_lists list_id) (sym (get_or_past (all_definitions old) n [] (omega (arith, past, count, length-map old definitions_view)))))
+    (cases_lt n (length names))
+    ∙ sym (get_or-map (of_other_lists list_id) (all_definitions old) n []))
 
 -- the table after a registered list is removed
 pub removed_is : (names : List (List ℕ)) (active : List Bool) (old borrowed now items : List NameEntry) (list_id : ℕ) (lines : List Entry)
-    → borrowed ≡ old → length now ≡ length borrowed → items ≡ now
-    → ((n : ℕ) → HasBodies list_id n lines (definitions_at old n))
-    → RemovesDefinitions list_id lines borrowed now
+    → borrowed ≡ old → length now ≡ length borrowed → items ≡ now → IsSoundCollection (table_of names old active)
+    → ((name : List ℕ) → HasBodies list_id name lines (definitions_for (table_of names old active) name))
+    → RemovesDefinitions list_id names lines borrowed now
     → table_of names items (set active list_id false) ≡ without_list list_id (table_of names old active)
-removed_is names active old borrowed now items list_id lines same len items_is bodies gone =
-    let all = all_removed borrowed now list_id lines len (λ n. subst (λ l. HasBodies list_id n lines (definitions_at l n)) (sym same) (bodies n)) gone
+removed_is names active old borrowed now items list_id lines same len items_is sound bodies gone =
+    let all = all_removed names borrowed now list_id lines len
+    (ap length same ∙ (sym (length-map old definitions_view) ∙ sound.counted)) sound.distinct
+    (λ name. subst (λ l. HasBodies list_id name lines (definitions_by names l name)) (sym same) (bodies name)) gone
     in
     ap (λ d. record { names = names; definitions = d; active = set active list_id false })
     (ap all_definitions items_is ∙ all ∙ ap (λ l. map (of_other_lists list_id) (all_definitions l)) same)
@@ -134,10 +150,10 @@ module _ (old now new : Collection) (list_id : ℕ) (entries lines : List Entry)
   are_numbered = subst (λ ls. All (IsNumbered new.names) ls) (sym numbered_is)
       (subst (λ names. All (IsNumbered names) (numbered_lines names entries)) (sym names_are) (list_numbered old.names entries))
 
-  pub are_kept : KeepsNumbers now new
-  are_kept name number h =
-      subst (λ names. number_of names name ≡ Some number) (sym names_are)
-      (number_stays old.names (names_in entries) name number (subst (λ (v : Collection). number_of v.names name ≡ Some number) (sym is) h))
+  pub are_kept : AppendsNames now.names new.names
+  are_kept =
+      let more = with_names-extends old.names (names_in entries) in
+      (more.0, names_are ∙ (more.1 ∙ ap (λ (v : Collection). v.names ++ more.0) is))
 
   pub is_held : HoldsList new list_id lines
   is_held =

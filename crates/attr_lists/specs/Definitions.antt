@@ -1,13 +1,13 @@
 -- Definitions of macros (own). A list id is the number under which a list is registered in a collection, and is active as long as
 -- the list is. A definition belongs to a list, and is removed with it.
-use Rattle.std.specs.Prelude.{◌≡◌, ◌≢◌, ℕ, ◌-◌, ◌<◌, Bool, true, false, not, ◌==◌, List, [], ◌∷◌, ◌++◌, length, map, filter}
-use Rattle.std.specs.Prelude.{slice_get, slice_index_or, slice_set, Some, unwrap_or, option_map, All, IsTrue, if◌then◌else◌}
+use Rattle.std.specs.Prelude.{◌≡◌, ℕ, ◌-◌, ◌<◌, Bool, true, false, not, ◌==◌, ◌&&◌, List, [], ◌∷◌, ◌++◌, length, map, filter}
+use Rattle.std.specs.Prelude.{slice_get, slice_index_or, slice_set, is_some, unwrap_or, option_map, All, IsTrue, if◌then◌else◌}
 use Rattle.std.specs.Prelude.{nat_lt, bytes_eq}
 use Rattle.std.specs.List.{range_with_len, position_or_len, IsDistinct}
 use Rattle.attr_text.specs.Names.{is_valid_name}
 use Rattle.attr_lists.specs.ListViews.{Entry}
 use Rattle.attr_lists.specs.Collections.{MacroDefinition, Collection}
-use Rattle.attr_lists.specs.Numbers.{names_in, with_names, number_of, numbered_lines, HasMacroNumber}
+use Rattle.attr_lists.specs.Numbers.{names_in, with_names, number_of, numbered_lines, AreNamed}
 use Rattle.attr_lists.specs.declared.types.TrackedAssignment.{TrackedAssignment}
 
 -- the line defines the macro with this number
@@ -17,6 +17,14 @@ is_definition number entry = unwrap_or (option_map (λ id. id.0 == number) entry
 -- the bodies that the lines define for this number, line by line
 abbrev pub bodies_defined : ℕ → List Entry → List (List TrackedAssignment)
 bodies_defined number entries = map (λ entry. entry.items) (filter (is_definition number) entries)
+
+-- the line defines the macro of this name
+abbrev pub defines_name : List ℕ → Entry → Bool
+defines_name name entry = is_some entry.macro && bytes_eq name entry.pattern.text
+
+-- the bodies that the lines define for the macro of this name, line by line
+abbrev pub bodies_named : List ℕ → List Entry → List (List TrackedAssignment)
+bodies_named name entries = map (λ entry. entry.items) (filter (defines_name name) entries)
 
 -- a body under a list id
 abbrev pub definition_of : ℕ → List TrackedAssignment → MacroDefinition
@@ -37,6 +45,10 @@ of_other_lists list_id definitions = filter (λ d. not (is_of_list list_id d)) d
 -- the definitions of a number, the latest last
 abbrev pub definitions_of : Collection → ℕ → List MacroDefinition
 definitions_of collection number = slice_index_or collection.definitions number []
+
+-- the definitions of a name, the latest last, none if the collection lacks the name
+abbrev pub definitions_for : Collection → List ℕ → List MacroDefinition
+definitions_for collection name = unwrap_or (option_map (definitions_of collection) (number_of collection.names name)) []
 
 -- the body of the last of these definitions, empty if there is none
 abbrev pub last_body : List MacroDefinition → List TrackedAssignment
@@ -83,36 +95,22 @@ without_list list_id old =
       active = slice_set old.active list_id false;
     }
 
--- the list is registered under the list id: its macros have the numbers of their names, and for each number the list's
--- definitions in the collection are those of its lines
+-- the list is registered under the list id: for each name, the definitions that the collection has of the list are those of
+-- its lines
 pub record HoldsList (collection : Collection) (list_id : ℕ) (entries : List Entry) : Type 0 where
   pub active : is_active collection.active list_id ≡ true
-  pub numbered : All (HasMacroNumber collection.names) entries
-  pub bodies : (number : ℕ) → bodies_of_list list_id (definitions_of collection number) ≡ bodies_defined number entries
-
--- each name keeps its number
-abbrev pub KeepsNumbers : Collection → Collection → Type 0
-KeepsNumbers old new =
-    (name : List ℕ) (number : ℕ) → number_of old.names name ≡ Some number → number_of new.names name ≡ Some number
-
--- each list stays registered
-abbrev pub StayRegistered : Collection → Collection → Type 0
-StayRegistered old new = (other : ℕ) (entries : List Entry) → HoldsList old other entries → HoldsList new other entries
-
--- each list but this one stays registered
-abbrev pub OthersStayRegistered : ℕ → Collection → Collection → Type 0
-OthersStayRegistered list_id old new =
-    (other : ℕ) (entries : List Entry) → other ≢ list_id → HoldsList old other entries → HoldsList new other entries
+  pub bodies : (name : List ℕ) → bodies_of_list list_id (definitions_for collection name) ≡ bodies_named name entries
 
 -- all numbers in the body are numbers of names
 abbrev pub IsWithin : ℕ → MacroDefinition → Type 0
 IsWithin count definition = All (λ item. item.id.0 < count) definition.body
 
--- what holds of each collection: names are valid and differ, each has its definitions, whose numbers are numbers of names and
--- whose lists are registered
+-- what holds of each collection: names are valid and differ, so the numbers in use are those below their count; each name has
+-- its definitions, whose items have the numbers of their names, and no others, and whose lists are registered
 pub record IsSoundCollection (collection : Collection) : Type 0 where
   pub valid : All (λ name. IsTrue (is_valid_name name)) collection.names
   pub distinct : IsDistinct bytes_eq collection.names
   pub counted : length collection.definitions ≡ length collection.names
   pub within : (number : ℕ) → All (IsWithin (length collection.names)) (definitions_of collection number)
+  pub named : (number : ℕ) → All (λ d. AreNamed collection.names d.body) (definitions_of collection number)
   pub active : (number : ℕ) → All (λ d. is_active collection.active d.list_id ≡ true) (definitions_of collection number)

@@ -1,5 +1,5 @@
 -- Views of the crate's values (own).
-use Rattle.std.specs.Prelude.{◌≡◌, ℕ, Option, Some, None, Result, List, map}
+use Rattle.std.specs.Prelude.{◌≡◌, ℕ, Option, Some, None, List, map}
 use Rattle.attr_glob.specs.declared.search.pattern.Mapping.{Mapping}
 use Rattle.attr_glob.specs.Patterns.{Reading}
 use Rattle.attr_glob.specs.Views.{pattern_view}
@@ -7,7 +7,6 @@ use Rattle.attr_lists.specs.declared.types.AttributeId.{AttributeId}
 use Rattle.attr_lists.specs.declared.types.TrackedAssignment.{TrackedAssignment}
 use Rattle.attr_lists.specs.declared.types.Value.{Value}
 use Rattle.attr_lists.specs.declared.types.Value.TheVariants.{MacroAssignments, Assignments}
-use Rattle.attr_lists.specs.declared.types.Dropped.{Dropped}
 use Rattle.attr_lists.specs.declared.types.MatchKind.{MatchKind}
 use Rattle.attr_lists.specs.declared.types.MatchKind.TheVariants.{Attribute, Macro}
 

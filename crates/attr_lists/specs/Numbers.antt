@@ -1,6 +1,6 @@
 -- Numbers of names (own): a name gets the next number when it is first seen, and keeps it.
 use Rattle.std.specs.Prelude.{◌≡◌, ℕ, ◌-◌, ◌^◌, List, [], ◌∷◌, ◌++◌, map, fold, position, slice_get, bytes_eq, Option, Some}
-use Rattle.std.specs.Prelude.{IfSome, unwrap_or, option_map, All, if◌then◌else◌}
+use Rattle.std.specs.Prelude.{unwrap_or, option_map, All, if◌then◌else◌}
 use Rattle.std.specs.List.{list_any, flat_map}
 use Rattle.attr_lists.specs.ListViews.{Entry}
 use Rattle.attr_lists.specs.declared.types.AttributeId.{AttributeId}
@@ -58,11 +58,10 @@ numbered_lines names entries = map (numbered names) entries
 abbrev pub IsNumberOf : List (List ℕ) → List ℕ → AttributeId → Type 0
 IsNumberOf names name id = slice_get names id.0 ≡ Some name
 
--- the macro that the line defines, if it defines one, has the number of its name
-abbrev pub HasMacroNumber : List (List ℕ) → Entry → Type 0
-HasMacroNumber names entry = IfSome entry.macro (IsNumberOf names entry.pattern.text)
+-- each item has the number of its name
+abbrev pub AreNamed : List (List ℕ) → List TrackedAssignment → Type 0
+AreNamed names items = All (λ item. IsNumberOf names item.inner.name item.id) items
 
--- each id of the line is the number of its name
-pub record IsNumbered (names : List (List ℕ)) (entry : Entry) : Type 0 where
-  pub macro : HasMacroNumber names entry
-  pub items : All (λ item. IsNumberOf names item.inner.name item.id) entry.items
+-- some names were appended, so each name keeps its number
+abbrev pub AppendsNames : List (List ℕ) → List (List ℕ) → Type 0
+AppendsNames old new = (more : List (List ℕ)) × (new ≡ old ++ more)

@@ -2,6 +2,7 @@
 -- believed.
 pub mod EntryViews
 pub mod EntrySteps
+pub mod Keeping
 pub mod NameSteps
 pub mod NameTableView
 pub mod LineSteps

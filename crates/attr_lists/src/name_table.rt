@@ -2,13 +2,14 @@
 //!
 //! A definition belongs to a list, and is removed with it. Each list is registered under a list id.
 ghost use Rattle.std.specs.Prelude.{◌≡◌, true, false, ◌<◌, ◌↔◌, length, All, Some, None, nat_lt, if◌then◌else◌, option_map, IfOk, OnOk, OnErr, IfSome, IsSome, IsTrue};
-ghost use Rattle.attr_lists.specs.Definitions.{macro_body, is_active, free_id, with_list, without_list, HoldsList, KeepsNumbers, StayRegistered, OthersStayRegistered, IsSoundCollection};
+ghost use Rattle.attr_lists.specs.Definitions.{macro_body, is_active, free_id, with_list, without_list, HoldsList, IsSoundCollection};
+ghost use Rattle.attr_lists.specs.inner.Keeping.{StayRegistered, OthersStayRegistered, IsNumbered};
 ghost use Rattle.std.specs.Iterator.{YieldsFirstBy, item_count};
 ghost use Rattle.attr_lists.specs.NameViews.{named_body, names_from, named_view, names_left};
 ghost use Rattle.attr_lists.specs.KeptLists.{macros_valid};
 ghost use Rattle.attr_lists.specs.ListViews.{entries_view};
 ghost use Rattle.attr_lists.specs.Collections.{empty_collection};
-ghost use Rattle.attr_lists.specs.Numbers.{number_of, numbered_lines, IsNumbered};
+ghost use Rattle.attr_lists.specs.Numbers.{AppendsNames, number_of, numbered_lines};
 
 mod entry;
 mod numbers;
@@ -42,7 +43,8 @@ impl Model for NameTable {
 impl NameTable {
     /// A table without names and lists. It takes no memory.
     pub fn new(alloc: Global) -> NameTable
-        ensures { result ≡ empty_collection }
+        ensures empty { result ≡ empty_collection }
+        ensures sound { IsSoundCollection result }
     {
         NameTable {
             parts: Parts {
@@ -119,10 +121,11 @@ impl NameTable {
             ≡ numbered_lines self.new.names (entries_view mappings.old)) }
         ensures numbers { OnOk result
             (All (IsNumbered self.new.names) (entries_view mappings.new)) }
-        ensures kept { OnOk result (KeepsNumbers self.old self.new) }
+        ensures names { OnOk result (AppendsNames self.old.names self.new.names) }
         ensures holds { IfOk result
             (λ list_id. HoldsList self.new list_id (entries_view mappings.new)) }
         ensures others { OnOk result (StayRegistered self.old self.new) }
+        ensures sound { IsSoundCollection self.new }
         ensures err { OnErr result (self.new ≡ self.old) }
         ensures err_list { OnErr result (mappings.new ≡ mappings.old) }
     {
@@ -146,14 +149,15 @@ impl NameTable {
         requires { HoldsList self.old list_id (entries_view mappings.now) }
         ensures removed { self.new ≡ without_list list_id self.old }
         ensures others { OthersStayRegistered list_id self.old self.new }
+        ensures sound { IsSoundCollection self.new }
     {
-        entry::remove_list(&mut self.parts.entries, list_id, mappings);
+        let (names, entries) = (&self.parts.names, &mut self.parts.entries);
+        entry::remove_list(names, entries, list_id, mappings);
         self.parts.active[list_id] = false;
     }
 
-    /// Whether the list is registered under the list id: its macros have the numbers of their names, and for each name the
-    /// definitions under the list id are, in their order, those of the list. It takes no memory. It goes through the list once
-    /// for each name that the list defines.
+    /// Whether the list is registered under the list id: for each name, the definitions under the list id are, in their order,
+    /// those of the list. It takes no memory. It goes through the list once for each name that the list defines.
     pub fn holds(&self, list_id: usize, mappings: &[Mapping<Value>]) -> bool
         ensures { IsTrue result ↔ HoldsList self.now list_id (entries_view mappings.now) }
     {
@@ -166,7 +170,8 @@ impl NameTable {
     ///
     /// If memory runs out.
     pub fn clone(&self, alloc: Global) -> Result<NameTable, AllocError>
-        ensures { IfOk result (λ copy. copy ≡ self.now) }
+        ensures content { IfOk result (λ copy. copy ≡ self.now) }
+        ensures sound { IsSoundCollection self.now }
     {
         let names = numbers::clone_names(alloc, &self.parts.names)?;
         let entries = entry::clone_entries(alloc, &self.parts.entries)?;

@@ -32,7 +32,7 @@ impl search::Pattern for Attributes {
 
     ghost use Rattle.attr_lists.specs.KeptLists.{IsReadAs};
 
-    ghost reads = { λ parse bytes mappings dropped. IsReadAs bytes mappings dropped };
+    ghost reads = { λ parse bytes source mappings dropped. IsReadAs bytes mappings dropped };
 
     // The path of the file changes nothing in the lines.
     fn bytes_to_patterns(

@@ -1,6 +1,8 @@
 pub mod NameLemmas
 pub mod WordLemmas
 pub mod WordLaws
+pub mod ItemLemmas
+pub mod ItemLaws
 pub mod PrintedLaws
 pub mod LineLemmas
 pub mod LineLaws

@@ -1,23 +1,24 @@
 -- A printed assignment is one word, which reads as the same assignment.
-use Rattle.std.proofs.Common.{◌≡◌, ℕ, ◌+◌, ◌<◌, Bool, true, false, not, ◌&&◌, cond, List, [], ◌∷◌, ◌++◌, length, take, get_or, map, position, Option}
-use Rattle.std.proofs.Common.{Some, None, Ok, IsTrue, IsUtf8, encode_utf8_all, refl, sym, ap, ◌∙◌, arith, subst, eqb, ltb, add-zero, zero-add}
+use Rattle.std.proofs.Common.{◌≡◌, ℕ, ◌<◌, Bool, true, false, not, ◌&&◌, List, [], ◌∷◌, ◌++◌, length, get_or, map}
+use Rattle.std.proofs.Common.{Some, None, Ok, IsTrue, IsUtf8, encode_utf8_all, refl, sym, ap, ◌∙◌, arith, subst, eqb, ltb}
 use Rattle.std.proofs.Common.{length-append}
-use Rattle.std.specs.List.{position_or_len, before_first, list_all}
-use Rattle.std.proofs.Math.Seq.{take-append_seam, drop-append-add}
-use Rattle.std.proofs.lemmas.List.{append-nil, take_all}
+use Rattle.std.specs.List.{list_all}
+use Rattle.std.proofs.Math.Seq.{drop-append-add}
+use Rattle.std.proofs.lemmas.List.{append-nil}
 use Rattle.std.proofs.lemmas.List.Folds.{list_all-append}
-use Rattle.std.proofs.lemmas.Bool.{and_parts, and_from, not-true, lt-ltb, le-ltb, ltb-true}
+use Rattle.std.proofs.lemmas.Bool.{and_parts, and_from, not-true, ltb-true}
 use Rattle.std.proofs.lemmas.Bool.Decides.{nat_tests}
 use Rattle.std.proofs.lemmas.Str.{utf8_lossy-IsUtf8}
 use Rattle.bstr.proofs.lemmas.LossyLemmas.{lossy_chars-utf8_lossy}
 use Rattle.bstr.specs.Utf8.{lossy_chars}
 use Rattle.attr_glob.specs.Bytes.{exclamation_mark, hyphen}
 use Rattle.attr_text.specs.Names.{is_name_byte, is_valid_name, is_reserved_name}
-use Rattle.attr_text.specs.Items.{equals, is_equals, is_blank, words, checked_name, with_state, state_from, item_of, items_of, printed_state, printed}
+use Rattle.attr_text.specs.Items.{equals, is_equals, is_blank, words, checked_name, with_state, item_of, items_of, printed_state, printed}
 use Rattle.attr_text.specs.Words.{IsPlain}
 use Rattle.attr_text.specs.declared.state.State.{State}
 use Rattle.attr_text.specs.declared.state.State.TheVariants.{Set, Unset, Value, Unspecified}
 use Rattle.attr_text.specs.declared.assignment.Assignment.{Assignment}
+use Rattle.attr_text.proofs.ItemLemmas.{before-equals, before-whole, no_place, place-equals, item-plain, item-unset, item-unspecified}
 use Rattle.attr_text.proofs.WordLaws.{words-run}
 
 -- bytes that pass a test pass a weaker one
@@ -35,14 +36,6 @@ name_byte_not_equals b e = grind (arith, nat_tests)
 
 name_byte_not_bang : (b : ℕ) → is_name_byte b ≡ true → eqb b exclamation_mark ≡ false
 name_byte_not_bang b e = grind (arith, nat_tests)
-
--- if a list begins with bytes that fail a test, the first that passes it comes after them
-place-behind : (p : ℕ → Bool) (xs ys : List ℕ) → list_all (λ b. not (p b)) xs ≡ true → position_or_len p (xs ++ ys) ≡ length xs + position_or_len p ys
-place-behind p [] ys none = sym (zero-add (position_or_len p ys))
-place-behind p (x ∷ xs) ys none =
-    let both = and_parts (not (p x)) (list_all (λ b. not (p b)) xs) none in
-    let rest = place-behind p xs ys both.1 in
-    rw both.0 (omega (arith, rest))
 
 -- the parts of a name
 name-parts : (name : List ℕ) → is_valid_name name ≡ true → (0 < length name) × (eqb (get_or name 0 0) hyphen ≡ false) ×
@@ -93,47 +86,9 @@ printed_is_word a valid plain = state-is_word a.name a.state valid plain
 checked-name : (name : List ℕ) → is_valid_name name ≡ true → is_reserved_name name ≡ false → checked_name name ≡ Ok name
 checked-name name valid free = rw (valid, free) refl
 
-before-equals : (name rest : List ℕ) → list_all (λ b. not (is_equals b)) name ≡ true → before_first is_equals (name ++ equals ∷ rest) ≡ name
-before-equals name rest none =
-    let place : position_or_len is_equals (name ++ equals ∷ rest) ≡ length name = place-behind is_equals name (equals ∷ rest) none ∙ add-zero
-    (length name) in
-    ap (λ n. take n (name ++ equals ∷ rest)) place ∙ take-append_seam name (equals ∷ rest)
-
-before-no_equals : (name : List ℕ) → list_all (λ b. not (is_equals b)) name ≡ true → position_or_len is_equals name ≡ length name
-before-no_equals name none = ap (position_or_len is_equals) (sym (append-nil name)) ∙ (place-behind is_equals name [] none ∙ add-zero (length name))
-
--- a word whose part before the first `=` is this name, with no sign in front
-item-plain : (word name : List ℕ) (place : Option ℕ) → before_first is_equals word ≡ name → position is_equals word ≡ place
-    → eqb (get_or name 0 0) hyphen ≡ false → eqb (get_or name 0 0) exclamation_mark ≡ false
-    → item_of word ≡ with_state (checked_name name) (state_from word place)
-item-plain word name place before at no_minus no_bang = rw (before, at, no_minus, no_bang) refl
-
-item-unset : (word name : List ℕ) → before_first is_equals word ≡ hyphen ∷ name → item_of word ≡ with_state (checked_name name) Unset
-item-unset word name before = rw before refl
-
-item-unspecified : (word name : List ℕ) → before_first is_equals word ≡ exclamation_mark ∷ name → item_of word ≡ with_state (checked_name name)
-    Unspecified
-item-unspecified word name before = rw before refl
-
 with-checked : (name : List ℕ) (state : State) → is_valid_name name ≡ true → is_reserved_name name ≡ false → with_state (checked_name name) state ≡ Ok
     (record { name = name; state = state })
 with-checked name state valid free = ap (λ checked. with_state checked state) (checked-name name valid free)
-
-before-whole : (name : List ℕ) → list_all (λ b. not (is_equals b)) name ≡ true → before_first is_equals name ≡ name
-before-whole name none = ap (λ n. take n name) (before-no_equals name none) ∙ take_all (length name) name (omega arith)
-
-no_place : (name : List ℕ) → list_all (λ b. not (is_equals b)) name ≡ true → position is_equals name ≡ None
-no_place name none =
-    ap (λ n. cond (ltb n (length name)) (Some n) None) (before-no_equals name none)
-    ∙ ap (λ t. cond t (Some (length name)) None) (le-ltb (length name) (length name) (omega arith))
-
-place-equals : (name rest : List ℕ) → list_all (λ b. not (is_equals b)) name ≡ true → position is_equals (name ++ equals ∷ rest) ≡ Some (length name)
-place-equals name rest none =
-    let word = name ++ equals ∷ rest in
-    let place : position_or_len is_equals word ≡ length name = place-behind is_equals name (equals ∷ rest) none ∙ add-zero (length name) in
-    let longer = length-append name (equals ∷ rest) in
-    ap (λ n. cond (ltb n (length word)) (Some n) None) place
-    ∙ ap (λ t. cond t (Some (length name)) None) (lt-ltb (length name) (length word) (omega arith))
 
 value-reads : (name bytes : List ℕ) → is_valid_name name ≡ true → is_reserved_name name ≡ false → item_of (name ++ equals ∷ bytes) ≡ Ok
     (record { name = name; state = Value bytes })

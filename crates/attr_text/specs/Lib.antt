@@ -2,6 +2,7 @@ pub mod Names
 pub mod NameText
 pub mod States
 pub mod Items
+pub mod ItemForms
 pub mod Words
 pub mod LineResults
 pub mod LinesJoined

@@ -1,9 +1,10 @@
 //! Laws of the definitions that the contracts cite. Each law is the contract of a function that does nothing.
-ghost use Rattle.std.specs.Prelude.{◌≡◌, ℕ, List, [], ◌∷◌, true, false, not, IsTrue, Ok, length};
-ghost use Rattle.std.specs.List.{list_all};
+ghost use Rattle.std.specs.Prelude.{◌≡◌, ℕ, List, [], ◌∷◌, true, false, not, IsTrue, Result, Ok, length};
+ghost use Rattle.std.specs.List.{list_all, AllZip};
 ghost use Rattle.std.specs.Str.{IsUtf8};
 ghost use Rattle.attr_text.specs.Names.{is_valid_name, is_reserved_name};
-ghost use Rattle.attr_text.specs.Items.{words, is_blank, items_of, printed};
+ghost use Rattle.attr_text.specs.Items.{words, is_blank, Refusal, item_of, items_of, printed};
+ghost use Rattle.attr_text.specs.ItemForms.{IsItem};
 ghost use Rattle.attr_text.specs.Words.{AreWords, IsPlain};
 ghost use Rattle.attr_text.specs.LineResults.{byte_order_marks, without_front, lines_in};
 ghost use Rattle.attr_text.specs.LinesJoined.{AreLines};
@@ -14,6 +15,17 @@ ghost use Rattle.attr_text.specs.declared.assignment.Assignment.{Assignment};
 pub fn words_are_the_longest_runs()
     ensures holds { (text : List ℕ) → AreWords text (words text) }
     ensures only { (text : List ℕ) (runs : List (List ℕ)) → AreWords text runs → runs ≡ words text }
+{}
+
+/// The item of a word is the one that its form gives, and no other is. So the items of a text are those of its longest runs of
+/// bytes that are not blanks, in order.
+#[tactic(auto, using(crate::proofs::ItemLaws::item_holds, crate::proofs::ItemLaws::item_only, crate::proofs::ItemLaws::items_hold))]
+pub fn items_have_forms()
+    ensures holds { (word : List ℕ) → IsItem word (item_of word) }
+    ensures only { (word : List ℕ) (item : Result Assignment Refusal) →
+        IsItem word item → item ≡ item_of word }
+    ensures each { (text : List ℕ) (runs : List (List ℕ)) → AreWords text runs →
+        AllZip IsItem runs (items_of text) }
 {}
 
 /// A printed assignment is one word. It reads as the same assignment, if the name is not reserved and a value is UTF-8

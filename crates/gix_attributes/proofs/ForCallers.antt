@@ -3,13 +3,16 @@
 -- Counts of failures.
 -- `fails_later`: a count that rises after some time has risen over each earlier count.
 pub use Rattle.gix_attributes.proofs.GlobalLemmas.{fails_later}
--- Outcomes that are reset.
--- `emptied_again`: to reset the contents of an outcome twice is to reset them once.
--- `same_empty`: two lists of one length, each with every element replaced by one value, are equal.
-pub use Rattle.gix_attributes.proofs.OutcomeLemmas.{emptied_again, same_empty}
--- The answers of a first search.
--- `nothing_in`: empty slots have no answers.
--- `all_wanted`: without a selection the number of each slot is wanted.
--- `name_wanted`: the number of a selected name is wanted, if there is a slot for it.
--- `answered_by`: after a search of an outcome without answers, the slot of a wanted number has the answer of the only stable table.
-pub use Rattle.gix_attributes.proofs.SearchLaws.{all_wanted, answered_by, name_wanted, nothing_in}
+-- Outcomes that are reset, as the law `resetting_starts_again` says it.
+-- `reset_at_first`: a reset changes nothing of an outcome that was just initialised. `reset_searched`: after a search it leaves what it
+-- left before. `emptied_again`: twice is once.
+pub use Rattle.gix_attributes.proofs.OutcomeLemmas.{emptied_again, reset_at_first, reset_searched}
+-- The answers of a lookup.
+-- `looked_up_answers`: they are those of the only stable table, with names, as the law `answers_are_of_the_only_table` says it.
+pub use Rattle.gix_attributes.proofs.LookupLemmas.{looked_up_answers}
+-- Lists that are registered.
+-- `bodies_registered`: the body of each name is its last definition in the lists that are registered.
+-- `bodies_have_names`: the items of each body have the numbers of their names.
+-- `left_alone`: a collection that registers the lists of a search alone registers what a pop leaves of them.
+-- `lists_with_ids`: lists with their list ids are these lists.
+pub use Rattle.gix_attributes.proofs.KeepingLemmas.{bodies_have_names, bodies_registered, left_alone, lists_with_ids}

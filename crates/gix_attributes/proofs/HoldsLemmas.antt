@@ -14,8 +14,8 @@ use Rattle.std.proofs.lemmas.Map.Keys.{IsDistinct-push}
 use Rattle.attr_lists.specs.Collections.{Collection}
 use Rattle.attr_lists.specs.Definitions.{HoldsList, is_active}
 use Rattle.attr_lists.specs.ListViews.{entries_view}
-use Rattle.attr_search.specs.inner.Keeping.{KeepsLists}
-use Rattle.gix_attributes.specs.inner.KeepingOthers.{KeepsOthers}
+use Rattle.attr_lists.specs.inner.Keeping.{StayRegistered}
+use Rattle.attr_lists.specs.inner.Keeping.{OthersStayRegistered}
 use Rattle.gix_attributes.specs.SearchViews.{AreHeld}
 use Rattle.gix_attributes.specs.inner.HeldLists.{AreHeldLists, IsHeldList}
 use Rattle.attr_search.specs.IndexedLists.{list_ids_of, lists_view}
@@ -38,7 +38,7 @@ other known list_id free s held true e =
 -- one more list, under a list id that no other has
 pub held_more : (before after : Collection) (lists : List IndexedList) (s : IndexedList)
     → IsEquivalence nat_eq
-    → KeepsLists before after → HoldsList after s.list_id (entries_view s.list.patterns.items) → is_active before.active s.list_id ≡ false
+    → StayRegistered before after → HoldsList after s.list_id (entries_view s.list.patterns.items) → is_active before.active s.list_id ≡ false
     → AreHeldLists before lists → AreHeldLists after (lists ++ s ∷ [])
 held_more before after lists s laws keeps new free held =
     let list_ids = map (λ (x : IndexedList). x.list_id) lists in
@@ -54,7 +54,7 @@ held_more before after lists s laws keeps new free held =
     }
 
 -- of list ids that differ the last one differs from those before it
-distinct-parts : (list_ids : List ℕ) (list_id : ℕ) → IsDistinct nat_eq (list_ids ++ list_id ∷ []) → IsDistinct nat_eq list_ids × All
+pub distinct-parts : (list_ids : List ℕ) (list_id : ℕ) → IsDistinct nat_eq (list_ids ++ list_id ∷ []) → IsDistinct nat_eq list_ids × All
     (λ m. nat_eq m list_id ≡ false) list_ids
 unfolding IsDistinct
 distinct-parts [] list_id d = (tt, All-nil (λ m. nat_eq m list_id ≡ false))
@@ -67,7 +67,7 @@ distinct-parts (m ∷ ms) list_id d =
 apart : (x y : ℕ) → nat_eq x y ≡ false → x ≢ y
 apart x y differ same = true-false (sym (eq-eqb x y same) ∙ differ)
 
-others-held : (before after : Collection) (list_id : ℕ) → KeepsOthers list_id before after → (lists : List IndexedList)
+others-held : (before after : Collection) (list_id : ℕ) → OthersStayRegistered list_id before after → (lists : List IndexedList)
     → All (λ m. nat_eq m list_id ≡ false) (list_ids_of lists) → All (IsHeldList before) lists → All (IsHeldList after) lists
 others-held before after list_id keeps [] differ held = All-nil (IsHeldList after)
 others-held before after list_id keeps (s ∷ ss) differ held =
@@ -83,7 +83,7 @@ pub last_held : (known : Collection) (lists : List IndexedList) (s : IndexedList
 last_held known lists s held = (All-pop (IsHeldList known) (lists ++ s ∷ []) lists (Some s) refl held.held).1
 
 -- the others stay held when the last one is removed
-pub held_less : (before after : Collection) (lists : List IndexedList) (s : IndexedList) → KeepsOthers s.list_id before after
+pub held_less : (before after : Collection) (lists : List IndexedList) (s : IndexedList) → OthersStayRegistered s.list_id before after
     → AreHeldLists before (lists ++ s ∷ []) → AreHeldLists after lists
 held_less before after lists s keeps held =
     let parts = distinct-parts (list_ids_of lists) s.list_id (subst (IsDistinct nat_eq)

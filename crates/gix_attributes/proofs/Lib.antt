@@ -1,5 +1,7 @@
 pub mod ReadLemmas
 pub mod HoldsLemmas
+pub mod KeepingLemmas
+pub mod LookupLemmas
 pub mod SelectionLemmas
 pub mod OutcomeLemmas
 pub mod SearchingLemmas

@@ -17,9 +17,11 @@ use Rattle.attr_lists.specs.declared.types.TrackedAssignment.{TrackedAssignment}
 use Rattle.attr_search.specs.inner.SlotContents.{SlotContents, wanted_numbers}
 use Rattle.gix_attributes.specs.Contents.{Content, Wanted, bodies_of, reset_content, flags_of, found_in, initial_content, is_wanted, looked_up}
 use Rattle.gix_attributes.specs.Contents.{names_selected}
-use Rattle.attr_search.specs.Settings.{HaveSlots, BodiesHaveSlots}
+use Rattle.attr_search.specs.Settings.{HaveSlots}
+use Rattle.attr_search.specs.inner.Slotted.{BodiesHaveSlots}
+use Rattle.gix_attributes.specs.Searching.{KeepsAllButAnswers}
 use Rattle.gix_attributes.specs.Selection.{wanted_view, selection_view}
-use Rattle.attr_search.specs.Slots.{bodies_view}
+use Rattle.attr_search.specs.inner.Slotted.{bodies_view}
 use Rattle.attr_search.specs.Slots.{Matched}
 use Rattle.gix_attributes.specs.declared.search.selection.SelectedName.{SelectedName}
 
@@ -168,6 +170,17 @@ pub emptied_again : (held : Content) → reset_content (reset_content held) ≡ 
 emptied_again held =
     let Emptied : List (Option Matched) → Content = λ slots. record held { is_initialized = true; slots = slots; taken = 0; tested = 0 } in
     ap Emptied (same_empty None (map (λ slot. None) held.slots) held.slots (length-map held.slots (λ slot. None)))
+
+-- an outcome that was just initialised is as after a reset
+pub reset_at_first : (known : Collection) (names : List (List ℕ)) → reset_content (initial_content known names) ≡ initial_content known names
+reset_at_first known names =
+    ap (λ slots. record (initial_content known names) { slots = slots })
+    (same_empty None (map (λ name. None) known.names) known.names (length-map known.names (λ name. None)))
+
+-- after a search, a reset leaves what it left before
+pub reset_searched : (before after : Content) → KeepsAllButAnswers before after → reset_content after ≡ reset_content before
+reset_searched before after kept =
+    ap reset_content kept.rest ∙ ap (λ slots. record (reset_content before) { slots = slots }) (same_empty None after.slots before.slots kept.count)
 
 -- what holds of all that is seen holds of all that it is seen of
 pub all_seen : {X Y : Type 0} (P : Y → Type 0) (f : X → Y) (xs : List X) → All P (map f xs) → All (λ x. P (f x)) xs

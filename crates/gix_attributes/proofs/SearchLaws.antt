@@ -1,16 +1,18 @@
 -- The laws of searches, from the laws of the table.
-use Rattle.std.proofs.Common.{◌≡◌, ◌⊎◌, ◌↔◌, ℕ, zero, suc, ◌+◌, ◌<◌, ◌==◌, ◌||◌, Bool, true, false, cond, List, [], ◌∷◌, ◌++◌, length, get_or, map}
-use Rattle.std.proofs.Common.{filter, All, Option, Some, None, option_map, unwrap_or, refl, sym, ap, ◌∙◌, arith, eq-eqb}
+use Rattle.std.proofs.Common.{◌≡◌, ◌⊎◌, inl, ◌↔◌, ℕ, zero, suc, ◌+◌, ◌<◌, ◌==◌, ◌||◌}
+use Rattle.std.proofs.Common.{Bool, true, false, cond, List, [], ◌∷◌, ◌++◌, length, get_or, map}
+use Rattle.std.proofs.Common.{filter, All, Option, Some, None, MatchOption, option_map, unwrap_or, refl, sym, ap, ◌∙◌, arith, eq-eqb}
 use Rattle.std.proofs.Math.Path.{subst, fun_ext}
+use Rattle.std.specs.Prelude.{◌&&◌, is_some, option_and_then, slice_get}
 use Rattle.std.specs.List.{Contains, list_any, range_with_len}
 use Rattle.std.proofs.lemmas.List.Elements.{All-head, All-tail}
 use Rattle.std.proofs.lemmas.List.{append-nil}
 use Rattle.attr_glob.specs.declared.pattern.Case.{Case}
 use Rattle.attr_lists.specs.ListViews.{Entry}
 use Rattle.attr_lists.specs.declared.types.TrackedAssignment.{TrackedAssignment}
-use Rattle.attr_table.specs.Setting.{Item, Setting}
-use Rattle.attr_table.specs.Table.{Slots, Table, IsStable}
-use Rattle.attr_table.specs.Cut.{IsCut, IsSearched, full_answer, is_done, no_answers}
+use Rattle.attr_table.specs.Setting.{Answer, Item, Line, Origin, Setting, body_of}
+use Rattle.attr_table.specs.Table.{Inside, IsEarliest, IsStable, Occurrence, Root, Slots, Table, item_at, line_at}
+use Rattle.attr_table.specs.Cut.{IsCut, IsCutAt, IsSearched, answer_at, answer_of, cause_at, full_answer, is_done, no_answers, origin_at}
 use Rattle.attr_table.specs.inner.Walk.{Walks, line_tasks, list_tasks, tasks_of}
 use Rattle.attr_table.proofs.ForCallers.{searched_walked, seen_others, seen_wanted, walked_searched}
 use Rattle.attr_table.proofs.ForCallers.{OneTable-of}
@@ -22,7 +24,7 @@ use Rattle.attr_search.specs.Slots.{Matched, slots_of, table_answer, table_items
 abbrev no_slot : {X : Type 0} → X → Option Matched
 no_slot x = None
 
-empty_at : {X : Type 0} (xs : List X) (a : ℕ) → get_or (map no_slot xs) a None ≡ None
+pub empty_at : {X : Type 0} (xs : List X) (a : ℕ) → get_or (map no_slot xs) a None ≡ None
 empty_at [] a = refl
 empty_at (x ∷ xs) zero = refl
 empty_at (x ∷ xs) (suc a) = empty_at xs a
@@ -98,6 +100,91 @@ pub answered_or_not : (s : Setting) (wanted : List ℕ) (before after : Slots) (
     (after number ≡ None) ⊎ (after number ≡ full_answer s None (table number))
 answered_or_not s wanted before after table number nothing searched stable =
     seen_others s no_answers wanted table after number stable (cut_of s wanted before after table nothing searched stable)
+
+-- ---- a search that leaves something that is wanted without an answer
+
+pub not_done : (wanted : List ℕ) (slots : Slots) → is_done wanted slots ≡ false → (w : ℕ) × Contains wanted w × (slots w ≡ None)
+not_done [] slots left = absurd cc
+not_done (v ∷ wanted) slots left = at (λ h. not_done wanted slots h) (slots v) refl
+  where
+    at : (is_done wanted slots ≡ false → (w : ℕ) × Contains wanted w × (slots w ≡ None)) → (o : Option Answer) → slots v ≡ o →
+        (w : ℕ) × Contains (v ∷ wanted) w × (slots w ≡ None)
+    at rest None e = (v, (0, omega arith, refl), e)
+    at rest (Some x) e =
+        let r = rest (ap (λ o. is_some o && is_done wanted slots) (sym e) ∙ left) in
+        (r.0, (suc r.1.0, omega (arith, r.1.1), r.1.2), r.2)
+
+-- an occurrence with an item has a line, and so an answer
+has_origin : (s : Setting) (o : Occurrence) (i : Item) → item_at s o ≡ Some i → (origin : Origin) × (origin_at s o ≡ Some origin)
+has_origin s (Root list line item) i e = at (line_at s list line) e
+  where
+    at : (l : Option Line) → option_and_then (λ l. slice_get l.items item) l ≡ Some i →
+        (origin : Origin) × (option_map (λ l. l.origin) l ≡ Some origin)
+    at None d = absurd cc
+    at (Some l) d = (l.origin, refl)
+has_origin s (Inside parent place) i e = at (λ j h. has_origin s parent j h) (item_at s parent) refl e
+  where
+    at : ((j : Item) → item_at s parent ≡ Some j → (origin : Origin) × (origin_at s parent ≡ Some origin)) → (o : Option Item) →
+        item_at s parent ≡ o → option_and_then (λ j. slice_get (body_of s.bodies j.attribute) place) o ≡ Some i →
+        (origin : Origin) × (origin_at s parent ≡ Some origin)
+    at above None h d = absurd cc
+    at above (Some j) h d = above j h
+
+has_answer : (s : Setting) (o : Occurrence) (i : Item) → item_at s o ≡ Some i → answer_at s o ≡ None → ⊥
+has_answer s o i e none =
+    let r = has_origin s o i e in
+    let there : answer_at s o ≡ Some (answer_of s.bodies r.0 i (cause_at s o)) =
+    ap (option_and_then (λ origin. option_map (λ j. answer_of s.bodies origin j (cause_at s o)) (item_at s o))) r.1
+    ∙ ap (option_map (λ j. answer_of s.bodies r.0 j (cause_at s o))) e in
+    absurd (not_none (answer_of s.bodies r.0 i (cause_at s o)) (sym there ∙ none))
+  where
+    not_none : {X : Type 0} (x : X) → Some x ≡ None → ⊥
+    not_none x e = absurd cc
+
+-- such a wanted attribute had no answer, and has no entry
+no_entry : (s : Setting) (wanted : List ℕ) (start slots : Slots) (table : Table) (w : ℕ) → IsStable s start table →
+    IsCut s start table wanted slots → Contains wanted w → slots w ≡ None → (start w ≡ None) × (table w ≡ None)
+no_entry s wanted start slots table w stable cut c none =
+    at (start w) refl (stable w) (sym (seen_wanted s start wanted table slots w stable cut c) ∙ none)
+  where
+    by_entry : (o : Option Occurrence) → table w ≡ o → IsEarliest s table w o → full_answer s None o ≡ None → table w ≡ None
+    by_entry None e first h = e
+    by_entry (Some p) e first h = absurd (has_answer s p first.0.0 first.0.1.item h)
+
+    at : (o : Option Answer) → start w ≡ o → MatchOption o (IsEarliest s table w (table w)) (λ answer. table w ≡ None) →
+        full_answer s o (table w) ≡ None → (start w ≡ None) × (table w ≡ None)
+    at None e first h = (e, by_entry (table w) refl first h)
+    at (Some x) e first h = absurd cc
+
+-- so each entry is kept
+pub whole_from : (s : Setting) (wanted : List ℕ) (start slots : Slots) (table : Table) → IsSearched s wanted start slots → IsStable s start table →
+    is_done wanted slots ≡ false → (number : ℕ) → slots number ≡ full_answer s (start number) (table number)
+whole_from s wanted start slots table searched stable left number =
+    let one = OneTable-of s start in
+    let same : searched.0 ≡ table = one.2 searched.0 searched.1 ∙ sym (one.2 table stable) in
+    let cut = subst (λ t. IsCut s start t wanted slots) same searched.2 in
+    let w = not_done wanted slots left in
+    let none = no_entry s wanted start slots table w.0 stable cut w.1 w.2 in
+    at (w.0, w.1, none.0, none.1) (start number) (cut number)
+  where
+    by_entry : (w : ℕ) × Contains wanted w × (start w ≡ None) × (table w ≡ None) → (o : Option Occurrence) →
+        IsCutAt s start table wanted o (slots number) → slots number ≡ full_answer s None o
+    by_entry free None e = e
+    by_entry free (Some o) e = e.0 (inl free)
+
+    at : (w : ℕ) × Contains wanted w × (start w ≡ None) × (table w ≡ None) → (o : Option Answer) →
+        MatchOption o (IsCutAt s start table wanted (table number) (slots number)) (λ x. slots number ≡ Some x) →
+        slots number ≡ full_answer s o (table number)
+    at free None e = by_entry free (table number) e
+    at free (Some x) e = e
+
+pub whole_table : (s : Setting) (wanted : List ℕ) (before after : Slots) (table : Table) → before ≡ no_answers →
+    IsSearched s wanted before after → IsStable s no_answers table → is_done wanted after ≡ false → (number : ℕ) →
+    after number ≡ full_answer s None (table number)
+whole_table s wanted before after table nothing searched stable left number =
+    whole_from s wanted no_answers after table (subst (λ start. IsSearched s wanted start after) nothing searched) stable left number
+
+-- ---- lists of which no line matches
 
 -- a line that gives nothing has no tasks
 no_items : (b : Bool) (items : List Item) → b ≡ false → cond b items [] ≡ []

@@ -7,8 +7,11 @@ pub mod DiskReads
 pub mod Failures
 pub mod FileReads
 pub mod Globals
+pub mod Keeping
+pub mod Lookups
 pub mod MemoryFiles
 pub mod MemoryView
+pub mod Registers
 pub mod SearchViews
 pub mod Searching
 pub mod Selection

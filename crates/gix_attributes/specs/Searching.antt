@@ -1,9 +1,9 @@
 -- The setting of a search, and what the search leaves in its outcome (own).
 use Rattle.std.specs.Prelude.{◌≡◌, ℕ, Bool, List, Option, length}
 use Rattle.attr_glob.specs.declared.pattern.Case.{Case}
-use Rattle.attr_table.specs.Cut.{ExtendsCuts, IsSearched, is_done, no_answers}
+use Rattle.attr_table.specs.Cut.{ExtendsCuts, is_done}
 use Rattle.attr_table.specs.Setting.{Setting}
-use Rattle.attr_table.specs.Table.{IsStable, Slots, Table}
+use Rattle.attr_table.specs.Table.{Slots}
 use Rattle.gix_attributes.specs.Contents.{Content, wanted_of}
 use Rattle.attr_search.specs.Settings.{Listed, BodiesAreNamed, HeldAreNamed, ListsAreNamed, setting_of}
 use Rattle.attr_search.specs.Slots.{slots_of}
@@ -37,9 +37,3 @@ abbrev pub KeepsNames : List Listed → Content → Content → Type 0
 KeepsNames lists before after =
     (names : List (List ℕ)) → ListsAreNamed names lists → BodiesAreNamed names before.bodies → HeldAreNamed names before.slots →
     HeldAreNamed names after.slots
-
--- a search of an outcome without answers, and the only stable table of what was searched
-pub record IsFirstSearch (setting : Setting) (before after : Content) (table : Table) : Type 0 where
-  pub empty : answers_in before ≡ no_answers
-  pub searched : IsSearched setting (wanted_of before) (answers_in before) (answers_in after)
-  pub stable : IsStable setting no_answers table

@@ -1,5 +1,4 @@
 -- Relations between functions inside the crate (own). No contract of a public call reaches them, so nothing of them has to be
 -- believed.
 pub mod HeldLists
-pub mod KeepingOthers
 pub mod Registering

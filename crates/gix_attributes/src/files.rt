@@ -97,12 +97,26 @@ impl<'a, R: HostFiles> Disk<'a, R> {
     }
 }
 
-// Reads a whole file, in place of the buffer's contents.
-fn read_file<R: HostFiles>(rt: &R, path: &str, buf: &mut Vec<u8>) -> io::Result<()> {
+const CHUNK: usize = 8192;
+
+// Reads a whole file, in place of the buffer's contents. The buffer grows here and in no call of the
+// device, so that want of memory is told from a device that has none.
+fn read_file<R: HostFiles>(rt: &R, path: &str, buf: &mut Vec<u8>) -> Result<(), ReadError> {
     buf.clear();
-    let mut file = File::open(rt, path)?;
-    file.read_to_end(buf)?;
-    Ok(())
+    let mut file = match File::open(rt, path) {
+        Ok(file) => file,
+        Err(error) => return Err(ReadError::Device(error)),
+    };
+    let mut chunk = [0u8; CHUNK];
+    for _ in 0..u64::MAX {
+        match file.read(&mut chunk) {
+            Ok(0) => return Ok(()),
+            Ok(count) => buf.extend_from_slice(&chunk[..count])?,
+            Err(error) if error.kind() == ErrorKind::Interrupted => {}
+            Err(error) => return Err(ReadError::Device(error)),
+        }
+    }
+    Err(ReadError::Device(io::Error::from(ErrorKind::Interrupted)))
 }
 
 impl<'a, R: HostFiles> Files for Disk<'a, R> {
@@ -118,12 +132,12 @@ impl<'a, R: HostFiles> Files for Disk<'a, R> {
                 self.files_read = self.files_read.saturating_add(1);
                 Ok(true)
             }
-            Err(error) => match error.kind() {
+            Err(ReadError::OutOfMemory) => Err(ReadError::OutOfMemory),
+            Err(ReadError::Device(error)) => match error.kind() {
                 ErrorKind::NotFound | ErrorKind::NotADirectory | ErrorKind::IsADirectory => {
                     buf.clear();
                     Ok(false)
                 }
-                ErrorKind::OutOfMemory => Err(ReadError::OutOfMemory),
                 _ => {
                     self.failures = self.failures.saturating_add(1);
                     Err(ReadError::Device(error))

@@ -1,10 +1,11 @@
 -- Steps that change the entries of names (own).
-use Rattle.std.specs.Prelude.{◌≡◌, ℕ, ◌<◌, ◌⊎◌, false, List, [], ◌++◌, length, map}
+use Rattle.std.specs.Prelude.{◌≡◌, ℕ, ◌<◌, ◌⊎◌, false, List, [], ◌++◌, length, map, Some}
 use Rattle.std.specs.List.{list_any}
 use Rattle.attr_lists.specs.declared.name_table.entry.NameEntry.{NameEntry}
 use Rattle.attr_lists.specs.Collections.{MacroDefinition}
-use Rattle.attr_lists.specs.Definitions.{bodies_defined, definition_of, is_of_list, of_other_lists, bodies_of_list}
+use Rattle.attr_lists.specs.Definitions.{bodies_defined, bodies_named, definition_of, is_of_list, of_other_lists, bodies_of_list}
 use Rattle.attr_lists.specs.ListViews.{Entry}
+use Rattle.attr_lists.specs.Numbers.{number_of}
 use Rattle.attr_lists.specs.inner.EntryViews.{definitions_at}
 
 -- the definitions of the lines were appended to those of their names
@@ -19,16 +20,17 @@ KeepsOtherDefinitions list_id old new =
     (number : ℕ) → of_other_lists list_id (definitions_at new number) ≡ of_other_lists list_id (definitions_at old number)
 
 -- the definitions of the list were removed from each name that the lines define, perhaps from others too
-abbrev pub RemovesDefinitions : ℕ → List Entry → List NameEntry → List NameEntry → Type 0
-RemovesDefinitions list_id lines old new =
-    (number : ℕ) → (definitions_at new number ≡ of_other_lists list_id (definitions_at old number)) ⊎
-    ((definitions_at new number ≡ definitions_at old number) × (bodies_defined number lines ≡ []))
+abbrev pub RemovesDefinitions : ℕ → List (List ℕ) → List Entry → List NameEntry → List NameEntry → Type 0
+RemovesDefinitions list_id names lines old new =
+    (name : List ℕ) (number : ℕ) → number_of names name ≡ Some number →
+    (definitions_at new number ≡ of_other_lists list_id (definitions_at old number)) ⊎
+    ((definitions_at new number ≡ definitions_at old number) × (bodies_named name lines ≡ []))
 
--- the list's definitions of the name with this number are those of the lines
-abbrev pub HasBodies : ℕ → ℕ → List Entry → List MacroDefinition → Type 0
-HasBodies list_id number lines definitions = bodies_of_list list_id definitions ≡ bodies_defined number lines
+-- the list's definitions of the name are those of the lines
+abbrev pub HasBodies : ℕ → List ℕ → List Entry → List MacroDefinition → Type 0
+HasBodies list_id name lines definitions = bodies_of_list list_id definitions ≡ bodies_named name lines
 
 -- the same, unless the list has no definition of the name
-abbrev pub AgreesOn : ℕ → ℕ → List Entry → List MacroDefinition → Type 0
-AgreesOn list_id number lines definitions =
-    (list_any (is_of_list list_id) definitions ≡ false) ⊎ HasBodies list_id number lines definitions
+abbrev pub AgreesOn : ℕ → List ℕ → List Entry → List MacroDefinition → Type 0
+AgreesOn list_id name lines definitions =
+    (list_any (is_of_list list_id) definitions ≡ false) ⊎ HasBodies list_id name lines definitions

@@ -1,5 +1,5 @@
 -- Views of names and of their entries (own).
-use Rattle.std.specs.Prelude.{◌≡◌, ℕ, ◌<◌, Bool, true, false, bytes_eq, slice_get, List, [], length, map, slice_index_or}
+use Rattle.std.specs.Prelude.{◌≡◌, ℕ, ◌<◌, Bool, true, List, [], length, map, slice_index_or}
 use Rattle.std.specs.Prelude.{unwrap_or, option_map, All, IsTrue}
 use Rattle.std.specs.List.{list_any}
 use Rattle.std.specs.HashSet.{HashSet}
@@ -11,8 +11,7 @@ use Rattle.attr_lists.specs.declared.name_table.entry.Definition.{Definition}
 use Rattle.attr_lists.specs.declared.name_table.entry.NameEntry.{NameEntry}
 use Rattle.attr_lists.specs.Definitions.{is_of_list}
 use Rattle.attr_lists.specs.ListViews.{Entry, entries_view}
-use Rattle.attr_lists.specs.Numbers.{numbered_lines}
-use Rattle.attr_lists.specs.declared.types.AttributeId.{AttributeId}
+use Rattle.attr_lists.specs.Numbers.{number_of, numbered_lines}
 use Rattle.attr_lists.specs.declared.types.Value.{Value}
 use Rattle.attr_lists.specs.Collections.{MacroDefinition}
 
@@ -43,18 +42,14 @@ all_definitions entries = map definitions_view entries
 abbrev pub definitions_at : List NameEntry → ℕ → List MacroDefinition
 definitions_at entries number = slice_index_or (all_definitions entries) number []
 
+-- the definitions of a name, none if it is not among the names
+abbrev pub definitions_by : List (List ℕ) → List NameEntry → List ℕ → List MacroDefinition
+definitions_by names entries name = unwrap_or (option_map (definitions_at entries) (number_of names name)) []
+
 -- the list has a definition of the macro that the line defines
-abbrev pub is_defined_in : ℕ → List NameEntry → Entry → Bool
-is_defined_in list_id entries line =
-    unwrap_or (option_map (λ id. list_any (is_of_list list_id) (definitions_at entries id.0)) line.macro) true
-
--- the id is the index of the name
-abbrev pub is_number_of : List (List ℕ) → List ℕ → AttributeId → Bool
-is_number_of names name id = unwrap_or (option_map (bytes_eq name) (slice_get names id.0)) false
-
--- the macro that the line defines, if it defines one, has the number of its name
-abbrev pub has_macro_number : List (List ℕ) → Entry → Bool
-has_macro_number names entry = unwrap_or (option_map (is_number_of names entry.pattern.text) entry.macro) true
+abbrev pub is_defined_in : ℕ → List (List ℕ) → List NameEntry → Entry → Bool
+is_defined_in list_id names entries line =
+    unwrap_or (option_map (λ _. list_any (is_of_list list_id) (definitions_by names entries line.pattern.text)) line.macro) true
 
 -- each part of the entry has this number, and the name has no body without a definition
 pub record IsEntry (number : ℕ) (entry : NameEntry) : Type 0 where

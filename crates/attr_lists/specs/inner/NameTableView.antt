@@ -5,7 +5,7 @@ use Rattle.attr_lists.specs.declared.name_table.parts.Parts.{Parts}
 use Rattle.attr_lists.specs.Collections.{Collection}
 use Rattle.attr_lists.specs.Definitions.{definitions_of, of_other_lists, IsSoundCollection}
 use Rattle.attr_lists.specs.inner.EntryViews.{name_texts, all_definitions, AreEntries}
-use Rattle.attr_lists.specs.inner.NameSteps.{AppendsNames}
+use Rattle.attr_lists.specs.Numbers.{AppendsNames}
 
 abbrev pub parts_view : Parts → Collection
 parts_view p = record { names = name_texts p.names; definitions = all_definitions p.entries.items; active = p.active.items }

@@ -1,14 +1,14 @@
 //! The entries of names: their definitions as macros.
-ghost use Rattle.std.specs.Prelude.{◌≡◌, true, ◌≤◌, ◌<◌, ◌↔◌, ◌==◌, not, filter, ◌++◌, [], ◌∷◌, ℕ, length, map, option_map, MatchOption, IfOk, OnOk, OnErr, IsTrue};
-ghost use Rattle.std.specs.List.{list_any, list_all};
+ghost use Rattle.std.specs.Prelude.{◌≡◌, true, ◌≤◌, ◌<◌, ◌↔◌, ◌==◌, not, filter, ◌++◌, List, [], ◌∷◌, ℕ, length, map, bytes_eq, slice_index_or, option_map, MatchOption, IfOk, OnOk, OnErr, IsTrue};
+ghost use Rattle.std.specs.List.{IsDistinct, list_any, list_all};
 ghost use Rattle.std.specs.Option.{option_to_list};
-ghost use Rattle.attr_lists.specs.Definitions.{bodies_defined, definition_of, is_of_list, of_other_lists, last_body};
+ghost use Rattle.attr_lists.specs.Definitions.{bodies_named, definition_of, is_of_list, of_other_lists, last_body};
 ghost use Rattle.attr_lists.specs.KeptLists.{macro_valid, macros_valid};
 ghost use Rattle.attr_lists.specs.inner.EntrySteps.{AddsDefinitions, KeepsOtherDefinitions, RemovesDefinitions, HasBodies, AgreesOn};
-ghost use Rattle.attr_lists.specs.inner.EntryViews.{numbered_view, definition_view, definitions_view, is_defined_in, all_definitions, definitions_at, IsEntry, AreEntries};
+ghost use Rattle.attr_lists.specs.inner.EntryViews.{numbered_view, definition_view, definitions_view, is_defined_in, all_definitions, definitions_at, definitions_by, name_texts, AreValid, IsEntry, AreEntries};
 ghost use Rattle.attr_lists.specs.ListViews.{entry_view, entries_view};
 
-use crate::name_table::numbers::{id_of, macro_name, numbered_copy};
+use crate::name_table::numbers::{id_of, macro_name, number_of_text, numbered_copy};
 use crate::types::{Assignments, AttributeId, Metadata, TrackedAssignment, Value};
 use attr_glob::search::pattern::Mapping;
 use indexmap::IndexSet;
@@ -84,22 +84,22 @@ impl NameEntry {
     }
 
     // Whether the definitions under the list id are those of the list, if there are any.
-    fn agrees(&self, list_id: usize, number: usize, mappings: &[Mapping<Value>]) -> bool
+    fn agrees(&self, list_id: usize, name: &str, mappings: &[Mapping<Value>]) -> bool
         ensures { IsTrue result
-            ↔ AgreesOn list_id number (entries_view mappings.now) (definitions_view self.now) }
+            ↔ AgreesOn list_id name.now (entries_view mappings.now) (definitions_view self.now) }
     {
-        !self.is_defined_by(list_id) || self.has_bodies(list_id, number, mappings)
+        !self.is_defined_by(list_id) || self.has_bodies(list_id, name, mappings)
     }
 
     // Whether the definitions under the list id are those of the list.
-    fn has_bodies(&self, list_id: usize, number: usize, mappings: &[Mapping<Value>]) -> bool
+    fn has_bodies(&self, list_id: usize, name: &str, mappings: &[Mapping<Value>]) -> bool
         ensures { IsTrue result
-            ↔ HasBodies list_id number (entries_view mappings.now) (definitions_view self.now) }
+            ↔ HasBodies list_id name.now (entries_view mappings.now) (definitions_view self.now) }
     {
         let mut rest = mappings;
         for definition in &self.definitions {
             if definition.list_id == list_id {
-                let Some((body, others)) = first_body(number, rest) else {
+                let Some((body, others)) = first_body(name, rest) else {
                     return false;
                 };
                 if !is_same(&definition.metadata.macro_attributes, body) {
@@ -108,7 +108,7 @@ impl NameEntry {
                 rest = others;
             }
         }
-        first_body(number, rest).is_none()
+        first_body(name, rest).is_none()
     }
 
     fn clone(&self, alloc: Global) -> Result<NameEntry, AllocError>
@@ -160,31 +160,39 @@ fn is_same(x: &[TrackedAssignment], y: &[TrackedAssignment]) -> bool
 }
 
 // The body in the first line that defines the name, and the lines after it.
-fn first_body(
-    number: usize,
-    mappings: &[Mapping<Value>],
-) -> Option<(&Assignments, &[Mapping<Value>])>
+fn first_body<'a>(
+    name: &str,
+    mappings: &'a [Mapping<Value>],
+) -> Option<(&'a Assignments, &'a [Mapping<Value>])>
     ensures { MatchOption result
-        (bodies_defined number (entries_view mappings.now) ≡ [])
-        (λ r. bodies_defined number (entries_view mappings.now)
-        ≡ r.0.now.items ∷ bodies_defined number (entries_view r.1.now)) }
+        (bodies_named name.now (entries_view mappings.now) ≡ [])
+        (λ r. bodies_named name.now (entries_view mappings.now)
+        ≡ r.0.now.items ∷ bodies_named name.now (entries_view r.1.now)) }
 {
     for (index, mapping) in mappings.iter().enumerate() {
-        if let Some(body) = body_of(number, mapping) {
+        if let Some(body) = body_of(name, mapping) {
             return Some((body, &mappings[index + 1..]));
         }
     }
     None
 }
 
-fn body_of(number: usize, mapping: &Mapping<Value>) -> Option<&Assignments>
-    ensures { bodies_defined number (entry_view mapping.now ∷ [])
+fn body_of<'a>(name: &str, mapping: &'a Mapping<Value>) -> Option<&'a Assignments>
+    ensures { bodies_named name.now (entry_view mapping.now ∷ [])
         ≡ option_to_list (option_map (λ body. body.now.items) result) }
 {
     match &mapping.value {
-        Value::MacroAssignments { id, assignments } if id.0 == number => Some(assignments),
+        Value::MacroAssignments { assignments, .. } if has_text(&mapping.pattern.text, name) => {
+            Some(assignments)
+        }
         _ => None,
     }
+}
+
+fn has_text(text: &[u8], name: &str) -> bool
+    ensures { result ≡ bytes_eq name.now text.now }
+{
+    name.as_bytes() == text
 }
 
 // Retains the definitions of all other lists.
@@ -275,69 +283,127 @@ pub(super) fn remove_definitions(entries: &mut [NameEntry], list_id: usize)
 }
 
 /// Removes the definitions of a list from the names that its lines define.
-pub(super) fn remove_list(entries: &mut [NameEntry], list_id: usize, mappings: &[Mapping<Value>])
-    ensures definitions { RemovesDefinitions list_id
+pub(super) fn remove_list(
+    names: &IndexSet<RcStr>,
+    entries: &mut [NameEntry],
+    list_id: usize,
+    mappings: &[Mapping<Value>],
+)
+    requires { AreValid (name_texts names.now) }
+    ensures definitions { RemovesDefinitions list_id (name_texts names.now)
         (entries_view mappings.now) entries.old entries.new }
     ensures entries { AreEntries entries.old → AreEntries entries.new }
 {
     for mapping in mappings {
-        remove_line(entries, list_id, mapping);
+        remove_line(names, entries, list_id, mapping);
     }
 }
 
-fn remove_line(entries: &mut [NameEntry], list_id: usize, mapping: &Mapping<Value>)
-    ensures definitions { RemovesDefinitions list_id
+fn remove_line(
+    names: &IndexSet<RcStr>,
+    entries: &mut [NameEntry],
+    list_id: usize,
+    mapping: &Mapping<Value>,
+)
+    requires { AreValid (name_texts names.now) }
+    ensures definitions { RemovesDefinitions list_id (name_texts names.now)
         (entry_view mapping.now ∷ []) entries.old entries.new }
     ensures entries { AreEntries entries.old → AreEntries entries.new }
 {
-    let Value::MacroAssignments { id, .. } = &mapping.value else {
+    let Value::MacroAssignments { .. } = &mapping.value else {
         return;
     };
-    if id.0 < entries.len() {
-        entries[id.0].remove(list_id);
+    let Some(number) = number_of_text(names, &mapping.pattern.text) else {
+        return;
+    };
+    if number < entries.len() {
+        entries[number].remove(list_id);
     }
 }
 
 /// Whether, for each name, the definitions under the list id are those of the lines.
 pub(super) fn has_definitions(
+    names: &IndexSet<RcStr>,
     entries: &[NameEntry],
     list_id: usize,
     mappings: &[Mapping<Value>],
 ) -> bool
-    ensures { IsTrue result ↔ ((number : ℕ) →
-        HasBodies list_id number (entries_view mappings.now) (definitions_at entries.now number)) }
+    requires valid { AreValid (name_texts names.now) }
+    requires distinct { IsDistinct bytes_eq (name_texts names.now) }
+    requires counted { length entries.now ≡ length (name_texts names.now) }
+    ensures { IsTrue result ↔ ((name : List ℕ) →
+        HasBodies list_id name (entries_view mappings.now)
+        (definitions_by (name_texts names.now) entries.now name)) }
 {
-    are_defined(entries, list_id, mappings) && all_agree(entries, list_id, mappings)
+    are_defined(names, entries, list_id, mappings) && all_agree(names, entries, list_id, mappings)
 }
 
 // Whether the list has a definition of each macro that the lines define.
-fn are_defined(entries: &[NameEntry], list_id: usize, mappings: &[Mapping<Value>]) -> bool
+fn are_defined(
+    names: &IndexSet<RcStr>,
+    entries: &[NameEntry],
+    list_id: usize,
+    mappings: &[Mapping<Value>],
+) -> bool
+    requires { AreValid (name_texts names.now) }
     ensures { result ≡ list_all
-        (λ m. is_defined_in list_id entries.now (entry_view m)) mappings.now }
+        (λ m. is_defined_in list_id (name_texts names.now) entries.now (entry_view m))
+        mappings.now }
 {
     mappings
         .iter()
-        .all(|mapping| is_defined(entries, list_id, mapping))
+        .all(|mapping| is_defined(names, entries, list_id, mapping))
 }
 
-fn is_defined(entries: &[NameEntry], list_id: usize, mapping: &Mapping<Value>) -> bool
-    ensures { result ≡ is_defined_in list_id entries.now (entry_view mapping.now) }
+fn is_defined(
+    names: &IndexSet<RcStr>,
+    entries: &[NameEntry],
+    list_id: usize,
+    mapping: &Mapping<Value>,
+) -> bool
+    requires { AreValid (name_texts names.now) }
+    ensures { result
+        ≡ is_defined_in list_id (name_texts names.now) entries.now (entry_view mapping.now) }
 {
     match &mapping.value {
-        Value::MacroAssignments { id, .. } => {
-            id.0 < entries.len() && entries[id.0].is_defined_by(list_id)
+        Value::MacroAssignments { .. } => {
+            has_definition(names, entries, list_id, &mapping.pattern.text)
         }
         Value::Assignments(_) => true,
     }
 }
 
-// Whether each name that the list defines has the definitions of the lines.
-fn all_agree(entries: &[NameEntry], list_id: usize, mappings: &[Mapping<Value>]) -> bool
-    ensures { IsTrue result ↔ ((number : ℕ) → number < length entries.now →
-        AgreesOn list_id number (entries_view mappings.now) (definitions_at entries.now number)) }
+// Whether the list has a definition of the name.
+fn has_definition(
+    names: &IndexSet<RcStr>,
+    entries: &[NameEntry],
+    list_id: usize,
+    name: &[u8],
+) -> bool
+    requires { AreValid (name_texts names.now) }
+    ensures { result ≡ list_any (is_of_list list_id)
+        (definitions_by (name_texts names.now) entries.now name.now) }
 {
-    for (number, entry) in entries.iter().enumerate() {
-        if !entry.agrees(list_id, number, mappings) {
+    match number_of_text(names, name) {
+        Some(number) => number < entries.len() && entries[number].is_defined_by(list_id),
+        None => false,
+    }
+}
+
+// Whether each name that the list defines has the definitions of the lines.
+fn all_agree(
+    names: &IndexSet<RcStr>,
+    entries: &[NameEntry],
+    list_id: usize,
+    mappings: &[Mapping<Value>],
+) -> bool
+    requires { length entries.now ≡ length (name_texts names.now) }
+    ensures { IsTrue result ↔ ((number : ℕ) → number < length entries.now →
+        AgreesOn list_id (slice_index_or (name_texts names.now) number [])
+        (entries_view mappings.now) (definitions_at entries.now number)) }
+{
+    for (number, name) in names.as_slice().iter().enumerate() {
+        if !entries[number].agrees(list_id, name.as_str(), mappings) {
             return false;
         }
     }

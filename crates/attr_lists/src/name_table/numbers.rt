@@ -1,13 +1,13 @@
 //! Names by number, and the numbers in the lines of a list.
 ghost use Rattle.std.specs.Prelude.{◌≡◌, true, [], ◌∷◌, map, option_map, bytes_eq, IfOk, OnOk, OnErr, IsTrue};
-ghost use Rattle.std.specs.List.{IsDistinct, list_all};
+ghost use Rattle.std.specs.List.{IsDistinct};
 ghost use Rattle.std.specs.Rc.{rc_str_bytes};
 ghost use Rattle.attr_text.specs.Names.{is_valid_name};
 ghost use Rattle.attr_lists.specs.KeptLists.{macro_valid, macros_valid};
-ghost use Rattle.attr_lists.specs.inner.EntryViews.{name_texts, numbered_view, is_number_of, has_macro_number, AreValid};
-ghost use Rattle.attr_lists.specs.inner.NameSteps.{InsertsNames, AppendsNames};
+ghost use Rattle.attr_lists.specs.inner.EntryViews.{name_texts, numbered_view, AreValid};
+ghost use Rattle.attr_lists.specs.inner.NameSteps.{InsertsNames};
 ghost use Rattle.attr_lists.specs.ListViews.{entry_view, entries_view, macro_id, items_in};
-ghost use Rattle.attr_lists.specs.Numbers.{macro_names, names_of, names_in, number_of, id_of, numbered_item, numbered};
+ghost use Rattle.attr_lists.specs.Numbers.{AppendsNames, macro_names, names_of, names_in, number_of, id_of, numbered_item, numbered};
 
 use crate::types::{Assignments, AttributeId, TrackedAssignment, Value};
 use attr_glob::Pattern;
@@ -140,6 +140,17 @@ pub(super) fn number_of(names: &IndexSet<RcStr>, name: &str) -> Option<usize>
     names.get_index_of(name)
 }
 
+/// The number of the name that a text is, if it is one of the names.
+pub(super) fn number_of_text(names: &IndexSet<RcStr>, text: &[u8]) -> Option<usize>
+    requires { AreValid (name_texts names.now) }
+    ensures { result ≡ number_of (name_texts names.now) text.now }
+{
+    match text.to_str() {
+        Ok(name) => number_of(names, name),
+        Err(_) => None,
+    }
+}
+
 /// A copy of the items, with the numbers of their names.
 pub(super) fn numbered_copy(
     alloc: Global,
@@ -207,34 +218,6 @@ fn number_items(names: &IndexSet<RcStr>, items: &mut [TrackedAssignment])
 {
     for item in items.iter_mut() {
         item.id = id_of(names, item.inner.name.as_str());
-    }
-}
-
-/// Whether each macro that the list defines has the number of its name.
-pub(super) fn are_macros_numbered(names: &IndexSet<RcStr>, mappings: &[Mapping<Value>]) -> bool
-    ensures { result ≡ list_all
-        (λ m. has_macro_number (name_texts names.now) (entry_view m)) mappings.now }
-{
-    mappings
-        .iter()
-        .all(|mapping| has_macro_number(names, mapping))
-}
-
-fn has_macro_number(names: &IndexSet<RcStr>, mapping: &Mapping<Value>) -> bool
-    ensures { result ≡ has_macro_number (name_texts names.now) (entry_view mapping.now) }
-{
-    match &mapping.value {
-        Value::MacroAssignments { id, .. } => { is_number_of(names, &mapping.pattern.text, *id) }
-        Value::Assignments(_) => true,
-    }
-}
-
-fn is_number_of(names: &IndexSet<RcStr>, name: &[u8], id: AttributeId) -> bool
-    ensures { result ≡ is_number_of (name_texts names.now) name.now id }
-{
-    match names.get_index(id.0) {
-        Some(text) => name == text.as_bytes(),
-        None => false,
     }
 }
 

@@ -1,11 +1,10 @@
 //! The parts of a name table, and the steps that add a list to them.
-ghost use Rattle.std.specs.Prelude.{◌≡◌, true, ◌↔◌, ℕ, length, All, OnOk, OnErr, IsTrue};
-ghost use Rattle.attr_lists.specs.Definitions.{bodies_defined, bodies_of_list, free_id, is_active, with_active, with_list};
+ghost use Rattle.std.specs.Prelude.{◌≡◌, true, ◌↔◌, ℕ, List, length, OnOk, OnErr, IsTrue};
+ghost use Rattle.attr_lists.specs.Definitions.{IsSoundCollection, definitions_for, free_id, is_active, with_active, with_list};
 ghost use Rattle.attr_lists.specs.KeptLists.{macros_valid};
 ghost use Rattle.attr_lists.specs.ListViews.{entries_view};
-ghost use Rattle.attr_lists.specs.Numbers.{HasMacroNumber};
 ghost use Rattle.attr_lists.specs.inner.EntrySteps.{HasBodies};
-ghost use Rattle.attr_lists.specs.inner.EntryViews.{name_texts, definitions_at, AreEntries, AreValid};
+ghost use Rattle.attr_lists.specs.inner.EntryViews.{name_texts, AreEntries, AreValid};
 ghost use Rattle.attr_lists.specs.inner.NameTableView.{parts_view, rolled_back, IsPartlyAdded};
 
 use crate::name_table::entry::NameEntry;
@@ -66,16 +65,14 @@ impl Parts {
         entry::remove_definitions(&mut self.entries, list_id);
     }
 
-    /// Whether the list's macros have the numbers of their names, and its definitions are those under the list id.
+    /// Whether, for each name, the definitions under the list id are those of the list.
     pub(super) fn has_list(&self, list_id: usize, mappings: &[Mapping<Value>]) -> bool
-        ensures { IsTrue result ↔
-            All (HasMacroNumber (name_texts self.now.names)) (entries_view mappings.now)
-            × ((number : ℕ) →
-            HasBodies list_id number (entries_view mappings.now)
-            (definitions_at self.now.entries.items number)) }
+        requires { IsSoundCollection (parts_view self.now) }
+        ensures { IsTrue result ↔ ((name : List ℕ) →
+            HasBodies list_id name (entries_view mappings.now)
+            (definitions_for (parts_view self.now) name)) }
     {
-        numbers::are_macros_numbered(&self.names, mappings)
-            && entry::has_definitions(&self.entries, list_id, mappings)
+        entry::has_definitions(&self.names, &self.entries, list_id, mappings)
     }
 }
 

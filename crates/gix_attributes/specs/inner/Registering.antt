@@ -2,14 +2,14 @@
 use Rattle.std.specs.Prelude.{◌≡◌, false}
 use Rattle.attr_glob.specs.declared.search.pattern.List.{List as PatternList}
 use Rattle.attr_lists.specs.Collections.{Collection}
-use Rattle.attr_lists.specs.Definitions.{HoldsList, free_id, is_active}
+use Rattle.attr_lists.specs.Definitions.{HoldsList, IsSoundCollection, free_id, is_active}
 use Rattle.attr_lists.specs.ListViews.{entries_view}
 use Rattle.attr_lists.specs.Numbers.{numbered_lines}
 use Rattle.attr_lists.specs.declared.parser.Attributes.{Attributes}
 use Rattle.attr_lists.specs.declared.types.Dropped.{Dropped}
 use Rattle.attr_lists.specs.declared.types.Value.{Value}
 use Rattle.attr_search.specs.declared.indexed_list.IndexedList.{IndexedList}
-use Rattle.attr_search.specs.inner.Keeping.{KeepsLists}
+use Rattle.attr_lists.specs.inner.Keeping.{StayRegistered}
 use Rattle.gix_attributes.specs.Additions.{with_registered}
 
 -- the list that was passed is registered under the least free list id, its lines are numbered, and other lists stay registered
@@ -22,4 +22,5 @@ pub record Registers (before after : Collection) (list : PatternList Attributes 
   pub base : indexed.list.base ≡ list.base
   pub added : after ≡ with_registered (entries_view list.patterns.items) before
   pub holds : HoldsList after indexed.list_id (entries_view indexed.list.patterns.items)
-  pub others : KeepsLists before after
+  pub others : StayRegistered before after
+  pub sound : IsSoundCollection after

@@ -1,6 +1,6 @@
 //! A search: its lists of patterns, how they are added and removed, and how a path is matched against them.
 
-ghost use Rattle.std.specs.Prelude.{◌≡◌, ◌≤◌, IsTrue, Ok, true, false, [], MatchOption, IfNone, option_map, ◌∷◌, ◌++◌, IfOk, OnOk, OnErr, Some, length, filter, string_bytes, if◌then◌else◌};
+ghost use Rattle.std.specs.Prelude.{◌≡◌, ◌≤◌, IsTrue, Ok, true, false, [], MatchOption, IfNone, IfSome, option_map, ◌∷◌, ◌++◌, IfOk, OnOk, OnErr, Some, length, filter, string_bytes, if◌then◌else◌};
 ghost use Rattle.std.specs.Option.{option_copied, option_to_list};
 ghost use Rattle.attr_glob.specs.Bases.{base_of};
 ghost use Rattle.attr_glob.specs.Views.{base_bytes};
@@ -16,8 +16,11 @@ ghost use Rattle.gix_attributes.specs.Contents.{reset_content, wanted_of};
 ghost use Rattle.gix_attributes.specs.Covered.{ListsAreCovered};
 ghost use Rattle.attr_search.specs.Roots.{RootsAtMost};
 ghost use Rattle.gix_attributes.specs.Searching.{JoinsSearches, KeepsAllButAnswers, KeepsNames, answers_in, is_complete, setting_for};
-ghost use Rattle.attr_search.specs.Settings.{AreRead, candidate_lines, is_found};
-ghost use Rattle.gix_attributes.specs.Additions.{buffer_list, with_registered};
+ghost use Rattle.attr_search.specs.Settings.{candidate_lines, is_found};
+ghost use Rattle.attr_search.specs.inner.ReadLines.{AreRead};
+ghost use Rattle.attr_lists.specs.Collections.{Collection};
+ghost use Rattle.gix_attributes.specs.Additions.{buffer_list, registered_lists, with_registered};
+ghost use Rattle.gix_attributes.specs.Keeping.{Adds, Keeps, Removes};
 ghost use Rattle.gix_attributes.specs.SearchViews.{lists_in, list_ids_in, Holds, LosesLast, RemovesLast};
 
 use crate::search::{MetadataCollection, Outcome};
@@ -42,7 +45,9 @@ pub struct Search {
 impl Search {
     /// A search without lists. It takes no memory.
     pub fn new(alloc: Global) -> Search
-        ensures { lists_in result ≡ [] }
+        ensures lists { lists_in result ≡ [] }
+        ensures list_ids { list_ids_in result ≡ [] }
+        ensures held { (known : Collection) → Holds known result }
     {
         Search {
             patterns: Vec::new(alloc),
@@ -84,6 +89,10 @@ impl Search {
             ≡ list_ids_in self.old ++ free_id collection.old.active ∷ []) }
         ensures dropped { IfOk result (λ dropped. dropped.items ≡ dropped_lines bytes.now) }
         ensures held { Holds collection.old self.old → Holds collection.new self.new }
+        ensures kept { OnOk result (Keeps (registered_lists self.old collection.old)
+            (registered_lists self.new collection.new)) }
+        ensures added { OnOk result (Adds (registered_lists self.old collection.old)
+            (registered_lists self.new collection.new)) }
         ensures refused { OnErr result (lists_in self.new ≡ lists_in self.old) }
         ensures refused_list_ids { OnErr result (list_ids_in self.new ≡ list_ids_in self.old) }
         ensures unchanged { OnErr result (collection.new ≡ collection.old) }
@@ -112,6 +121,11 @@ impl Search {
         ensures collection { MatchOption result (collection.new ≡ collection.old)
             (λ _. RemovesLast (list_ids_in self.old) collection.old collection.new) }
         ensures held { Holds collection.new self.new }
+        ensures kept { IfSome result (λ _. Keeps (registered_lists self.old collection.old)
+            (registered_lists self.new collection.new)) }
+        ensures removed { IfSome result (λ _. Removes
+            (registered_lists self.old collection.old)
+            (registered_lists self.new collection.new)) }
     {
         let last = self.patterns.pop()?;
         collection.remove(last.list_id, &last.list.patterns);
@@ -181,6 +195,8 @@ impl Search {
     pub fn clone(&self, alloc: Global) -> Result<Search, AllocError>
         ensures lists { IfOk result (λ copy. lists_in copy ≡ lists_in self.now) }
         ensures list_ids { IfOk result (λ copy. list_ids_in copy ≡ list_ids_in self.now) }
+        ensures held { IfOk result (λ copy.
+            (known : Collection) → Holds known self.now → Holds known copy) }
     {
         Ok(Search {
             patterns: IndexedList::copies(alloc, &self.patterns)?,

@@ -1,19 +1,23 @@
 //! The collection of attributes: their names by number, and the definitions of macros of the registered lists.
 
-ghost use Rattle.std.specs.Prelude.{◌≡◌, ◌↔◌, ◌<◌, length, true, false, IfOk, OnOk, OnErr, IsTrue, nat_eq, ◌==◌};
+ghost use Rattle.std.specs.Prelude.{◌≡◌, ◌↔◌, ◌<◌, [], length, true, false, IfOk, OnOk, OnErr, IsTrue, nat_eq, ◌==◌};
 ghost use Rattle.attr_lists.specs.Collections.{empty_collection};
-ghost use Rattle.attr_lists.specs.Numbers.{number_of, numbered_lines};
-ghost use Rattle.attr_lists.specs.Definitions.{IsSoundCollection, macro_body, without_list, HoldsList};
+ghost use Rattle.attr_lists.specs.Numbers.{AppendsNames, number_of, numbered_lines};
+ghost use Rattle.attr_lists.specs.Definitions.{IsSoundCollection, free_id, macro_body, without_list, HoldsList};
 ghost use Rattle.attr_lists.specs.KeptLists.{macros_valid};
 ghost use Rattle.attr_lists.specs.ListViews.{entries_view};
 ghost use Rattle.attr_lists.specs.NameViews.{names_from, names_left};
 ghost use Rattle.std.specs.List.{IsDistinct, list_any};
 ghost use Rattle.gix_attributes.specs.SearchViews.{Holds};
 ghost use Rattle.attr_search.specs.IndexedLists.{list_ids_of};
-ghost use Rattle.attr_search.specs.Settings.{AreRead};
+ghost use Rattle.attr_search.specs.inner.ReadLines.{AreRead};
 ghost use Rattle.gix_attributes.specs.Additions.{with_registered};
+ghost use Rattle.attr_search.specs.ListView.{list_view};
+ghost use Rattle.attr_search.specs.Settings.{LinesAreNamed};
+ghost use Rattle.gix_attributes.specs.Keeping.{KeepsSearches, RegistersLast};
+ghost use Rattle.gix_attributes.specs.Registers.{RegistersExactly};
 ghost use Rattle.gix_attributes.specs.inner.HeldLists.{AreHeldLists};
-ghost use Rattle.gix_attributes.specs.inner.KeepingOthers.{KeepsOthers};
+ghost use Rattle.attr_lists.specs.inner.Keeping.{OthersStayRegistered};
 ghost use Rattle.gix_attributes.specs.inner.Registering.{Registers};
 
 use crate::Search;
@@ -40,12 +44,18 @@ impl Model for MetadataCollection {
     ghost Value = { Collection };
 
     ghost view = { λ c. c.numbering };
+
+    ghost use Rattle.attr_lists.specs.Definitions.{IsSoundCollection};
+
+    ghost invariant = { λ c. IsSoundCollection c.numbering };
 }
 
 impl MetadataCollection {
     /// A collection without attributes. It takes no memory.
     pub fn new(alloc: Global) -> MetadataCollection
-        ensures { result ≡ empty_collection }
+        ensures empty { result ≡ empty_collection }
+        ensures registered { RegistersExactly result [] }
+        ensures sound { IsSoundCollection result }
     {
         MetadataCollection {
             numbering: NameTable::new(alloc),
@@ -95,6 +105,15 @@ impl MetadataCollection {
             ≡ with_registered (entries_view list.old.patterns.items) self.old) }
         ensures numbered { OnOk result (entries_view list.new.patterns.items
             ≡ numbered_lines self.new.names (entries_view list.old.patterns.items)) }
+        ensures registered { OnOk result (RegistersLast self.old (record {
+          list_id = free_id self.old.active;
+          list = list_view list.new;
+        }) self.new) }
+        ensures held { OnOk result (KeepsSearches self.old self.new) }
+        ensures named { OnOk result
+            (LinesAreNamed self.new.names (entries_view list.new.patterns.items)) }
+        ensures names { OnOk result (AppendsNames self.old.names self.new.names) }
+        ensures sound { IsSoundCollection self.new }
         ensures refused { OnErr result (self.new ≡ self.old) }
         ensures unchanged { OnErr result
             (entries_view list.new.patterns.items ≡ entries_view list.old.patterns.items) }
@@ -107,7 +126,8 @@ impl MetadataCollection {
 
     /// The names by number, each with its [`Metadata`](crate::search::Metadata).
     pub fn iter(&self) -> Names<'_>
-        ensures { names_left result ≡ names_from self.now 0 }
+        ensures names { names_left result ≡ names_from self.now 0 }
+        ensures sound { IsSoundCollection self.now }
     {
         self.numbering.iter()
     }
@@ -131,7 +151,8 @@ impl MetadataCollection {
     pub(crate) fn remove(&mut self, list_id: usize, mappings: &[Mapping<Value>])
         requires { HoldsList self.old list_id (entries_view mappings.now) }
         ensures removed { self.new ≡ without_list list_id self.old }
-        ensures others { KeepsOthers list_id self.old self.new }
+        ensures others { OthersStayRegistered list_id self.old self.new }
+        ensures sound { IsSoundCollection self.new }
     {
         self.numbering.remove(list_id, mappings);
     }
@@ -143,21 +164,14 @@ impl MetadataCollection {
         macros_valid(&list.patterns)
     }
 
-    /// Whether the lists of the search are registered in this collection under different list ids, each with its
-    /// definitions, as additions to both leave them. Only then a list can be removed by [`Search::pop_pattern_list`].
+    /// Whether the lists of the search are registered in this collection under different list ids: for each name, the
+    /// definitions under a list's id are those of its lines. Only then a list can be removed by
+    /// [`Search::pop_pattern_list`]. It takes no memory.
     pub fn holds(&self, search: &Search) -> bool
-        ensures { IsTrue result ↔ Holds self.now search.now }
+        ensures held { IsTrue result ↔ Holds self.now search.now }
+        ensures sound { IsSoundCollection self.now }
     {
-        self.are_held(search.lists())
-    }
-
-    fn are_held(&self, lists: &[IndexedList]) -> bool
-        ensures { IsTrue result ↔ AreHeldLists self.now lists.now }
-    {
-        are_list_ids_distinct(lists)
-            && lists
-                .iter()
-                .all(|s| self.numbering.holds(s.list_id, &s.list.patterns))
+        are_held(&self.numbering, search.lists())
     }
 
     /// A copy, in which the same lists are registered. The copy and the collection don't follow one another's
@@ -167,12 +181,23 @@ impl MetadataCollection {
     ///
     /// If there is no memory.
     pub fn clone(&self, alloc: Global) -> Result<MetadataCollection, AllocError>
-        ensures { IfOk result (λ copy. copy ≡ self.now) }
+        ensures content { IfOk result (λ copy. copy ≡ self.now) }
+        ensures sound { IsSoundCollection self.now }
     {
         Ok(MetadataCollection {
             numbering: self.numbering.clone(alloc)?,
         })
     }
+}
+
+// Whether the lists are registered under different list ids, each with its definitions.
+fn are_held(numbering: &NameTable, lists: &[IndexedList]) -> bool
+    ensures { IsTrue result ↔ AreHeldLists numbering.now lists.now }
+{
+    are_list_ids_distinct(lists)
+        && lists
+            .iter()
+            .all(|s| numbering.holds(s.list_id, &s.list.patterns))
 }
 
 // Whether no two lists have the same list id.

@@ -1,12 +1,14 @@
 //! Lists that are read from files: one at a time, and the global ones.
 
-ghost use Rattle.std.specs.Prelude.{◌≡◌, ◌≤◌, List, IfOk, IfErr, OnErr, MatchResult, map, string_bytes};
+ghost use Rattle.std.specs.Prelude.{◌≡◌, ◌≤◌, List, IfOk, IfErr, OnOk, OnErr, MatchResult, map, string_bytes};
 ghost use Rattle.std.specs.Option.{option_copied};
 ghost use Rattle.gix_attributes.specs.Additions.{AddsFile, IsIo, RefusedBy, registered_lists};
 ghost use Rattle.gix_attributes.specs.Answers.{ReadAnswer};
 ghost use Rattle.gix_attributes.specs.Failures.{Fails};
 ghost use Rattle.gix_attributes.specs.FileReads.{AreAnswered, FileRead, ReadInOrder, names_read};
 ghost use Rattle.gix_attributes.specs.Globals.{RefusesGlobals, globals_in, globals_of, with_built_in};
+ghost use Rattle.gix_attributes.specs.Keeping.{Adds, AddsBeforeRefusal, Keeps};
+ghost use Rattle.gix_attributes.specs.Registers.{no_lists};
 ghost use Rattle.gix_attributes.specs.SearchViews.{Holds, lists_in, list_ids_in};
 ghost use Rattle.gix_attributes.specs.declared.search.files.AddError.TheVariants.{OutOfMemory};
 
@@ -88,6 +90,10 @@ impl Search {
             IsIo e → Fails (F.failed files.old) (F.failed files.new)) }
         ensures count { F.failed files.old ≤ F.failed files.new }
         ensures held { Holds collection.old self.old → Holds collection.new self.new }
+        ensures kept { OnOk result (Keeps (registered_lists self.old collection.old)
+            (registered_lists self.new collection.new)) }
+        ensures added { OnOk result (Adds (registered_lists self.old collection.old)
+            (registered_lists self.new collection.new)) }
         ensures refused { OnErr result (lists_in self.new ≡ lists_in self.old) }
         ensures refused_list_ids { OnErr result (list_ids_in self.new ≡ list_ids_in self.old) }
         ensures unchanged { OnErr result (collection.new ≡ collection.old) }
@@ -126,6 +132,10 @@ impl Search {
             (registered_lists self.new collection.new) buf.new.items)
             (RefusedBy answer) }
         ensures held { Holds collection.old self.old → Holds collection.new self.new }
+        ensures kept { OnOk result (Keeps (registered_lists self.old collection.old)
+            (registered_lists self.new collection.new)) }
+        ensures added { OnOk result (Adds (registered_lists self.old collection.old)
+            (registered_lists self.new collection.new)) }
         ensures refused { OnErr result (lists_in self.new ≡ lists_in self.old) }
         ensures refused_list_ids { OnErr result (list_ids_in self.new ≡ list_ids_in self.old) }
         ensures unchanged { OnErr result (collection.new ≡ collection.old) }
@@ -163,6 +173,11 @@ impl Search {
             × (globals_in globals.0 collection.new globals.1.items buf.new.items
             ≡ globals_of collection.old buf.old.items read)) }
         ensures held { IfOk result (λ globals. Holds collection.new globals.0) }
+        ensures kept { IfOk result (λ globals. Keeps (no_lists collection.old)
+            (registered_lists globals.0 collection.new)) }
+        ensures added { IfOk result (λ globals. Adds (no_lists collection.old)
+            (registered_lists globals.0 collection.new)) }
+        ensures added_before { OnErr result (AddsBeforeRefusal collection.old collection.new) }
         ensures refused { IfErr result (λ e. (read : List FileRead)
             × ReadInOrder F.reads files.old read files.new
             × RefusesGlobals (map string_bytes names.now) read collection.old collection.new e) }
@@ -200,6 +215,11 @@ impl Search {
             × (globals_in globals.0 collection.new globals.1.items buf.new.items
             ≡ globals_of collection.old buf.old.items read)) }
         ensures held { IfOk result (λ globals. Holds collection.new globals.0) }
+        ensures kept { IfOk result (λ globals. Keeps (no_lists collection.old)
+            (registered_lists globals.0 collection.new)) }
+        ensures added { IfOk result (λ globals. Adds (no_lists collection.old)
+            (registered_lists globals.0 collection.new)) }
+        ensures added_before { OnErr result (AddsBeforeRefusal collection.old collection.new) }
         ensures refused { IfErr result (λ e. (read : List FileRead)
             × RefusesGlobals (map string_bytes names.now) read collection.old collection.new e) }
     {
@@ -213,6 +233,10 @@ fn built_in_alone(alloc: Global, collection: &mut MetadataCollection) -> Result<
     ensures loaded { IfOk result (λ search.
         registered_lists search collection.new ≡ with_built_in collection.old) }
     ensures held { IfOk result (λ search. Holds collection.new search) }
+    ensures kept { IfOk result (λ search. Keeps (no_lists collection.old)
+        (registered_lists search collection.new)) }
+    ensures added { IfOk result (λ search. Adds (no_lists collection.old)
+        (registered_lists search collection.new)) }
     ensures refused { OnErr result (collection.new ≡ collection.old) }
 {
     let mut search = Search::new(alloc);

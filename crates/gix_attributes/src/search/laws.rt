@@ -1,41 +1,58 @@
 //! Facts of all searches. A law is a function that does nothing: its clauses are the law.
 
-ghost use Rattle.std.specs.Prelude.{◌≡◌, ◌⊎◌, ◌<◌, ◌↔◌, ℕ, Bool, false, List, ◌∷◌, ◌++◌, Option, None, Some, All, Contains, length};
+ghost use Rattle.std.specs.Prelude.{◌≡◌, ◌↔◌, ℕ, Bool, false, List, ◌∷◌, ◌++◌, Option, All};
 ghost use Rattle.attr_glob.specs.declared.pattern.Case.{Case};
 ghost use Rattle.attr_lists.specs.Collections.{Collection};
 ghost use Rattle.attr_lists.specs.declared.types.TrackedAssignment.{TrackedAssignment};
-ghost use Rattle.attr_table.specs.Cut.{IsSearched, full_answer, no_answers};
-ghost use Rattle.attr_table.specs.Table.{Slots, Table};
-ghost use Rattle.gix_attributes.specs.Contents.{Content, Wanted, reset_content, initial_content};
-ghost use Rattle.gix_attributes.specs.Searching.{IsFirstSearch, answers_in, setting_for};
+ghost use Rattle.attr_table.specs.Cut.{IsSearched, full_answer};
+ghost use Rattle.attr_table.specs.Table.{IsStable, Slots, Table};
+ghost use Rattle.gix_attributes.specs.Contents.{Content, reset_content, initial_content, wanted_of};
+ghost use Rattle.gix_attributes.specs.Lookups.{IsLookedUp, IsSearchedFurther, Lookup, OfTheOnlyTable, ReturnsAnswers, SelectsNoMore, setting_in, with_lists_searched};
+ghost use Rattle.gix_attributes.specs.Searching.{KeepsAllButAnswers, answers_in, is_complete, setting_for};
 ghost use Rattle.attr_search.specs.Settings.{Listed, gives, rest_for, setting_of};
 
-/// An outcome has no answers after it is initialised or reset.
-pub fn nothing_is_answered_at_first()
-    ensures initialized { (known : Collection) (names : List (List ℕ)) →
-        answers_in (initial_content known names) ≡ no_answers }
-    ensures reset { (held : Content) → answers_in (reset_content held) ≡ no_answers }
+pub mod registers;
+
+/// The answers of a search are those of the only stable table of its lists, each with its name: `iter_selected` returns
+/// the answer for each selected name, and `iter` all of them without a selection. Stopping early changes no answer.
+pub fn answers_are_of_the_only_table()
+    ensures { (q : Lookup) (before after : Content) → IsLookedUp q before after →
+        OfTheOnlyTable (setting_in q) (ReturnsAnswers q after) }
 {}
 
-/// The answers of the first search of an outcome come from the only stable table: for each selected name, and without
-/// a selection for each name, the slot has its answer. Any other slot has that answer or is empty.
-pub fn answers_are_of_the_only_table()
-    ensures selected { (lists : List Listed) (path : List ℕ) (case : Case) (is_dir : Option Bool)
-        (before after : Content) (table : Table) (name : Wanted) (number : ℕ) →
-        IsFirstSearch (setting_for lists before path case is_dir) before after table →
-        Contains before.selection name → name.number ≡ Some number →
-        number < length before.slots → answers_in after number
-        ≡ full_answer (setting_for lists before path case is_dir) None (table number) }
-    ensures unselected { (lists : List Listed) (path : List ℕ) (case : Case) (is_dir : Option Bool)
+/// A search that leaves a name without an answer went to the end: what it left is the whole table, whatever is selected.
+pub fn unfinished_searches_leave_the_whole_table()
+    ensures { (lists : List Listed) (path : List ℕ) (case : Case) (is_dir : Option Bool)
         (before after : Content) (table : Table) (number : ℕ) →
-        IsFirstSearch (setting_for lists before path case is_dir) before after table →
-        length before.selection ≡ 0 → number < length before.slots → answers_in after number
-        ≡ full_answer (setting_for lists before path case is_dir) None (table number) }
-    ensures others { (lists : List Listed) (path : List ℕ) (case : Case) (is_dir : Option Bool)
-        (before after : Content) (table : Table) (number : ℕ) →
-        IsFirstSearch (setting_for lists before path case is_dir) before after table →
-        (answers_in after number ≡ None) ⊎ (answers_in after number
-        ≡ full_answer (setting_for lists before path case is_dir) None (table number)) }
+        (let setting = setting_for lists before path case is_dir in
+        IsSearched setting (wanted_of before) (answers_in before) (answers_in after) →
+        KeepsAllButAnswers before after → is_complete after ≡ false →
+        IsStable setting (answers_in before) table → answers_in after number
+        ≡ full_answer setting (answers_in before number) (table number)) }
+{}
+
+/// Searches for one path, one after the other, are one search of all lists. Those that were searched first come last.
+pub fn further_searches_join()
+    ensures { (q : Lookup) (lists : List Listed) (before middle after : Content) →
+        IsLookedUp q before middle → IsSearchedFurther q lists middle after →
+        IsLookedUp (with_lists_searched lists q) before after }
+{}
+
+/// An outcome into which another one was copied returns the same answers, for the names that it selects itself.
+pub fn copies_return_the_answers()
+    ensures { (q : Lookup) (before after : Content) (names : List (List ℕ)) →
+        IsLookedUp q before after → SelectsNoMore q.selected names →
+        (let copy = record (initial_content q.known names) { slots = after.slots } in
+        OfTheOnlyTable (setting_in q) (ReturnsAnswers (record q { selected = names }) copy)) }
+{}
+
+/// A reset leaves what initialising left, however often the outcome was searched since; twice is once.
+pub fn resetting_starts_again()
+    ensures initialized { (known : Collection) (names : List (List ℕ)) →
+        reset_content (initial_content known names) ≡ initial_content known names }
+    ensures searched { (before after : Content) → KeepsAllButAnswers before after →
+        reset_content after ≡ reset_content before }
+    ensures again { (held : Content) → reset_content (reset_content held) ≡ reset_content held }
 {}
 
 /// A list of which no line matches a path changes none of its answers.
@@ -47,9 +64,4 @@ pub fn silent_lists_change_nothing()
         (let all = setting_of (earlier ++ silent ∷ later) bodies path case is_dir in
         let others = setting_of (earlier ++ later) bodies path case is_dir in
         IsSearched all wanted before after ↔ IsSearched others wanted before after) }
-{}
-
-/// To reset an outcome twice is to reset it once.
-pub fn resetting_again_changes_nothing()
-    ensures { (held : Content) → reset_content (reset_content held) ≡ reset_content held }
 {}

@@ -8,10 +8,11 @@ ghost use Rattle.gix_attributes.specs.Contents.{IsCurrent, reset_content, flags_
 ghost use Rattle.gix_attributes.specs.Covered.{AreCovered, IsCovered, ListsAreCovered};
 ghost use Rattle.attr_search.specs.IndexedLists.{listed_view};
 ghost use Rattle.gix_attributes.specs.SearchViews.{lists_in};
-ghost use Rattle.attr_search.specs.Settings.{BodiesHaveSlots, HaveSlots};
+ghost use Rattle.attr_search.specs.Settings.{HaveSlots};
+ghost use Rattle.attr_search.specs.inner.Slotted.{BodiesHaveSlots};
 ghost use Rattle.attr_search.specs.Matches.{match_view};
 ghost use Rattle.gix_attributes.specs.Selection.{selection_view};
-ghost use Rattle.attr_search.specs.Slots.{bodies_view};
+ghost use Rattle.attr_search.specs.inner.Slotted.{bodies_view};
 ghost use Rattle.attr_search.specs.Slots.{slots_of};
 ghost use Rattle.attr_search.specs.inner.RefMapParts.{no_pattern};
 

@@ -3,7 +3,7 @@
 ghost use Rattle.std.specs.Prelude.{◌≡◌, ◌↔◌, ◌<◌, ⊤, IsTrue, All, IfOk, MatchOption, length, map};
 ghost use Rattle.gix_attributes.specs.Contents.{bodies_of, flags_of, looked_up, names_selected};
 ghost use Rattle.gix_attributes.specs.Selection.{selection_view};
-ghost use Rattle.attr_search.specs.Slots.{bodies_view};
+ghost use Rattle.attr_search.specs.inner.Slotted.{bodies_view};
 
 use crate::search::collection::MetadataCollection;
 use crate::search::{Assignments, AttributeId};

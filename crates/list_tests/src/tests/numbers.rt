@@ -106,16 +106,16 @@ fn copies_have_the_registered_lists(rt: HostRuntime) -> Result<(), Fail> {
 }
 
 #[test]
-fn four_thousand_macros(rt: HostRuntime) -> Result<(), Fail> {
+fn a_thousand_macros(rt: HostRuntime) -> Result<(), Fail> {
     let mut text = String::new(rt.alloc());
-    for n in 0..4000u32 {
+    for n in 0..1000u32 {
         write!(text, "[attr]m{n} x{n}\n")?;
     }
     let mut table = NameTable::new(rt.alloc());
     let (list_id, list) = add(rt.alloc(), &mut table, text.as_str())?;
-    assert!(rt; first_number(&table, "m3999") == Some(7999));
+    assert!(rt; first_number(&table, "m999") == Some(1999));
     assert!(rt; is_removed(&mut table, list_id, &list));
-    assert!(rt; table.len() == 8000);
+    assert!(rt; table.len() == 2000);
     Ok(())
 }
 

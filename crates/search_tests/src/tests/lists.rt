@@ -241,6 +241,55 @@ fn popping_takes_no_other_search_s_definitions(rt: HostRuntime) -> Result<(), Fa
 }
 
 #[test]
+fn a_search_is_held_by_names(rt: HostRuntime) -> Result<(), Fail> {
+    let mut one = with_list(rt.alloc(), b"[attr]m\n")?;
+    let mut other = with_list(rt.alloc(), b"* z\n[attr]m\n")?;
+    assert!(rt; other.collection.holds(&one.search) && one.collection.holds(&other.search));
+    // The macro has the number 0 in the search, and 1 in the collection.
+    assert!(rt; pop(&mut one.search, &mut other.collection).is_some());
+    assert!(rt; !other.is_held() && other.collection.holds(&one.search));
+    let mut third = Search::new(rt.alloc());
+    add(
+        rt.alloc(),
+        &mut third,
+        &mut other.collection,
+        b"[attr]m x\n",
+    )?;
+    assert!(rt; other.collection.holds(&third));
+    assert_eq!(rt; other.known(rt.alloc())?.as_str(), "z:\nm: x\nx:\n");
+    Ok(())
+}
+
+#[test]
+fn a_body_of_other_numbers_is_not_held(rt: HostRuntime) -> Result<(), Fail> {
+    let one = with_list(rt.alloc(), b"[attr]m x\n")?;
+    let other = with_list(rt.alloc(), b"* z\n[attr]m x\n")?;
+    assert!(rt; !one.collection.holds(&other.search) && !other.collection.holds(&one.search));
+    Ok(())
+}
+
+#[test]
+fn lists_of_two_searches_go_in_any_order(rt: HostRuntime) -> Result<(), Fail> {
+    for first_goes_first in [true, false] {
+        let mut collection = MetadataCollection::new(rt.alloc());
+        let mut first = Search::new(rt.alloc());
+        let mut second = Search::new(rt.alloc());
+        add(rt.alloc(), &mut first, &mut collection, b"[attr]m x\n")?;
+        add(rt.alloc(), &mut second, &mut collection, b"[attr]m y\n")?;
+        let (one, other, left) = if first_goes_first {
+            (&mut first, &mut second, "m: y\nx:\ny:\n")
+        } else {
+            (&mut second, &mut first, "m: x\nx:\ny:\n")
+        };
+        assert!(rt; pop(one, &mut collection).is_some() && collection.holds(other));
+        assert_eq!(rt; known(rt.alloc(), &collection)?.as_str(), left);
+        assert!(rt; pop(other, &mut collection).is_some());
+        assert_eq!(rt; known(rt.alloc(), &collection)?.as_str(), "m:\nx:\ny:\n");
+    }
+    Ok(())
+}
+
+#[test]
 fn copies_are_equal(rt: HostRuntime) -> Result<(), Fail> {
     let mut lists = with_list(rt.alloc(), b"[attr]m x=1\n*.c m\n")?;
     add_from(

@@ -1,7 +1,7 @@
 -- The table has the list after that, or is the one that was there.
 use Rattle.std.proofs.Common.{◌≡◌, false, ap, sym, ◌∙◌, subst, arith}
 use Rattle.std.proofs.lemmas.List.{length-map}
-use Rattle.attr_lists.specs.Definitions.{free_id, with_list, is_active, IsSoundCollection}
+use Rattle.attr_lists.specs.Definitions.{free_id, is_active, IsSoundCollection}
 use Rattle.attr_lists.specs.inner.EntryViews.{definitions_view}
 use Rattle.attr_lists.specs.ListViews.{entries_view}
 use Rattle.attr_lists.specs.inner.NameTableView.{parts_view}
@@ -27,8 +27,8 @@ returns-in-Ok-clause-numbers c =
     are_numbered (parts_view c.self.inside.parts) c.args.self.now _ c.free_id-list_id.result (entries_view c.args.mappings.now)
     (entries_view c.number_list.new.mappings) c.self.view_is (id_is c) c.in-Ok.ensures.added c.number_list.ensures c.self.invariant.sound
 
-pub returns-in-Ok-clause-kept : goal.returns-in-Ok-clause-kept
-returns-in-Ok-clause-kept c =
+pub returns-in-Ok-clause-names : goal.returns-in-Ok-clause-names
+returns-in-Ok-clause-names c =
     are_kept (parts_view c.self.inside.parts) c.args.self.now _ c.free_id-list_id.result (entries_view c.args.mappings.now)
     (entries_view c.number_list.new.mappings) c.self.view_is (id_is c) c.in-Ok.ensures.added c.number_list.ensures c.self.invariant.sound
 
@@ -41,6 +41,12 @@ pub returns-in-Ok-clause-others : goal.returns-in-Ok-clause-others
 returns-in-Ok-clause-others c =
     are_held (parts_view c.self.inside.parts) c.args.self.now _ c.free_id-list_id.result (entries_view c.args.mappings.now)
     (entries_view c.number_list.new.mappings) c.self.view_is (id_is c) c.in-Ok.ensures.added c.number_list.ensures c.self.invariant.sound
+
+pub returns-in-Ok-clause-sound : goal.returns-in-Ok-clause-sound
+returns-in-Ok-clause-sound c =
+    is_sound (parts_view c.self.inside.parts) c.args.self.now _ c.free_id-list_id.result (entries_view c.args.mappings.now)
+    (entries_view c.number_list.new.mappings) c.self.view_is (id_is c) c.in-Ok.ensures.added c.number_list.ensures c.self.invariant.sound
+    c.in-Ok.ensures.valid
 
 pub invariant_of-self : goal.invariant_of-self
 invariant_of-self c = record {
@@ -63,6 +69,9 @@ same c =
 
 pub returns-in-Err-clause-err : goal.returns-in-Err-clause-err
 returns-in-Err-clause-err c = same c ∙ c.self.view_is
+
+pub returns-in-Err-clause-sound : goal.returns-in-Err-clause-sound
+returns-in-Err-clause-sound c = subst IsSoundCollection (sym (same c)) c.self.invariant.sound
 
 pub invariant_of-self-in-Err : goal.invariant_of-self-in-Err
 invariant_of-self-in-Err c = record {

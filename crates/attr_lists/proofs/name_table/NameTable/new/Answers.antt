@@ -6,6 +6,14 @@ use Rattle.attr_lists.specs.inner.EntryViews.{all_definitions, AreEntries}
 use Rattle.attr_lists.proofs.NameTableLaws.{nothing_sound}
 use Rattle.attr_lists.proofs.name_table.NameTable.new.Goals as goal
 
+pub returns-clause-sound : goal.returns-clause-sound
+returns-clause-sound c = subst IsSoundCollection (λ j. record {
+  names = map rc_str_bytes (sym c.new.ensures.empty j);
+  definitions = all_definitions
+      (sym c.new-2.ensures.items j);
+  active = sym c.new-3.ensures.items j;
+}) nothing_sound
+
 pub invariant_of-result : goal.invariant_of-result
 invariant_of-result c = record {
   sound = subst IsSoundCollection (λ j. record {

@@ -15,9 +15,17 @@ returns-clause-removed c =
     let holds = subst (λ v. HoldsList v c.args.list_id (entries_view c.args.mappings.now)) (sym c.self.view_is) c.requires in
     removed_is (name_texts c.self.inside.parts.names) c.self.inside.parts.active.items c.self.inside.parts.entries.items c.deref_mut.result.now
     c.remove_list.new.entries _
-    c.args.list_id (entries_view c.args.mappings.now) c.deref_mut.ensures.value c.remove_list.auto.entries items holds.bodies
+    c.args.list_id (entries_view c.args.mappings.now) c.deref_mut.ensures.value c.remove_list.auto.entries items c.self.invariant.sound holds.bodies
     c.remove_list.ensures.definitions
     ∙ ap (without_list c.args.list_id) c.self.view_is
+
+pub remove_list-requires : goal.remove_list-requires
+remove_list-requires c = c.self.invariant.sound.valid
+
+pub returns-clause-sound : goal.returns-clause-sound
+returns-clause-sound c =
+    subst IsSoundCollection (sym (returns-clause-removed c))
+    (removed_sound c.args.self.now c.args.list_id (subst IsSoundCollection c.self.view_is c.self.invariant.sound))
 
 pub invariant_of-self : goal.invariant_of-self
 invariant_of-self c =

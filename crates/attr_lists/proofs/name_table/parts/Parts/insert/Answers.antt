@@ -1,4 +1,4 @@
-use Rattle.std.proofs.Common.{◌≡◌, ◌≤◌, ◌++◌, length, map, ap, refl, ◌∙◌, arith}
+use Rattle.std.proofs.Common.{◌≡◌, ◌++◌, length, map, ap, refl, ◌∙◌, arith}
 use Rattle.std.specs.Rc.{rc_str_bytes}
 use Rattle.std.proofs.lemmas.List.{length-map, with_items_is}
 use Rattle.attr_lists.specs.Definitions.{bodies_defined, definition_of, of_other_lists}

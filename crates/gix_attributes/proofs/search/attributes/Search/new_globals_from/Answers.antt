@@ -1,11 +1,45 @@
-use Rattle.std.proofs.Common.{◌≡◌, ◌∙◌, ◌+◌, ◌∷◌, [], ◌++◌, List, Vec, Global, map, drop, string_bytes, sym, ap, subst, arith}
+use Rattle.std.proofs.Common.{◌≡◌, ◌∙◌, ◌+◌, ◌∷◌, [], ◌++◌, List, Vec, Global, map, drop, string_bytes, refl, sym, ap, subst, arith, Result, Ok, Err, OnErr}
 use Rattle.std.proofs.lemmas.List.{map-append, take_all}
 use Rattle.attr_lists.specs.declared.types.Dropped.{Dropped}
-use Rattle.gix_attributes.specs.Additions.{IsIo, RefusedBy, RegisteredLists}
+use Rattle.attr_lists.specs.Collections.{Collection}
+use Rattle.gix_attributes.specs.Additions.{IsIo, RefusedBy, RegisteredLists, registered_lists}
 use Rattle.gix_attributes.specs.Globals.{Globals, globals_in, RefusesGlobals}
+use Rattle.gix_attributes.specs.Keeping.{Adds, AddsBeforeRefusal, Keeps}
+use Rattle.gix_attributes.specs.Registers.{no_lists}
 use Rattle.gix_attributes.proofs.GlobalLemmas.{AreAdded, none_added, one_added, refused_between, refused_by, fails_later, of_error, names_parted}
 use Rattle.gix_attributes.proofs.GlobalLemmas.{one_more_name, with_one_more}
+use Rattle.gix_attributes.proofs.KeepingLemmas.{adds_same, adds_then, keeps_same, keeps_then}
 use Rattle.gix_attributes.proofs.search.attributes.Search.new_globals_from.Goals as goal
+
+of_refusal : {T E : Type 0} (r : Result T E) (P : Type 0) → P → OnErr r P
+of_refusal (Ok x) P h = tt
+of_refusal (Err e) P h = h
+
+-- what was added before the call was refused
+before_refusal : (old after : Collection) (lists : RegisteredLists) → lists.known ≡ after → Keeps (no_lists old) lists → Adds (no_lists old) lists
+    → AddsBeforeRefusal old after
+before_refusal old after lists same kept added = record { lists = lists; known = same; kept = kept; added = added }
+
+pub returns-in_err-search-clause-added_before : goal.returns-in_err-search-clause-added_before
+returns-in_err-search-clause-added_before g c = of_refusal c.from_residual.result
+    (AddsBeforeRefusal c.args.collection.now c.built_in_alone.new.collection) (before_refusal c.args.collection.now c.built_in_alone.new.collection (no_lists c.args.collection.now)
+    (sym c.in_err-search.ensures.refused) (keeps_same (no_lists c.args.collection.now)) (adds_same (no_lists c.args.collection.now)))
+
+pub returns-in_err-reserve-clause-added_before : goal.returns-in_err-reserve-clause-added_before
+returns-in_err-reserve-clause-added_before g c = of_refusal c.from_residual-in_err-reserve.result
+    (AddsBeforeRefusal c.args.collection.now c.loop-name.collection) (before_refusal c.args.collection.now c.loop-name.collection
+    (registered_lists c.loop-name.search c.loop-name.collection) refl c.loop-name.invariant.kept c.loop-name.invariant.registered)
+
+pub returns-in_err-source-clause-added_before : goal.returns-in_err-source-clause-added_before
+returns-in_err-source-clause-added_before g c = of_refusal c.from_residual-in_err-source.result
+    (AddsBeforeRefusal c.args.collection.now c.loop-name.collection) (before_refusal c.args.collection.now c.loop-name.collection
+    (registered_lists c.loop-name.search c.loop-name.collection) refl c.loop-name.invariant.kept c.loop-name.invariant.registered)
+
+pub returns-in_err-added-clause-added_before : goal.returns-in_err-added-clause-added_before
+returns-in_err-added-clause-added_before g c = of_refusal c.from_residual-in_err-added.result
+    (AddsBeforeRefusal c.args.collection.now c.add_patterns_file_from.new.collection) (before_refusal c.args.collection.now c.add_patterns_file_from.new.collection
+    (registered_lists c.loop-name.search c.loop-name.collection) (sym c.in_err-added.ensures.unchanged) c.loop-name.invariant.kept
+    c.loop-name.invariant.registered)
 
 pub loop-name-init : goal.loop-name-init
 loop-name-init g c =
@@ -16,6 +50,8 @@ loop-name-init g c =
       added = none_added g.F.Files.reads c.args.files.now c.args.collection.now c.args.buf.now.items _
           (ap (λ loaded. with loaded c.new-dropped.result.items) c.in_ok-search.ensures.loaded ∙ ap (with _) c.new-dropped.ensures.items);
       held = c.in_ok-search.ensures.held;
+      kept = c.in_ok-search.ensures.kept;
+      registered = c.in_ok-search.ensures.added;
       count = omega arith;
     }
 
@@ -82,6 +118,8 @@ loop-name-preserved g c =
           ensured.read.0 c.loop-name.invariant.added ensured.read.1 file.answered
           (with_one_more _ _ _ _ _ c.loop-name.buf.items _ ensured.read.0 _ file.loaded grown file.dropped file.left));
       held = ensured.held c.loop-name.invariant.held;
+      kept = keeps_then _ _ _ c.loop-name.invariant.kept ensured.kept;
+      registered = adds_then _ _ _ c.loop-name.invariant.registered ensured.added;
       count = omega (arith, c.loop-name.invariant.count, ensured.count);
     }
 
@@ -98,6 +136,12 @@ returns-clause-globals g c =
 
 pub returns-clause-held : goal.returns-clause-held
 returns-clause-held g c = c.loop-name.invariant.held
+
+pub returns-clause-kept : goal.returns-clause-kept
+returns-clause-kept g c = c.loop-name.invariant.kept
+
+pub returns-clause-added : goal.returns-clause-added
+returns-clause-added g c = c.loop-name.invariant.registered
 
 pub returns-clause-count : goal.returns-clause-count
 returns-clause-count g c = c.loop-name.invariant.count

@@ -3,6 +3,7 @@ use Rattle.attr_lists.specs.Definitions.{HoldsList}
 use Rattle.attr_lists.specs.ListViews.{entries_view}
 use Rattle.gix_attributes.specs.inner.HeldLists.{AreHeldLists}
 use Rattle.gix_attributes.proofs.HoldsLemmas.{last_held, held_less, held_lists, held_views}
+use Rattle.gix_attributes.proofs.KeepingLemmas.{keeps_removed, removes_removed}
 use Rattle.gix_attributes.proofs.search.attributes.Search.pop_pattern_list.Goals as goal
 
 pub remove-requires : goal.remove-requires
@@ -19,3 +20,13 @@ returns-clause-held c =
     held_views c.remove.new.self c.pop.new.self.items (held_less known c.remove.new.self c.pop.new.self.items c.in_ok-last.last
     c.remove.ensures.others
     (subst (AreHeldLists known) c.in_ok-last.ensures.items (held_lists known c.args.self.now.patterns.items c.requires)))
+
+pub returns-clause-kept : goal.returns-clause-kept
+returns-clause-kept c =
+    keeps_removed c.args.collection.now c.remove.new.self c.args.self.now.patterns.items c.pop.new.self.items c.in_ok-last.last
+    c.in_ok-last.ensures.items c.remove.ensures.removed c.remove.ensures.others
+
+pub returns-clause-removed : goal.returns-clause-removed
+returns-clause-removed c =
+    removes_removed c.args.collection.now c.remove.new.self c.args.self.now.patterns.items c.pop.new.self.items c.in_ok-last.last
+    c.in_ok-last.ensures.items c.remove.ensures.removed c.remove.ensures.others c.remove.ensures.sound

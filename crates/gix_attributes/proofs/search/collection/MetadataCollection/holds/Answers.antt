@@ -3,10 +3,12 @@ use Rattle.gix_attributes.specs.inner.HeldLists.{AreHeldLists}
 use Rattle.gix_attributes.proofs.HoldsLemmas.{held_lists, held_views}
 use Rattle.gix_attributes.proofs.search.collection.MetadataCollection.holds.Goals as goal
 
-pub returns : goal.returns
-returns c =
+pub returns-clause-held : goal.returns-clause-held
+returns-clause-held c =
     let known = c.args.self.now in
     let lists = c.args.search.now.patterns.items in (
-      λ yes. held_views known lists (subst (AreHeldLists known) c.lists.ensures (c.are_held.ensures.0 yes)),
-      λ held. c.are_held.ensures.1 (subst (AreHeldLists known) (sym c.lists.ensures) (held_lists known lists held)),
+      λ yes. held_views known lists (subst (λ k. AreHeldLists k lists) c.self.view_is
+          (subst (AreHeldLists c.self.inside.numbering) c.lists.ensures (c.are_held.ensures.0 yes))),
+      λ held. c.are_held.ensures.1 (subst (AreHeldLists c.self.inside.numbering) (sym c.lists.ensures)
+          (subst (λ k. AreHeldLists k lists) (sym c.self.view_is) (held_lists known lists held))),
     )

@@ -14,4 +14,5 @@ returns-clause-registered c =
       added = ensured.added;
       holds = ensured.holds;
       others = ensured.others;
+      sound = ensured.sound;
     })

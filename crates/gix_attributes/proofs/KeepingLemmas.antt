@@ -1,0 +1,474 @@
+-- What additions and removals keep, and what a collection registers after them.
+use Rattle.std.proofs.Common.{◌≡◌, ◌≢◌, ◌∙◌, ℕ, zero, suc, ◌+◌, ◌-◌, ◌<◌, ◌≤◌, true, false, not, cond, eqb, List, [], ◌∷◌, ◌++◌, length, get_or, map, All}
+use Rattle.std.proofs.Common.{nat_eq, eq-eqb, slice_get, Option, Some, None, option_map, unwrap_or, MatchOption, refl, sym, ap, subst, append_assoc, arith, ⊎_elim}
+use Rattle.std.specs.Bool.{⊤}
+use Rattle.std.specs.Prelude.{IfSome}
+use Rattle.std.specs.List.{IsDistinct, flat_map}
+use Rattle.std.proofs.lemmas.Bool.{cases_Bool, cond-true, cond-false, eqb-true, true≢false}
+use Rattle.std.proofs.lemmas.Grind.{flat_map-append}
+use Rattle.std.proofs.lemmas.List.{append-nil, map-append, length-map, length-append, get_or_default, ext_get_or}
+use Rattle.std.proofs.lemmas.List.Elements.{All-nil, All-cons, All-head, All-tail, All-map, All-pop, All-push, All-weaker, filter-append}
+use Rattle.attr_lists.specs.Collections.{MacroDefinition, Collection}
+use Rattle.attr_lists.specs.Definitions.{IsSoundCollection, bodies_named, definition_of, definitions_for, definitions_of, free_id}
+use Rattle.attr_lists.specs.Definitions.{is_active, last_body, of_other_lists, without_list}
+use Rattle.attr_lists.specs.ListViews.{Entry, entries_view}
+use Rattle.attr_lists.specs.Numbers.{AppendsNames, AreNamed, IsNumberOf, names_in, numbered_lines, with_names}
+use Rattle.attr_lists.specs.declared.types.AttributeId.{AttributeId}
+use Rattle.attr_lists.specs.inner.Keeping.{IsNumbered, OthersStayRegistered, StayRegistered}
+use Rattle.attr_lists.specs.declared.types.TrackedAssignment.{TrackedAssignment}
+use Rattle.attr_lists.proofs.ForCallers.{added_for, get_or-map, list_numbered, number_at, of_other_lists-append, of_other_lists-own, removed_for}
+use Rattle.attr_lists.proofs.ForCallers.{with_names-extends}
+use Rattle.attr_search.specs.IndexedLists.{list_ids_of, listed_view, lists_view}
+use Rattle.attr_search.specs.Settings.{HaveSlots, BodiesAreNamed, HeldAreNamed, LinesAreNamed, Listed, ListsAreNamed}
+use Rattle.attr_search.specs.Slots.{Matched}
+use Rattle.attr_search.specs.declared.indexed_list.IndexedList.{IndexedList}
+use Rattle.gix_attributes.specs.Additions.{RegisteredLists, registered_lists, with_registered}
+use Rattle.gix_attributes.specs.Contents.{bodies_of}
+use Rattle.gix_attributes.specs.Covered.{AreCovered, IsCovered, ListsAreCovered}
+use Rattle.gix_attributes.specs.Keeping.{Adds, AreApart, Keeps, KeepsSearches, Removes}
+use Rattle.gix_attributes.specs.Registers.{Registered, RegistersExactly, definitions_in, definitions_under, last_definition, lists_registered}
+use Rattle.gix_attributes.specs.Registers.{no_lists, with_list_ids, without_registered}
+use Rattle.gix_attributes.specs.SearchViews.{Holds, list_ids_in, lists_in}
+use Rattle.gix_attributes.specs.inner.HeldLists.{IsHeldList}
+use Rattle.gix_attributes.specs.declared.search.attributes.Search.{Search}
+use Rattle.gix_attributes.proofs.HoldsLemmas.{distinct-parts, held_lists, held_views}
+
+-- ---- names
+
+get_still : {X : Type 0} (xs more : List X) (i : ℕ) (x : X) → slice_get xs i ≡ Some x → slice_get (xs ++ more) i ≡ Some x
+get_still [] more i x h = absurd cc
+get_still (y ∷ ys) more zero x h = h
+get_still (y ∷ ys) more (suc i) x h = get_still ys more i x h
+
+name_still : (old new : List (List ℕ)) → AppendsNames old new → (i : ℕ) (name : List ℕ) → slice_get old i ≡ Some name
+    → slice_get new i ≡ Some name
+name_still old new more i name h = subst (λ ns. slice_get ns i ≡ Some name) (sym more.1) (get_still old more.0 i name h)
+
+items_still : (old new : List (List ℕ)) → AppendsNames old new → (items : List TrackedAssignment) → AreNamed old items → AreNamed new items
+items_still old new more items h = All-weaker (λ (i : TrackedAssignment). IsNumberOf old i.inner.name i.id)
+    (λ (i : TrackedAssignment). IsNumberOf new i.inner.name i.id) (λ i at. name_still old new more i.id.0 i.inner.name at) items h
+
+lines_still : (old new : List (List ℕ)) → AppendsNames old new → (lines : List Entry) → LinesAreNamed old lines → LinesAreNamed new lines
+lines_still old new more lines h = All-weaker (λ (e : Entry). AreNamed old e.items) (λ (e : Entry). AreNamed new e.items)
+    (λ e at. items_still old new more e.items at) lines h
+
+-- what has the numbers of its names still has them when names are appended
+pub lists_still : (old new : List (List ℕ)) → AppendsNames old new → (lists : List Listed) → ListsAreNamed old lists → ListsAreNamed new lists
+lists_still old new more lists h = All-weaker (λ (l : Listed). LinesAreNamed old l.lines) (λ (l : Listed). LinesAreNamed new l.lines)
+    (λ l at. lines_still old new more l.lines at) lists h
+
+pub bodies_still : (old new : List (List ℕ)) → AppendsNames old new → (bodies : List (List TrackedAssignment)) → BodiesAreNamed old bodies
+    → BodiesAreNamed new bodies
+bodies_still old new more bodies h = All-weaker (AreNamed old) (AreNamed new) (λ b at. items_still old new more b at) bodies h
+
+pub answers_still : (old new : List (List ℕ)) → AppendsNames old new → (answers : List (Option Matched)) → HeldAreNamed old answers
+    → HeldAreNamed new answers
+answers_still old new more answers h a = at (get_or answers a None) (h a)
+  where
+    at : (o : Option Matched) → MatchOption o ⊤ (λ m. slice_get old a ≡ Some m.assignment.name)
+        → MatchOption o ⊤ (λ m. slice_get new a ≡ Some m.assignment.name)
+    at None e = e
+    at (Some m) e = name_still old new more a m.assignment.name e
+
+appends_same : (names : List (List ℕ)) → AppendsNames names names
+appends_same names = ([], sym (append-nil names))
+
+appends_then : (one two three : List (List ℕ)) → AppendsNames one two → AppendsNames two three → AppendsNames one three
+appends_then one two three first second =
+    (first.0 ++ second.0, second.1 ∙ (ap (λ ns. ns ++ second.0) first.1 ∙ append_assoc one first.0 second.0))
+
+-- ---- numbers of names
+
+get_within : {X : Type 0} (xs : List X) (i : ℕ) (x : X) → slice_get xs i ≡ Some x → i < length xs
+get_within [] i x h = absurd cc
+get_within (y ∷ ys) zero x h = omega arith
+get_within (y ∷ ys) (suc i) x h = let within = get_within ys i x h in omega (arith, within)
+
+-- numbers of names are below the count of names
+line_covered : (names : List (List ℕ)) (e : Entry) → IsNumbered names e → IsCovered (length names) e
+line_covered names e is = record {
+  items = All-weaker (λ (i : TrackedAssignment). IsNumberOf names i.inner.name i.id) (λ (i : TrackedAssignment). i.id.0 < length names)
+      (λ i at. get_within names i.id.0 i.inner.name at) e.items is.items;
+  macro = at e.macro is.macro;
+}
+  where
+    at : (o : Option AttributeId) → IfSome o (IsNumberOf names e.pattern.text) → MatchOption o ⊤ (λ id. id.0 < length names)
+    at None h = tt
+    at (Some id) h = get_within names id.0 e.pattern.text h
+
+line_more : (n m : ℕ) → n ≤ m → (e : Entry) → IsCovered n e → IsCovered m e
+line_more n m more e is = record {
+  items = All-weaker (λ (i : TrackedAssignment). i.id.0 < n) (λ (i : TrackedAssignment). i.id.0 < m) (λ i lt. omega (arith, lt, more)) e.items is.items;
+  macro = at e.macro is.macro;
+}
+  where
+    at : (o : Option AttributeId) → MatchOption o ⊤ (λ id. id.0 < n) → MatchOption o ⊤ (λ id. id.0 < m)
+    at None h = tt
+    at (Some id) h = omega (arith, h, more)
+
+-- numbers of names still are when names are appended
+pub covered_still : (old new : List (List ℕ)) → AppendsNames old new → (lists : List Listed) → ListsAreCovered (length old) lists
+    → ListsAreCovered (length new) lists
+covered_still old new more lists h =
+    let longer : length old ≤ length new =
+    let long : length new ≡ length old + length more.0 = ap length more.1 ∙ length-append old more.0 in omega (arith, long) in
+    All-weaker (λ (l : Listed). AreCovered (length old) l.lines) (λ (l : Listed). AreCovered (length new) l.lines)
+    (λ l at. All-weaker (IsCovered (length old)) (IsCovered (length new)) (λ e is. line_more (length old) (length new) longer e is) l.lines at)
+    lists h
+
+-- ---- calls that change nothing, and calls in a row
+
+pub keeps_same : (lists : RegisteredLists) → Keeps lists lists
+keeps_same lists = record {
+  names = appends_same lists.known.names;
+  named = λ h. h;
+  covered = λ h. h;
+  others = λ other apart held. (apart, held);
+}
+
+pub keeps_then : (one two three : RegisteredLists) → Keeps one two → Keeps two three → Keeps one three
+keeps_then one two three first second = record {
+  names = appends_then one.known.names two.known.names three.known.names first.names second.names;
+  named = λ h. second.named (first.named h);
+  covered = λ h. second.covered (first.covered h);
+  others = λ other apart held. let mid = first.others other apart held in second.others other mid.0 mid.1;
+}
+
+pub adds_same : (lists : RegisteredLists) → Adds lists lists
+adds_same lists = record {
+  added = [];
+  to_search = sym (append-nil (with_list_ids lists.list_ids lists.lists));
+  to_collection = λ register h. subst (RegistersExactly lists.known) (sym (append-nil register)) h;
+  held = λ search h. h;
+}
+
+pub adds_then : (one two three : RegisteredLists) → Adds one two → Adds two three → Adds one three
+adds_then one two three first second = record {
+  added = first.added ++ second.added;
+  to_search = second.to_search ∙ (ap (λ rs. rs ++ second.added) first.to_search
+      ∙ append_assoc (with_list_ids one.list_ids one.lists) first.added second.added);
+  to_collection = λ register h. subst (RegistersExactly three.known) (append_assoc register first.added second.added)
+      (second.to_collection (register ++ first.added) (first.to_collection register h));
+  held = λ search h. second.held search (first.held search h);
+}
+
+-- ---- searches that are held
+
+all_of_map : {X Y : Type 0} (P : Y → Type 0) (f : X → Y) (xs : List X) → All P (map f xs) → All (λ x. P (f x)) xs
+all_of_map P f [] h = All-nil (λ x. P (f x))
+all_of_map P f (x ∷ xs) h = All-cons (λ y. P (f y)) x xs (All-head P (f x) (map f xs) h) (all_of_map P f xs (All-tail P (f x) (map f xs) h))
+
+pub stay_held : (known now : Collection) → StayRegistered known now → KeepsSearches known now
+stay_held known now stays search h =
+    let was = held_lists known search.patterns.items h in
+    held_views now search.patterns.items (record {
+      distinct = was.distinct;
+      held = All-weaker (IsHeldList known) (IsHeldList now) (λ s e. stays s.list_id (entries_view s.list.patterns.items) e) search.patterns.items
+          was.held;
+    })
+
+others_held : (known now : Collection) (list_id : ℕ) → OthersStayRegistered list_id known now → (search : Search)
+    → All (λ m. m ≢ list_id) (list_ids_in search) → Holds known search → Holds now search
+others_held known now list_id stays search apart h =
+    let items = search.patterns.items in
+    let was = held_lists known items h in
+    let differ = all_of_map (λ m. m ≢ list_id) (λ (s : IndexedList). s.list_id) items apart in
+    held_views now items (record {
+      distinct = was.distinct;
+      held = λ k d lt. stays (get_or items k d).list_id (entries_view (get_or items k d).list.patterns.items) (differ k d lt) (was.held k d lt);
+    })
+
+-- a list id that is free is none of a search that is held
+free_apart : (known : Collection) (list_id : ℕ) (search : Search) → is_active known.active list_id ≡ false → Holds known search
+    → All (λ m. m ≢ list_id) (list_ids_in search)
+free_apart known list_id search free h =
+    let items = search.patterns.items in
+    All-map (λ m. m ≢ list_id) (λ (s : IndexedList). s.list_id) items
+    (All-weaker (IsHeldList known) (λ (s : IndexedList). s.list_id ≢ list_id)
+    (λ s e same. true≢false (sym e.active ∙ (ap (is_active known.active) same ∙ free))) items (held_lists known items h).held)
+
+-- ---- lists and their list ids
+
+abbrev registered_view : IndexedList → Registered
+registered_view s = record { list_id = s.list_id; list = listed_view s }
+
+views_registered : (items : List IndexedList) → with_list_ids (list_ids_of items) (lists_view items) ≡ map registered_view items
+views_registered [] = refl
+views_registered (s ∷ ss) = ap (λ rs. registered_view s ∷ rs) (views_registered ss)
+
+one_registered : (before after : List IndexedList) (s : IndexedList) → after ≡ before ++ s ∷ []
+    → with_list_ids (list_ids_of after) (lists_view after) ≡ with_list_ids (list_ids_of before) (lists_view before) ++ registered_view s ∷ []
+one_registered before after s e =
+    views_registered after ∙ (ap (map registered_view) e ∙ (map-append registered_view before (s ∷ [])
+    ∙ ap (λ rs. rs ++ registered_view s ∷ []) (sym (views_registered before))))
+
+push_definitions : (register : List Registered) (r : Registered) (name : List ℕ) → definitions_under (register ++ r ∷ []) name
+    ≡ definitions_under register name ++ map (definition_of r.list_id) (bodies_named name r.list.lines)
+push_definitions register r name =
+    let f : Registered → List MacroDefinition = λ x. map (definition_of x.list_id) (bodies_named name x.list.lines) in
+    flat_map-append f register (r ∷ []) ∙ ap (λ ds. flat_map f register ++ ds) (append-nil (f r))
+
+-- ---- a list is added
+
+abbrev state : List IndexedList → Collection → RegisteredLists
+state items known = record { lists = lists_view items; list_ids = list_ids_of items; known = known }
+
+module _ (known now : Collection) (entries : List Entry) (now_is : now ≡ with_registered entries known) where
+  pub names_added : AppendsNames known.names now.names
+  names_added =
+      let more = with_names-extends known.names (names_in entries) in
+      (more.0, ap (λ (k : Collection). k.names) now_is ∙ more.1)
+
+  -- the lines of the list have the numbers of their names
+  pub lines_named : (lines : List Entry) → lines ≡ numbered_lines now.names entries → LinesAreNamed now.names lines
+  lines_named lines lines_are =
+      let names = with_names known.names (names_in entries) in
+      subst (LinesAreNamed now.names) (sym lines_are)
+      (subst (λ ns. LinesAreNamed ns (numbered_lines ns entries)) (sym (ap (λ (k : Collection). k.names) now_is))
+      (All-weaker (IsNumbered names) (λ (e : Entry). AreNamed names e.items) (λ e is. is.items) (numbered_lines names entries)
+      (list_numbered known.names entries)))
+
+  -- and all of its numbers are numbers of names
+  lines_covered : (lines : List Entry) → lines ≡ numbered_lines now.names entries → AreCovered (length now.names) lines
+  lines_covered lines lines_are =
+      let names = with_names known.names (names_in entries) in
+      subst (AreCovered (length now.names)) (sym lines_are)
+      (subst (λ ns. AreCovered (length ns) (numbered_lines ns entries)) (sym (ap (λ (k : Collection). k.names) now_is))
+      (All-weaker (IsNumbered names) (IsCovered (length names)) (line_covered names) (numbered_lines names entries)
+      (list_numbered known.names entries)))
+
+  -- a list is registered after all others
+  pub registers_more : (list_id : ℕ) (list : Listed) → list_id ≡ free_id known.active → list.lines ≡ numbered_lines now.names entries
+      → IsSoundCollection now → (register : List Registered) → RegistersExactly known register
+      → RegistersExactly now (register ++ record { list_id = list_id; list = list } ∷ [])
+  registers_more list_id list id_is lines_are sound register h =
+      let r : Registered = record { list_id = list_id; list = list } in
+      let names = with_names known.names (names_in entries) in
+      let same : numbered_lines names entries ≡ list.lines = sym (lines_are ∙ ap (λ (k : Collection). numbered_lines k.names entries) now_is) in
+      record {
+        sound = sound;
+        defined = λ name.
+            ap (λ (k : Collection). definitions_for k name) now_is
+            ∙ (added_for known entries h.sound name
+            ∙ (ap (λ ds. ds ++ map (definition_of (free_id known.active)) (bodies_named name (numbered_lines names entries))) (h.defined name)
+            ∙ (ap (λ m. definitions_under register name ++ map (definition_of m) (bodies_named name (numbered_lines names entries))) (sym id_is)
+            ∙ (ap (λ ls. definitions_under register name ++ map (definition_of list_id) (bodies_named name ls)) same
+            ∙ sym (push_definitions register r name)))));
+      }
+
+  module _ (before after : List IndexedList) (s : IndexedList) (pushed : after ≡ before ++ s ∷ []) (id_is : s.list_id ≡ free_id known.active)
+      (lines_are : entries_view s.list.patterns.items ≡ numbered_lines now.names entries) (fresh : is_active known.active s.list_id ≡ false)
+      (stays : StayRegistered known now) where
+    pub keeps_added : Keeps (state before known) (state after now)
+    keeps_added = record {
+      names = names_added;
+      named = λ h. subst (ListsAreNamed now.names) (sym (ap lists_view pushed ∙ map-append listed_view before (s ∷ [])))
+          (All-push (λ (l : Listed). LinesAreNamed now.names l.lines) (lists_view before) (listed_view s)
+          (lists_still known.names now.names names_added (lists_view before) h) (lines_named (listed_view s).lines lines_are));
+      covered = λ h. subst (ListsAreCovered (length now.names)) (sym (ap lists_view pushed ∙ map-append listed_view before (s ∷ [])))
+          (All-push (λ (l : Listed). AreCovered (length now.names) l.lines) (lists_view before) (listed_view s)
+          (covered_still known.names now.names names_added (lists_view before) h) (lines_covered (listed_view s).lines lines_are));
+      others = λ other apart held. (
+        subst (λ ids. AreApart ids (list_ids_in other))
+            (sym (ap list_ids_of pushed ∙ map-append (λ (x : IndexedList). x.list_id) before (s ∷ [])))
+            (All-push (λ m. All (λ o. o ≢ m) (list_ids_in other)) (list_ids_of before) s.list_id apart
+            (free_apart known s.list_id other fresh held)),
+        stay_held known now stays other held,
+      );
+    }
+
+    pub adds_added : IsSoundCollection now → Adds (state before known) (state after now)
+    adds_added sound = record {
+      added = registered_view s ∷ [];
+      to_search = one_registered before after s pushed;
+      to_collection = registers_more s.list_id (listed_view s) id_is lines_are sound;
+      held = stay_held known now stays;
+    }
+
+-- ---- the last list is removed
+
+-- the definitions under other list ids are left
+others_left : (list_id other : ℕ) (bodies : List (List TrackedAssignment)) → eqb other list_id ≡ false
+    → of_other_lists list_id (map (definition_of other) bodies) ≡ map (definition_of other) bodies
+others_left list_id other [] e = refl
+others_left list_id other (b ∷ bs) e =
+    let rest = of_other_lists list_id (map (definition_of other) bs) in
+    ap (λ t. cond (not t) (definition_of other b ∷ rest) rest) e ∙ ap (λ ds. definition_of other b ∷ ds) (others_left list_id other bs e)
+
+definitions_left : (list_id : ℕ) (name : List ℕ) (register : List Registered) → of_other_lists list_id (definitions_under register name)
+    ≡ definitions_under (without_registered list_id register) name
+definitions_left list_id name [] = refl
+definitions_left list_id name (r ∷ rs) =
+    let bodies = bodies_named name r.list.lines in
+    let rest = definitions_left list_id name rs in
+    of_other_lists-append list_id (map (definition_of r.list_id) bodies) (definitions_under rs name)
+    ∙ ⊎_elim
+    (λ (own : eqb r.list_id list_id ≡ true).
+    ap (λ ds. ds ++ of_other_lists list_id (definitions_under rs name))
+    (ap (λ m. of_other_lists list_id (map (definition_of m) bodies)) (eqb-true r.list_id list_id own) ∙ of_other_lists-own list_id bodies)
+    ∙ (rest ∙ ap (λ l. definitions_under l name)
+    (sym (cond-false (not (eqb r.list_id list_id)) (r ∷ without_registered list_id rs) (without_registered list_id rs) (ap not own)))))
+    (λ (other : eqb r.list_id list_id ≡ false).
+    ap (λ ds. ds ++ of_other_lists list_id (definitions_under rs name)) (others_left list_id r.list_id bodies other)
+    ∙ (ap (λ ds. map (definition_of r.list_id) bodies ++ ds) rest ∙ ap (λ l. definitions_under l name)
+    (sym (cond-true (not (eqb r.list_id list_id)) (r ∷ without_registered list_id rs) (without_registered list_id rs) (ap not other)))))
+    (cases_Bool (eqb r.list_id list_id))
+
+module _ (known now : Collection) (before after : List IndexedList) (s : IndexedList) (popped : before ≡ after ++ s ∷ [])
+    (now_is : now ≡ without_list s.list_id known) (stays : OthersStayRegistered s.list_id known now) where
+  names_stay : now.names ≡ known.names
+  names_stay = ap (λ (k : Collection). k.names) now_is
+
+  pub keeps_removed : Keeps (state before known) (state after now)
+  keeps_removed = record {
+    names = ([], names_stay ∙ sym (append-nil known.names));
+    named = λ h. subst (λ ns. ListsAreNamed ns (lists_view after)) (sym names_stay)
+        (All-pop (λ (l : Listed). LinesAreNamed known.names l.lines) (lists_view before) (lists_view after) (Some (listed_view s))
+        (ap lists_view popped ∙ map-append listed_view after (s ∷ [])) h).0;
+    covered = λ h. subst (λ ns. ListsAreCovered (length ns) (lists_view after)) (sym names_stay)
+        (All-pop (λ (l : Listed). AreCovered (length known.names) l.lines) (lists_view before) (lists_view after) (Some (listed_view s))
+        (ap lists_view popped ∙ map-append listed_view after (s ∷ [])) h).0;
+    others = λ other apart held.
+        let parts = All-pop (λ m. All (λ o. o ≢ m) (list_ids_in other)) (list_ids_of before) (list_ids_of after) (Some s.list_id)
+        (ap list_ids_of popped ∙ map-append (λ (x : IndexedList). x.list_id) after (s ∷ [])) apart in
+        (parts.0, others_held known now s.list_id stays other parts.1 held);
+  }
+
+  pub removes_removed : IsSoundCollection now → Removes (state before known) (state after now)
+  removes_removed sound = record {
+    removed = registered_view s;
+    of_search = one_registered after before s popped;
+    of_collection = λ register h. record {
+      sound = sound;
+      defined = λ name. ap (λ (k : Collection). definitions_for k name) now_is
+          ∙ (removed_for known s.list_id name ∙ (ap (of_other_lists s.list_id) (h.defined name) ∙ definitions_left s.list_id name register));
+    };
+  }
+
+-- ---- searches without lists
+
+pub as_no_lists : (search : Search) (known : Collection) → lists_in search ≡ [] → list_ids_in search ≡ []
+    → registered_lists search known ≡ no_lists known
+as_no_lists search known none no_ids =
+    ap (λ ls. record { lists = ls; list_ids = list_ids_in search; known = known }) none
+    ∙ ap (λ ids. record { lists = []; list_ids = ids; known = known }) no_ids
+
+-- ---- the lists of one search alone
+
+ids_registered : (list_ids : List ℕ) (lists : List Listed) → length list_ids ≡ length lists
+    → map (λ (r : Registered). r.list_id) (with_list_ids list_ids lists) ≡ list_ids
+ids_registered [] lists e = refl
+ids_registered (m ∷ ms) [] e = absurd (omega arith)
+ids_registered (m ∷ ms) (l ∷ ls) e = ap (λ ids. m ∷ ids) (ids_registered ms ls (omega arith))
+
+-- lists without their list ids
+pub lists_with_ids : (list_ids : List ℕ) (lists : List Listed) → length list_ids ≡ length lists
+    → lists_registered (with_list_ids list_ids lists) ≡ lists
+lists_with_ids [] [] e = refl
+lists_with_ids [] (l ∷ ls) e = absurd (omega arith)
+lists_with_ids (m ∷ ms) [] e = absurd (omega arith)
+lists_with_ids (m ∷ ms) (l ∷ ls) e = ap (λ rest. l ∷ rest) (lists_with_ids ms ls (omega arith))
+
+none_left : (list_id : ℕ) (rs : List Registered) → All (λ m. nat_eq m list_id ≡ false) (map (λ (r : Registered). r.list_id) rs)
+    → without_registered list_id rs ≡ rs
+none_left list_id [] h = refl
+none_left list_id (r ∷ rs) h =
+    let P : ℕ → Type 0 = λ m. nat_eq m list_id ≡ false in
+    let ids = map (λ (x : Registered). x.list_id) rs in
+    cond-true (not (nat_eq r.list_id list_id)) (r ∷ without_registered list_id rs) (without_registered list_id rs)
+    (ap not (All-head P r.list_id ids h))
+    ∙ ap (λ l. r ∷ l) (none_left list_id rs (All-tail P r.list_id ids h))
+
+without_last : (rs : List Registered) (r : Registered) → IsDistinct nat_eq (map (λ (x : Registered). x.list_id) (rs ++ r ∷ []))
+    → without_registered r.list_id (rs ++ r ∷ []) ≡ rs
+without_last rs r distinct =
+    let id : Registered → ℕ = λ x. x.list_id in
+    let parts = distinct-parts (map id rs) r.list_id (subst (IsDistinct nat_eq) (map-append id rs (r ∷ [])) distinct) in
+    filter-append (λ (x : Registered). not (nat_eq x.list_id r.list_id)) rs (r ∷ [])
+    ∙ (ap (λ l. l ++ without_registered r.list_id (r ∷ [])) (none_left r.list_id rs parts.1)
+    ∙ (ap (λ l. rs ++ l) (cond-false (not (nat_eq r.list_id r.list_id)) (r ∷ []) [] (ap not (eq-eqb r.list_id r.list_id refl)))
+    ∙ append-nil rs))
+
+-- a collection that registers the lists of a search alone registers what is left of them
+pub left_alone : (before after : RegisteredLists) → Removes before after → IsDistinct nat_eq before.list_ids
+    → length before.list_ids ≡ length before.lists
+    → RegistersExactly before.known (with_list_ids before.list_ids before.lists)
+    → RegistersExactly after.known (with_list_ids after.list_ids after.lists)
+left_alone before after gone distinct same h =
+    let own = with_list_ids before.list_ids before.lists in
+    let left = with_list_ids after.list_ids after.lists in
+    let ids : List Registered → List ℕ = λ rs. map (λ (r : Registered). r.list_id) rs in
+    let differ : IsDistinct nat_eq (ids (left ++ gone.removed ∷ [])) =
+    subst (λ rs. IsDistinct nat_eq (ids rs)) gone.of_search
+    (subst (IsDistinct nat_eq) (sym (ids_registered before.list_ids before.lists same)) distinct) in
+    subst (RegistersExactly after.known)
+    (ap (without_registered gone.removed.list_id) gone.of_search ∙ without_last left gone.removed differ)
+    (gone.of_collection own h)
+
+-- ---- bodies
+
+slice_get-map : {X Y : Type 0} (f : X → Y) (xs : List X) (i : ℕ) → slice_get (map f xs) i ≡ option_map f (slice_get xs i)
+slice_get-map f [] i = refl
+slice_get-map f (x ∷ xs) zero = refl
+slice_get-map f (x ∷ xs) (suc i) = slice_get-map f xs i
+
+-- the bodies of definitions, without their list ids
+bodies_under : (register : List Registered) (name : List ℕ) → map (λ (d : MacroDefinition). d.body) (definitions_under register name)
+    ≡ definitions_in (lists_registered register) name
+bodies_under [] name = refl
+bodies_under (r ∷ rs) name =
+    map-append (λ (d : MacroDefinition). d.body) (map (definition_of r.list_id) (bodies_named name r.list.lines)) (definitions_under rs name)
+    ∙ (ap (λ bs. bs ++ map (λ (d : MacroDefinition). d.body) (definitions_under rs name)) (unmarked r.list_id (bodies_named name r.list.lines))
+    ∙ ap (λ bs. bodies_named name r.list.lines ++ bs) (bodies_under rs name))
+  where
+    unmarked : (m : ℕ) (bodies : List (List TrackedAssignment)) → map (λ (d : MacroDefinition). d.body) (map (definition_of m) bodies) ≡ bodies
+    unmarked m [] = refl
+    unmarked m (b ∷ bs) = ap (λ xs. b ∷ xs) (unmarked m bs)
+
+last_of : (ds : List MacroDefinition) (bodies : List (List TrackedAssignment)) → map (λ (d : MacroDefinition). d.body) ds ≡ bodies
+    → last_body ds ≡ unwrap_or (slice_get bodies (length bodies - 1)) []
+last_of ds bodies e =
+    ap (λ (o : Option (List TrackedAssignment)). unwrap_or o []) (sym (slice_get-map (λ (d : MacroDefinition). d.body) ds (length ds - 1)))
+    ∙ (ap (λ n. unwrap_or (slice_get (map (λ (d : MacroDefinition). d.body) ds) (n - 1)) []) (sym (length-map ds (λ (d : MacroDefinition). d.body)))
+    ∙ ap (λ bs. unwrap_or (slice_get bs (length bs - 1)) []) e)
+
+-- the body of each name is the last definition in the lists that are registered
+pub bodies_registered : (known : Collection) (register : List Registered) → RegistersExactly known register
+    → bodies_of known ≡ map (last_definition (lists_registered register)) known.names
+bodies_registered known register h =
+    let f = last_definition (lists_registered register) in
+    ext_get_or [] (bodies_of known) (map f known.names)
+    (length-map known.definitions last_body ∙ (h.sound.counted ∙ sym (length-map known.names f)))
+    (λ n lt.
+    let below : n < length known.names = omega (arith, lt, length-map known.definitions last_body, h.sound.counted) in
+    let name = get_or known.names n [] in
+    get_or-map last_body known.definitions n []
+    ∙ (ap last_body (sym (ap (λ (o : Option ℕ). unwrap_or (option_map (definitions_of known) o) []) (number_at known.names n h.sound.distinct below))
+    ∙ h.defined name)
+    ∙ (last_of (definitions_under register name) (definitions_in (lists_registered register) name) (bodies_under register name)
+    ∙ (sym (get_or-map f known.names n [])
+    ∙ get_or_default (map f known.names) n (f []) [] (omega (arith, below, length-map known.names f))))))
+
+get_below : {X : Type 0} (xs : List X) (i : ℕ) (x : X) → slice_get xs i ≡ Some x → i < length xs
+get_below [] i x h = absurd cc
+get_below (y ∷ ys) zero x h = omega arith
+get_below (y ∷ ys) (suc i) x h = let rest = get_below ys i x h in omega arith
+
+get_at : {X : Type 0} (xs : List X) (i : ℕ) (x d : X) → slice_get xs i ≡ Some x → get_or xs i d ≡ x
+get_at [] i x d h = absurd cc
+get_at (y ∷ ys) zero x d h = cc
+get_at (y ∷ ys) (suc i) x d h = get_at ys i x d h
+
+last_named : (names : List (List ℕ)) (ds : List MacroDefinition) → All (λ d. AreNamed names d.body) ds → AreNamed names (last_body ds)
+last_named names ds h = at (slice_get ds (length ds - 1)) refl
+  where
+    at : (o : Option MacroDefinition) → slice_get ds (length ds - 1) ≡ o → AreNamed names (unwrap_or (option_map (λ (d : MacroDefinition). d.body) o) [])
+    at None e = All-nil (λ (i : TrackedAssignment). IsNumberOf names i.inner.name i.id)
+    at (Some d) e = subst (λ (x : MacroDefinition). AreNamed names x.body) (get_at ds (length ds - 1) d d e)
+        (h (length ds - 1) d (get_below ds (length ds - 1) d e))
+
+-- the items of each body have the numbers of their names
+pub bodies_have_names : (known : Collection) → IsSoundCollection known → BodiesAreNamed known.names (bodies_of known)
+bodies_have_names known sound = All-map (AreNamed known.names) last_body known.definitions
+    (λ k d lt. subst (λ ds. AreNamed known.names (last_body ds)) (get_or_default known.definitions k [] d lt)
+    (last_named known.names (definitions_of known k) (sound.named k)))

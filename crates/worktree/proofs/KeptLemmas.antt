@@ -1,0 +1,140 @@
+-- What a worktree keeps when lists are added and removed.
+use Rattle.std.proofs.Common.{◌≡◌, ◌≢◌, ℕ, List, [], ◌++◌, length, All, Option, Some, None, option_map, refl, sym, ap, ◌∙◌, subst}
+use Rattle.std.specs.Prelude.{IfSome, MatchOption}
+use Rattle.std.specs.Option.{option_to_list}
+use Rattle.std.proofs.lemmas.List.{append-nil}
+use Rattle.std.proofs.lemmas.List.Elements.{All-nil}
+use Rattle.gix_attributes.specs.Additions.{registered_lists}
+use Rattle.gix_attributes.specs.Collections.{Collection}
+use Rattle.gix_attributes.specs.Covered.{AreCovered, ListsAreCovered}
+use Rattle.gix_attributes.specs.Keeping.{Adds, AreApart, Keeps, Removes}
+use Rattle.gix_attributes.specs.Numbers.{AppendsNames}
+use Rattle.gix_attributes.specs.Registers.{RegistersExactly, without_registered}
+use Rattle.gix_attributes.specs.SearchViews.{Holds, LosesLast, RemovesLast, list_ids_in, lists_in}
+use Rattle.gix_attributes.specs.Settings.{LinesAreNamed, Listed, ListsAreNamed}
+use Rattle.gix_attributes.specs.declared.search.attributes.Search.{Search}
+use Rattle.worktree.specs.WorktreeView.{AreKept, IsNumbered}
+
+-- what the law `names_stay` says of lists
+pub record NamesStay : Type 0 where
+  pub lists : (old new : List (List ℕ)) (lists : List Listed) → AppendsNames old new → ListsAreNamed old lists → ListsAreNamed new lists
+  pub covered : (old new : List (List ℕ)) (lists : List Listed) → AppendsNames old new → ListsAreCovered (length old) lists
+      → ListsAreCovered (length new) lists
+
+apart_alike : (xs ys : List ℕ) → AreApart xs ys → AreApart ys xs
+apart_alike xs ys h = λ k d lt j e lt2 same. h j e lt2 k d lt (sym same)
+
+still_numbered : NamesStay → (known now : Collection) (search : Search) → AppendsNames known.names now.names → IsNumbered known search
+    → IsNumbered now search
+still_numbered law known now search more h = record {
+  named = law.lists known.names now.names (lists_in search) more h.named;
+  covered = law.covered known.names now.names (lists_in search) more h.covered;
+}
+
+-- a search without lists
+none_numbered : (known : Collection) (search : Search) → lists_in search ≡ [] → IsNumbered known search
+none_numbered known search none = record {
+  named = subst (ListsAreNamed known.names) (sym none) (All-nil (λ (l : Listed). LinesAreNamed known.names l.lines));
+  covered = subst (ListsAreCovered (length known.names)) (sym none) (All-nil (λ (l : Listed). AreCovered (length known.names) l.lines));
+}
+
+pub kept_first : (globals folders : Search) (known : Collection) → lists_in globals ≡ [] → lists_in folders ≡ [] → list_ids_in folders ≡ []
+    → Holds known globals → Holds known folders → RegistersExactly known [] → AreKept globals folders known
+kept_first globals folders known no_globals no_folders no_ids globals_held folders_held empty = record {
+  globals_held = globals_held;
+  folders_held = folders_held;
+  apart = subst (λ ids. AreApart ids (list_ids_in globals)) (sym no_ids) (All-nil (λ m. All (λ o. o ≢ m) (list_ids_in globals)));
+  globals_numbered = none_numbered known globals no_globals;
+  folders_numbered = none_numbered known folders no_folders;
+  register = [];
+  registered = empty;
+}
+
+numbered_more : (known now : Collection) (before after : Search) → Keeps (registered_lists before known) (registered_lists after now)
+    → IsNumbered known before → IsNumbered now after
+numbered_more known now before after kept h = record { named = kept.named h.named; covered = kept.covered h.covered }
+
+-- a global list is added
+pub kept_globally : NamesStay → (before after folders : Search) (known now : Collection)
+    → Keeps (registered_lists before known) (registered_lists after now) → Adds (registered_lists before known) (registered_lists after now)
+    → (Holds known before → Holds now after) → AreKept before folders known → AreKept after folders now
+kept_globally law before after folders known now kept more held h =
+    let ids = list_ids_in folders in
+    let others = kept.others folders (apart_alike ids (list_ids_in before) h.apart) h.folders_held in
+    record {
+      globals_held = held h.globals_held;
+      folders_held = others.1;
+      apart = apart_alike (list_ids_in after) ids others.0;
+      globals_numbered = numbered_more known now before after kept h.globals_numbered;
+      folders_numbered = still_numbered law known now folders kept.names h.folders_numbered;
+      register = h.register ++ more.added;
+      registered = more.to_collection h.register h.registered;
+    }
+
+-- the list of a folder is added
+pub kept_entering : NamesStay → (globals before after : Search) (known now : Collection)
+    → Keeps (registered_lists before known) (registered_lists after now) → Adds (registered_lists before known) (registered_lists after now)
+    → (Holds known before → Holds now after) → AreKept globals before known → AreKept globals after now
+kept_entering law globals before after known now kept more held h =
+    let others = kept.others globals h.apart h.globals_held in
+    record {
+      globals_held = others.1;
+      folders_held = held h.folders_held;
+      apart = others.0;
+      globals_numbered = still_numbered law known now globals kept.names h.globals_numbered;
+      folders_numbered = numbered_more known now before after kept h.folders_numbered;
+      register = h.register ++ more.added;
+      registered = more.to_collection h.register h.registered;
+    }
+
+numbered_same : (known now : Collection) (before after : Search) → lists_in after ≡ lists_in before → now ≡ known → IsNumbered known before
+    → IsNumbered now after
+numbered_same known now before after lists_are now_is h = record {
+  named = subst (λ (k : Collection). ListsAreNamed k.names (lists_in after)) (sym now_is)
+      (subst (ListsAreNamed known.names) (sym lists_are) h.named);
+  covered = subst (λ (k : Collection). ListsAreCovered (length k.names) (lists_in after)) (sym now_is)
+      (subst (ListsAreCovered (length known.names)) (sym lists_are) h.covered);
+}
+
+-- a call changed neither search
+pub kept_same : (globals globals' folders folders' : Search) (known now : Collection) → lists_in globals' ≡ lists_in globals
+    → list_ids_in globals' ≡ list_ids_in globals → lists_in folders' ≡ lists_in folders → list_ids_in folders' ≡ list_ids_in folders → now ≡ known
+    → Holds now globals' → Holds now folders' → AreKept globals folders known → AreKept globals' folders' now
+kept_same globals globals' folders folders' known now globals_are globals_ids folders_are folders_ids now_is globals_held folders_held h = record {
+  globals_held = globals_held;
+  folders_held = folders_held;
+  apart = subst (λ ids. AreApart ids (list_ids_in globals')) (sym folders_ids)
+      (subst (AreApart (list_ids_in folders)) (sym globals_ids) h.apart);
+  globals_numbered = numbered_same known now globals globals' globals_are now_is h.globals_numbered;
+  folders_numbered = numbered_same known now folders folders' folders_are now_is h.folders_numbered;
+  register = h.register;
+  registered = subst (λ k. RegistersExactly k h.register) (sym now_is) h.registered;
+}
+
+-- the list of the last folder is removed, if there is one
+pub kept_leaving : {X : Type 0} (read : X → Listed) (r : Option X) → NamesStay → (globals before after : Search) (known now : Collection)
+    → IfSome r (λ _. Keeps (registered_lists before known) (registered_lists after now))
+    → IfSome r (λ _. Removes (registered_lists before known) (registered_lists after now))
+    → lists_in before ≡ lists_in after ++ option_to_list (option_map read r) → MatchOption r (now ≡ known) (λ _. RemovesLast (list_ids_in before) known now)
+    → MatchOption r (list_ids_in after ≡ list_ids_in before) (λ _. LosesLast (list_ids_in before) (list_ids_in after)) → Holds now after → AreKept globals before known
+    → AreKept globals after now
+kept_leaving read None law globals before after known now kept gone lists_are now_is ids_are held h =
+    kept_same globals globals before after known now refl refl (sym (lists_are ∙ append-nil (lists_in after))) ids_are now_is
+    (subst (λ k. Holds k globals) (sym now_is) h.globals_held) held h
+kept_leaving read (Some x) law globals before after known now kept gone lists_are now_is ids_are held h =
+    let others = kept.others globals h.apart h.globals_held in
+    record {
+      globals_held = others.1;
+      folders_held = held;
+      apart = others.0;
+      globals_numbered = still_numbered law known now globals kept.names h.globals_numbered;
+      folders_numbered = numbered_more known now before after kept h.folders_numbered;
+      register = without_registered gone.removed.list_id h.register;
+      registered = gone.of_collection h.register h.registered;
+    }
+
+-- the names stay
+pub names_left : {X : Type 0} (ids : List ℕ) (r : Option X) (known now : Collection) → MatchOption r (now ≡ known) (λ _. RemovesLast ids known now)
+    → now.names ≡ known.names
+names_left ids None known now now_is = ap (λ (k : Collection). k.names) now_is
+names_left ids (Some x) known now gone = ap (λ (k : Collection). k.names) gone.3

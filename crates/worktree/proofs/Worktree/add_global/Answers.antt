@@ -1,0 +1,21 @@
+use Rattle.std.proofs.Common.{refl, sym, subst}
+use Rattle.gix_attributes.specs.SearchViews.{Holds}
+use Rattle.worktree.proofs.KeptLemmas.{NamesStay, kept_globally, kept_same}
+use Rattle.worktree.proofs.Worktree.add_global.Goals as goal
+
+pub invariant_of-self : goal.invariant_of-self
+invariant_of-self c =
+    let w = c.self.inside in
+    let now = c.add_patterns_buffer.new.collection in
+    let refused = c.in_err-add_patterns_buffer.ensures in
+    kept_same w.globals c.add_patterns_buffer.new.self w.folders w.folders w.collection now refused.refused refused.refused_list_ids refl refl
+    refused.unchanged (refused.held c.self.invariant.globals_held)
+    (subst (λ k. Holds k w.folders) (sym refused.unchanged) c.self.invariant.folders_held) c.self.invariant
+
+pub invariant_of-self-2 : goal.invariant_of-self-2
+invariant_of-self-2 c =
+    let w = c.self.inside in
+    let law : NamesStay = record { lists = c.names_stay.ensures.lists; covered = c.names_stay.ensures.covered } in
+    let added = c.in_ok-add_patterns_buffer.ensures in
+    kept_globally law w.globals c.add_patterns_buffer.new.self w.folders w.collection c.add_patterns_buffer.new.collection
+    added.kept added.added added.held c.self.invariant

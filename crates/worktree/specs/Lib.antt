@@ -1,0 +1,2 @@
+pub mod WorktreeView
+pub mod Worktrees

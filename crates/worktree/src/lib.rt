@@ -1,0 +1,173 @@
+//! The attributes of the paths of a worktree: a worked caller of `gix_attributes`, whose contracts say what its searches
+//! find, by the clauses and laws of that crate alone.
+#![tactic(auto)]
+
+ghost use Rattle.std.specs.Prelude.{◌≡◌, ◌++◌, ◌-◌, length, take, OnOk, OnErr};
+ghost use Rattle.gix_attributes.specs.Lookups.{OfTheOnlyTable, ReturnsAnswers, setting_in};
+ghost use Rattle.worktree.specs.Worktrees.{lookup, no_files, with_folder, with_global};
+
+use bstr::BStr;
+use gix_attributes::Search;
+use gix_attributes::glob::pattern::Case;
+use gix_attributes::search::{MetadataCollection, Outcome, laws};
+use std::alloc::{AllocError, Global};
+use std::marker::Model;
+
+/// The attributes files of a worktree: global ones, and over them those of folders, from the top to one of them. One
+/// collection numbers the names of both.
+#[derive(Drop)]
+pub struct Worktree {
+    globals: Search,
+    folders: Search,
+    collection: MetadataCollection,
+}
+
+impl Model for Worktree {
+    ghost use Rattle.worktree.specs.Worktrees.{Files};
+
+    ghost Value = { Files };
+
+    ghost use Rattle.worktree.specs.WorktreeView.{IsKept, files_of};
+
+    ghost view = { files_of };
+
+    ghost invariant = { IsKept };
+}
+
+/// The attributes file of a folder.
+#[derive(Clone, Copy)]
+pub struct File<'a> {
+    /// The path of the file from the top.
+    pub path: &'a str,
+    /// The contents of the file.
+    pub bytes: &'a [u8],
+}
+
+/// A path that is no folder, and the names of the attributes that are looked up for it.
+#[derive(Clone, Copy)]
+pub struct Question<'a> {
+    /// The path from the top.
+    pub path: BStr<'a>,
+    /// The names, in the order of the answers.
+    pub names: &'a [&'a str],
+}
+
+impl Worktree {
+    /// A worktree without files. It takes no memory.
+    pub fn new(alloc: Global) -> Worktree
+        ensures { result ≡ no_files }
+    {
+        Worktree {
+            globals: Search::new(alloc),
+            folders: Search::new(alloc),
+            collection: MetadataCollection::new(alloc),
+        }
+    }
+
+    /// Adds a global file, which may define macros, and whose patterns match all paths.
+    ///
+    /// # Errors
+    ///
+    /// If there is no memory. Nothing changes then.
+    pub fn add_global(&mut self, alloc: Global, file: File<'_>) -> Result<(), AllocError>
+        ensures added { OnOk result (self.new ≡ with_global file.entry self.old) }
+        ensures refused { OnErr result (self.new ≡ self.old) }
+    {
+        let source = String::from_str(alloc, file.path)?;
+        self.globals.add_patterns_buffer(
+            alloc,
+            file.bytes,
+            source,
+            None,
+            &mut self.collection,
+            true,
+        )?;
+        laws::registers::names_stay();
+        Ok(())
+    }
+
+    /// Looks names up for a path in a folder whose file comes after those that are there, and leaves the files as they were.
+    ///
+    /// # Errors
+    ///
+    /// If there is no memory.
+    pub fn look_up_in(
+        &mut self,
+        alloc: Global,
+        file: File<'_>,
+        question: Question<'_>,
+        out: &mut Outcome,
+    ) -> Result<(), AllocError>
+        ensures answers { OnOk result (
+            let q = lookup question.entry (with_folder file.entry self.old) in
+            OfTheOnlyTable (setting_in q) (ReturnsAnswers q out.new)) }
+        ensures folders { self.new.folders ≡ self.old.folders }
+        ensures globals { self.new.globals ≡ self.old.globals }
+    {
+        self.enter(alloc, file)?;
+        let answered = self.look_up(alloc, question, out);
+        self.leave();
+        answered
+    }
+
+    /// Adds the file of a folder.
+    ///
+    /// # Errors
+    ///
+    /// If there is no memory. Nothing changes then.
+    pub fn enter(&mut self, alloc: Global, file: File<'_>) -> Result<(), AllocError>
+        ensures entered { OnOk result (self.new ≡ with_folder file.entry self.old) }
+        ensures refused { OnErr result (self.new ≡ self.old) }
+    {
+        let source = String::from_str(alloc, file.path)?;
+        self.folders.add_patterns_buffer(
+            alloc,
+            file.bytes,
+            source,
+            Some(""),
+            &mut self.collection,
+            false,
+        )?;
+        laws::registers::names_stay();
+        Ok(())
+    }
+
+    /// Removes the file of the last folder, if there is one.
+    pub fn leave(&mut self)
+        ensures folders { self.new.folders
+            ≡ take (length self.old.folders - 1) self.old.folders }
+        ensures globals { self.new.globals ≡ self.old.globals }
+        ensures names { self.new.known.names ≡ self.old.known.names }
+    {
+        let _ = self.folders.pop_pattern_list(&mut self.collection);
+        laws::registers::names_stay();
+    }
+
+    /// Looks names up for a path, in the lists of folders and then in the global ones, so the folders take precedence.
+    ///
+    /// # Errors
+    ///
+    /// If there is no memory.
+    pub fn look_up(
+        &self,
+        alloc: Global,
+        question: Question<'_>,
+        out: &mut Outcome,
+    ) -> Result<(), AllocError>
+        ensures { OnOk result (let q = lookup question.entry self.now in
+            OfTheOnlyTable (setting_in q) (ReturnsAnswers q out.new)) }
+    {
+        out.initialize_with_selection(alloc, &self.collection, question.names)?;
+        let (path, case, is_dir) = (question.path, Case::Sensitive, Some(false));
+        let (first, second) = (&self.folders, &self.globals);
+        first.pattern_matching_relative_path(alloc, path, case, is_dir, out)?;
+        second.pattern_matching_relative_path(alloc, path, case, is_dir, out)?;
+        laws::registers::bodies_have_names();
+        laws::further_searches_join();
+        laws::answers_are_of_the_only_table();
+        Ok(())
+    }
+}
+
+#[cfg(test)]
+mod tests;
