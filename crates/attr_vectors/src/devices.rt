@@ -1,8 +1,8 @@
 //! Readers and writers in memory, of which a chosen call fails.
-ghost use Rattle.std.specs.Prelude.{◌≡◌, ◌≢◌, ◌≤◌, ◌<◌, ◌-◌, ◌++◌, ℕ, List, [], Ok, Some, true, false, IsErr, IfOk, OnOk, OnErr, MatchResult, length, take, drop, min};
+ghost use Rattle.std.specs.Prelude.{◌≡◌, ◌≢◌, ◌<◌, ◌-◌, ◌++◌, ℕ, List, [], Ok, Some, true, false, IsErr, IfOk, OnOk, OnErr, MatchResult, length, take, drop, min};
 ghost use Rattle.std.specs.Io.{ReadsAtMost, WritesAtMost};
 ghost use Rattle.std.specs.Io.KnownBytes.{ReadConsumes, WriteAppends};
-ghost use Rattle.gix_attributes.specs.Failures.{Fails, one_more};
+ghost use Rattle.check_attr.specs.Failures.{CountsFailure, CountsOne, CountsStall};
 ghost use Rattle.attr_vectors.specs.Devices.{supply_of, supply_after_failure, supply_after_read, sink_of, sink_after_failure, sink_after_write, sink_after_refusal, sink_after_flush, sink_after_failed_flush, unlimited};
 
 use check_attr::{Pull, Push};
@@ -84,8 +84,7 @@ impl<'a> Pull for Source<'a> {
     fn read(&mut self, buf: &mut [u8]) -> io::Result<usize>
         ensures bound { ReadsAtMost result buf.new }
         ensures bytes { ReadConsumes (Some self.old.rest) (Some self.new.rest) result buf.new }
-        ensures kept { self.old.failures ≤ self.new.failures }
-        ensures err { OnErr result (Fails self.old.failures self.new.failures) }
+        ensures counted { CountsFailure result self.old.failures self.new.failures }
         ensures fails { self.old.failing ≡ 1 →
             IsErr result × (self.new ≡ supply_after_failure self.old) }
         ensures gives { self.old.failing ≢ 1 → IfOk result
@@ -217,18 +216,17 @@ impl Push for Sink {
 
     ghost failed = { λ s. s.failures };
 
-    ghost Stalls = { λ _. ⊥ };
+    ghost stalled = { λ _. 0 };
 
     ghost Flushed = { λ s. s.is_flushed ≡ true };
 
     fn write(&mut self, bytes: &[u8]) -> io::Result<usize>
         ensures bound { WritesAtMost result bytes.now }
         ensures bytes { WriteAppends (Some self.old.bytes) (Some self.new.bytes) result bytes.now }
-        ensures stalls { IfOk result (λ n. n ≡ 0 → 0 < length bytes.now → ⊥) }
+        ensures failed { CountsFailure result self.old.failures self.new.failures }
+        ensures stalled { CountsStall result bytes.now 0 0 }
         ensures flushed { self.new.is_flushed ≡ true →
             (self.old.is_flushed ≡ true) × IfOk result (λ n. n ≡ 0) }
-        ensures kept { self.old.failures ≤ self.new.failures }
-        ensures err { OnErr result (Fails self.old.failures self.new.failures) }
         ensures fails { self.old.failing ≡ 1 →
             IsErr result × (self.new ≡ sink_after_failure self.old) }
         ensures takes { IfOk result (λ n. n ≡ min (length bytes.now) self.old.most) }
@@ -252,8 +250,7 @@ impl Push for Sink {
     }
 
     fn flush(&mut self) -> io::Result<()>
-        ensures kept { self.old.failures ≤ self.new.failures }
-        ensures counted { OnErr result (Fails self.old.failures self.new.failures) }
+        ensures failed { CountsFailure result self.old.failures self.new.failures }
         ensures ok { OnOk result
             ((self.old.fails_flush ≡ false) × (self.new ≡ sink_after_flush self.old)) }
         ensures err { OnErr result
@@ -271,35 +268,67 @@ impl Push for Sink {
     fn failures(&self) -> u64 {
         self.failures
     }
+
+    fn stalls(&self) -> u64 {
+        0
+    }
 }
 
 /// A writer that takes no byte, and never fails.
 #[derive(Drop)]
-pub struct Stuck;
+pub struct Stuck {
+    stalls: u64,
+}
+
+impl Model for Stuck {
+    ghost use Rattle.std.specs.Prelude.{ℕ};
+
+    ghost Value = { ℕ };
+
+    ghost view = { λ s. s.stalls };
+}
+
+impl Stuck {
+    /// The writer, without a write so far.
+    pub fn new() -> Stuck
+        ensures { result ≡ 0 }
+    {
+        Stuck { stalls: 0 }
+    }
+}
 
 impl Push for Stuck {
     ghost contents = { λ _. Some [] };
 
     ghost failed = { λ _. 0 };
 
-    ghost Stalls = { λ _. Unit {0} };
+    ghost stalled = { λ s. s };
 
     ghost Flushed = { λ _. Unit {0} };
 
-    fn write(&mut self, _bytes: &[u8]) -> io::Result<usize>
-        ensures { result ≡ Ok 0 }
+    fn write(&mut self, bytes: &[u8]) -> io::Result<usize>
+        ensures none { result ≡ Ok 0 }
+        ensures stalled { CountsStall result bytes.now self.old self.new }
     {
+        if !bytes.is_empty() {
+            self.stalls = self.stalls.saturating_add(1);
+        }
         Ok(0)
     }
 
     fn flush(&mut self) -> io::Result<()>
-        ensures { OnErr result ⊥ }
+        ensures ok { OnErr result ⊥ }
+        ensures same { self.new ≡ self.old }
     {
         Ok(())
     }
 
     fn failures(&self) -> u64 {
         0
+    }
+
+    fn stalls(&self) -> u64 {
+        self.stalls
     }
 }
 
@@ -326,9 +355,8 @@ impl Broken {
     }
 
     fn refused<T>(&mut self) -> io::Result<T>
-        ensures err { IsErr result }
-        ensures count { self.new ≡ one_more self.old }
-        ensures kept { self.old ≤ self.new }
+        ensures refused { IsErr result }
+        ensures count { CountsOne self.old self.new }
     {
         self.failures = self.failures.saturating_add(1);
         Err(io::Error::from(ErrorKind::Other))
@@ -340,29 +368,29 @@ impl Push for Broken {
 
     ghost failed = { λ s. s };
 
-    ghost Stalls = { λ _. ⊥ };
+    ghost stalled = { λ _. 0 };
 
     ghost Flushed = { λ _. ⊥ };
 
     fn write(&mut self, _bytes: &[u8]) -> io::Result<usize>
         ensures refused { IsErr result }
-        ensures count { self.new ≡ one_more self.old }
-        ensures kept { self.old ≤ self.new }
-        ensures err { Fails self.old self.new }
+        ensures count { CountsOne self.old self.new }
     {
         self.refused()
     }
 
     fn flush(&mut self) -> io::Result<()>
         ensures refused { IsErr result }
-        ensures count { self.new ≡ one_more self.old }
-        ensures kept { self.old ≤ self.new }
-        ensures err { Fails self.old self.new }
+        ensures count { CountsOne self.old self.new }
     {
         self.refused()
     }
 
     fn failures(&self) -> u64 {
         self.failures
+    }
+
+    fn stalls(&self) -> u64 {
+        0
     }
 }

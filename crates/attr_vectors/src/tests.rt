@@ -3,10 +3,12 @@ mod failing;
 mod global_names;
 mod hostile;
 mod memory;
+mod pieces;
 mod rows;
 mod scripts;
 mod statuses;
 mod std_devices;
+mod written_scripts;
 
 // The worked input of the failing devices, and the text for it.
 const INPUT: &[u8] = b"!a b\n* a =x b=\n";

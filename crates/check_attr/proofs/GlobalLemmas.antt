@@ -1,4 +1,4 @@
--- The collection of global lists registers them alone.
+-- The lines that global files leave out.
 use Rattle.std.proofs.Common.{◌≡◌, ◌∙◌, ◌⊎◌, inl, inr, ◌+◌, ℕ, Bool, true, List, [], ◌∷◌, ◌++◌, length, map, Option, Some, None, refl, sym, ap, arith}
 use Rattle.std.proofs.Common.{append_assoc, length-append, All, Vec, String, Global, string_bytes}
 use Rattle.std.proofs.Math.Path.{subst}
@@ -10,7 +10,6 @@ use Rattle.gix_attributes.specs.Bases.{base_of}
 use Rattle.gix_attributes.specs.Definitions.{free_id}
 use Rattle.gix_attributes.specs.KeptLists.{kept_list_where}
 use Rattle.gix_attributes.specs.Collections.{empty_collection}
-use Rattle.gix_attributes.specs.Numbers.{IsNumbered}
 use Rattle.gix_attributes.specs.Additions.{RegisteredLists, with_buffer, with_file}
 use Rattle.gix_attributes.specs.Answers.{ReadAnswer, found, missing, device_failed, memory_refused}
 use Rattle.gix_attributes.specs.FileReads.{FileRead}
@@ -18,54 +17,7 @@ use Rattle.gix_attributes.specs.Globals.{Globals, with_global, with_built_in, gl
 use Rattle.gix_attributes.specs.Settings.{Listed}
 use Rattle.gix_attributes.specs.declared.search.Dropped.{Dropped}
 use Rattle.check_attr.specs.GlobalFiles.{all_dropped_text}
-use Rattle.check_attr.specs.inner.Registration.{RegistersExactly}
 use Rattle.check_attr.specs.ScriptText.{dropped_text}
-use Rattle.check_attr.proofs.RegistrationLemmas.{registers_more}
-
--- the collection registers the lists, and each of them has its list id
-record IsRegistered (l : RegisteredLists) : Type 0 where
-  pub same : length l.list_ids ≡ length l.lists
-  pub knows : RegistersExactly l.known l.list_ids l.lists
-
-nothing_registered : IsRegistered (record { lists = []; list_ids = []; known = empty_collection })
-nothing_registered =
-    record {
-      same = refl;
-      knows = record {
-        numbered = All-nil (λ (listed : Listed). All (IsNumbered []) listed.lines);
-        counted = refl;
-        defined = λ number. get_or_past [] number [] (omega arith);
-      };
-    }
-
-registers_buffer : (source : List ℕ) (root : Option (List ℕ)) (allow_macros : Bool) (bytes : List ℕ) (old : RegisteredLists) → IsRegistered old →
-    IsRegistered
-    (with_buffer source root allow_macros bytes old)
-registers_buffer source root allow_macros bytes old is =
-    record {
-      same = length-append old.list_ids _ ∙ (ap (λ n. n + 1) is.same ∙ sym (length-append old.lists _));
-      knows = registers_more old.known old.list_ids old.lists (free_id old.known.active) (kept_list_where allow_macros bytes) (Some source)
-          (base_of source root) is.same is.knows;
-    }
-
-registers_file : (source : List ℕ) (root : Option (List ℕ)) (allow_macros : Bool) (answer : ReadAnswer) (old : RegisteredLists)
-    → IsRegistered old → IsRegistered (with_file source root allow_macros answer old)
-registers_file source root allow_macros (found bytes) old is = registers_buffer source root allow_macros bytes old is
-registers_file source root allow_macros missing old is = is
-registers_file source root allow_macros device_failed old is = is
-registers_file source root allow_macros memory_refused old is = is
-
-registers_files : (old : Globals) (read : List FileRead) → IsRegistered old.loaded → IsRegistered (fold with_global old read).loaded
-registers_files old [] is = is
-registers_files old (file ∷ read) is = registers_files (with_global old file) read (registers_file file.name None true file.answer old.loaded is)
-
--- the collection of the global lists registers them
-pub globals_registered : (left : List ℕ) (read : List FileRead) (loaded : RegisteredLists) → loaded ≡ (globals_of empty_collection left read).loaded
-    → RegistersExactly loaded.known loaded.list_ids loaded.lists
-globals_registered left read loaded is =
-    subst (λ (l : RegisteredLists). RegistersExactly l.known l.list_ids l.lists) (sym is)
-    (registers_files (record { loaded = with_built_in empty_collection; dropped = []; left = left }) read
-    (registers_buffer built_in_source None true built_in _ nothing_registered)).knows
 
 -- the lines that files leave out, for names and lines that are texts and vectors
 abbrev pub dropped_report_of : List (String Global) → List (Vec Dropped Global) → List ℕ

@@ -1,9 +1,13 @@
 pub mod Bytes
 mod ReportLemmas
 mod PrintLemmas
+mod PieceLemmas
 mod ArgLemmas
 mod NameLemmas
 mod ScriptLemmas
+mod PartLemmas
+mod SpellingLemmas
+mod RecordLemmas
 mod RegistrationLemmas
 mod AnswerLemmas
 mod RunLemmas

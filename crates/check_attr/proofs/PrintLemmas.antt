@@ -1,19 +1,25 @@
 -- A text that was written whole, or a beginning of it before the writer failed.
-use Rattle.std.proofs.Common.{◌≡◌, ◌+◌, ℕ, zero, suc, List, [], ◌∷◌, ◌++◌, length, take, Option, Result, Ok, Err, OnOk, OnErr, ◌⊎◌, inl, inr}
+use Rattle.std.proofs.Common.{◌≡◌, ◌+◌, ℕ, zero, suc, List, [], ◌∷◌, ◌++◌, length, take, Option, Result, Ok, Err, OnOk, OnErr, inl, inr}
 use Rattle.std.proofs.Common.{refl, ap, ◌∙◌, arith, subst}
 use Rattle.std.proofs.KnownBytes.{Appends-trans}
 use Rattle.std.specs.Io.KnownBytes.{Appends}
-use Rattle.gix_attributes.specs.Failures.{Fails}
+use Rattle.std.specs.Prelude.{IfErr}
 use Rattle.check_attr.specs.Failures.{AppendsFront}
+use Rattle.check_attr.specs.Outcomes.{CountsWrites}
 use Rattle.check_attr.specs.Program.{Prints}
+use Rattle.check_attr.specs.declared.fault.Fault.{Fault}
+use Rattle.check_attr.specs.declared.fault.Fault.TheVariants.{Record, Read, Write, OutOfMemory}
 
 -- what a call that writes a text returns, as one fact
-pub Prints-written : {T X E : Type 0} (contents : E → Option (List ℕ)) (failed : E → ℕ) (stalls : E → Type 0) (r : Result T X) (old new : E)
-    (text : List ℕ)
+pub Prints-written : {T E : Type 0} (contents : E → Option (List ℕ)) (failed stalled : E → ℕ) (r : Result T Fault) (old new : E) (text : List ℕ)
     → OnOk r (Appends (contents old) (contents new) text) → OnErr r (AppendsFront (contents old) (contents new) text)
-    → OnErr r (Fails (failed old) (failed new) ⊎ stalls new) → Prints contents failed stalls old new text
-Prints-written contents failed stalls (Ok x) old new text whole front cause = inl whole
-Prints-written contents failed stalls (Err e) old new text whole front cause = inr (cause, front)
+    → CountsWrites r (failed old) (failed new) (stalled old) (stalled new) → IfErr r (λ fault. fault ≡ Write)
+    → Prints contents failed stalled old new text
+Prints-written contents failed stalled (Ok x) old new text whole front counts only = inl whole
+Prints-written contents failed stalled (Err (Record k)) old new text whole front counts only = absurd cc
+Prints-written contents failed stalled (Err Read) old new text whole front counts only = absurd cc
+Prints-written contents failed stalled (Err Write) old new text whole front counts only = inr (counts, front)
+Prints-written contents failed stalled (Err OutOfMemory) old new text whole front counts only = absurd cc
 
 -- a beginning of a text is one of a longer text
 front_fits : (n : ℕ) (xs ys : List ℕ) → (m : ℕ) × (take n xs ≡ take m (xs ++ ys))

@@ -8,7 +8,7 @@ use Rattle.std.specs.Result.{result_ok}
 use Rattle.std.specs.Str.{IsUtf8, is_utf8}
 use Rattle.std.proofs.lemmas.Str.{IsUtf8-from_is_utf8, is_utf8-from_IsUtf8}
 use Rattle.gix_attributes.specs.LinesJoined.{line_feed}
-use Rattle.check_attr.specs.Script.{◌then◌, split_once, if_text, text_lines}
+use Rattle.check_attr.specs.inner.ScriptParts.{◌then◌, split_once, if_text, text_lines}
 
 -- one line, and then the others
 pub text_lines-step : (n : ℕ) (bytes : List ℕ) → 0 < n →

@@ -4,17 +4,18 @@ use Rattle.std.specs.Prelude.{option_and_then}
 use Rattle.gix_attributes.specs.Table.{Table}
 use Rattle.gix_attributes.specs.Cut.{answer_at, no_answers}
 use Rattle.attr_table.proofs.ForCallers.{OneTable-of}
-use Rattle.check_attr.specs.Script.{Question, Record, add, pop, names, ask, record_of}
+use Rattle.check_attr.specs.Script.{Question, Record, add, pop, names, ask, BeginsWithRecord, IsMalformed}
+use Rattle.check_attr.specs.inner.ScriptParts.{IsFirstRecord, record_of}
 use Rattle.check_attr.specs.ScriptText.{IsRecordText, OneText, Writes, answers_text, asked_setting, ends, breaks, goes_on}
 use Rattle.check_attr.specs.ScriptStates.{ScriptState, next_state}
-use Rattle.check_attr.proofs.RunLemmas.{shorter}
+use Rattle.check_attr.proofs.SpellingLemmas.{first_record, one_record, shorter}
 
 -- the answers to a question, by a table
 abbrev answers_by : ScriptState → Question → Table → List ℕ
 answers_by s q table = answers_text s q (λ number. option_and_then (answer_at (asked_setting s q)) (table number))
 
 -- each record writes something
-some_record_text : (s : ScriptState) (r : Record) → (text : List ℕ) × IsRecordText s r text
+pub some_record_text : (s : ScriptState) (r : Record) → (text : List ℕ) × IsRecordText s r text
 some_record_text s (add a) = (_, refl)
 some_record_text s pop = (_, refl)
 some_record_text s (names selected) = (_, refl)
@@ -35,8 +36,8 @@ one_record_text s (ask q) text other is is_other =
 abbrev HasText : ScriptState → ℕ → List ℕ → Type 0
 HasText s number script = (malformed : Option ℕ) × (text : List ℕ) × Writes s number script malformed text
 
-text_by : (s : ScriptState) (number : ℕ) (script : List ℕ) → script ≢ [] → (o : Option (Record × List ℕ)) → record_of script ≡ o
-    → ((r : Record) (rest : List ℕ) → record_of script ≡ Some (r, rest) → HasText (next_state r s) (number + 1) rest) → HasText s number script
+text_by : (s : ScriptState) (number : ℕ) (script : List ℕ) → script ≢ [] → (o : Option (Record × List ℕ)) → IsFirstRecord script o
+    → ((r : Record) (rest : List ℕ) → BeginsWithRecord script r rest → HasText (next_state r s) (number + 1) rest) → HasText s number script
 text_by s number script some None read others = (Some number, [], breaks some read)
 text_by s number script some (Some p) read others =
     let first = some_record_text s p.0 in
@@ -48,35 +49,23 @@ some_text : (longest : ℕ) (s : ScriptState) (number : ℕ) (script : List ℕ)
 some_text longest s number [] short = (None, [], ends)
 some_text zero s number (b ∷ bs) short = absurd (omega (arith, short))
 some_text (suc longest) s number (b ∷ bs) short =
-    text_by s number (b ∷ bs) (λ e. absurd cc) (record_of (b ∷ bs)) refl
+    text_by s number (b ∷ bs) (λ e. absurd cc) (record_of (b ∷ bs)) (first_record (b ∷ bs) (record_of (b ∷ bs)) refl)
     (λ r rest read. some_text longest (next_state r s) (number + 1) rest (omega (arith, short, shorter (b ∷ bs) r rest read)))
-
--- what is read is one record and one rest
-abbrev read_in : {X : Type 0} → X → Option (X × List ℕ) → X
-read_in other None = other
-read_in other (Some p) = p.0
-
-abbrev rest_in : {X : Type 0} → Option (X × List ℕ) → List ℕ
-rest_in None = []
-rest_in (Some p) = p.1
-
-one_read : {X : Type 0} (o : Option (X × List ℕ)) (x y : X) (xs ys : List ℕ) → o ≡ Some (x, xs) → o ≡ Some (y, ys) → (y ≡ x) × (ys ≡ xs)
-one_read o x y xs ys is is_other = (ap (read_in x) (sym is_other ∙ is), ap rest_in (sym is_other ∙ is))
 
 -- and nothing else
 one_text : (s : ScriptState) (number : ℕ) (script : List ℕ) (malformed other_malformed : Option ℕ) (text other : List ℕ)
     → Writes s number script malformed text → Writes s number script other_malformed other → (other_malformed ≡ malformed) × (other ≡ text)
 one_text _ _ _ _ _ _ _ ends ends = (refl, refl)
 one_text _ _ _ _ _ _ _ ends (breaks some read) = absurd (some refl)
-one_text _ _ _ _ _ _ _ ends (goes_on r rest first others read is_text left) = absurd cc
+one_text _ _ _ _ _ _ _ ends (goes_on r rest first others read is_text left) = absurd (omega (arith, shorter [] r rest read))
 one_text _ _ _ _ _ _ _ (breaks some read) ends = absurd (some refl)
 one_text _ _ _ _ _ _ _ (breaks some read) (breaks some' read') = (refl, refl)
-one_text _ _ _ _ _ _ _ (breaks some read) (goes_on r rest first others read' is_text left) = absurd cc
-one_text _ _ _ _ _ _ _ (goes_on r rest first others read is_text left) ends = absurd cc
-one_text _ _ _ _ _ _ _ (goes_on r rest first others read is_text left) (breaks some read') = absurd cc
+one_text _ _ _ _ _ _ _ (breaks some read) (goes_on r rest first others read' is_text left) = absurd (read r rest read')
+one_text _ _ _ _ _ _ _ (goes_on r rest first others read is_text left) ends = absurd (omega (arith, shorter [] r rest read))
+one_text _ _ _ _ _ _ _ (goes_on r rest first others read is_text left) (breaks some read') = absurd (read' r rest read)
 one_text s number script malformed other_malformed _ _ (goes_on r rest first others read is_text left)
     (goes_on r' rest' first' others' read' is_text' left') =
-    let reads = one_read (record_of script) r r' rest rest' read read' in
+    let reads = one_record script r r' rest rest' read read' in
     let first_is = one_record_text s r first' first (subst (λ x. IsRecordText s x first') reads.0 is_text') is_text in
     let left_is = one_text (next_state r s) (number + 1) rest malformed other_malformed others others' left
     (subst (λ x. Writes (next_state x s) (number + 1) rest other_malformed others') reads.0

@@ -1,5 +1,5 @@
 -- The lists that a script starts from, as they are read from the files of these names (own).
-use Rattle.std.specs.Prelude.{◌≡◌, ℕ, List, []}
+use Rattle.std.specs.Prelude.{◌≡◌, ◌⊎◌, ℕ, List, []}
 use Rattle.std.specs.List.{flat_map, zip}
 use Rattle.gix_attributes.specs.Answers.{ReadAnswer}
 use Rattle.gix_attributes.specs.Collections.{Collection, empty_collection}
@@ -7,6 +7,7 @@ use Rattle.gix_attributes.specs.declared.search.Dropped.{Dropped}
 use Rattle.gix_attributes.specs.FileReads.{AreAnswered, FileRead, ReadInOrder, names_read}
 use Rattle.gix_attributes.specs.Globals.{RefusesGlobals, globals_of}
 use Rattle.gix_attributes.specs.declared.search.files.AddError.{AddError}
+use Rattle.gix_attributes.specs.declared.search.files.AddError.TheVariants.{OutOfMemory}
 use Rattle.check_attr.specs.ScriptText.{dropped_text}
 use Rattle.check_attr.specs.ScriptStates.{GlobalLists}
 
@@ -26,6 +27,13 @@ loaded_from read =
 -- after these reads the files of the names are refused, with this error
 abbrev pub RefusedAt : List (List ℕ) → List FileRead → AddError → Type 0
 RefusedAt names read error = (left : Collection) × RefusesGlobals names read empty_collection left error
+
+-- the files of the names are refused with this error: by these reads, or because memory ran out for the text of the lines that
+-- they leave out
+abbrev pub RefusesNames : {F : Type 0} → (F → List ℕ → ReadAnswer → F → Type 0) → List (List ℕ) → F → F → AddError → Type 0
+RefusesNames reads names old new error =
+    ((read : List FileRead) × ReadInOrder reads old read new × RefusedAt names read error)
+    ⊎ ((error ≡ OutOfMemory) × (read : List FileRead) × ReadsNames reads names old read new)
 
 -- a line for each line that the file of one of these names leaves out, file by file
 abbrev pub all_dropped_text : List (List ℕ) → List (List Dropped) → List ℕ

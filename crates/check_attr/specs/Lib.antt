@@ -2,6 +2,7 @@ pub mod Failures
 pub mod GlobalFiles
 pub mod GlobalsView
 pub mod LinesText
+pub mod Outcomes
 pub mod Program
 pub mod Script
 pub mod ScriptStates

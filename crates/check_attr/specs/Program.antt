@@ -4,8 +4,8 @@ use Rattle.std.specs.Prelude.{Option, Some, None, Result, Ok, Err}
 use Rattle.std.specs.Global.{Global}
 use Rattle.std.specs.Fmt.{decimal}
 use Rattle.std.specs.Io.KnownBytes.{Appends}
-use Rattle.gix_attributes.specs.Failures.{Fails}
-use Rattle.check_attr.specs.Failures.{AppendsFront}
+use Rattle.check_attr.specs.Failures.{AppendsFront, CountsOneEnd}
+use Rattle.check_attr.specs.LinesText.{WritesLines, WritesLinesFront}
 use Rattle.gix_attributes.specs.declared.search.files.AddError.{AddError}
 use Rattle.gix_attributes.specs.declared.search.files.AddError.TheVariants.{Io, OutOfMemory as NoMemory}
 use Rattle.check_attr.specs.ScriptText.{WritesText, WritesTextFront}
@@ -41,22 +41,25 @@ abbrev pub refusal_line : AddError → List ℕ
 refusal_line (Io e) = codes "check_attr: cannot read a global file\n"
 refusal_line NoMemory = codes "check_attr: out of memory\n"
 
--- A text was printed whole; or a beginning of it, and then the writer's count of failures rose, or a write took no byte of
--- some. The writer is seen by its contents, its count of failures and whether it stalled.
-abbrev pub Prints : {E : Type 0} → (E → Option (List ℕ)) → (E → ℕ) → (E → Type 0) → E → E → List ℕ → Type 0
-Prints contents failed stalls old new text =
+-- A text was printed whole; or a beginning of it, and then a call of the writer failed, or a write took no byte of some. The
+-- writer is seen by its contents and its counts of failures and of stalls.
+abbrev pub Prints : {E : Type 0} → (E → Option (List ℕ)) → (E → ℕ) → (E → ℕ) → E → E → List ℕ → Type 0
+Prints contents failed stalled old new text =
     Appends (contents old) (contents new) text
-    ⊎ ((Fails (failed old) (failed new) ⊎ stalls new) × AppendsFront (contents old) (contents new) text)
-
--- the status is 0, or that of a fault whose line was printed
-abbrev pub PrintsStatus : {E : Type 0} → (E → Option (List ℕ)) → (E → ℕ) → (E → Type 0) → E → E → ℕ → Type 0
-PrintsStatus contents failed stalls old new status =
-    (status ≡ 0) ⊎ ((fault : Fault) × (status ≡ status_of fault) × Prints contents failed stalls old new (fault_line fault))
+    ⊎ (CountsOneEnd (failed old) (failed new) (stalled old) (stalled new) × AppendsFront (contents old) (contents new) text)
 
 -- nothing is printed for a run that succeeded, and a line for one that ended early
-abbrev pub PrintsOutcome : {T E : Type 0} → (E → Option (List ℕ)) → (E → ℕ) → (E → Type 0) → E → E → Result T Fault → Type 0
-PrintsOutcome contents failed stalls old new (Ok x) = new ≡ old
-PrintsOutcome contents failed stalls old new (Err fault) = Prints contents failed stalls old new (fault_line fault)
+abbrev pub PrintsOutcome : {T E : Type 0} → (E → Option (List ℕ)) → (E → ℕ) → (E → ℕ) → E → E → Result T Fault → Type 0
+PrintsOutcome contents failed stalled old new (Ok x) = new ≡ old
+PrintsOutcome contents failed stalled old new (Err fault) = Prints contents failed stalled old new (fault_line fault)
+
+-- the lines text that was written, by the outcome of the run; there is no record
+abbrev pub WritesLinesOutcome : {T : Type 0} → Option (List ℕ) → Option (List ℕ) → Option (List ℕ) → Result T Fault → Type 0
+WritesLinesOutcome input old new (Ok x) = WritesLines input old new
+WritesLinesOutcome input old new (Err (Record k)) = ⊥
+WritesLinesOutcome input old new (Err Read) = new ≡ old
+WritesLinesOutcome input old new (Err Write) = WritesLinesFront input old new
+WritesLinesOutcome input old new (Err OutOfMemory) = WritesLinesFront input old new
 
 -- the text that a script from these lists has written, by the outcome of its run
 abbrev pub WritesOutcome : {T : Type 0} → GlobalLists → Option (List ℕ) → Option (List ℕ) → Option (List ℕ) → Result T Fault
@@ -65,4 +68,4 @@ WritesOutcome globals script old new (Ok x) = WritesText globals script None old
 WritesOutcome globals script old new (Err (Record k)) = WritesText globals script (Some k) old new
 WritesOutcome globals script old new (Err Read) = new ≡ old
 WritesOutcome globals script old new (Err Write) = WritesTextFront globals script old new
-WritesOutcome globals script old new (Err OutOfMemory) = new ≡ old
+WritesOutcome globals script old new (Err OutOfMemory) = WritesTextFront globals script old new

@@ -1,12 +1,12 @@
--- The grammar of the script that `check_attr` reads (own): records, one after the other.
-use Rattle.std.specs.Prelude.{ℕ, zero, suc, ◌+◌, ◌-◌, ◌*◌, Bool, true, false, not, ◌&&◌, ◌||◌, ◌==◌, nat_eq, nat_lt, nat_le}
-use Rattle.std.specs.Prelude.{List, [], ◌∷◌, length, take, drop, fold, position, slice_index, Option, Some, None, option_map, option_and_then, codes, if◌then◌else◌}
-use Rattle.std.specs.Char.{is_ascii_digit}
-use Rattle.std.specs.List.{list_all, starts_with}
-use Rattle.std.specs.Str.{is_utf8}
+-- The script that `check_attr` reads (own): records, one after the other, and the text of each.
+use Rattle.std.specs.Prelude.{◌≡◌, ℕ, ◌^◌, ◌<◌, ⊤, Bool, true, false, Option, Some, None, IfSome, unwrap_or, codes}
+use Rattle.std.specs.Prelude.{List, [], ◌∷◌, ◌++◌, length, All, flat_map}
+use Rattle.std.specs.List.{join_with_byte}
+use Rattle.std.specs.Fmt.{decimal}
+use Rattle.std.specs.Str.{IsUtf8}
 use Rattle.gix_attributes.specs.declared.glob.pattern.Case.{Case}
 use Rattle.gix_attributes.specs.declared.glob.pattern.Case.TheVariants.{Sensitive, Fold}
-use Rattle.gix_attributes.specs.LinesJoined.{line_feed}
+use Rattle.gix_attributes.specs.LinesJoined.{line_feed, IsLine}
 use Rattle.check_attr.specs.declared.script.Form.{Form}
 use Rattle.check_attr.specs.declared.script.Form.TheVariants.{Line, Zero, Origin}
 
@@ -30,161 +30,82 @@ pub data Record : Type 0 where
   names : List (List ℕ) → Record
   ask : Question → Record
 
-infixr 5 ◌then◌
--- the next part, if the first was read
-abbrev pub ◌then◌ : {X Y : Type 0} → Option X → (X → Option Y) → Option Y
-first then next = option_and_then next first
-
--- the bytes after a prefix
-abbrev pub strip_prefix : List ℕ → List ℕ → Option (List ℕ)
-strip_prefix prefix bytes = if starts_with nat_eq bytes prefix then Some (drop (length prefix) bytes) else None
-
--- the choice whose word is a prefix, and the bytes after that word
-abbrev pub choice_of : {X : Type 0} → List (List ℕ × X) → List ℕ → Option (X × List ℕ)
-choice_of [] bytes = None
-choice_of (choice ∷ choices) bytes =
-    if starts_with nat_eq bytes choice.0 then Some (choice.1, drop (length choice.0) bytes) else choice_of choices bytes
-
--- the bytes before the first separator, and those after it
-abbrev pub split_once : ℕ → List ℕ → Option (List ℕ × List ℕ)
-split_once separator bytes =
-    option_map (λ place. (take place bytes, drop (place + 1) bytes)) (position (λ b. b == separator) bytes)
-
--- the first bytes, and those after them
-abbrev pub split_at : ℕ → List ℕ → Option (List ℕ × List ℕ)
-split_at count bytes = if nat_le count (length bytes) then Some (take count bytes, drop count bytes) else None
-
--- the part, if its bytes are UTF-8
-abbrev pub if_text : List ℕ × List ℕ → Option (List ℕ × List ℕ)
-if_text part = if is_utf8 part.0 then Some part else None
-
-abbrev pub digit_zero : ℕ
-digit_zero = 48
-
--- the digits that a number may have
-abbrev pub most_digits : ℕ
-most_digits = 8
-
--- decimal digits, and no zero before others
-abbrev pub is_number : List ℕ → Bool
-is_number word =
-    nat_lt 0 (length word) && nat_le (length word) most_digits && list_all is_ascii_digit word
-    && (length word == 1 || not (slice_index word 0 == digit_zero))
-
-abbrev pub digits_value : List ℕ → ℕ
-digits_value digits = fold (λ value digit. 10 * value + (digit - digit_zero)) 0 digits
-
--- a number, and the bytes after the separator that ends it
-abbrev pub number_before : ℕ → List ℕ → Option (ℕ × List ℕ)
-number_before separator bytes =
-    split_once separator bytes then λ word. if is_number word.0 then Some (digits_value word.0, word.1) else None
-
 abbrev pub space : ℕ
 space = 32
 
+-- words with a space between each two, and a line feed
+abbrev pub header : List (List ℕ) → List ℕ
+header words = join_with_byte space words ++ line_feed ∷ []
+
+-- macros are allowed, or not
+abbrev pub macros_word : Bool → List ℕ
+macros_word true = codes "m"
+macros_word false = codes "-"
+
 -- the length of the root, or `-` for no root
-abbrev pub root_length : List ℕ → Option (Option ℕ × List ℕ)
-root_length bytes =
-    if starts_with nat_eq bytes (codes "- ") then Some (None, drop 2 bytes)
-    else option_map (λ number. (Some number.0, number.1)) (number_before space bytes)
-
--- the root of this length, if there is one
-abbrev pub root_of : Option ℕ → List ℕ → Option (Option (List ℕ) × List ℕ)
-root_of None bytes = Some (None, bytes)
-root_of (Some count) bytes = option_map (λ part. (Some part.0, part.1)) (split_at count bytes then if_text)
-
--- the letters of a header and their meaning: macros are allowed, or not
-abbrev pub macro_flags : List (List ℕ × Bool)
-macro_flags = (codes "m ", true) ∷ (codes "- ", false) ∷ []
+abbrev pub root_word : Option (List ℕ) → List ℕ
+root_word None = codes "-"
+root_word (Some root) = decimal (length root)
 
 -- the form of the answers
-abbrev pub forms : List (List ℕ × Form)
-forms = (codes "l ", Line) ∷ (codes "z ", Zero) ∷ (codes "o ", Origin) ∷ []
+abbrev pub form_word : Form → List ℕ
+form_word Line = codes "l"
+form_word Zero = codes "z"
+form_word Origin = codes "o"
 
 -- letters compare as they are, or without regard to case
-abbrev pub cases : List (List ℕ × Case)
-cases = (codes "s ", Sensitive) ∷ (codes "i ", Fold) ∷ []
+abbrev pub case_word : Case → List ℕ
+case_word Sensitive = codes "s"
+case_word Fold = codes "i"
 
 -- the path is a folder, is a file, or may be either
-abbrev pub folder_flags : List (List ℕ × Option Bool)
-folder_flags = (codes "d ", Some true) ∷ (codes "f ", Some false) ∷ (codes "u ", None) ∷ []
+abbrev pub folder_word : Option Bool → List ℕ
+folder_word (Some true) = codes "d"
+folder_word (Some false) = codes "f"
+folder_word None = codes "u"
 
--- the header of an `add` record: whether the file may define macros, and the lengths of the parts in bytes
-pub record AddHeader : Type 0 where
-  pub allow_macros : Bool
-  pub source : ℕ
-  pub root : Option ℕ
-  pub buffer : ℕ
+abbrev pub ended_line : List ℕ → List ℕ
+ended_line line = line ++ line_feed ∷ []
 
--- `A S R N` and a line feed: the letter of macros, and three lengths
-abbrev pub add_header : List ℕ → Option (AddHeader × List ℕ)
-add_header bytes =
-    choice_of macro_flags bytes then λ allow_macros.
-    number_before space allow_macros.1 then λ source.
-    root_length source.1 then λ root.
-    option_map
-    (λ buffer. (record { allow_macros = allow_macros.0; source = source.0; root = root.0; buffer = buffer.0 }, buffer.1))
-    (number_before line_feed root.1)
+-- The one text of a record: a header, and the parts whose lengths in bytes it has. Numbers are decimal digits, without a zero
+-- in front.
+abbrev pub spelled : Record → List ℕ
+spelled (add a) =
+    header
+    (codes "add" ∷ macros_word a.allow_macros ∷ decimal (length a.source) ∷ root_word a.root ∷ decimal (length a.buffer) ∷ [])
+    ++ ended_line (a.source ++ unwrap_or a.root [] ++ a.buffer)
+spelled pop = header (codes "pop" ∷ [])
+spelled (names lines) = header (codes "names" ∷ decimal (length lines) ∷ []) ++ flat_map ended_line lines
+spelled (ask q) =
+    header (codes "ask" ∷ form_word q.form ∷ case_word q.case ∷ folder_word q.is_dir ∷ decimal (length q.path) ∷ [])
+    ++ ended_line q.path
 
--- the parts of an addition, and a line feed
-abbrev pub addition_of : AddHeader → List ℕ → Option (Addition × List ℕ)
-addition_of header bytes =
-    (split_at header.source bytes then if_text) then λ source.
-    root_of header.root source.1 then λ root.
-    split_at header.buffer root.1 then λ buffer.
-    option_map
-    (λ rest. (record { allow_macros = header.allow_macros; source = source.0; root = root.0; buffer = buffer.0 }, rest))
-    (strip_prefix (codes "\n") buffer.1)
+-- a number of a header has at most eight digits
+abbrev pub IsHeaderNumber : ℕ → Type 0
+IsHeaderNumber n = n < 10 ^ 8
 
--- this many lines, each of them UTF-8
-abbrev pub text_lines : ℕ → List ℕ → Option (List (List ℕ) × List ℕ)
-text_lines zero bytes = Some ([], bytes)
-text_lines (suc count) bytes =
-    (split_once line_feed bytes then if_text) then λ line.
-    option_map (λ others. (line.0 ∷ others.0, others.1)) (text_lines count line.1)
+abbrev pub IsShortText : List ℕ → Type 0
+IsShortText text = IsHeaderNumber (length text) × IsUtf8 text
 
--- the header of an `ask` record: `F C D`, the form, the case rule and whether the path is a folder
-pub record AskHeader : Type 0 where
-  pub form : Form
-  pub case : Case
-  pub is_dir : Option Bool
+-- a name is a text without a line feed
+abbrev pub IsNameLine : List ℕ → Type 0
+IsNameLine name = IsUtf8 name × IsLine name
 
-abbrev pub ask_header : List ℕ → Option (AskHeader × List ℕ)
-ask_header bytes =
-    choice_of forms bytes then λ form.
-    choice_of cases form.1 then λ case.
-    option_map (λ is_dir. (record { form = form.0; case = case.0; is_dir = is_dir.0 }, is_dir.1))
-    (choice_of folder_flags case.1)
+-- the records that a script can have
+abbrev pub CanBeWritten : Record → Type 0
+CanBeWritten (add a) = IsShortText a.source × IfSome a.root IsShortText × IsHeaderNumber (length a.buffer)
+CanBeWritten pop = ⊤
+CanBeWritten (names lines) = IsHeaderNumber (length lines) × All IsNameLine lines
+CanBeWritten (ask q) = IsHeaderNumber (length q.path)
 
--- the length of a path, the path, and a line feed
-abbrev pub question_of : AskHeader → List ℕ → Option (Question × List ℕ)
-question_of header bytes =
-    number_before line_feed bytes then λ count.
-    split_at count.0 count.1 then λ path.
-    option_map (λ rest. (record { form = header.form; case = header.case; is_dir = header.is_dir; path = path.0 }, rest))
-    (strip_prefix (codes "\n") path.1)
+-- a script begins with this record, and this is the rest
+abbrev pub BeginsWithRecord : List ℕ → Record → List ℕ → Type 0
+BeginsWithRecord script r rest = CanBeWritten r × (script ≡ spelled r ++ rest)
 
--- what follows `add `, `names ` and `ask `
-abbrev pub add_record : List ℕ → Option (Record × List ℕ)
-add_record bytes =
-    add_header bytes then λ header.
-    option_map (λ addition. (add addition.0, addition.1)) (addition_of header.0 header.1)
+-- a script begins with no record
+abbrev pub IsMalformed : List ℕ → Type 0
+IsMalformed script = (r : Record) (rest : List ℕ) → ¬ (BeginsWithRecord script r rest)
 
-abbrev pub names_record : List ℕ → Option (Record × List ℕ)
-names_record bytes =
-    number_before line_feed bytes then λ count.
-    option_map (λ lines. (names lines.0, lines.1)) (text_lines count.0 count.1)
-
-abbrev pub ask_record : List ℕ → Option (Record × List ℕ)
-ask_record bytes =
-    ask_header bytes then λ header.
-    option_map (λ question. (ask question.0, question.1)) (question_of header.0 header.1)
-
--- the first record, and the bytes after it; none if the record is malformed
-abbrev pub record_of : List ℕ → Option (Record × List ℕ)
-record_of bytes =
-    if starts_with nat_eq bytes (codes "add ") then add_record (drop 4 bytes)
-    else if starts_with nat_eq bytes (codes "pop\n") then Some (pop, drop 4 bytes)
-    else if starts_with nat_eq bytes (codes "names ") then names_record (drop 6 bytes)
-    else if starts_with nat_eq bytes (codes "ask ") then ask_record (drop 4 bytes)
-    else None
+-- the script of these records
+abbrev pub script_of : List Record → List ℕ
+script_of records = flat_map spelled records

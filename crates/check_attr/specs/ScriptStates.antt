@@ -1,12 +1,11 @@
 -- The state of a script, and how each record changes it (own): lists are added and removed, and names are selected.
-use Rattle.std.specs.Prelude.{ℕ, ◌-◌, List, [], ◌∷◌, ◌++◌, length, take, Some, slice_get, unwrap_or}
-use Rattle.std.specs.List.{flat_map}
+use Rattle.std.specs.Prelude.{ℕ, ◌-◌, List, [], ◌∷◌, ◌++◌, length, map, take, Some}
 use Rattle.gix_attributes.specs.Bases.{base_of}
-use Rattle.gix_attributes.specs.Definitions.{bodies_defined, by_number}
 use Rattle.gix_attributes.specs.KeptLists.{kept_list_where}
 use Rattle.gix_attributes.specs.Numbers.{names_in, numbered_lines, with_names}
 use Rattle.gix_attributes.specs.declared.search.Dropped.{Dropped}
 use Rattle.gix_attributes.specs.declared.search.TrackedAssignment.{TrackedAssignment}
+use Rattle.gix_attributes.specs.Registers.{last_definition}
 use Rattle.gix_attributes.specs.Settings.{Listed}
 use Rattle.check_attr.specs.Script.{Addition, Record, add, pop, names, ask}
 
@@ -26,19 +25,9 @@ pub record GlobalLists : Type 0 where
 abbrev pub initial_state : GlobalLists → ScriptState
 initial_state globals = record { names = globals.names; lists = globals.lists; selection = [] }
 
--- the bodies that the lists define for the macro with this number, list by list and line by line
-abbrev pub definitions_in : List Listed → ℕ → List (List TrackedAssignment)
-definitions_in lists number = flat_map (λ listed. bodies_defined number listed.lines) lists
-
--- the body of the macro with this number: its last definition in the lists, or the empty one
-abbrev pub body_by : List Listed → ℕ → List TrackedAssignment
-body_by lists number =
-    let bodies = definitions_in lists number in
-    unwrap_or (slice_get bodies (length bodies - 1)) []
-
--- the bodies by number
+-- the bodies by number: for each name its last definition in the lists
 abbrev pub bodies_by : ScriptState → List (List TrackedAssignment)
-bodies_by s = by_number (length s.names) (body_by s.lists)
+bodies_by s = map (last_definition s.lists) s.names
 
 -- the list of the buffer becomes the last one, and its new names take the next numbers
 abbrev pub state_with_list : Addition → ScriptState → ScriptState

@@ -1,7 +1,7 @@
 -- The text that a script writes (own): the lines that its lists leave out, and for each question the answers of the only stable
 -- table. The form of answers is that of the git-check-attr page; the form with the place of a pattern is own.
-use Rattle.std.specs.Prelude.{◌≡◌, ◌≢◌, ℕ, ◌+◌, ◌==◌, Bool, true, false, List, [], ◌++◌, length, if◌then◌else◌}
-use Rattle.std.specs.Prelude.{Option, Some, None, IfSome, option_and_then, slice_index_or, codes}
+use Rattle.std.specs.Prelude.{◌≡◌, ◌≢◌, ℕ, ◌+◌, ◌==◌, Bool, true, false, List, [], ◌∷◌, ◌++◌, length, if◌then◌else◌}
+use Rattle.std.specs.Prelude.{Option, Some, None, IfSome, option_and_then, slice_index_or, codes, All}
 use Rattle.std.specs.List.{flat_map, range_with_len}
 use Rattle.std.specs.Fmt.{decimal}
 use Rattle.std.specs.Io.KnownBytes.{Appends}
@@ -16,7 +16,8 @@ use Rattle.gix_attributes.specs.Table.{Slots, Table, IsStable}
 use Rattle.gix_attributes.specs.Cut.{answer_at, no_answers}
 use Rattle.gix_attributes.specs.Contents.{reported_name}
 use Rattle.gix_attributes.specs.Settings.{setting_of}
-use Rattle.check_attr.specs.Script.{Question, Record, add, pop, names, ask, record_of}
+use Rattle.check_attr.specs.Script.{Question, Record, add, pop, names, ask, CanBeWritten, BeginsWithRecord, IsMalformed}
+use Rattle.check_attr.specs.Script.{script_of}
 use Rattle.check_attr.specs.Failures.{AppendsFront}
 use Rattle.check_attr.specs.ScriptStates.{GlobalLists, ScriptState, next_state, initial_state, bodies_by}
 use Rattle.check_attr.specs.declared.script.Form.{Form}
@@ -121,9 +122,9 @@ IsRecordText s (ask q) text = IsAnswerText s q text
 -- malformed one, and the number of that one
 pub data Writes : ScriptState → ℕ → List ℕ → Option ℕ → List ℕ → Type 0 where
   ends : {s : ScriptState} {n : ℕ} → Writes s n [] None []
-  breaks : {s : ScriptState} {n : ℕ} {script : List ℕ} → script ≢ [] → record_of script ≡ None → Writes s n script (Some n) []
+  breaks : {s : ScriptState} {n : ℕ} {script : List ℕ} → script ≢ [] → IsMalformed script → Writes s n script (Some n) []
   goes_on : {s : ScriptState} {n : ℕ} {script : List ℕ} {malformed : Option ℕ} (r : Record) (rest first others : List ℕ) →
-      record_of script ≡ Some (r, rest) → IsRecordText s r first → Writes (next_state r s) (n + 1) rest malformed others →
+      BeginsWithRecord script r rest → IsRecordText s r first → Writes (next_state r s) (n + 1) rest malformed others →
       Writes s n script malformed (first ++ others)
 
 -- the text of a script from the global lists was appended, whole or up to its malformed record of this number
@@ -142,6 +143,23 @@ WritesText globals script malformed old new = IfSome script (λ s. AppendsText g
 
 abbrev pub WritesTextFront : GlobalLists → Option (List ℕ) → Option (List ℕ) → Option (List ℕ) → Type 0
 WritesTextFront globals script old new = IfSome script (λ s. AppendsTextFront globals s old new)
+
+-- the text that records write from a state, one after the other
+abbrev pub IsTextOfRecords : ScriptState → List Record → List ℕ → Type 0
+IsTextOfRecords s [] text = text ≡ []
+IsTextOfRecords s (r ∷ records) text =
+    (first others : List ℕ) × (text ≡ first ++ others) × IsRecordText s r first × IsTextOfRecords (next_state r s) records others
+
+-- nothing is left, or bytes without a record in front; if they have one, it would have this number
+abbrev pub EndsAt : ℕ → List ℕ → Option ℕ → Type 0
+EndsAt number rest None = rest ≡ []
+EndsAt number rest (Some malformed) = (rest ≢ []) × IsMalformed rest × (malformed ≡ number)
+
+-- a script is that of records that can be written, up to its end or to a malformed record, and the text is that of these records
+abbrev pub WritesRecords : ScriptState → ℕ → List ℕ → Option ℕ → List ℕ → Type 0
+WritesRecords s number script malformed text =
+    (records : List Record) × (rest : List ℕ) × All CanBeWritten records × (script ≡ script_of records ++ rest)
+    × EndsAt (number + length records) rest malformed × IsTextOfRecords s records text
 
 -- a script writes exactly one text from a state, and has at most one first malformed record
 abbrev pub OneText : ScriptState → ℕ → List ℕ → Type 0

@@ -2,5 +2,7 @@
 pub mod EngineViews
 pub mod GlobalsView
 pub mod MatchText
+pub mod Pieces
 pub mod Registration
+pub mod ScriptParts
 pub mod ScriptViews

@@ -1,42 +1,47 @@
-//! The text of the answers for a path, in the form of its question.
+//! The text of the answers for a path, in the form of its question. It is written in pieces.
 
 ghost use Rattle.std.specs.Prelude.{◌≡◌, ◌++◌, OnOk, slice_index_or, [], Some};
 ghost use Rattle.std.specs.List.{flat_map};
 ghost use Rattle.gix_attributes.specs.TextViews.{state_view};
 ghost use Rattle.gix_attributes.specs.Matches.{match_view, cause_of};
 ghost use Rattle.gix_attributes.specs.Slots.{table_state};
+ghost use Rattle.check_attr.specs.inner.Pieces.{Passes};
 ghost use Rattle.check_attr.specs.inner.MatchText.{answer_view, match_entry, specified_entry};
 ghost use Rattle.check_attr.specs.ScriptText.{info, cause_text, origin_text, answer_text};
 
 use crate::buffer::{push_bytes, push_number, push_text};
+use crate::fault::Fault;
+use crate::pieces::write_full;
 use crate::script::{Form, Question};
+use crate::writing::Push;
 use gix_attributes::search::{Match, MatchKind, Matches, MetadataCollection, Selected};
 use gix_attributes::{AssignmentRef, StateRef};
-use std::alloc::{AllocError, Global};
+use std::alloc::AllocError;
 
-/// Appends an entry for each answer that is not unspecified.
+/// Passes on an entry for each answer that is not unspecified, after what is held.
 ///
 /// # Errors
 ///
-/// `AllocError` if a buffer could not grow.
-pub fn push_specified(
-    alloc: Global,
-    out: &mut Vec<u8>,
+/// `Write` if a write failed or took no byte, and `OutOfMemory` if a buffer could not grow.
+pub fn pass_specified<W: Push>(
+    writer: &mut W,
+    held: &mut Vec<u8>,
     question: Question<'_>,
     collection: &MetadataCollection,
     found: Matches<'_>,
-) -> Result<(), AllocError>
-    ensures { OnOk result (out.new.items
-        ≡ out.old.items ++ flat_map (specified_entry question.entry collection.now) found.entry) }
+) -> Result<(), Fault>
+    ensures { Passes W.contents W.failed W.stalled writer.old writer.new held.new.items
+        (held.old.items ++ flat_map (specified_entry question.entry collection.now) found.entry)
+        result }
 {
     for one in found {
-        push_if_specified(alloc, out, question, collection, one)?;
+        push_if_specified(held, question, collection, one)?;
+        write_full(writer, held)?;
     }
     Ok(())
 }
 
 fn push_if_specified(
-    alloc: Global,
     out: &mut Vec<u8>,
     question: Question<'_>,
     collection: &MetadataCollection,
@@ -48,32 +53,33 @@ fn push_if_specified(
     if one.assignment.state.is_unspecified() {
         return Ok(());
     }
-    push_entry(alloc, out, question, collection, one)
+    push_entry(out, question, collection, one)
 }
 
-/// Appends an entry for each answer.
+/// Passes on an entry for each answer, after what is held.
 ///
 /// # Errors
 ///
-/// `AllocError` if a buffer could not grow.
-pub fn push_selected(
-    alloc: Global,
-    out: &mut Vec<u8>,
+/// `Write` if a write failed or took no byte, and `OutOfMemory` if a buffer could not grow.
+pub fn pass_selected<W: Push>(
+    writer: &mut W,
+    held: &mut Vec<u8>,
     question: Question<'_>,
     collection: &MetadataCollection,
     found: Selected<'_>,
-) -> Result<(), AllocError>
-    ensures { OnOk result (out.new.items
-        ≡ out.old.items ++ flat_map (match_entry question.entry collection.now) found.entry) }
+) -> Result<(), Fault>
+    ensures { Passes W.contents W.failed W.stalled writer.old writer.new held.new.items
+        (held.old.items ++ flat_map (match_entry question.entry collection.now) found.entry)
+        result }
 {
     for one in found {
-        push_entry(alloc, out, question, collection, one)?;
+        push_entry(held, question, collection, one)?;
+        write_full(writer, held)?;
     }
     Ok(())
 }
 
 fn push_entry(
-    alloc: Global,
     out: &mut Vec<u8>,
     question: Question<'_>,
     collection: &MetadataCollection,
@@ -94,7 +100,7 @@ fn push_entry(
         Form::Origin => {
             push_answer(out, question.path, ": ", one.assignment)?;
             push_text(out, "\t")?;
-            push_origin(alloc, out, collection, one)?;
+            push_origin(out, collection, one)?;
             push_text(out, "\n")
         }
     }
@@ -132,7 +138,6 @@ fn push_info(out: &mut Vec<u8>, state: StateRef<'_>) -> Result<(), AllocError>
 
 // The source, line and pattern that decided, and the macro. An unspecified attribute has none.
 fn push_origin(
-    alloc: Global,
     out: &mut Vec<u8>,
     collection: &MetadataCollection,
     one: Match<'_>,
@@ -148,7 +153,8 @@ fn push_origin(
     push_text(out, ":")?;
     push_number(out, line)?;
     push_text(out, "\t")?;
-    push_bytes(out, &one.pattern.write_text(alloc)?)?;
+    let pattern = one.pattern.write_text(*out.allocator())?;
+    push_bytes(out, &pattern)?;
     push_text(out, "\t")?;
     push_cause(out, collection, one.kind)
 }

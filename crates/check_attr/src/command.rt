@@ -1,13 +1,13 @@
 //! The program `check_attr`: its arguments, its statuses, and its texts on standard error.
-ghost use Rattle.std.specs.Prelude.{◌≡◌, ◌⊎◌, ⊤, List, Result, IfOk, IfErr, IfSome, IsTrue, OnOk, OnErr, ◌↔◌, map, string_bytes};
+ghost use Rattle.std.specs.Prelude.{◌≡◌, ◌≤◌, ◌⊎◌, ⊤, List, Result, IfOk, IfErr, IfSome, IsTrue, OnOk, OnErr, ◌↔◌, map, string_bytes};
 ghost use Rattle.std.specs.Io.KnownBytes.{Appends};
 ghost use Rattle.gix_attributes.specs.Additions.{IsIo};
 ghost use Rattle.gix_attributes.specs.Failures.{Fails};
 ghost use Rattle.gix_attributes.specs.FileReads.{FileRead, names_read};
 ghost use Rattle.check_attr.specs.Failures.{AppendsFront};
-ghost use Rattle.check_attr.specs.GlobalFiles.{ReadsNames, all_dropped_text, loaded_from};
-ghost use Rattle.check_attr.specs.LinesText.{WritesLines};
-ghost use Rattle.check_attr.specs.Program.{IsLinesAlone, Prints, PrintsOutcome, PrintsStatus, WritesOutcome, fault_line, refusal_line, status_after, status_of};
+ghost use Rattle.check_attr.specs.GlobalFiles.{ReadsNames, RefusesNames, all_dropped_text, loaded_from};
+ghost use Rattle.check_attr.specs.Outcomes.{CountsWrites, ReadsFirst, UsesReader, UsesWriter};
+ghost use Rattle.check_attr.specs.Program.{IsLinesAlone, Prints, PrintsOutcome, WritesLinesOutcome, WritesOutcome, fault_line, refusal_line, status_after, status_of};
 
 use crate::dropped_lines::push_dropped;
 use crate::fault::Fault;
@@ -36,27 +36,34 @@ pub fn program<F: Files, R: Pull, W: Push, E: Push>(
     writer: &mut W,
     errors: &mut E,
 ) -> u8
-    ensures done { IsLinesAlone args.now → result ≡ 0 →
-        WritesLines (R.remaining reader.old) (W.contents writer.old) (W.contents writer.new) }
-    ensures quiet { IsLinesAlone args.now → result ≡ 0 → errors.new ≡ errors.old }
-    ensures failed { IsLinesAlone args.now →
-        PrintsStatus E.contents E.failed E.Stalls errors.old errors.new result }
-    ensures files { IsLinesAlone args.now → files.new ≡ files.old }
+    ensures lines { IsLinesAlone args.now →
+        (files.new ≡ files.old)
+        × (outcome : Result ⊤ Fault) × (result ≡ status_after outcome)
+        × WritesLinesOutcome (R.remaining reader.old)
+        (W.contents writer.old) (W.contents writer.new) outcome
+        × UsesReader R.remaining R.failed reader.old reader.new outcome
+        × UsesWriter W.failed W.stalled W.Flushed writer.old writer.new outcome
+        × PrintsOutcome E.contents E.failed E.stalled errors.old errors.new outcome }
 
     // If the device fails or memory runs out, the global files are not read, nor is the script.
     // Else the lines that they leave out are printed, and the script runs over their lists.
     ensures script { (IsLinesAlone args.now → ⊥) →
         ((e : AddError) × (result ≡ 1) × (reader.new ≡ reader.old) × (writer.new ≡ writer.old)
+        × RefusesNames F.reads (map string_bytes args.now) files.old files.new e
         × (IsIo e → Fails (F.failed files.old) (F.failed files.new))
-        × Prints E.contents E.failed E.Stalls errors.old errors.new (refusal_line e))
+        × Prints E.contents E.failed E.stalled errors.old errors.new (refusal_line e))
         ⊎ ((read : List FileRead)
         × ReadsNames F.reads (map string_bytes args.now) files.old read files.new
-        × (warned : E) × Prints E.contents E.failed E.Stalls errors.old warned
+        × (warned : E) × Prints E.contents E.failed E.stalled errors.old warned
         (all_dropped_text (names_read read) (loaded_from read).dropped)
         × (outcome : Result ⊤ Fault) × (result ≡ status_after outcome)
         × WritesOutcome (loaded_from read) (R.remaining reader.old)
         (W.contents writer.old) (W.contents writer.new) outcome
-        × PrintsOutcome E.contents E.failed E.Stalls warned errors.new outcome) }
+        × UsesReader R.remaining R.failed reader.old reader.new outcome
+        × UsesWriter W.failed W.stalled W.Flushed writer.old writer.new outcome
+        × PrintsOutcome E.contents E.failed E.stalled warned errors.new outcome) }
+    ensures first { ReadsFirst (R.remaining reader.new) writer.old writer.new }
+    ensures count { F.failed files.old ≤ F.failed files.new }
 {
     if is_lines_alone(args) {
         let outcome = lines(alloc, reader, writer);
@@ -85,7 +92,10 @@ fn load<F: Files>(
         × ReadsNames F.reads (map string_bytes names.now) files.old read files.new
         × (r.0 ≡ loaded_from read)
         × (r.1.items ≡ all_dropped_text (map string_bytes names.now) r.0.dropped)) }
+    ensures refused { IfErr result (λ e.
+        RefusesNames F.reads (map string_bytes names.now) files.old files.new e) }
     ensures device { IfErr result (λ e. IsIo e → Fails (F.failed files.old) (F.failed files.new)) }
+    ensures count { F.failed files.old ≤ F.failed files.new }
 {
     let globals = read_globals(alloc, files, names)?;
     let text = dropped_report(alloc, names, globals.dropped())?;
@@ -129,7 +139,7 @@ fn status_of(fault: &Fault) -> u8
 // Prints why a run ended early, if it did, and returns the status.
 fn finish<E: Push>(errors: &mut E, outcome: &Result<(), Fault>) -> u8
     ensures status { result ≡ status_after outcome.now }
-    ensures printed { PrintsOutcome E.contents E.failed E.Stalls errors.old errors.new outcome.now }
+    ensures printed { PrintsOutcome E.contents E.failed E.stalled errors.old errors.new outcome.now }
 {
     match outcome {
         Ok(()) => 0,
@@ -142,7 +152,7 @@ fn finish<E: Push>(errors: &mut E, outcome: &Result<(), Fault>) -> u8
 
 // Prints why a run ended early. It takes no memory, since there may be none.
 fn print_fault<E: Push>(errors: &mut E, fault: &Fault)
-    ensures { Prints E.contents E.failed E.Stalls errors.old errors.new (fault_line fault.now) }
+    ensures { Prints E.contents E.failed E.stalled errors.old errors.new (fault_line fault.now) }
 {
     match fault {
         Fault::Record(number) => print_malformed(errors, *number),
@@ -153,7 +163,7 @@ fn print_fault<E: Push>(errors: &mut E, fault: &Fault)
 }
 
 fn print_malformed<E: Push>(errors: &mut E, number: usize)
-    ensures { Prints E.contents E.failed E.Stalls errors.old errors.new
+    ensures { Prints E.contents E.failed E.stalled errors.old errors.new
         (fault_line (Fault.Record number)) }
 {
     let _ = write_malformed(errors, number);
@@ -164,8 +174,9 @@ fn write_malformed<E: Push>(errors: &mut E, number: usize) -> Result<(), Fault>
         (fault_line (Fault.Record number))) }
     ensures front { OnErr result (AppendsFront (E.contents errors.old) (E.contents errors.new)
         (fault_line (Fault.Record number))) }
-    ensures write { OnErr result
-        (Fails (E.failed errors.old) (E.failed errors.new) ⊎ E.Stalls errors.new) }
+    ensures writes { CountsWrites result (E.failed errors.old) (E.failed errors.new)
+        (E.stalled errors.old) (E.stalled errors.new) }
+    ensures only { IfErr result (λ fault. fault ≡ Fault.Write) }
 {
     let mut digits = Buffer::new();
     write_all(errors, b"check_attr: malformed record ")?;
@@ -175,7 +186,7 @@ fn write_malformed<E: Push>(errors: &mut E, number: usize) -> Result<(), Fault>
 
 // Prints why the global files are not read.
 fn print_refusal<E: Push>(errors: &mut E, error: &AddError)
-    ensures { Prints E.contents E.failed E.Stalls errors.old errors.new (refusal_line error.now) }
+    ensures { Prints E.contents E.failed E.stalled errors.old errors.new (refusal_line error.now) }
 {
     match error {
         AddError::Io(_) => print(errors, b"check_attr: cannot read a global file\n"),
@@ -185,7 +196,7 @@ fn print_refusal<E: Push>(errors: &mut E, error: &AddError)
 
 // Prints a text. A failure of `errors` is ignored, since there is no other place to report it.
 fn print<E: Push>(errors: &mut E, text: &[u8])
-    ensures { Prints E.contents E.failed E.Stalls errors.old errors.new text.now }
+    ensures { Prints E.contents E.failed E.stalled errors.old errors.new text.now }
 {
     let _ = write_all(errors, text);
 }

@@ -2,9 +2,13 @@
 
 ghost use Rattle.std.specs.Prelude.{◌≡◌, ◌++◌, OnOk};
 ghost use Rattle.std.specs.List.{flat_map};
+ghost use Rattle.check_attr.specs.inner.Pieces.{Passes};
 ghost use Rattle.check_attr.specs.ScriptText.{dropped_text, reason_word};
 
 use crate::buffer::{push_number, push_text};
+use crate::fault::Fault;
+use crate::pieces::write_full;
+use crate::writing::Push;
 use gix_attributes::search::{DropReason, Dropped};
 use std::alloc::AllocError;
 
@@ -19,6 +23,27 @@ pub fn push_dropped(out: &mut Vec<u8>, source: &str, dropped: &[Dropped]) -> Res
 {
     for line in dropped {
         push_line(out, source, *line)?;
+    }
+    Ok(())
+}
+
+/// Passes on a line for each line that a list of this source leaves out, after what is held.
+///
+/// # Errors
+///
+/// `Write` if a write failed or took no byte, and `OutOfMemory` if a buffer could not grow.
+pub fn pass_dropped<W: Push>(
+    writer: &mut W,
+    held: &mut Vec<u8>,
+    source: &str,
+    dropped: &[Dropped],
+) -> Result<(), Fault>
+    ensures { Passes W.contents W.failed W.stalled writer.old writer.new held.new.items
+        (held.old.items ++ flat_map (dropped_text source.now) dropped.now) result }
+{
+    for line in dropped {
+        push_line(held, source, *line)?;
+        write_full(writer, held)?;
     }
     Ok(())
 }

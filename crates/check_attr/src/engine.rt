@@ -1,18 +1,21 @@
-//! The engine of a script: it applies each record, and appends the text that the record writes.
+//! The engine of a script: it applies each record, and passes on the text that the record writes.
 
 ghost use Rattle.std.specs.Prelude.{◌≡◌, ◌++◌, true, false, OnOk};
 ghost use Rattle.std.specs.List.{flat_map};
 ghost use Rattle.gix_attributes.specs.KeptLists.{dropped_lines};
 ghost use Rattle.gix_attributes.specs.Contents.{initial_content};
-ghost use Rattle.check_attr.specs.inner.EngineViews.{AppendsAnswers, AppendsRecord, IsSoundEngine, fresh_content, is_current, script_state_of, selected_texts};
+ghost use Rattle.check_attr.specs.inner.EngineViews.{PassesAnswers, PassesRecord, IsSoundEngine, fresh_content, is_current, script_state_of, selected_texts};
+ghost use Rattle.check_attr.specs.inner.Pieces.{Passes};
 ghost use Rattle.check_attr.specs.ScriptText.{dropped_text};
 ghost use Rattle.check_attr.specs.inner.ScriptViews.{addition_view, is_question, question_view, record_view};
 ghost use Rattle.check_attr.specs.ScriptStates.{state_with_list, next_state, initial_state, state_without_last, state_selecting};
 
-use crate::answers::{push_selected, push_specified};
-use crate::dropped_lines::push_dropped;
+use crate::answers::{pass_selected, pass_specified};
+use crate::dropped_lines::pass_dropped;
+use crate::fault::Fault;
 use crate::global_lists::Globals;
 use crate::script::{Addition, Question, Record};
+use crate::writing::Push;
 use bstr::BStr;
 use gix_attributes::Search;
 use gix_attributes::search::{MetadataCollection, Outcome};
@@ -46,27 +49,29 @@ impl<'a> Engine<'a> {
         }
     }
 
-    /// Applies a record, and appends the text that it writes.
+    /// Applies a record, and passes on the text that it writes, after what is held.
     ///
     /// # Errors
     ///
-    /// `AllocError` if a buffer, the lists, the collection or the outcome could not grow.
-    pub fn apply(
+    /// `Write` if a write failed or took no byte, and `OutOfMemory` if a buffer, the lists, the
+    /// collection or the outcome could not grow.
+    pub fn apply<W: Push>(
         &mut self,
         alloc: Global,
         next: Record<'a>,
-        out: &mut Vec<u8>,
-    ) -> Result<(), AllocError>
+        writer: &mut W,
+        held: &mut Vec<u8>,
+    ) -> Result<(), Fault>
         requires { IsSoundEngine self.old }
         ensures sound { OnOk result (IsSoundEngine self.new) }
         ensures state { OnOk result (script_state_of self.new
             ≡ next_state (record_view next.entry) (script_state_of self.old)) }
         ensures current { OnOk result (is_current self.new ≡ is_question next.entry) }
-        ensures text { OnOk result (AppendsRecord (script_state_of self.old)
-            (record_view next.entry) out.old.items out.new.items) }
+        ensures text { PassesRecord W.contents W.failed W.stalled (script_state_of self.old)
+            (record_view next.entry) writer.old writer.new held.old.items held.new.items result }
     {
         match next {
-            Record::Add(addition) => self.add(alloc, addition, out),
+            Record::Add(addition) => self.add(alloc, addition, writer, held),
             Record::Pop => {
                 self.pop();
                 Ok(())
@@ -75,24 +80,25 @@ impl<'a> Engine<'a> {
                 self.select(names);
                 Ok(())
             }
-            Record::Ask(question) => self.ask(alloc, question, out),
+            Record::Ask(question) => self.ask(alloc, question, writer, held),
         }
     }
 
-    fn add(
+    fn add<W: Push>(
         &mut self,
         alloc: Global,
         addition: Addition<'_>,
-        out: &mut Vec<u8>,
-    ) -> Result<(), AllocError>
+        writer: &mut W,
+        held: &mut Vec<u8>,
+    ) -> Result<(), Fault>
         requires { IsSoundEngine self.old }
         ensures sound { OnOk result (IsSoundEngine self.new) }
         ensures state { OnOk result (script_state_of self.new
             ≡ state_with_list (addition_view addition.entry) (script_state_of self.old)) }
         ensures current { OnOk result (is_current self.new ≡ false) }
-        ensures text { OnOk result (out.new.items ≡ out.old.items
-            ++ flat_map (dropped_text addition.entry.source.now)
-            (dropped_lines addition.entry.buffer.now)) }
+        ensures text { Passes W.contents W.failed W.stalled writer.old writer.new held.new.items
+            (held.old.items ++ flat_map (dropped_text addition.entry.source.now)
+            (dropped_lines addition.entry.buffer.now)) result }
     {
         self.is_current = false;
         let dropped = self.search.add_patterns_buffer(
@@ -103,7 +109,7 @@ impl<'a> Engine<'a> {
             &mut self.collection,
             addition.allow_macros,
         )?;
-        push_dropped(out, addition.source, &dropped)
+        pass_dropped(writer, held, addition.source, &dropped)
     }
 
     // Without a list, nothing happens.
@@ -128,18 +134,20 @@ impl<'a> Engine<'a> {
         self.is_current = false;
     }
 
-    fn ask(
+    fn ask<W: Push>(
         &mut self,
         alloc: Global,
         question: Question<'_>,
-        out: &mut Vec<u8>,
-    ) -> Result<(), AllocError>
+        writer: &mut W,
+        held: &mut Vec<u8>,
+    ) -> Result<(), Fault>
         requires { IsSoundEngine self.old }
         ensures sound { OnOk result (IsSoundEngine self.new) }
         ensures state { OnOk result (script_state_of self.new ≡ script_state_of self.old) }
         ensures current { OnOk result (is_current self.new ≡ true) }
-        ensures text { OnOk result (AppendsAnswers (script_state_of self.old)
-            (question_view question.entry) out.old.items out.new.items) }
+        ensures text { PassesAnswers W.contents W.failed W.stalled (script_state_of self.old)
+            (question_view question.entry) writer.old writer.new
+            held.old.items held.new.items result }
     {
         self.prepare(alloc)?;
         self.search.pattern_matching_relative_path(
@@ -150,11 +158,12 @@ impl<'a> Engine<'a> {
             &mut self.outcome,
         )?;
         if self.selection.is_empty() {
-            push_specified(alloc, out, question, &self.collection, self.outcome.iter())
+            let found = self.outcome.iter();
+            pass_specified(writer, held, question, &self.collection, found)
         } else {
-            push_selected(
-                alloc,
-                out,
+            pass_selected(
+                writer,
+                held,
                 question,
                 &self.collection,
                 self.outcome.iter_selected(),

@@ -8,17 +8,18 @@ use thiserror::Error;
 /// Why a run ends early.
 #[derive(Debug, Drop, Error)]
 pub enum Fault {
-    /// The record with this number, counted from 1, is malformed. The answers of those before it
-    /// were written.
+    /// The record with this number, counted from 1, is malformed. The text of those before it was
+    /// written.
     #[error("malformed record {0}")]
     Record(usize),
     /// The reader failed. Nothing was written.
     #[error("reading failed")]
     Read,
-    /// The writer failed, or took no byte of a write that had some.
+    /// The writer failed, or took no byte of a write that had some. A beginning of the text may be
+    /// written.
     #[error("writing failed")]
     Write,
-    /// A buffer could not grow.
+    /// A buffer could not grow. A beginning of the text may be written.
     #[error("out of memory")]
     OutOfMemory,
 }

@@ -5,7 +5,7 @@ ghost use Rattle.gix_attributes.specs.Additions.{IsIo};
 ghost use Rattle.gix_attributes.specs.Failures.{Fails};
 ghost use Rattle.gix_attributes.specs.SearchViews.{Holds, lists_in, list_ids_in};
 ghost use Rattle.gix_attributes.specs.FileReads.{FileRead, ReadInOrder};
-ghost use Rattle.check_attr.specs.inner.Registration.{RegistersExactly};
+ghost use Rattle.check_attr.specs.inner.Registration.{RegistersAlone};
 ghost use Rattle.check_attr.specs.GlobalFiles.{ReadsNames, RefusedAt, loaded_from};
 
 use gix_attributes::Search;
@@ -43,7 +43,7 @@ impl Globals {
         dropped: Vec<Vec<Dropped>>,
     ) -> Globals
         requires held { Holds collection search }
-        requires known { RegistersExactly collection (list_ids_in search) (lists_in search) }
+        requires known { RegistersAlone collection (list_ids_in search) (lists_in search) }
         ensures names { result.names ≡ collection.names }
         ensures lists { result.lists ≡ lists_in search }
         ensures dropped { result.dropped ≡ map (λ lines. lines.items) dropped.items }
@@ -65,7 +65,7 @@ impl Globals {
     // The lists, and the collection that registers them.
     pub(crate) fn into_parts(self) -> (Search, MetadataCollection)
         ensures held { Holds result.1 result.0 }
-        ensures known { RegistersExactly result.1 (list_ids_in result.0) (lists_in result.0) }
+        ensures known { RegistersAlone result.1 (list_ids_in result.0) (lists_in result.0) }
         ensures names { result.1.names ≡ self.names }
         ensures lists { lists_in result.0 ≡ self.lists }
     {

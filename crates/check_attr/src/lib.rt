@@ -11,6 +11,7 @@ mod fault;
 mod global_lists;
 pub mod laws;
 mod line_report;
+mod pieces;
 mod reading;
 mod script;
 mod script_run;

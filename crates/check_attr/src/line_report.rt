@@ -1,10 +1,10 @@
 //! The report that `--lines` prints for an attributes file.
-ghost use Rattle.std.specs.Prelude.{◌≡◌, ◌≢◌, ℕ, ◌++◌, codes, Err, IfOk, OnOk, OnErr, IsErrOf, MatchOption, ◌⊎◌};
+ghost use Rattle.std.specs.Prelude.{◌≡◌, ◌≢◌, ℕ, ◌++◌, codes, Err, IfOk, OnOk, OnErr, IsErrOf, MatchOption};
 ghost use Rattle.std.specs.Io.KnownBytes.{IsAtEnd};
 ghost use Rattle.std.specs.Fmt.{decimal};
 ghost use Rattle.std.specs.List.{flat_map};
-ghost use Rattle.gix_attributes.specs.Failures.{Fails};
 ghost use Rattle.gix_attributes.specs.TextViews.{item_view, line_view};
+ghost use Rattle.check_attr.specs.Outcomes.{CountsReads, CountsWrites, ReadsFirst};
 ghost use Rattle.check_attr.specs.LinesText.{WritesLines, WritesLinesFront, item_text, line_text, lines_text};
 
 use crate::buffer::{push_bytes, push_number, push_text};
@@ -27,14 +27,15 @@ use std::alloc::{AllocError, Global};
 pub fn lines<R: Pull, W: Push>(alloc: Global, reader: &mut R, writer: &mut W) -> Result<(), Fault>
     ensures ok { OnOk result (WritesLines (R.remaining reader.old)
         (W.contents writer.old) (W.contents writer.new)) }
-    ensures end { OnOk result (IsAtEnd (R.remaining reader.new)) }
-    ensures flushed { OnOk result (W.Flushed writer.new) }
     ensures front { OnErr result (WritesLinesFront (R.remaining reader.old)
         (W.contents writer.old) (W.contents writer.new)) }
-    ensures read { IsErrOf result Fault.Read → Fails (R.failed reader.old) (R.failed reader.new) }
-    ensures unwritten { IsErrOf result Fault.Read → writer.new ≡ writer.old }
-    ensures write { IsErrOf result Fault.Write →
-        Fails (W.failed writer.old) (W.failed writer.new) ⊎ W.Stalls writer.new }
+    ensures end { OnOk result (IsAtEnd (R.remaining reader.new)) }
+    ensures first { ReadsFirst (R.remaining reader.new) writer.old writer.new }
+    ensures flushed { OnOk result (W.Flushed writer.new) }
+    ensures unread { IsErrOf result Fault.Read → writer.new ≡ writer.old }
+    ensures reads { CountsReads result (R.failed reader.old) (R.failed reader.new) }
+    ensures writes { CountsWrites result (W.failed writer.old) (W.failed writer.new)
+        (W.stalled writer.old) (W.stalled writer.new) }
     ensures no_record { (k : ℕ) → result ≢ Err (Fault.Record k) }
 {
     let input = read_all(alloc, reader)?;

@@ -1,9 +1,9 @@
 //! Readers that count their failures, and a read to the end.
-ghost use Rattle.std.specs.Prelude.{◌≡◌, ◌≢◌, ◌≤◌, ℕ, List, Option, IfOk, IfSome, OnOk, OnErr, IsErrOf};
+ghost use Rattle.std.specs.Prelude.{◌≡◌, ◌≢◌, ℕ, List, Option, Err, IfOk, IfSome, OnOk, OnErr};
 ghost use Rattle.std.specs.Io.{ReadsAtMost};
 ghost use Rattle.std.specs.Io.KnownBytes.{IsAtEnd, ReadConsumes};
-ghost use Rattle.check_attr.specs.Failures.{LosesFront};
-ghost use Rattle.gix_attributes.specs.Failures.{Fails};
+ghost use Rattle.check_attr.specs.Failures.{CountsFailure, LosesFront};
+ghost use Rattle.check_attr.specs.Outcomes.{CountsReads};
 
 use crate::failure_count::counted;
 use crate::fault::Fault;
@@ -28,8 +28,7 @@ pub trait Pull {
     fn read(&mut self, buf: &mut [u8]) -> io::Result<usize>
         ensures bound { ReadsAtMost result buf.new }
         ensures bytes { ReadConsumes (remaining self.old) (remaining self.new) result buf.new }
-        ensures kept { failed self.old ≤ failed self.new }
-        ensures err { OnErr result (Fails (failed self.old) (failed self.new)) };
+        ensures counted { CountsFailure result (failed self.old) (failed self.new) };
 
     /// The number of reads that failed so far, interrupted ones included. It stops at `u64::MAX`.
     fn failures(&self) -> u64
@@ -80,8 +79,7 @@ pub(crate) fn read_all<R: Pull>(alloc: Global, reader: &mut R) -> Result<Vec<u8>
         IfSome (R.remaining reader.old) (λ left. input.items ≡ left)) }
     ensures end { OnOk result (IsAtEnd (R.remaining reader.new)) }
     ensures rest { OnErr result (LosesFront (R.remaining reader.old) (R.remaining reader.new)) }
-    ensures kept { R.failed reader.old ≤ R.failed reader.new }
-    ensures read { IsErrOf result Fault.Read → Fails (R.failed reader.old) (R.failed reader.new) }
+    ensures reads { CountsReads result (R.failed reader.old) (R.failed reader.new) }
     ensures no_write { result ≢ Err Fault.Write }
     ensures no_record { (k : ℕ) → result ≢ Err (Fault.Record k) }
 {

@@ -6,7 +6,7 @@ ghost use Rattle.std.specs.List.{list_all};
 ghost use Rattle.std.specs.Option.{option_copied};
 ghost use Rattle.std.specs.Str.{is_utf8};
 ghost use Rattle.gix_attributes.specs.LinesJoined.{line_feed};
-ghost use Rattle.check_attr.specs.Script.{strip_prefix, choice_of, cases, folder_flags, forms, macro_flags, split_once, split_at, if_text, is_number, digits_value, digit_zero, number_before, root_length, root_of, add_header, addition_of, add_record, names_record, ask_record, text_lines, ask_header, question_of, record_of, ◌then◌};
+ghost use Rattle.check_attr.specs.inner.ScriptParts.{IsFirstRecord, IsNumberBefore, strip_prefix, choice_of, cases, folder_flags, forms, macro_flags, split_once, split_at, if_text, is_number, digits_value, digit_zero, number_before, root_length, root_of, add_header, addition_of, add_record, names_record, ask_record, text_lines, ask_header, question_of, ◌then◌};
 ghost use Rattle.check_attr.specs.inner.ScriptViews.{addition_view, add_header_view, ask_header_view, lines_view, part_view, question_view, record_view, with_rest};
 
 use gix_attributes::glob::pattern::Case;
@@ -90,8 +90,10 @@ struct AskHeader {
 /// # Errors
 ///
 /// `AllocError` if the list of names could not grow.
+#[tactic(auto, using(crate::proofs::SpellingLemmas::first_record))]
 pub fn record_of(alloc: Global, bytes: &[u8]) -> Result<Option<(Record<'_>, &[u8])>, AllocError>
-    ensures { IfOk result (λ read. option_map (with_rest record_view) read ≡ record_of bytes.now) }
+    ensures { IfOk result (λ read.
+        IsFirstRecord bytes.now (option_map (with_rest record_view) read)) }
 {
     if bytes.starts_with(b"add ") {
         return Ok(add_record(&bytes[4..]));
@@ -340,8 +342,11 @@ fn as_text(bytes: &[u8]) -> Option<&str>
 }
 
 // A number, and the bytes after the separator that ends it.
+#[tactic(auto, using(crate::proofs::SpellingLemmas::number_spelled))]
 fn number_before(separator: u8, bytes: &[u8]) -> Option<(usize, &[u8])>
-    ensures { option_map (with_rest (λ n. n)) result ≡ number_before separator bytes.now }
+    ensures value { option_map (with_rest (λ n. n)) result ≡ number_before separator bytes.now }
+    ensures spelled { is_ascii_digit separator ≡ false →
+        IsNumberBefore separator bytes.now (option_map (with_rest (λ n. n)) result) }
 {
     let (word, rest) = split_once(separator, bytes)?;
     if !is_number(word) {

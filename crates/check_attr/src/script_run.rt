@@ -1,10 +1,11 @@
-//! A run of a script: read it, apply its records, and write the text.
+//! A run of a script: read it, apply its records, and write the text in pieces.
 
-ghost use Rattle.std.specs.Prelude.{◌≡◌, ◌⊎◌, ℕ, None, Some, Err, IfOk, OnOk, IsErrOf};
+ghost use Rattle.std.specs.Prelude.{◌≡◌, ◌⊎◌, ℕ, [], None, Some, Err, OnOk, IsErrOf};
 ghost use Rattle.std.specs.Io.KnownBytes.{IsAtEnd};
-ghost use Rattle.gix_attributes.specs.Failures.{Fails};
-ghost use Rattle.check_attr.specs.ScriptText.{Writes, WritesText, WritesTextFront};
+ghost use Rattle.check_attr.specs.Outcomes.{CountsReads, CountsWrites, ReadsFirst};
+ghost use Rattle.check_attr.specs.ScriptText.{WritesText, WritesTextFront};
 ghost use Rattle.check_attr.specs.ScriptStates.{initial_state};
+ghost use Rattle.check_attr.specs.inner.EngineViews.{PassesScript};
 
 use crate::engine::Engine;
 use crate::fault::Fault;
@@ -12,17 +13,18 @@ use crate::global_lists::Globals;
 use crate::reading::{Pull, read_all};
 use crate::script::record_of;
 use crate::writing::{Push, write_all};
-use std::alloc::{AllocError, Global};
+use std::alloc::Global;
 
 /// Runs a script over global lists: adds and removes lists, selects names, and looks up paths. The
-/// whole script is read before anything is written.
+/// whole script is read before anything is written. The text is written in pieces, one whenever
+/// 65,536 bytes are held, and flushed once, at the end.
 ///
 /// # Errors
 ///
-/// `Record` if a record is malformed: the answers of those before it were written. `Read` if the
-/// reader failed, and `OutOfMemory` if a buffer could not grow: nothing was written. `Write` if the
-/// writer failed or took no byte: a beginning of the answers may be written. A call that failed
-/// isn't tried again.
+/// `Record` if a record is malformed: the text of those before it was written and flushed. `Read` if
+/// the reader failed: nothing was written. `Write` if the writer failed or took no byte, and
+/// `OutOfMemory` if a buffer could not grow: a beginning of the text may be written, and what was
+/// held is dropped. A call that failed isn't tried again.
 pub fn run<R: Pull, W: Push>(
     alloc: Global,
     reader: &mut R,
@@ -34,46 +36,53 @@ pub fn run<R: Pull, W: Push>(
     ensures malformed { (k : ℕ) → result ≡ Err (Fault.Record k) →
         WritesText globals (R.remaining reader.old) (Some k)
         (W.contents writer.old) (W.contents writer.new) }
-    ensures front { IsErrOf result Fault.Write →
+    ensures front { (IsErrOf result Fault.Write ⊎ IsErrOf result Fault.OutOfMemory) →
         WritesTextFront globals (R.remaining reader.old)
         (W.contents writer.old) (W.contents writer.new) }
     ensures end { OnOk result (IsAtEnd (R.remaining reader.new)) }
+    ensures end_before { (k : ℕ) → result ≡ Err (Fault.Record k) →
+        IsAtEnd (R.remaining reader.new) }
+    ensures first { ReadsFirst (R.remaining reader.new) writer.old writer.new }
     ensures flushed { OnOk result (W.Flushed writer.new) }
     ensures flushed_before { (k : ℕ) → result ≡ Err (Fault.Record k) → W.Flushed writer.new }
-    ensures read { IsErrOf result Fault.Read → Fails (R.failed reader.old) (R.failed reader.new) }
     ensures unread { IsErrOf result Fault.Read → writer.new ≡ writer.old }
-    ensures unwritten { IsErrOf result Fault.OutOfMemory → writer.new ≡ writer.old }
-    ensures write { IsErrOf result Fault.Write →
-        Fails (W.failed writer.old) (W.failed writer.new) ⊎ W.Stalls writer.new }
+    ensures reads { CountsReads result (R.failed reader.old) (R.failed reader.new) }
+    ensures writes { CountsWrites result (W.failed writer.old) (W.failed writer.new)
+        (W.stalled writer.old) (W.stalled writer.new) }
 {
     let script = read_all(alloc, reader)?;
-    let (text, malformed) = answer(alloc, &script, globals)?;
-    write_all(writer, &text)?;
+    let mut held = Vec::new(alloc);
+    let malformed = answer(alloc, &script, globals, writer, &mut held)?;
+    write_all(writer, &held)?;
     match malformed {
         None => Ok(()),
         Some(number) => Err(Fault::Record(number)),
     }
 }
 
-// The text of a script up to its first malformed record, and the number of that one, from 1.
-fn answer(
+// Passes on the text of a script up to its first malformed record, and returns the number of that
+// one, from 1.
+fn answer<W: Push>(
     alloc: Global,
     script: &[u8],
     globals: Globals,
-) -> Result<(Vec<u8>, Option<usize>), AllocError>
-    ensures { IfOk result (λ r. Writes (initial_state globals) 1 script.now r.1 r.0.items) }
+    writer: &mut W,
+    held: &mut Vec<u8>,
+) -> Result<Option<usize>, Fault>
+    requires { held.old.items ≡ [] }
+    ensures { PassesScript W.contents W.failed W.stalled (initial_state globals) script.now
+        writer.old writer.new held.new.items result }
 {
     let mut engine = Engine::new(alloc, globals);
-    let mut text = Vec::new(alloc);
     let mut rest = script;
     let mut number = 1;
     while !rest.is_empty() {
         let Some((next, others)) = record_of(alloc, rest)? else {
-            return Ok((text, Some(number)));
+            return Ok(Some(number));
         };
-        engine.apply(alloc, next, &mut text)?;
+        engine.apply(alloc, next, writer, held)?;
         rest = others;
         number += 1;
     }
-    Ok((text, None))
+    Ok(None)
 }

@@ -1,9 +1,9 @@
 //! Writers that count their failures, and a write of a whole text.
-ghost use Rattle.std.specs.Prelude.{◌≡◌, ◌≤◌, ◌<◌, ◌⊎◌, ◌↔◌, ℕ, IsTrue, List, Option, length, IfOk, IfErr, OnOk, OnErr, IsOk};
+ghost use Rattle.std.specs.Prelude.{◌≡◌, ◌⊎◌, ◌↔◌, ℕ, IsTrue, List, Option, IfOk, IfErr, OnOk, OnErr, IsOk};
 ghost use Rattle.std.specs.Io.{WritesAtMost};
 ghost use Rattle.std.specs.Io.KnownBytes.{Appends, Keeps, WriteAppends};
-ghost use Rattle.gix_attributes.specs.Failures.{Fails};
-ghost use Rattle.check_attr.specs.Failures.{AppendsFront};
+ghost use Rattle.check_attr.specs.Failures.{AppendsFront, CountsFailure, CountsStall};
+ghost use Rattle.check_attr.specs.Outcomes.{CountsWrites};
 
 use crate::failure_count::counted;
 use crate::fault::Fault;
@@ -18,8 +18,8 @@ pub trait Push {
     // How many calls failed so far.
     ghost failed: { Self → ℕ };
 
-    // Whether a write that had bytes took none.
-    ghost Stalls: { Self → Type 0 };
+    // How many writes that had bytes took none so far.
+    ghost stalled: { Self → ℕ };
 
     // Whether a flush succeeded, and no write took a byte since.
     ghost Flushed: { Self → Type 0 };
@@ -32,12 +32,9 @@ pub trait Push {
     fn write(&mut self, bytes: &[u8]) -> io::Result<usize>
         ensures bound { WritesAtMost result bytes.now }
         ensures bytes { WriteAppends (contents self.old) (contents self.new) result bytes.now }
-        ensures stalls { IfOk result (λ n. n ≡ 0 → 0 < length bytes.now → Stalls self.new) }
-        ensures stalled { Stalls self.new →
-            Stalls self.old ⊎ IfOk result (λ n. (n ≡ 0) × (0 < length bytes.now)) }
-        ensures flushed { Flushed self.new → Flushed self.old × IfOk result (λ n. n ≡ 0) }
-        ensures kept { failed self.old ≤ failed self.new }
-        ensures err { OnErr result (Fails (failed self.old) (failed self.new)) };
+        ensures failed { CountsFailure result (failed self.old) (failed self.new) }
+        ensures stalled { CountsStall result bytes.now (stalled self.old) (stalled self.new) }
+        ensures flushed { Flushed self.new → Flushed self.old × IfOk result (λ n. n ≡ 0) };
 
     /// Flushes the bytes that the writer still buffers.
     ///
@@ -48,21 +45,24 @@ pub trait Push {
         ensures bytes { Keeps (contents self.old) (contents self.new) }
         ensures ok { OnOk result (Flushed self.new) }
         ensures flushed { Flushed self.new → Flushed self.old ⊎ IsOk result }
-        ensures stalled { Stalls self.new → Stalls self.old }
-        ensures kept { failed self.old ≤ failed self.new }
-        ensures err { OnErr result (Fails (failed self.old) (failed self.new)) };
+        ensures failed { CountsFailure result (failed self.old) (failed self.new) }
+        ensures stalled { stalled self.new ≡ stalled self.old };
 
     /// The number of calls that failed so far, interrupted ones included. It stops at `u64::MAX`.
     fn failures(&self) -> u64
         ensures { result ≡ failed self.now };
+
+    /// The number of writes so far that had bytes and took none. It stops at `u64::MAX`.
+    fn stalls(&self) -> u64
+        ensures { result ≡ stalled self.now };
 }
 
-/// A writer of std, with its failed calls counted, and whether a write stalled and a flush succeeded.
+/// A writer of std, with its failed calls and its stalled writes counted, and whether a flush succeeded.
 #[derive(Drop)]
 pub struct Writer<W> {
     inner: W,
     failures: u64,
-    has_stalled: bool,
+    stalls: u64,
     is_flushed: bool,
 }
 
@@ -71,22 +71,15 @@ impl<W: Write> Writer<W> {
     pub fn new(inner: W) -> Writer<W>
         ensures contents { ⟦<Writer<W> as Push>⟧.contents result ≡ W.contents inner }
         ensures failed { ⟦<Writer<W> as Push>⟧.failed result ≡ 0 }
-        ensures moved { ⟦<Writer<W> as Push>⟧.Stalls result → ⊥ }
+        ensures stalled { ⟦<Writer<W> as Push>⟧.stalled result ≡ 0 }
         ensures unflushed { ⟦<Writer<W> as Push>⟧.Flushed result → ⊥ }
     {
         Writer {
             inner,
             failures: 0,
-            has_stalled: false,
+            stalls: 0,
             is_flushed: false,
         }
-    }
-
-    /// Whether a write that had bytes took none.
-    pub fn has_stalled(&self) -> bool
-        ensures { IsTrue result ↔ ⟦<Writer<W> as Push>⟧.Stalls self.now }
-    {
-        self.has_stalled
     }
 
     /// Whether a flush succeeded, and nothing was written since.
@@ -102,7 +95,7 @@ impl<W: Write> Push for Writer<W> {
 
     ghost failed = { λ s. s.failures };
 
-    ghost Stalls = { λ s. IsTrue s.has_stalled };
+    ghost stalled = { λ s. s.stalls };
 
     ghost Flushed = { λ s. IsTrue s.is_flushed };
 
@@ -110,7 +103,7 @@ impl<W: Write> Push for Writer<W> {
         self.is_flushed = false;
         let written = counted(&mut self.failures, self.inner.write(bytes));
         if matches!(&written, Ok(0)) && !bytes.is_empty() {
-            self.has_stalled = true;
+            self.stalls = self.stalls.saturating_add(1);
         }
         written
     }
@@ -123,6 +116,10 @@ impl<W: Write> Push for Writer<W> {
 
     fn failures(&self) -> u64 {
         self.failures
+    }
+
+    fn stalls(&self) -> u64 {
+        self.stalls
     }
 }
 
@@ -137,20 +134,39 @@ pub(crate) fn write_all<W: Push>(writer: &mut W, text: &[u8]) -> Result<(), Faul
     ensures flushed { OnOk result (W.Flushed writer.new) }
     ensures front { OnErr result
         (AppendsFront (W.contents writer.old) (W.contents writer.new) text.now) }
-    ensures kept { W.failed writer.old ≤ W.failed writer.new }
-    ensures write { OnErr result
-        (Fails (W.failed writer.old) (W.failed writer.new) ⊎ W.Stalls writer.new) }
+    ensures writes { CountsWrites result (W.failed writer.old) (W.failed writer.new)
+        (W.stalled writer.old) (W.stalled writer.new) }
     ensures only { IfErr result (λ fault. fault ≡ Fault.Write) }
 {
-    let mut written = 0;
-    while written < text.len() {
-        match writer.write(&text[written..]) {
-            Ok(count) if count > 0 => written += count,
-            _ => return Err(Fault::Write),
-        }
-    }
+    write_bytes(writer, text)?;
     match writer.flush() {
         Ok(()) => Ok(()),
         Err(_) => Err(Fault::Write),
     }
+}
+
+/// Writes a whole text. A write that fails is not tried again, an interrupted one included.
+///
+/// # Errors
+///
+/// `Write` if a write failed or took no byte.
+pub(crate) fn write_bytes<W: Push>(writer: &mut W, text: &[u8]) -> Result<(), Fault>
+    ensures ok { OnOk result (Appends (W.contents writer.old) (W.contents writer.new) text.now) }
+    ensures front { OnErr result
+        (AppendsFront (W.contents writer.old) (W.contents writer.new) text.now) }
+    ensures writes { CountsWrites result (W.failed writer.old) (W.failed writer.new)
+        (W.stalled writer.old) (W.stalled writer.new) }
+    ensures only { IfErr result (λ fault. fault ≡ Fault.Write) }
+{
+    let mut written = 0;
+    while written < text.len() {
+        let Ok(count) = writer.write(&text[written..]) else {
+            return Err(Fault::Write);
+        };
+        if count == 0 {
+            return Err(Fault::Write);
+        }
+        written += count;
+    }
+    Ok(())
 }

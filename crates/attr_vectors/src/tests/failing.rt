@@ -73,11 +73,12 @@ fn a_failed_write_of_the_whole_text_leaves_none(rt: HostRuntime) {
 
 #[test]
 fn a_writer_that_takes_no_byte_is_a_failed_one(rt: HostRuntime) -> Result<(), Fail> {
-    let mut stuck = Stuck;
+    let mut stuck = Stuck::new();
     let outcome = lines(rt.alloc(), &mut Source::new(INPUT), &mut stuck);
     assert!(rt; matches!(outcome, Err(Fault::Write)));
-    assert_eq!(rt; stuck.failures(), 0);
+    assert_eq!(rt; (stuck.failures(), stuck.stalls()), (0, 1));
     lines(rt.alloc(), &mut Source::new(b""), &mut stuck)?;
+    assert_eq!(rt; stuck.stalls(), 1);
     Ok(())
 }
 

@@ -34,7 +34,7 @@ fn output_of(alloc: Global, reader: &mut Source<'_>) -> Result<Vec<u8>, AddError
 }
 
 // Wants a run to have this output.
-fn expect(
+pub(super) fn expect(
     rt: &impl Abort,
     alloc: Global,
     reader: &mut Source<'_>,
@@ -46,10 +46,10 @@ fn expect(
 }
 
 // A script of 84 bytes, and the text that it writes.
-const SCRIPT: &[u8] =
+pub(super) const SCRIPT: &[u8] =
     b"add m 14 0 16\n.gitattributes*.sh text eol=lf\nnames 2\ntext\neol\nask l s f 9\nscript.sh\n";
 
-const TEXT: &[u8] = b"script.sh: text: set\nscript.sh: eol: lf\n";
+pub(super) const TEXT: &[u8] = b"script.sh: text: set\nscript.sh: eol: lf\n";
 
 // Scripts with their output: the text, and the fault that ends the run early.
 const ROWS: [(&[u8], &[u8]); 20] = [
@@ -198,7 +198,7 @@ fn a_failed_flush_ends_the_run(rt: HostRuntime) -> Result<(), Fail> {
 
 #[test]
 fn a_stuck_writer_ends_the_run(rt: HostRuntime) -> Result<(), Fail> {
-    let end = fault_of(rt.alloc(), &mut Source::new(SCRIPT), &mut Stuck)?;
+    let end = fault_of(rt.alloc(), &mut Source::new(SCRIPT), &mut Stuck::new())?;
     assert!(rt; end.as_str() == "writing failed");
     Ok(())
 }

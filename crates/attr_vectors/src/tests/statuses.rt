@@ -134,7 +134,7 @@ fn a_stuck_writer_is_printed(rt: HostRuntime) -> Result<(), Fail> {
         &mut Memory::new(rt.alloc()),
         &args,
         &mut Source::new(INPUT),
-        &mut Stuck,
+        &mut Stuck::new(),
         &mut errors,
     );
     assert_eq!(rt; status, 1);
@@ -164,7 +164,7 @@ fn refused_errors_keep_the_status(rt: HostRuntime) -> Result<(), Fail> {
         &args,
         &mut source,
         &mut Sink::new(rt.alloc()),
-        &mut Stuck,
+        &mut Stuck::new(),
     );
     assert_eq!(rt; status, 1);
     Ok(())

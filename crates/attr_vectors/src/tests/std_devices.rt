@@ -68,16 +68,52 @@ fn flags_follow_the_calls(rt: HostRuntime) -> Result<(), Fail> {
         assert_eq!(rt; Push::write(&mut writer, text)?, text.len());
         assert!(rt; !writer.is_flushed());
         Push::flush(&mut writer)?;
-        assert!(rt; writer.is_flushed() && !writer.has_stalled());
+        assert!(rt; writer.is_flushed());
     }
-    let mut full = Writer::new(Full);
-    assert_eq!(rt; Push::write(&mut full, b"")?, 0);
-    assert!(rt; !full.has_stalled());
-    assert_eq!(rt; Push::write(&mut full, b"a")?, 0);
-    assert!(rt; full.has_stalled() && !full.is_flushed());
+    assert_eq!(rt; (writer.failures(), writer.stalls()), (0, 0));
     let mut interrupted = Writer::new(Interrupted);
     assert!(rt; Push::flush(&mut interrupted).is_err());
     assert!(rt; !interrupted.is_flushed());
+    Ok(())
+}
+
+// A write that has no byte to take stalls nothing, and a stall before a run is none of that run.
+#[test]
+fn counts_each_write_that_took_no_byte_of_some(rt: HostRuntime) -> Result<(), Fail> {
+    let mut full = Writer::new(Full);
+    assert_eq!(rt; Push::write(&mut full, b"")?, 0);
+    assert_eq!(rt; full.stalls(), 0);
+    for stalls in 1..4 {
+        assert_eq!(rt; Push::write(&mut full, b"a")?, 0);
+        assert_eq!(rt; (full.stalls(), full.failures()), (stalls, 0));
+    }
+    assert!(rt; !full.is_flushed());
+    let outcome = lines(rt.alloc(), &mut Reader::new(b"* a\n".as_slice()), &mut full);
+    assert!(rt; matches!(outcome, Err(Fault::Write)));
+    assert_eq!(rt; (full.stalls(), full.failures()), (4, 0));
+    let mut interrupted = Writer::new(Interrupted);
+    let outcome = lines(
+        rt.alloc(),
+        &mut Reader::new(b"* a\n".as_slice()),
+        &mut interrupted,
+    );
+    assert!(rt; matches!(outcome, Err(Fault::Write)));
+    assert_eq!(rt; (interrupted.stalls(), interrupted.failures()), (0, 1));
+    Ok(())
+}
+
+#[test]
+fn counts_no_call_that_succeeded(rt: HostRuntime) -> Result<(), Fail> {
+    let mut reader = Reader::new(b"abc".as_slice());
+    let mut chunk = [0u8; 2];
+    for count in [2, 1, 0] {
+        assert_eq!(rt; Pull::read(&mut reader, &mut chunk)?, count);
+        assert_eq!(rt; reader.failures(), 0);
+    }
+    let mut writer = Writer::new(Vec::new(rt.alloc()));
+    assert_eq!(rt; Push::write(&mut writer, b"abc")?, 3);
+    Push::flush(&mut writer)?;
+    assert_eq!(rt; (writer.failures(), writer.stalls()), (0, 0));
     Ok(())
 }
 

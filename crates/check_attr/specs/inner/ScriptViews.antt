@@ -5,7 +5,7 @@ use Rattle.std.specs.Global.{Global}
 use Rattle.std.specs.Option.{option_copied}
 use Rattle.check_attr.specs.Script.{Addition as ReadAddition, Question as ReadQuestion}
 use Rattle.check_attr.specs.Script.{Record as ReadRecord, add, pop, names, ask}
-use Rattle.check_attr.specs.Script.{AddHeader as ReadAddHeader, AskHeader as ReadAskHeader}
+use Rattle.check_attr.specs.inner.ScriptParts.{AddHeader as ReadAddHeader, AskHeader as ReadAskHeader}
 use Rattle.check_attr.specs.declared.script.Addition.{Addition}
 use Rattle.check_attr.specs.declared.script.Question.{Question}
 use Rattle.check_attr.specs.declared.script.AddHeader.{AddHeader}

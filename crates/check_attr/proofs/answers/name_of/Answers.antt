@@ -9,12 +9,12 @@ pub returns-in-Some : goal.returns-in-Some
 returns-in-Some c =
     let known = c.args.collection.now in
     let here = nth_from_yields_List (Some (c.in-Some.name, c.in-Some.field-0-1)) c.nth.new.self c.args.number c.in-Some.ensures.ran
-    (YieldsList-from_first named_view names_left (names_from known 0) c.iter.ensures) in
+    (YieldsList-from_first named_view names_left (names_from known 0) c.iter.ensures.names) in
     name_at known c.args.number _ here
 
 pub returns-in-None : goal.returns-in-None
 returns-in-None c =
     let known = c.args.collection.now in
     let here = nth_from_yields_List None c.nth.new.self c.args.number c.in-None.ensures.ran
-    (YieldsList-from_first named_view names_left (names_from known 0) c.iter.ensures) in
+    (YieldsList-from_first named_view names_left (names_from known 0) c.iter.ensures.names) in
     name_at known c.args.number _ here

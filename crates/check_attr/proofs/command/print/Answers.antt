@@ -4,5 +4,5 @@ use Rattle.check_attr.proofs.command.print.Goals as goal
 
 pub returns : goal.returns
 returns g c =
-    Prints-written g.E.Push.contents g.E.Push.failed g.E.Push.Stalls c.write_all.result _ _ c.args.text.now c.write_all.ensures.ok
-    c.write_all.ensures.front c.write_all.ensures.write
+    Prints-written g.E.Push.contents g.E.Push.failed g.E.Push.stalled c.write_all.result _ _ c.args.text.now c.write_all.ensures.ok
+    c.write_all.ensures.front c.write_all.ensures.writes c.write_all.ensures.only

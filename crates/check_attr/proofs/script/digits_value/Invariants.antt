@@ -1,6 +1,6 @@
 -- The value so far is that of the digits so far.
 use Rattle.std.proofs.Common.{◌≡◌, ◌<◌, ◌^◌, take}
-use Rattle.check_attr.specs.Script.{digits_value}
+use Rattle.check_attr.specs.inner.ScriptParts.{digits_value}
 use Rattle.check_attr.proofs.script.digits_value.Given as goal
 
 abbrev pub invariant-loop-digit : goal.invariant-loop-digit

@@ -1,6 +1,6 @@
 -- The lines read so far and those that are left to read are together all lines.
 use Rattle.std.proofs.Common.{◌≡◌, ◌≤◌, ◌-◌, map, vec_len, option_map}
-use Rattle.check_attr.specs.Script.{text_lines}
+use Rattle.check_attr.specs.inner.ScriptParts.{text_lines}
 use Rattle.check_attr.proofs.ScriptLemmas.{before}
 use Rattle.check_attr.proofs.script.text_lines.Given as goal
 

@@ -1,52 +1,113 @@
-use Rattle.std.proofs.Common.{◌≡◌, ◌<◌, true, Some, ◌++◌, length, option_map, sym, ap, ◌∙◌, subst, arith, eqb-true}
-use Rattle.std.specs.Prelude.{◌==◌}
+use Rattle.std.proofs.Common.{◌≡◌, ◌<◌, ◌+◌, true, Some, None, Ok, ◌++◌, length, option_map, refl, sym, ap, ◌∙◌, subst, arith, eqb-true}
+use Rattle.std.specs.Prelude.{◌==◌, ⊤}
 use Rattle.check_attr.specs.inner.EngineViews.{script_state_of}
-use Rattle.check_attr.specs.Script.{record_of}
+use Rattle.check_attr.specs.Script.{BeginsWithRecord}
+use Rattle.check_attr.specs.inner.ScriptParts.{IsFirstRecord}
 use Rattle.check_attr.specs.ScriptText.{Writes}
 use Rattle.check_attr.specs.inner.ScriptViews.{record_view, with_rest}
-use Rattle.check_attr.specs.ScriptStates.{initial_state}
-use Rattle.check_attr.proofs.RunLemmas.{step, broken, done, no_bytes, some_bytes, shorter}
+use Rattle.check_attr.specs.ScriptStates.{initial_state, next_state}
+use Rattle.check_attr.proofs.RunLemmas.{step, broken, done, no_bytes, some_bytes}
+use Rattle.check_attr.proofs.SpellingLemmas.{shorter}
+use Rattle.check_attr.proofs.PieceLemmas.{holds_all, holds_more, no_value, passes_on, passes_refused, stops_as, stops_longer, stops_of, stops_on}
+use Rattle.check_attr.proofs.TextLemmas.{OneText-of}
 use Rattle.check_attr.proofs.script_run.answer.Goals as goal
 
 pub loop-rest-init : goal.loop-rest-init
-loop-rest-init c = record {
+loop-rest-init g c = record {
   sound = c.new-engine.ensures.sound;
   counted = omega arith;
-  writes = λ malformed text left.
-      subst (λ xs. Writes (initial_state c.args.globals) 1 c.args.script.now malformed (xs ++ text)) (sym c.new-text.ensures.items)
-      (subst (λ s. Writes s 1 c.args.script.now malformed text) c.new-engine.ensures.state left);
+  passed = (
+    c.args.held.now.items,
+    holds_all g.W.Push.contents g.W.Push.failed g.W.Push.stalled c.args.writer.now c.args.held.now.items,
+    λ malformed others left.
+        subst (λ xs. Writes (initial_state c.args.globals) 1 c.args.script.now malformed (xs ++ others)) (sym c.requires)
+        (subst (λ s. Writes s 1 c.args.script.now malformed others) c.new-engine.ensures.state left),
+  );
 }
 
 pub loop-rest-preserved : goal.loop-rest-preserved
-loop-rest-preserved c =
-    let read : record_of c.loop-rest.rest.now ≡ Some (record_view c.in-Some.next, c.in-Some.others.now) =
-    sym c.in_ok-next.ensures ∙ ap (option_map (with_rest record_view)) c.in-Some.is in
+loop-rest-preserved g c =
+    let read : BeginsWithRecord c.loop-rest.rest.now (record_view c.in-Some.next) c.in-Some.others.now =
+    subst (λ o. IsFirstRecord c.loop-rest.rest.now (option_map (with_rest record_view) o)) c.in-Some.is c.in_ok-next.ensures in
     let less : length c.in-Some.others.now < length c.loop-rest.rest.now = shorter _ _ _ read in
     let applied = c.in_ok-apply.ensures in
+    let so_far = c.loop-rest.invariant.passed in
     record {
       sound = applied.sound;
       counted = omega (arith, less, c.loop-rest.invariant.counted);
-      writes = step (initial_state c.args.globals) (script_state_of c.loop-rest.engine) (script_state_of c.apply.new.self) c.args.script.now
-          c.loop-rest.rest.now c.in-Some.others.now
-          c.loop-rest.number (record_view c.in-Some.next) applied.text.0 c.loop-rest.text.items c.apply.new.out.items
-          c.loop-rest.invariant.writes read applied.text.1 applied.state applied.text.2;
+      passed = (
+        so_far.0 ++ applied.text.0,
+        passes_on g.W.Push.contents g.W.Push.failed g.W.Push.stalled _ _ _ _ _ _ (Ok c.in_ok-apply.field-0)
+            (holds_more g.W.Push.contents g.W.Push.failed g.W.Push.stalled _ _ _ _ applied.text.0 so_far.1) applied.text.2,
+        step (initial_state c.args.globals) (script_state_of c.loop-rest.engine) (script_state_of c.apply.new.self) c.args.script.now
+            c.loop-rest.rest.now c.in-Some.others.now
+            c.loop-rest.number (record_view c.in-Some.next) applied.text.0 so_far.0 (so_far.0 ++ applied.text.0)
+            so_far.2 read applied.text.1 applied.state refl,
+      );
     }
 
 pub loop-rest-smaller : goal.loop-rest-smaller
-loop-rest-smaller c =
-    let read : record_of c.loop-rest.rest.now ≡ Some (record_view c.in-Some.next, c.in-Some.others.now) =
-    sym c.in_ok-next.ensures ∙ ap (option_map (with_rest record_view)) c.in-Some.is in
+loop-rest-smaller g c =
+    let read : BeginsWithRecord c.loop-rest.rest.now (record_view c.in-Some.next) c.in-Some.others.now =
+    subst (λ o. IsFirstRecord c.loop-rest.rest.now (option_map (with_rest record_view) o)) c.in-Some.is c.in_ok-next.ensures in
     shorter _ _ _ read
 
+-- what the others write is a text whether or not they are applied
+pub returns-in_err-next : goal.returns-in_err-next
+returns-in_err-next g c =
+    let so_far = c.loop-rest.invariant.passed in
+    let others = OneText-of (script_state_of c.loop-rest.engine) c.loop-rest.number c.loop-rest.rest.now in (
+      others.0,
+      so_far.0 ++ others.1,
+      so_far.2 others.0 others.1 others.2,
+      no_value c.from_residual.result _ _ c.from_residual.ensures.1,
+      passes_refused g.W.Push.contents g.W.Push.failed g.W.Push.stalled _ _ _ _ _ c.from_residual.result c.from_residual.ensures.1
+          (holds_more g.W.Push.contents g.W.Push.failed g.W.Push.stalled _ _ _ _ others.1 so_far.1),
+    )
+
+pub returns-in_err-apply : goal.returns-in_err-apply
+returns-in_err-apply g c =
+    let read : BeginsWithRecord c.loop-rest.rest.now (record_view c.in-Some.next) c.in-Some.others.now =
+    subst (λ o. IsFirstRecord c.loop-rest.rest.now (option_map (with_rest record_view) o)) c.in-Some.is c.in_ok-next.ensures in
+    let applied = c.in_err-apply.ensures in
+    let so_far = c.loop-rest.invariant.passed in
+    let next = next_state (record_view c.in-Some.next) (script_state_of c.loop-rest.engine) in
+    let others = OneText-of next (c.loop-rest.number + 1) c.in-Some.others.now in (
+      others.0,
+      (so_far.0 ++ applied.text.0) ++ others.1,
+      step (initial_state c.args.globals) (script_state_of c.loop-rest.engine) next c.args.script.now c.loop-rest.rest.now c.in-Some.others.now
+          c.loop-rest.number (record_view c.in-Some.next) applied.text.0 so_far.0 (so_far.0 ++ applied.text.0)
+          so_far.2 read applied.text.1 refl refl others.0 others.1 others.2,
+      no_value c.from_residual-in_err-apply.result _ _ c.from_residual-in_err-apply.ensures.1,
+      stops_as g.W.Push.contents g.W.Push.failed g.W.Push.stalled _ _ _ _ _ c.from_residual-in_err-apply.result
+          c.from_residual-in_err-apply.ensures.1
+          (stops_longer g.W.Push.contents g.W.Push.failed g.W.Push.stalled _ _ _ others.1 _
+          (stops_on g.W.Push.contents g.W.Push.failed g.W.Push.stalled _ _ _ _ _ c.in_err-apply.field-0.0
+          (holds_more g.W.Push.contents g.W.Push.failed g.W.Push.stalled _ _ _ _ applied.text.0 so_far.1)
+          (stops_of g.W.Push.contents g.W.Push.failed g.W.Push.stalled ⊤ _ _ c.apply.new.held.items _ c.in_err-apply.field-0.0 applied.text.2))),
+    )
+
 pub returns-in_default : goal.returns-in_default
-returns-in_default c =
-    broken (initial_state c.args.globals) (script_state_of c.loop-rest.engine) c.args.script.now c.loop-rest.rest.now c.loop-rest.number
-    c.loop-rest.text.items c.loop-rest.invariant.writes
-    (some_bytes c.loop-rest.rest.now (λ e. let yes : c.is_empty.result ≡ true = c.is_empty.ensures ∙ ap (λ n. n == 0) e in absurd (cc)))
-    (ap (option_map (with_rest record_view)) (sym c.in_default.is) ∙ c.in_ok-next.ensures)
+returns-in_default g c =
+    let so_far = c.loop-rest.invariant.passed in (
+      Some c.loop-rest.number,
+      so_far.0,
+      broken (initial_state c.args.globals) (script_state_of c.loop-rest.engine) c.args.script.now c.loop-rest.rest.now c.loop-rest.number
+          so_far.0 so_far.2
+          (some_bytes c.loop-rest.rest.now (λ e. let yes : c.is_empty.result ≡ true = c.is_empty.ensures ∙ ap (λ n. n == 0) e in absurd (cc)))
+          (subst (λ o. IsFirstRecord c.loop-rest.rest.now (option_map (with_rest record_view) o)) c.in_default.is c.in_ok-next.ensures),
+      refl,
+      so_far.1,
+    )
 
 pub returns : goal.returns
-returns c =
-    done (initial_state c.args.globals) (script_state_of c.loop-rest.engine) c.args.script.now c.loop-rest.rest.now c.loop-rest.number
-    c.loop-rest.text.items c.loop-rest.invariant.writes
-    (no_bytes c.loop-rest.rest.now (eqb-true (length c.loop-rest.rest.now) 0 (sym c.is_empty.ensures ∙ c.loop-rest-test.false)))
+returns g c =
+    let so_far = c.loop-rest.invariant.passed in (
+      None,
+      so_far.0,
+      done (initial_state c.args.globals) (script_state_of c.loop-rest.engine) c.args.script.now c.loop-rest.rest.now c.loop-rest.number
+          so_far.0 so_far.2
+          (no_bytes c.loop-rest.rest.now (eqb-true (length c.loop-rest.rest.now) 0 (sym c.is_empty.ensures ∙ c.loop-rest-test.false))),
+      refl,
+      so_far.1,
+    )

@@ -1,24 +1,30 @@
-use Rattle.std.proofs.Common.{Some, string_bytes}
-use Rattle.std.specs.Option.{option_copied}
-use Rattle.gix_attributes.specs.Bases.{base_of}
-use Rattle.gix_attributes.specs.Definitions.{free_id}
-use Rattle.gix_attributes.specs.KeptLists.{kept_list_where}
-use Rattle.gix_attributes.specs.SearchViews.{lists_in, list_ids_in}
-use Rattle.check_attr.proofs.RegistrationLemmas.{always_ok, registers_added, same_count}
+use Rattle.std.proofs.Common.{◌++◌, ◌∙◌, subst}
+use Rattle.std.specs.List.{flat_map}
+use Rattle.gix_attributes.specs.Additions.{registered_lists}
+use Rattle.check_attr.specs.ScriptText.{dropped_text}
+use Rattle.check_attr.specs.inner.Pieces.{Passes}
+use Rattle.check_attr.proofs.PieceLemmas.{refused_at_once}
+use Rattle.check_attr.proofs.RegistrationLemmas.{alone_added, always_ok}
 use Rattle.check_attr.proofs.engine.Engine.add.Goals as goal
 
 pub returns-clause-sound : goal.returns-clause-sound
-returns-clause-sound c =
+returns-clause-sound g c =
     let old = c.args.self.now in
     let added = c.in_ok-dropped.ensures in
-    let addition = c.args.addition in
-    let source = string_bytes c.in_ok-from_str.field-0 in
-    always_ok c.push_dropped.result _ (record {
+    always_ok c.pass_dropped.result _ (record {
       held = added.held c.requires.held;
-      known = registers_added old.collection c.add_patterns_buffer.new.collection (list_ids_in old.search)
-          (list_ids_in c.add_patterns_buffer.new.self) (lists_in old.search) (lists_in c.add_patterns_buffer.new.self) (free_id old.collection.active)
-          (kept_list_where addition.allow_macros addition.buffer.now)
-          (Some source) (base_of source (option_copied addition.root)) (same_count old.search) c.requires.known added.collection added.list
-          added.list_ids;
+      known = alone_added (registered_lists old.search old.collection)
+          (registered_lists c.add_patterns_buffer.new.self c.add_patterns_buffer.new.collection) added.kept added.added c.requires.known;
       current = λ never. absurd (cc);
     })
+
+pub returns-in_err-from_str-clause-text : goal.returns-in_err-from_str-clause-text
+returns-in_err-from_str-clause-text g c =
+    refused_at_once g.W.Push.contents g.W.Push.failed g.W.Push.stalled _ _ _ c.from_residual.result c.from_residual.ensures.1
+
+pub returns-clause-text : goal.returns-clause-text
+returns-clause-text g c =
+    subst
+    (λ lines. Passes g.W.Push.contents g.W.Push.failed g.W.Push.stalled c.args.writer.now c.pass_dropped.new.writer c.pass_dropped.new.held.items
+    (c.args.held.now.items ++ flat_map (dropped_text c.args.addition.source.now) lines) c.pass_dropped.result)
+    (c.deref.ensures.value ∙ c.in_ok-dropped.ensures.dropped) c.pass_dropped.ensures

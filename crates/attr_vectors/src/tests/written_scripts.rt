@@ -1,0 +1,215 @@
+//! Scripts that are written from lists of records, and what they write when they are read.
+use crate::devices::Source;
+use crate::tests::scripts::{SCRIPT, TEXT, expect};
+use std::alloc::{AllocError, Global};
+use std::test::Fail;
+
+#[derive(Clone, Copy)]
+enum Step<'a> {
+    // The letter of macros, the source, the root and the buffer.
+    Add(&'a str, &'a str, Option<&'a str>, &'a [u8]),
+    Pop,
+    Names(&'a [&'a str]),
+    // The letters of the form, the case and the folder, and the path.
+    Ask(&'a str, &'a [u8]),
+}
+
+fn write_addition(
+    alloc: Global,
+    script: &mut Vec<u8>,
+    source: &str,
+    root: Option<&str>,
+    buffer: &[u8],
+) -> Result<(), AllocError> {
+    let length = match root {
+        Some(root) => format!(in alloc; "{}", root.len())?,
+        None => String::from_str(alloc, "-")?,
+    };
+    let lengths = format!(in alloc; "{} {length} {}\n", source.len(), buffer.len())?;
+    script.extend_from_slice(lengths.as_bytes())?;
+    script.extend_from_slice(source.as_bytes())?;
+    script.extend_from_slice(root.unwrap_or("").as_bytes())?;
+    script.extend_from_slice(buffer)?;
+    Ok(script.push(b'\n')?)
+}
+
+fn write_step(alloc: Global, script: &mut Vec<u8>, step: Step<'_>) -> Result<(), AllocError> {
+    match step {
+        Step::Add(macros, source, root, buffer) => {
+            script.extend_from_slice(format!(in alloc; "add {macros} ")?.as_bytes())?;
+            write_addition(alloc, script, source, root, buffer)
+        }
+        Step::Pop => script.extend_from_slice(b"pop\n"),
+        Step::Names(names) => {
+            script.extend_from_slice(format!(in alloc; "names {}\n", names.len())?.as_bytes())?;
+            for name in names {
+                script.extend_from_slice(format!(in alloc; "{name}\n")?.as_bytes())?;
+            }
+            Ok(())
+        }
+        Step::Ask(letters, path) => {
+            script.extend_from_slice(format!(in alloc;
+                "ask {letters} {}\n",
+                path.len()
+            )?.as_bytes())?;
+            script.extend_from_slice(path)?;
+            Ok(script.push(b'\n')?)
+        }
+    }
+}
+
+fn script_of(alloc: Global, steps: &[Step<'_>]) -> Result<Vec<u8>, AllocError> {
+    let mut script = Vec::new(alloc);
+    for step in steps {
+        write_step(alloc, &mut script, *step)?;
+    }
+    Ok(script)
+}
+
+#[test]
+fn records_are_spelled_as_in_the_worked_script(rt: HostRuntime) -> Result<(), Fail> {
+    let steps = [
+        Step::Add("m", ".gitattributes", Some(""), b"*.sh text eol=lf"),
+        Step::Names(&["text", "eol"]),
+        Step::Ask("l s f", b"script.sh"),
+    ];
+    let script = script_of(rt.alloc(), &steps)?;
+    assert_eq!(rt; script.as_slice(), SCRIPT);
+    expect(&rt, rt.alloc(), &mut Source::new(&script), TEXT)?;
+    Ok(())
+}
+
+// Contents, names and paths that look like records. What is written is what `git check-attr` says
+// for these files and paths.
+#[test]
+fn lengths_alone_end_a_part(rt: HostRuntime) -> Result<(), Fail> {
+    for (steps, text) in [
+        (
+            [
+                Step::Add(
+                    "m",
+                    ".gitattributes",
+                    None,
+                    b"pop\n* a=1\nnames 0\nask l s f 1\n",
+                ),
+                Step::Names(&["a", "0"]),
+                Step::Ask("z s f", b"a b\nc"),
+            ],
+            b"a b\nc\0a\x001\0a b\nc\x000\0unspecified\0".as_slice(),
+        ),
+        (
+            [
+                Step::Add(
+                    "m",
+                    ".gitattributes",
+                    Some(""),
+                    b"pop\n* a=1\nnames 0\nask l s f 1\n",
+                ),
+                Step::Ask("l s f", b"names"),
+                Step::Ask("l s f", b"ask"),
+            ],
+            b"names: a: 1\nnames: 0: set\nask: a: 1\nask: l: set\nask: s: set\nask: f: set\nask: 1: set\n",
+        ),
+        (
+            [
+                Step::Add("-", ".gitattributes", Some(""), b"* a=1"),
+                Step::Add("-", "d e/.gitattributes", Some(""), b"* b\n/f -b c=+01\n"),
+                Step::Ask("l s f", b"d e/f"),
+            ],
+            b"d e/f: a: 1\nd e/f: b: unset\nd e/f: c: +01\n",
+        ),
+        (
+            [
+                Step::Add("m", ".gitattributes", Some(""), b"\xC3\xA9 x\n"),
+                Step::Names(&["x"]),
+                Step::Ask("z s f", b"\xFF"),
+            ],
+            b"\xFF\0x\0unspecified\0",
+        ),
+    ] {
+        let script = script_of(rt.alloc(), &steps)?;
+        expect(&rt, rt.alloc(), &mut Source::new(&script), text)?;
+    }
+    Ok(())
+}
+
+// One of four records by a number's last digit to the base 4: a list with `* a`, a pop, no
+// selection, a question.
+fn step_of(digits: u32) -> Step<'static> {
+    match digits % 4 {
+        0 => Step::Add("-", "s", None, b"* a"),
+        1 => Step::Pop,
+        2 => Step::Names(&[]),
+        _ => Step::Ask("l s f", b"f"),
+    }
+}
+
+// All lists of five of these records. A question is answered if a list is left, and no record is
+// malformed; if a part of a record follows, that is the sixth record.
+#[test]
+fn each_list_of_records_is_read(rt: HostRuntime) -> Result<(), Fail> {
+    for code in 0..1024u32 {
+        let mut script = Vec::new(rt.alloc());
+        let mut text = Vec::new(rt.alloc());
+        let mut lists = 0u32;
+        let mut rest = code;
+        for _ in 0..5 {
+            let step = step_of(rest);
+            rest /= 4;
+            write_step(rt.alloc(), &mut script, step)?;
+            match step {
+                Step::Add(..) => lists = lists.saturating_add(1),
+                Step::Pop => lists = lists.saturating_sub(1),
+                Step::Ask(..) if lists > 0 => text.extend_from_slice(b"f: a: set\n")?,
+                _ => {}
+            }
+        }
+        expect(&rt, rt.alloc(), &mut Source::new(&script), &text)?;
+        script.extend_from_slice(b"pop")?;
+        text.extend_from_slice(b"malformed record 6")?;
+        expect(&rt, rt.alloc(), &mut Source::new(&script), &text)?;
+    }
+    Ok(())
+}
+
+// A record has one text: no sign, no zero in front of a number, one space, and a line feed alone.
+#[test]
+fn other_spellings_are_malformed(rt: HostRuntime) -> Result<(), Fail> {
+    for script in [
+        b"names +0\n".as_slice(),
+        b"names -0\n",
+        b"names 00\n",
+        b"names 01\na\n",
+        b"names 0\r\n",
+        b"names  0\n",
+        b"names 0 \n",
+        b"names \n",
+        b"names\n",
+        b"names 1\na",
+        b"NAMES 0\n",
+        b" names 0\n",
+        b"\n",
+        b"pop\r\n",
+        b"pop \n",
+        b"add - +1 - 5\ns* a=1\n",
+        b"add - 01 - 5\ns* a=1\n",
+        b"add - 1 -0 5\ns* a=1\n",
+        b"add - 1 - +5\ns* a=1\n",
+        b"add - 1 - 05\ns* a=1\n",
+        b"add - 1 - 5\r\ns* a=1\n",
+        b"add - 1 - 5\ns* a=1\r\n",
+        b"add - 1 - 5\ns* a=1",
+        b"add M 1 - 5\ns* a=1\n",
+        b"add - 1 - 4\ns* a=1\n",
+        b"ask l s f +1\nf\n",
+        b"ask l s f 01\nf\n",
+        b"ask l s f 1\r\nf\n",
+        b"ask l s f 1\nf\r\n",
+        b"ask l s  f 1\nf\n",
+        b"ask s l f 1\nf\n",
+    ] {
+        let answer = b"malformed record 1".as_slice();
+        expect(&rt, rt.alloc(), &mut Source::new(script), answer)?;
+    }
+    Ok(())
+}

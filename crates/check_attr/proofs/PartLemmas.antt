@@ -1,0 +1,278 @@
+-- The parts of a record are read exactly if they are spelled.
+use Rattle.std.proofs.Common.{◌≡◌, ◌≢◌, ℕ, zero, suc, ◌+◌, ◌-◌, ◌*◌, ◌^◌, ◌<◌, ◌≤◌, Bool, true, false, not, ◌&&◌, ◌||◌, List, [], ◌∷◌, ◌++◌}
+use Rattle.std.proofs.Common.{length, take, drop, get_or, fold, position, Option, Some, None, option_map, refl, sym, ap, ◌∙◌, subst, arith}
+use Rattle.std.proofs.Common.{append_assoc}
+use Rattle.std.proofs.Common.{rules, ltb, ltb-false, lt-ltb, ltb-true, le-leb, leb-true, eq-eqb, ne_eqb, eqb-true, length-append, length-take-le}
+use Rattle.std.proofs.Common.{take-append-drop, true≢false}
+use Rattle.std.proofs.Math.Seq.{take-append_seam, take_at, drop_at}
+use Rattle.std.specs.Prelude.{⊤, nat_eq, nat_le, decimal, if◌then◌else◌, ◌==◌}
+use Rattle.std.specs.Char.{is_ascii_digit}
+use Rattle.std.specs.List.{list_all, starts_with, position_from}
+use Rattle.std.specs.Str.{IsUtf8, is_utf8}
+use Rattle.std.proofs.lemmas.Fmt.{decimal_nonempty, length-decimal-le, first_decimal, decimal_digit, digits_decimal, digits_value-decimal}
+use Rattle.std.proofs.lemmas.Fmt.{decimal-digits_value}
+use Rattle.std.proofs.lemmas.Iterator.Adapters.{position_from-zero}
+use Rattle.std.proofs.lemmas.Str.{IsUtf8-from_is_utf8, is_utf8-from_IsUtf8}
+use Rattle.std.proofs.lemmas.Str.Parse.{IsNumeralModel, FoldsDigits, IsDigitsTest, numerals_by_fold, digits_value_short}
+use Rattle.std.proofs.lemmas.Bool.Decides.{Decides-eqb}
+use Rattle.std.proofs.lemmas.Slice.Eq.{starts_is}
+use Rattle.check_attr.specs.Script.{IsHeaderNumber}
+use Rattle.check_attr.specs.inner.ScriptParts.{◌then◌, strip_prefix, choice_of, split_once, split_at, if_text, is_number, digits_value}
+use Rattle.check_attr.specs.inner.ScriptParts.{number_before}
+
+-- ---- options and tests
+
+pub then-some : {X Y : Type 0} (o : Option X) (next : X → Option Y) (y : Y) → (o then next) ≡ Some y → (x : X) × (o ≡ Some x) × (next x ≡ Some y)
+then-some None next y e = absurd cc
+then-some (Some x) next y e = (x, refl, e)
+
+in_some : {X : Type 0} → X → Option X → X
+in_some other None = other
+in_some other (Some x) = x
+
+pub same_some : {X : Type 0} (x y : X) → Some x ≡ Some y → x ≡ y
+unfolding in_some
+same_some x y e = ap (in_some x) e
+
+pub map-some : {X Y : Type 0} (f : X → Y) (o : Option X) (y : Y) → option_map f o ≡ Some y → (x : X) × (o ≡ Some x) × (f x ≡ y)
+map-some f None y e = absurd cc
+map-some f (Some x) y e = (x, refl, same_some (f x) y e)
+
+pub if-some : {X : Type 0} (b : Bool) (x y : X) → (if b then Some x else None) ≡ Some y → (b ≡ true) × (x ≡ y)
+if-some true x y e = (refl, same_some x y e)
+if-some false x y e = absurd cc
+
+both : (a b : Bool) → (a && b) ≡ true → (a ≡ true) × (b ≡ true)
+both true b e = (refl, e)
+both false b e = absurd cc
+
+all_of : (a b : Bool) → a ≡ true → b ≡ true → (a && b) ≡ true
+all_of true b p q = q
+all_of false b p q = absurd cc
+
+-- ---- numbers
+
+tells : IsDigitsTest (λ ds. list_all is_ascii_digit ds ≡ true)
+tells = search rules
+
+folds : FoldsDigits (fold (λ value digit. 10 * value + (digit - 48)))
+folds = search rules
+
+own : IsNumeralModel (λ ds. list_all is_ascii_digit ds ≡ true) digits_value
+own = numerals_by_fold _ tells _ folds
+
+-- a number has no zero in front, unless it is `0`
+no_zero : (n : ℕ) → n < 10 ^ 8 → (t : Bool) → ltb n 10 ≡ t → (length (decimal n) == 1 || not (get_or (decimal n) 0 0 == 48)) ≡ true
+no_zero n h true e = ap (λ w. length w == 1 || not (get_or w 0 0 == 48)) (decimal_digit n (ltb-true n 10 e))
+no_zero n h false e =
+    let big = ltb-false n 10 e in
+    or_else (length (decimal n) == 1) (get_or (decimal n) 0 0 == 48) (ne_eqb _ 48 (λ z. omega (
+      arith,
+      z,
+      first_decimal n (omega (arith, big))
+          (omega arith),
+    )))
+  where
+    or_else : (a b : Bool) → b ≡ false → (a || not b) ≡ true
+    or_else true b e = refl
+    or_else false true e = absurd cc
+    or_else false false e = refl
+
+zero_alone : (single zero_first : Bool) → (single || not zero_first) ≡ true → zero_first ≡ true → single ≡ true
+zero_alone true b e z = refl
+zero_alone false true e z = absurd cc
+zero_alone false false e z = absurd cc
+
+pub is_number-decimal : (n : ℕ) → n < 10 ^ 8 → is_number (decimal n) ≡ true
+is_number-decimal n h =
+    all_of _ _ (all_of _ _ (all_of _ _ (lt-ltb 0 _ (decimal_nonempty n (omega arith))) (le-leb _ 8 (length-decimal-le 8 n (omega arith) h
+    (omega arith))))
+    (digits_decimal own n (omega arith)))
+    (no_zero n h (ltb n 10) refl)
+
+pub digits_value-decimal-short : (n : ℕ) → n < 10 ^ 8 → digits_value (decimal n) ≡ n
+digits_value-decimal-short n h = digits_value-decimal own n (omega arith)
+
+pub is_number-only : (word : List ℕ) → is_number word ≡ true → IsHeaderNumber (digits_value word) × (decimal (digits_value word) ≡ word)
+is_number-only word e =
+    let a = both _ _ e in
+    let b = both _ _ a.0 in
+    let c = both _ _ b.0 in
+    let short = digits_value_short own word 8 b.1 (leb-true _ 8 c.1) in (
+      short,
+      decimal-digits_value own word b.1 (ltb-true 0 _ c.0)
+          (λ z. eqb-true _ 1 (zero_alone (length word == 1) (get_or word 0 0 == 48) a.1 (eq-eqb _ 48 z))) (omega (arith, short)),
+    )
+
+pub decimal_digits : (n : ℕ) → IsHeaderNumber n → list_all is_ascii_digit (decimal n) ≡ true
+decimal_digits n short = digits_decimal own n (omega (arith, short))
+
+pub decimal_some : (n : ℕ) → IsHeaderNumber n → 0 < length (decimal n)
+decimal_some n short = decimal_nonempty n (omega (arith, short))
+
+-- ---- a part up to a separator
+
+-- the separator is not in these bytes
+abbrev Lacks : ℕ → List ℕ → Type 0
+Lacks stop bytes = list_all (λ b. not (b == stop)) bytes ≡ true
+
+found-here : (i : ℕ) (stop b : ℕ) (bytes : List ℕ) → (b == stop) ≡ true → position_from (λ c. c == stop) i (b ∷ bytes) ≡ Some i
+found-here i stop b bytes e = rw e
+
+found-later : (i : ℕ) (stop b : ℕ) (bytes : List ℕ) → (b == stop) ≡ false
+    → position_from (λ c. c == stop) i (b ∷ bytes) ≡ position_from (λ c. c == stop) (i + 1) bytes
+found-later i stop b bytes e = rw e
+
+not_true-false : (b : Bool) → not b ≡ true → b ≡ false
+not_true-false true e = absurd cc
+not_true-false false e = refl
+
+found-back : (i : ℕ) (stop : ℕ) (word rest : List ℕ) → Lacks stop word
+    → position_from (λ b. b == stop) i (word ++ stop ∷ rest) ≡ Some (i + length word)
+found-back i stop [] rest e = found-here i stop stop rest (eq-eqb stop stop refl) ∙ ap Some (omega arith)
+found-back i stop (b ∷ word) rest e =
+    let a = both _ _ e in
+    found-later i stop b (word ++ stop ∷ rest) (not_true-false (b == stop) a.0) ∙ (found-back (i + 1) stop word rest a.1 ∙ ap Some (omega arith))
+
+-- a word, the separator, and the rest
+abbrev Parted : ℕ → List ℕ → List ℕ → List ℕ → Type 0
+Parted stop bytes word rest = Lacks stop word × (bytes ≡ word ++ stop ∷ rest)
+
+abbrev FoundAt : ℕ → ℕ → List ℕ → ℕ → Type 0
+FoundAt i stop bytes place = (word rest : List ℕ) × (place ≡ i + length word) × Parted stop bytes word rest
+
+found-by : (i : ℕ) (stop : ℕ) (b : ℕ) (bytes : List ℕ) (place : ℕ) → position_from (λ c. c == stop) i (b ∷ bytes) ≡ Some place
+    → (position_from (λ c. c == stop) (i + 1) bytes ≡ Some place → FoundAt (i + 1) stop bytes place) → (t : Bool) → (b == stop) ≡ t
+    → FoundAt i stop (b ∷ bytes) place
+found-by i stop b bytes place e others true t =
+    let here : i ≡ place = same_some i place (sym (found-here i stop b bytes t) ∙ e) in
+    ([], bytes, omega (arith, here), (refl, ap (λ x. x ∷ bytes) (eqb-true b stop t)))
+found-by i stop b bytes place e others false t =
+    let later = others (sym (found-later i stop b bytes t) ∙ e) in
+    (b ∷ later.0, later.1, omega (arith, later.2), (all_of _ _ (ap not t) later.3.0, ap (λ xs. b ∷ xs) later.3.1))
+
+found-only : (i : ℕ) (stop : ℕ) (bytes : List ℕ) (place : ℕ) → position_from (λ b. b == stop) i bytes ≡ Some place → FoundAt i stop bytes place
+found-only i stop [] place e = absurd cc
+found-only i stop (b ∷ bytes) place e = found-by i stop b bytes place e (found-only (i + 1) stop bytes place) (b == stop) refl
+
+at_place : List ℕ → ℕ → List ℕ × List ℕ
+at_place bytes place = (take place bytes, drop (place + 1) bytes)
+
+at_end : (stop : ℕ) (word rest : List ℕ) → at_place (word ++ stop ∷ rest) (length word) ≡ (word, rest)
+unfolding at_place
+at_end stop word rest =
+    let front : take (length word) (word ++ stop ∷ rest) ≡ word = take-append_seam word (stop ∷ rest) in
+    let back : drop (length word + 1) (word ++ stop ∷ rest) ≡ rest =
+    ap (drop (length word + 1)) (sym (append_assoc word (stop ∷ []) rest))
+    ∙ drop_at (word ++ stop ∷ []) rest (length word + 1) (length-append word (stop ∷ [])) in
+    λ i. (front i, back i)
+
+pub split_once-back : (stop : ℕ) (word rest : List ℕ) → Lacks stop word → split_once stop (word ++ stop ∷ rest) ≡ Some (word, rest)
+unfolding at_place
+split_once-back stop word rest lacks =
+    ap (option_map (at_place (word ++ stop ∷ rest))) (position_from-zero (λ b. b == stop) (word ++ stop ∷ rest)
+    ∙ found-back 0 stop word rest lacks)
+    ∙ ap Some (ap (at_place (word ++ stop ∷ rest)) (omega arith) ∙ at_end stop word rest)
+
+pub split_once-only : (stop : ℕ) (bytes word rest : List ℕ) → split_once stop bytes ≡ Some (word, rest) → Parted stop bytes word rest
+unfolding at_place
+split_once-only stop bytes word rest e =
+    let at = map-some (at_place bytes) _ (word, rest) e in
+    let found = found-only 0 stop bytes at.0 (sym (position_from-zero (λ b. b == stop) bytes) ∙ at.1) in
+    let same : (found.0, found.1) ≡ (word, rest) =
+    sym (at_end stop found.0 found.1) ∙ (ap (λ xs. at_place xs (length found.0)) (sym found.3.1)
+    ∙ (ap (at_place bytes) (omega (arith, found.2)) ∙ at.2)) in
+    subst (λ (p : List ℕ × List ℕ). Parted stop bytes p.0 p.1) same found.3
+
+-- ---- a number before a separator
+
+no_digit : (stop : ℕ) (word : List ℕ) → is_ascii_digit stop ≡ false → list_all is_ascii_digit word ≡ true → Lacks stop word
+no_digit stop [] other e = refl
+no_digit stop (b ∷ word) other e =
+    let a = both _ _ e in
+    all_of _ _ (ap not (ne_eqb b stop (λ z. true≢false (sym a.0 ∙ (ap is_ascii_digit z ∙ other))))) (no_digit stop word other a.1)
+
+if-yes : {X : Type 0} (b : Bool) (x y : X) → b ≡ true → (if b then x else y) ≡ x
+if-yes true x y e = refl
+if-yes false x y e = absurd cc
+
+pub number_before-back : (stop n : ℕ) (rest : List ℕ) → is_ascii_digit stop ≡ false → IsHeaderNumber n
+    → number_before stop (decimal n ++ stop ∷ rest) ≡ Some (n, rest)
+number_before-back stop n rest other short =
+    ap (λ o. o then λ word. if is_number word.0 then Some (digits_value word.0, word.1) else None)
+    (split_once-back stop (decimal n) rest (no_digit stop (decimal n) other (digits_decimal own n (omega (arith, short)))))
+    ∙ (if-yes (is_number (decimal n)) _ _ (is_number-decimal n short)
+    ∙ ap (λ (m : ℕ). let p : ℕ × List ℕ = (m, rest) in Some p) (digits_value-decimal-short n short))
+
+pub number_before-only : (stop : ℕ) (bytes : List ℕ) (n : ℕ) (rest : List ℕ) → number_before stop bytes ≡ Some (n, rest)
+    → IsHeaderNumber n × (bytes ≡ decimal n ++ stop ∷ rest)
+number_before-only stop bytes n rest e =
+    let at = then-some (split_once stop bytes) _ (n, rest) e in
+    let read = if-some (is_number at.0.0) (digits_value at.0.0, at.0.1) (n, rest) at.2 in
+    let parted = split_once-only stop bytes at.0.0 at.0.1 at.1 in
+    let number = is_number-only at.0.0 read.0 in
+    subst (λ (p : ℕ × List ℕ). IsHeaderNumber p.0 × (bytes ≡ decimal p.0 ++ stop ∷ p.1)) read.1
+    (number.0, parted.1 ∙ ap (λ xs. xs ++ stop ∷ at.0.1) (sym number.1))
+
+-- ---- parts of a length
+
+pub split_at-back : (n : ℕ) (part rest : List ℕ) → length part ≡ n → split_at n (part ++ rest) ≡ Some (part, rest)
+split_at-back n part rest e =
+    if-yes (nat_le n (length (part ++ rest))) _ _ (le-leb n _ (omega (arith, e, length-append part rest)))
+    ∙ λ i. (let p : List ℕ × List ℕ = (take_at part rest n e i, drop_at part rest n e i) in Some p)
+
+pub split_at-only : (n : ℕ) (bytes part rest : List ℕ) → split_at n bytes ≡ Some (part, rest) → (length part ≡ n) × (bytes ≡ part ++ rest)
+split_at-only n bytes part rest e =
+    let read = if-some (nat_le n (length bytes)) (take n bytes, drop n bytes) (part, rest) e in
+    subst (λ (p : List ℕ × List ℕ). (length p.0 ≡ n) × (bytes ≡ p.0 ++ p.1)) read.1
+    (length-take-le n bytes (leb-true n _ read.0), sym (take-append-drop n bytes))
+
+pub if_text-back : (part rest : List ℕ) → IsUtf8 part → if_text (part, rest) ≡ Some (part, rest)
+if_text-back part rest text = if-yes (is_utf8 part) _ _ (is_utf8-from_IsUtf8 part text)
+
+pub if_text-only : (p q : List ℕ × List ℕ) → if_text p ≡ Some q → (p ≡ q) × IsUtf8 q.0
+if_text-only p q e =
+    let read = if-some (is_utf8 p.0) p q e in
+    (read.1, subst (λ (r : List ℕ × List ℕ). IsUtf8 r.0) read.1 (IsUtf8-from_is_utf8 p.0 read.0))
+
+pub split_text-back : (n : ℕ) (part rest : List ℕ) → length part ≡ n → IsUtf8 part → (split_at n (part ++ rest) then if_text) ≡ Some (part, rest)
+split_text-back n part rest e text = ap (λ o. o then if_text) (split_at-back n part rest e) ∙ if_text-back part rest text
+
+pub split_text-only : (n : ℕ) (bytes part rest : List ℕ) → (split_at n bytes then if_text) ≡ Some (part, rest)
+    → (length part ≡ n) × IsUtf8 part × (bytes ≡ part ++ rest)
+split_text-only n bytes part rest e =
+    let at = then-some (split_at n bytes) if_text (part, rest) e in
+    let text = if_text-only at.0 (part, rest) at.2 in
+    let read = split_at-only n bytes part rest (at.1 ∙ ap Some text.0) in
+    (read.0, text.1, read.1)
+
+-- ---- words
+
+pub starts_with-only : (bytes word : List ℕ) → starts_with nat_eq bytes word ≡ true → bytes ≡ word ++ drop (length word) bytes
+starts_with-only bytes word e = (starts_is {E = nat_eq} Decides-eqb bytes word (starts_with nat_eq bytes word) refl).0 e
+
+-- each choice is the word of what it stands for
+abbrev AreWords : {X : Type 0} → (X → List ℕ) → List (List ℕ × X) → Type 0
+AreWords word [] = ⊤
+AreWords word (choice ∷ choices) = (word choice.1 ≡ choice.0) × AreWords word choices
+
+choice_by : {X : Type 0} (word : X → List ℕ) (choice : List ℕ × X) (choices : List (List ℕ × X)) (bytes : List ℕ) (x : X) (rest : List ℕ)
+    → (b : Bool) → starts_with nat_eq bytes choice.0 ≡ b
+    → (if b then Some (choice.1, drop (length choice.0) bytes) else choice_of choices bytes) ≡ Some (x, rest)
+    → word choice.1 ≡ choice.0 → (choice_of choices bytes ≡ Some (x, rest) → bytes ≡ word x ++ rest) → bytes ≡ word x ++ rest
+choice_by {X = X} word choice choices bytes x rest true is e same others =
+    subst (λ (p : X × List ℕ). bytes ≡ word p.0 ++ p.1) (same_some (choice.1, drop (length choice.0) bytes) (x, rest) e)
+    (starts_with-only bytes choice.0 is ∙ ap (λ xs. xs ++ drop (length choice.0) bytes) (sym same))
+choice_by word choice choices bytes x rest false is e same others = others e
+
+pub choice_of-only : {X : Type 0} (word : X → List ℕ) (choices : List (List ℕ × X)) → AreWords word choices
+    → (bytes : List ℕ) (x : X) (rest : List ℕ) → choice_of choices bytes ≡ Some (x, rest) → bytes ≡ word x ++ rest
+choice_of-only word [] words bytes x rest e = absurd cc
+choice_of-only word (choice ∷ choices) words bytes x rest e =
+    choice_by word choice choices bytes x rest (starts_with nat_eq bytes choice.0) refl e words.0
+    (choice_of-only word choices words.1 bytes x rest)
+
+pub strip_prefix-only : (front bytes rest : List ℕ) → strip_prefix front bytes ≡ Some rest → bytes ≡ front ++ rest
+strip_prefix-only front bytes rest e =
+    let read = if-some (starts_with nat_eq bytes front) (drop (length front) bytes) rest e in
+    starts_with-only bytes front read.0 ∙ ap (λ xs. front ++ xs) read.1

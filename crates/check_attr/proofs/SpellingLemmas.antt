@@ -1,0 +1,524 @@
+-- The first record of a script is read exactly if it is spelled.
+use Rattle.std.proofs.Common.{◌≡◌, ◌≢◌, ℕ, zero, suc, ◌+◌, ◌^◌, ◌<◌, ◌≤◌, ◌⊎◌, inl, inr, Bool, true, false, ◌&&◌, List, [], ◌∷◌, ◌++◌}
+use Rattle.std.proofs.Common.{length, get_or, drop, Option, Some, None, option_map, unwrap_or, IfSome, All, flat_map, codes, refl, sym, ap, ◌∙◌}
+use Rattle.std.proofs.Common.{subst, arith}
+use Rattle.std.proofs.Common.{append_assoc, length-append, true≢false, is_some, zero-lt-suc}
+use Rattle.std.specs.Prelude.{⊤, nat_eq, decimal, if◌then◌else◌, Result, Ok, Err, IfOk}
+use Rattle.std.specs.Char.{is_ascii_digit}
+use Rattle.std.specs.List.{list_all, starts_with, join_with_byte}
+use Rattle.std.specs.Str.{IsUtf8}
+use Rattle.gix_attributes.specs.declared.glob.pattern.Case.{Case}
+use Rattle.gix_attributes.specs.declared.glob.pattern.Case.TheVariants.{Sensitive, Fold}
+use Rattle.gix_attributes.specs.LinesJoined.{line_feed, IsLine}
+use Rattle.check_attr.specs.declared.script.Form.{Form}
+use Rattle.check_attr.specs.declared.script.Form.TheVariants.{Line, Zero, Origin}
+use Rattle.check_attr.specs.Script.{Addition, Question, Record, add, pop, names, ask, space, header, macros_word, root_word, form_word, case_word}
+use Rattle.check_attr.specs.Script.{folder_word}
+use Rattle.check_attr.specs.Script.{ended_line, spelled, IsHeaderNumber, IsShortText, IsNameLine, CanBeWritten, BeginsWithRecord, IsMalformed}
+use Rattle.check_attr.specs.inner.ScriptParts.{◌then◌, AddHeader, AskHeader, choice_of, macro_flags, forms, cases, folder_flags, strip_prefix}
+use Rattle.check_attr.specs.inner.ScriptParts.{split_once, split_at}
+use Rattle.check_attr.specs.inner.ScriptParts.{if_text, is_number, digits_value, number_before, root_length, root_of, add_header, addition_of}
+use Rattle.check_attr.specs.inner.ScriptParts.{text_lines, ask_header, question_of}
+use Rattle.check_attr.specs.inner.ScriptParts.{add_record, names_record, ask_record, record_of, IsFirstRecord, IsNumberBefore}
+use Rattle.check_attr.proofs.PartLemmas.{then-some, map-some, same_some, starts_with-only, choice_of-only, strip_prefix-only, number_before-back}
+use Rattle.check_attr.proofs.PartLemmas.{number_before-only}
+use Rattle.check_attr.proofs.PartLemmas.{split_at-back, split_at-only, split_text-back, split_text-only, split_once-back, split_once-only}
+use Rattle.check_attr.proofs.PartLemmas.{if_text-back, if_text-only}
+use Rattle.check_attr.proofs.PartLemmas.{decimal_digits, decimal_some}
+
+-- ---- the text of a record, with the rest behind it
+
+-- a header and what follows it
+onto : List (List ℕ) → List ℕ → List ℕ
+onto [] rest = line_feed ∷ rest
+onto (word ∷ []) rest = word ++ line_feed ∷ rest
+onto (word ∷ other ∷ words) rest = word ++ space ∷ onto (other ∷ words) rest
+
+header-onto : (words : List (List ℕ)) (rest : List ℕ) → header words ++ rest ≡ onto words rest
+unfolding onto
+header-onto [] rest = refl
+header-onto (word ∷ []) rest = append_assoc word (line_feed ∷ []) rest
+header-onto (word ∷ other ∷ words) rest =
+    let joined : List ℕ = join_with_byte space (other ∷ words) in
+    append_assoc (word ++ space ∷ joined) (line_feed ∷ []) rest
+    ∙ (append_assoc word (space ∷ joined) (line_feed ∷ rest)
+    ∙ ap (λ xs. word ++ space ∷ xs) (sym (append_assoc joined (line_feed ∷ []) rest) ∙ header-onto (other ∷ words) rest))
+
+ended_line-onto : (line rest : List ℕ) → ended_line line ++ rest ≡ line ++ line_feed ∷ rest
+ended_line-onto line rest = append_assoc line (line_feed ∷ []) rest
+
+-- the words of a header behind its first one
+addition_words : Addition → List (List ℕ)
+addition_words a = macros_word a.allow_macros ∷ decimal (length a.source) ∷ root_word a.root ∷ decimal (length a.buffer) ∷ []
+
+question_words : Question → List (List ℕ)
+question_words q = form_word q.form ∷ case_word q.case ∷ folder_word q.is_dir ∷ decimal (length q.path) ∷ []
+
+addition_parts : Addition → List ℕ → List ℕ
+addition_parts a rest = a.source ++ (unwrap_or a.root [] ++ (a.buffer ++ line_feed ∷ rest))
+
+text_with : Record → List ℕ → List ℕ
+text_with (add a) rest = onto (codes "add" ∷ addition_words a) (addition_parts a rest)
+text_with pop rest = onto (codes "pop" ∷ []) rest
+text_with (names lines) rest = onto (codes "names" ∷ decimal (length lines) ∷ []) (flat_map ended_line lines ++ rest)
+text_with (ask q) rest = onto (codes "ask" ∷ question_words q) (q.path ++ line_feed ∷ rest)
+
+spelled-text_with : (r : Record) (rest : List ℕ) → spelled r ++ rest ≡ text_with r rest
+unfolding text_with addition_words question_words addition_parts
+spelled-text_with (add a) rest =
+    let words : List (List ℕ) = codes "add" ∷ addition_words a in
+    let front : List ℕ = a.source ++ unwrap_or a.root [] in
+    append_assoc (header words) (ended_line (front ++ a.buffer)) rest
+    ∙ (header-onto words (ended_line (front ++ a.buffer) ++ rest)
+    ∙ ap (onto words) (ended_line-onto (front ++ a.buffer) rest
+    ∙ (append_assoc front a.buffer (line_feed ∷ rest) ∙ append_assoc a.source (unwrap_or a.root []) (a.buffer ++ line_feed ∷ rest))))
+spelled-text_with pop rest = header-onto (codes "pop" ∷ []) rest
+spelled-text_with (names lines) rest =
+    let words : List (List ℕ) = codes "names" ∷ decimal (length lines) ∷ [] in
+    append_assoc (header words) (flat_map ended_line lines) rest ∙ header-onto words (flat_map ended_line lines ++ rest)
+spelled-text_with (ask q) rest =
+    let words : List (List ℕ) = codes "ask" ∷ question_words q in
+    append_assoc (header words) (ended_line q.path) rest
+    ∙ (header-onto words (ended_line q.path ++ rest) ∙ ap (onto words) (ended_line-onto q.path rest))
+
+-- ---- what is spelled is read
+
+then-step : {X Y : Type 0} (o : Option X) (next : X → Option Y) (x : X) → o ≡ Some x → (o then next) ≡ next x
+then-step o next x e = ap (λ p. p then next) e
+
+macros-back : (b : Bool) (rest : List ℕ) → choice_of macro_flags (macros_word b ++ space ∷ rest) ≡ Some (b, rest)
+macros-back true rest = refl
+macros-back false rest = refl
+
+forms-back : (f : Form) (rest : List ℕ) → choice_of forms (form_word f ++ space ∷ rest) ≡ Some (f, rest)
+forms-back Line rest = refl
+forms-back Zero rest = refl
+forms-back Origin rest = refl
+
+cases-back : (c : Case) (rest : List ℕ) → choice_of cases (case_word c ++ space ∷ rest) ≡ Some (c, rest)
+cases-back Sensitive rest = refl
+cases-back Fold rest = refl
+
+folders-back : (d : Option Bool) (rest : List ℕ) → choice_of folder_flags (folder_word d ++ space ∷ rest) ≡ Some (d, rest)
+folders-back (Some true) rest = refl
+folders-back (Some false) rest = refl
+folders-back None rest = refl
+
+-- a number does not begin with `-`
+no_minus : (digits rest others : List ℕ) → 0 < length digits → list_all is_ascii_digit digits ≡ true → digits ++ rest ≡ 45 ∷ others → ⊥
+no_minus [] rest others some all e = omega (arith, some)
+no_minus (d ∷ digits) rest others some all e =
+    let first : d ≡ 45 = ap (λ xs. get_or xs 0 0) e in
+    absurd (no_digit_first (is_ascii_digit d) (list_all is_ascii_digit digits) all (ap is_ascii_digit first))
+  where
+    no_digit_first : (a b : Bool) → (a && b) ≡ true → a ≡ false → ⊥
+    no_digit_first true b e z = true≢false z
+    no_digit_first false b e z = true≢false (sym e)
+
+if-no : {X : Type 0} (b : Bool) (x y : X) → (b ≡ true → ⊥) → (if b then x else y) ≡ y
+if-no true x y no_way = absurd (no_way refl)
+if-no false x y no_way = refl
+
+root_length-back : (root : Option (List ℕ)) (rest : List ℕ) → IfSome root IsShortText
+    → root_length (root_word root ++ space ∷ rest) ≡ Some (option_map length root, rest)
+root_length-back None rest short = refl
+root_length-back (Some root) rest short =
+    let text : List ℕ = decimal (length root) ++ space ∷ rest in
+    if-no (starts_with nat_eq text (codes "- ")) _ _
+    (λ yes. no_minus (decimal (length root)) (space ∷ rest) _ (decimal_some (length root) short.0) (decimal_digits (length root) short.0)
+    (starts_with-only text (codes "- ") yes))
+    ∙ ap (option_map _) (number_before-back space (length root) rest refl short.0)
+
+root_of-back : (root : Option (List ℕ)) (rest : List ℕ) → IfSome root IsShortText
+    → root_of (option_map length root) (unwrap_or root [] ++ rest) ≡ Some (root, rest)
+root_of-back None rest short = refl
+root_of-back (Some root) rest short = ap (option_map _) (split_text-back (length root) root rest refl short.1)
+
+lengths_of : Addition → AddHeader
+lengths_of a = record { allow_macros = a.allow_macros; source = length a.source; root = option_map length a.root; buffer = length a.buffer }
+
+add_header-back : (a : Addition) (rest : List ℕ) → CanBeWritten (add a) → add_header (onto (addition_words a) rest) ≡ Some (lengths_of a, rest)
+unfolding onto addition_words lengths_of
+add_header-back a rest can =
+    then-step _ _ _ (macros-back a.allow_macros _)
+    ∙ (then-step _ _ _ (number_before-back space (length a.source) _ refl can.0.0)
+    ∙ (then-step _ _ _ (root_length-back a.root _ can.1)
+    ∙ ap (option_map _) (number_before-back line_feed (length a.buffer) rest refl can.2)))
+
+addition_of-back : (a : Addition) (rest : List ℕ) → CanBeWritten (add a) → addition_of (lengths_of a) (addition_parts a rest) ≡ Some (a, rest)
+unfolding lengths_of addition_parts
+addition_of-back a rest can =
+    then-step _ _ _ (split_text-back (length a.source) a.source _ refl can.0.1)
+    ∙ (then-step _ _ _ (root_of-back a.root _ can.1)
+    ∙ then-step _ _ _ (split_at-back (length a.buffer) a.buffer (line_feed ∷ rest) refl))
+
+-- the facts on all elements are those on the first and on the others
+pub first_of : {X : Type 0} (P : X → Type 0) (x : X) (xs : List X) → All P (x ∷ xs) → P x
+first_of P x xs all = all 0 x (omega arith)
+
+pub others_of : {X : Type 0} (P : X → Type 0) (x : X) (xs : List X) → All P (x ∷ xs) → All P xs
+others_of P x xs all = λ k d inside. all (suc k) d (omega (arith, inside))
+
+pub all_with : {X : Type 0} (P : X → Type 0) (x : X) (xs : List X) → P x → All P xs → All P (x ∷ xs)
+all_with P x xs first others zero d inside = first
+all_with P x xs first others (suc k) d inside = others k d (omega (arith, inside))
+
+lines-onto : (line : List ℕ) (lines : List (List ℕ)) (rest : List ℕ)
+    → flat_map ended_line (line ∷ lines) ++ rest ≡ line ++ line_feed ∷ (flat_map ended_line lines ++ rest)
+lines-onto line lines rest =
+    append_assoc (ended_line line) (flat_map ended_line lines) rest ∙ ended_line-onto line (flat_map ended_line lines ++ rest)
+
+text_lines-back : (lines : List (List ℕ)) (rest : List ℕ) → All IsNameLine lines
+    → text_lines (length lines) (flat_map ended_line lines ++ rest) ≡ Some (lines, rest)
+text_lines-back [] rest all = refl
+text_lines-back (line ∷ lines) rest all =
+    let first = first_of IsNameLine line lines all in
+    ap (text_lines (suc (length lines))) (lines-onto line lines rest)
+    ∙ (then-step _ _ _ (then-step _ _ _ (split_once-back line_feed line _ first.1) ∙ if_text-back line _ first.0)
+    ∙ ap (option_map _) (text_lines-back lines rest (others_of IsNameLine line lines all)))
+
+manner_of : Question → AskHeader
+manner_of q = record { form = q.form; case = q.case; is_dir = q.is_dir }
+
+record_of-text_with : (r : Record) (rest : List ℕ) → CanBeWritten r → record_of (text_with r rest) ≡ Some (r, rest)
+unfolding text_with onto addition_words question_words manner_of
+record_of-text_with (add a) rest can =
+    then-step _ _ _ (add_header-back a (addition_parts a rest) can) ∙ ap (option_map _) (addition_of-back a rest can)
+record_of-text_with pop rest can = refl
+record_of-text_with (names lines) rest can =
+    then-step _ _ _ (number_before-back line_feed (length lines) _ refl can.0) ∙ ap (option_map _) (text_lines-back lines rest can.1)
+record_of-text_with (ask q) rest can =
+    then-step _ _ _
+    (then-step _ _ _ (forms-back q.form _)
+    ∙ (then-step _ _ _ (cases-back q.case _)
+    ∙ ap (option_map _) (folders-back q.is_dir _)))
+    ∙ ap (option_map _)
+    (then-step _ _ _ (number_before-back line_feed (length q.path) _ refl can)
+    ∙ then-step _ _ _ (split_at-back (length q.path) q.path (line_feed ∷ rest) refl))
+
+pub record_of-spelled : (script : List ℕ) (r : Record) (rest : List ℕ) → BeginsWithRecord script r rest → record_of script ≡ Some (r, rest)
+record_of-spelled script r rest begins =
+    ap record_of (begins.1 ∙ spelled-text_with r rest) ∙ record_of-text_with r rest begins.0
+
+-- ---- what is read is spelled
+
+length_word : Option ℕ → List ℕ
+length_word None = codes "-"
+length_word (Some n) = decimal n
+
+root_word-length : (root : Option (List ℕ)) → length_word (option_map length root) ≡ root_word root
+unfolding length_word
+root_word-length None = refl
+root_word-length (Some root) = refl
+
+if-cases : {X : Type 0} (b : Bool) (x y z : X) → (if b then x else y) ≡ z → ((b ≡ true) × (x ≡ z)) ⊎ (y ≡ z)
+if-cases true x y z e = inl (refl, e)
+if-cases false x y z e = inr e
+
+root_length-only : (bytes : List ℕ) (n : Option ℕ) (rest : List ℕ) → root_length bytes ≡ Some (n, rest)
+    → IfSome n IsHeaderNumber × (bytes ≡ length_word n ++ space ∷ rest)
+unfolding length_word
+root_length-only bytes n rest e =
+    elim (if-cases (starts_with nat_eq bytes (codes "- ")) _ _ _ e) [
+      | inl here ↦ subst (λ (p : Option ℕ × List ℕ). IfSome p.0 IsHeaderNumber
+          × (bytes ≡ length_word p.0 ++ space ∷ p.1)) (same_some (None, drop 2 bytes) (n, rest) here.1)
+          (tt, starts_with-only bytes (codes "- ") here.0)
+      | inr other ↦
+          let read = map-some _ (number_before space bytes) (n, rest) other in
+          subst (λ (p : Option ℕ × List ℕ). IfSome p.0 IsHeaderNumber × (bytes ≡ length_word p.0 ++ space ∷ p.1)) read.2
+          (number_before-only space bytes read.0.0 read.0.1 read.1)
+    ]
+
+-- the texts of a header, and the numbers in it
+IsAddHeader : AddHeader → List ℕ → List ℕ → Type 0
+IsAddHeader h bytes rest =
+    IsHeaderNumber h.source × IfSome h.root IsHeaderNumber × IsHeaderNumber h.buffer
+    × (bytes ≡ onto (macros_word h.allow_macros ∷ decimal h.source ∷ length_word h.root ∷ decimal h.buffer ∷ []) rest)
+
+spaced : {X : Type 0} → (X → List ℕ) → X → List ℕ
+spaced word x = word x ++ space ∷ []
+
+choice-only : {X : Type 0} (word : X → List ℕ) (bytes : List ℕ) (x : X) (rest : List ℕ) → bytes ≡ spaced word x ++ rest
+    → bytes ≡ word x ++ space ∷ rest
+unfolding spaced
+choice-only word bytes x rest e = e ∙ append_assoc (word x) (space ∷ []) rest
+
+macros-only : (bytes : List ℕ) (b : Bool) (rest : List ℕ) → choice_of macro_flags bytes ≡ Some (b, rest) → bytes ≡ macros_word b ++ space ∷ rest
+unfolding spaced
+macros-only bytes b rest e = choice-only macros_word bytes b rest (choice_of-only (spaced macros_word) macro_flags (
+  refl,
+  (refl, tt),
+) bytes b rest e)
+
+forms-only : (bytes : List ℕ) (f : Form) (rest : List ℕ) → choice_of forms bytes ≡ Some (f, rest) → bytes ≡ form_word f ++ space ∷ rest
+unfolding spaced
+forms-only bytes f rest e = choice-only form_word bytes f rest (choice_of-only (spaced form_word) forms (refl, (refl, (refl, tt))) bytes f rest e)
+
+cases-only : (bytes : List ℕ) (c : Case) (rest : List ℕ) → choice_of cases bytes ≡ Some (c, rest) → bytes ≡ case_word c ++ space ∷ rest
+unfolding spaced
+cases-only bytes c rest e = choice-only case_word bytes c rest (choice_of-only (spaced case_word) cases (refl, (refl, tt)) bytes c rest e)
+
+folders-only : (bytes : List ℕ) (d : Option Bool) (rest : List ℕ) → choice_of folder_flags bytes ≡ Some (d, rest)
+    → bytes ≡ folder_word d ++ space ∷ rest
+unfolding spaced
+folders-only bytes d rest e = choice-only folder_word bytes d rest (choice_of-only (spaced folder_word) folder_flags (
+  refl,
+  (
+    refl,
+    (refl, tt),
+  ),
+) bytes d rest e)
+
+add_header-only : (bytes : List ℕ) (h : AddHeader) (rest : List ℕ) → add_header bytes ≡ Some (h, rest) → IsAddHeader h bytes rest
+unfolding IsAddHeader onto
+add_header-only bytes h rest e =
+    let allow = then-some (choice_of macro_flags bytes) _ _ e in
+    let source = then-some (number_before space allow.0.1) _ _ allow.2 in
+    let root = then-some (root_length source.0.1) _ _ source.2 in
+    let buffer = map-some _ (number_before line_feed root.0.1) _ root.2 in
+    let s = number_before-only space allow.0.1 source.0.0 source.0.1 source.1 in
+    let r = root_length-only source.0.1 root.0.0 root.0.1 root.1 in
+    let b = number_before-only line_feed root.0.1 buffer.0.0 buffer.0.1 buffer.1 in
+    subst (λ (p : AddHeader × List ℕ). IsAddHeader p.0 bytes p.1) buffer.2 (
+      s.0,
+      r.0,
+      b.0,
+      macros-only bytes allow.0.0 allow.0.1 allow.1
+          ∙ λ i. macros_word allow.0.0 ++ space ∷ (s.1 ∙ λ j. decimal source.0.0 ++ space ∷ (r.1
+          ∙ λ k. length_word root.0.0 ++ space ∷ b.1 k) j) i,
+    )
+
+root_of-only : (n : Option ℕ) (bytes : List ℕ) (root : Option (List ℕ)) (rest : List ℕ) → root_of n bytes ≡ Some (root, rest)
+    → (option_map length root ≡ n) × IfSome root IsUtf8 × (bytes ≡ unwrap_or root [] ++ rest)
+root_of-only None bytes root rest e =
+    subst (λ (p : Option (List ℕ) × List ℕ). (option_map length p.0 ≡ None) × IfSome p.0 IsUtf8 × (bytes ≡ unwrap_or p.0 [] ++ p.1))
+    (same_some (None, bytes) (root, rest) e) (refl, tt, refl)
+root_of-only (Some n) bytes root rest e =
+    let part = map-some _ (split_at n bytes then if_text) (root, rest) e in
+    let read = split_text-only n bytes part.0.0 part.0.1 part.1 in
+    subst (λ (p : Option (List ℕ) × List ℕ). (option_map length p.0 ≡ Some n) × IfSome p.0 IsUtf8 × (bytes ≡ unwrap_or p.0 [] ++ p.1))
+    part.2 (ap Some read.0, read.1, read.2)
+
+short_root : (root : Option (List ℕ)) (n : Option ℕ) → option_map length root ≡ n → IfSome n IsHeaderNumber → IfSome root IsUtf8
+    → IfSome root IsShortText
+short_root None n e short text = tt
+short_root (Some root) n e short text = (subst (λ m. IfSome m IsHeaderNumber) (sym e) short, text)
+
+addition_of-only : (h : AddHeader) (bytes after : List ℕ) (a : Addition) (rest : List ℕ) → IsAddHeader h bytes after
+    → addition_of h after ≡ Some (a, rest)
+    → CanBeWritten (add a) × (bytes ≡ onto (addition_words a) (addition_parts a rest))
+unfolding IsAddHeader onto addition_words addition_parts
+addition_of-only h bytes after a rest is e =
+    let source = then-some (split_at h.source after then if_text) _ _ e in
+    let root = then-some (root_of h.root source.0.1) _ _ source.2 in
+    let buffer = then-some (split_at h.buffer root.0.1) _ _ root.2 in
+    let end = map-some _ (strip_prefix (codes "\n") buffer.0.1) _ buffer.2 in
+    let s = split_text-only h.source after source.0.0 source.0.1 source.1 in
+    let r = root_of-only h.root source.0.1 root.0.0 root.0.1 root.1 in
+    let b = split_at-only h.buffer root.0.1 buffer.0.0 buffer.0.1 buffer.1 in
+    let n = strip_prefix-only (codes "\n") buffer.0.1 end.0 end.1 in
+    let root_is : length_word h.root ≡ root_word root.0.0 = ap length_word (sym r.0) ∙ root_word-length root.0.0 in
+    let parts : after ≡ source.0.0 ++ (unwrap_or root.0.0 [] ++ (buffer.0.0 ++ line_feed ∷ end.0)) =
+    s.2 ∙ ap (λ xs. source.0.0 ++ xs) (r.2 ∙ ap (λ xs. unwrap_or root.0.0 [] ++ xs) (b.1 ∙ ap (λ xs. buffer.0.0 ++ xs) n)) in
+    subst (λ (p : Addition × List ℕ). CanBeWritten (add p.0) × (bytes ≡ onto (addition_words p.0) (addition_parts p.0 p.1))) end.2 (
+      ((subst IsHeaderNumber (sym s.0) is.0, s.1), short_root root.0.0 h.root r.0 is.1 r.1, subst IsHeaderNumber (sym b.0) is.2),
+      is.3 ∙ λ i. macros_word h.allow_macros ++ space ∷ (decimal (sym s.0 i) ++ space ∷ (root_is i ++ space ∷ (decimal
+          (sym b.0 i) ++ line_feed ∷ parts i))),
+    )
+
+ask_header-only : (bytes : List ℕ) (h : AskHeader) (rest : List ℕ) → ask_header bytes ≡ Some (h, rest)
+    → bytes ≡ form_word h.form ++ space ∷ (case_word h.case ++ space ∷ (folder_word h.is_dir ++ space ∷ rest))
+ask_header-only bytes h rest e =
+    let form = then-some (choice_of forms bytes) _ _ e in
+    let case = then-some (choice_of cases form.0.1) _ _ form.2 in
+    let is_dir = map-some _ (choice_of folder_flags case.0.1) _ case.2 in
+    subst (λ (p : AskHeader × List ℕ). bytes ≡ form_word p.0.form ++ space ∷ (case_word p.0.case ++ space ∷
+    (folder_word p.0.is_dir ++ space ∷ p.1))) is_dir.2
+    (forms-only bytes form.0.0 form.0.1 form.1
+    ∙ ap (λ xs. form_word form.0.0 ++ space ∷ xs) (cases-only form.0.1 case.0.0 case.0.1 case.1
+    ∙ ap (λ xs. case_word case.0.0 ++ space ∷ xs) (folders-only case.0.1 is_dir.0.0 is_dir.0.1 is_dir.1)))
+
+question_of-only : (h : AskHeader) (bytes : List ℕ) (q : Question) (rest : List ℕ) → question_of h bytes ≡ Some (q, rest)
+    → (manner_of q ≡ h) × CanBeWritten (ask q) × (bytes ≡ decimal (length q.path) ++ line_feed ∷ (q.path ++ line_feed ∷ rest))
+unfolding manner_of
+question_of-only h bytes q rest e =
+    let count = then-some (number_before line_feed bytes) _ _ e in
+    let path = then-some (split_at count.0.0 count.0.1) _ _ count.2 in
+    let end = map-some _ (strip_prefix (codes "\n") path.0.1) _ path.2 in
+    let c = number_before-only line_feed bytes count.0.0 count.0.1 count.1 in
+    let p = split_at-only count.0.0 count.0.1 path.0.0 path.0.1 path.1 in
+    let n = strip_prefix-only (codes "\n") path.0.1 end.0 end.1 in
+    subst (λ (p : Question × List ℕ). (manner_of p.0 ≡ h) × CanBeWritten (ask p.0)
+    × (bytes ≡ decimal (length p.0.path) ++ line_feed ∷ (p.0.path ++ line_feed ∷ p.1))) end.2 (
+      refl,
+      subst IsHeaderNumber (sym p.0) c.0,
+      c.1 ∙ λ i. decimal (sym p.0 i) ++ line_feed ∷ (p.1 ∙ ap (λ xs. path.0.0 ++ xs) n) i,
+    )
+
+text_lines-only : (n : ℕ) (bytes : List ℕ) (lines : List (List ℕ)) (rest : List ℕ) → text_lines n bytes ≡ Some (lines, rest)
+    → (length lines ≡ n) × All IsNameLine lines × (bytes ≡ flat_map ended_line lines ++ rest)
+text_lines-only zero bytes lines rest e =
+    subst (λ (p : List (List ℕ) × List ℕ). (length p.0 ≡ 0) × All IsNameLine p.0 × (bytes ≡ flat_map ended_line p.0 ++ p.1))
+    (same_some ([], bytes) (lines, rest) e) (refl, (λ k d inside. absurd (omega (arith, inside))), refl)
+text_lines-only (suc n) bytes lines rest e =
+    let line = then-some (split_once line_feed bytes then if_text) _ _ e in
+    let others = map-some _ (text_lines n line.0.1) _ line.2 in
+    let cut = then-some (split_once line_feed bytes) if_text line.0 line.1 in
+    let text = if_text-only cut.0 line.0 cut.2 in
+    let l = split_once-only line_feed bytes line.0.0 line.0.1 (cut.1 ∙ ap Some text.0) in
+    let o = text_lines-only n line.0.1 others.0.0 others.0.1 others.1 in
+    subst (λ (p : List (List ℕ) × List ℕ). (length p.0 ≡ suc n) × All IsNameLine p.0 × (bytes ≡ flat_map ended_line p.0 ++ p.1)) others.2 (
+      omega (arith, o.0),
+      all_with IsNameLine line.0.0 others.0.0 (text.1, l.0) o.1,
+      l.1 ∙ (ap (λ xs. line.0.0 ++ line_feed ∷ xs) o.2 ∙ sym (lines-onto line.0.0 others.0.0 others.0.1)),
+    )
+
+-- a record with this text was read
+ReadAs : List ℕ → Option (Record × List ℕ) → Type 0
+ReadAs bytes read = (r : Record) (rest : List ℕ) → read ≡ Some (r, rest) → CanBeWritten r × (bytes ≡ text_with r rest)
+
+add_record-only : (bytes after : List ℕ) → bytes ≡ codes "add " ++ after → ReadAs bytes (add_record after)
+unfolding ReadAs text_with onto IsAddHeader addition_words
+add_record-only bytes after whole r rest e =
+    let h = then-some (add_header after) _ (r, rest) e in
+    let a = map-some _ (addition_of h.0.0 h.0.1) (r, rest) h.2 in
+    let is = addition_of-only h.0.0 after h.0.1 a.0.0 a.0.1 (add_header-only after h.0.0 h.0.1 h.1) a.1 in
+    subst (λ (p : Record × List ℕ). CanBeWritten p.0 × (bytes ≡ text_with p.0 p.1)) a.2
+    (is.0, whole ∙ ap (λ xs. codes "add " ++ xs) is.1)
+
+names_record-only : (bytes after : List ℕ) → bytes ≡ codes "names " ++ after → ReadAs bytes (names_record after)
+unfolding ReadAs text_with onto
+names_record-only bytes after whole r rest e =
+    let count = then-some (number_before line_feed after) _ (r, rest) e in
+    let lines = map-some _ (text_lines count.0.0 count.0.1) (r, rest) count.2 in
+    let c = number_before-only line_feed after count.0.0 count.0.1 count.1 in
+    let l = text_lines-only count.0.0 count.0.1 lines.0.0 lines.0.1 lines.1 in
+    subst (λ (p : Record × List ℕ). CanBeWritten p.0 × (bytes ≡ text_with p.0 p.1)) lines.2 (
+      (subst IsHeaderNumber (sym l.0) c.0, l.1),
+      whole ∙ ap (λ xs. codes "names " ++ xs) (c.1 ∙ λ i. decimal (sym l.0 i) ++ line_feed ∷ l.2 i),
+    )
+
+ask_record-only : (bytes after : List ℕ) → bytes ≡ codes "ask " ++ after → ReadAs bytes (ask_record after)
+unfolding ReadAs text_with onto question_words manner_of
+ask_record-only bytes after whole r rest e =
+    let h = then-some (ask_header after) _ (r, rest) e in
+    let q = map-some _ (question_of h.0.0 h.0.1) (r, rest) h.2 in
+    let is = question_of-only h.0.0 h.0.1 q.0.0 q.0.1 q.1 in
+    let words : AskHeader → List ℕ → List ℕ = λ m xs. form_word m.form ++ space ∷ (case_word m.case ++ space ∷
+    (folder_word m.is_dir ++ space ∷ xs)) in
+    subst (λ (p : Record × List ℕ). CanBeWritten p.0 × (bytes ≡ text_with p.0 p.1)) q.2
+    (is.1, whole ∙ ap (λ xs. codes "ask " ++ xs) (ask_header-only after h.0.0 h.0.1 h.1 ∙ λ i. words (sym is.0 i) (is.2 i)))
+
+pop-only : (bytes after : List ℕ) → bytes ≡ codes "pop\n" ++ after → ReadAs bytes (Some (pop, after))
+unfolding ReadAs text_with onto
+pop-only bytes after whole r rest e =
+    subst (λ (p : Record × List ℕ). CanBeWritten p.0 × (bytes ≡ text_with p.0 p.1)) (same_some (pop, after) (r, rest) e) (tt, whole)
+
+none-only : (bytes : List ℕ) → ReadAs bytes None
+unfolding ReadAs
+none-only bytes r rest e = absurd cc
+
+-- what follows the word of a kind of record
+kind-only : (bytes word : List ℕ) (after : List ℕ → Option (Record × List ℕ)) (others : Option (Record × List ℕ))
+    → ((left : List ℕ) → bytes ≡ word ++ left → ReadAs bytes (after left)) → ReadAs bytes others
+    → ReadAs bytes (if starts_with nat_eq bytes word then after (drop (length word) bytes) else others)
+unfolding ReadAs
+kind-only bytes word after others front back r rest e =
+    elim (if-cases (starts_with nat_eq bytes word) _ _ _ e) [
+      | inl here ↦ front (drop (length word) bytes) (starts_with-only bytes word here.0) r rest here.1
+      | inr other ↦ back r rest other
+    ]
+
+record_of-only : (bytes : List ℕ) → ReadAs bytes (record_of bytes)
+record_of-only bytes =
+    kind-only bytes (codes "add ") add_record _ (add_record-only bytes)
+    (kind-only bytes (codes "pop\n") (λ left. Some (pop, left)) _ (pop-only bytes)
+    (kind-only bytes (codes "names ") names_record _ (names_record-only bytes)
+    (kind-only bytes (codes "ask ") ask_record None (ask_record-only bytes) (none-only bytes))))
+
+pub record_of-begins : (script : List ℕ) (r : Record) (rest : List ℕ) → record_of script ≡ Some (r, rest) → BeginsWithRecord script r rest
+unfolding ReadAs
+record_of-begins script r rest e =
+    let is = record_of-only script r rest e in
+    (is.0, is.1 ∙ sym (spelled-text_with r rest))
+
+pub record_of-malformed : (script : List ℕ) → record_of script ≡ None → IsMalformed script
+record_of-malformed script e r rest begins = true≢false (sym (ap is_some (record_of-spelled script r rest begins)) ∙ ap is_some e)
+
+-- ---- what follows for scripts
+
+pub one_record : (script : List ℕ) (r s : Record) (rest others : List ℕ) → BeginsWithRecord script r rest → BeginsWithRecord script s others
+    → (s ≡ r) × (others ≡ rest)
+one_record script r s rest others begins begins_also =
+    let same : (s, others) ≡ (r, rest) = same_some (s, others) (r, rest) (sym (record_of-spelled script s others begins_also)
+    ∙ record_of-spelled script r rest begins) in
+    (ap (λ (p : Record × List ℕ). p.0) same, ap (λ (p : Record × List ℕ). p.1) same)
+
+pub spelled_some : (r : Record) → 0 < length (spelled r)
+spelled_some (add a) = zero-lt-suc _
+spelled_some pop = zero-lt-suc _
+spelled_some (names lines) = zero-lt-suc _
+spelled_some (ask q) = zero-lt-suc _
+
+pub shorter : (script : List ℕ) (r : Record) (rest : List ℕ) → BeginsWithRecord script r rest → length rest < length script
+shorter script r rest begins = omega (arith, spelled_some r, ap length begins.1, length-append (spelled r) rest)
+
+-- ---- what the reading functions promise
+
+pub first_record : (script : List ℕ) (read : Option (Record × List ℕ)) → read ≡ record_of script → IsFirstRecord script read
+first_record script None e = record_of-malformed script (sym e)
+first_record script (Some read) e = record_of-begins script read.0 read.1 (sym e)
+
+pub number_spelled : (stop : ℕ) (bytes : List ℕ) (read : Option (ℕ × List ℕ)) → read ≡ number_before stop bytes → is_ascii_digit stop ≡ false
+    → IsNumberBefore stop bytes read
+number_spelled stop bytes None e other =
+    λ n rest short is. true≢false (sym (ap is_some (ap (number_before stop) is ∙ number_before-back stop n rest other short))
+    ∙ ap is_some (sym e))
+number_spelled stop bytes (Some read) e other = number_before-only stop bytes read.0 read.1 (sym e)
+
+if-then : {X : Type 0} (b : Bool) (x y : X) → b ≡ true → (if b then x else y) ≡ x
+if-then true x y e = refl
+if-then false x y e = absurd cc
+
+if-else : {X : Type 0} (b : Bool) (x y : X) → b ≡ false → (if b then x else y) ≡ y
+if-else true x y e = absurd cc
+if-else false x y e = refl
+
+number_in : List ℕ × List ℕ → Option (ℕ × List ℕ)
+number_in word = if is_number word.0 then Some (digits_value word.0, word.1) else None
+
+pub no_number : (stop : ℕ) (bytes word rest : List ℕ) → Some (word, rest) ≡ split_once stop bytes → is_number word ≡ false
+    → None ≡ number_before stop bytes
+unfolding number_in
+no_number stop bytes word rest cut other =
+    sym (ap (λ o. o then number_in) (sym cut) ∙ if-else (is_number word) (Some (digits_value word, rest)) None other)
+
+pub some_number : (stop : ℕ) (bytes word rest : List ℕ) → Some (word, rest) ≡ split_once stop bytes → is_number word ≡ true
+    → Some (digits_value word, rest) ≡ number_before stop bytes
+unfolding number_in
+some_number stop bytes word rest cut is =
+    sym (ap (λ o. o then number_in) (sym cut) ∙ if-then (is_number word) (Some (digits_value word, rest)) None is)
+
+pub reads_add : (bytes : List ℕ) (read : Option (Record × List ℕ)) → starts_with nat_eq bytes (codes "add ") ≡ true
+    → read ≡ add_record (drop 4 bytes)
+    → IsFirstRecord bytes read
+reads_add bytes read add_is e = first_record bytes read (e ∙ sym (if-then (starts_with nat_eq bytes (codes "add ")) _ _ add_is))
+
+pub reads_names : (bytes : List ℕ) (read : Option (Record × List ℕ)) → starts_with nat_eq bytes (codes "add ") ≡ false
+    → starts_with nat_eq bytes (codes "pop\n") ≡ false → starts_with nat_eq bytes (codes "names ") ≡ true → read ≡ names_record (drop 6 bytes)
+    → IsFirstRecord bytes read
+reads_names bytes read add_is pop_is names_is e =
+    first_record bytes read (e ∙ sym (if-else (starts_with nat_eq bytes (codes "add ")) _ _ add_is
+    ∙ (if-else (starts_with nat_eq bytes (codes "pop\n")) _ _ pop_is ∙ if-then (starts_with nat_eq bytes (codes "names ")) _ _ names_is)))
+
+pub reads_ask : (bytes : List ℕ) (read : Option (Record × List ℕ)) → starts_with nat_eq bytes (codes "add ") ≡ false
+    → starts_with nat_eq bytes (codes "pop\n") ≡ false → starts_with nat_eq bytes (codes "names ") ≡ false
+    → starts_with nat_eq bytes (codes "ask ") ≡ true → read ≡ ask_record (drop 4 bytes) → IsFirstRecord bytes read
+reads_ask bytes read add_is pop_is names_is ask_is e =
+    first_record bytes read (e ∙ sym (if-else (starts_with nat_eq bytes (codes "add ")) _ _ add_is
+    ∙ (if-else (starts_with nat_eq bytes (codes "pop\n")) _ _ pop_is ∙ (if-else (starts_with nat_eq bytes (codes "names ")) _ _ names_is
+    ∙ if-then (starts_with nat_eq bytes (codes "ask ")) _ _ ask_is))))
+
+pub if_ok : {X E : Type 0} (r : Result X E) (P Q : X → Type 0) → ((x : X) → P x → Q x) → IfOk r P → IfOk r Q
+if_ok (Ok x) P Q next p = next x p
+if_ok (Err e) P Q next p = tt

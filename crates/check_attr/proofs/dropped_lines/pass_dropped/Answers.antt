@@ -1,0 +1,37 @@
+use Rattle.std.proofs.Common.{rules, Ok, arith}
+use Rattle.std.specs.Prelude.{⊤}
+use Rattle.check_attr.specs.ScriptText.{dropped_text}
+use Rattle.check_attr.proofs.PieceLemmas.{all_passed, holds_all, item_left, none_left, passes_refused, passes_then, pushed, stops_as, stops_of, stops_then}
+use Rattle.check_attr.proofs.dropped_lines.pass_dropped.Goals as goal
+
+pub loop-line-init : goal.loop-line-init
+loop-line-init g c = holds_all g.W.Push.contents g.W.Push.failed g.W.Push.stalled _ _
+
+pub loop-line-preserved : goal.loop-line-preserved
+loop-line-preserved g c =
+    passes_then g.W.Push.contents g.W.Push.failed g.W.Push.stalled _ _ _ _ _ _ _ (Ok c.in_ok-write_full.field-0)
+    (pushed g.W.Push.contents g.W.Push.failed g.W.Push.stalled (dropped_text c.args.source.now) _ _ _ _ _ _ _ _ c.loop-line.invariant
+    (item_left c.args.dropped.now c.loop-line.line-index _ c.loop-line-test.true (search rules))
+    c.in_ok-push_line.ensures)
+    c.in_ok-write_full.ensures
+
+pub returns-in_err-push_line : goal.returns-in_err-push_line
+returns-in_err-push_line g c =
+    passes_refused g.W.Push.contents g.W.Push.failed g.W.Push.stalled _ _ _ _ _ c.from_residual.result c.from_residual.ensures.1
+    c.loop-line.invariant
+
+pub returns-in_err-write_full : goal.returns-in_err-write_full
+returns-in_err-write_full g c =
+    stops_as g.W.Push.contents g.W.Push.failed g.W.Push.stalled _ _ _ _ _ c.from_residual-in_err-write_full.result
+    c.from_residual-in_err-write_full.ensures.1
+    (stops_then g.W.Push.contents g.W.Push.failed g.W.Push.stalled _ _ _ _ _ _ c.in_err-write_full.field-0.0
+    (pushed g.W.Push.contents g.W.Push.failed g.W.Push.stalled (dropped_text c.args.source.now) _ _ _ _ _ _ _ _ c.loop-line.invariant
+    (item_left c.args.dropped.now c.loop-line.line-index _ c.loop-line-test.true (search rules))
+    c.in_ok-push_line.ensures)
+    (stops_of g.W.Push.contents g.W.Push.failed g.W.Push.stalled ⊤ _ _ c.write_full.new.held.items _ c.in_err-write_full.field-0.0
+    c.in_err-write_full.ensures))
+
+pub returns : goal.returns
+returns g c =
+    all_passed g.W.Push.contents g.W.Push.failed g.W.Push.stalled (dropped_text c.args.source.now) _ _ _ _ _ c.loop-line.invariant
+    (none_left c.args.dropped.now c.loop-line.line-index (omega arith))

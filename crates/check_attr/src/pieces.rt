@@ -1,0 +1,26 @@
+//! Text that is written in pieces: it is held until a piece is full.
+
+ghost use Rattle.check_attr.specs.inner.Pieces.{Passes};
+
+use crate::fault::Fault;
+use crate::writing::{Push, write_bytes};
+
+// So many bytes are held before they are written.
+const PIECE: usize = 1 << 16;
+
+/// Writes what is held if it fills a piece, and else leaves it.
+///
+/// # Errors
+///
+/// `Write` if a write failed or took no byte.
+pub fn write_full<W: Push>(writer: &mut W, held: &mut Vec<u8>) -> Result<(), Fault>
+    ensures { Passes W.contents W.failed W.stalled writer.old writer.new
+        held.new.items held.old.items result }
+{
+    if held.len() < PIECE {
+        return Ok(());
+    }
+    write_bytes(writer, held)?;
+    held.clear();
+    Ok(())
+}
