@@ -1,5 +1,5 @@
 #!/bin/sh
-# Asks the program and `git check-attr` for all attributes of every path of some repositories, and compares the answers.
+# Looks up all attributes of every path of some repositories with the program and with `git check-attr`, and compares the answers.
 # The program has to be built before, by `rt ci` or by `rt run` in crates/check_attr_cli.
 # usage: against_git.sh [REPOSITORY..], a repository that made_repository.sh makes without any
 set -eu
@@ -40,7 +40,7 @@ for repository in "$@"; do
     git check-attr -z --stdin --all <"$room/names" 2>"$room/warnings" >"$room/asked" || differ "$(cat "$room/warnings")"
     rows <"$room/asked" >"$room/git"
     tr '\0' '\n' <"$room/names" >"$room/paths"
-    # The lines that the attributes files leave out stand before the answers. They are all that the additions write.
+    # The lines that are left out of attributes files come before the answers. They are all that the additions write.
     "$top/examples/script.sh" z </dev/null | "$program" >"$room/left_out"
     "$top/examples/script.sh" z <"$room/paths" | "$program" >"$room/written"
     cmp -s -n "$(wc -c <"$room/left_out")" "$room/left_out" "$room/written" || differ "the lines that are left out differ"

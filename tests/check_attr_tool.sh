@@ -1,6 +1,7 @@
 #!/bin/sh
 # Compares tools/check-attr with `git check-attr` in repositories that it makes: what is printed, byte by byte, and the
-# status. The program has to be built before, by `rt ci` or by `rt run` in crates/check_attr_cli. It takes some seconds.
+# status. The program has to be built before, by `rt ci` or by `rt run` in crates/check_attr_cli. It takes a minute at most, if the
+# machine has nothing else to do.
 set -eu
 top=$(cd "$(dirname "$0")/.." && pwd)
 tool=$top/tools/check-attr
@@ -238,7 +239,12 @@ printf '* s=%s\n* u\000 v\n\000* w\n* x\n' "$(head -c 2045 /dev/zero | tr '\0' a
 printf '* long=%s\n\n  * s=%s\r\n* t\n' "$(head -c 2045 /dev/zero | tr '\0' a)" "$(head -c 2040 /dev/zero | tr '\0' a)" >sub/.gitattributes
 printf '\357\273\277* mark\r\n  \r\n# no\r\n\t* text\r\n' >sub/deep/.gitattributes
 each_form "$room/paths"
-grep -q '^warning: sub/.gitattributes:1 is left out: it has 2,048 bytes or more$' "$room/errors" || failed 'a long line is not told'
+grep -q '^warning: sub/.gitattributes:1 is left out: it has 2,048 bytes or more$' "$room/errors" || failed 'a long line is not reported'
+mkdir large
+printf '* a\n' >large/.gitattributes
+truncate -s 100000000 large/.gitattributes
+refused 128 'has 100,000,000 bytes or more' -a large/f
+rm -r large
 # The system's file is one of a folder /etc of our own, if the machine lets us have it.
 cat >"$room/with_etc" <<'END'
 mount -t tmpfs none /etc && cp "$1" /etc/gitattributes && shift && exec "$@"
@@ -387,7 +393,7 @@ END
 ours --show-origin text eol diff -- a.c sub/b.c x.z "sub/q\"t${tab}1"
 diff "$room/wanted" "$room/ours" || failed '--show-origin says something else'
 cat >"$room/wanted" <<'END'
-warning: sub/.gitattributes:2 is left out: macros may stand at the top only
+warning: sub/.gitattributes:2 is left out: macros are allowed at the top only
 warning: .gitattributes:3 is left out: its pattern is negative
 warning: .gitattributes:5 is left out: an attribute has a bad name
 warning: .gitattributes:6 is left out: its macro has a bad name

@@ -1,6 +1,6 @@
 #!/usr/bin/env python3
-# Looks whether every wrong body still applies: each `old:` text of the edits in crates/*/must-fail and
-# crates/*/wrong-bodies stands exactly once in its file (that of a later pair in what the earlier ones made), and no
+# Checks that every wrong body still applies: each `old:` text of the edits in crates/*/must-fail and
+# crates/*/wrong-bodies occurs exactly once in its file (that of a later pair in what the earlier ones made), and no
 # `new:` text is its `old:` text. It takes a second and proves nothing: `rt ci` and tests/wrong_bodies.sh do.
 import glob
 import os
@@ -20,11 +20,11 @@ def faults(path):
             text = open(target, encoding='utf-8').read()
         elif line.startswith('old:'):
             old = line[len('old: '):]
-            # The blanks around a text count only if the text without them stands more than once.
+            # The blanks around a text count only if the text without them occurs more than once.
             if text.count(old) != 1 and text.count(old.strip()) == 1:
                 old = old.strip()
             if text.count(old) != 1:
-                yield 'this text stands %d times in %s: %s' % (text.count(old), target, old.strip())
+                yield 'this text occurs %d times in %s: %s' % (text.count(old), target, old.strip())
         elif line.startswith('new:'):
             new = line[len('new: '):]
             if new.strip() == old.strip():

@@ -1,8 +1,8 @@
 #!/bin/sh
-# Shows that the compiler refuses to change an outcome while a match of it is held. Functions that do so are put into a
+# Checks that the compiler refuses to change an outcome while a match of it is borrowed. Functions that do so are put into a
 # copy of the crate, for a match of `iter`, of `iter_selected` and of `match_by_id`, and for each of three calls that
-# change the outcome. Beside each stands one that makes the same call after the match is used up. The borrow checker must
-# refuse the call in each of the first nine, and nothing in the other nine. It takes some 40 seconds.
+# change the outcome. Beside each there is one that makes the same call after the last use of the match. The borrow checker
+# must refuse the call in each of the first nine, and nothing in the other nine. It takes some 40 seconds.
 set -eu
 top=$(cd "$(dirname "$0")/.." && pwd)
 room=$(mktemp -d)

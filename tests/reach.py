@@ -33,7 +33,7 @@ import sys
 
 TOP = os.path.join(os.path.dirname(os.path.abspath(__file__)), "..")
 PUBLIC_CRATES = ["attr_glob", "attr_text", "gix_attributes", "check_attr"]
-TEST_CRATES = ["attr_vectors", "glob_tests", "list_tests", "search_tests", "small_settings"]
+TEST_CRATES = ["attr_vectors", "glob_tests", "list_tests", "script_rows", "search_tests", "small_settings", "worktree"]
 READING = "docs/READING.md"
 
 # A name in a clause or a definition.
