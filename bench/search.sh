@@ -1,7 +1,7 @@
 #!/bin/sh
-# Measures searches beside git on the same files and paths: proves and builds the program of search_speed.rt.in in a folder of
-# its own, and prints processor times, and the memory that a search asks for once the first thousand paths are answered. It
-# is run by hand, and is no part of the gate. It takes minutes where the crates were not proved before.
+# Measures searches alone: proves and builds the program of search_speed.rt.in in a folder of its own, and prints processor times,
+# and the memory that a search asks for once the first thousand paths are answered. It is run by hand, and is no part of the gate.
+# It takes minutes where the crates were not proved before.
 set -eu
 here=$(cd "$(dirname "$0")" && pwd)
 room=$(mktemp -d)
@@ -12,7 +12,6 @@ mkdir -p "$room/crates/search_speed/src" "$room/crates/search_speed/proofs/answe
 cp "$here/search_speed.rt.in" "$room/crates/search_speed/src/main.rt"
 cp "$here/search_speed_invariants.antt.in" "$room/crates/search_speed/proofs/answers/Invariants.antt"
 cd "$room/work"
-git init -q .
 "$here/files.sh"
 cd "$room/crates/search_speed"
 rt run -- "$room/work/typical" "$room/work/paths" >/dev/null
@@ -32,10 +31,8 @@ head -n 11000 paths >more
     head -c "$(($(wc -c <more) - $(wc -c <first)))" /dev/zero | tr '\0' '\n'
 } >padded
 for kind in typical names-10 names-100 names-1000 names-10000 ends-10 ends-100 ends-1000 ends-10000 globs-10 globs-100 globs-1000 globs-10000; do
-    cp "$kind" .gitattributes
     echo "$kind: $(wc -l <"$kind") lines"
     "$program" "$kind" paths
-    (time -p git check-attr --stdin --all <paths >/dev/null) 2>&1 | awk '/user|sys/ { t += $2 } END { printf "git: %d ms\n", t * 1000 }'
     if command -v valgrind >/dev/null; then
         echo "bytes for ten thousand further paths: $(($(asked "$kind" more) - $(asked "$kind" padded)))"
     fi

@@ -1,0 +1,512 @@
+#!/usr/bin/env python3
+"""Measures inputs that were made to hold the program, or to take its memory, at n, 2n and 4n.
+
+usage: hostile.py [PROGRAM] [--only WORD,..] [--markdown] [--readme] [--scale F] [--limit SECONDS] [--memory MB]
+
+PROGRAM is crates/check_attr_cli/out/check_attr_cli if none is given. 4n is some 2 MB of input, or what --scale makes of it. A run
+is ended after the limit of processor time (10 s), and may take no more memory than 4,096 MB. If n alone takes more, the row is
+measured at n/8, n/4 and n/2 (the mark says n/8), or at an eighth of these. Columns:
+
+  input, output  the kilobytes of both at the greatest size that ended
+  seconds        processor time at n, 2n and 4n, less that of an empty script; the least of three runs where they are short
+  power          of the bytes of input and output, with which the time grows: 1 is linear, 2 quadratic
+  memory         the most that the greatest run held, and its bytes for each byte of input
+
+A row is marked with ! if it takes more than half a second for 2 MB of input and output, or if the power is above 1.4 and the
+time above 50 ms; status 1 says that some row is marked.
+"""
+import argparse
+import functools
+import math
+import random
+import string
+import sys
+import tempfile
+from pathlib import Path
+
+import measure
+from measure import Command, OverLimit
+
+HEAD = ("case", "what", "input, KB", "output", "n: seconds", "2n", "4n", "power", "memory, KB", "a byte", "")
+WIDTHS = (-24, -72, 11, 9, 12, 10, 10, 7, 12, 8, 7)
+CASES = {}
+
+
+class Case:
+    def __init__(self, make, size, arguments):
+        self.make, self.size, self.arguments = make, size, arguments
+        self.name = make.__name__.replace("_", "-")
+        self.what = make.__doc__.strip()
+
+
+def case(size, arguments=()):
+    """A function that makes the input of this size n."""
+
+    def note(make):
+        CASES[make.__name__.replace("_", "-")] = Case(make, size, arguments)
+        return make
+
+    return note
+
+
+# Records of a script, and files of lines.
+
+def add(text, source="x", macros=True, root=""):
+    return b"add %s %d %d %d\n%s%s%s\n" % (
+        b"m" if macros else b"-", len(source), len(root), len(text), source.encode(), root.encode(), text)
+
+
+def select(names):
+    return b"names %d\n%s" % (len(names), "".join(name + "\n" for name in names).encode())
+
+
+def ask(path, form="l", case="s"):
+    return b"ask %s %s f %d\n%s\n" % (form.encode(), case.encode(), len(path), path.encode())
+
+
+def lines(count, form):
+    """A file of lines; a # stands for the number of the line."""
+    return "".join(form.replace("#", str(place)) + "\n" for place in range(count)).encode()
+
+
+def words(count, form="a#"):
+    return " ".join(form.replace("#", str(place)) for place in range(count))
+
+
+POP = b"pop\n"
+
+
+# What is only read.
+
+@case(2 ** 18)
+def bracket_classes(n):
+    """a pattern of `[` and n times `[:`"""
+    return add(b"[" + b"[:" * n + b" a\n")
+
+
+@case(2 ** 18)
+def bracket_classes_closed(n):
+    """a pattern of `[`, n times `[:`, and `x]`"""
+    return add(b"[" + b"[:" * n + b"x] a\n")
+
+
+@case(2 ** 19)
+def brackets(n):
+    """a pattern of n times `[`"""
+    return add(b"[" * n + b" a\n")
+
+
+@case(2 ** 18)
+def stars(n):
+    """a pattern of n times `*a`"""
+    return add(b"*a" * n + b" a\n")
+
+
+@case(2 ** 17)
+def folder_stars(n):
+    """a pattern of n times `**/`"""
+    return add(b"**/" * n + b"a a\n")
+
+
+@case(2 ** 18)
+def quote(n):
+    """a quoted pattern of n escapes"""
+    return add(b'"' + b'\\"' * n + b'" a\n')
+
+
+@case(2 ** 18)
+def open_quote(n):
+    """a quoted pattern of n escapes without its last quote"""
+    return add(b'"' + b'\\"' * n + b" a\n")
+
+
+@case(2 ** 14)
+def broken_quotes(n):
+    """n lines of a quote that isn't closed"""
+    return add(lines(n, '"' + "a" * 25 + " a"))
+
+
+MULTIPLIER, SEED, LOW = 0x9E37_79B9_7F4A_7C15, 0x243F_6A88_85A3_08D3, 2 ** 64 - 1
+LETTERS = string.ascii_letters + string.digits
+
+
+@functools.lru_cache(None)
+def cancelling():
+    """16 letters, and 8 that are what a hasher that multiplies blocks of 16 bytes is at after them.
+
+    The block that begins with the 8 makes a factor 0, so that the hasher is at 0 after it, whatever its other 8 bytes are.
+    """
+    chance = random.Random("cancelling")
+    while True:
+        block = "".join(chance.choices(LETTERS, k=16)).encode()
+        low, high = (int.from_bytes(block[at:at + 8], "little") for at in (0, 8))
+        product = (low ^ SEED + 48) * (high ^ MULTIPLIER)
+        state = (product & LOW ^ product >> 64).to_bytes(8, "little")
+        if all(chr(byte) in LETTERS for byte in state):
+            return (block + state).decode()
+
+
+@case(10_500)
+def colliding_names(n):
+    """a line of n names of 48 bytes, made to have one hash"""
+    front = cancelling()
+    return add(b"* " + " ".join("%s%08d%s" % (front, place, "A" * 16) for place in range(n)).encode() + b"\n")
+
+
+@case(10_500)
+def long_names(n):
+    """a line of n other names of 48 bytes"""
+    return add(b"* " + " ".join("%024d%08d%s" % (place * 7, place, "A" * 16) for place in range(n)).encode() + b"\n")
+
+
+@case(9_500)
+def like_values(n):
+    """n values of 48 bytes that end and begin alike, and one path"""
+    front = cancelling()
+    values = " ".join("a%d=%s%08d%s" % (place, front, place, "A" * 16) for place in range(n))
+    return add(b"* " + values.encode() + b"\n") + ask("b")
+
+
+@case(2 ** 15, ["--lines"])
+def lines_told(n):
+    """n lines for `--lines`"""
+    return lines(n, "*.c text a#")
+
+
+# Lists that come and go.
+
+@case(30_000)
+def macros_twice(n):
+    """two lists of n lines `[attr]m`, one pop"""
+    return 2 * add(b"[attr]m\n" * n) + POP
+
+
+@case(20_000)
+def macro_lists(n):
+    """n lists of `[attr]m`, n pops"""
+    return add(b"[attr]m\n") * n + POP * n
+
+
+@case(13_000)
+def macro_lists_again(n):
+    """n lists of `[attr]m`, then n times one more and a pop"""
+    return add(b"[attr]m\n") * n + (add(b"[attr]m\n") + POP) * n
+
+
+@case(27_000)
+def lists(n):
+    """n lists of `* a`"""
+    return add(b"* a\n") * n
+
+
+@case(23_000)
+def lists_popped(n):
+    """n lists of `* a`, n pops"""
+    return add(b"* a\n") * n + POP * n
+
+
+@case(27_000)
+def lists_asked(n):
+    """n lists of `* a`, and one path"""
+    return add(b"* a\n") * n + ask("b")
+
+
+@case(13_000)
+def new_names(n):
+    """n times: a list with a new name, its pop, a path"""
+    return b"".join(add(b"x a%d\n" % place) + POP + ask("b") for place in range(n))
+
+
+@case(14_000)
+def known_names(n):
+    """n names known, then n times: an empty list, its pop, a path"""
+    return add(b"x " + words(n).encode() + b"\n") + (add(b"") + POP + ask("b")) * n
+
+
+@case(22_000)
+def known_names_asked(n):
+    """n names known, then n paths that no line matches"""
+    return add(b"x " + words(n).encode() + b"\n") + ask("b") * n
+
+
+@case(18_000)
+def selections(n):
+    """n names known, then n times: a selection of one, a path"""
+    return add(b"x " + words(n).encode() + b"\n") + b"".join(select(["a%d" % place]) + ask("b") for place in range(n))
+
+
+@case(8_000)
+def folders(n):
+    """n lists of n folders, and a path in each"""
+    return b"".join(add(b"* a\n", f"f{place}/x") for place in range(n)) + b"".join(
+        ask(f"f{place}/b") for place in range(n))
+
+
+@case(8_000)
+def folders_folded(n):
+    """the same, asked without regard to case"""
+    return b"".join(add(b"* a\n", f"f{place}/x") for place in range(n)) + b"".join(
+        ask(f"F{place}/b", case="i") for place in range(n))
+
+
+@case(2 ** 18)
+def deep_path(n):
+    """ten paths of n folders together, three lists above them"""
+    path = "a/" * (n // 10) + "b"
+    return add(b"*.c a\n") + add(b"b a\n", "a/x") + add(b"a/b a\n", "a/a/a/x") + ask(path) * 10
+
+
+@case(2 ** 18)
+def deep_lists(n):
+    """lists of folders in folders, n bytes together, and a path below all"""
+    deep = math.isqrt(n)
+    return b"".join(add(b"* a\n", "a/" * place + "x") for place in range(deep)) + ask("a/" * deep + "b")
+
+
+# What is asked.
+
+@case(30_000)
+def causes(n):
+    """n answers that the last of n names causes, in the form o"""
+    names = words(n).encode()
+    return add(b"x " + names + b"\n[attr]z " + names + b"\n* z\n") + ask("b", "o")
+
+
+@case(30_000)
+def causes_in_a_chain(n):
+    """a chain of n macros, in the form o"""
+    return add("".join(f"[attr]a{place} a{place + 1}\n" for place in range(n)).encode() + b"* a0\n") + ask("b", "o")
+
+
+@case(30_000)
+def ring(n):
+    """a ring of n macros"""
+    return add("".join(f"[attr]a{place} a{(place + 1) % n}\n" for place in range(n)).encode() + b"* a0\n") + ask("b")
+
+
+@case(2 ** 17)
+def lengths_of_ends(n):
+    """2 sqrt(n) ends of as many lengths, n lines `? a`, and one path"""
+    longest = 2 * math.isqrt(n)
+    text = "".join("*" + "a" * place + " a\n" for place in range(1, longest)) + "? a\n" * n
+    return add(text.encode()) + ask("a" * longest)
+
+
+@case(2 ** 18)
+def ends_passed(n):
+    """ends `*a`, `*aa`, .. of n bytes, and paths `za` of as many"""
+    text = "".join("*" + "a" * place + " a\n" for place in range(1, math.isqrt(2 * n)))
+    return add(text.encode()) + ask("za") * (n // 16)
+
+
+@case(2 ** 18)
+def fronts_passed(n):
+    """fronts `a*`, `aa*`, .. of n bytes, and paths `az` of as many"""
+    text = "".join("a" * place + "* a\n" for place in range(1, math.isqrt(2 * n)))
+    return add(text.encode()) + ask("az") * (n // 16)
+
+
+@case(2 ** 18)
+def fronts_of_paths_passed(n):
+    """fronts `a/*`, `a/a/*`, .. of n bytes, and paths `a/z/b` of as many"""
+    text = "".join("a/" * place + "* a\n" for place in range(1, math.isqrt(n)))
+    return add(text.encode()) + ask("a/z/b") * (n // 20)
+
+
+@case(4_500)
+def long_paths(n):
+    """n whole paths of 60 bytes that differ at their ends, and as many asked"""
+    form = "assets/" * 7 + "%07d.bin"
+    text = "".join(form % place + " a\n" for place in range(n))
+    return add(text.encode()) + b"".join(ask(form % (2 * place)) for place in range(n))
+
+
+@case(7_000)
+def capitals(n):
+    """n names that differ in case alone, and as many asked with regard to it"""
+
+    def name(place):
+        return "".join(chr(65 + at | (place >> at & 1) << 5) for at in range(20))
+
+    return add("".join(name(place) + " a\n" for place in range(n)).encode()) + b"".join(
+        ask(name(place)) for place in range(n))
+
+
+@case(40_000)
+def one_end(n):
+    """n lines `*.c` that set different names, and one path"""
+    return add(lines(n, "*.c a#")) + ask("b.c")
+
+
+@case(2 ** 18)
+def long_base_name(n):
+    """1,000 lines of ends, and ten paths of n bytes together"""
+    return add(b"".join(b"*%s%d a\n" % (b"a" * (place % 100), place) for place in range(1000))) + ask("a" * (n // 10)) * 10
+
+
+@case(2 ** 19)
+def long_value(n):
+    """a value of n bytes that decides and isn't shown, and 2,000 paths"""
+    return add(b"* a=" + b"v" * n + b"\n") + select(["b"]) + ask("c") * 2000
+
+
+@case(2 ** 19)
+def long_pattern(n):
+    """a pattern of n bytes that decides and isn't shown, and 2,000 paths"""
+    return add(b"[" + b"ab" * (n // 2) + b"c] a\n") + select(["b"]) + ask("c") * 2000
+
+
+# What is written.
+
+@case(1_250)
+def answers(n):
+    """n names selected, and n / 5 paths"""
+    return select([f"a{place}" for place in range(n)]) + ask("some/path/of/a/file") * (n // 5)
+
+
+@case(1_250)
+def answers_of_one(n):
+    """n names selected, and a path of 8 n bytes"""
+    return select([f"a{place}" for place in range(n)]) + ask("a" * (8 * n))
+
+
+@case(1_250)
+def dropped(n):
+    """n lines that are left out, of a source of 8 n bytes"""
+    return add(b"!b a\n" * n, "x" * (8 * n))
+
+
+# What is kept.
+
+@case(2 ** 17)
+def short_lines(n):
+    """n lines `*`"""
+    return add(b"*\n" * n)
+
+
+@case(2 ** 17)
+def lines_of_one_name(n):
+    """n lines `* a`"""
+    return add(b"* a\n" * n)
+
+
+@case(2 ** 15)
+def lines_of_16_bytes(n):
+    """n lines `*.e0000000 text`"""
+    return add(b"".join(b"*.e%07d text\n" % place for place in range(n)))
+
+
+@case(2 ** 14)
+def lines_of_a_path(n):
+    """n lines of a path of 26 bytes and `text`"""
+    return add(b"".join(b"assets/level/t%07d.psd text\n" % place for place in range(n)))
+
+
+@case(80_000)
+def names_of_a_line(n):
+    """a line of n names"""
+    return add(b"* " + words(n).encode() + b"\n")
+
+
+@case(80_000)
+def body(n):
+    """a macro of n items"""
+    return add(b"[attr]m " + words(n).encode() + b"\n")
+
+
+class Bench:
+    def __init__(self, program, room, options):
+        self.program, self.room, self.limit, self.memory = program, Path(room), options.limit, options.memory * 2 ** 20
+        self.start = 0
+        self.start = min(self.run(b"", [])[2] for _ in range(5))
+
+    def run(self, text, arguments):
+        """The bytes that were written, the peak memory in KB, and the processor time."""
+        given, told = self.room / "given", self.room / "told"
+        given.write_bytes(text)
+        command = Command([self.program, *arguments], given)
+        with open(told, "wb") as out:
+            peak, seconds = command.peak(self.room, self.limit, out, self.memory)
+        if seconds < 0.5:
+            seconds = min([seconds, *(command.seconds(self.limit, self.memory) for _ in range(2))])
+        return told.stat().st_size, peak, max(0.001, seconds - self.start)
+
+    def row(self, case, scale):
+        """The row at n, 2n and 4n; if the first of them takes too much, at an eighth of n, and then at an eighth of that."""
+        for part in (1, 8, 64):
+            runs, seconds = self.sizes(case, scale / part)
+            if runs:
+                break
+        return Row(case, runs, seconds, part)
+
+    def sizes(self, case, scale):
+        runs, seconds = [], []
+        for factor in (1, 2, 4):
+            text = case.make(max(1, int(case.size * scale * factor)))
+            try:
+                written, peak, time = self.run(text, case.arguments)
+            except OverLimit as over:
+                seconds.append(f"> {self.limit}" if str(over) == "time" else "no memory")
+                break
+            runs.append((len(text), written, peak, time))
+            seconds.append(f"{time:.3f}" if time < 1 else f"{time:.1f}")
+        return runs, seconds + [""] * (3 - len(seconds))
+
+
+class Row:
+    def __init__(self, case, runs, seconds, part):
+        self.case, self.runs, self.seconds, self.part = case, runs, seconds, part
+
+    def power(self):
+        if len(self.runs) < 2:
+            return None
+        (first, then, _, before), (last, later, _, after) = self.runs[0], self.runs[-1]
+        return math.log(after / before) / math.log((last + later) / (first + then))
+
+    def is_marked(self):
+        if len(self.runs) < 3 or self.part > 1:
+            return True
+        given, written, _, time = self.runs[-1]
+        return time > 0.5 * max(1, (given + written) / 2e6) or self.power() > 1.4 and time > 0.05
+
+    def cells(self):
+        given, written, peak, _ = self.runs[-1] if self.runs else (0, 0, 0, 0)
+        power = self.power()
+        mark = "!" if self.is_marked() else ""
+        if self.part > 1:
+            mark = f"! n/{self.part}"
+        sizes = [f"{size / 1024:,.0f}" if given else "" for size in (given, written)]
+        return (self.case.name, self.case.what, *sizes, *self.seconds, "" if power is None else f"{power:.1f}",
+                f"{peak:,}" if peak else "", f"{1024 * peak / given:,.0f}" if given else "", mark)
+
+
+def main():
+    options = argparse.ArgumentParser(description=__doc__, formatter_class=argparse.RawDescriptionHelpFormatter)
+    options.add_argument("program", nargs="?", help="the program to measure")
+    options.add_argument("--only", metavar="WORD,..", help="the cases that have one of the words in their names")
+    options.add_argument("--markdown", action="store_true", help="print the table in Markdown")
+    options.add_argument("--readme", action="store_true", help="the same, and put it into README.md")
+    options.add_argument("--scale", type=float, default=1, help="a factor on n")
+    options.add_argument("--limit", type=int, default=10, help="the seconds after which a run is ended")
+    options.add_argument("--memory", type=int, default=4096, help="the megabytes that a run may take")
+    options = options.parse_args()
+    if not measure.has_time():
+        sys.exit(2)
+    marked = 0
+    report = measure.Report("hostile", options.markdown, options.readme)
+    with tempfile.TemporaryDirectory() as room:
+        bench = Bench(measure.program_of(options.program), room, options)
+        report.head(HEAD, WIDTHS)
+        for name, made in CASES.items():
+            if measure.is_wanted(name, options.only):
+                row = bench.row(made, options.scale)
+                marked += row.is_marked()
+                report.row(row.cells(), WIDTHS)
+    report.line()
+    report.line(f"{marked} cases are marked. Measured {measure.machine()}.")
+    report.end()
+    sys.exit(1 if marked else 0)
+
+
+if __name__ == "__main__":
+    main()

@@ -1,0 +1,347 @@
+#!/usr/bin/env python3
+"""Measures what a path costs in check_attr, beside git.
+
+usage: table.py [PROGRAM] [--quick] [--only WORD,..] [--markdown] [--readme] [--scale F] [--runs N]
+                [--limit SECONDS]
+       table.py [PROGRAM] --curves [--quick]     writes path_cost.csv, which chart.py draws
+
+PROGRAM is crates/check_attr_cli/out/check_attr_cli if none is given. Each row is a workload: attributes files, three attributes
+to look up, and paths. Both programs have to print the same answers. Git runs with GIT_FLUSH=0: without it, it writes after every
+path. Columns:
+
+  script         the size of the script that check_attr reads: the files and the paths
+  time           processor time of the whole run, which reads the files too: medians of runs that take turns, and their ratio
+  instructions   by callgrind, a path: those of many paths less those of 20, so that start and reading are left out
+  memory         the most that the whole run held
+"""
+import argparse
+import filecmp
+import math
+import subprocess
+import sys
+import tempfile
+from pathlib import Path
+
+import inputs
+import measure
+from measure import Command, OverLimit, say
+
+CURVES = measure.BENCH / "path_cost.csv"
+HEAD = ("workload", "paths", "script, KB", "time, ms", "git", "ratio", "instructions a path", "git", "memory, KB", "git")
+WIDTHS = (-76, 10, 11, 10, 10, 8, 21, 13, 12, 11)
+
+
+class Workload:
+    """Attributes files by folder, names, and paths; and how many of the paths are asked under callgrind."""
+
+    unit = "path"
+
+    def __init__(self, title, files, names, paths, counted):
+        self.title, self.files, self.names, self.paths = title, files, names, paths
+        self.counted = min(counted, len(paths))
+
+    def script(self, paths):
+        for folder, text in self.files:
+            yield inputs.add(folder, text, macros=not folder)
+        yield inputs.select(self.names)
+        yield from map(inputs.ask, paths)
+
+    def few_and_many(self):
+        """The files and the paths of two runs under callgrind, and by what their difference is divided."""
+        blocks = max(1, self.counted // 20)
+        apart = len(self.paths) / blocks
+        many = [path for block in range(blocks) for path in self.paths[int(block * apart):][:20]][:self.counted]
+        return (self.files, many[:20]), (self.files, many), len(many) - 20
+
+
+class Reading(Workload):
+    """A file that is read for one path: what a line of it costs."""
+
+    unit = "line"
+
+    def few_and_many(self):
+        return ([("", b"")], self.paths), (self.files, self.paths), self.files[0][1].count(b"\n")
+
+
+class Walk(Workload):
+    """Folders in the order of a walk: each one's file is added when it is entered, and popped when it is left."""
+
+    def __init__(self, title, steps, names, counted, unit="path"):
+        self.steps, self.unit = steps, unit
+        files = [(folder, text) for folder, text, _ in steps if text is not None]
+        super().__init__(title, files, names, [path for _, _, paths in steps for path in paths], counted)
+
+    def script(self, paths):
+        yield inputs.select(self.names)
+        left, entered = len(paths), []
+        for folder, text, below in self.steps:
+            if left <= 0:
+                return
+            while entered and not folder.startswith(entered[-1]):
+                entered.pop()
+                yield b"pop\n"
+            if text is not None:
+                entered.append(folder)
+                yield inputs.add(folder, text, macros=not folder)
+            yield from map(inputs.ask, below[:left])
+            left -= len(below)
+
+    def few_and_many(self):
+        return (self.files, self.paths[:20]), (self.files, self.paths[:self.counted]), self.counted - 20
+
+
+# How many paths are asked: fewer where git tries many lines for each.
+
+def timed(lines, quick):
+    return max(1000, min(100_000, 50_000_000 // lines) // (5 if quick else 1))
+
+
+def counted(lines, quick=False):
+    return max(100, min(2000, 3_000_000 // lines) // (4 if quick else 1))
+
+
+KINDS = {"names": inputs.names, "ends": inputs.ends, "exact": inputs.exact, "globs": inputs.globs}
+TITLES = {"names": "names", "ends": "ends `*.eN`", "exact": "exact paths", "globs": "globs `dirN/**/x?[a-c]*.gen`"}
+
+
+def of_kind(kind, lines, quick, paths=None):
+    text, asked = KINDS[kind](lines, paths or timed(lines, quick))
+    return Workload(f"{lines:,} {TITLES[kind]}", [("", text)], inputs.THREE_NAMES, asked, counted(lines, quick))
+
+
+def of_typical(quick):
+    text, paths = inputs.typical(timed(1, quick))
+    lines = text.count(b"\n")
+    return Workload(f"typical, {lines} lines", [("", text)], inputs.TYPICAL_NAMES, paths, counted(1, quick))
+
+
+def of_macros(quick):
+    text, paths = inputs.macros(timed(2500, quick))
+    lines = text.count(b"\n")
+    return Workload(f"macros, {lines:,} lines", [("", text)], ["m0", "m77", "m150"], paths, counted(1, quick))
+
+
+def of_reading(quick):
+    text = inputs.large(124_000 // (10 if quick else 1))
+    lines = text.count(b"\n")
+    title = f"reading {len(text) / 1e6:.1f} MB, {lines:,} lines; instructions a line"
+    return Reading(title, [("", text)], inputs.THREE_NAMES, ["src/core/main.c"], 1)
+
+
+def of_standing(lists, quick):
+    files, paths = inputs.standing(lists, timed(lists, quick))
+    title = f"{lists:,} standing lists, a path below two"
+    return Workload(title, files, inputs.THREE_NAMES, paths, counted(lists, quick))
+
+
+def monorepo_title(steps):
+    files = sum(text is not None for _, text, _ in steps)
+    paths = sum(len(below) for _, _, below in steps)
+    return f"made monorepo: {paths:,} paths, {len(steps):,} folders, {files:,} files"
+
+
+def of_monorepo(scale):
+    steps = list(inputs.monorepo(scale))
+    files = [(folder, text) for folder, text, _ in steps if text is not None]
+    paths = [path for _, _, below in steps for path in below]
+    return Workload(monorepo_title(steps) + ", all standing", files, inputs.THREE_NAMES, paths, counted(len(files)))
+
+
+def of_walk(scale):
+    steps = list(inputs.monorepo(scale))
+    return Walk(monorepo_title(steps) + ", walked", steps, inputs.THREE_NAMES, 20_000)
+
+
+def of_folders(names, quick):
+    """One path in each folder, whose file of one line is added for it and popped after it."""
+    count = 500 if quick else 2000
+    steps = [("", inputs.known(names), ["a.c"])]
+    steps += [(f"f{place}/", b"*.c a1 -a2 a3=v\n", [f"f{place}/main.c"]) for place in range(count)]
+    title = f"add, ask, pop; {names:,} names known, 3 selected"
+    return Walk(title, steps, ["a1", "a2", "a3"], max(50, counted(names) // 4), unit="folder")
+
+
+def workloads(quick, scale):
+    """The name of each row, and how its workload is made."""
+    made = {"typical": lambda: of_typical(quick)}
+
+    def several(name, sizes, make):
+        for size in sizes:
+            made[f"{name}-{size}"] = lambda size=size: make(size, quick)
+
+    several("names", (10, 10_000), lambda size, quick: of_kind("names", size, quick))
+    several("ends", (10, 10_000), lambda size, quick: of_kind("ends", size, quick))
+    several("globs", (10, 1_000), lambda size, quick: of_kind("globs", size, quick))
+    made["macros"] = lambda: of_macros(quick)
+    several("exact", (1_000,) if quick else (1_000, 16_000, 100_000), lambda size, quick: of_kind("exact", size, quick))
+    several("standing", (10, 1_000) if quick else (10, 100, 1_000, 10_000), of_standing)
+    made["reading"] = lambda: of_reading(quick)
+    made["monorepo-standing"] = lambda: of_monorepo(scale)
+    made["monorepo-walked"] = lambda: of_walk(scale)
+    several("folders", (10, 1_000) if quick else (10, 100, 1_000, 10_000), of_folders)
+    return made
+
+
+class Bench:
+    """A folder to work in, the program, and what the machine has beside it."""
+
+    def __init__(self, program, room, options):
+        self.program, self.room, self.runs, self.limit = program, Path(room), options.runs, options.limit
+        self.git, self.valgrind, self.time = measure.has_git(), measure.has_valgrind(), measure.has_time()
+        self.differ = []
+
+    def repository(self, files):
+        """A git repository with these files in its folders."""
+        folder = Path(tempfile.mkdtemp(dir=self.room))
+        subprocess.run(["git", "init", "-q", str(folder)], check=True)
+        for below, text in files:
+            (folder / below).mkdir(parents=True, exist_ok=True)
+            (folder / below / ".gitattributes").write_bytes(text)
+        return folder
+
+    def commands(self, work, files, paths, repository):
+        """The program over the script of these files and paths, and git over the paths in that repository."""
+        script = self.room / "script"
+        before, work.files = work.files, files
+        with open(script, "wb") as out:
+            out.writelines(work.script(paths))
+        work.files = before
+        ours = Command([self.program], script)
+        if not repository:
+            return ours, None
+        asked = self.room / "paths"
+        asked.write_text("".join(path + "\n" for path in paths))
+        return ours, Command(["git", "check-attr", "--stdin", *work.names], asked, repository)
+
+    def instructions(self, work):
+        """The instructions of both programs for a path."""
+        if not self.valgrind:
+            return None, None
+        few, many, divisor = work.few_and_many()
+        counts = []
+        repository = self.repository(few[0]) if self.git else None
+        for files, paths in (few, many):
+            if repository and files is not few[0]:
+                repository = self.repository(files)
+            pair = self.commands(work, files, paths, repository)
+            counts.append([self.count(command) for command in pair])
+        return [None if None in pair else (pair[1] - pair[0]) / divisor for pair in zip(*counts)]
+
+    def count(self, command):
+        try:
+            return command and command.instructions(self.room, 20 * self.limit)
+        except OverLimit:
+            return None
+
+    def peaks(self, name, pair):
+        """The most memory that each run held; their answers are compared."""
+        peaks, answers = [], [self.room / "answers-ours", self.room / "answers-git"]
+        for command, told in zip(pair, answers):
+            try:
+                with open(told, "wb") as out:
+                    peaks.append(command and command.peak(self.room, self.limit, out)[0])
+            except OverLimit:
+                peaks.append(None)
+        if None not in peaks and not filecmp.cmp(*answers, shallow=False):
+            self.differ.append(name)
+            say(f"{name}: git answers otherwise")
+        return peaks
+
+    def row(self, name, work):
+        counts = self.instructions(work)
+        repository = self.repository(work.files) if self.git else None
+        pair = self.commands(work, work.files, work.paths, repository)
+        size = (self.room / "script").stat().st_size
+        limits = [command and self.limit for command in pair]
+        peaks = (None, None)
+        if self.time:
+            peaks = self.peaks(name, pair)
+            pair = [command if peak else None for command, peak in zip(pair, peaks)]
+        times = measure.alternating(pair, self.runs, self.limit)
+        return Row(work, size, times, counts, peaks, limits)
+
+
+class Row:
+    """What was measured of a workload, ours before git's; None where it was not, or took more than the limit."""
+
+    def __init__(self, work, size, times, counts, peaks, limits):
+        self.work, self.size, self.times, self.counts, self.peaks, self.limits = work, size, times, counts, peaks, limits
+
+    def cells(self):
+        ours, git = self.times
+        ratio = "" if None in (ours, git) else two_digits(ours / git)
+        if ours is None and git:
+            ratio = f"> {two_digits(self.limits[0] / git)}"
+        title = self.work.title + ("; instructions a folder" if self.work.unit == "folder" else "")
+        times = [self.time(place) for place in (0, 1)]
+        counts = [three_digits(count) for count in self.counts]
+        peaks = ["" if peak is None else f"{peak:,}" for peak in self.peaks]
+        return (title, f"{len(self.work.paths):,}", f"{math.ceil(self.size / 1024):,}", *times, ratio, *counts, *peaks)
+
+    def time(self, place):
+        if self.times[place] is None:
+            return f"> {1000 * self.limits[place]:,.0f}" if self.limits[place] else ""
+        return f"{1000 * self.times[place]:,.0f}"
+
+
+def three_digits(number):
+    if number is None:
+        return ""
+    if number < 1000:
+        return f"{number:.0f}"
+    unit = 10 ** (math.floor(math.log10(number)) - 2)
+    return f"{round(number / unit) * unit:,}"
+
+
+def two_digits(number):
+    return f"{float(f'{number:.2g}'):g}"
+
+
+def table(bench, options):
+    rows = workloads(options.quick, options.scale or (1 / 60 if options.quick else 1))
+    report = measure.Report("table", options.markdown, options.readme)
+    report.head(HEAD, WIDTHS)
+    for name, make in rows.items():
+        if measure.is_wanted(name, options.only):
+            report.row(bench.row(name, make()).cells(), WIDTHS)
+    report.line()
+    report.line(f"Measured {measure.machine()}.")
+    report.end()
+
+
+def curves(bench, options):
+    """Instructions a path over the number of lines, of each kind of pattern."""
+    sizes = (10, 100, 1_000) if options.quick else (10, 32, 100, 316, 1_000, 3_162, 10_000)
+    with open(CURVES, "w", encoding="ascii") as out:
+        print("kind,lines,program,instructions", file=out)
+        for kind in KINDS:
+            for lines in sizes:
+                work = of_kind(kind, lines, options.quick, max(1000, counted(lines)))
+                for program, count in zip(("check_attr", "git"), bench.instructions(work)):
+                    if count is not None:
+                        print(f"{kind},{lines},{program},{count:.0f}", file=out, flush=True)
+                say(f"{kind}, {lines:,} lines")
+    print(f"{CURVES} is written. Measured {measure.machine()}.")
+
+
+def main():
+    options = argparse.ArgumentParser(description=__doc__, formatter_class=argparse.RawDescriptionHelpFormatter)
+    options.add_argument("program", nargs="?", help="the program to measure")
+    options.add_argument("--quick", action="store_true", help="smaller rows: some two minutes on a machine without other work")
+    options.add_argument("--only", metavar="WORD,..", help="the rows that have one of the words in their names, as names,reading")
+    options.add_argument("--markdown", action="store_true", help="print the table in Markdown")
+    options.add_argument("--readme", action="store_true", help="the same, and put it into README.md")
+    options.add_argument("--scale", type=float, help="the size of the made monorepo: 1 is a million paths")
+    options.add_argument("--runs", type=int, default=5, help="how many runs a median is of")
+    options.add_argument("--limit", type=int, default=120, help="the seconds after which a run is ended")
+    options.add_argument("--curves", action="store_true", help="write path_cost.csv")
+    options = options.parse_args()
+    with tempfile.TemporaryDirectory() as room:
+        bench = Bench(measure.program_of(options.program), room, options)
+        (curves if options.curves else table)(bench, options)
+    if bench.differ:
+        sys.exit(f"git answers otherwise: {', '.join(bench.differ)}")
+
+
+if __name__ == "__main__":
+    main()
