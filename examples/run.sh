@@ -1,7 +1,7 @@
 #!/bin/sh
-# Runs the scripts of this folder and the program of ask.rt.in, and compares their output with the answers beside them.
-# The program check_attr has to be built before, by the gate or by `rt run` in crates/check_attr_cli; that of ask.rt.in
-# is run without a proof.
+# Runs the scripts and the programs (*.rt.in) of this folder, and compares their output with the answers beside them. The program
+# check_attr_cli has to be built before, by the gate or by `rt run` in its folder. The programs are run without a proof, side
+# by side, which takes a minute.
 set -eu
 here=$(cd "$(dirname "$0")" && pwd)
 room=$(mktemp -d)
@@ -11,10 +11,18 @@ for script in "$here"/*.script; do
     "$here/../crates/check_attr_cli/out/check_attr_cli" <"$script" | diff "$answers" -
     echo "run: $(basename "$script") gives $(basename "$answers")"
 done
+programs='first ask walk lines'
 "$here/../tests/copy_crates.sh" "$room"
-echo 'ask: gix_attributes bstr' >>"$room/crates.txt"
-mkdir -p "$room/crates/ask/src"
-cp "$here/ask.rt.in" "$room/crates/ask/src/main.rt"
-cd "$room/crates/ask"
-rt try --seconds 60 2>"$room/errors" | diff "$here/ask.answers" - || { cat "$room/errors"; exit 1; }
-echo "run: ask.rt.in gives ask.answers"
+for name in $programs; do
+    echo "$name: gix_attributes bstr anyhow" >>"$room/crates.txt"
+    mkdir -p "$room/crates/$name/src"
+    cp "$here/$name.rt.in" "$room/crates/$name/src/main.rt"
+done
+for name in $programs; do
+    (cd "$room/crates/$name" && rt try --seconds 60 >"$room/$name.said" 2>"$room/$name.errors" || true) &
+done
+wait
+for name in $programs; do
+    diff "$here/$name.answers" "$room/$name.said" || { cat "$room/$name.errors"; exit 1; }
+    echo "run: $name.rt.in gives $name.answers"
+done
