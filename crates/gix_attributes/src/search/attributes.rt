@@ -132,12 +132,16 @@ impl Search {
         Some(last.list)
     }
 
-    /// Fills the slots of an outcome with what the lists say of a path, until each attribute that is looked for has
-    /// an answer. Whether one of these was found is answered.
+    /// Looks a path up: fills the slots of an outcome by the lines that match the path, until each selected attribute
+    /// has an answer (gitattributes page). Returns whether one of these was found.
     ///
-    /// The path has no leading slash, and `is_dir` says whether it is a folder, if that is known. Searches may follow
-    /// one another: what the earlier ones found takes precedence. After a refusal the outcome is empty, as
-    /// [`Outcome::reset`] leaves it. Where nothing is left to look for, nothing changes.
+    /// The path has no leading slash, and `is_dir` is whether it is a folder, if that is known. Searches may follow
+    /// one another: what the earlier ones found takes precedence. If each selected attribute has an answer before,
+    /// nothing changes.
+    ///
+    /// # Errors
+    ///
+    /// If there is no memory. The outcome is empty then, as after [`Outcome::reset`].
     pub fn pattern_matching_relative_path(
         &self,
         alloc: Global,
