@@ -168,6 +168,3 @@ impl Worktree {
         Ok(())
     }
 }
-
-#[cfg(test)]
-mod tests;
