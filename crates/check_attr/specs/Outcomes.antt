@@ -30,8 +30,8 @@ IsFlushedAfter (Err Write) Flushed = ⊤
 IsFlushedAfter (Err OutOfMemory) Flushed = ⊤
 
 -- nothing was written, or the whole input was read before
-abbrev pub ReadsFirst : {W : Type 0} → Option (List ℕ) → W → W → Type 0
-ReadsFirst left old new = (new ≡ old) ⊎ IsAtEnd left
+abbrev pub ReadsInputFirst : {W : Type 0} → Option (List ℕ) → W → W → Type 0
+ReadsInputFirst left old new = (new ≡ old) ⊎ IsAtEnd left
 
 -- what a run says of its reader, which is seen by the bytes that it has left and its count of failures
 pub record UsesReader {R : Type 0} (remaining : R → Option (List ℕ)) (failed : R → ℕ) (old new : R) (outcome : Result ⊤ Fault) : Type 0 where

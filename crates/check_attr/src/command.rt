@@ -6,7 +6,7 @@ ghost use Rattle.gix_attributes.specs.Failures.{Fails};
 ghost use Rattle.gix_attributes.specs.FileReads.{FileRead, names_read};
 ghost use Rattle.check_attr.specs.Failures.{AppendsFront};
 ghost use Rattle.check_attr.specs.GlobalFiles.{ReadsNames, RefusesNames, all_dropped_text, loaded_from};
-ghost use Rattle.check_attr.specs.Outcomes.{CountsWrites, ReadsFirst, UsesReader, UsesWriter};
+ghost use Rattle.check_attr.specs.Outcomes.{CountsWrites, ReadsInputFirst, UsesReader, UsesWriter};
 ghost use Rattle.check_attr.specs.Program.{IsLinesAlone, Prints, PrintsOutcome, WritesLinesOutcome, WritesOutcome, fault_line, refusal_line, status_after, status_of};
 
 use crate::dropped_lines::push_dropped;
@@ -62,7 +62,7 @@ pub fn program<F: Files, R: Pull, W: Push, E: Push>(
         × UsesReader R.remaining R.failed reader.old reader.new outcome
         × UsesWriter W.failed W.stalled W.Flushed writer.old writer.new outcome
         × PrintsOutcome E.contents E.failed E.stalled warned errors.new outcome) }
-    ensures first { ReadsFirst (R.remaining reader.new) writer.old writer.new }
+    ensures first { ReadsInputFirst (R.remaining reader.new) writer.old writer.new }
     ensures count { F.failed files.old ≤ F.failed files.new }
 {
     if is_lines_alone(args) {

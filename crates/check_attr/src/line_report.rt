@@ -4,7 +4,7 @@ ghost use Rattle.std.specs.Io.KnownBytes.{IsAtEnd};
 ghost use Rattle.std.specs.Fmt.{decimal};
 ghost use Rattle.std.specs.List.{flat_map};
 ghost use Rattle.gix_attributes.specs.TextViews.{item_view, line_view};
-ghost use Rattle.check_attr.specs.Outcomes.{CountsReads, CountsWrites, ReadsFirst};
+ghost use Rattle.check_attr.specs.Outcomes.{CountsReads, CountsWrites, ReadsInputFirst};
 ghost use Rattle.check_attr.specs.LinesText.{WritesLines, WritesLinesFront, item_text, line_text, lines_text};
 
 use crate::buffer::{push_bytes, push_number, push_text};
@@ -30,7 +30,7 @@ pub fn lines<R: Pull, W: Push>(alloc: Global, reader: &mut R, writer: &mut W) ->
     ensures front { OnErr result (WritesLinesFront (R.remaining reader.old)
         (W.contents writer.old) (W.contents writer.new)) }
     ensures end { OnOk result (IsAtEnd (R.remaining reader.new)) }
-    ensures first { ReadsFirst (R.remaining reader.new) writer.old writer.new }
+    ensures first { ReadsInputFirst (R.remaining reader.new) writer.old writer.new }
     ensures flushed { OnOk result (W.Flushed writer.new) }
     ensures unread { IsErrOf result Fault.Read → writer.new ≡ writer.old }
     ensures reads { CountsReads result (R.failed reader.old) (R.failed reader.new) }

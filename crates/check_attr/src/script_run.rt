@@ -2,7 +2,7 @@
 
 ghost use Rattle.std.specs.Prelude.{◌≡◌, ◌⊎◌, ℕ, [], None, Some, Err, OnOk, IsErrOf};
 ghost use Rattle.std.specs.Io.KnownBytes.{IsAtEnd};
-ghost use Rattle.check_attr.specs.Outcomes.{CountsReads, CountsWrites, ReadsFirst};
+ghost use Rattle.check_attr.specs.Outcomes.{CountsReads, CountsWrites, ReadsInputFirst};
 ghost use Rattle.check_attr.specs.ScriptText.{WritesText, WritesTextFront};
 ghost use Rattle.check_attr.specs.ScriptStates.{initial_state};
 ghost use Rattle.check_attr.specs.inner.EngineViews.{PassesScript};
@@ -42,7 +42,7 @@ pub fn run<R: Pull, W: Push>(
     ensures end { OnOk result (IsAtEnd (R.remaining reader.new)) }
     ensures end_before { (k : ℕ) → result ≡ Err (Fault.Record k) →
         IsAtEnd (R.remaining reader.new) }
-    ensures first { ReadsFirst (R.remaining reader.new) writer.old writer.new }
+    ensures first { ReadsInputFirst (R.remaining reader.new) writer.old writer.new }
     ensures flushed { OnOk result (W.Flushed writer.new) }
     ensures flushed_before { (k : ℕ) → result ≡ Err (Fault.Record k) → W.Flushed writer.new }
     ensures unread { IsErrOf result Fault.Read → writer.new ≡ writer.old }
