@@ -13,7 +13,7 @@ use Rattle.gix_attributes.specs.Registers.{RegistersExactly, without_registered}
 use Rattle.gix_attributes.specs.SearchViews.{Holds, LosesLast, RemovesLast, list_ids_in, lists_in}
 use Rattle.gix_attributes.specs.Settings.{LinesAreNamed, Listed, ListsAreNamed}
 use Rattle.gix_attributes.specs.declared.search.attributes.Search.{Search}
-use Rattle.worktree.specs.WorktreeView.{AreKept, IsNumbered}
+use Rattle.worktree.specs.WorktreeView.{AreKept, HasItsNumbers}
 
 -- what the law `names_stay` says of lists
 pub record NamesStay : Type 0 where
@@ -24,15 +24,15 @@ pub record NamesStay : Type 0 where
 apart_alike : (xs ys : List ℕ) → AreApart xs ys → AreApart ys xs
 apart_alike xs ys h = λ k d lt j e lt2 same. h j e lt2 k d lt (sym same)
 
-still_numbered : NamesStay → (known now : Collection) (search : Search) → AppendsNames known.names now.names → IsNumbered known search
-    → IsNumbered now search
+still_numbered : NamesStay → (known now : Collection) (search : Search) → AppendsNames known.names now.names → HasItsNumbers known search
+    → HasItsNumbers now search
 still_numbered law known now search more h = record {
   named = law.lists known.names now.names (lists_in search) more h.named;
   covered = law.covered known.names now.names (lists_in search) more h.covered;
 }
 
 -- a search without lists
-none_numbered : (known : Collection) (search : Search) → lists_in search ≡ [] → IsNumbered known search
+none_numbered : (known : Collection) (search : Search) → lists_in search ≡ [] → HasItsNumbers known search
 none_numbered known search none = record {
   named = subst (ListsAreNamed known.names) (sym none) (All-nil (λ (l : Listed). LinesAreNamed known.names l.lines));
   covered = subst (ListsAreCovered (length known.names)) (sym none) (All-nil (λ (l : Listed). AreCovered (length known.names) l.lines));
@@ -51,7 +51,7 @@ kept_first globals folders known no_globals no_folders no_ids globals_held folde
 }
 
 numbered_more : (known now : Collection) (before after : Search) → Keeps (registered_lists before known) (registered_lists after now)
-    → IsNumbered known before → IsNumbered now after
+    → HasItsNumbers known before → HasItsNumbers now after
 numbered_more known now before after kept h = record { named = kept.named h.named; covered = kept.covered h.covered }
 
 -- a global list is added
@@ -87,8 +87,8 @@ kept_entering law globals before after known now kept more held h =
       registered = more.to_collection h.register h.registered;
     }
 
-numbered_same : (known now : Collection) (before after : Search) → lists_in after ≡ lists_in before → now ≡ known → IsNumbered known before
-    → IsNumbered now after
+numbered_same : (known now : Collection) (before after : Search) → lists_in after ≡ lists_in before → now ≡ known → HasItsNumbers known before
+    → HasItsNumbers now after
 numbered_same known now before after lists_are now_is h = record {
   named = subst (λ (k : Collection). ListsAreNamed k.names (lists_in after)) (sym now_is)
       (subst (ListsAreNamed known.names) (sym lists_are) h.named);
@@ -115,8 +115,10 @@ kept_same globals globals' folders folders' known now globals_are globals_ids fo
 pub kept_leaving : {X : Type 0} (read : X → Listed) (r : Option X) → NamesStay → (globals before after : Search) (known now : Collection)
     → IfSome r (λ _. Keeps (registered_lists before known) (registered_lists after now))
     → IfSome r (λ _. Removes (registered_lists before known) (registered_lists after now))
-    → lists_in before ≡ lists_in after ++ option_to_list (option_map read r) → MatchOption r (now ≡ known) (λ _. RemovesLast (list_ids_in before) known now)
-    → MatchOption r (list_ids_in after ≡ list_ids_in before) (λ _. LosesLast (list_ids_in before) (list_ids_in after)) → Holds now after → AreKept globals before known
+    → lists_in before ≡ lists_in after ++ option_to_list (option_map read r)
+    → MatchOption r (now ≡ known) (λ _. RemovesLast (list_ids_in before) known now)
+    → MatchOption r (list_ids_in after ≡ list_ids_in before) (λ _. LosesLast (list_ids_in before) (list_ids_in after))
+    → Holds now after → AreKept globals before known
     → AreKept globals after now
 kept_leaving read None law globals before after known now kept gone lists_are now_is ids_are held h =
     kept_same globals globals before after known now refl refl (sym (lists_are ∙ append-nil (lists_in after))) ids_are now_is

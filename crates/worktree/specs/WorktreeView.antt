@@ -14,7 +14,7 @@ abbrev pub files_of : Inside → Files
 files_of w = record { globals = lists_in w.globals; folders = lists_in w.folders; known = w.collection }
 
 -- the lists of a search have the numbers of their names, and no others
-pub record IsNumbered (known : Collection) (search : Search) : Type 0 where
+pub record HasItsNumbers (known : Collection) (search : Search) : Type 0 where
   pub named : ListsAreNamed known.names (lists_in search)
   pub covered : ListsAreCovered (length known.names) (lists_in search)
 
@@ -23,10 +23,10 @@ pub record AreKept (globals folders : Search) (known : Collection) : Type 0 wher
   pub globals_held : Holds known globals
   pub folders_held : Holds known folders
   pub apart : AreApart (list_ids_in folders) (list_ids_in globals)
-  pub globals_numbered : IsNumbered known globals
-  pub folders_numbered : IsNumbered known folders
+  pub globals_numbered : HasItsNumbers known globals
+  pub folders_numbered : HasItsNumbers known folders
   pub register : List Registered
   pub registered : RegistersExactly known register
 
-abbrev pub IsKept : Inside → Type 0
-IsKept w = AreKept w.globals w.folders w.collection
+abbrev pub IsKeptWorktree : Inside → Type 0
+IsKeptWorktree w = AreKept w.globals w.folders w.collection

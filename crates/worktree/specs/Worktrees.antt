@@ -15,12 +15,12 @@ pub record Files : Type 0 where
   pub folders : List Listed
   pub known : Collection
 
-abbrev pub no_files : Files
-no_files = record { globals = []; folders = []; known = empty_collection }
+abbrev pub no_attributes_files : Files
+no_attributes_files = record { globals = []; folders = []; known = empty_collection }
 
 -- a global file comes after the others; its patterns match all paths, and it may define macros
-abbrev pub with_global : File → Files → Files
-with_global file files =
+abbrev pub with_global_file : File → Files → Files
+with_global_file file files =
     let known = with_registered (kept_list_where true file.bytes.now) files.known in
     record {
       globals = files.globals ++ buffer_list file.path.now None true file.bytes.now known ∷ [];

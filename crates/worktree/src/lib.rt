@@ -4,7 +4,7 @@
 
 ghost use Rattle.std.specs.Prelude.{◌≡◌, ◌++◌, ◌-◌, length, take, OnOk, OnErr};
 ghost use Rattle.gix_attributes.specs.Lookups.{OfTheOnlyTable, ReturnsAnswers, setting_in};
-ghost use Rattle.worktree.specs.Worktrees.{lookup, no_files, with_folder, with_global};
+ghost use Rattle.worktree.specs.Worktrees.{lookup, no_attributes_files, with_folder, with_global_file};
 
 use bstr::BStr;
 use gix_attributes::Search;
@@ -27,11 +27,11 @@ impl Model for Worktree {
 
     ghost Value = { Files };
 
-    ghost use Rattle.worktree.specs.WorktreeView.{IsKept, files_of};
+    ghost use Rattle.worktree.specs.WorktreeView.{IsKeptWorktree, files_of};
 
     ghost view = { files_of };
 
-    ghost invariant = { IsKept };
+    ghost invariant = { IsKeptWorktree };
 }
 
 /// The attributes file of a folder.
@@ -55,7 +55,7 @@ pub struct Question<'a> {
 impl Worktree {
     /// A worktree without files. It takes no memory.
     pub fn new(alloc: Global) -> Worktree
-        ensures { result ≡ no_files }
+        ensures { result ≡ no_attributes_files }
     {
         Worktree {
             globals: Search::new(alloc),
@@ -70,7 +70,7 @@ impl Worktree {
     ///
     /// If there is no memory. Nothing changes then.
     pub fn add_global(&mut self, alloc: Global, file: File<'_>) -> Result<(), AllocError>
-        ensures added { OnOk result (self.new ≡ with_global file.entry self.old) }
+        ensures added { OnOk result (self.new ≡ with_global_file file.entry self.old) }
         ensures refused { OnErr result (self.new ≡ self.old) }
     {
         let source = String::from_str(alloc, file.path)?;
