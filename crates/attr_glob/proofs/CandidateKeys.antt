@@ -54,6 +54,7 @@ appended (Err x) new old more wanted e same = tt
 abbrev pub key_of_pattern : Pattern → KeyContent
 key_of_pattern pattern = candidate_content (shape_reading (pattern_view pattern))
 
-pub keys_of_views : (patterns : List Pattern) → map key_of_pattern patterns ≡ map (λ line. candidate_content (shape_reading line)) (map pattern_view patterns)
+pub keys_of_views : (patterns : List Pattern) → map key_of_pattern patterns
+    ≡ map (λ line. candidate_content (shape_reading line)) (map pattern_view patterns)
 keys_of_views [] = refl
 keys_of_views (p ∷ ps) = ap (λ l. key_of_pattern p ∷ l) (keys_of_views ps)

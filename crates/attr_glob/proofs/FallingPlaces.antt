@@ -1,5 +1,6 @@
 -- Places that fall and are just those of the lines that pass a test.
-use Rattle.std.proofs.Common.{◌≡◌, ◌≢◌, ℕ, zero, suc, ◌+◌, ◌<◌, ◌≤◌, Bool, true, false, ◌||◌, List, [], ◌∷◌, ◌++◌, length, reverse, Option, Some, None}
+use Rattle.std.proofs.Common.{◌≡◌, ◌≢◌, ℕ, zero, suc, ◌+◌, ◌<◌, ◌≤◌, Bool, true, false, ◌||◌, List, [], ◌∷◌, ◌++◌, length, reverse, Option, Some,
+    None}
 use Rattle.std.proofs.Common.{refl, sym, ap, ◌∙◌, arith, eqb}
 use Rattle.std.specs.Prelude.{slice_get}
 use Rattle.std.proofs.lemmas.Bool.{eqb-true}
@@ -88,7 +89,8 @@ places_by {X} test (x ∷ before) found down has =
     (λ t. rw t (by_head (λ l d h. places_by test before l d h) found down has' (last ∙ t)))
     (λ f. rw f (places_by test before found down (fewer test ys x found (last ∙ f) has')))
   where
-    by_head : ((l : List ℕ) → IsFalling l → ((row : ℕ) → has_row l row ≡ passes test (slice_get (reverse before) row)) → l ≡ places_where test before) →
+    by_head : ((l : List ℕ) → IsFalling l → ((row : ℕ) → has_row l row ≡ passes test (slice_get (reverse before) row)) → l
+        ≡ places_where test before) →
         (l : List ℕ) → IsFalling l → ((row : ℕ) → has_row l row ≡ passes test (slice_get (reverse before ++ x ∷ []) row)) →
         has_row l (length (reverse before)) ≡ true → l ≡ length before ∷ places_where test before
     by_head go [] d h here = absurd cc

@@ -1,5 +1,6 @@
 -- A text has a key if it is that text, begins with it or ends in it, under the case.
-use Rattle.std.proofs.Common.{◌≡◌, ℕ, zero, suc, ◌+◌, ◌-◌, ◌<◌, ◌≤◌, true, false, ◌&&◌, ◌==◌, ◌⊎◌, inl, inr, List, [], ◌∷◌, ◌++◌, length, take, drop, map, reverse}
+use Rattle.std.proofs.Common.{◌≡◌, ℕ, zero, suc, ◌+◌, ◌-◌, ◌<◌, ◌≤◌, true, false, ◌&&◌, ◌==◌, ◌⊎◌, inl, inr, List, [], ◌∷◌, ◌++◌, length, take, drop,
+    map, reverse}
 use Rattle.std.proofs.Common.{refl, sym, ap, ◌∙◌, arith, nat_eq}
 use Rattle.std.specs.Char.{to_ascii_lowercase}
 use Rattle.std.specs.Cmp.Lexicographic.{pointwise, bytes_decides}
@@ -34,7 +35,8 @@ no_byte : (a : ℕ) → nat_eq 1 (a + 2) ≡ false
 no_byte a = grind (arith, nat_tests)
 
 -- a whole key is had by the text that is the same
-pub whole_met : (case : Case) (subject : Subject) (text name : List ℕ) → has_content (folds case) name (whole_text subject text) ≡ same_text case text name
+pub whole_met : (case : Case) (subject : Subject) (text name : List ℕ) → has_content (folds case) name (whole_text subject text)
+    ≡ same_text case text name
 whole_met case subject [] [] = by_case case
   where
     by_case : (c : Case) → true ≡ same_text c [] []
@@ -42,8 +44,10 @@ whole_met case subject [] [] = by_case case
     by_case Fold = refl
 whole_met Sensitive subject [] (b ∷ bs) = ap (λ t. t && true) (no_byte b)
 whole_met Fold subject [] (b ∷ bs) = ap (λ t. t && true) (no_byte (to_ascii_lowercase b))
-whole_met Sensitive subject (c ∷ cs) [] = ap (λ t. t && pointwise nat_eq (map (byte_code false) cs ++ 1 ∷ []) (take (length (map (byte_code false) cs ++ 1 ∷ [])) [])) (no_end c)
-whole_met Fold subject (c ∷ cs) [] = ap (λ t. t && pointwise nat_eq (map (byte_code true) cs ++ 1 ∷ []) (take (length (map (byte_code true) cs ++ 1 ∷ [])) [])) (no_end (to_ascii_lowercase c))
+whole_met Sensitive subject (c ∷ cs) [] = ap (λ t. t && pointwise nat_eq (map (byte_code false) cs ++ 1 ∷ [])
+    (take (length (map (byte_code false) cs ++ 1 ∷ [])) [])) (no_end c)
+whole_met Fold subject (c ∷ cs) [] = ap (λ t. t && pointwise nat_eq (map (byte_code true) cs ++ 1 ∷ [])
+    (take (length (map (byte_code true) cs ++ 1 ∷ [])) [])) (no_end (to_ascii_lowercase c))
 whole_met Sensitive subject (c ∷ cs) (b ∷ bs) =
     ap (λ t. t && has_content false bs (whole_text subject cs)) (shifted c b) ∙ ap (λ t. nat_eq c b && t) (whole_met Sensitive subject cs bs)
 whole_met Fold subject (c ∷ cs) (b ∷ bs) =
@@ -57,13 +61,16 @@ front_text subject text = record { subject = subject; text = text; is_whole = fa
 pub front_met : (case : Case) (subject : Subject) (front text : List ℕ) →
     has_content (folds case) text (front_text subject front) ≡ starts_with (same_byte case) text front
 front_met case subject [] text = refl
-front_met Sensitive subject (c ∷ cs) [] = ap (λ t. t && pointwise nat_eq (map (byte_code false) cs ++ []) (take (length (map (byte_code false) cs ++ [])) [])) (no_end c)
-front_met Fold subject (c ∷ cs) [] = ap (λ t. t && pointwise nat_eq (map (byte_code true) cs ++ []) (take (length (map (byte_code true) cs ++ [])) [])) (no_end (to_ascii_lowercase c))
+front_met Sensitive subject (c ∷ cs) [] = ap (λ t. t && pointwise nat_eq (map (byte_code false) cs ++ [])
+    (take (length (map (byte_code false) cs ++ [])) [])) (no_end c)
+front_met Fold subject (c ∷ cs) [] = ap (λ t. t && pointwise nat_eq (map (byte_code true) cs ++ [])
+    (take (length (map (byte_code true) cs ++ [])) [])) (no_end (to_ascii_lowercase c))
 front_met Sensitive subject (c ∷ cs) (b ∷ bs) =
     ap (λ t. t && has_content false bs (front_text subject cs)) (shifted c b ∙ turned c b)
     ∙ ap (λ t. (b == c) && t) (front_met Sensitive subject cs bs)
 front_met Fold subject (c ∷ cs) (b ∷ bs) =
-    ap (λ t. t && has_content true bs (front_text subject cs)) (shifted (to_ascii_lowercase c) (to_ascii_lowercase b) ∙ turned (to_ascii_lowercase c) (to_ascii_lowercase b))
+    ap (λ t. t && has_content true bs (front_text subject cs)) (shifted (to_ascii_lowercase c) (to_ascii_lowercase b) ∙ turned (to_ascii_lowercase c)
+        (to_ascii_lowercase b))
     ∙ ap (λ t. (to_ascii_lowercase b == to_ascii_lowercase c) && t) (front_met Fold subject cs bs)
 
 -- texts are the same byte by byte just if they fold to the same
@@ -71,7 +78,8 @@ pub bytewise : (case : Case) (x y : List ℕ) → pointwise (same_byte case) x y
 bytewise Sensitive [] [] = refl
 bytewise Sensitive [] (b ∷ bs) = refl
 bytewise Sensitive (c ∷ cs) [] = refl
-bytewise Sensitive (c ∷ cs) (b ∷ bs) = ap (λ t. t && pointwise (same_byte Sensitive) cs bs) (sym (turned c b)) ∙ ap (λ t. nat_eq c b && t) (bytewise Sensitive cs bs)
+bytewise Sensitive (c ∷ cs) (b ∷ bs) = ap (λ t. t && pointwise (same_byte Sensitive) cs bs) (sym (turned c b))
+    ∙ ap (λ t. nat_eq c b && t) (bytewise Sensitive cs bs)
 bytewise Fold [] [] = refl
 bytewise Fold [] (b ∷ bs) = refl
 bytewise Fold (c ∷ cs) [] = refl
@@ -119,7 +127,8 @@ turned_front n text = elim (sides n (length text)) [ inl le ↦ inside le | inr 
         let m = length text - n in
         let back = reverse (drop m text) in
         let len : length back ≡ n = let a = length-reverse (drop m text) in let b = length-drop m text in omega arith in
-        ap (take n) (ap reverse (sym (take-append-drop m text)) ∙ reverse-append (take m text) (drop m text)) ∙ take_exact back (reverse (take m text)) n len
+        ap (take n) (ap reverse (sym (take-append-drop m text)) ∙ reverse-append (take m text) (drop m text))
+            ∙ take_exact back (reverse (take m text)) n len
 
     outside : length text < n → take n (reverse text) ≡ reverse (drop (length text - n) text)
     outside lt =

@@ -1,5 +1,6 @@
 -- Lists of codes that begin others.
-use Rattle.std.proofs.Common.{◌≡◌, ℕ, zero, suc, ◌+◌, ◌<◌, ◌≤◌, Bool, true, false, ◌&&◌, ◌||◌, List, [], ◌∷◌, length, take, get_or, Option, Some, None, refl, sym, ap, ◌∙◌, arith}
+use Rattle.std.proofs.Common.{◌≡◌, ℕ, zero, suc, ◌+◌, ◌<◌, ◌≤◌, Bool, true, false, ◌&&◌, ◌||◌, List, [], ◌∷◌, length, take, get_or, Option, Some,
+    None, refl, sym, ap, ◌∙◌, arith}
 use Rattle.std.proofs.Common.{eqb, ltb, nat_eq}
 use Rattle.std.specs.Cmp.Lexicographic.{slice_cmp}
 use Rattle.std.specs.List.{starts_with, slice_get}
@@ -86,7 +87,8 @@ found_more (t ∷ ts) (c ∷ cs) (suc n) le pos =
 pub found_short : (text key : List ℕ) → starts_with nat_eq text key ≡ true → length key ≤ length text
 found_short text [] h = omega arith
 found_short [] (c ∷ cs) h = absurd cc
-found_short (t ∷ ts) (c ∷ cs) h = let le = found_short ts cs (by_test (nat_eq c t) (λ e. rw e at h) (λ e. let no : false ≡ true = rw e at h in absurd cc)) in omega arith
+found_short (t ∷ ts) (c ∷ cs) h = let le = found_short ts cs (by_test (nat_eq c t) (λ e. rw e at h)
+    (λ e. let no : false ≡ true = rw e at h in absurd cc)) in omega arith
 
 -- a key that a text has begins with a shorter front of the text
 pub found_begins : (text key : List ℕ) (n : ℕ) → n ≤ length key → starts_with nat_eq text key ≡ true → starts_with nat_eq key (take n text) ≡ true

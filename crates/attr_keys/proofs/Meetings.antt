@@ -1,5 +1,6 @@
 -- Which numbers are those of a subject's keys, and which keys the texts have.
-use Rattle.std.proofs.Common.{◌≡◌, ◌≢◌, ℕ, zero, suc, ◌+◌, ◌<◌, Bool, true, false, ◌&&◌, ◌||◌, List, [], ◌∷◌, ◌++◌, length, take, get_or, reverse, map, refl}
+use Rattle.std.proofs.Common.{◌≡◌, ◌≢◌, ℕ, zero, suc, ◌+◌, ◌<◌, Bool, true, false, ◌&&◌, ◌||◌, List, [], ◌∷◌, ◌++◌, length, take, get_or, reverse,
+    map, refl}
 use Rattle.std.proofs.Common.{sym, ap, ◌∙◌, arith, eqb, add-one, Option, Some, None}
 use Rattle.std.specs.Prelude.{slice_get}
 use Rattle.std.proofs.lemmas.Bool.{eqb-true}
@@ -80,7 +81,8 @@ about_less subject keys rows i key lt at other known r =
     ∙ ap (is_about subject) (get_other keys i r (unequal i r f))))
 
 -- a key of each subject
-pub gathered_or_any : (fold : Bool) (name path : List ℕ) (key : Option Key) → gathered fold name path key || is_about Anything key ≡ meets fold name path key
+pub gathered_or_any : (fold : Bool) (name path : List ℕ) (key : Option Key) → gathered fold name path key || is_about Anything key
+    ≡ meets fold name path key
 gathered_or_any fold name path None = refl
 gathered_or_any fold name path (Some key) = by_subject key.subject (Some key)
   where
@@ -88,7 +90,8 @@ gathered_or_any fold name path (Some key) = by_subject key.subject (Some key)
         ((same_subject Name subject && text_has fold name k) || (same_subject End subject && text_has fold (reverse name) k)
         || (same_subject Path subject && text_has fold path k)) || same_subject Anything subject
         ≡ meets_about fold name path subject k
-    by_subject Name k = or_none ((text_has fold name k || false) || false) ∙ (or_none (text_has fold name k || false) ∙ or_none (text_has fold name k))
+    by_subject Name k = or_none ((text_has fold name k || false) || false)
+        ∙ (or_none (text_has fold name k || false) ∙ or_none (text_has fold name k))
     by_subject End k = or_none (text_has fold (reverse name) k || false) ∙ or_none (text_has fold (reverse name) k)
     by_subject Path k = or_none (text_has fold path k)
     by_subject Anything k = refl

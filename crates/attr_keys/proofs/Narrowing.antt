@@ -1,5 +1,6 @@
 -- Halving finds the elements of one code in a list whose codes don't fall.
-use Rattle.std.proofs.Common.{◌≡◌, ℕ, zero, suc, ◌+◌, ◌-◌, ◌<◌, ◌≤◌, Bool, true, false, List, [], ◌∷◌, length, take, drop, get_or, refl, sym, ap, ◌∙◌, arith}
+use Rattle.std.proofs.Common.{◌≡◌, ℕ, zero, suc, ◌+◌, ◌-◌, ◌<◌, ◌≤◌, Bool, true, false, List, [], ◌∷◌, length, take, drop, get_or, refl, sym, ap, ◌∙◌,
+    arith}
 use Rattle.std.proofs.Common.{eqb, leb, ltb}
 use Rattle.std.specs.List.{filter}
 use Rattle.std.specs.List.Sorted.{IsNonDecreasingBy, IsPartitionPoint}
@@ -30,10 +31,12 @@ filter_take : (p : ℕ → Bool) (j : ℕ) (xs : List ℕ) → ((k : ℕ) → k 
 filter_take p zero [] on out = refl
 filter_take p (suc j) [] on out = refl
 filter_take p zero (x ∷ xs) on out =
-    rw (out 0 (omega arith) (omega arith)) (filter_take p zero xs (λ k lt within. absurd (omega arith)) (λ k le within. out (suc k) (omega arith) (omega arith)))
+    rw (out 0 (omega arith) (omega arith)) (filter_take p zero xs (λ k lt within. absurd (omega arith))
+        (λ k le within. out (suc k) (omega arith) (omega arith)))
 filter_take p (suc j) (x ∷ xs) on out =
     rw (on 0 (omega arith) (omega arith))
-    (ap (λ l. x ∷ l) (filter_take p j xs (λ k lt within. on (suc k) (omega arith) (omega arith)) (λ k le within. out (suc k) (omega arith) (omega arith))))
+    (ap (λ l. x ∷ l) (filter_take p j xs (λ k lt within. on (suc k) (omega arith) (omega arith))
+        (λ k le within. out (suc k) (omega arith) (omega arith))))
 
 take_long : (j : ℕ) (xs : List ℕ) → length xs ≤ j → take j xs ≡ xs
 take_long zero [] le = refl

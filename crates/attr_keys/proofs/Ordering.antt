@@ -14,7 +14,8 @@ use Rattle.attr_keys.specs.contracts.order.CodedRowOrd.TheImpl as coded
 use Rattle.attr_keys.specs.inner.Codes.{row_codes}
 use Rattle.attr_keys.specs.inner.Rows.{has_row, AreInOrder}
 
-pub sorted_rows : (before after : List CodedRow) (rows ordered : List ℕ) (row : ℕ) → (sorted : List CodedRow) → map (λ (c : CodedRow). c.row) before ≡ rows →
+pub sorted_rows : (before after : List CodedRow) (rows ordered : List ℕ) (row : ℕ) → (sorted : List CodedRow)
+    → map (λ (c : CodedRow). c.row) before ≡ rows →
     IsPermutation before sorted → after ≡ sorted → ordered ≡ map (λ (c : CodedRow). c.row) after → has_row ordered row ≡ has_row rows row
 sorted_rows before after rows ordered row sorted was moved same is =
     ap (λ l. has_row l row) (is ∙ ap (map (λ (c : CodedRow). c.row)) same)

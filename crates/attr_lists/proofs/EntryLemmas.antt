@@ -122,7 +122,8 @@ remove_all_step list_id start entries i d x lt e is =
     (is ∙ ap (of_other_lists list_id) (sym (get_or-map definitions_view entries i d))) e
 
 -- the definitions of a name after those of one more line are removed
-pub remove_list_step : (list_id number : ℕ) (name : List ℕ) (start entries now : List NameEntry) (lines : List (Mapping Value)) (i : ℕ) (line : Mapping Value) → i <
+pub remove_list_step : (list_id number : ℕ) (name : List ℕ) (start entries now : List NameEntry)
+    (lines : List (Mapping Value)) (i : ℕ) (line : Mapping Value) → i <
     length lines → line ≡ get_or lines i line
     → (definitions_at entries number ≡ of_other_lists list_id (definitions_at start number)) ⊎
     ((definitions_at entries number ≡ definitions_at start number) × (bodies_named name (entries_view (take i lines)) ≡ []))

@@ -47,7 +47,8 @@ no_place name none =
     ap (λ n. cond (ltb n (length name)) (Some n) None) (before-no_equals name none)
     ∙ ap (λ t. cond t (Some (length name)) None) (le-ltb (length name) (length name) (omega arith))
 
-pub place-equals : (name rest : List ℕ) → list_all (λ b. not (is_equals b)) name ≡ true → position is_equals (name ++ equals ∷ rest) ≡ Some (length name)
+pub place-equals : (name rest : List ℕ) → list_all (λ b. not (is_equals b)) name ≡ true → position is_equals (name ++ equals ∷ rest)
+    ≡ Some (length name)
 place-equals name rest none =
     let word = name ++ equals ∷ rest in
     let place : position_or_len is_equals word ≡ length name = place-behind is_equals name (equals ∷ rest) none ∙ add-zero (length name) in

@@ -51,7 +51,8 @@ pub alone_popped : {X : Type 0} (read : X → Listed) (r : Option X) (old new : 
     → IsDistinct nat_eq (list_ids_in old) → IfSome r (λ _. Keeps (registered_lists old known) (registered_lists new now))
     → IfSome r (λ _. Removes (registered_lists old known) (registered_lists new now))
     → lists_in old ≡ lists_in new ++ option_to_list (option_map read r) → MatchOption r (now ≡ known) (λ _. RemovesLast (list_ids_in old) known now)
-    → MatchOption r (list_ids_in new ≡ list_ids_in old) (λ _. LosesLast (list_ids_in old) (list_ids_in new)) → IsAlone (registered_lists old known) → IsAlone (registered_lists new now)
+    → MatchOption r (list_ids_in new ≡ list_ids_in old) (λ _. LosesLast (list_ids_in old) (list_ids_in new)) → IsAlone (registered_lists old known)
+        → IsAlone (registered_lists new now)
 alone_popped read None old new known now distinct kept gone lists_are now_is ids_are h =
     subst (λ k. RegistersAlone k (list_ids_in new) (lists_in new)) (sym now_is)
     (subst (λ ids. RegistersAlone known ids (lists_in new)) (sym ids_are)

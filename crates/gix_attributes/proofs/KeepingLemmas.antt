@@ -1,6 +1,8 @@
 -- What additions and removals keep, and what a collection registers after them.
-use Rattle.std.proofs.Common.{◌≡◌, ◌≢◌, ◌∙◌, ℕ, zero, suc, ◌+◌, ◌-◌, ◌<◌, ◌≤◌, true, false, not, cond, eqb, List, [], ◌∷◌, ◌++◌, length, get_or, map, All}
-use Rattle.std.proofs.Common.{nat_eq, eq-eqb, slice_get, Option, Some, None, option_map, unwrap_or, MatchOption, refl, sym, ap, subst, append_assoc, arith, ⊎_elim}
+use Rattle.std.proofs.Common.{◌≡◌, ◌≢◌, ◌∙◌, ℕ, zero, suc, ◌+◌, ◌-◌, ◌<◌, ◌≤◌, true, false, not, cond, eqb, List, [], ◌∷◌, ◌++◌, length, get_or, map,
+    All}
+use Rattle.std.proofs.Common.{nat_eq, eq-eqb, slice_get, Option, Some, None, option_map, unwrap_or, MatchOption, refl, sym, ap, subst, append_assoc,
+    arith, ⊎_elim}
 use Rattle.std.specs.Bool.{⊤}
 use Rattle.std.specs.Prelude.{IfSome}
 use Rattle.std.specs.List.{IsDistinct, flat_map}
@@ -98,7 +100,8 @@ line_covered names e is = record {
 
 line_more : (n m : ℕ) → n ≤ m → (e : Entry) → IsCovered n e → IsCovered m e
 line_more n m more e is = record {
-  items = All-weaker (λ (i : TrackedAssignment). i.id.0 < n) (λ (i : TrackedAssignment). i.id.0 < m) (λ i lt. omega (arith, lt, more)) e.items is.items;
+  items = All-weaker (λ (i : TrackedAssignment). i.id.0 < n) (λ (i : TrackedAssignment). i.id.0 < m)
+      (λ i lt. omega (arith, lt, more)) e.items is.items;
   macro = at e.macro is.macro;
 }
   where
@@ -462,7 +465,8 @@ get_at (y ∷ ys) (suc i) x d h = get_at ys i x d h
 last_named : (names : List (List ℕ)) (ds : List MacroDefinition) → All (λ d. AreNamed names d.body) ds → AreNamed names (last_body ds)
 last_named names ds h = at (slice_get ds (length ds - 1)) refl
   where
-    at : (o : Option MacroDefinition) → slice_get ds (length ds - 1) ≡ o → AreNamed names (unwrap_or (option_map (λ (d : MacroDefinition). d.body) o) [])
+    at : (o : Option MacroDefinition) → slice_get ds (length ds - 1) ≡ o
+        → AreNamed names (unwrap_or (option_map (λ (d : MacroDefinition). d.body) o) [])
     at None e = All-nil (λ (i : TrackedAssignment). IsNumberOf names i.inner.name i.id)
     at (Some d) e = subst (λ (x : MacroDefinition). AreNamed names x.body) (get_at ds (length ds - 1) d d e)
         (h (length ds - 1) d (get_below ds (length ds - 1) d e))

@@ -15,7 +15,8 @@ use Rattle.attr_lists.specs.Numbers.{number_of}
 use Rattle.attr_lists.specs.Definitions.{IsSoundCollection, IsWithin, last_body}
 use Rattle.attr_lists.specs.declared.types.TrackedAssignment.{TrackedAssignment}
 use Rattle.attr_search.specs.inner.SlotContents.{SlotContents, wanted_numbers}
-use Rattle.gix_attributes.specs.Contents.{Content, Wanted, bodies_of, reset_content, flags_of, found_in, initial_content, is_wanted, looked_up}
+use Rattle.gix_attributes.specs.Contents.{Content, Wanted, bodies_of, reset_content, found_in, initial_content, is_wanted, looked_up}
+use Rattle.gix_attributes.specs.inner.Consistency.{flags_of}
 use Rattle.gix_attributes.specs.Contents.{names_selected}
 use Rattle.attr_search.specs.Settings.{HaveSlots}
 use Rattle.attr_search.specs.inner.Slotted.{BodiesHaveSlots}

@@ -9,7 +9,8 @@ use Rattle.attr_search.specs.declared.path_query.PathQuery.{PathQuery}
 use Rattle.attr_search.specs.SearchContents.{SearchContents}
 use Rattle.attr_search.specs.inner.SlotContents.{wanted_numbers}
 use Rattle.gix_attributes.specs.ContentView.{outcome_view}
-use Rattle.gix_attributes.specs.Contents.{Content, reset_content, flags_of, is_wanted, wanted_of}
+use Rattle.gix_attributes.specs.Contents.{Content, reset_content, is_wanted, wanted_of}
+use Rattle.gix_attributes.specs.inner.Consistency.{flags_of}
 use Rattle.attr_search.specs.IndexedLists.{lists_view}
 use Rattle.gix_attributes.specs.Selection.{selection_view}
 use Rattle.attr_search.specs.Settings.{Listed}

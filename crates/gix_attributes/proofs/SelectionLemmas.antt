@@ -12,7 +12,8 @@ use Rattle.attr_lists.specs.Collections.{Collection}
 use Rattle.attr_lists.specs.Definitions.{macro_body, last_body}
 use Rattle.attr_lists.specs.declared.types.TrackedAssignment.{TrackedAssignment}
 use Rattle.attr_lists.specs.contracts.types.TrackedAssignmentPartialEq.TheImpl as tracked
-use Rattle.gix_attributes.specs.Contents.{has_number, is_wanted, flags_of, bodies_of}
+use Rattle.gix_attributes.specs.Contents.{has_number, is_wanted, bodies_of}
+use Rattle.gix_attributes.specs.inner.Consistency.{flags_of}
 use Rattle.gix_attributes.specs.Selection.{wanted_view, selection_view}
 use Rattle.attr_search.specs.inner.Slotted.{bodies_view}
 use Rattle.gix_attributes.specs.declared.search.selection.SelectedName.{SelectedName}

@@ -38,10 +38,6 @@ has_number number wanted = unwrap_or (option_map (λ n. n == number) wanted.numb
 abbrev pub is_wanted : List Wanted → ℕ → Bool
 is_wanted selection number = length selection == 0 || list_any (has_number number) selection
 
--- for each number below a count whether it is wanted
-abbrev pub flags_of : List Wanted → ℕ → List Bool
-flags_of selection count = map (is_wanted selection) (range_with_len 0 count)
-
 -- the numbers for which an outcome wants a match
 abbrev pub wanted_of : Content → List ℕ
 wanted_of held = filter (is_wanted held.selection) (range_with_len 0 (length held.slots))
@@ -100,10 +96,6 @@ unspecified text =
 abbrev pub selected_answer : List (Option Matched) → Wanted → Matched
 selected_answer slots wanted =
     unwrap_or (option_and_then (λ number. slice_index_or slots number None) wanted.number) (unspecified wanted.name)
-
--- the default of an index past the last selected name
-abbrev pub nothing_wanted : Wanted
-nothing_wanted = record { name = []; number = None }
 
 -- the match of each selected name, in their order
 abbrev pub selected_in : List (Option Matched) → List Wanted → List Matched

@@ -1,4 +1,5 @@
 -- Relations between functions inside the crate (own). No contract of a public call reaches them, so nothing of them has to be
 -- believed.
+pub mod Consistency
 pub mod HeldLists
 pub mod Registering

@@ -4,7 +4,8 @@ ghost use Rattle.std.specs.Prelude.{◌≡◌, ◌↔◌, ◌<◌, All, None, If
 ghost use Rattle.attr_table.specs.Cut.{is_done};
 ghost use Rattle.attr_glob.specs.Views.{pattern_view};
 ghost use Rattle.attr_lists.specs.ListViews.{entry_view};
-ghost use Rattle.gix_attributes.specs.Contents.{IsCurrent, reset_content, flags_of, found_in, initial_content, looked_up, names_selected, empty_content, nothing_wanted, selected_answer, selected_in, wanted_of};
+ghost use Rattle.gix_attributes.specs.Contents.{IsCurrent, reset_content, found_in, initial_content, looked_up, names_selected, empty_content, selected_answer, selected_in, wanted_of};
+ghost use Rattle.gix_attributes.specs.inner.Consistency.{flags_of, nothing_wanted};
 ghost use Rattle.gix_attributes.specs.Covered.{AreCovered, IsCovered, ListsAreCovered};
 ghost use Rattle.attr_search.specs.IndexedLists.{listed_view};
 ghost use Rattle.gix_attributes.specs.SearchViews.{lists_in};
@@ -51,7 +52,8 @@ impl Model for Outcome {
 
     ghost Value = { Content };
 
-    ghost use Rattle.gix_attributes.specs.ContentView.{IsConsistent, outcome_view};
+    ghost use Rattle.gix_attributes.specs.ContentView.{outcome_view};
+    ghost use Rattle.gix_attributes.specs.inner.Consistency.{IsConsistent};
 
     ghost view = { outcome_view };
 

@@ -1,7 +1,8 @@
 //! The names that an outcome looks for, with their numbers, and the bodies that it copies from a collection.
 
 ghost use Rattle.std.specs.Prelude.{◌≡◌, ◌↔◌, ◌<◌, ⊤, IsTrue, All, IfOk, MatchOption, length, map};
-ghost use Rattle.gix_attributes.specs.Contents.{bodies_of, flags_of, looked_up, names_selected};
+ghost use Rattle.gix_attributes.specs.Contents.{bodies_of, looked_up, names_selected};
+ghost use Rattle.gix_attributes.specs.inner.Consistency.{flags_of};
 ghost use Rattle.gix_attributes.specs.Selection.{selection_view};
 ghost use Rattle.attr_search.specs.inner.Slotted.{bodies_view};
 

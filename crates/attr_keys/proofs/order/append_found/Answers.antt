@@ -47,7 +47,8 @@ loop-place-preserved c =
     let len = length-codes c.args.fold c.args.text.now in
     record {
       left =
-          left_more codes text rows left c.narrowed-left.result.now place c.code.result (omega arith) (codes_positive c.args.fold c.args.text.now true)
+          left_more codes text rows left c.narrowed-left.result.now place c.code.result (omega arith)
+              (codes_positive c.args.fold c.args.text.now true)
           c.loop-place.invariant.left c.code.ensures c.narrowed-left.ensures;
       found = λ row.
           found_next codes text rows left c.args.found.now.items c.loop-place.found.items c.extend_from_slice.new.self.items c.narrowed.result.now

@@ -1,5 +1,6 @@
 use Rattle.std.proofs.Common.{◌≡◌, ◌∙◌, length, sym, ap}
-use Rattle.gix_attributes.specs.Contents.{flags_of, looked_up, names_selected}
+use Rattle.gix_attributes.specs.Contents.{looked_up, names_selected}
+use Rattle.gix_attributes.specs.inner.Consistency.{flags_of}
 use Rattle.gix_attributes.specs.Selection.{selection_view}
 use Rattle.gix_attributes.proofs.OutcomeLemmas.{held_as, length_flags, selected_below}
 use Rattle.gix_attributes.proofs.search.outcome.Outcome.copy_into.Goals as goal

@@ -1,5 +1,5 @@
 use Rattle.std.proofs.Common.{◌≡◌, ◌∙◌, length, map, None, sym, ap}
-use Rattle.gix_attributes.specs.Contents.{flags_of}
+use Rattle.gix_attributes.specs.inner.Consistency.{flags_of}
 use Rattle.gix_attributes.specs.Selection.{selection_view}
 use Rattle.attr_search.specs.inner.Slotted.{bodies_view}
 use Rattle.gix_attributes.proofs.OutcomeLemmas.{slots_made, bodies_counted, bodies_have_slots, held_as, length_flags, same_empty, selected_below}
