@@ -1,4 +1,4 @@
-//! What is between the brackets of a pattern: single bytes, ranges and classes.
+//! What is between the brackets of a pattern: single bytes, ranges and classes (gitignore page: the range notation).
 
 ghost use Rattle.std.specs.Prelude.{◌≡◌, ℕ, ◌||◌, ◌+◌, ◌≤◌, ◌<◌, IfSome, IfOk, ◌==◌, ◌&&◌, not, length, option_map, position, true, None, Some};
 ghost use Rattle.attr_glob.specs.Bytes.{close_bracket};
@@ -10,7 +10,7 @@ use crate::pattern::Case;
 use std::alloc::{AllocError, Global};
 use std::marker::Model;
 
-/// A class of ASCII bytes, as `[:digit:]` names it.
+/// A class of ASCII bytes, such as `[:digit:]`. The classes are those of the POSIX locale.
 #[derive(Clone, Copy, PartialEq, Eq, PartialOrd, Ord, Hash, Debug)]
 pub(crate) enum Class {
     Alnum,
@@ -94,7 +94,7 @@ impl Member {
     }
 }
 
-// The bytes between which those of the member lie.
+// The least and the greatest byte that the member may have.
 fn bounds(member: Member) -> (u8, u8)
     ensures { (b : ℕ) → member_holds member b ≡ true → (result.0 ≤ b) × (b ≤ result.1) }
 {
@@ -215,7 +215,7 @@ fn single_or_range(byte: u8, bytes: &[u8]) -> (Member, &[u8])
     (Member::Single(byte), bytes)
 }
 
-// The member that a backslash begins, which these bytes follow.
+// The member that a backslash begins, given the bytes after the backslash, and what follows the member.
 fn escaped(bytes: &[u8]) -> Option<(Member, &[u8])>
     ensures member { option_map (λ r. (r.0, r.1.now)) result ≡ from_escape bytes.now }
     ensures shorter { IfSome result (λ r. length r.1.now ≤ length bytes.now) }
@@ -224,7 +224,7 @@ fn escaped(bytes: &[u8]) -> Option<(Member, &[u8])>
     Some(single_or_range(*byte, rest))
 }
 
-// The member that `[:` begins, given the bytes after the `[`.
+// The member that `[:` begins, given the bytes after the `[`, and what follows the member. None for an unknown class.
 fn class_or_single(bytes: &[u8]) -> Option<(Member, &[u8])>
     requires { 0 < length bytes.now }
     ensures member { option_map (λ r. (r.0, r.1.now)) result ≡ from_class bytes.now }

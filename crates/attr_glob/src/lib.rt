@@ -1,5 +1,5 @@
-//! The patterns of attributes files and ignore files: quoted texts are undone, pattern texts are read, and patterns are
-//! matched against paths.
+//! The patterns of attributes files and ignore files (gitattributes and gitignore pages): this crate undoes quoted
+//! texts, reads pattern texts, and matches patterns against paths.
 #![tactic(auto)]
 
 mod bracket;

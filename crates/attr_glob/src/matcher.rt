@@ -21,7 +21,7 @@ use std::marker::Model;
 #[derive(Debug, Drop)]
 pub struct Matcher {
     pattern: Pattern,
-    // None if the text is malformed or, without a wildcard, isn't read.
+    // None if the text is malformed, or has no wildcard, so that no tokens are needed.
     tokens: Option<Tokens>,
 }
 
@@ -44,7 +44,7 @@ impl Matcher {
     ///
     /// # Errors
     ///
-    /// Fails if memory runs out.
+    /// If memory runs out.
     pub fn of(alloc: Global, pattern: &Pattern) -> Result<Matcher, AllocError>
         ensures { IfOk result (λ matcher. matcher ≡ pattern_view pattern.now) }
     {
@@ -56,12 +56,13 @@ impl Matcher {
         Ok(Matcher { pattern, tokens })
     }
 
-    /// Whether the pattern matches the path, whose base name begins at this place. A path that isn't known to be
-    /// a directory counts as none. What is returned for a pattern that was not read from a text is open.
+    /// Whether the pattern matches the path (gitignore page, "PATTERN FORMAT"). `basename_start_pos` is the path's
+    /// [`base_name_place`](crate::pattern::base_name_place). A path that isn't known to be a directory counts as none.
+    /// The answer for a pattern that was not read from a text is not specified.
     ///
     /// # Errors
     ///
-    /// Fails if the rows have no room for the tokens and can't grow. No other memory is taken.
+    /// If `rows` has no room for the tokens and memory runs out. No other memory is taken.
     pub fn matches_repo_relative_path(
         &self,
         path: BStr<'_>,

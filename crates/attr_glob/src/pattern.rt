@@ -17,15 +17,15 @@ use bitflags::{Flag, Flags};
 use bstr::BStr;
 use std::alloc::{AllocError, Global};
 
-/// What a pattern text gives beside the text to match: the flags of the gitignore page.
+/// The flags of a pattern: what its pattern text gives beside the text to match (gitignore page).
 #[derive(Clone, Copy, PartialEq, Eq, PartialOrd, Ord, Hash, Debug)]
 pub struct Mode(u32);
 
 impl Mode {
-    /// The text has no slash, so it is matched against the last part of a path.
+    /// The text has no slash, so it is matched against the base name of a path, unless `ABSOLUTE` is set too.
     pub const NO_SUB_DIR: Mode = Mode(1);
 
-    /// The text is a star and literal bytes that a path has to end with.
+    /// The text is a star and literal bytes, which the path or base name has to end with.
     pub const ENDS_WITH: Mode = Mode(2);
 
     /// The path has to be a directory.
@@ -91,7 +91,7 @@ impl Flags for Mode {
     }
 }
 
-/// Whether ASCII letters of both cases are the same.
+/// Whether the case of ASCII letters matters.
 #[derive(Clone, Copy, PartialEq, Eq, PartialOrd, Ord, Hash, Debug)]
 pub enum Case {
     /// Letters of different case differ.
@@ -100,24 +100,24 @@ pub enum Case {
     Fold,
 }
 
-/// A pattern text that was read.
+/// A pattern, as it is read from a pattern text.
 #[derive(PartialEq, Eq, PartialOrd, Ord, Hash, Debug, Drop)]
 pub struct Pattern {
-    /// What the paths are matched against.
+    /// The text that paths or base names are matched against.
     pub text: Vec<u8>,
     /// The flags of the pattern text.
     pub mode: Mode,
-    /// The place in `text` of the first `*`, `?`, `[` or backslash.
+    /// The place in `text`, in bytes from 0, of the first wildcard: `*`, `?`, `[` or a backslash. None without one.
     pub first_wildcard_pos: Option<usize>,
 }
 
 impl Pattern {
-    /// Reads a pattern text, as the gitignore page has it. One that has only whitespace after its exclamation mark is no
-    /// pattern.
+    /// Reads a pattern text by the gitignore page. Returns `None` if it has only whitespace or nothing, a leading
+    /// exclamation mark aside: then it is no pattern.
     ///
     /// # Errors
     ///
-    /// Fails if memory runs out, which takes a text that is a pattern.
+    /// If memory runs out. A text that is no pattern takes no memory.
     pub fn from_bytes(alloc: Global, text: &[u8]) -> Result<Option<Pattern>, AllocError>
         ensures ok { IfOk result (λ found. option_map pattern_view found ≡ reading text.now) }
         ensures negative { IfOk result (λ found. IfSome found (λ pattern.
@@ -143,11 +143,12 @@ impl Pattern {
         self.mode.contains(Mode::NEGATIVE)
     }
 
-    /// The pattern as a pattern text.
+    /// The pattern as a pattern text: its text, with the exclamation mark and the slashes of its flags. The backslash
+    /// of a leading `\!` or `\#` was removed when the text was read, and is not written.
     ///
     /// # Errors
     ///
-    /// Fails if memory runs out.
+    /// If memory runs out.
     pub fn write_text(&self, alloc: Global) -> Result<Vec<u8>, AllocError>
         ensures { IfOk result (λ v. v.items ≡ written (pattern_view self.now)) }
     {
@@ -165,12 +166,13 @@ impl Pattern {
         Ok(text)
     }
 
-    /// Whether the pattern matches the path, whose base name begins at this place. A path that isn't known to be
-    /// a directory counts as none. What is returned for a pattern that was not read from a text is open.
+    /// Whether the pattern matches the path (gitignore page, "PATTERN FORMAT"). `basename_start_pos` is the path's
+    /// [`base_name_place`]. A path that isn't known to be a directory counts as none. The answer for a pattern that
+    /// was not read from a text is not specified.
     ///
     /// # Errors
     ///
-    /// Fails if memory for the tokens of the pattern's text runs out. None is taken if bytes alone decide: see the clauses.
+    /// If memory for the tokens of the pattern's text runs out. None is taken if bytes alone decide: see the clauses.
     pub fn matches_repo_relative_path(
         &self,
         alloc: Global,
@@ -227,8 +229,8 @@ impl Pattern {
         base_name(path, basename_start_pos)
     }
 
-    // Whether the text matches the value, if bytes decide without tokens. A pattern built by hand may have a place past
-    // its text's end, or no star if the end decides.
+    // Whether the text matches the value, if bytes decide without tokens. A pattern that was built by hand may have a
+    // wildcard place past the end of its text, or `ENDS_WITH` without a star.
     pub(crate) fn answer_by_bytes(&self, value: &[u8], case: Case) -> Option<bool>
         ensures matched { IfSome result (λ answer. (text : List ℕ) →
             reading text ≡ Some (pattern_view self.now) →
@@ -256,7 +258,7 @@ impl Pattern {
     ///
     /// # Errors
     ///
-    /// Fails if memory runs out.
+    /// If memory runs out.
     pub fn clone(&self, alloc: Global) -> Result<Pattern, AllocError>
         ensures { IfOk result (λ copy. pattern_view copy ≡ pattern_view self.now) }
     {
@@ -408,7 +410,7 @@ fn ends_with(value: &[u8], end: &[u8], case: Case) -> bool
     end.len() <= value.len() && same_text(case, end, &value[value.len() - end.len()..])
 }
 
-/// The place after the last slash of a path, none without one.
+/// The place of a path's base name, in bytes from 0: after the last slash. None without a slash.
 pub fn base_name_place(path: &[u8]) -> Option<usize>
     ensures { result ≡ base_name_place path.now }
 {
@@ -434,7 +436,7 @@ pub fn base_name(path: &[u8], basename_pos: Option<usize>) -> &[u8]
     }
 }
 
-/// The computed test of matching a path decides the relation (a law).
+/// A law: the test that computes whether a pattern matches a path decides the relation.
 pub fn test_tells_path_match(pattern: &Pattern, path: BStr<'_>, is_dir: Option<bool>, case: Case)
     ensures { IsTrue (path_matches case (pattern_view pattern.now) (bstr_bytes path.entry) is_dir) ↔
         PathMatches case (pattern_view pattern.now) (bstr_bytes path.entry) is_dir }

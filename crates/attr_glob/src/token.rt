@@ -1,4 +1,4 @@
-//! The tokens of a pattern's text.
+//! The tokens of a pattern's text, by the gitignore page.
 
 ghost use Rattle.std.specs.Prelude.{◌≡◌, ◌+◌, ◌≤◌, ◌<◌, ◌^◌, ◌&&◌, ◌↔◌, List, IfSome, IfOk, IsTrue, Some, true, length, option_map};
 ghost use Rattle.attr_glob.specs.Tokens.{Token as Meaning, after_stars, stars_at, bracket_at, escape_at, token_at, token_ends_in_slash as meaning_ends_in_slash, tokens as meaning_of_text};
@@ -13,20 +13,20 @@ use crate::pattern::Case;
 use std::alloc::{AllocError, Global};
 use std::marker::Model;
 
-/// What a part of a pattern takes.
+/// A part of a pattern's text, with the bytes of a value that it takes.
 #[derive(Debug, Drop)]
 pub(crate) enum Token {
-    /// That byte.
+    /// This byte.
     Lit(u8),
-    /// One byte, but no slash.
+    /// `?`: one byte, but no slash.
     One,
-    /// One byte of the members or, if negated, one that isn't of them, but no slash.
+    /// A bracket: one byte of the members or, if negated, one that isn't of them, but no slash.
     Set { negated: bool, members: MemberSet },
-    /// Any text without a slash.
+    /// `*`: any text without a slash.
     Star,
-    /// Nothing, or any text that ends in a slash.
+    /// A folder star, which is `**/` at the start or after a slash: nothing, or any text that ends in a slash.
     Dirs,
-    /// Any text.
+    /// `**` at the end, if it is at the start too or after a slash: any text.
     Rest,
 }
 
@@ -198,12 +198,12 @@ impl Model for Tokens {
 }
 
 impl Tokens {
-    /// Reads a pattern's text. None if it is malformed: a bracket that isn't closed or names an unknown
-    /// class, or a lone backslash at its end.
+    /// Reads a pattern's text. Returns `None` if it is malformed: a bracket isn't closed or names an unknown class, or
+    /// a lone backslash ends the text.
     ///
     /// # Errors
     ///
-    /// Fails if memory runs out.
+    /// If memory runs out.
     pub fn read(alloc: Global, text: &[u8]) -> Result<Option<Tokens>, AllocError>
         ensures tokens { IfOk result (λ o. o ≡ meaning_of_text text.now) }
         ensures few { IfOk result (λ o. IfSome o (λ ts. length ts ≤ length text.now)) }
@@ -239,7 +239,7 @@ impl Tokens {
         self.list.is_empty()
     }
 
-    /// How many places of a row the tokens need.
+    /// How many places the row of a match needs: one more than there are tokens.
     pub fn places(&self) -> usize
         ensures { result ≡ length self.now + 1 }
     {
@@ -255,7 +255,7 @@ impl Tokens {
     }
 }
 
-/// The tokens of a text are those that it spells (a law).
+/// A law: the tokens that are computed of a text are those that it spells.
 pub fn tokens_are_spelled(text: &[u8])
     ensures { (ts : List Meaning) →
         (meaning_of_text text.now ≡ Some ts) ↔ AreTokens true text.now ts }

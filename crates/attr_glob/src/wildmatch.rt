@@ -1,7 +1,8 @@
-//! Matching of patterns: a row of the places that are reached, moved forward over the value.
+//! Matching of tokens against a value: a row of places moves forward over the bytes of the value.
 //!
-//! A row has the place k if the first k tokens match the bytes so far, or if token k is a folder star
-//! and they match some first part of them. So no pair of places is visited twice.
+//! A row has the place k if the first k tokens match the bytes so far, or if token k is a folder star (`**/`) and the
+//! first k tokens match some first part of these bytes. So no pair of a place among the tokens and a place in the
+//! value is visited twice.
 
 ghost use Rattle.std.specs.Prelude.{◌≡◌, ◌+◌, ◌*◌, ◌≤◌, ◌<◌, ◌^◌, ◌↔◌, ◌++◌, ◌∷◌, [], ℕ, Bool, List, All, IfOk, IsOk, IsSome, IfSome, IfNone, OnOk, IsTrue, option_map, IsFalse, true, false, length, slice_get, vec_capacity};
 ghost use Rattle.attr_glob.specs.Tokens.{Token as Meaning};
@@ -49,8 +50,9 @@ fn push(row: &mut Vec<usize>, place: usize)
     let _ = row.push(place);
 }
 
-// Adds a fresh place to the row, and those after it up to which the tokens may take nothing, unless the row has it.
-// `free` is one more than the row's last place, before and after.
+// Adds a fresh place to the row, and those after it up to which the tokens may take nothing, unless the row has it. A
+// place is fresh if the tokens before it match exactly the bytes so far. `free` is one more than the row's last place,
+// before and after.
 fn insert(tokens: &[Token], row: &mut Vec<usize>, free: usize, place: usize) -> usize
     requires inside { place ≤ length tokens.now }
     requires room { HasRoom (length tokens.now) row.old free }
@@ -72,7 +74,7 @@ fn insert(tokens: &[Token], row: &mut Vec<usize>, free: usize, place: usize) -> 
     last + 1
 }
 
-// Adds the place of a folder star to the row, where it stays without being fresh, unless the row has it.
+// Adds the place of a folder star to the row, unless the row has it. It stays in the row, and need not be fresh.
 fn insert_folder(tokens: &[Token], row: &mut Vec<usize>, free: usize, place: usize) -> usize
     requires inside { place ≤ length tokens.now }
     requires room { HasRoom (length tokens.now) row.old free }
@@ -203,7 +205,8 @@ impl Step<'_> {
 }
 
 // Moves the row over the value. Returns whether the tokens match it, and how many pairs of a place among the
-// tokens and a place in the value were visited, which fits: (n + 1)(t + 1) for fewer than 2^63 tokens.
+// tokens and a place in the value were visited. The count fits: it is at most (n + 1)(t + 1) for n tokens, fewer than
+// 2^63, and t bytes.
 fn run(
     tokens: &[Token],
     value: &[u8],
@@ -294,7 +297,7 @@ fn skip_end<'t, 'v>(
     Some((left, rest))
 }
 
-/// The buffers of a matcher, which any number of matches can share. They grow only by `reserve`.
+/// The two row buffers of a match, which any number of matches can share. They grow only by `reserve`.
 #[derive(Debug, Drop)]
 pub struct MatchBuffers {
     row: Vec<usize>,
@@ -320,11 +323,11 @@ impl MatchBuffers {
         }
     }
 
-    /// Makes room for this many places. Tokens need one place more than there are of them.
+    /// Makes room for this many places. Tokens need [`Tokens::places`].
     ///
     /// # Errors
     ///
-    /// Fails if memory runs out. The room that there was stays.
+    /// If memory runs out. The room that there was stays.
     pub fn reserve(&mut self, places: usize) -> Result<(), AllocError>
         ensures room { OnOk result (places ≤ self.new) }
         ensures kept { self.old ≤ self.new }
@@ -371,13 +374,12 @@ impl Tokens {
     }
 }
 
-/// Whether the tokens of the text match the whole value, and how many pairs (place in the text, place in
-/// the value) were visited: none for a malformed text, which matches nothing. The pairs always fit: a
-/// count that would pass `u128::MAX` can't come about.
+/// Whether the tokens of the text match the whole value, and how many pairs (place among the tokens, place in the
+/// value) were visited: none for a malformed text, which matches nothing. The count always fits into a `u128`.
 ///
 /// # Errors
 ///
-/// Fails if memory runs out.
+/// If memory runs out.
 pub fn count(
     alloc: Global,
     text: &[u8],
@@ -399,7 +401,7 @@ pub fn count(
     Ok(tokens.count(value, case, &mut rows))
 }
 
-/// The computed tests of matching decide the relations (a law).
+/// A law: the tests that compute whether tokens or a text match a value decide the relations.
 pub fn tests_tell_match(case: Case, text: &[u8], value: &[u8])
     ensures tokens { (ts : List Meaning) →
         IsTrue (matches case ts value.now) ↔ Match case ts value.now }

@@ -1,37 +1,39 @@
-//! Keys, and the codes by which they are ordered.
+//! Keys, and the codes by which they are sorted: 0 past the end of a text, 1 at the end of a whole text, and else the
+//! value of a byte plus 2.
 
 ghost use Rattle.std.specs.Prelude.{◌≡◌, IfOk, slice_index};
 ghost use Rattle.attr_keys.specs.inner.Codes.{byte_code, codes_of, row_codes};
 
 use std::alloc::{AllocError, Global};
 
-/// What has to have a key.
+/// The text of a path that a key is compared with.
 #[derive(Clone, Copy, Debug)]
 pub enum Subject {
-    /// The base name of a path.
+    /// The base name of the path: what follows its last slash.
     Name,
-    /// The base name, turned round.
+    /// The base name, reversed.
     End,
     /// The whole path.
     Path,
-    /// Nothing: any path will do.
+    /// No text: the line may match any path.
     Anything,
-    /// No path does.
+    /// No text: the line matches no path.
     Nothing,
 }
 
-/// A text that is looked up: other texts have the key if they begin with its text.
+/// A text that is looked up. Another text has the key if it begins with this text or, if `is_whole` is set, is this
+/// text.
 #[derive(Debug, Drop)]
 pub struct Key {
-    /// What has to have the key.
+    /// The text of a path that has to have the key.
     pub subject: Subject,
-    /// What the subject begins with.
+    /// The bytes that the subject begins with.
     pub text: Vec<u8>,
-    /// Whether nothing may follow it.
+    /// Whether the subject has no other bytes.
     pub is_whole: bool,
 }
 
-// The code of a byte, above those of an end.
+// The code of a byte, above the codes 0 and 1 of ends. Under `fold` a capital letter has the code of its small letter.
 fn byte_code(fold: bool, byte: u8) -> u16
     ensures { result ≡ byte_code fold byte }
 {
@@ -42,7 +44,7 @@ fn byte_code(fold: bool, byte: u8) -> u16
     }
 }
 
-/// The code of a text at a place, 0 past its last one. A whole text has one more code than bytes.
+/// The code of a text at a place, counted from 0, and 0 past its last code. A whole text has one more code than bytes.
 pub fn code(text: &[u8], is_whole: bool, fold: bool, place: usize) -> u16
     ensures { result ≡ slice_index (codes_of fold text.now is_whole) place }
 {
@@ -53,7 +55,7 @@ pub fn code(text: &[u8], is_whole: bool, fold: bool, place: usize) -> u16
     }
 }
 
-/// The code at a place of the key with this number, 0 without such a key.
+/// The code at a place of the key with the index `row`, and 0 if there is no such key.
 pub fn row_code(keys: &[Key], row: usize, fold: bool, place: usize) -> u16
     ensures { result ≡ slice_index (row_codes fold keys.now row) place }
 {
@@ -63,11 +65,11 @@ pub fn row_code(keys: &[Key], row: usize, fold: bool, place: usize) -> u16
     }
 }
 
-/// All codes of the key with this number.
+/// All codes of the key with the index `row`, and none if there is no such key.
 ///
 /// # Errors
 ///
-/// If memory is refused.
+/// If memory runs out.
 pub fn all_codes(
     alloc: Global,
     keys: &[Key],

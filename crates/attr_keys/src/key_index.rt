@@ -1,4 +1,4 @@
-//! The keys of lines, and which lines a path's texts have the keys of.
+//! The index of lines by their keys: it finds the lines that a path may match.
 
 ghost use Rattle.std.specs.Prelude.{◌≡◌, ◌||◌, ℕ, IfOk, OnOk, map, reverse, slice_get};
 ghost use Rattle.attr_keys.specs.inner.Meeting.{content_met_at, is_about, key_content, same_subject};
@@ -20,7 +20,7 @@ pub struct KeyIndex {
     others: Vec<usize>,
 }
 
-// The numbers of the keys of each subject, in the order of the keys.
+// For each subject the rows of its keys, sorted by the keys. A row is the index of a key, and of its line.
 #[derive(Debug, Drop)]
 struct Orders {
     names: Vec<usize>,
@@ -41,23 +41,23 @@ impl Model for KeyIndex {
     ghost invariant = { IsKeyIndex };
 }
 
-/// What lines are looked up by.
+/// The texts of a path, by which lines are looked up.
 #[derive(Clone, Copy)]
 pub struct Texts<'a> {
     /// The base name of a path.
     pub name: &'a [u8],
     /// The path.
     pub path: &'a [u8],
-    /// Whether small and capital letters are the same.
+    /// Whether ASCII letters match regardless of case.
     pub fold: bool,
 }
 
 impl KeyIndex {
-    /// The index of lines with these keys, in their order.
+    /// The index of lines with these keys, a key for each line, in their order.
     ///
     /// # Errors
     ///
-    /// If memory is refused.
+    /// If memory runs out.
     pub fn of(alloc: Global, keys: Vec<Key>) -> Result<KeyIndex, AllocError>
         ensures { IfOk result (λ index. index ≡ map key_content keys.items) }
     {
@@ -72,12 +72,12 @@ impl KeyIndex {
         })
     }
 
-    /// Finds the places of the lines whose keys the texts have, the greatest first. They take the place of what was
-    /// found before. `turned` is a buffer.
+    /// Finds the places of the lines whose keys the texts have, the greatest first. A place is the index of a line,
+    /// from 0. The places replace the contents of `found`. `turned` is a buffer for the reversed base name.
     ///
     /// # Errors
     ///
-    /// If memory is refused.
+    /// If memory runs out. The contents of `found` are not specified then.
     pub fn find(
         &self,
         texts: Texts<'_>,
@@ -102,7 +102,7 @@ impl KeyIndex {
     }
 }
 
-// Appends the numbers of the keys that the texts have.
+// Appends the rows of the keys that the texts have.
 fn gather(
     keys: &[Key],
     orders: &Orders,
@@ -124,7 +124,7 @@ fn gather(
     append_found(keys, &orders.paths, texts.fold, texts.path, found)
 }
 
-// The text turned round, in place of what the buffer had.
+// Replaces the contents of the buffer by the reversed text.
 fn turn(text: &[u8], turned: &mut Vec<u8>) -> Result<(), AllocError>
     ensures { OnOk result (turned.new.items ≡ reverse text.now) }
 {
@@ -147,7 +147,7 @@ fn ordered(alloc: Global, keys: &[Key], fold: bool) -> Result<Orders, AllocError
     })
 }
 
-// The numbers of the keys of a subject.
+// The rows of the keys of a subject.
 fn rows_about(alloc: Global, keys: &[Key], subject: Subject) -> Result<Vec<usize>, AllocError>
     ensures { IfOk result (λ rows. (row : ℕ) →
         has_row rows.items row ≡ is_about subject (slice_get keys.now row)) }

@@ -1,5 +1,7 @@
-//! Texts by which lines are found: the keys that a text begins with are looked up in the text's bytes, each by halving what
-//! is left of the keys in their order.
+//! An index of lines by keys, so that a search needs not test each line (own: it changes no answer).
+//!
+//! A key is a text that a path needs if a line may match it: the path or its base name begins with the key, or the base
+//! name ends with it. The keys are sorted, and looked up byte by byte: each byte narrows the keys by a binary search.
 #![tactic(auto)]
 
 pub mod key;

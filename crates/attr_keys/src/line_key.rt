@@ -7,26 +7,27 @@ ghost use Rattle.attr_keys.specs.inner.Meeting.{key_content};
 use crate::key::{Key, Subject};
 use std::alloc::{AllocError, Global};
 
-/// What the key of a line's pattern is made of.
+/// The parts of a line's pattern that decide its key.
 #[derive(Clone, Copy)]
 pub struct Shape<'a> {
-    /// What is matched against paths or base names.
+    /// The pattern's text, which is matched against paths or base names.
     pub text: &'a [u8],
-    /// The place of the first wildcard in the text.
+    /// The place of the first wildcard in the text, if it has one.
     pub wildcard: Option<usize>,
     /// Whether the line defines a macro, so that it matches no path.
     pub is_macro: bool,
     /// Whether the text is matched against base names.
     pub asks_name: bool,
-    /// Whether the text is a star and an end.
+    /// Whether the text is a star and literal bytes, which a base name has to end with.
     pub is_end: bool,
 }
 
-/// What a path needs if the line may match it.
+/// The key of a line: what a path needs if the line may match it. It is a base name, the end of one, or else the bytes
+/// of the pattern before its first wildcard.
 ///
 /// # Errors
 ///
-/// If memory is refused.
+/// If memory runs out.
 pub fn line_key(alloc: Global, shape: Shape<'_>) -> Result<Key, AllocError>
     ensures { IfOk result (λ key. key_content key ≡ line_content (shape_content shape.entry)) }
 {
@@ -36,11 +37,12 @@ pub fn line_key(alloc: Global, shape: Shape<'_>) -> Result<Key, AllocError>
     }
 }
 
-/// What a base name needs if the line may match it.
+/// The key of a line by base names alone: what a base name needs if the line may match it. A pattern that is no base
+/// name and no end of one needs nothing.
 ///
 /// # Errors
 ///
-/// If memory is refused.
+/// If memory runs out.
 pub fn candidate_key(alloc: Global, shape: Shape<'_>) -> Result<Key, AllocError>
     ensures { IfOk result (λ key. key_content key ≡ candidate_content (shape_content shape.entry)) }
 {
@@ -50,7 +52,7 @@ pub fn candidate_key(alloc: Global, shape: Shape<'_>) -> Result<Key, AllocError>
     }
 }
 
-// The key of a line that defines a macro, and of one that names a base name or its end.
+// The key of a line that defines a macro, or whose pattern is a base name or the end of one. None for any other line.
 fn name_key(alloc: Global, shape: Shape<'_>) -> Result<Option<Key>, AllocError>
     ensures { IfOk result (λ key.
         option_map key_content key ≡ name_content (shape_content shape.entry)) }
@@ -70,7 +72,7 @@ fn name_key(alloc: Global, shape: Shape<'_>) -> Result<Option<Key>, AllocError>
     Ok(None)
 }
 
-// The key of a line by what stands before its first wildcard.
+// The key of a line: the bytes of its pattern before the first wildcard.
 fn front_key(alloc: Global, shape: Shape<'_>) -> Result<Key, AllocError>
     ensures { IfOk result (λ key. key_content key ≡ front_content (shape_content shape.entry)) }
 {
@@ -90,7 +92,7 @@ fn front_key(alloc: Global, shape: Shape<'_>) -> Result<Key, AllocError>
     }
 }
 
-// The first bytes, all if there are fewer.
+// The bytes before a place, or all if there are fewer.
 fn front(text: &[u8], place: usize) -> &[u8]
     ensures { result.now ≡ take place text.now }
 {

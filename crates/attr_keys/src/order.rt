@@ -1,4 +1,4 @@
-//! Numbers of keys in the order of their codes.
+//! Rows, which are indexes of keys, in the order of the keys' codes.
 
 ghost use Rattle.std.specs.Prelude.{◌≡◌, ◌==◌, ◌&&◌, ◌||◌, ℕ, IfOk, OnOk, map, true, nat_eq, slice_index};
 ghost use Rattle.std.specs.List.{filter, starts_with};
@@ -9,18 +9,18 @@ ghost use Rattle.attr_keys.specs.inner.Rows.{AreInOrder, IsFalling, has_row};
 use crate::key::{Key, all_codes, code, row_code};
 use std::alloc::{AllocError, Global};
 
-// A number with its key's codes.
+// A row with its key's codes, by which rows are sorted.
 #[derive(PartialEq, Eq, PartialOrd, Ord, Drop)]
 struct CodedRow {
     codes: Vec<u16>,
     row: usize,
 }
 
-/// The numbers of keys, in the order of the keys' codes.
+/// The same rows, sorted by the codes of their keys.
 ///
 /// # Errors
 ///
-/// If memory is refused.
+/// If memory runs out.
 pub fn in_order(
     alloc: Global,
     keys: &[Key],
@@ -48,7 +48,7 @@ fn rows_of(alloc: Global, coded: &[CodedRow]) -> Result<Vec<usize>, AllocError>
     coded.iter().map(|coded| coded.row).collect(alloc)
 }
 
-// The numbers of keys that have this code at a place, if the codes there don't fall.
+// The rows whose keys have this code at a place. The rows are sorted by their codes there.
 fn narrowed<'a>(keys: &[Key], rows: &'a [usize], fold: bool, place: usize, code: u16) -> &'a [usize]
     requires { IsNonDecreasingBy (λ row. slice_index (row_codes fold keys.now row) place) rows.now }
     ensures { result.now
@@ -70,11 +70,11 @@ fn narrowed<'a>(keys: &[Key], rows: &'a [usize], fold: bool, place: usize, code:
     &rest[..len]
 }
 
-/// Appends the numbers of the keys that the text has.
+/// Appends the rows of the keys that the text has. `rows` are sorted, as `in_order` returns them.
 ///
 /// # Errors
 ///
-/// If memory is refused. Some of the numbers may have been appended then.
+/// If memory runs out. Some of the rows may have been appended then.
 pub fn append_found(
     keys: &[Key],
     rows: &[usize],
@@ -99,7 +99,7 @@ pub fn append_found(
     Ok(())
 }
 
-/// Puts the numbers into falling order, each once.
+/// Sorts the rows, the greatest first, and removes repeated ones.
 pub fn fall(rows: &mut Vec<usize>)
     ensures rows { (row : ℕ) → has_row rows.new.items row ≡ has_row rows.old.items row }
     ensures falling { IsFalling rows.new.items }

@@ -1,6 +1,8 @@
 //! Numbers of attribute names, and the definitions of macros in the lists that are registered.
 //!
-//! A definition belongs to a list, and is removed with it. Each list is registered under a list id.
+//! A name's number is its place among all names in the order in which they are first seen, from 0. It never changes.
+//! Each list is registered under a list id that no other registered list has. A definition belongs to a list, and is
+//! removed with it.
 ghost use Rattle.std.specs.Prelude.{◌≡◌, true, false, ◌<◌, ◌↔◌, length, All, Some, None, nat_lt, if◌then◌else◌, option_map, IfOk, OnOk, OnErr, IfSome, IsSome, IsTrue};
 ghost use Rattle.attr_lists.specs.Definitions.{macro_body, is_active, free_id, with_list, without_list, HoldsList, IsSoundCollection};
 ghost use Rattle.attr_lists.specs.inner.Keeping.{StayRegistered, OthersStayRegistered, IsNumbered};
@@ -70,7 +72,8 @@ impl NameTable {
         numbers::number_of(&self.parts.names, name)
     }
 
-    /// The number of the name and the items that it expands to, if there is a name with this number.
+    /// The metadata of the name with this number: the number, and the body of its last definition, which is empty if
+    /// it is no macro. None if there is no such name.
     pub fn metadata(&self, number: usize) -> Option<&Metadata>
         ensures variant { IsSome result ↔ (number < length self.now.names) }
         ensures id { IfSome result (λ metadata. metadata.now.id.0 ≡ number) }
@@ -101,8 +104,8 @@ impl NameTable {
         Some((name.as_str(), entry.metadata()))
     }
 
-    /// Registers a list and returns its list id, the least that is free. The list's new names get the next numbers, its
-    /// items and macros the numbers of their names, and its definitions come after those of the other lists.
+    /// Registers a list and returns its list id, the least that is free. The list's new names get the next numbers,
+    /// and its items and macros get the numbers of their names. Its definitions come after those of the other lists.
     ///
     /// # Errors
     ///
@@ -143,8 +146,9 @@ impl NameTable {
         }
     }
 
-    /// Removes the list with this list id and its definitions. Each name then has the body of the last definition that is left,
-    /// and keeps its number. It takes no memory, and looks only at the names that the list defines.
+    /// Removes the list with this list id and its definitions. After that each name has the body of the last
+    /// definition that is left, and keeps its number. It takes no memory, and visits only the names that the list
+    /// defines.
     pub fn remove(&mut self, list_id: usize, mappings: &[Mapping<Value>])
         requires { HoldsList self.old list_id (entries_view mappings.now) }
         ensures removed { self.new ≡ without_list list_id self.old }
@@ -156,8 +160,8 @@ impl NameTable {
         self.parts.active[list_id] = false;
     }
 
-    /// Whether the list is registered under the list id: for each name, the definitions under the list id are, in their order,
-    /// those of the list. It takes no memory. It goes through the list once for each name that the list defines.
+    /// Whether the list is registered under the list id: for each name, the definitions under the list id are those of
+    /// the list, in order. It takes no memory. It goes through the list once for each name that the list defines.
     pub fn holds(&self, list_id: usize, mappings: &[Mapping<Value>]) -> bool
         ensures { IsTrue result ↔ HoldsList self.now list_id (entries_view mappings.now) }
     {

@@ -21,7 +21,7 @@ use bstr::BStr;
 use smallvec::SmallVec;
 use std::alloc::{AllocError, Global};
 
-/// The patterns of attributes files, whose values are the assignments of their lines.
+/// The kind of list that is read from attributes files: its values are the assignments of the lines.
 #[derive(Clone, Copy, PartialEq, Eq, PartialOrd, Ord, Hash, Debug, Default)]
 pub struct Attributes;
 
@@ -51,7 +51,7 @@ impl search::Pattern for Attributes {
     }
 }
 
-// Pushes a line to the mappings, or to the lines that are left out.
+// Pushes a line to the mappings, or to the dropped lines.
 fn push_line(
     mappings: &mut Vec<Mapping<Value>>,
     dropped: &mut Vec<Dropped>,
@@ -69,7 +69,7 @@ fn push_line(
     Ok(())
 }
 
-// The mapping of a line, or the line that is left out.
+// The mapping of a line, or the line as a dropped one.
 fn read_line(
     alloc: Global,
     line: Result<(Kind, Iter<'_>, usize), Error>,
@@ -200,8 +200,8 @@ fn defines_no_macro(mapping: &Mapping<Value>) -> bool
     }
 }
 
-/// Whether each macro that the mappings define has a valid name. Mappings that are read from a buffer define no others, but
-/// those that a program makes may.
+/// Whether each macro that the mappings define has a valid name. Mappings that are read from a buffer define no
+/// others, but a program can build mappings that do.
 pub fn macros_valid(mappings: &[Mapping<Value>]) -> bool
     ensures { result ≡ macros_valid (entries_view mappings.now) }
 {

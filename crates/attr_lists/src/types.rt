@@ -36,7 +36,7 @@ pub struct TrackedAssignment {
     pub inner: Assignment,
 }
 
-/// A line of an attributes file that a list leaves out (own).
+/// A line of an attributes file that a list leaves out (own: `gix-attributes` only logs such lines).
 #[derive(Clone, Copy, PartialEq, Eq, Debug)]
 pub struct Dropped {
     /// The number of the line, from 1.
@@ -52,7 +52,7 @@ pub enum DropReason {
     MacroName,
     /// The line's pattern begins with `!`, which is forbidden (gitattributes).
     NegativePattern,
-    /// One of its items has no valid name.
+    /// One of its items has no valid name. One such item drops the whole line, as in git.
     InvalidName,
     /// One of its items has a reserved name.
     Reserved,
@@ -71,7 +71,7 @@ pub struct Metadata {
     pub macro_attributes: Assignments,
 }
 
-/// How a path matched.
+/// An answer of a search: a path matched a pattern, whose line decides an attribute.
 #[derive(Clone, Copy, PartialEq, Eq, PartialOrd, Ord, Hash, Debug)]
 pub struct Match<'a> {
     /// The pattern that matched.
@@ -189,7 +189,7 @@ impl Clone for TrackedAssignment {
     }
 }
 
-// The places of a short list hold this one before they are filled.
+// A short list has this assignment at each place that is not filled yet.
 impl MadeWith<Global> for TrackedAssignment {
     fn made_with(alloc: Global) -> TrackedAssignment {
         TrackedAssignment {

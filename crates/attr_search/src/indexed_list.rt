@@ -1,4 +1,4 @@
-//! A list of a search, with what is made of its patterns once.
+//! A list of a search, with the keys and tokens of its patterns, which are made once.
 
 ghost use Rattle.std.specs.Prelude.{◌≡◌, ◌<◌, None, length, true, false, IfOk, OnOk, OnErr, map};
 ghost use Rattle.bstr.specs.BStr.{bstr_bytes};
@@ -28,15 +28,15 @@ use std::alloc::{AllocError, Global};
 #[derive(Drop)]
 #[derive_where(PartialEq, Eq, PartialOrd, Ord, Hash, Debug)]
 pub struct IndexedList {
-    /// The lines, where they were read, and the base below which they apply.
+    /// The lines, their source, and the base below which they apply.
     pub list: List<Attributes>,
-    /// The keys of the lines, by which those are found that a path has to be matched against.
+    /// The keys of the lines, by which a search finds the lines that may match a path.
     #[derive_where(skip)]
     pub keys: KeyIndex,
     /// The patterns with their tokens.
     #[derive_where(skip)]
     pub matchers: Vec<Matcher>,
-    /// The number under which the list is active in its collection.
+    /// The list id under which the list is registered in its collection.
     #[derive_where(skip)]
     pub list_id: usize,
     ghost keyed: { keys ≡ map key_of_line (patterns_of list.patterns.items) },
@@ -48,12 +48,12 @@ impl IndexedList {
     ghost use Rattle.attr_search.specs.IndexedLists.{listed_view};
     ghost use Rattle.attr_search.specs.IndexedLists.{list_ids_of};
 
-    /// Registers a list: its attributes and macros get their numbers in the table, and its definitions of macros are
-    /// active from then on.
+    /// Registers a list in the table, under the least free list id: its items and macros get the numbers of their
+    /// names, and its definitions of macros are active from then on.
     ///
     /// # Errors
     ///
-    /// If memory is refused. The table is as it was then.
+    /// If memory runs out. The table is unchanged then.
     pub fn register(
         alloc: Global,
         mut list: List<Attributes>,
@@ -86,12 +86,13 @@ impl IndexedList {
         })
     }
 
-    /// Finds the places of the lines that are to be matched against what is left of a path, the greatest first.
-    /// They take the place of what the buffer had. `turned` is another buffer.
+    /// Finds the places of the lines that may match what is left of a path, the greatest first. A place is the index
+    /// of a line, from 0. The places replace the contents of `places`. `turned` is a buffer for the reversed base
+    /// name.
     ///
     /// # Errors
     ///
-    /// If memory is refused.
+    /// If memory runs out. The contents of `places` are not specified then.
     pub fn find_candidates(
         &self,
         rest: PathQuery<'_>,
@@ -110,11 +111,11 @@ impl IndexedList {
         self.keys.find(texts, turned, places)
     }
 
-    /// Whether the pattern of a line that defines no macro matches what is left of a path.
+    /// Whether the pattern of the line at a place matches what is left of a path. The line defines no macro.
     ///
     /// # Errors
     ///
-    /// If memory is refused.
+    /// If memory runs out.
     pub fn matches(
         &self,
         place: usize,
@@ -137,7 +138,7 @@ impl IndexedList {
         )
     }
 
-    // A copy, of the same number.
+    // A copy, with the same list id.
     fn clone(&self, alloc: Global) -> Result<IndexedList, AllocError>
         ensures list { IfOk result (λ copy. listed_view copy ≡ listed_view self.now) }
         ensures list_id { IfOk result (λ copy. copy.list_id ≡ self.now.list_id) }
@@ -153,11 +154,11 @@ impl IndexedList {
         })
     }
 
-    /// Copies of lists, each of the same number.
+    /// Copies of lists, each with the same list id.
     ///
     /// # Errors
     ///
-    /// If memory is refused.
+    /// If memory runs out.
     pub fn copies(alloc: Global, lists: &[IndexedList]) -> Result<Vec<IndexedList>, AllocError>
         ensures lists { IfOk result (λ copies.
             map listed_view copies.items ≡ map listed_view lists.now) }

@@ -16,11 +16,11 @@ use attr_lists::types::Value;
 use bitflags::Flags;
 use std::alloc::{AllocError, Global};
 
-/// The keys of lines, in their order.
+/// The index of lines by their keys: what a path needs if a line may match it.
 ///
 /// # Errors
 ///
-/// If memory is refused.
+/// If memory runs out.
 pub fn line_keys(alloc: Global, mappings: &[Mapping<Value>]) -> Result<KeyIndex, AllocError>
     ensures { IfOk result (λ keys. keys ≡ map key_of_line (patterns_of mappings.now)) }
 {
@@ -31,7 +31,7 @@ pub fn line_keys(alloc: Global, mappings: &[Mapping<Value>]) -> Result<KeyIndex,
     KeyIndex::of(alloc, keys)
 }
 
-/// Whether letters of different case are the same.
+/// Whether ASCII letters match regardless of case.
 pub fn folds(case: Case) -> bool
     ensures { result ≡ folds case }
 {
@@ -41,7 +41,7 @@ pub fn folds(case: Case) -> bool
     }
 }
 
-// What the key of a line with this pattern is made of.
+// The parts of the pattern that decide its key.
 fn shape_of(pattern: &Pattern) -> Shape<'_>
     ensures { shape_content result ≡ shape_reading (pattern_view pattern.now) }
 {

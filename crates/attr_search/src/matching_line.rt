@@ -11,20 +11,25 @@ use attr_lists::types::{Assignments, AttributeId, MatchKind, TrackedAssignment, 
 /// A line that matches, with its list's source and with its items.
 #[derive(Clone, Copy)]
 pub struct MatchingLine<'a> {
+    /// The line.
     pub mapping: &'a Mapping<Value>,
+    /// The source of its list, if the list has one.
     pub source: &'a Option<String>,
+    /// The line's items.
     pub items: &'a [TrackedAssignment],
 }
 
-/// An item that is still to be processed: its place in its line, or in the body of the macro that causes it.
+/// An item that is still to be processed, by its place.
 #[derive(Clone, Copy, PartialEq, Eq, Debug)]
 pub struct PendingItem {
+    /// The number of the macro whose body has the item, none if the line itself has it.
     pub cause: Option<usize>,
+    /// The index of the item in that body or in the line, from 0.
     pub place: usize,
 }
 
 impl PendingItem {
-    /// The item, of its line's items or of the bodies of macros by number.
+    /// The item. `items` are those of its line, and `bodies` those of the macros, by number.
     pub fn item<'a>(
         self,
         items: &'a [TrackedAssignment],
@@ -39,7 +44,7 @@ impl PendingItem {
         }
     }
 
-    /// How a match by the item came about: whether it is a macro, and which macro's body it is in.
+    /// The kind of a match by the item: whether its attribute is a macro, and which macro's body has the item.
     pub fn kind(self, is_macro: bool) -> MatchKind
         ensures kind { is_macro_kind result ≡ is_macro }
         ensures cause { cause_of result ≡ self.cause }
@@ -58,7 +63,7 @@ impl PendingItem {
     }
 }
 
-/// What an attribute is as a macro, by its number.
+/// The body of the attribute with this number, which is empty if the attribute is no macro.
 pub fn body_of(bodies: &[Assignments], attribute: usize) -> &[TrackedAssignment]
     requires { attribute < length bodies.now }
     ensures { result.now ≡ slice_index_or (bodies_view bodies.now) attribute [] }

@@ -11,12 +11,16 @@ use attr_glob::search::pattern::List;
 use attr_lists::types::Attributes;
 use bstr::BStr;
 
-/// A path with the place of its base name, and how it is matched.
+/// A path, and how it is matched.
 #[derive(Clone, Copy)]
 pub struct PathQuery<'a> {
+    /// The path, without a leading slash. Below a list's base it is what follows the base.
     pub path: BStr<'a>,
+    /// The place of the path's base name, as `base_name_place` returns it.
     pub name_place: Option<usize>,
+    /// Whether the case of ASCII letters matters.
     pub case: Case,
+    /// Whether the path is a folder, if that is known.
     pub is_dir: Option<bool>,
     ghost placed: { name_place ≡ base_name_place (bstr_bytes path) },
 }
@@ -37,7 +41,7 @@ impl<'a> PathQuery<'a> {
         }
     }
 
-    /// What is left of the path below the list's base, none if the list does not apply to the path.
+    /// The query for what follows the list's base in the path. None if the list doesn't apply to the path.
     pub fn below(self, list: &List<Attributes>) -> Option<PathQuery<'a>>
         ensures path { option_map (λ r. bstr_bytes r.path) result
             ≡ rest_below (base_bytes list.now.base) self.entry.case (bstr_bytes self.entry.path) }

@@ -1,4 +1,4 @@
-//! The parts of matches, each of which is stored once.
+//! The parts of matches: patterns, assignments and sources. Each is stored once, and has a place: its index, from 0.
 
 ghost use Rattle.std.specs.Prelude.{◌≡◌, ◌<◌, ⊤, [], Some, IfOk, MatchOption, length, map, option_map, slice_get, slice_index_or, string_bytes};
 ghost use Rattle.attr_glob.specs.Views.{pattern_view};
@@ -15,19 +15,25 @@ use indexmap::IndexSet;
 use std::alloc::{AllocError, Global};
 use std::marker::Model;
 
-/// Where a line's pattern and its source are stored, and its number.
+/// The places of a line's pattern and source in a [`RefMap`], and the line's number in its file, from 1.
 #[derive(Clone, Copy)]
 pub struct OriginRef {
+    /// The place of the pattern.
     pub pattern: usize,
+    /// The place of the source, if the list has one.
     pub source: Option<usize>,
+    /// The line number.
     pub number: usize,
 }
 
-/// Where a match's line and assignment are stored, and how the match came about.
+/// The places of a match's parts in a [`RefMap`], and whether the match is of a macro and caused by one.
 #[derive(Clone, Copy)]
 pub struct MatchRef {
+    /// The places of the line's parts.
     pub line: OriginRef,
+    /// The place of the assignment.
     pub assignment: usize,
+    /// Whether the attribute is a macro, and which macro expanded to it.
     pub kind: MatchKind,
 }
 
@@ -50,7 +56,7 @@ impl Model for RefMap {
 }
 
 impl RefMap {
-    /// Nothing is stored. It takes no memory.
+    /// A map without parts. It takes no memory.
     pub fn new(alloc: Global) -> RefMap
         ensures { result ≡ record { patterns = []; assignments = []; sources = [] } }
     {
@@ -61,11 +67,11 @@ impl RefMap {
         }
     }
 
-    /// Stores what is new of a line's pattern and source. What was stored keeps its place.
+    /// Stores a line's pattern and source if they are new, and returns their places. What was stored keeps its place.
     ///
     /// # Errors
     ///
-    /// If memory is refused. What was stored keeps its place then, too.
+    /// If memory runs out. What was stored keeps its place then, too.
     pub fn line(&mut self, alloc: Global, line: MatchingLine<'_>) -> Result<OriginRef, AllocError>
         ensures line { IfOk result (λ l. RefersTo self.new l (line_origin line.entry)) }
         ensures extends { KeepsRefs self.old self.new }
@@ -83,7 +89,7 @@ impl RefMap {
     ///
     /// # Errors
     ///
-    /// If memory is refused. What was stored keeps its place then, too.
+    /// If memory runs out. What was stored keeps its place then, too.
     pub fn assignment(
         &mut self,
         alloc: Global,
@@ -96,11 +102,11 @@ impl RefMap {
         assignment_place(&mut self.assignments, alloc, assignment)
     }
 
-    /// A copy, in which all is at the same places.
+    /// A copy. Each part has the same place in it.
     ///
     /// # Errors
     ///
-    /// If memory is refused.
+    /// If memory runs out.
     pub fn clone(&self, alloc: Global) -> Result<RefMap, AllocError>
         ensures { IfOk result (λ copy. copy ≡ self.now) }
     {

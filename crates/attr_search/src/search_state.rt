@@ -29,8 +29,8 @@ use std::alloc::{AllocError, Global};
 use std::marker::Model;
 use std::mem;
 
-/// What a search fills, and what it works with: the slots with the bodies of macros, buffers that need not grow for
-/// each path, and what the last search counted.
+/// What a search fills and uses: the slots, the bodies of macros, buffers that are kept from path to path, and the
+/// counts of the last search.
 #[derive(Drop)]
 pub struct SearchState {
     filler: SlotFiller,
@@ -42,7 +42,7 @@ pub struct SearchState {
 #[derive(Drop)]
 struct SearchBuffers {
     matching: MatchBuffers,
-    // A base name turned round.
+    // A base name, reversed.
     turned: Vec<u8>,
     places: Vec<usize>,
 }
@@ -60,7 +60,7 @@ impl Model for SearchState {
 }
 
 impl SearchState {
-    /// No slots. It takes no memory.
+    /// A state without slots. It takes no memory.
     pub fn new(alloc: Global) -> SearchState
         ensures { result ≡ record
             { answers = []; wanted = []; bodies = []; taken = 0; tested = 0 } }
@@ -94,7 +94,7 @@ impl SearchState {
         }
     }
 
-    /// Takes other slots, and a body for each of them, in place of its own.
+    /// Replaces the slots, and the bodies, one for each slot. The counts are 0 after that.
     pub fn set_up(&mut self, slots: AnswerSlots, bodies: Vec<Assignments>)
         requires { BodiesFit (length slots.answers) bodies.items }
         ensures { self.new ≡ record {
@@ -111,7 +111,7 @@ impl SearchState {
         self.tested = 0;
     }
 
-    /// Empties the slots. It takes no memory.
+    /// Empties the slots, and sets the counts to 0. It takes no memory.
     pub fn reset(&mut self)
         ensures { self.new ≡ record self.old
             { answers = map (λ a. None) self.old.answers; taken = 0; tested = 0 } }
@@ -125,7 +125,7 @@ impl SearchState {
     ///
     /// # Errors
     ///
-    /// If memory is refused.
+    /// If memory runs out.
     pub fn clone(&self, alloc: Global) -> Result<SearchState, AllocError>
         ensures { IfOk result (λ copy. copy ≡ self.now) }
     {
@@ -137,11 +137,11 @@ impl SearchState {
         Ok(copy)
     }
 
-    /// Takes copies of the slots and bodies of another state in place of its own, and looks for the wanted numbers.
+    /// Replaces the slots and bodies by copies of another state's. The slots whose flags are set are wanted.
     ///
     /// # Errors
     ///
-    /// If memory is refused. Nothing changes then.
+    /// If memory runs out. Nothing changes then.
     pub fn copy_from(
         &mut self,
         alloc: Global,
@@ -180,14 +180,14 @@ impl SearchState {
         self.filler.slots.remaining()
     }
 
-    /// The answer for a number, none past the last one.
+    /// The answer for the attribute with this number. None if its slot is free, or if there is no such slot.
     pub fn get(&self, attribute: usize) -> Option<Match<'_>>
         ensures { option_map match_view result ≡ slice_index_or self.now.answers attribute None }
     {
         self.filler.slots.get(attribute)
     }
 
-    /// What each attribute is as a macro, by number.
+    /// The body of each attribute, by number: empty if it is no macro.
     pub fn bodies(&self) -> &[Assignments]
         ensures bodies { bodies_view result.now ≡ self.now.bodies }
         ensures len { length result.now ≡ length self.now.answers }
@@ -209,12 +209,13 @@ impl SearchState {
         self.tested
     }
 
-    /// Fills the slots by the lines of lists that match a path, until each wanted attribute has an answer, and returns
-    /// whether one of these was found. Nothing changes if each has an answer at the start.
+    /// Fills the slots from the lines that match a path, until each wanted attribute has an answer. The last list is
+    /// searched first, and in it the last line (gitattributes page: later ones take precedence). Returns whether the
+    /// search found an answer of a wanted attribute. Nothing changes if each has an answer at the start.
     ///
     /// # Errors
     ///
-    /// If memory is refused. Which slots are filled is open then.
+    /// If memory runs out. Which slots are filled is not specified then.
     pub fn search(
         &mut self,
         alloc: Global,
@@ -224,7 +225,7 @@ impl SearchState {
         requires in_lists { ListsHaveSlots (length self.old.answers) (lists_view lists.now) }
         ensures kept { KeepsState self.old self.new }
 
-        // The slots are the cut of the only stable table, over the slots before.
+        // The slots are the cut of the only stable table, over the slots before (`attr_table::laws` explains these).
         ensures one { OneTable (query_setting self.old (lists_view lists.now) query.entry)
             (state_slots self.old) }
         ensures searched { OnOk result (IsSearched
@@ -238,8 +239,8 @@ impl SearchState {
             ≡ is_found (state_wanted self.old) (state_slots self.old) (state_slots self.new)) }
         ensures named { OnOk result (ListsKeepNamed (lists_view lists.now) self.old self.new) }
 
-        // No more items are taken than there are, and no fewer than there are slots filled; no more lines are tested
-        // than are candidates, and no fewer than those at which the roots are of the slots filled.
+        // A search takes at most the items that there are, and at least one for each slot that it fills. It tests at
+        // most the candidate lines, and at least the lines whose items fill slots, themselves or by macros.
         ensures most { is_done (state_wanted self.old) (state_slots self.old) ≡ false →
             OnOk result (self.new.taken
             ≤ work_of (query_setting self.old (lists_view lists.now) query.entry)) }
@@ -301,7 +302,7 @@ impl SearchState {
         Ok(())
     }
 
-    // Searches the lines of a list that may match, the last first, if the list applies to the path.
+    // Searches the lines of a list that may match, the last first, if the path is below the list's base.
     fn search_list(
         &mut self,
         alloc: Global,
@@ -325,7 +326,8 @@ impl SearchState {
         searched
     }
 
-    // The places of the lines to test, the greatest first, in the buffer of places.
+    // The places of the lines to test, the greatest first. They are in the buffer of places, which `keep_buffer` puts
+    // back.
     fn find_candidates(
         &mut self,
         alloc: Global,
@@ -372,8 +374,8 @@ impl SearchState {
         Ok(())
     }
 
-    // Fills slots by the items of a line, the last first, if the line matches. A line all of whose items have an
-    // answer is not tested, nor is one that defines a macro.
+    // Fills slots with the items of a line, the last first, if the line matches. The line is not tested if it defines a
+    // macro, or if each of its items' attributes has an answer.
     fn search_line(
         &mut self,
         alloc: Global,

@@ -15,15 +15,16 @@ use attr_lists::types::{Assignments, TrackedAssignment};
 use attr_text::State;
 use std::alloc::{AllocError, Global};
 
-/// Slots, the bodies of macros by number, and what filling the slots works with.
+/// The slots, the bodies of macros by number, and the stack that fills the slots.
 #[derive(Drop)]
 pub struct SlotFiller {
+    /// The slots of the attributes, by number.
     pub slots: AnswerSlots,
-    /// What each attribute is as a macro, by number.
+    /// The body of each attribute, by number: empty if it is no macro.
     pub bodies: Vec<Assignments>,
     /// The items that are still to be processed.
     pub stack: Vec<PendingItem>,
-    /// How many items the last search took off the stack.
+    /// How many items the last search popped from the stack. It stops at `u128::MAX`.
     pub taken: u128,
 }
 
@@ -33,7 +34,7 @@ impl SlotFiller {
     ///
     /// # Errors
     ///
-    /// If memory is refused. Some of the slots may be filled then.
+    /// If memory runs out. Some of the slots may be filled then.
     pub fn fill_attributes(
         &mut self,
         alloc: Global,
@@ -48,7 +49,7 @@ impl SlotFiller {
     {
         self.slots.begin_line();
 
-        // A search that had all its answers may have left items.
+        // A search that had all its answers may have left items on the stack.
         self.stack.clear();
         push_free(&mut self.stack, line.items, None, &self.slots)?;
         self.run_stack(alloc, line)

@@ -1,4 +1,5 @@
-//! What a search fills: a slot for each attribute, some of which are wanted.
+//! What a search fills: a slot for each attribute. A slot has the answer for its attribute, or is free. The wanted
+//! slots are those that a search looks for.
 
 ghost use Rattle.std.specs.Prelude.{◌≡◌, ◌<◌, ◌&&◌, ⊤, false, None, Some, [], IfOk, OnErr, OnOk, MatchOption, is_none, is_some, length, map, not, option_map, set, slice_index_or};
 ghost use Rattle.std.specs.List.{list_any};
@@ -31,7 +32,7 @@ pub struct AnswerSlots {
 #[derive(Drop)]
 struct MatchStore {
     refs: RefMap,
-    // Where the line is stored whose items are filled in, once it has filled a slot.
+    // The places at which the current line is stored. None until it has filled a slot.
     line: Option<OriginRef>,
 }
 
@@ -60,11 +61,11 @@ impl AnswerSlots {
         }
     }
 
-    /// Empty slots, of which those are wanted whose flags are set.
+    /// Empty slots, one for each flag. A slot is wanted if its flag is set.
     ///
     /// # Errors
     ///
-    /// If memory is refused.
+    /// If memory runs out.
     pub fn sized(alloc: Global, wanted: Vec<bool>) -> Result<AnswerSlots, AllocError>
         ensures { IfOk result (λ slots. slots ≡ empty_slots wanted.items) }
     {
@@ -98,7 +99,7 @@ impl AnswerSlots {
     ///
     /// # Errors
     ///
-    /// If memory is refused.
+    /// If memory runs out.
     pub fn copy(&self, alloc: Global, wanted: Vec<bool>) -> Result<AnswerSlots, AllocError>
         requires { length wanted.items ≡ length self.now.answers }
         ensures { IfOk result (λ slots. slots ≡ record
@@ -113,7 +114,7 @@ impl AnswerSlots {
     ///
     /// # Errors
     ///
-    /// If memory is refused.
+    /// If memory runs out.
     pub fn clone(&self, alloc: Global) -> Result<AnswerSlots, AllocError>
         ensures { IfOk result (λ slots. slots ≡ record self.now { line = None }) }
     {
@@ -157,18 +158,18 @@ impl AnswerSlots {
         self.remaining == 0
     }
 
-    /// What is filled in from here on is of another line.
+    /// Begins another line: what is filled from now on comes from that line.
     pub fn begin_line(&mut self)
         ensures { self.new ≡ record self.old { line = None } }
     {
         self.matches.line = None;
     }
 
-    /// Fills a free slot by an item of the line, or of a body that the line leads to.
+    /// Fills a free slot with an item of the line, or of a macro's body to which the line expands.
     ///
     /// # Errors
     ///
-    /// If memory is refused. The answers are as they were then.
+    /// If memory runs out. The answers are unchanged then.
     pub fn fill(
         &mut self,
         alloc: Global,
@@ -192,7 +193,7 @@ impl AnswerSlots {
         Ok(())
     }
 
-    /// Empties the slots. What is stored stays.
+    /// Empties the slots. Patterns, sources and assignments stay stored for later matches.
     pub fn reset(&mut self)
         ensures { self.new ≡ record self.old
             { answers = map (λ a. None) self.old.answers; line = None } }
@@ -201,7 +202,7 @@ impl AnswerSlots {
         self.matches.line = None;
     }
 
-    /// The answer for a number, none past the last one.
+    /// The answer for the attribute with this number. None if its slot is free, or if there is no such slot.
     pub fn get(&self, attribute: usize) -> Option<Match<'_>>
         ensures { option_map match_view result ≡ slice_index_or self.now.answers attribute None }
     {
@@ -220,7 +221,7 @@ impl MatchStore {
         MatchStore { refs, line: None }
     }
 
-    // Stores an item, and its line if that wasn't done yet.
+    // Stores an item, and the current line if it is not stored yet.
     fn store(
         &mut self,
         alloc: Global,

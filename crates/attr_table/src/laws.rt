@@ -1,4 +1,9 @@
-//! Laws of each setting. A law is a function that does nothing, whose clauses are the law.
+//! Laws of all settings. A law is the contract of a function that does nothing.
+//!
+//! A setting is lists of lines, and the body of each macro. A table gives each attribute at most one item of a
+//! setting. It is stable if each is the earliest item that counts for its attribute. The start is what earlier
+//! searches found. The cut of a table is what is left of it if the search stops once each wanted attribute has an
+//! answer.
 
 ghost use Rattle.std.specs.Prelude.{◌≡◌, ℕ, ◌⊎◌, List, [], ◌∷◌, ◌++◌, None, Contains};
 ghost use Rattle.attr_table.specs.Setting.{Item, Line, Setting};
@@ -13,21 +18,22 @@ pub fn one_table()
     ensures { (s : Setting) (start : Slots) → OneTable s start }
 {}
 
-/// A walk over all roots that stops once each wanted attribute has an answer returns the cut of the stable table.
+/// A walk goes through the items of lines and of the macros that they set. If it starts from all items of lines, and
+/// stops once each wanted attribute has an answer, it returns the cut of the stable table.
 pub fn walk_cuts()
     ensures { (s : Setting) (start final : Slots) (wanted : List ℕ) (table : Table) →
         IsStable s start table → Walks s.bodies (is_done wanted) (tasks_of s.lists) start final →
         IsCut s start table wanted final }
 {}
 
-/// The slots of a search are unique: no others are the cut of the stable table.
+/// The slots of a search, which are its answers by number, are unique: no others are the cut of the stable table.
 pub fn one_outcome()
     ensures { (s : Setting) (wanted : List ℕ) (start slots other : Slots) →
         IsSearched s wanted start slots → IsSearched s wanted start other → slots ≡ other }
 {}
 
-/// To stop early changes no answer: a wanted attribute has its answer in the whole table, and any other one has that
-/// answer or none.
+/// Stopping early changes no answer: a wanted attribute has the answer that the whole table gives it, and any other
+/// attribute has that answer or none.
 pub fn stopping_is_unseen()
     ensures wanted { (s : Setting) (start : Slots) (wanted : List ℕ) (table : Table)
         (slots : Slots) (a : ℕ) →
@@ -39,8 +45,8 @@ pub fn stopping_is_unseen()
         (slots a ≡ None) ⊎ (slots a ≡ full_answer s (start a) (table a)) }
 {}
 
-/// Two searches, one after the other, return the slots that one search over the joined lists returns, from any start. The
-/// lists that are searched first are the last.
+/// Two searches, one after the other, return the slots that one search over the joined lists returns, from any start.
+/// In the joined lists, those of the first search are the last.
 pub fn searches_join()
     ensures { (first second : List (List Line)) (bodies : List (List Item)) (wanted : List ℕ)
         (start middle slots : Slots) →
@@ -49,15 +55,15 @@ pub fn searches_join()
         IsSearched (record { lists = second ++ first; bodies = bodies }) wanted start slots }
 {}
 
-/// A search that begins with the cut of some lists, from empty slots, returns the cut of its own lists followed by
-/// those, from empty slots.
+/// If a search begins with the cut of some lists over empty slots, it returns the cut of its own lists followed by
+/// those, over empty slots.
 pub fn searches_extend_cuts()
     ensures { (s : Setting) (wanted : List ℕ) (before after : Slots) →
         IsSearched s wanted before after → ExtendsCuts s.lists s.bodies wanted before after }
 {}
 
-/// An example: of two macros that name each other, the one on the line is decided there, and the other by its body. The
-/// first is an item of the second's body too, which comes later.
+/// An example: two macros name each other, and a line sets one of them. That one is decided by the line, and the other
+/// by the first one's body. The first is an item of the second's body too, but that item comes later.
 pub fn worked_cycle()
     ensures items { (item_at cycle a_on_line ≡ Some a_set) × (item_at cycle b_in_a ≡ Some b_set)
         × (item_at cycle a_in_b ≡ Some a_set) }

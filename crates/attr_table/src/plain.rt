@@ -1,4 +1,4 @@
-//! The plain program: a search over slices, with a stack. A program runs it beside the search that is in use, and
+//! A plain search over slices, with a stack. The program `small_settings` runs it and the search of `attr_search`, and
 //! compares the slots and the counts of both.
 
 ghost use Rattle.std.specs.Prelude.{◌≡◌, ◌↔◌, IsTrue, ℕ, ◌+◌, ◌-◌, ◌^◌, ◌<◌, ◌≤◌, min, List, [], ◌∷◌, ◌++◌, length, All, OnOk, OnErr, IfOk, is_none, false};
@@ -35,14 +35,14 @@ pub struct Item<'a> {
     pub state: State<'a>,
 }
 
-/// The place of a line: its pattern, its file and its number.
+/// Where a line comes from: its pattern, its file and its line number.
 #[derive(Clone, Copy, PartialEq, Eq, Debug)]
 pub struct Origin<'a> {
     /// The text of the pattern.
     pub text: &'a [u8],
     /// The bits of the pattern's mode.
     pub mode: u32,
-    /// The index of the first wildcard in the text, if it has one.
+    /// The place of the first wildcard in the text, in bytes from 0, if it has one.
     pub wildcard: Option<usize>,
     /// The path of the file, if the list has one.
     pub source: Option<&'a [u8]>,
@@ -53,7 +53,7 @@ pub struct Origin<'a> {
 /// A line of a list, for one path.
 #[derive(Clone, Copy)]
 pub struct Row<'r, 'a> {
-    /// The place of the line.
+    /// Where the line comes from.
     pub origin: Origin<'a>,
     /// The items, in the order of the line.
     pub items: &'r [Item<'a>],
@@ -117,9 +117,9 @@ struct SearchState<'s, 'b, 'a> {
     bodies: &'s [&'b [Item<'a>]],
     /// The attributes that the search fills slots for.
     wanted: &'s [usize],
-    /// The next item is the last.
+    /// The items that are left. The last one is next.
     stack: Vec<Task<'a>>,
-    /// The count of items that were popped, up to the greatest `u128`.
+    /// How many items were popped. It stops at `u128::MAX`.
     taken: u128,
 }
 
@@ -329,8 +329,9 @@ fn clear(slots: &mut [Option<Answer<'_>>])
     }
 }
 
-/// Fills the slots of attributes, until each wanted attribute has an answer, and returns how many items it popped. The last
-/// list goes first, and in it the last line. A slot that is filled stays as it is.
+/// Fills the slots of attributes, until each wanted attribute has an answer, and returns how many items it popped. A
+/// slot has the answer for the attribute with its index, if there is one; a slot that is filled stays as it is. The
+/// last list is searched first, and in it the last line (gitattributes page: later ones take precedence).
 ///
 /// # Errors
 ///

@@ -41,7 +41,7 @@ pub struct Name {
     text: Text,
 }
 
-// The text of a name. The unused places of a short list of assignments have a blank, which takes no memory.
+// The text of a name. A short list of assignments has blank names in its unused places: they take no memory.
 #[derive(Drop)]
 enum Text {
     Shared(RcStr),

@@ -48,7 +48,7 @@ pub enum Error {
         /// The pattern text, with its `!`.
         input: Vec<u8>,
     },
-    /// Memory ran out. No other line follows.
+    /// Memory ran out. The iterator ends after this.
     #[error("out of memory")]
     OutOfMemory,
 }
@@ -90,15 +90,15 @@ pub enum AttrError<'a> {
     Reserved(BStr<'a>),
 }
 
-/// An iterator over the assignments in a text: one for each longest run of bytes that are not a space, a tab or a carriage
-/// return. It goes on after an error, and takes no memory.
+/// An iterator over the items in a text: for each word its assignment, or why it is none. Spaces, tabs and carriage
+/// returns separate words. The iterator continues after an error, and takes no memory.
 #[derive(Drop)]
 pub struct Iter<'a> {
     text: &'a [u8],
 }
 
-/// An iterator over the lines of an attributes file. It goes on after a line that is refused, and ends when memory runs
-/// out.
+/// An iterator over the lines of an attributes file: for each its target, its items and its number from 1, or why it is
+/// refused. It continues after a refused line, and ends after memory ran out.
 #[derive(Drop)]
 pub struct Lines<'a> {
     lines: bstr::Lines<'a>,
@@ -117,7 +117,7 @@ impl<'a> Model for Iter<'a> {
 }
 
 impl<'a> Iter<'a> {
-    /// The assignments in `input`. Their names and values are slices of it.
+    /// The items in `input`. Their names and values are slices of it.
     pub fn new(input: BStr<'a>) -> Iter<'a>
         ensures { result ≡ items_of (bstr_bytes input.entry) }
     {
@@ -257,8 +257,8 @@ pub(crate) fn check_attr<'a>(attr: &'a [u8]) -> Result<NameRef<'a>, AttrError<'a
     }
 }
 
-/// The lines of an attributes file, in order. A byte order mark at the start is skipped. Blank lines and comments are skipped
-/// but counted.
+/// The lines of an attributes file, in order (gitattributes). A byte order mark at the start is skipped. Blank lines
+/// and comments are skipped but counted.
 pub fn parse(alloc: Global, bytes: &[u8]) -> Lines<'_>
     ensures { result.results ≡ results_of bytes.now }
 {
@@ -277,8 +277,8 @@ impl<'a> Model for Lines<'a> {
 }
 
 impl<'a> Lines<'a> {
-    /// The lines of the bytes, in order. A byte order mark at the start is skipped. Each line is counted, also one that is
-    /// skipped.
+    /// The lines of the bytes, in order. A byte order mark at the start is skipped. Blank lines and comments are
+    /// skipped but counted.
     pub fn new(alloc: Global, bytes: &'a [u8]) -> Lines<'a>
         ensures { result.results ≡ results_of bytes.now }
     {
@@ -404,7 +404,8 @@ fn parse_line<'a>(
     }
 }
 
-// A line's pattern text, and the text of its items. If there is no memory to unquote the pattern, it is not read as it is.
+// A line's pattern text, and the text of its items. A pattern text with damaged quotes is read as it is. If memory to
+// undo quotes runs out, that is an error: the text is not read as it is.
 fn split_text<'a>(alloc: Global, text: &'a [u8]) -> Result<(CowSlice<'a, u8>, &'a [u8]), AllocError>
     ensures { IfOk result (λ parts. (cow_slice_items parts.0, parts.1.now) ≡ parts_of text.now) }
 {

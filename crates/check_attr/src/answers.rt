@@ -18,11 +18,13 @@ use gix_attributes::search::{Match, MatchKind, Matches, MetadataCollection, Sele
 use gix_attributes::{AssignmentRef, StateRef};
 use std::alloc::AllocError;
 
-/// Passes on an entry for each answer that is not unspecified, after what is held.
+/// Appends an entry to `held` for each answer that is not unspecified, as `git check-attr --all` does, and writes
+/// `held` whenever it fills a piece.
 ///
 /// # Errors
 ///
-/// `Write` if a write failed or took no byte, and `OutOfMemory` if a buffer could not grow.
+/// `Write` if a write failed or took no byte, and `OutOfMemory` if a buffer could not grow. A beginning of the text
+/// may be written then.
 pub fn pass_specified<W: Push>(
     writer: &mut W,
     held: &mut Vec<u8>,
@@ -56,11 +58,12 @@ fn push_if_specified(
     push_entry(out, question, collection, one)
 }
 
-/// Passes on an entry for each answer, after what is held.
+/// Appends an entry to `held` for each answer, and writes `held` whenever it fills a piece.
 ///
 /// # Errors
 ///
-/// `Write` if a write failed or took no byte, and `OutOfMemory` if a buffer could not grow.
+/// `Write` if a write failed or took no byte, and `OutOfMemory` if a buffer could not grow. A beginning of the text
+/// may be written then.
 pub fn pass_selected<W: Push>(
     writer: &mut W,
     held: &mut Vec<u8>,
@@ -136,7 +139,7 @@ fn push_info(out: &mut Vec<u8>, state: StateRef<'_>) -> Result<(), AllocError>
     }
 }
 
-// The source, line and pattern that decided, and the macro. An unspecified attribute has none.
+// The source, line and pattern that decided, and the macro. An attribute that no line assigns has none of these.
 fn push_origin(
     out: &mut Vec<u8>,
     collection: &MetadataCollection,

@@ -1,4 +1,4 @@
-//! Text that grows in memory before it is written.
+//! Text that grows in memory before it is written. If a buffer can't grow, what it has is not specified.
 
 ghost use Rattle.std.specs.Prelude.{◌≡◌, ◌++◌, OnOk};
 ghost use Rattle.std.specs.Fmt.{decimal};

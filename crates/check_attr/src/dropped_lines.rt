@@ -1,4 +1,4 @@
-//! The text of the lines that lists leave out.
+//! The text that reports dropped lines: those that lists leave out.
 
 ghost use Rattle.std.specs.Prelude.{◌≡◌, ◌++◌, OnOk};
 ghost use Rattle.std.specs.List.{flat_map};
@@ -12,7 +12,7 @@ use crate::writing::Push;
 use gix_attributes::search::{DropReason, Dropped};
 use std::alloc::AllocError;
 
-/// Appends a line for each line that a list of this source leaves out.
+/// Appends a line of text for each dropped line of a list of this source.
 ///
 /// # Errors
 ///
@@ -27,11 +27,13 @@ pub fn push_dropped(out: &mut Vec<u8>, source: &str, dropped: &[Dropped]) -> Res
     Ok(())
 }
 
-/// Passes on a line for each line that a list of this source leaves out, after what is held.
+/// Appends a line of text to `held` for each dropped line of a list of this source, and writes `held` whenever it
+/// fills a piece.
 ///
 /// # Errors
 ///
-/// `Write` if a write failed or took no byte, and `OutOfMemory` if a buffer could not grow.
+/// `Write` if a write failed or took no byte, and `OutOfMemory` if a buffer could not grow. A beginning of the text
+/// may be written then.
 pub fn pass_dropped<W: Push>(
     writer: &mut W,
     held: &mut Vec<u8>,

@@ -1,4 +1,4 @@
-//! The engine of a script: it applies each record, and passes on the text that the record writes.
+//! The engine of a script: it applies each record, and writes the record's text in pieces.
 
 ghost use Rattle.std.specs.Prelude.{◌≡◌, ◌++◌, true, false, OnOk};
 ghost use Rattle.std.specs.List.{flat_map};
@@ -49,12 +49,12 @@ impl<'a> Engine<'a> {
         }
     }
 
-    /// Applies a record, and passes on the text that it writes, after what is held.
+    /// Applies a record. The text that it writes is appended to `held`, which is written whenever it fills a piece.
     ///
     /// # Errors
     ///
-    /// `Write` if a write failed or took no byte, and `OutOfMemory` if a buffer, the lists, the
-    /// collection or the outcome could not grow.
+    /// `Write` if a write failed or took no byte, and `OutOfMemory` if a buffer, the lists, the collection or the
+    /// outcome could not grow. A beginning of the text may be written then. The state of the engine is not specified.
     pub fn apply<W: Push>(
         &mut self,
         alloc: Global,
@@ -112,7 +112,7 @@ impl<'a> Engine<'a> {
         pass_dropped(writer, held, addition.source, &dropped)
     }
 
-    // Without a list, nothing happens.
+    // Removes the last list. Without a list, nothing changes.
     fn pop(&mut self)
         requires { IsSoundEngine self.old }
         ensures sound { IsSoundEngine self.new }

@@ -55,7 +55,7 @@ impl Globals {
         }
     }
 
-    /// The lines that the global files leave out, a list for each file name.
+    /// The dropped lines of the global files, a list for each file name.
     pub fn dropped(&self) -> &[Vec<Dropped>]
         ensures { map (λ lines. lines.items) result.now ≡ self.now.dropped }
     {
@@ -73,8 +73,8 @@ impl Globals {
     }
 }
 
-/// The built-in list, and then the list of each of these files that exists. Later lists take
-/// precedence.
+/// Reads the global lists: the built-in one, and then that of each of these files that exists. Later lists take
+/// precedence (gitattributes page).
 ///
 /// # Errors
 ///

@@ -1,4 +1,4 @@
-//! The laws of all scripts. A law is a function that does nothing, whose clauses are the law.
+//! Laws of all scripts. A law is the contract of a function that does nothing.
 
 ghost use Rattle.std.specs.Prelude.{◌≡◌, ℕ, List, Option, None, All};
 ghost use Rattle.check_attr.specs.Script.{Record, CanBeWritten, BeginsWithRecord, script_of};

@@ -1,4 +1,5 @@
-//! What `check-attr` reads and writes, over any reader and any writer.
+//! The program `check_attr` over any reader, writer and source of files: scripts, the report of `--lines`, and
+//! statuses.
 #![tactic(auto)]
 
 mod answers;

@@ -5,10 +5,10 @@ ghost use Rattle.check_attr.specs.inner.Pieces.{Passes};
 use crate::fault::Fault;
 use crate::writing::{Push, write_bytes};
 
-// So many bytes are held before they are written.
+// The length of a piece in bytes: so many are held before they are written.
 const PIECE: usize = 1 << 16;
 
-/// Writes what is held if it fills a piece, and else leaves it.
+/// Writes and empties `held` if it fills a piece, and else leaves it.
 ///
 /// # Errors
 ///

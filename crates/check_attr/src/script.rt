@@ -13,7 +13,7 @@ use gix_attributes::glob::pattern::Case;
 use std::alloc::{AllocError, Global};
 use std::str;
 
-// The digits that a number may have. A longer number is malformed.
+// How many digits a number may have. A longer number is malformed.
 const MOST_DIGITS: usize = 8;
 
 /// The form in which the answers for a path are written.
@@ -58,7 +58,7 @@ pub struct Addition<'a> {
 pub struct Question<'a> {
     /// The form of the answers.
     pub form: Form,
-    /// How letters compare.
+    /// Whether the case of ASCII letters matters.
     pub case: Case,
     /// Whether the path is a folder, if that is known.
     pub is_dir: Option<bool>,

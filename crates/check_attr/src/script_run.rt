@@ -60,8 +60,8 @@ pub fn run<R: Pull, W: Push>(
     }
 }
 
-// Passes on the text of a script up to its first malformed record, and returns the number of that
-// one, from 1.
+// Writes the text of a script up to its first malformed record, in pieces. What is left of the text is in `held`.
+// Returns the number of the malformed record, from 1.
 fn answer<W: Push>(
     alloc: Global,
     script: &[u8],

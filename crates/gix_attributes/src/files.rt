@@ -42,8 +42,8 @@ pub trait Files {
     // How many reads the device failed so far.
     ghost failed: { Self → ℕ };
 
-    /// Reads a whole file into `buf`, in place of what `buf` held, and returns whether the file exists. A folder is
-    /// no file.
+    /// Replaces the contents of `buf` by those of a whole file, and returns whether the file exists. A folder is no
+    /// file.
     ///
     /// # Errors
     ///
@@ -99,8 +99,8 @@ impl<'a, R: HostFiles> Disk<'a, R> {
 
 const CHUNK: usize = 8192;
 
-// Reads a whole file, in place of the buffer's contents. The buffer grows here and in no call of the
-// device, so that want of memory is told from a device that has none.
+// Replaces the contents of the buffer by those of a whole file. The buffer grows only here and in no call of the
+// device, so that a lack of memory here is not reported as a failure of the device.
 fn read_file<R: HostFiles>(rt: &R, path: &str, buf: &mut Vec<u8>) -> Result<(), ReadError> {
     buf.clear();
     let mut file = match File::open(rt, path) {

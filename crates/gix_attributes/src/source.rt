@@ -1,4 +1,4 @@
-//! The paths of the attributes files that lie outside a worktree.
+//! The paths of the attributes files outside a worktree.
 
 ghost use Rattle.std.specs.Prelude.{◌≡◌, IfOk, List, option_map, string_bytes};
 ghost use Rattle.gix_attributes.specs.Sources.{Asked, AsksInOrder, IsAsked, below, is_unset_or_empty, joined, location};
@@ -25,7 +25,7 @@ pub enum Source {
 pub struct Prefixes {
     /// The folder of the files that git's installation brings.
     pub installation: Option<String>,
-    /// The folder in which the system's `etc` lies.
+    /// The folder that has the system's `etc`.
     pub system: Option<String>,
 }
 
@@ -36,7 +36,7 @@ impl Source {
     ///
     /// # Errors
     ///
-    /// If there is no memory for the path.
+    /// If memory runs out.
     pub fn storage_location<F: FnMut(&str) -> Option<String> + Drop>(
         self,
         alloc: Global,

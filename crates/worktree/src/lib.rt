@@ -1,5 +1,5 @@
-//! The attributes of the paths of a worktree: a worked caller of `gix_attributes`, whose contracts say what its searches
-//! find, by the clauses and laws of that crate alone.
+//! The attributes of the paths of a worktree: a worked caller of `gix_attributes`. Its contracts state what its
+//! searches find, by the clauses and laws of that crate alone.
 #![tactic(auto)]
 
 ghost use Rattle.std.specs.Prelude.{◌≡◌, ◌++◌, ◌-◌, length, take, OnOk, OnErr};
@@ -13,8 +13,8 @@ use gix_attributes::search::{MetadataCollection, Outcome, laws};
 use std::alloc::{AllocError, Global};
 use std::marker::Model;
 
-/// The attributes files of a worktree: global ones, and over them those of folders, from the top to one of them. One
-/// collection numbers the names of both.
+/// The attributes files of a worktree: global ones, and those of folders, from the top to one of them, which take
+/// precedence. One collection numbers the names of both.
 #[derive(Drop)]
 pub struct Worktree {
     globals: Search,
@@ -68,7 +68,7 @@ impl Worktree {
     ///
     /// # Errors
     ///
-    /// If there is no memory. Nothing changes then.
+    /// If memory runs out. Nothing changes then.
     pub fn add_global(&mut self, alloc: Global, file: File<'_>) -> Result<(), AllocError>
         ensures added { OnOk result (self.new ≡ with_global_file file.entry self.old) }
         ensures refused { OnErr result (self.new ≡ self.old) }
@@ -86,11 +86,12 @@ impl Worktree {
         Ok(())
     }
 
-    /// Looks names up for a path in a folder whose file comes after those that are there, and leaves the files as they were.
+    /// Adds the file of a folder, looks up names for a path in it, and removes the file. So the files are the same
+    /// after that.
     ///
     /// # Errors
     ///
-    /// If there is no memory.
+    /// If memory runs out. The files are the same then, too.
     pub fn look_up_in(
         &mut self,
         alloc: Global,
@@ -114,7 +115,7 @@ impl Worktree {
     ///
     /// # Errors
     ///
-    /// If there is no memory. Nothing changes then.
+    /// If memory runs out. Nothing changes then.
     pub fn enter(&mut self, alloc: Global, file: File<'_>) -> Result<(), AllocError>
         ensures entered { OnOk result (self.new ≡ with_folder file.entry self.old) }
         ensures refused { OnErr result (self.new ≡ self.old) }
@@ -143,11 +144,12 @@ impl Worktree {
         laws::registers::names_stay();
     }
 
-    /// Looks names up for a path, in the lists of folders and then in the global ones, so the folders take precedence.
+    /// Looks up names for a path, in the lists of folders and then in the global ones: so those of folders take
+    /// precedence.
     ///
     /// # Errors
     ///
-    /// If there is no memory.
+    /// If memory runs out.
     pub fn look_up(
         &self,
         alloc: Global,

@@ -1,4 +1,5 @@
-//! Git's C-style quoting: a text in double quotes, with backslashes in front of escapes.
+//! Git's C-style quoting: a text in double quotes, with a backslash in front of each escape (gitattributes page:
+//! patterns that begin with a double quote).
 
 ghost use Rattle.std.specs.Prelude.{ℕ, ◌≡◌, ◌↔◌, ◌≤◌, ◌<◌, length, List, Option, Some, Ok, Err, IfOk, IfErr, IsErrOf, Contains, position};
 ghost use Rattle.std.specs.Cow.{cow_slice_items, IsOwnedSlice};
@@ -45,7 +46,8 @@ impl<T: Drop> From<AllocFailed<T>> for UndoError {
 ///
 /// # Errors
 ///
-/// Fails if the text begins with no quote, has no closing quote or a bad escape, and if memory runs out.
+/// `NotQuoted` if the text begins with no quote, `BadEscape` if a backslash before the closing quote begins no escape,
+/// else `Unclosed` if there is no closing quote, and `OutOfMemory` if memory runs out.
 pub fn undo<'a>(alloc: Global, input: BStr<'a>) -> Result<(CowSlice<'a, u8>, usize), UndoError>
     ensures value { IfOk result (λ r.
         undone (bstr_bytes input.entry) ≡ Ok (cow_slice_items r.0, r.1)) }
@@ -70,8 +72,8 @@ pub fn undo<'a>(alloc: Global, input: BStr<'a>) -> Result<(CowSlice<'a, u8>, usi
     Ok((CowSlice::Owned(plain), taken))
 }
 
-/// Undoing, as it is computed, decides the relations on the whole text: each result is given if and only if its relation
-/// is true (a law).
+/// A law: `undone`, which computes the result, agrees with the relations over the whole text. It has a result if and
+/// only if that result's relation is true.
 pub fn undone_as_spelled()
     ensures quoted { (text plain : List ℕ) (taken : ℕ) →
         (undone text ≡ Ok (plain, taken)) ↔ IsQuoted text plain taken }
@@ -90,7 +92,7 @@ fn first_mark(bytes: &[u8]) -> Option<usize>
         .position(|byte| *byte == b'"' || *byte == b'\\')
 }
 
-// The same as `undo`, of a text that begins with a quote, by a copy.
+// The same as `undo`, for a text with a backslash after its quote. The plain bytes are a copy.
 fn undo_escapes(alloc: Global, text: &[u8]) -> Result<(Vec<u8>, usize), UndoError>
     requires { HoldsEscape text.now }
     ensures value { IfOk result (λ r. undone text.now ≡ Ok (r.0.items, r.1)) }

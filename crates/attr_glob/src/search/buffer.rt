@@ -1,4 +1,4 @@
-//! How a buffer becomes patterns.
+//! How a buffer becomes patterns: the trait [`Pattern`].
 
 ghost use Rattle.std.specs.Prelude.{ℕ, List, IfOk};
 ghost use Rattle.attr_glob.specs.declared.search.pattern.Mapping.{Mapping};
@@ -20,11 +20,12 @@ pub trait Pattern {
     ghost reads: { Self → List ℕ → List ℕ →
         List (Mapping Self.Value) → List Self.Dropped → Type 0 };
 
-    /// Reads a buffer that came from the source.
+    /// Reads a buffer, and returns its mappings and what is reported of the lines that are left out. `source` is the
+    /// path of its file.
     ///
     /// # Errors
     ///
-    /// Fails if memory runs out.
+    /// If memory runs out.
     fn bytes_to_patterns(
         &self,
         alloc: Global,

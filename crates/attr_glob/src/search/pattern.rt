@@ -18,23 +18,23 @@ use std::alloc::{AllocError, Global};
 mod index;
 pub mod laws;
 
-/// A pattern, with what goes with it.
+/// A line of a list: its pattern, and the value that goes with it.
 #[derive(PartialEq, Eq, PartialOrd, Ord, Hash, Debug, Drop)]
 pub struct Mapping<V> {
     /// The pattern.
     pub pattern: crate::Pattern,
-    /// What goes with it.
+    /// The value that goes with the pattern.
     pub value: V,
     /// The number of its line, from 1.
     pub sequence_number: usize,
 }
 
 impl<V: Clone> Mapping<V> {
-    /// A copy: of its value as the value's `Clone` makes it.
+    /// A copy. The value is copied by its `Clone`.
     ///
     /// # Errors
     ///
-    /// Fails if memory runs out.
+    /// If memory runs out.
     pub fn clone(&self, alloc: Global) -> Result<Mapping<V>, AllocError>
         ensures { IfOk result (λ copy. IsMappingClone V.is_clone self.now copy) }
     {
@@ -51,19 +51,21 @@ impl<V: Clone> Mapping<V> {
 pub struct List<T: search::Pattern> {
     /// The patterns, in the order of their lines.
     pub patterns: Vec<Mapping<T::Value>>,
-    /// The file or another source of the patterns, as `sub/.gitattributes`.
+    /// The source of the patterns: a file, such as `sub/.gitattributes`, or a name for another source.
     pub source: Option<String>,
-    /// The folder in which the list applies, with its slash, as `sub/`: the patterns are matched against what follows it.
+    /// The folder below which the list applies, with its slash, such as `sub/`. The patterns are matched against what
+    /// follows it in a path. Without a base the list applies to all paths.
     pub base: Option<Vec<u8>>,
 }
 
 impl<T: search::Pattern + Drop> List<T> {
-    /// Reads the patterns of a buffer that came from the source. They apply below the source's folder, as it is seen
-    /// from the root.
+    /// Reads a buffer as a list, and returns it with what is reported of the lines that are left out. `source` is the
+    /// path of the file. The list applies below the file's folder (gitattributes page), relative to `root`. Without a
+    /// root, or if the folder isn't below it, the list applies to all paths.
     ///
     /// # Errors
     ///
-    /// Fails if memory runs out.
+    /// If memory runs out.
     pub fn from_bytes(
         alloc: Global,
         bytes: &[u8],
@@ -90,6 +92,7 @@ impl<T: search::Pattern + Drop> List<T> {
 
 impl<T: search::Pattern> List<T> {
     /// What follows the base in the path, with the place of its base name. None if the list doesn't apply to the path.
+    /// `basename_pos` is the path's [`base_name_place`](crate::pattern::base_name_place).
     pub fn strip_base_handle_recompute_basename_pos<'a>(
         &self,
         path: BStr<'a>,
@@ -110,11 +113,11 @@ impl<T: search::Pattern> List<T> {
 }
 
 impl<T: search::Pattern> List<T> {
-    /// A copy: of its values as their `Clone` makes them.
+    /// A copy. The values are copied by their `Clone`.
     ///
     /// # Errors
     ///
-    /// Fails if memory runs out.
+    /// If memory runs out.
     pub fn clone(&self, alloc: Global) -> Result<List<T>, AllocError>
         ensures patterns { IfOk result (λ copy.
             AreMappingClones T.Value.is_clone self.now.patterns.items copy.patterns.items) }
@@ -176,7 +179,7 @@ fn base_of(alloc: Global, source: &str, root: Option<&str>) -> Result<Option<Vec
     }
 }
 
-// What precedes the last slash.
+// The bytes before the last slash, and none without one.
 fn folder(source: &[u8]) -> &[u8]
     ensures { result.now ≡ folder source.now }
 {
@@ -230,7 +233,8 @@ fn rest_below<'a>(base: &[u8], case: Case, path: &'a [u8]) -> Option<&'a [u8]>
     }
 }
 
-// The place, counted after so many bytes.
+// The place of a base name, counted from the first byte after `taken` bytes. None if the base name begins there or
+// before.
 fn place_after(taken: usize, place: Option<usize>) -> Option<usize>
     ensures { result ≡ place_after taken place }
 {

@@ -18,11 +18,11 @@ use std::rc::RcStr;
 /// The parts of a table. While a list is added, a name may lack its entry.
 #[derive(Debug, Drop)]
 pub(super) struct Parts {
-    /// The index of a name is its number.
+    /// The names. The index of a name is its number.
     pub(super) names: IndexSet<RcStr>,
     /// The entries of the names, by number.
     pub(super) entries: Vec<NameEntry>,
-    /// Whether a list is registered under this list id.
+    /// For each list id, whether a list is registered under it.
     pub(super) active: Vec<bool>,
 }
 
@@ -55,7 +55,7 @@ impl Parts {
         Ok(())
     }
 
-    /// Removes the names from this number on, and all definitions of a list.
+    /// Removes the names whose numbers are `count` or greater, and all definitions of a list.
     pub(super) fn roll_back(&mut self, count: usize, list_id: usize)
         ensures table { parts_view self.new ≡ rolled_back count list_id (parts_view self.old) }
         ensures entries { AreEntries self.old.entries.items → AreEntries self.new.entries.items }

@@ -35,7 +35,7 @@ impl Memory {
     ///
     /// # Errors
     ///
-    /// If there is no memory for the path or the bytes. Nothing changes then.
+    /// If memory runs out. Nothing changes then.
     pub fn insert(&mut self, path: &str, bytes: &[u8]) -> Result<(), AllocError>
         ensures files { OnOk result
             (StoresFile path.now bytes.now (memory_view self.old) (memory_view self.new)) }

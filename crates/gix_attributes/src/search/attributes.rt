@@ -61,16 +61,16 @@ impl Search {
         self.patterns.len()
     }
 
-    /// Adds the list of an attributes file's bytes as the last one, registers it in the collection, and returns the
-    /// lines that are dropped of it.
+    /// Reads an attributes file's bytes as a list, adds it as the last one, and registers it in the collection. Returns
+    /// the dropped lines: those that the list leaves out, each with its reason.
     ///
-    /// `source` is the path of the file. The patterns apply to the paths in the file's folder, as this folder is seen
-    /// from `root`: without a root, or if the file lies elsewhere, they apply to all paths. If macros are not
-    /// allowed, the lines that define one are skipped (gitattributes page: only top-level files may define macros).
+    /// `source` is the path of the file. The patterns apply to the paths in the file's folder, relative to `root`.
+    /// Without a root, or if the file is elsewhere, they apply to all paths. If macros are not allowed, the lines that
+    /// define one are skipped (gitattributes page: only top-level files may define macros).
     ///
     /// # Errors
     ///
-    /// If there is no memory. The search and the collection are unchanged then.
+    /// If memory runs out. The search and the collection are unchanged then.
     pub fn add_patterns_buffer(
         &mut self,
         alloc: Global,
@@ -104,10 +104,10 @@ impl Search {
         Ok(dropped)
     }
 
-    /// Removes the last list, and its definitions of macros from the collection, and returns the list, if there was
-    /// one. The list keeps the numbers of its attributes, and their names stay in the collection. It takes no memory.
+    /// Removes the last list, and its definitions of macros from the collection. Returns the list, or none if there was
+    /// none. The list keeps the numbers of its attributes, and their names stay in the collection. It takes no memory.
     ///
-    /// The collection has to hold the search, as [`MetadataCollection::holds`] tests it.
+    /// The lists of the search have to be registered in the collection, as [`MetadataCollection::holds`] tests it.
     pub fn pop_pattern_list(
         &mut self,
         collection: &mut MetadataCollection,
@@ -132,8 +132,9 @@ impl Search {
         Some(last.list)
     }
 
-    /// Looks a path up: fills the slots of an outcome by the lines that match the path, until each selected attribute
-    /// has an answer (gitattributes page). Returns whether one of these was found.
+    /// Looks up a path: fills the slots of an outcome from the lines that match the path, until each selected attribute
+    /// has an answer (gitattributes page: later lists and lines take precedence). Returns whether the search found an
+    /// answer of a selected attribute.
     ///
     /// The path has no leading slash, and `is_dir` is whether it is a folder, if that is known. Searches may follow
     /// one another: what the earlier ones found takes precedence. If each selected attribute has an answer before,
@@ -141,7 +142,7 @@ impl Search {
     ///
     /// # Errors
     ///
-    /// If there is no memory. The outcome is empty then, as after [`Outcome::reset`].
+    /// If memory runs out. The outcome is empty then, as after [`Outcome::reset`].
     pub fn pattern_matching_relative_path(
         &self,
         alloc: Global,
@@ -153,7 +154,8 @@ impl Search {
         requires initialized { IsTrue out.old.is_initialized }
         requires covered { ListsAreCovered (length out.old.slots) (lists_in self.now) }
 
-        // The slots hold the cut of the only stable table, over the slots before.
+        // A table gives each attribute the item that decides it. It is stable if each is the earliest item that counts.
+        // The slots are the cut of the only stable table, over the slots before: what a search finds that stops early.
         ensures one { OneTable
             (setting_for (lists_in self.now) out.old (bstr_bytes path.entry) case is_dir)
             (answers_in out.old) }
@@ -167,8 +169,8 @@ impl Search {
         ensures named { OnOk result (KeepsNames (lists_in self.now) out.old out.new) }
         ensures kept { OnOk result (KeepsAllButAnswers out.old out.new) }
 
-        // No more items are taken than there are, and no fewer than there are slots filled; no more lines are tested
-        // than are candidates, and no fewer than those at which the roots are of the slots filled.
+        // A search takes at most the items that there are, and at least one for each slot that it fills. It tests at
+        // most the candidate lines, and at least the lines whose items fill slots, themselves or by macros.
         ensures most { is_complete out.old ≡ false → OnOk result (
             out.new.taken
             ≤ work_of (setting_for (lists_in self.now) out.old (bstr_bytes path.entry) case is_dir)) }
@@ -195,7 +197,11 @@ impl Search {
         found
     }
 
-    /// A copy, with the same lists.
+    /// A copy, with the same lists under the same list ids.
+    ///
+    /// # Errors
+    ///
+    /// If memory runs out.
     pub fn clone(&self, alloc: Global) -> Result<Search, AllocError>
         ensures lists { IfOk result (λ copy. lists_in copy ≡ lists_in self.now) }
         ensures list_ids { IfOk result (λ copy. list_ids_in copy ≡ list_ids_in self.now) }
@@ -215,7 +221,7 @@ impl Search {
     }
 }
 
-// The list of a buffer, without numbers so far, and the lines that are dropped of it.
+// The list of a buffer, without numbers so far, and its dropped lines.
 fn read_list(
     alloc: Global,
     bytes: &[u8],

@@ -32,7 +32,8 @@ use std::marker::Model;
 /// The attributes of the lists of searches: each name with its number, and the definitions of macros.
 ///
 /// A name gets the next number when it is first seen, and keeps it for good. The definitions of a list are active as
-/// long as the list is registered, and the body of a macro is that of its last active definition.
+/// long as the list is registered, and the body of a macro is that of its last active definition (gitattributes page: a
+/// later definition replaces an earlier one). Each list is registered under a list id of its own.
 #[derive(Debug, Drop)]
 pub struct MetadataCollection {
     numbering: NameTable,
@@ -77,7 +78,7 @@ impl MetadataCollection {
         self.numbering.number_of(name)
     }
 
-    // The body of the name with this number, which is empty if it is no macro.
+    // The body of the name with this number: empty if it is no macro.
     pub(crate) fn body(&self, number: usize) -> &Assignments
         requires { number < length self.now.names }
         ensures { result.now.items ≡ macro_body self.now number }
@@ -94,7 +95,7 @@ impl MetadataCollection {
     ///
     /// # Errors
     ///
-    /// If there is no memory. The collection and the list's numbers are unchanged then.
+    /// If memory runs out. The collection and the list's numbers are unchanged then.
     pub fn update_from_list(
         &mut self,
         alloc: Global,
@@ -164,9 +165,9 @@ impl MetadataCollection {
         macros_valid(&list.patterns)
     }
 
-    /// Whether the lists of the search are registered in this collection under different list ids: for each name, the
-    /// definitions under a list's id are those of its lines. Only then a list can be removed by
-    /// [`Search::pop_pattern_list`]. It takes no memory.
+    /// Whether the lists of the search are registered in this collection, under different list ids: for each name, the
+    /// definitions under a list's id are those of its lines. [`Search::pop_pattern_list`] requires this. It takes no
+    /// memory.
     pub fn holds(&self, search: &Search) -> bool
         ensures held { IsTrue result ↔ Holds self.now search.now }
         ensures sound { IsSoundCollection self.now }
@@ -174,12 +175,11 @@ impl MetadataCollection {
         are_held(&self.numbering, search.lists())
     }
 
-    /// A copy, in which the same lists are registered. The copy and the collection don't follow one another's
-    /// changes.
+    /// A copy, in which the same lists are registered. Later changes of one don't change the other.
     ///
     /// # Errors
     ///
-    /// If there is no memory.
+    /// If memory runs out.
     pub fn clone(&self, alloc: Global) -> Result<MetadataCollection, AllocError>
         ensures content { IfOk result (λ copy. copy ≡ self.now) }
         ensures sound { IsSoundCollection self.now }

@@ -25,7 +25,7 @@ use thiserror::Error;
 pub struct Added {
     /// Whether the file exists, so that its list was added.
     pub was_added: bool,
-    /// The lines that are dropped of the file.
+    /// The dropped lines of the file: those that its list leaves out.
     pub dropped: Vec<Dropped>,
 }
 
@@ -63,12 +63,12 @@ impl From<ReadError> for AddError {
 
 impl Search {
     /// Adds the list of a file, as [`Search::add_patterns_buffer`] adds that of a buffer. If the file doesn't exist,
-    /// nothing is added. `source` is the path of the file, and `buf` has its contents afterwards.
+    /// nothing is added. `source` is the path of the file, and `buf` has its contents after that.
     ///
     /// # Errors
     ///
-    /// [`AddError::Io`] if the device fails, and [`AddError::OutOfMemory`] if there is no memory. The search and the
-    /// collection are unchanged then.
+    /// [`AddError::Io`] if the device fails, and [`AddError::OutOfMemory`] if memory runs out. The search and the
+    /// collection are unchanged then, and the contents of `buf` are not specified.
     pub fn add_patterns_file_from<F: Files>(
         &mut self,
         alloc: Global,
@@ -152,14 +152,14 @@ impl Search {
         )
     }
 
-    /// A search of the global lists: the built-in one, which defines the macro `binary` (gitattributes page), and
-    /// then the list of each of these files that exists. Later ones take precedence, so the names are those of
-    /// [`Source`](crate::Source)s in ascending order. For each name the dropped lines of its file are returned.
+    /// Makes a search of the global lists: the built-in one, which defines the macro `binary` (gitattributes page), and
+    /// then the list of each of these files that exists. Later lists take precedence, so `names` are the paths of
+    /// [`Source`](crate::Source)s in ascending order. Returns also the dropped lines of each name's file.
     ///
     /// # Errors
     ///
-    /// [`AddError::Io`] if the device fails a read, and [`AddError::OutOfMemory`] if there is no memory. The
-    /// collection keeps the lists that were added before.
+    /// [`AddError::Io`] if the device fails a read, and [`AddError::OutOfMemory`] if memory runs out. The lists that
+    /// were added before stay registered in the collection then, and the contents of `buf` are not specified.
     pub fn new_globals_from<F: Files>(
         alloc: Global,
         files: &mut F,
@@ -198,7 +198,7 @@ impl Search {
         Ok((search, dropped))
     }
 
-    /// A search of the global lists from files of the real disk, as [`Search::new_globals_from`] returns it.
+    /// Makes a search of the global lists from files of the real disk, as [`Search::new_globals_from`] does.
     ///
     /// # Errors
     ///

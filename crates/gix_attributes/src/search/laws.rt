@@ -1,4 +1,7 @@
-//! Facts of all searches. A law is a function that does nothing: its clauses are the law.
+//! Laws of all searches. A law is the contract of a function that does nothing.
+//!
+//! A table gives each attribute the item that decides it. It is stable if each is the earliest item that counts for its
+//! attribute, by the gitattributes page. The laws of `attr_table` prove that exactly one table is stable.
 
 ghost use Rattle.std.specs.Prelude.{◌≡◌, ◌↔◌, ℕ, Bool, false, List, ◌∷◌, ◌++◌, Option, All};
 ghost use Rattle.attr_glob.specs.declared.pattern.Case.{Case};
@@ -20,7 +23,7 @@ pub fn answers_are_of_the_only_table()
         OfTheOnlyTable (setting_in q) (ReturnsAnswers q after) }
 {}
 
-/// A search that leaves a name without an answer went to the end: what it left is the whole table, whatever is selected.
+/// If a search leaves a selected name without an answer, it went to the end: the outcome has the whole table.
 pub fn unfinished_searches_leave_the_whole_table()
     ensures { (lists : List Listed) (path : List ℕ) (case : Case) (is_dir : Option Bool)
         (before after : Content) (table : Table) (number : ℕ) →

@@ -15,7 +15,7 @@ use attr_text::{AssignmentRef, NameRef, StateRef};
 use bstr::BStr;
 use std::marker::Model;
 
-/// An iterator over the matches of an outcome by the number of their attributes, whatever is selected.
+/// An iterator over the matches of an outcome, by the numbers of their attributes, whatever is selected.
 #[derive(Drop)]
 pub struct Matches<'a> {
     outcome: &'a Outcome,
@@ -69,7 +69,8 @@ fn first_match(outcome: &Outcome, from: usize) -> Option<(usize, Match<'_>)>
     None
 }
 
-/// An iterator over the matches of the selected names, in their order. A name that no line has is unspecified.
+/// An iterator over the matches of the selected names, in their order. A name that no matching line assigns is
+/// unspecified (gitattributes page).
 #[derive(Drop)]
 pub struct Selected<'a> {
     outcome: &'a Outcome,
@@ -113,7 +114,8 @@ impl<'a> Iterator for Selected<'a> {
     }
 }
 
-/// The match of a name that no line has: unspecified (gitattributes page), with the empty pattern.
+/// The match of a name that no matching line assigns: unspecified (gitattributes page), with the empty pattern, no
+/// source and line 0 (own).
 pub(crate) fn unspecified<'a>(name: &'a str, empty: &'a Pattern) -> Match<'a>
     requires { pattern_view empty.now ≡ no_pattern }
     ensures { match_view result ≡ unspecified name.now }

@@ -36,10 +36,11 @@ use std::marker::Model;
 
 /// The answers that searches found: one for each attribute that a matching line assigns.
 ///
-/// It is initialised with a collection, and has to be again once that has changed.
+/// It has a slot for each number of a collection: the answer for the attribute with that number, if one was found. So
+/// it is initialised with a collection, and has to be initialised again after that has changed.
 #[derive(Drop)]
 pub struct Outcome {
-    // The answers, what each attribute is as a macro, and what a search works with.
+    // The answers, the body of each attribute, and the buffers of a search.
     pub(crate) state: SearchState,
     selected: Vec<SelectedName>,
     // The pattern of the answer for an unspecified attribute.
@@ -78,7 +79,7 @@ impl Outcome {
     ///
     /// # Errors
     ///
-    /// If memory is refused. Nothing changes then.
+    /// If memory runs out. Nothing changes then.
     pub fn initialize(
         &mut self,
         alloc: Global,
@@ -94,11 +95,11 @@ impl Outcome {
 
     /// Selects the attributes that are looked for, and initialises the outcome. No names select all attributes.
     ///
-    /// A text that is no valid name is always unspecified.
+    /// A text that is no valid name is always unspecified, and is reported by the name `invalid` (own).
     ///
     /// # Errors
     ///
-    /// If memory is refused. Nothing changes then.
+    /// If memory runs out. Nothing changes then.
     pub fn initialize_with_selection(
         &mut self,
         alloc: Global,
@@ -113,7 +114,7 @@ impl Outcome {
         self.set_up(alloc, collection, selected)
     }
 
-    // All is made first, so that nothing has changed if memory is refused.
+    // All is made before anything is replaced, so that nothing has changed if memory runs out.
     fn set_up(
         &mut self,
         alloc: Global,
@@ -169,7 +170,7 @@ impl Outcome {
     ///
     /// # Errors
     ///
-    /// If memory is refused. Nothing changes then.
+    /// If memory runs out. Nothing changes then.
     pub fn copy_into(
         &self,
         alloc: Global,
@@ -195,7 +196,7 @@ impl Outcome {
     ///
     /// # Errors
     ///
-    /// If memory is refused.
+    /// If memory runs out.
     pub fn clone(&self, alloc: Global) -> Result<Outcome, AllocError>
         ensures { IfOk result (λ copy. copy ≡ self.now) }
     {
@@ -207,7 +208,7 @@ impl Outcome {
         })
     }
 
-    /// The answer for an attribute, none if no matching line assigns it and if there is no such number.
+    /// The answer for the attribute with this number. None if no search found one, or if there is no such slot.
     pub fn match_by_id(&self, id: AttributeId) -> Option<Match<'_>>
         ensures { option_map match_view result ≡ slice_index_or self.now.slots id.0 None }
     {
@@ -246,14 +247,14 @@ impl Outcome {
         selection::are_bodies_of(self.state.bodies(), collection)
     }
 
-    /// How many items the last search took off its stack.
+    /// How many items the last search popped from its stack. It stops at `u128::MAX`.
     pub fn taken(&self) -> u128
         ensures { result ≡ self.now.taken }
     {
         self.state.taken()
     }
 
-    /// How many patterns the last search tested.
+    /// How many lines the last search tested: it compared their patterns with the path. It stops at `u128::MAX`.
     pub fn tested(&self) -> u128
         ensures { result ≡ self.now.tested }
     {

@@ -14,7 +14,9 @@ use std::rc::RcStr;
 /// A selected name, with its number if the collection has it.
 #[derive(Drop)]
 pub(crate) struct SelectedName {
+    /// The name as it was selected. It need not be a valid name.
     pub name: RcStr,
+    /// The number that the collection had for it.
     pub number: Option<usize>,
 }
 
@@ -72,7 +74,7 @@ pub(crate) fn copy_of(
     Ok(copy)
 }
 
-/// For each number below the count whether it is wanted.
+/// For each number below the count, whether it is wanted: all are if nothing is selected.
 pub(crate) fn flags(
     alloc: Global,
     selected: &[SelectedName],

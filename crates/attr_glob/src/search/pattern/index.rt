@@ -18,8 +18,8 @@ use bstr::BStr;
 use std::alloc::{AllocError, Global};
 use std::marker::Model;
 
-/// The patterns of a list by what the base name of a path needs, so that a search looks only at those that can match
-/// the path.
+/// The patterns of a list by the base names that they need, so that a search tests only candidates. A candidate is a
+/// pattern that may match a path with a given base name (own: it changes no answer).
 #[derive(Debug, Drop)]
 pub struct Index {
     patterns: Vec<Pattern>,
@@ -40,7 +40,7 @@ impl Model for Index {
     ghost invariant = { IsIndex };
 }
 
-/// Buffers for the searches in an index, so that they need not grow for each path.
+/// Buffers for lookups in an index, which several calls share so that they don't grow for each path.
 #[derive(Debug, Drop)]
 pub struct IndexBuffers {
     turned: Vec<u8>,
@@ -48,7 +48,7 @@ pub struct IndexBuffers {
 }
 
 impl IndexBuffers {
-    /// Empty buffers, for which no memory is taken.
+    /// Empty buffers. It takes no memory.
     pub fn new(alloc: Global) -> IndexBuffers {
         IndexBuffers {
             turned: Vec::new(alloc),
@@ -58,11 +58,11 @@ impl IndexBuffers {
 }
 
 impl Index {
-    /// The index of a list, which keeps a copy of each pattern.
+    /// The index of a list. It has a copy of each pattern.
     ///
     /// # Errors
     ///
-    /// Fails if memory runs out.
+    /// If memory runs out.
     pub fn of<T: search::Pattern>(alloc: Global, list: &List<T>) -> Result<Index, AllocError>
         ensures { IfOk result (λ index. index ≡ patterns_of list.now.patterns.items) }
     {
@@ -101,11 +101,12 @@ impl Index {
         true
     }
 
-    /// The places of the patterns that a path has to be matched against, the greatest first.
+    /// The places of the candidates for a path, the greatest first. A place is the index of a pattern in the list,
+    /// from 0. `basename_pos` is the path's [`base_name_place`](crate::pattern::base_name_place).
     ///
     /// # Errors
     ///
-    /// Fails if memory runs out.
+    /// If memory runs out.
     pub fn candidates<T: search::Pattern>(
         &self,
         alloc: Global,
@@ -126,12 +127,12 @@ impl Index {
         Ok(places)
     }
 
-    /// Appends the places of the patterns that a path of this base name has to be matched against, the greatest first,
-    /// as `candidates` returns them. It takes memory only if a buffer grows.
+    /// Appends the places of the candidates for a path with this base name, as `candidates` returns them. It takes
+    /// memory only if a buffer grows.
     ///
     /// # Errors
     ///
-    /// Fails if memory runs out. Some of the places may have been appended then.
+    /// If memory runs out. Some of the places may have been appended then.
     pub fn append_candidates(
         &self,
         base_name: &[u8],
@@ -170,7 +171,7 @@ fn folds(case: Case) -> bool
     }
 }
 
-// What the key of a line with this pattern is made of.
+// The parts of the pattern that decide its key.
 fn shape_of(pattern: &Pattern) -> Shape<'_>
     ensures { shape_content result ≡ shape_reading (pattern_view pattern.now) }
 {

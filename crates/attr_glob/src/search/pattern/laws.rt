@@ -1,4 +1,4 @@
-//! What follows from the contracts, as functions that do nothing.
+//! Laws of lists and patterns. A law is the contract of a function that does nothing.
 
 ghost use Rattle.std.specs.Prelude.{◌≡◌, Some, true, false, option_map, string_bytes};
 ghost use Rattle.bstr.specs.BStr.{bstr_bytes};
@@ -14,8 +14,8 @@ use crate::search;
 use crate::search::pattern::{List, Mapping};
 use bstr::BStr;
 
-/// A pattern that was read from a text, that defines no macro and that matches a path is a candidate for it. So a search
-/// that matches the candidates alone finds all that match.
+/// If a pattern was read from a text, defines no macro and matches a path, it is a candidate for the path. So a search
+/// that tests only candidates finds all patterns that match.
 pub fn matching_pattern_is_candidate(
     text: &[u8],
     pattern: &Pattern,

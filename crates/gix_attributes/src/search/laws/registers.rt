@@ -1,4 +1,4 @@
-//! Facts of the lists that a collection registers, for any number of searches over it.
+//! Laws of the lists that a collection registers, for any number of searches over it.
 
 ghost use Rattle.std.specs.Prelude.{◌≡◌, ℕ, List, Option, length, map};
 ghost use Rattle.attr_lists.specs.Collections.{Collection};
@@ -27,8 +27,8 @@ pub fn bodies_have_names()
         BodiesAreNamed known.names (bodies_of known) }
 {}
 
-/// Items that have the numbers of their names still have them after names are appended, and numbers of names are still
-/// such.
+/// Items that have the numbers of their names still have them after names are appended. A number that was a name's is
+/// one still.
 pub fn names_stay()
     ensures lists { (old new : List (List ℕ)) (lists : List Listed) → AppendsNames old new →
         ListsAreNamed old lists → ListsAreNamed new lists }
@@ -40,7 +40,7 @@ pub fn names_stay()
         AppendsNames old new → HeldAreNamed old answers → HeldAreNamed new answers }
 {}
 
-/// What is kept by each of two calls is kept by both, and what they add comes in their order.
+/// What each of two calls keeps, both keep. What they add comes in the order of the calls.
 pub fn calls_follow_one_another()
     ensures kept { (one two three : RegisteredLists) → Keeps one two → Keeps two three →
         Keeps one three }
