@@ -1,6 +1,6 @@
 -- Lists of codes that begin others.
-use Rattle.std.proofs.Common.{◌≡◌, ℕ, zero, suc, ◌+◌, ◌<◌, ◌≤◌, Bool, true, false, ◌&&◌, ◌||◌, List, [], ◌∷◌, length, take, get_or, Option, Some,
-    None, refl, sym, ap, ◌∙◌, arith}
+use Rattle.std.proofs.Common.{◌≡◌, ℕ, zero, suc, ◌+◌, ◌<◌, ◌≤◌, Bool, true, false, ◌&&◌, ◌||◌, List, [], ◌∷◌, length, take, get_or, Option, Some}
+use Rattle.std.proofs.Common.{None, refl, sym, ap, ◌∙◌, arith}
 use Rattle.std.proofs.Common.{eqb, ltb, nat_eq}
 use Rattle.std.specs.Cmp.Lexicographic.{slice_cmp}
 use Rattle.std.specs.List.{starts_with, slice_get}
@@ -134,12 +134,12 @@ codes_positive fold (b ∷ bs) is_whole zero lt = coded fold
     coded false = omega arith
 codes_positive fold (b ∷ bs) is_whole (suc i) lt = codes_positive fold bs is_whole i (omega arith)
 
-pub row_positive : (fold : Bool) (keys : List Key) (row : ℕ) → IsPositive (row_codes fold keys row)
-row_positive fold keys row = positive (slice_get keys row)
+pub row_positive : (keys : List Key) (row : ℕ) → IsPositive (row_codes keys row)
+row_positive keys row = positive (slice_get keys row)
   where
-    positive : (key : Option Key) → IsPositive (key_codes fold key)
+    positive : (key : Option Key) → IsPositive (key_codes key)
     positive None i lt = absurd (omega arith)
-    positive (Some key) i lt = codes_positive fold key.text.items key.is_whole i lt
+    positive (Some key) i lt = codes_positive false key.text.items key.is_whole i lt
 
 pub length-codes : (fold : Bool) (text : List ℕ) → length (codes_of fold text true) ≡ length text + 1
 length-codes fold [] = refl

@@ -4,3 +4,5 @@ pub mod Fronts
 pub mod Searching
 pub mod Ordering
 pub mod Meetings
+pub mod Parts
+pub mod Hashing

@@ -20,7 +20,7 @@ has_dedup_from row k [] = refl
 has_dedup_from row k (x ∷ xs) =
     by_test (eqb x k)
     (λ t. rw t (has_dedup_from row k xs ∙ (twice (eqb k row) (has_row xs row) ∙ ap (λ n. eqb k row || (eqb n row || has_row xs row))
-        (sym (eqb-true x k t)))))
+    (sym (eqb-true x k t)))))
     (λ f. rw f (ap (λ b. eqb k row || b) (has_dedup_from row x xs)))
 
 pub has_dedup : (row : ℕ) (xs : List ℕ) → has_row (dedup eqb xs) row ≡ has_row xs row

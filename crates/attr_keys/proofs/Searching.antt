@@ -129,27 +129,31 @@ found_all text key n lt =
     (λ t. let le = found_short text key t in rw (t, short_enough (length key) n (omega arith)) refl)
     (λ f. rw f refl)
 
--- no key begins with what was read
-pub found_left : (codes : ℕ → List ℕ) (text rows left : List ℕ) (n row : ℕ) → left ≡ begun codes text n rows → length left ≡ 0 →
-    has_row rows row && is_found text n (codes row) ≡ has_row rows row && starts_with nat_eq text (codes row)
-found_left codes text rows left n row is none =
+-- what is left is compared one by one
+pub found_few : (codes : ℕ → List ℕ) (text rows left old found found' : List ℕ) (n row : ℕ) → left ≡ begun codes text n rows →
+    has_row found row ≡ has_row old row || (has_row rows row && is_found text n (codes row)) →
+    has_row found' row ≡ has_row found row || (has_row left row && starts_with nat_eq text (codes row)) →
+    has_row found' row ≡ has_row old row || (has_row rows row && starts_with nat_eq text (codes row))
+found_few codes text rows left old found found' n row is known more =
     let key = codes row in
-    by_test (has_row rows row)
-    (λ h. by_test (starts_with nat_eq text key)
-    (λ t. by_test (ltb (length key) n)
-    (λ l. rw (t, l) refl)
-    (λ l.
-    let long : n ≤ length key = grind (arith, nat_tests) in
-    let begins = found_begins text key n long t in
-    let some : has_row left row ≡ true =
-    ap (λ l. has_row l row) is ∙ (has_filter (λ r. starts_with nat_eq (codes r) (take n text)) row rows ∙ rw (h, begins) refl) in
-    absurd (empty left none row some)))
-    (λ f. rw f refl))
-    (λ h. rw h refl)
+    let begins = starts_with nat_eq key (take n text) in
+    let has = starts_with nat_eq text key in
+    let here : has_row left row ≡ has_row rows row && begins =
+    ap (λ l. has_row l row) is ∙ has_filter (λ r. starts_with nat_eq (codes r) (take n text)) row rows in
+    more ∙ (ap (λ b. b || (has_row left row && has)) known
+    ∙ (ap (λ b. (has_row old row || (has_row rows row && is_found text n key)) || (b && has)) here
+    ∙ either (has_row old row) (has_row rows row) has (ltb (length key) n) begins
+    (λ t l. found_begins text key n (long (length key) l) t)))
   where
-    empty : (l : List ℕ) → length l ≡ 0 → (r : ℕ) → has_row l r ≡ true → ⊥
-    empty [] e r h = cc
-    empty (x ∷ xs) e r h = omega arith
+    long : (a : ℕ) → ltb a n ≡ false → n ≤ a
+    long a f = grind (arith, nat_tests)
+
+    either : (a b t l s : Bool) → (t ≡ true → l ≡ false → s ≡ true) → (a || (b && (t && l))) || ((b && s) && t) ≡ a || (b && t)
+    either true b t l s h = refl
+    either false false t l s h = refl
+    either false true true true s h = refl
+    either false true true false s h = rw (h refl refl) refl
+    either false true false l s h = and_none s
 
 pub rises_same : (codes : ℕ → List ℕ) (left rows : List ℕ) (n : ℕ) → left ≡ rows →
     IsNonDecreasingBy (λ row. get_or (codes row) n 0) rows → IsNonDecreasingBy (λ row. get_or (codes row) n 0) left

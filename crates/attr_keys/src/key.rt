@@ -1,10 +1,14 @@
 //! Keys, and the codes by which they are sorted: 0 past the end of a text, 1 at the end of a whole text, and else the
 //! value of a byte plus 2.
 
-ghost use Rattle.std.specs.Prelude.{◌≡◌, IfOk, slice_index};
-ghost use Rattle.attr_keys.specs.inner.Codes.{byte_code, codes_of, row_codes};
+ghost use Rattle.std.specs.Prelude.{◌≡◌, Some, false, true, nat_eq, slice_index};
+ghost use Rattle.std.specs.Cmp.Lexicographic.{slice_cmp};
+ghost use Rattle.std.specs.List.{starts_with};
+ghost use Rattle.std.specs.Ordering.{nat_cmp};
+ghost use Rattle.attr_keys.specs.inner.Codes.{codes_of, row_codes};
+ghost use Rattle.attr_keys.specs.inner.Meeting.{is_kind, same_subject};
 
-use std::alloc::{AllocError, Global};
+use std::cmp::Ordering;
 
 /// The text of a path that a key is compared with.
 #[derive(Clone, Copy, Debug)]
@@ -33,60 +37,69 @@ pub struct Key {
     pub is_whole: bool,
 }
 
-// The code of a byte, above the codes 0 and 1 of ends. Under `fold` a capital letter has the code of its small letter.
-fn byte_code(fold: bool, byte: u8) -> u16
-    ensures { result ≡ byte_code fold byte }
+/// Whether the subjects are the same.
+pub fn is_same(subject: Subject, other: Subject) -> bool
+    ensures { result ≡ same_subject subject other }
 {
-    if fold {
-        u16::from(byte.to_ascii_lowercase()) + 2
-    } else {
-        u16::from(byte) + 2
+    match (subject, other) {
+        (Subject::Name, Subject::Name) => true,
+        (Subject::End, Subject::End) => true,
+        (Subject::Path, Subject::Path) => true,
+        (Subject::Anything, Subject::Anything) => true,
+        (Subject::Nothing, Subject::Nothing) => true,
+        _ => false,
+    }
+}
+
+/// Whether the key is of this subject, and whole or not.
+pub fn is_kind(subject: Subject, is_whole: bool, key: &Key) -> bool
+    ensures { result ≡ is_kind subject is_whole (Some key.now) }
+{
+    is_same(subject, key.subject) && key.is_whole == is_whole
+}
+
+// The text of the key with this number, and whether it is whole. Without such a key there is no text.
+fn parts(keys: &[Key], row: usize) -> (&[u8], bool)
+    ensures { codes_of false result.0.now result.1 ≡ row_codes keys.now row }
+{
+    match keys.get(row) {
+        Some(key) => (&key.text, key.is_whole),
+        None => (&[], false),
     }
 }
 
 /// The code of a text at a place, counted from 0, and 0 past its last code. A whole text has one more code than bytes.
-pub fn code(text: &[u8], is_whole: bool, fold: bool, place: usize) -> u16
-    ensures { result ≡ slice_index (codes_of fold text.now is_whole) place }
+pub fn code(text: &[u8], is_whole: bool, place: usize) -> u16
+    ensures { result ≡ slice_index (codes_of false text.now is_whole) place }
 {
     match text.get(place) {
-        Some(byte) => byte_code(fold, *byte),
+        Some(byte) => u16::from(*byte) + 2,
         None if is_whole && place == text.len() => 1,
         None => 0,
     }
 }
 
 /// The code at a place of the key with the index `row`, and 0 if there is no such key.
-pub fn row_code(keys: &[Key], row: usize, fold: bool, place: usize) -> u16
-    ensures { result ≡ slice_index (row_codes fold keys.now row) place }
+pub fn row_code(keys: &[Key], row: usize, place: usize) -> u16
+    ensures { result ≡ slice_index (row_codes keys.now row) place }
 {
-    match keys.get(row) {
-        Some(key) => code(&key.text, key.is_whole, fold, place),
-        None => 0,
-    }
+    let (text, is_whole) = parts(keys, row);
+    code(text, is_whole, place)
 }
 
-/// All codes of the key with the index `row`, and none if there is no such key.
-///
-/// # Errors
-///
-/// If memory runs out.
-pub fn all_codes(
-    alloc: Global,
-    keys: &[Key],
-    row: usize,
-    fold: bool,
-) -> Result<Vec<u16>, AllocError>
-    ensures { IfOk result (λ codes. codes.items ≡ row_codes fold keys.now row) }
+/// How the codes of two keys are ordered.
+pub fn row_order(keys: &[Key], row: usize, other: usize) -> Ordering
+    ensures { result ≡ slice_cmp nat_cmp (row_codes keys.now row) (row_codes keys.now other) }
 {
-    let mut codes = Vec::new(alloc);
-    let Some(key) = keys.get(row) else {
-        return Ok(codes);
-    };
-    for byte in &key.text {
-        codes.push(byte_code(fold, *byte))?;
-    }
-    if key.is_whole {
-        codes.push(1)?;
-    }
-    Ok(codes)
+    let (text, is_whole) = parts(keys, row);
+    let (other_text, other_is_whole) = parts(keys, other);
+    text.cmp(other_text).then(is_whole.cmp(&other_is_whole))
+}
+
+/// Whether a text has the key with this number.
+pub fn has_row_key(keys: &[Key], row: usize, text: &[u8]) -> bool
+    ensures { result ≡ starts_with nat_eq (codes_of false text.now true) (row_codes keys.now row) }
+{
+    let (front, is_whole) = parts(keys, row);
+    text.starts_with(front) && (!is_whole || front.len() == text.len())
 }

@@ -1,31 +1,42 @@
 //! The index of lines by their keys: it finds the lines that a path may match.
 
-ghost use Rattle.std.specs.Prelude.{◌≡◌, ◌||◌, ℕ, IfOk, OnOk, map, reverse, slice_get};
-ghost use Rattle.attr_keys.specs.inner.Meeting.{content_met_at, is_about, key_content, same_subject};
-ghost use Rattle.attr_keys.specs.inner.Rows.{IsFalling, has_row};
-ghost use Rattle.attr_keys.specs.inner.Orders.{AreOrders, gathered};
+ghost use Rattle.std.specs.Prelude.{◌≡◌, ◌&&◌, ◌||◌, ℕ, IfOk, OnOk, map, false, true, slice_get};
+ghost use Rattle.std.specs.Bool.{OnFalse};
+ghost use Rattle.attr_keys.specs.inner.Hashes.{AreHashed};
+ghost use Rattle.attr_keys.specs.inner.Meeting.{content_met_at, is_about, is_kind, key_content, text_has};
+ghost use Rattle.attr_keys.specs.inner.Orders.{AreSorted, AreSubjectRows, content_in_case, gathered, has_subject_row, in_case, key_contents};
+ghost use Rattle.attr_keys.specs.inner.Rows.{AreInOrder, IsFalling, has_row};
 
-use crate::key::{Key, Subject};
-use crate::order::{append_found, fall, in_order};
+use crate::key::{Key, Subject, is_kind, is_same};
+use crate::order::{append_found, fall, put_in_order};
+use crate::whole::{HashedRow, append_whole, whole_rows};
 use std::alloc::{AllocError, Global};
 use std::marker::Model;
 
 /// The keys of lines, by which the lines that a path may match are found.
 #[derive(Debug, Drop)]
 pub struct KeyIndex {
-    keys: Vec<Key>,
-    exact: Orders,
-    folded: Orders,
+    exact: SortedKeys,
+    // The keys in lower case, if any has a capital letter.
+    folded: Option<SortedKeys>,
     // The lines that any path may match.
     others: Vec<usize>,
 }
 
-// For each subject the rows of its keys, sorted by the keys. A row is the index of a key, and of its line.
+// Keys, and the numbers of those of each subject, in the order of the keys.
 #[derive(Debug, Drop)]
-struct Orders {
-    names: Vec<usize>,
-    ends: Vec<usize>,
-    paths: Vec<usize>,
+struct SortedKeys {
+    keys: Vec<Key>,
+    names: SubjectRows,
+    ends: SubjectRows,
+    paths: SubjectRows,
+}
+
+// The numbers of a subject's keys: of whole keys by their hashes, and of others in the order of the keys.
+#[derive(Debug, Drop)]
+struct SubjectRows {
+    wholes: Vec<HashedRow>,
+    fronts: Vec<usize>,
 }
 
 impl Model for KeyIndex {
@@ -61,11 +72,14 @@ impl KeyIndex {
     pub fn of(alloc: Global, keys: Vec<Key>) -> Result<KeyIndex, AllocError>
         ensures { IfOk result (λ index. index ≡ map key_content keys.items) }
     {
-        let exact = ordered(alloc, &keys, false)?;
-        let folded = ordered(alloc, &keys, true)?;
         let others = rows_about(alloc, &keys, Subject::Anything)?;
+        let folded = if have_capitals(&keys) {
+            Some(sorted(alloc, lower_keys(alloc, &keys)?)?)
+        } else {
+            None
+        };
+        let exact = sorted(alloc, keys)?;
         Ok(KeyIndex {
-            keys,
             exact,
             folded,
             others,
@@ -73,7 +87,7 @@ impl KeyIndex {
     }
 
     /// Finds the places of the lines whose keys the texts have, the greatest first. A place is the index of a line,
-    /// from 0. The places replace the contents of `found`. `turned` is a buffer for the reversed base name.
+    /// from 0. The places replace the contents of `found`. `buffer` is a buffer for texts.
     ///
     /// # Errors
     ///
@@ -81,7 +95,7 @@ impl KeyIndex {
     pub fn find(
         &self,
         texts: Texts<'_>,
-        turned: &mut Vec<u8>,
+        buffer: &mut Vec<u8>,
         found: &mut Vec<usize>,
     ) -> Result<(), AllocError>
         ensures found { OnOk result ((row : ℕ) → has_row found.new.items row
@@ -90,64 +104,171 @@ impl KeyIndex {
         ensures falling { OnOk result (IsFalling found.new.items) }
     {
         found.clear();
-        let orders = if texts.fold {
-            &self.folded
-        } else {
-            &self.exact
-        };
-        gather(&self.keys, orders, texts, turned, found)?;
+        gather(self.keys(texts.fold), texts, buffer, found)?;
         found.extend_from_slice(&self.others)?;
         fall(found);
         Ok(())
+    }
+
+    // The keys that are looked up.
+    fn keys(&self, fold: bool) -> &SortedKeys
+        ensures sorted { AreSorted result.now }
+        ensures contents { key_contents result.now.keys.items
+            ≡ map (content_in_case fold) self.now }
+    {
+        if !fold {
+            return &self.exact;
+        }
+        match &self.folded {
+            Some(folded) => folded,
+            None => &self.exact,
+        }
     }
 }
 
 // Appends the rows of the keys that the texts have.
 fn gather(
-    keys: &[Key],
-    orders: &Orders,
+    sorted: &SortedKeys,
     texts: Texts<'_>,
-    turned: &mut Vec<u8>,
+    buffer: &mut Vec<u8>,
     found: &mut Vec<usize>,
 ) -> Result<(), AllocError>
-    requires { AreOrders texts.fold keys.now orders.now }
+    requires { AreSorted sorted.now }
     ensures { OnOk result ((row : ℕ) → has_row found.new.items row
         ≡ (has_row found.old.items row
-        || gathered texts.entry.fold texts.entry.name.now texts.entry.path.now
-        (slice_get keys.now row))) }
+        || gathered (in_case texts.entry.fold texts.entry.name.now)
+        (in_case texts.entry.fold texts.entry.path.now)
+        (slice_get sorted.now.keys.items row))) }
 {
-    append_found(keys, &orders.names, texts.fold, texts.name, found)?;
-    if !orders.ends.is_empty() {
-        turn(texts.name, turned)?;
-        append_found(keys, &orders.ends, texts.fold, turned, found)?;
+    let keys = &sorted.keys;
+    write_in_case(texts.name, texts.fold, buffer)?;
+    append_subject(keys, &sorted.names, buffer, found)?;
+    buffer.reverse();
+    append_subject(keys, &sorted.ends, buffer, found)?;
+    if !texts.fold {
+        return append_subject(keys, &sorted.paths, texts.path, found);
     }
-    append_found(keys, &orders.paths, texts.fold, texts.path, found)
+    write_in_case(texts.path, texts.fold, buffer)?;
+    append_subject(keys, &sorted.paths, buffer, found)
 }
 
-// Replaces the contents of the buffer by the reversed text.
-fn turn(text: &[u8], turned: &mut Vec<u8>) -> Result<(), AllocError>
-    ensures { OnOk result (turned.new.items ≡ reverse text.now) }
+// Appends the numbers of a subject's keys that the text has.
+fn append_subject(
+    keys: &[Key],
+    rows: &SubjectRows,
+    text: &[u8],
+    found: &mut Vec<usize>,
+) -> Result<(), AllocError>
+    requires fronts { AreInOrder keys.now rows.now.fronts.items }
+    requires wholes { AreHashed keys.now rows.now.wholes.items }
+    ensures { OnOk result ((row : ℕ) → has_row found.new.items row
+        ≡ (has_row found.old.items row
+        || (has_subject_row rows.now row && text_has text.now (slice_get keys.now row)))) }
 {
-    turned.clear();
-    turned.extend_from_slice(text)?;
-    turned.reverse();
+    append_whole(keys, &rows.wholes, text, found)?;
+    append_found(keys, &rows.fronts, text, found)
+}
+
+// The text, in lower case if case doesn't matter, in place of what the buffer had.
+fn write_in_case(text: &[u8], fold: bool, buffer: &mut Vec<u8>) -> Result<(), AllocError>
+    ensures { OnOk result (buffer.new.items ≡ in_case fold text.now) }
+{
+    buffer.clear();
+    buffer.extend_from_slice(text)?;
+    if fold {
+        buffer.make_ascii_lowercase();
+    }
     Ok(())
 }
 
-fn ordered(alloc: Global, keys: &[Key], fold: bool) -> Result<Orders, AllocError>
-    ensures { IfOk result (λ orders. AreOrders fold keys.now orders) }
+fn sorted(alloc: Global, keys: Vec<Key>) -> Result<SortedKeys, AllocError>
+    ensures sorted { IfOk result AreSorted }
+    ensures keys { IfOk result (λ sorted. sorted.keys ≡ keys) }
 {
-    let names = rows_about(alloc, keys, Subject::Name)?;
-    let ends = rows_about(alloc, keys, Subject::End)?;
-    let paths = rows_about(alloc, keys, Subject::Path)?;
-    Ok(Orders {
-        names: in_order(alloc, keys, &names, fold)?,
-        ends: in_order(alloc, keys, &ends, fold)?,
-        paths: in_order(alloc, keys, &paths, fold)?,
+    let names = subject_rows(alloc, &keys, Subject::Name)?;
+    let ends = subject_rows(alloc, &keys, Subject::End)?;
+    let paths = subject_rows(alloc, &keys, Subject::Path)?;
+    Ok(SortedKeys {
+        keys,
+        names,
+        ends,
+        paths,
     })
 }
 
-// The rows of the keys of a subject.
+fn subject_rows(alloc: Global, keys: &[Key], subject: Subject) -> Result<SubjectRows, AllocError>
+    ensures { IfOk result (AreSubjectRows subject keys.now) }
+{
+    let wholes = whole_rows(alloc, keys, subject)?;
+    let mut fronts = front_rows(alloc, keys, subject)?;
+    put_in_order(keys, &mut fronts);
+    Ok(SubjectRows { wholes, fronts })
+}
+
+// The numbers of a subject's keys that aren't whole.
+fn front_rows(alloc: Global, keys: &[Key], subject: Subject) -> Result<Vec<usize>, AllocError>
+    ensures { IfOk result (λ rows. (row : ℕ) →
+        has_row rows.items row ≡ is_kind subject false (slice_get keys.now row)) }
+{
+    let mut rows = Vec::new(alloc);
+    for (row, key) in keys.iter().enumerate() {
+        if is_kind(subject, false, key) {
+            rows.push(row)?;
+        }
+    }
+    Ok(rows)
+}
+
+// Copies of the keys, in lower case.
+fn lower_keys(alloc: Global, keys: &[Key]) -> Result<Vec<Key>, AllocError>
+    ensures { IfOk result (λ lower.
+        key_contents lower.items ≡ map (content_in_case true) (key_contents keys.now)) }
+{
+    let mut lower = Vec::with_capacity(alloc, keys.len())?;
+    for key in keys {
+        lower.push(lower_key(alloc, key)?)?;
+    }
+    Ok(lower)
+}
+
+fn lower_key(alloc: Global, key: &Key) -> Result<Key, AllocError>
+    ensures { IfOk result (λ lower.
+        key_content lower ≡ content_in_case true (key_content key.now)) }
+{
+    let mut text = Vec::from_slice(alloc, &key.text)?;
+    text.make_ascii_lowercase();
+    Ok(Key {
+        subject: key.subject,
+        text,
+        is_whole: key.is_whole,
+    })
+}
+
+// Whether any of the keys has a capital letter.
+fn have_capitals(keys: &[Key]) -> bool
+    ensures { OnFalse result (map (content_in_case true) (key_contents keys.now)
+        ≡ key_contents keys.now) }
+{
+    for key in keys {
+        if has_capital(&key.text) {
+            return true;
+        }
+    }
+    false
+}
+
+fn has_capital(text: &[u8]) -> bool
+    ensures { OnFalse result (in_case true text.now ≡ text.now) }
+{
+    for byte in text {
+        if byte.is_ascii_uppercase() {
+            return true;
+        }
+    }
+    false
+}
+
+// The numbers of the keys of a subject.
 fn rows_about(alloc: Global, keys: &[Key], subject: Subject) -> Result<Vec<usize>, AllocError>
     ensures { IfOk result (λ rows. (row : ℕ) →
         has_row rows.items row ≡ is_about subject (slice_get keys.now row)) }
@@ -159,17 +280,4 @@ fn rows_about(alloc: Global, keys: &[Key], subject: Subject) -> Result<Vec<usize
         }
     }
     Ok(rows)
-}
-
-fn is_same(subject: Subject, other: Subject) -> bool
-    ensures { result ≡ same_subject subject other }
-{
-    match (subject, other) {
-        (Subject::Name, Subject::Name) => true,
-        (Subject::End, Subject::End) => true,
-        (Subject::Path, Subject::Path) => true,
-        (Subject::Anything, Subject::Anything) => true,
-        (Subject::Nothing, Subject::Nothing) => true,
-        _ => false,
-    }
 }

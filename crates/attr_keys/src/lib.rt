@@ -8,3 +8,4 @@ pub mod key;
 pub mod key_index;
 pub mod line_key;
 mod order;
+mod whole;

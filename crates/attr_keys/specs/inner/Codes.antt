@@ -1,5 +1,5 @@
 -- The codes of keys and of texts (own): a key's codes begin those of each text that has the key.
-use Rattle.std.specs.Prelude.{ℕ, ◌+◌, Bool, List, [], ◌∷◌, ◌++◌, map, Option, Some, None, slice_get, if◌then◌else◌}
+use Rattle.std.specs.Prelude.{ℕ, ◌+◌, Bool, false, List, [], ◌∷◌, ◌++◌, map, Option, Some, None, slice_get, if◌then◌else◌}
 use Rattle.std.specs.Char.{to_ascii_lowercase}
 use Rattle.attr_keys.specs.declared.key.Key.{Key}
 
@@ -11,10 +11,10 @@ byte_code fold b = if fold then to_ascii_lowercase b + 2 else b + 2
 abbrev pub codes_of : Bool → List ℕ → Bool → List ℕ
 codes_of fold text is_whole = map (byte_code fold) text ++ (if is_whole then 1 ∷ [] else [])
 
-abbrev pub key_codes : Bool → Option Key → List ℕ
-key_codes fold None = []
-key_codes fold (Some key) = codes_of fold key.text.items key.is_whole
+abbrev pub key_codes : Option Key → List ℕ
+key_codes None = []
+key_codes (Some key) = codes_of false key.text.items key.is_whole
 
 -- the codes of the key with this number
-abbrev pub row_codes : Bool → List Key → ℕ → List ℕ
-row_codes fold keys row = key_codes fold (slice_get keys row)
+abbrev pub row_codes : List Key → ℕ → List ℕ
+row_codes keys row = key_codes (slice_get keys row)

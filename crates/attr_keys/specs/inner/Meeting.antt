@@ -1,5 +1,5 @@
 -- Which keys the texts of a path have (own).
-use Rattle.std.specs.Prelude.{ℕ, Bool, true, false, List, reverse, Option, Some, None, nat_eq}
+use Rattle.std.specs.Prelude.{ℕ, Bool, true, false, not, ◌&&◌, if◌then◌else◌, List, reverse, Option, Some, None, nat_eq}
 use Rattle.std.specs.List.{starts_with}
 use Rattle.attr_keys.specs.declared.key.Key.{Key}
 use Rattle.attr_keys.specs.declared.key.Subject.{Subject}
@@ -20,22 +20,27 @@ abbrev pub is_about : Subject → Option Key → Bool
 is_about subject None = false
 is_about subject (Some key) = same_subject subject key.subject
 
+-- there is a key, of this subject, which is whole or isn't
+abbrev pub is_kind : Subject → Bool → Option Key → Bool
+is_kind subject whole None = false
+is_kind subject whole (Some key) = same_subject subject key.subject && (if whole then key.is_whole else not key.is_whole)
+
 -- the text has the key
-abbrev pub text_has : Bool → List ℕ → Option Key → Bool
-text_has fold text key = starts_with nat_eq (codes_of fold text true) (key_codes fold key)
+abbrev pub text_has : List ℕ → Option Key → Bool
+text_has text key = starts_with nat_eq (codes_of false text true) (key_codes key)
 
 -- what a base name and a path have of a subject's keys
-abbrev pub meets_about : Bool → List ℕ → List ℕ → Subject → Option Key → Bool
-meets_about fold name path Name key = text_has fold name key
-meets_about fold name path End key = text_has fold (reverse name) key
-meets_about fold name path Path key = text_has fold path key
-meets_about fold name path Anything key = true
-meets_about fold name path Nothing key = false
+abbrev pub meets_about : List ℕ → List ℕ → Subject → Option Key → Bool
+meets_about name path Name key = text_has name key
+meets_about name path End key = text_has (reverse name) key
+meets_about name path Path key = text_has path key
+meets_about name path Anything key = true
+meets_about name path Nothing key = false
 
 -- there is a key, and its subject has it
-abbrev pub meets : Bool → List ℕ → List ℕ → Option Key → Bool
-meets fold name path None = false
-meets fold name path (Some key) = meets_about fold name path key.subject (Some key)
+abbrev pub meets : List ℕ → List ℕ → Option Key → Bool
+meets name path None = false
+meets name path (Some key) = meets_about name path key.subject (Some key)
 
 -- the content of a key
 abbrev pub key_content : Key → KeyContent

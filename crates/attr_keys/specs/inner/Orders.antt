@@ -1,24 +1,44 @@
--- The orders of an index's keys (own).
-use Rattle.std.specs.Prelude.{◌≡◌, ℕ, Bool, ◌&&◌, ◌||◌, List, reverse, Option, slice_get}
+-- Keys with the orders of each subject's (own).
+use Rattle.std.specs.Prelude.{◌≡◌, ℕ, Bool, ◌&&◌, ◌||◌, List, map, reverse, Option, slice_get, if◌then◌else◌}
+use Rattle.std.specs.Char.{to_ascii_lowercase}
 use Rattle.attr_keys.specs.declared.key.Key.{Key}
 use Rattle.attr_keys.specs.declared.key.Subject.{Subject}
 use Rattle.attr_keys.specs.declared.key.Subject.TheVariants.{Name, End, Path}
-use Rattle.attr_keys.specs.declared.key_index.Orders.{Orders}
-use Rattle.attr_keys.specs.inner.Meeting.{is_about, text_has}
+use Rattle.attr_keys.specs.declared.key_index.SortedKeys.{SortedKeys}
+use Rattle.attr_keys.specs.declared.key_index.SubjectRows.{SubjectRows}
+use Rattle.attr_keys.specs.KeyContents.{KeyContent}
+use Rattle.attr_keys.specs.inner.Hashes.{AreHashed, hashed_rows}
+use Rattle.attr_keys.specs.inner.Meeting.{is_about, key_content, text_has}
 use Rattle.attr_keys.specs.inner.Rows.{AreInOrder, has_row}
 
--- the numbers of a subject's keys, in their order
-pub record IsOrderOf (subject : Subject) (fold : Bool) (keys : List Key) (rows : List ℕ) : Type 0 where
-  pub has : (row : ℕ) → has_row rows row ≡ is_about subject (slice_get keys row)
-  pub order : AreInOrder fold keys rows
+-- the number is of a subject's key
+abbrev pub has_subject_row : SubjectRows → ℕ → Bool
+has_subject_row rows row = has_row rows.fronts.items row || has_row (hashed_rows rows.wholes.items) row
 
-pub record AreOrders (fold : Bool) (keys : List Key) (orders : Orders) : Type 0 where
-  pub names : IsOrderOf Name fold keys orders.names.items
-  pub ends : IsOrderOf End fold keys orders.ends.items
-  pub paths : IsOrderOf Path fold keys orders.paths.items
+-- the numbers of a subject's keys, in their orders
+pub record AreSubjectRows (subject : Subject) (keys : List Key) (rows : SubjectRows) : Type 0 where
+  pub has : (row : ℕ) → has_subject_row rows row ≡ is_about subject (slice_get keys row)
+  pub fronts : AreInOrder keys rows.fronts.items
+  pub wholes : AreHashed keys rows.wholes.items
+
+pub record AreSorted (sorted : SortedKeys) : Type 0 where
+  pub names : AreSubjectRows Name sorted.keys.items sorted.names
+  pub ends : AreSubjectRows End sorted.keys.items sorted.ends
+  pub paths : AreSubjectRows Path sorted.keys.items sorted.paths
 
 -- the key is of a name, an end or a path, which has it
-abbrev pub gathered : Bool → List ℕ → List ℕ → Option Key → Bool
-gathered fold name path key =
-    (is_about Name key && text_has fold name key) || (is_about End key && text_has fold (reverse name) key)
-    || (is_about Path key && text_has fold path key)
+abbrev pub gathered : List ℕ → List ℕ → Option Key → Bool
+gathered name path key =
+    (is_about Name key && text_has name key) || (is_about End key && text_has (reverse name) key)
+    || (is_about Path key && text_has path key)
+
+-- a text, in lower case if case doesn't matter
+abbrev pub in_case : Bool → List ℕ → List ℕ
+in_case fold text = if fold then map to_ascii_lowercase text else text
+
+abbrev pub content_in_case : Bool → KeyContent → KeyContent
+content_in_case fold key = record { subject = key.subject; text = in_case fold key.text; is_whole = key.is_whole }
+
+-- the contents of keys
+abbrev pub key_contents : List Key → List KeyContent
+key_contents keys = map key_content keys

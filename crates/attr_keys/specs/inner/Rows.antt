@@ -12,8 +12,8 @@ abbrev pub has_row : List ℕ → ℕ → Bool
 has_row rows row = list_any (λ r. r == row) rows
 
 -- the codes of the keys with these numbers don't fall
-abbrev pub AreInOrder : Bool → List Key → List ℕ → Type 0
-AreInOrder fold keys rows = IsSortedByKey (row_codes fold keys) (slice_cmp nat_cmp) rows
+abbrev pub AreInOrder : List Key → List ℕ → Type 0
+AreInOrder keys rows = IsSortedByKey (row_codes keys) (slice_cmp nat_cmp) rows
 
 -- each number is below the one before it
 abbrev pub IsFalling : List ℕ → Type 0

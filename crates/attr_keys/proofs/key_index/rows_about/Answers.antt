@@ -1,4 +1,5 @@
-use Rattle.std.proofs.Common.{◌∙◌, sym, ap}
+use Rattle.std.proofs.Common.{◌∙◌, refl, sym, ap}
+use Rattle.attr_keys.specs.inner.Meeting.{is_about}
 use Rattle.attr_keys.specs.inner.Rows.{has_row}
 use Rattle.attr_keys.proofs.Meetings.{about_more, about_less}
 use Rattle.attr_keys.proofs.key_index.rows_about.Goals as goal
@@ -11,10 +12,12 @@ loop-row-preserved c = λ r.
       | then-is_same+in_ok-push w ↦
           ap (λ v. has_row v.items r) w.rows-is
           ∙ (ap (λ l. has_row l r) w.in_ok-push.ensures.items
-          ∙ about_more c.args.subject c.args.keys.now c.loop-row.rows.items c.loop-row.row key c.loop-row-test.true c.index-keys-row.is
+          ∙ about_more (is_about c.args.subject) c.args.keys.now c.loop-row.rows.items c.loop-row.row key
+          c.loop-row-test.true c.index-keys-row.is
           (sym c.is_same.ensures ∙ w.if-is_same.true) c.loop-row.invariant r)
       | else-is_same w ↦
           ap (λ v. has_row v.items r) w.rows-is
-          ∙ about_less c.args.subject c.args.keys.now c.loop-row.rows.items c.loop-row.row key c.loop-row-test.true c.index-keys-row.is
+          ∙ about_less (is_about c.args.subject) c.args.keys.now c.loop-row.rows.items c.loop-row.row key
+          c.loop-row-test.true c.index-keys-row.is refl
           (sym c.is_same.ensures ∙ w.if-is_same.false) c.loop-row.invariant r
     ]

@@ -7,14 +7,14 @@ use Rattle.attr_keys.proofs.order.narrowed.Goals as goal
 
 pub returns-then-first-code : goal.returns-then-first-code
 returns-then-first-code c =
-    let n : ℕ → ℕ = λ row. slice_index (row_codes c.args.fold c.args.keys.now row) c.args.place in
+    let n : ℕ → ℕ = λ row. slice_index (row_codes c.args.keys.now row) c.args.place in
     let at = c.in-Some-Some.ensures.item.3 in
     none_above n c.args.rows.now c.args.code c.requires at.0
     (omega (arith, c.row_code-first.ensures, ap n (at.1 0), c.if-first-code.true))
 
 pub returns-then-row_code-code : goal.returns-then-row_code-code
 returns-then-row_code-code c =
-    let n : ℕ → ℕ = λ row. slice_index (row_codes c.args.fold c.args.keys.now row) c.args.place in
+    let n : ℕ → ℕ = λ row. slice_index (row_codes c.args.keys.now row) c.args.place in
     let first = c.in-Some-Some.ensures.item.3 in
     let last = c.in-Some-Some.ensures'.item.3 in
     all_between n c.args.rows.now c.args.code c.requires
@@ -23,7 +23,7 @@ returns-then-row_code-code c =
 
 pub returns : goal.returns
 returns c =
-    let n : ℕ → ℕ = λ row. slice_index (row_codes c.args.fold c.args.keys.now row) c.args.place in
+    let n : ℕ → ℕ = λ row. slice_index (row_codes c.args.keys.now row) c.args.place in
     let rows = c.args.rows.now in
     let start = c.partition_point-start.result in
     let is = rest_is rows start c.partition_point-start.ensures.bound in
@@ -33,4 +33,4 @@ returns c =
     let rising = subst (λ l. IsNonDecreasingBy n l) (sym is) (IsNonDecreasingBy-drop n start rows c.requires) in
     let upto = IsPartitionPoint-from_clause (λ row. leb (n row) c.args.code) rest c.partition_point-len.result
     c.partition_point-len.ensures.partitioned (IsPartitionedBy-leb n rest c.args.code rising) (λ a r q k. search rules) in
-    between_points n rows c.args.code start c.partition_point-len.result c.partition_point-start.ensures.bound below rest is upto
+    between_points n 0 rows c.args.code start c.partition_point-len.result c.partition_point-start.ensures.bound below rest is upto

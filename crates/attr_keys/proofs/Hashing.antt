@@ -1,0 +1,77 @@
+-- Whole keys, by the hashes of their texts.
+use Rattle.std.proofs.Common.{◌≡◌, ℕ, suc, ◌<◌, Bool, true, false, ◌&&◌, ◌||◌, List, [], ◌∷◌, ◌++◌, length, get_or, Some, refl, sym, ap, ◌∙◌, arith}
+use Rattle.std.proofs.Common.{eqb, nat_eq}
+use Rattle.std.specs.Prelude.{All, filter, slice_get}
+use Rattle.std.specs.List.{starts_with}
+use Rattle.std.proofs.lemmas.Bool.{eqb-true}
+use Rattle.std.proofs.lemmas.Bool.Decides.{nat_tests}
+use Rattle.attr_keys.specs.declared.key.Key.{Key}
+use Rattle.attr_keys.specs.declared.whole.HashedRow.{HashedRow}
+use Rattle.attr_keys.specs.inner.Codes.{codes_of, key_codes, row_codes}
+use Rattle.attr_keys.specs.inner.Hashes.{IsHashOfKey, hashed_rows, text_hash}
+use Rattle.attr_keys.specs.declared.key.Subject.{Subject}
+use Rattle.attr_keys.specs.inner.Meeting.{is_kind, same_subject}
+use Rattle.attr_keys.specs.inner.Rows.{has_row}
+use Rattle.attr_keys.proofs.Fronts.{and_none}
+use Rattle.attr_keys.proofs.Parts.{no_byte, no_end, shifted}
+use Rattle.attr_keys.proofs.RowLemmas.{by_test}
+
+-- a text that has a whole key is the key
+whole_same : (text key : List ℕ) → starts_with nat_eq (codes_of false text true) (codes_of false key true) ≡ true → key ≡ text
+whole_same [] [] h = refl
+whole_same (b ∷ bs) [] h = let no : false ≡ true = rw (no_byte b) at h in absurd cc
+whole_same [] (k ∷ ks) h = let no : false ≡ true = rw (no_end k) at h in absurd cc
+whole_same (b ∷ bs) (k ∷ ks) h =
+    by_test (nat_eq k b)
+    (λ t. ap (λ x. x ∷ ks) (eqb-true k b t) ∙ ap (λ l. b ∷ l) (whole_same bs ks (rw (shifted k b, t) at h)))
+    (λ f. let no : false ≡ true = rw (shifted k b, f) at h in absurd cc)
+
+pub hash_of_whole : (keys : List Key) (h : HashedRow) (key : Key) → slice_get keys h.row ≡ Some key → key.is_whole ≡ true →
+    h.hash ≡ text_hash key.text.items → IsHashOfKey keys h
+hash_of_whole keys h key at whole hashed text has =
+    let same : row_codes keys h.row ≡ codes_of false key.text.items true =
+    ap key_codes at ∙ ap (codes_of false key.text.items) whole in
+    hashed ∙ ap text_hash (whole_same text key.text.items (sym (ap (starts_with nat_eq (codes_of false text true)) same) ∙ has))
+
+-- rows of a number are kept
+kept_rows : (row : ℕ) (test : HashedRow → Bool) (rows : List HashedRow) → ((k : ℕ) (d : HashedRow) → k < length rows →
+    eqb (get_or rows k d).row row ≡ true → test (get_or rows k d) ≡ true) →
+    has_row (hashed_rows (filter test rows)) row ≡ has_row (hashed_rows rows) row
+kept_rows row test [] kept = refl
+kept_rows row test (h ∷ hs) kept =
+    let rest = kept_rows row test hs (λ k d lt. kept (suc k) d (omega arith)) in
+    by_test (test h)
+    (λ t. rw t (ap (λ b. eqb h.row row || b) rest))
+    (λ f. by_test (eqb h.row row)
+    (λ e. let no : false ≡ true = sym f ∙ kept 0 h (omega arith) e in absurd cc)
+    (λ e. rw (f, e) rest))
+
+-- the text has no key of another hash
+pub alike_rows : (keys : List Key) (text : List ℕ) (row : ℕ) (rows alike : List HashedRow) (hash : ℕ) → All (IsHashOfKey keys) rows →
+    hash ≡ text_hash text → alike ≡ filter (λ h. eqb h.hash hash) rows →
+    has_row (hashed_rows alike) row && starts_with nat_eq (codes_of false text true) (row_codes keys row)
+    ≡ has_row (hashed_rows rows) row && starts_with nat_eq (codes_of false text true) (row_codes keys row)
+alike_rows keys text row rows alike hash hashes is same =
+    let has = starts_with nat_eq (codes_of false text true) (row_codes keys row) in
+    ap (λ l. has_row (hashed_rows l) row && has) same
+    ∙ by_test has
+    (λ t. ap (λ b. b && has) (kept_rows row (λ h. eqb h.hash hash) rows
+    (λ k d lt e.
+    let h = get_or rows k d in
+    equal h.hash hash (hashes k d lt text (ap (λ r. starts_with nat_eq (codes_of false text true) (row_codes keys r)) (eqb-true h.row row e) ∙ t)
+    ∙ sym is))))
+    (λ f. rw f (and_none (has_row (hashed_rows (filter (λ h. eqb h.hash hash) rows)) row) ∙ sym (and_none (has_row (hashed_rows rows) row))))
+  where
+    equal : (a b : ℕ) → a ≡ b → eqb a b ≡ true
+    equal a b e = grind (arith, nat_tests)
+
+pub rows_push : (hashed : List HashedRow) (h : HashedRow) → hashed_rows (hashed ++ h ∷ []) ≡ hashed_rows hashed ++ h.row ∷ []
+rows_push [] h = refl
+rows_push (g ∷ gs) h = ap (λ l. g.row ∷ l) (rows_push gs h)
+
+pub whole_kind : (subject : Subject) (key : Key) → is_kind subject true (Some key) ≡ true → key.is_whole ≡ true
+whole_kind subject key h = both (same_subject subject key.subject) key.is_whole h
+  where
+    both : (a w : Bool) → a && w ≡ true → w ≡ true
+    both true w h = h
+    both false w h = let no : false ≡ true = h in absurd cc

@@ -1,0 +1,76 @@
+-- The codes of a text and whether it is whole.
+use Rattle.std.proofs.Common.{◌≡◌, ℕ, suc, ◌+◌, Bool, true, false, not, ◌&&◌, ◌||◌, List, [], ◌∷◌, length, refl, sym, ap, ◌∙◌, arith, eqb, nat_eq}
+use Rattle.std.specs.Cmp.Lexicographic.{slice_cmp}
+use Rattle.std.specs.List.{starts_with}
+use Rattle.std.specs.Ordering.{nat_cmp, bool_cmp, ordering_then}
+use Rattle.std.specs.declared.cmp.Ordering.{Ordering}
+use Rattle.std.specs.declared.cmp.Ordering.TheVariants.{Less, Equal, Greater}
+use Rattle.std.proofs.lemmas.Bool.Decides.{nat_tests}
+use Rattle.attr_keys.specs.inner.Codes.{codes_of}
+
+end_below : (b : ℕ) → nat_cmp 1 (b + 2) ≡ Less
+end_below b = grind (arith, nat_tests)
+
+above_end : (b : ℕ) → nat_cmp (b + 2) 1 ≡ Greater
+above_end b = grind (arith, nat_tests)
+
+shifted_order : (a b : ℕ) → nat_cmp (a + 2) (b + 2) ≡ nat_cmp a b
+shifted_order a b = grind (arith, nat_tests)
+
+pub shifted : (a b : ℕ) → nat_eq (a + 2) (b + 2) ≡ nat_eq a b
+shifted a b = grind (arith, nat_tests)
+
+pub no_end : (a : ℕ) → nat_eq (a + 2) 1 ≡ false
+no_end a = grind (arith, nat_tests)
+
+pub no_byte : (a : ℕ) → nat_eq 1 (a + 2) ≡ false
+no_byte a = grind (arith, nat_tests)
+
+longer : (a : ℕ) → eqb 0 (suc a) ≡ false
+longer a = grind (arith, nat_tests)
+
+both_longer : (a b : ℕ) → eqb (suc a) (suc b) ≡ eqb a b
+both_longer a b = grind (arith, nat_tests)
+
+then_then : (o p q : Ordering) → ordering_then o (ordering_then p q) ≡ ordering_then (ordering_then o p) q
+then_then Less p q = refl
+then_then Equal p q = refl
+then_then Greater p q = refl
+
+and_assoc : (a b c : Bool) → a && (b && c) ≡ (a && b) && c
+and_assoc true b c = refl
+and_assoc false b c = refl
+
+-- codes are ordered xs the texts are, and a whole text comes after one that isn't
+pub codes_order : (x y : List ℕ) (w v : Bool) → slice_cmp nat_cmp (codes_of false x w) (codes_of false y v)
+    ≡ ordering_then (slice_cmp nat_cmp x y) (bool_cmp w v)
+codes_order [] [] true true = refl
+codes_order [] [] true false = refl
+codes_order [] [] false true = refl
+codes_order [] [] false false = refl
+codes_order [] (b ∷ bs) true v = ap (λ o. ordering_then o (slice_cmp nat_cmp [] (codes_of false bs v))) (end_below b)
+codes_order [] (b ∷ bs) false v = refl
+codes_order (a ∷ xs) [] w true = ap (λ o. ordering_then o (slice_cmp nat_cmp (codes_of false xs w) [])) (above_end a)
+codes_order (a ∷ xs) [] w false = refl
+codes_order (a ∷ xs) (b ∷ bs) w v =
+    ap (λ o. ordering_then o (slice_cmp nat_cmp (codes_of false xs w) (codes_of false bs v))) (shifted_order a b)
+    ∙ (ap (ordering_then (nat_cmp a b)) (codes_order xs bs w v) ∙ then_then (nat_cmp a b) (slice_cmp nat_cmp xs bs) (bool_cmp w v))
+
+-- a text has a key if it begins with it, and is xs long if the key is whole
+pub codes_begin : (text front : List ℕ) (w : Bool) → starts_with nat_eq (codes_of false text true) (codes_of false front w)
+    ≡ starts_with nat_eq text front && (not w || eqb (length front) (length text))
+codes_begin text [] false = refl
+codes_begin [] [] true = refl
+codes_begin (b ∷ bs) [] true = ap (λ t. t && true) (no_byte b) ∙ sym (longer (length bs))
+codes_begin [] (c ∷ cs) true = ap (λ t. t && starts_with nat_eq [] (codes_of false cs true)) (no_end c)
+codes_begin [] (c ∷ cs) false = ap (λ t. t && starts_with nat_eq [] (codes_of false cs false)) (no_end c)
+codes_begin (b ∷ bs) (c ∷ cs) w =
+    ap (λ t. t && starts_with nat_eq (codes_of false bs true) (codes_of false cs w)) (shifted c b)
+    ∙ (ap (λ t. nat_eq c b && t) (codes_begin bs cs w)
+    ∙ (and_assoc (nat_eq c b) (starts_with nat_eq bs cs) (not w || eqb (length cs) (length bs))
+    ∙ ap (λ t. (nat_eq c b && starts_with nat_eq bs cs) && (not w || t)) (sym (both_longer (length cs) (length bs)))))
+
+-- the answer of a comparison of the parts
+pub has_by_parts : (text front codes : List ℕ) (w b : Bool) → codes_of false front w ≡ codes →
+    b ≡ starts_with nat_eq text front && (not w || eqb (length front) (length text)) → b ≡ starts_with nat_eq (codes_of false text true) codes
+has_by_parts text front codes w b is same = same ∙ (sym (codes_begin text front w) ∙ ap (starts_with nat_eq (codes_of false text true)) is)
