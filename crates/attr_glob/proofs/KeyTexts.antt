@@ -1,6 +1,6 @@
 -- A text has a key if it is that text, begins with it or ends in it, under the case.
-use Rattle.std.proofs.Common.{◌≡◌, ℕ, zero, suc, ◌+◌, ◌-◌, ◌<◌, ◌≤◌, true, false, ◌&&◌, ◌==◌, ◌⊎◌, inl, inr, List, [], ◌∷◌, ◌++◌, length, take, drop,
-    map, reverse}
+use Rattle.std.proofs.Common.{◌≡◌, ℕ, zero, suc, ◌+◌, ◌-◌, ◌<◌, ◌≤◌, true, false, ◌&&◌, ◌==◌, ◌⊎◌, inl, inr, List, [], ◌∷◌, ◌++◌, length, take, drop}
+use Rattle.std.proofs.Common.{map, reverse}
 use Rattle.std.proofs.Common.{refl, sym, ap, ◌∙◌, arith, nat_eq}
 use Rattle.std.specs.Char.{to_ascii_lowercase}
 use Rattle.std.specs.Cmp.Lexicographic.{pointwise, bytes_decides}
@@ -70,7 +70,7 @@ front_met Sensitive subject (c ∷ cs) (b ∷ bs) =
     ∙ ap (λ t. (b == c) && t) (front_met Sensitive subject cs bs)
 front_met Fold subject (c ∷ cs) (b ∷ bs) =
     ap (λ t. t && has_content true bs (front_text subject cs)) (shifted (to_ascii_lowercase c) (to_ascii_lowercase b) ∙ turned (to_ascii_lowercase c)
-        (to_ascii_lowercase b))
+    (to_ascii_lowercase b))
     ∙ ap (λ t. (to_ascii_lowercase b == to_ascii_lowercase c) && t) (front_met Fold subject cs bs)
 
 -- texts are the same byte by byte just if they fold to the same
@@ -128,7 +128,7 @@ turned_front n text = elim (sides n (length text)) [ inl le ↦ inside le | inr 
         let back = reverse (drop m text) in
         let len : length back ≡ n = let a = length-reverse (drop m text) in let b = length-drop m text in omega arith in
         ap (take n) (ap reverse (sym (take-append-drop m text)) ∙ reverse-append (take m text) (drop m text))
-            ∙ take_exact back (reverse (take m text)) n len
+        ∙ take_exact back (reverse (take m text)) n len
 
     outside : length text < n → take n (reverse text) ≡ reverse (drop (length text - n) text)
     outside lt =

@@ -1,10 +1,12 @@
 pub mod Basics
 pub mod ByteSetLemmas
 pub mod Names
+pub mod ClosingLemmas
 pub mod MembersLemmas
 pub mod TokenLemmas
 pub mod RowLemmas
 pub mod Splits
+pub mod StretchLemmas
 pub mod DecidingLemmas
 pub mod Reached
 pub mod ReachedSteps

@@ -2,8 +2,10 @@
 -- believed.
 pub mod Bordered
 pub mod ByteSets
+pub mod Closing
 pub mod IndexInvariant
 pub mod Left
 pub mod LineShapes
 pub mod PlacesAfter
 pub mod RowPlaces
+pub mod Stretches

@@ -1,7 +1,8 @@
 //! What is between the brackets of a pattern: single bytes, ranges and classes (gitignore page: the range notation).
 
 ghost use Rattle.std.specs.Prelude.{◌≡◌, ℕ, ◌||◌, ◌+◌, ◌≤◌, ◌<◌, IfSome, IfOk, ◌==◌, ◌&&◌, not, length, option_map, position, true, None, Some};
-ghost use Rattle.attr_glob.specs.Bytes.{close_bracket};
+ghost use Rattle.attr_glob.specs.Bytes.{close_bracket, colon};
+ghost use Rattle.attr_glob.specs.inner.Closing.{from_close};
 ghost use Rattle.attr_glob.specs.inner.ByteSets.{has};
 ghost use Rattle.attr_glob.specs.Brackets.{class_named, class_holds, member_holds, members_hold, set_holds, begins, name_in, span_end, ranged, from_single, from_escape, class_member, from_class, member_at, members as members_at};
 
@@ -177,13 +178,40 @@ fn first_close(bytes: &[u8]) -> Option<usize>
     bytes.iter().position(|byte| *byte == b']')
 }
 
-// The name between `[:` and `:]`, given the bytes after `[:`, if their first `]` directly follows a `:`.
-fn class_name(bytes: &[u8]) -> Option<&[u8]>
+// How many bytes there are from the first `]` on, 0 without one.
+fn bytes_from_close(bytes: &[u8]) -> usize
+    ensures { result ≡ from_close bytes.now }
+{
+    match first_close(bytes) {
+        Some(place) => bytes.len() - place,
+        None => 0,
+    }
+}
+
+// How many bytes there are from the first `]` of `rest` on. `close` is how many there were from the first `]` of longer
+// bytes on. They are looked at again only after that `]`, so that reading a bracket looks at each byte once.
+fn next_close(rest: &[u8], close: usize) -> usize
+    requires { close ≤ length rest.now → close ≡ from_close rest.now }
+    ensures { result ≡ from_close rest.now }
+{
+    if close <= rest.len() {
+        close
+    } else {
+        bytes_from_close(rest)
+    }
+}
+
+// The name between `[:` and `:]`, given the bytes after `[:`, if their first `]` directly follows a `:`. `close` is how many
+// bytes there are from that `]` on.
+fn class_name(bytes: &[u8], close: usize) -> Option<&[u8]>
+    requires { close ≡ from_close bytes.now }
     ensures name { option_map (λ name. name.now) result ≡ name_in bytes.now }
     ensures inside { IfSome result (λ name. length name.now + 2 ≤ length bytes.now) }
 {
-    let close = first_close(bytes)?;
-    let (last, name) = bytes[..close].split_last()?;
+    if close == 0 {
+        return None;
+    }
+    let (last, name) = bytes[..bytes.len() - close].split_last()?;
     if *last == b':' {
         return Some(name);
     }
@@ -225,12 +253,14 @@ fn escaped(bytes: &[u8]) -> Option<(Member, &[u8])>
 }
 
 // The member that `[:` begins, given the bytes after the `[`, and what follows the member. None for an unknown class.
-fn class_or_single(bytes: &[u8]) -> Option<(Member, &[u8])>
-    requires { 0 < length bytes.now }
+// `close` is how many bytes there are from the first `]` on.
+fn class_or_single(bytes: &[u8], close: usize) -> Option<(Member, &[u8])>
+    requires colon { begins colon bytes.now ≡ true }
+    requires close { close ≡ from_close bytes.now }
     ensures member { option_map (λ r. (r.0, r.1.now)) result ≡ from_class bytes.now }
     ensures shorter { IfSome result (λ r. length r.1.now ≤ length bytes.now) }
 {
-    match class_name(&bytes[1..]) {
+    match class_name(&bytes[1..], close) {
         None => Some(single_or_range(b'[', bytes)),
         Some(name) => {
             let class = Class::named(name)?;
@@ -239,8 +269,10 @@ fn class_or_single(bytes: &[u8]) -> Option<(Member, &[u8])>
     }
 }
 
-// The member that begins with the byte, given the bytes after it, and what follows the member.
-fn read_member(byte: u8, bytes: &[u8]) -> Option<(Member, &[u8])>
+// The member that begins with the byte, given the bytes after it, and what follows the member. `close` is how many bytes
+// there are from the first `]` on.
+fn read_member(byte: u8, bytes: &[u8], close: usize) -> Option<(Member, &[u8])>
+    requires { close ≡ from_close bytes.now }
     ensures member { option_map (λ r. (r.0, r.1.now)) result ≡ member_at byte bytes.now }
     ensures shorter { IfSome result (λ r. length r.1.now ≤ length bytes.now) }
 {
@@ -248,7 +280,7 @@ fn read_member(byte: u8, bytes: &[u8]) -> Option<(Member, &[u8])>
         return escaped(bytes);
     }
     if byte == b'[' && bytes.first() == Some(&b':') {
-        return class_or_single(bytes);
+        return class_or_single(bytes, close);
     }
     Some(single_or_range(byte, bytes))
 }
@@ -270,11 +302,13 @@ pub(crate) fn members(alloc: Global, bytes: &[u8]) -> Result<Option<(MemberSet, 
     let mut list = Vec::new(alloc);
     let mut first = true;
     let mut rest = bytes;
+    let mut close = bytes_from_close(bytes);
     while let Some((byte, tail)) = rest.split_first() {
         if closes(*byte, first) {
             return Ok(Some((MemberSet::of(list), tail)));
         }
-        match read_member(*byte, tail) {
+        close = next_close(tail, close);
+        match read_member(*byte, tail, close) {
             None => return Ok(None),
             Some((member, tail)) => {
                 list.push(member)?;

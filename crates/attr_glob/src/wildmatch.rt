@@ -410,3 +410,4 @@ pub fn tests_tell_match(case: Case, text: &[u8], value: &[u8])
 {}
 
 mod folders;
+mod stretches;

@@ -9,6 +9,7 @@ ghost use Rattle.attr_glob.specs.Deciding.{slash_then, matches};
 
 use crate::pattern::{self, Case};
 use crate::token::Token;
+use crate::wildmatch::stretches::match_stretches;
 use crate::wildmatch::{MatchBuffers, run, skip_front};
 
 // Whether the token takes the whole value, if it is one that takes any number of bytes.
@@ -111,6 +112,11 @@ pub(crate) fn match_early(
 {
     if let Some(answer) = answer_alone(tokens, value) {
         return answer;
+    }
+    if !pattern::has_slash(value) {
+        if let Some(answer) = match_stretches(tokens, value, case) {
+            return answer;
+        }
     }
     match tokens {
         [Token::Dirs, others @ ..] => match_folders(tokens, others, value, case, rows),

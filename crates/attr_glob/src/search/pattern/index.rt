@@ -66,7 +66,7 @@ impl Index {
     pub fn of<T: search::Pattern>(alloc: Global, list: &List<T>) -> Result<Index, AllocError>
         ensures { IfOk result (λ index. index ≡ patterns_of list.now.patterns.items) }
     {
-        let mut patterns = Vec::new(alloc);
+        let mut patterns = Vec::with_capacity(alloc, list.patterns.len())?;
         for mapping in &list.patterns {
             patterns.push(mapping.pattern.clone(alloc)?)?;
         }
@@ -76,7 +76,7 @@ impl Index {
     fn from_patterns(alloc: Global, patterns: Vec<Pattern>) -> Result<Index, AllocError>
         ensures { IfOk result (λ index. index ≡ map pattern_view patterns.items) }
     {
-        let mut keys = Vec::new(alloc);
+        let mut keys = Vec::with_capacity(alloc, patterns.len())?;
         for pattern in &patterns {
             keys.push(candidate_key(alloc, shape_of(pattern))?)?;
         }
