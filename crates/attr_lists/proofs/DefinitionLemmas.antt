@@ -4,7 +4,8 @@ use Rattle.std.proofs.lemmas.Bool.{cases_Bool, cond-true, cond-false}
 use Rattle.std.proofs.lemmas.List.{append-nil, map-append}
 use Rattle.std.proofs.lemmas.List.Elements.{filter-append}
 use Rattle.attr_lists.specs.declared.types.TrackedAssignment.{TrackedAssignment}
-use Rattle.attr_lists.specs.Definitions.{is_definition, bodies_defined, defines_name, bodies_named, definition_of, is_of_list, of_other_lists}
+use Rattle.attr_lists.specs.Definitions.{is_definition, bodies_defined, defines_name, bodies_named, bodies_of_list, definition_of}
+use Rattle.attr_lists.specs.Definitions.{is_of_list, of_other_lists}
 use Rattle.attr_lists.specs.ListViews.{Entry}
 use Rattle.attr_lists.specs.Collections.{MacroDefinition}
 
@@ -90,3 +91,10 @@ bodies_named-one name entry e = ap (map (λ (x : Entry). x.items)) (cond-true (d
 
 pub bodies_named-none : (name : List ℕ) (entry : Entry) → defines_name name entry ≡ false → bodies_named name (entry ∷ []) ≡ []
 bodies_named-none name entry e = ap (map (λ (x : Entry). x.items)) (cond-false (defines_name name entry) (entry ∷ []) [] e)
+
+-- the bodies of a list in two parts
+pub bodies_of_list-append : (list_id : ℕ) (xs ys : List MacroDefinition)
+    → bodies_of_list list_id (xs ++ ys) ≡ bodies_of_list list_id xs ++ bodies_of_list list_id ys
+bodies_of_list-append list_id xs ys =
+    ap (map (λ (d : MacroDefinition). d.body)) (filter-append (is_of_list list_id) xs ys) ∙ map-append (λ (d : MacroDefinition). d.body)
+    (filter (is_of_list list_id) xs) (filter (is_of_list list_id) ys)

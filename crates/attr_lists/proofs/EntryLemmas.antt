@@ -1,5 +1,5 @@
 -- What is entries of names, by number.
-use Rattle.std.proofs.Common.{◌≡◌, ◌≢◌, ℕ, zero, suc, ◌+◌, ◌<◌, ◌≤◌, ◌⊎◌, inl, inr, Bool, false, not, eqb, List, [], ◌∷◌, ◌++◌, length, get_or, set}
+use Rattle.std.proofs.Common.{◌≡◌, ◌≢◌, ℕ, zero, suc, ◌+◌, ◌<◌, ◌≤◌, Bool, false, not, eqb, List, [], ◌∷◌, ◌++◌, length, get_or, set}
 use Rattle.std.proofs.Common.{take, drop, map, filter, All, unwrap_or, option_map, refl, sym, ap, subst, ◌∙◌, ⊎_elim, arith, ne_eqb, eq-eqb}
 use Rattle.std.proofs.Common.{Option, Some, None, true, bytes_eq}
 use Rattle.std.specs.Prelude.{is_some, ◌&&◌}
@@ -16,14 +16,17 @@ use Rattle.attr_lists.specs.declared.types.Value.{Value}
 use Rattle.attr_lists.specs.declared.types.Value.TheVariants.{MacroAssignments}
 use Rattle.smallvec.specs.SmallVec.{SmallVec}
 use Rattle.attr_lists.specs.declared.types.TrackedAssignment.{TrackedAssignment}
-use Rattle.attr_lists.specs.Definitions.{is_definition, bodies_defined, bodies_named, definition_of, is_of_list, of_other_lists}
+use Rattle.attr_lists.specs.Definitions.{is_definition, bodies_defined, bodies_named, bodies_of_list, defines_name, definition_of}
+use Rattle.attr_lists.specs.Definitions.{is_of_list, of_other_lists}
 use Rattle.attr_lists.specs.inner.EntryViews.{definition_view, definitions_view, all_definitions, definitions_at, IsEntry, AreEntries}
 use Rattle.attr_lists.specs.ListViews.{Entry, entry_view, entries_view, macro_id, items_in}
 use Rattle.attr_lists.specs.Collections.{MacroDefinition}
 use Rattle.attr_lists.specs.Numbers.{id_of, number_of, numbered_item, numbered, numbered_lines}
-use Rattle.attr_lists.proofs.DefinitionLemmas.{of_other_lists-again, of_other_lists-more, bodies_defined-cons, bodies_named-push}
-use Rattle.attr_lists.proofs.DefinitionLemmas.{bodies_defined-one, bodies_defined-none, bodies_named-none}
+use Rattle.attr_lists.proofs.DefinitionLemmas.{of_other_lists-append, of_other_lists-more, bodies_defined-cons, bodies_named-push}
+use Rattle.attr_lists.proofs.DefinitionLemmas.{bodies_defined-one, bodies_defined-none, bodies_named-none, bodies_named-one, bodies_of_list-append}
+use Rattle.attr_lists.specs.inner.EntrySteps.{KeepsOtherDefinitions, RemovesAsMany}
 use Rattle.attr_lists.proofs.ListLemmas.{front, front-more, get_or-map}
+use Rattle.attr_lists.proofs.NamedDefinitions.{number_name}
 
 some_is : {a b : ℕ} → Some a ≡ Some b → a ≡ b
 some_is e = cc
@@ -50,6 +53,10 @@ pub ids_kept : (list_id number : ℕ) (old new : List Definition) → new ≡ fi
 ids_kept list_id number old new e h =
     subst (All (λ (d : Definition). d.metadata.id.0 ≡ number)) (sym e)
     (All-filter (λ d. not (eqb d.list_id list_id)) (λ (d : Definition). d.metadata.id.0 ≡ number) old h)
+
+all_before : {X : Type 0} (P : X → Type 0) (xs ys : List X) → All P (xs ++ ys) → All P xs
+all_before P [] ys h = All-nil P
+all_before P (x ∷ xs) ys h = All-cons P x xs (All-head P x (xs ++ ys) h) (all_before P xs ys (All-tail P x (xs ++ ys) h))
 
 push_nothing : {X : Type 0} (xs : List (List X)) (n : ℕ) → get_or (xs ++ [] ∷ []) n [] ≡ get_or xs n []
 push_nothing [] zero = refl
@@ -121,31 +128,48 @@ remove_all_step list_id start entries i d x lt e is =
     (omega (arith, length-map start definitions_view))
     (is ∙ ap (of_other_lists list_id) (sym (get_or-map definitions_view entries i d))) e
 
--- the definitions of a name after those of one more line are removed
-pub remove_list_step : (list_id number : ℕ) (name : List ℕ) (start entries now : List NameEntry)
-    (lines : List (Mapping Value)) (i : ℕ) (line : Mapping Value) → i <
-    length lines → line ≡ get_or lines i line
-    → (definitions_at entries number ≡ of_other_lists list_id (definitions_at start number)) ⊎
-    ((definitions_at entries number ≡ definitions_at start number) × (bodies_named name (entries_view (take i lines)) ≡ []))
-    → (definitions_at now number ≡ of_other_lists list_id (definitions_at entries number)) ⊎
-    ((definitions_at now number ≡ definitions_at entries number) × (bodies_named name (entry_view line ∷ []) ≡ []))
-    → (definitions_at now number ≡ of_other_lists list_id (definitions_at start number)) ⊎
-    ((definitions_at now number ≡ definitions_at start number) × (bodies_named name (entries_view (take (i + 1) lines)) ≡ []))
-remove_list_step list_id number name start entries now lines i line lt at before here =
-    ⊎_elim
-    (λ gone. inl (⊎_elim (λ g. g ∙ ap (of_other_lists list_id) gone ∙ of_other_lists-again list_id (definitions_at start number))
-    (λ kept. kept.0 ∙ gone) here))
-    (λ kept. ⊎_elim (λ g. inl (g ∙ ap (of_other_lists list_id) kept.0))
-    (λ same. inr (
-      same.0 ∙ kept.0,
-      ap (λ l. bodies_named name (entries_view l)) (take_more lines i line lt) ∙ ap (bodies_named name)
-          (map-append entry_view (take i lines) (get_or lines i line ∷ []))
-          ∙ bodies_named-push name (entries_view (take i lines)) (entry_view (get_or lines i line))
-          ∙ ap (λ b. b ++ bodies_named name (entry_view (get_or lines i line) ∷ [])) kept.1 ∙ ap (λ l. bodies_named name (entry_view l ∷ []))
-          (sym at) ∙ same.1,
-    ))
-    here)
-    before
+-- the last definition is removed, which is the list's
+module _ (list_id : ℕ) (old new : List Definition) (last : Definition) (own : last.list_id ≡ list_id) (e : old ≡ new ++ last ∷ []) where
+  parts_are : map definition_view old ≡ map definition_view new ++ definition_view last ∷ []
+  parts_are = ap (map definition_view) e ∙ map-append definition_view new (last ∷ [])
+
+  pub popped_others : of_other_lists list_id (map definition_view new) ≡ of_other_lists list_id (map definition_view old)
+  popped_others =
+      sym (ap (of_other_lists list_id) parts_are
+      ∙ of_other_lists-append list_id (map definition_view new) (definition_view last ∷ [])
+      ∙ ap (λ l. of_other_lists list_id (map definition_view new) ++ l)
+      (cond-false (not (eqb last.list_id list_id)) (definition_view last ∷ []) [] (ap not (eq-eqb last.list_id list_id own)))
+      ∙ append-nil (of_other_lists list_id (map definition_view new)))
+
+  pub popped_count : length (bodies_of_list list_id (map definition_view new)) + 1 ≡ length (bodies_of_list list_id (map definition_view old))
+  popped_count =
+      sym (ap (λ l. length (bodies_of_list list_id l)) parts_are
+      ∙ ap length (bodies_of_list-append list_id (map definition_view new) (definition_view last ∷ []))
+      ∙ length-append (bodies_of_list list_id (map definition_view new)) (bodies_of_list list_id (definition_view last ∷ []))
+      ∙ ap (λ l. length (bodies_of_list list_id (map definition_view new)) + length (map (λ (d : MacroDefinition). d.body) l))
+      (cond-true (eqb last.list_id list_id) (definition_view last ∷ []) [] (eq-eqb last.list_id list_id own)))
+
+  pub popped_ids : (number : ℕ) → All (λ d. d.metadata.id.0 ≡ number) old → All (λ d. d.metadata.id.0 ≡ number) new
+  popped_ids number h = all_before (λ (d : Definition). d.metadata.id.0 ≡ number) new (last ∷ [])
+      (subst (All (λ (d : Definition). d.metadata.id.0 ≡ number)) e h)
+
+-- as many definitions are removed as one more line has
+pub removed_more : (list_id number : ℕ) (name : List ℕ) (start entries now : List NameEntry) (lines : List (Mapping Value)) (i : ℕ)
+    (line : Mapping Value) → i < length lines → line ≡ get_or lines i line
+    → length (bodies_of_list list_id (definitions_at entries number)) + length (bodies_named name (entries_view (take i lines)))
+    ≡ length (bodies_of_list list_id (definitions_at start number))
+    → length (bodies_of_list list_id (definitions_at now number)) + length (bodies_named name (entry_view line ∷ []))
+    ≡ length (bodies_of_list list_id (definitions_at entries number))
+    → length (bodies_of_list list_id (definitions_at now number)) + length (bodies_named name (entries_view (take (i + 1) lines)))
+    ≡ length (bodies_of_list list_id (definitions_at start number))
+removed_more list_id number name start entries now lines i line lt at before here =
+    let one = bodies_named name (entry_view line ∷ []) in
+    let parts : bodies_named name (entries_view (take (i + 1) lines)) ≡ bodies_named name (entries_view (take i lines)) ++ one =
+    ap (λ l. bodies_named name (entries_view l)) (take_more lines i line lt)
+    ∙ ap (bodies_named name) (map-append entry_view (take i lines) (get_or lines i line ∷ []))
+    ∙ bodies_named-push name (entries_view (take i lines)) (entry_view (get_or lines i line))
+    ∙ ap (λ l. bodies_named name (entries_view (take i lines)) ++ bodies_named name (entry_view l ∷ [])) (sym at) in
+    omega (arith, ap length parts, length-append (bodies_named name (entries_view (take i lines))) one, before, here)
 
 -- the definitions of a name after those of one more line are added
 pub define_list_step : (names : List (List ℕ)) (list_id number : ℕ) (start entries now : List NameEntry) (lines : List (Mapping Value)) (i : ℕ)
@@ -200,34 +224,33 @@ defines : (names : List (List ℕ)) (mapping : Mapping Value) (id : AttributeId)
 defines names mapping id v n is = ap (λ value. unwrap_or (option_map (λ (i : AttributeId). eqb i.0 n)
     (option_map (λ _. id_of names mapping.pattern.text.items) (macro_id value))) false) is
 
--- the definitions of one name are removed
-pub removed_at : (names : List (List ℕ)) (list_id n : ℕ) (name : List ℕ) (entries : List NameEntry) (mapping : Mapping Value) (own : ℕ)
-    (d x : NameEntry) → number_of names name ≡ Some n → number_of names mapping.pattern.text.items ≡ Some own → own < length entries
-    → definitions_view x ≡ of_other_lists list_id (definitions_view (get_or entries own d))
-    → (definitions_at (set entries own x) n ≡ of_other_lists list_id (definitions_at entries n)) ⊎
-    ((definitions_at (set entries own x) n ≡ definitions_at entries n) × (bodies_named name (entry_view mapping ∷ []) ≡ []))
-removed_at names list_id n name entries mapping own d x e is lt gone =
-    definitions_at-cases (λ ds. (ds ≡ of_other_lists list_id (definitions_at entries n)) ⊎
-    ((ds ≡ definitions_at entries n) × (bodies_named name (entry_view mapping ∷ []) ≡ []))) entries own n d x lt
-    (λ at same. inl (gone ∙ ap (of_other_lists list_id) at))
-    (λ other. inr (refl, no_body names (entry_view mapping) name n (Some own) e is (λ same. other (some_is same))))
+-- a definition of the name of a line is removed
+module _ (names : List (List ℕ)) (list_id own : ℕ) (entries : List NameEntry) (mapping : Mapping Value) (d x : NameEntry)
+    (is : number_of names mapping.pattern.text.items ≡ Some own) (lt : own < length entries) where
+  pub removed_one : (id : AttributeId) (v : SmallVec TrackedAssignment) → mapping.value ≡ MacroAssignments id v
+      → length (bodies_of_list list_id (definitions_view x)) + 1 ≡ length (bodies_of_list list_id (definitions_view (get_or entries own d)))
+      → RemovesAsMany list_id names (entry_view mapping ∷ []) entries (set entries own x)
+  removed_one id v value less name n e =
+      definitions_at-cases
+      (λ ds. length (bodies_of_list list_id ds) + length (bodies_named name (entry_view mapping ∷ []))
+      ≡ length (bodies_of_list list_id (definitions_at entries n))) entries own n d x lt
+      (λ at same.
+      let text : name ≡ mapping.pattern.text.items =
+      sym (number_name names name n e).1 ∙ (ap (λ k. get_or names k []) (sym same) ∙ (number_name names mapping.pattern.text.items own is).1) in
+      let defines : defines_name name (entry_view mapping) ≡ true =
+      ap (λ m. is_some (macro_id m) && bytes_eq name mapping.pattern.text.items) value ∙ (bytes_decides name mapping.pattern.text.items).1 text in
+      ap (λ b. length (bodies_of_list list_id (definitions_view x)) + length b) (bodies_named-one name (entry_view mapping) defines)
+      ∙ less ∙ ap (λ ds. length (bodies_of_list list_id ds)) at)
+      (λ other.
+      let none : length (bodies_named name (entry_view mapping ∷ [])) ≡ 0 =
+      ap length (no_body names (entry_view mapping) name n (Some own) e is (λ same. other (some_is same))) in
+      omega (arith, none))
 
--- of a number that no name has nothing is entries
-pub removed_past : (names : List (List ℕ)) (list_id n : ℕ) (name : List ℕ) (entries : List NameEntry) (mapping : Mapping Value) (own : ℕ)
-    → number_of names name ≡ Some n → number_of names mapping.pattern.text.items ≡ Some own → length entries ≤ own
-    → (definitions_at entries n ≡ of_other_lists list_id (definitions_at entries n)) ⊎
-    ((definitions_at entries n ≡ definitions_at entries n) × (bodies_named name (entry_view mapping ∷ []) ≡ []))
-removed_past names list_id n name entries mapping own e is past =
-    ⊎_elim
-    (λ same. let none : definitions_at entries n ≡ [] = definitions_at-past entries n (subst (λ k. length entries ≤ k) same past) in inl
-    (none ∙ ap (of_other_lists list_id) (sym none)))
-    (λ other. inr (refl, no_body names (entry_view mapping) name n (Some own) e is (λ same. other (some_is same))))
-    (cases_eq own n)
-
--- nor of a text that is no name
-pub removed_none : (names : List (List ℕ)) (n : ℕ) (name : List ℕ) (mapping : Mapping Value) → number_of names name ≡ Some n
-    → number_of names mapping.pattern.text.items ≡ None → bodies_named name (entry_view mapping ∷ []) ≡ []
-removed_none names n name mapping e is = no_body names (entry_view mapping) name n None e is none_is
+  pub others_left : of_other_lists list_id (definitions_view x) ≡ of_other_lists list_id (definitions_view (get_or entries own d))
+      → KeepsOtherDefinitions list_id entries (set entries own x)
+  others_left same n =
+      definitions_at-cases (λ ds. of_other_lists list_id ds ≡ of_other_lists list_id (definitions_at entries n)) entries own n d x lt
+      (λ at here. same ∙ ap (of_other_lists list_id) at) (λ other. refl)
 
 -- a name has one more definition
 pub defined_at : (names : List (List ℕ)) (list_id n : ℕ) (entries : List NameEntry) (mapping : Mapping Value) (id own : AttributeId)

@@ -1,5 +1,6 @@
 pub mod DefinitionLemmas
 pub mod EntryLemmas
+pub mod FreeIdLemmas
 pub mod KeptLaws
 pub mod KeptLemmas
 pub mod ListDefinitions

@@ -2,12 +2,15 @@
 use Rattle.std.proofs.Common.{◌≡◌, ◌≢◌, ℕ, zero, suc, ◌+◌, ◌-◌, ◌^◌, ◌<◌, ◌≤◌, Bool, true, false, not, cond, eqb, ltb, List, [], ◌∷◌, ◌++◌, length}
 use Rattle.std.proofs.Common.{get_or, set, map, filter, All, slice_get, bytes_eq, IsTrue, Option, Some, None, IfSome, unwrap_or, option_map, refl}
 use Rattle.std.proofs.Common.{sym, ap, subst, ◌∙◌, ⊎_elim, arith, true≢false, ne_eqb, eq-eqb}
-use Rattle.std.specs.List.{list_any, position_or_len, IsDistinct}
+use Rattle.std.specs.Prelude.{is_none}
+use Rattle.std.specs.List.{list_all, list_any, position_or_len, IsDistinct}
+use Rattle.attr_lists.specs.KeptLists.{defines_no_macro}
 use Rattle.std.specs.Cmp.Lexicographic.{bytes_decides}
-use Rattle.std.proofs.lemmas.Bool.{cases_Bool, cases_eq, cases_lt, cond-true, cond-false, eqb-true, eqb-false, lt-ltb, le-ltb, or_left, or_right}
-use Rattle.std.proofs.lemmas.List.{append-nil, map-append, length-map, length-append, get_or_append_left, get_or_past, get_or_push, get_or-set_same}
+use Rattle.std.proofs.lemmas.Bool.{cases_Bool, cases_eq, cases_lt, cond-true, cond-false, eqb-true, eqb-false, lt-ltb, le-ltb, and_parts}
+use Rattle.std.proofs.lemmas.Bool.{or_left, or_right}
+use Rattle.std.proofs.lemmas.List.{append-nil, length-map, length-append, get_or_append_left, get_or_past, get_or_push, get_or-set_same}
 use Rattle.std.proofs.lemmas.List.{get_or-set_other}
-use Rattle.std.proofs.lemmas.List.Elements.{All-nil, All-cons, All-head, All-tail, All-append, All-filter, All-map, All-weaker, filter-append}
+use Rattle.std.proofs.lemmas.List.Elements.{All-nil, All-cons, All-head, All-tail, All-append, All-filter, All-map, All-weaker}
 use Rattle.std.proofs.lemmas.List.Folds.{list_any-append, prefix_len-append}
 use Rattle.std.proofs.lemmas.List.FromFn.{length-map-range_with_len, get_or-map-range_with_len}
 use Rattle.std.proofs.lemmas.List.Sums.{passes_at_first}
@@ -24,7 +27,7 @@ use Rattle.attr_lists.specs.ListViews.{Entry}
 use Rattle.attr_lists.specs.Collections.{MacroDefinition, Collection, empty_collection}
 use Rattle.attr_lists.specs.Numbers.{macro_names, names_of, names_in, with_name, with_names, number_of, id_of, numbered_item, numbered}
 use Rattle.attr_lists.specs.Numbers.{numbered_lines, AreNamed, IsNumberOf}
-use Rattle.attr_lists.proofs.DefinitionLemmas.{bodies_defined-cons, bodies_defined-none}
+use Rattle.attr_lists.proofs.DefinitionLemmas.{bodies_defined-cons, bodies_defined-none, bodies_of_list-append}
 use Rattle.attr_lists.proofs.ListLemmas.{get_or-map, slice_get-within}
 use Rattle.attr_lists.proofs.NameLemmas.{with_name-known, with_name-new, with_names-extends, with_names-distinct}
 
@@ -193,12 +196,6 @@ bodies_named_by names list_id number lines h =
     (All-filter (is_definition number) (λ (e : Entry). AreNamed names e.items) lines
     (All-weaker (IsNumbered names) (λ (e : Entry). AreNamed names e.items) (λ e is. is.items) lines h)))
 
-bodies_of_list-append : (list_id : ℕ) (xs ys : List MacroDefinition) → bodies_of_list list_id (xs ++ ys) ≡ bodies_of_list list_id xs ++ bodies_of_list
-    list_id ys
-bodies_of_list-append list_id xs ys =
-    ap (map (λ (d : MacroDefinition). d.body)) (filter-append (is_of_list list_id) xs ys) ∙ map-append (λ (d : MacroDefinition). d.body)
-    (filter (is_of_list list_id) xs) (filter (is_of_list list_id) ys)
-
 eqb_self : (n : ℕ) → eqb n n ≡ true
 eqb_self n = eq-eqb n n refl
 
@@ -288,7 +285,7 @@ none_is e = cc
 
 -- ---- list ids
 
-free_within : (active : List Bool) → free_id active ≤ length active
+pub free_within : (active : List Bool) → free_id active ≤ length active
 free_within [] = omega arith
 free_within (true ∷ active) = let rest = free_within active in omega arith
 free_within (false ∷ active) = omega arith
@@ -324,6 +321,22 @@ is_active_still active list_id other h s =
     (le-ltb list_id (length active) past)) ∙ get_or_append_left active (true ∷ []) false other (active_below active other s) ∙ s)
     (cases_lt list_id (length active)))
     (cases_eq other list_id)
+
+-- lines without macros define nothing
+nothing_defined : (names : List (List ℕ)) (number : ℕ) (entries : List Entry) → list_all defines_no_macro entries ≡ true
+    → bodies_defined number (numbered_lines names entries) ≡ []
+nothing_defined names number [] h = refl
+nothing_defined names number (entry ∷ entries) h =
+    let both = and_parts (defines_no_macro entry) (list_all defines_no_macro entries) h in
+    bodies_defined-cons number (numbered names entry) (numbered_lines names entries)
+    ∙ ap (λ bs. bs ++ bodies_defined number (numbered_lines names entries))
+    (bodies_defined-none number (numbered names entry) (none entry.macro both.0))
+    ∙ nothing_defined names number entries both.1
+  where
+    none : (m : Option AttributeId) → is_none m ≡ true
+        → unwrap_or (option_map (λ (id : AttributeId). eqb id.0 number) (option_map (λ _. id_of names entry.pattern.text) m)) false ≡ false
+    none None h = refl
+    none (Some id) h = absurd (true≢false (sym h))
 
 -- ---- a list is added
 
@@ -458,6 +471,24 @@ module _ (old : Collection) (entries : List Entry) (sound : IsSoundCollection ol
             ∙ (append-nil (bodies_of_list other (definitions_for old name)) ∙ h.bodies name)));
       }
 
+  -- a list without macros has no definition, and those of others stay
+  pub added_macro_free : (other number : ℕ) → (other ≡ list_id → list_all defines_no_macro entries ≡ true)
+      → (other ≢ list_id → bodies_of_list other (definitions_of old number) ≡ []) → bodies_of_list other (definitions_of new number) ≡ []
+  added_macro_free other number own others =
+      at_number (λ ds. bodies_of_list other ds ≡ []) number
+      (λ lt. bodies_of_list-append other (definitions_of old number) (map (definition_of list_id) (bodies_defined number lines))
+      ∙ ⊎_elim
+      (λ same.
+      ap (λ bs. bodies_of_list other (definitions_of old number) ++ bodies_of_list other (map (definition_of list_id) bs))
+      (nothing_defined names number entries (own same))
+      ∙ append-nil (bodies_of_list other (definitions_of old number))
+      ∙ bodies_of_list-free old.active other (definitions_of old number) (ap (is_active old.active) same ∙ free) (sound.active number))
+      (λ apart.
+      ap (λ l. l ++ bodies_of_list other (map (definition_of list_id) (bodies_defined number lines))) (others apart)
+      ∙ bodies_of_list-other other list_id (bodies_defined number lines) apart)
+      (cases_eq other list_id))
+      refl
+
 -- no definition belongs to a list that is not registered
 pub free_of : (table : Collection) (list_id number : ℕ) → IsSoundCollection table → is_active table.active list_id ≡ false → of_other_lists list_id
     (definitions_of table number) ≡ definitions_of table number
@@ -505,6 +536,17 @@ module _ (old : Collection) (gone : ℕ) where
     active = λ number. subst (All (λ d. is_active (set old.active gone false) d.list_id ≡ true)) (sym (at_all number))
         (not_gone (definitions_of old number) (sound.active number));
   }
+
+  -- a list without definitions has none after that
+  pub removed_macro_free : (other number : ℕ) → bodies_of_list other (definitions_of old number) ≡ []
+      → bodies_of_list other (definitions_of (without_list gone old) number) ≡ []
+  removed_macro_free other number none =
+      ap (bodies_of_list other) (at_all number)
+      ∙ ⊎_elim
+      (λ same. ap (bodies_of_list other) (ap (λ k. of_other_lists k (definitions_of old number)) (sym same)
+      ∙ of_other_lists-free other (definitions_of old number) none) ∙ none)
+      (λ apart. bodies_of_list-of_other_lists other gone (definitions_of old number) apart ∙ none)
+      (cases_eq other gone)
 
   -- the other lists stay registered
   pub removed_keeps : (other : ℕ) (es : List Entry) → other ≢ gone → HoldsList old other es → HoldsList (without_list gone old) other es

@@ -1,24 +1,28 @@
 -- What the steps of an addition and of a removal do to a name table.
-use Rattle.std.proofs.Common.{◌≡◌, ℕ, ◌<◌, ◌≤◌, Bool, false, List, [], ◌++◌, length, get_or, set, take, map, All, sym, ap, subst, ◌∙◌}
+use Rattle.std.proofs.Common.{◌≡◌, ℕ, ◌+◌, ◌<◌, ◌≤◌, Bool, true, false, List, [], ◌∷◌, ◌++◌, length, get_or, set, take, map, All, refl, sym, ap}
+use Rattle.std.proofs.Common.{subst, ◌∙◌}
 use Rattle.std.proofs.Common.{⊎_elim, arith, bytes_eq, Option, unwrap_or, option_map}
-use Rattle.std.specs.List.{IsDistinct}
-use Rattle.std.proofs.lemmas.List.{length-map, length-take, get_or-take, get_or_past, ext_get_or, take_at}
+use Rattle.std.specs.List.{IsDistinct, list_all}
+use Rattle.attr_lists.specs.KeptLists.{defines_no_macro}
+use Rattle.std.proofs.lemmas.List.{length-map, length-take, get_or-take, get_or_past, get_or-set_same, get_or-set_other, ext_get_or, take_at}
 use Rattle.std.proofs.lemmas.List.FromFn.{fill_by_all}
 use Rattle.std.proofs.lemmas.Bool.{cases_lt}
 use Rattle.attr_lists.specs.declared.name_table.entry.NameEntry.{NameEntry}
-use Rattle.attr_lists.specs.Definitions.{bodies_defined, definition_of, of_other_lists, by_number, is_active, free_id, with_list}
-use Rattle.attr_lists.specs.Definitions.{definitions_for, without_list, HoldsList, IsSoundCollection}
+use Rattle.attr_lists.specs.Definitions.{bodies_defined, bodies_named, bodies_of_list, definition_of, of_other_lists, by_number, is_active}
+use Rattle.attr_lists.specs.Definitions.{free_id, with_list}
+use Rattle.attr_lists.specs.Definitions.{definitions_of, without_list, HoldsList, IsSoundCollection}
 use Rattle.attr_lists.specs.inner.Keeping.{StayRegistered, IsNumbered}
-use Rattle.attr_lists.specs.inner.EntrySteps.{HasBodies, KeepsOtherDefinitions, RemovesDefinitions}
+use Rattle.attr_lists.specs.inner.EntrySteps.{HasBodies, KeepsOtherDefinitions, RemovesAsMany}
 use Rattle.attr_lists.specs.inner.EntryViews.{definitions_view, all_definitions, definitions_at, definitions_by, IsEntry, AreEntries, AreValid}
-use Rattle.attr_lists.specs.inner.NameTableView.{rolled_back, IsPartlyAdded}
+use Rattle.attr_lists.specs.inner.NameTableView.{rolled_back, AreMacroFree, IsPartlyAdded}
 use Rattle.attr_lists.specs.ListViews.{Entry}
 use Rattle.attr_lists.specs.Collections.{MacroDefinition, Collection}
 use Rattle.attr_lists.specs.Numbers.{AppendsNames, names_in, with_names, numbered_lines}
 use Rattle.attr_lists.proofs.ListLemmas.{get_or-map}
 use Rattle.attr_lists.proofs.NameLemmas.{with_names-extends}
 use Rattle.attr_lists.proofs.NamedDefinitions.{number_at}
-use Rattle.attr_lists.proofs.NameTableLaws.{of_other_lists-free, free_of, free_is, added_sound, added_holds, added_keeps, list_numbered}
+use Rattle.attr_lists.proofs.NameTableLaws.{of_other_lists-free, free_of, free_is, added_sound, added_holds, added_keeps}
+use Rattle.attr_lists.proofs.NameTableLaws.{added_macro_free, list_numbered}
 
 -- the table of these parts
 abbrev pub table_of : List (List ℕ) → List NameEntry → List Bool → Collection
@@ -88,40 +92,49 @@ partly_defined names names' active active' old before borrowed now items list_id
     partly_added names names' active active' old now items list_id more (omega (arith, len, ap length borrowed_is, longer))
     (λ n. others n ∙ ap (λ l. of_other_lists list_id (definitions_at l n)) borrowed_is ∙ ap (of_other_lists list_id) (extended n)) items_is same
 
--- the definitions of a registered list are removed
-all_removed : (names : List (List ℕ)) (old now : List NameEntry) (list_id : ℕ) (lines : List Entry) → length now ≡ length old
+-- entries that have the same definitions of other lists are alike without those of the list
+pub others_alike : (list_id : ℕ) (old now : List NameEntry) → length now ≡ length old → KeepsOtherDefinitions list_id old now
+    → map (of_other_lists list_id) (all_definitions now) ≡ map (of_other_lists list_id) (all_definitions old)
+others_alike list_id old now len others =
+    same_definitions (map (of_other_lists list_id) (all_definitions now)) (map (of_other_lists list_id) (all_definitions old))
+    (length-map (all_definitions now) (of_other_lists list_id) ∙ length-map now definitions_view ∙ len ∙ sym (length-map old definitions_view)
+    ∙ sym (length-map (all_definitions old) (of_other_lists list_id)))
+    (λ n. get_or-map (of_other_lists list_id) (all_definitions now) n [] ∙ others n
+    ∙ sym (get_or-map (of_other_lists list_id) (all_definitions old) n []))
+
+no_more : {X : Type 0} (xs ys zs : List X) → length xs + length ys ≡ length zs → zs ≡ ys → xs ≡ []
+no_more [] ys zs h e = refl
+no_more (x ∷ xs) ys zs h e = absurd (omega (arith, h, ap length e))
+
+-- as many definitions of a registered list were removed as it has, so all were
+pub all_removed : (names : List (List ℕ)) (old now : List NameEntry) (list_id : ℕ) (lines : List Entry) → length now ≡ length old
     → length old ≡ length names → IsDistinct bytes_eq names
     → ((name : List ℕ) → HasBodies list_id name lines (definitions_by names old name))
-    → RemovesDefinitions list_id names lines old now
+    → RemovesAsMany list_id names lines old now → KeepsOtherDefinitions list_id old now
     → all_definitions now ≡ map (of_other_lists list_id) (all_definitions old)
-all_removed names old now list_id lines len count distinct bodies gone =
-    same_definitions (all_definitions now) (map (of_other_lists list_id) (all_definitions old))
-    (length-map now definitions_view ∙ len ∙ sym (length-map old definitions_view) ∙ sym
-    (length-map (all_definitions old) (of_other_lists list_id)))
+all_removed names old now list_id lines len count distinct bodies gone others =
+    same_definitions (all_definitions now) (map (of_other_lists list_id) (all_definitions now))
+    (sym (length-map (all_definitions now) (of_other_lists list_id)))
     (λ n. ⊎_elim
     (λ (lt : n < length names).
     let name = get_or names n [] in
     let number = number_at names n distinct lt in
     let own : HasBodies list_id name lines (definitions_at old n) =
     subst (λ (o : Option ℕ). HasBodies list_id name lines (unwrap_or (option_map (definitions_at old) o) [])) number (bodies name) in
-    ⊎_elim (λ g. g) (λ kept. kept.0 ∙ sym (of_other_lists-free list_id (definitions_at old n) (own ∙ kept.1))) (gone name n number))
+    sym (of_other_lists-free list_id (definitions_at now n) (no_more (bodies_of_list list_id (definitions_at now n)) (bodies_named name lines)
+    (bodies_of_list list_id (definitions_at old n)) (gone name n number) own)))
     (λ (past : length names ≤ n).
-    get_or_past (all_definitions now) n [] (omega (arith, past, len, count, length-map now definitions_view))
-    ∙ ap (of_other_lists list_id) (sym (get_or_past (all_definitions old) n [] (omega (arith, past, count, length-map old definitions_view)))))
+    let none = get_or_past (all_definitions now) n [] (omega (arith, past, len, count, length-map now definitions_view)) in
+    none ∙ ap (of_other_lists list_id) (sym none))
     (cases_lt n (length names))
-    ∙ sym (get_or-map (of_other_lists list_id) (all_definitions old) n []))
+    ∙ sym (get_or-map (of_other_lists list_id) (all_definitions now) n []))
+    ∙ others_alike list_id old now len others
 
 -- the table after a registered list is removed
-pub removed_is : (names : List (List ℕ)) (active : List Bool) (old borrowed now items : List NameEntry) (list_id : ℕ) (lines : List Entry)
-    → borrowed ≡ old → length now ≡ length borrowed → items ≡ now → IsSoundCollection (table_of names old active)
-    → ((name : List ℕ) → HasBodies list_id name lines (definitions_for (table_of names old active) name))
-    → RemovesDefinitions list_id names lines borrowed now
+pub removed_is : (names : List (List ℕ)) (active : List Bool) (old borrowed now items : List NameEntry) (list_id : ℕ)
+    → borrowed ≡ old → items ≡ now → all_definitions now ≡ map (of_other_lists list_id) (all_definitions borrowed)
     → table_of names items (set active list_id false) ≡ without_list list_id (table_of names old active)
-removed_is names active old borrowed now items list_id lines same len items_is sound bodies gone =
-    let all = all_removed names borrowed now list_id lines len
-    (ap length same ∙ (sym (length-map old definitions_view) ∙ sound.counted)) sound.distinct
-    (λ name. subst (λ l. HasBodies list_id name lines (definitions_by names l name)) (sym same) (bodies name)) gone
-    in
+removed_is names active old borrowed now items list_id same items_is all =
     ap (λ d. record { names = names; definitions = d; active = set active list_id false })
     (ap all_definitions items_is ∙ all ∙ ap (λ l. map (of_other_lists list_id) (all_definitions l)) same)
 
@@ -160,6 +173,16 @@ module _ (old now new : Collection) (list_id : ℕ) (entries lines : List Entry)
       subst (λ v. HoldsList v list_id lines) exact
       (subst (λ m. HoldsList (with_list (free_id old.active) entries old) m lines) (sym id_is)
       (subst (HoldsList (with_list (free_id old.active) entries old) (free_id old.active)) lines_are (added_holds old entries sound)))
+
+  pub are_macro_free : (marks before : List Bool) (is_free : Bool) → is_free ≡ list_all defines_no_macro entries → list_id < length marks
+      → ((other : ℕ) → get_or marks other false ≡ true → get_or before other false ≡ true) → AreMacroFree before old
+      → AreMacroFree (set marks list_id is_free) new
+  are_macro_free marks before is_free is_all within kept known other number h =
+      subst (λ v. bodies_of_list other (definitions_of v number) ≡ []) exact
+      (added_macro_free old entries sound other number
+      (λ same. sym is_all ∙ (sym (get_or-set_same marks list_id is_free false within) ∙ ap (λ k. get_or (set marks list_id is_free) k false)
+      (id_is ∙ sym same) ∙ h))
+      (λ apart. known other number (kept other (sym (get_or-set_other marks list_id other is_free false (λ e. apart (e ∙ id_is))) ∙ h))))
 
   pub are_held : StayRegistered now new
   are_held other es h =

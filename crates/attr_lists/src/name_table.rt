@@ -3,7 +3,7 @@
 //! A name's number is its place among all names in the order in which they are first seen, from 0. It never changes.
 //! Each list is registered under a list id that no other registered list has. A definition belongs to a list, and is
 //! removed with it.
-ghost use Rattle.std.specs.Prelude.{◌≡◌, true, false, ◌<◌, ◌↔◌, length, All, Some, None, nat_lt, if◌then◌else◌, option_map, IfOk, OnOk, OnErr, IfSome, IsSome, IsTrue};
+ghost use Rattle.std.specs.Prelude.{◌≡◌, true, false, ◌<◌, ◌↔◌, length, All, Some, None, nat_lt, if◌then◌else◌, option_map, IfOk, OnOk, OnErr, IfSome, IsSome, IsTrue, slice_get, option_copied};
 ghost use Rattle.attr_lists.specs.Definitions.{macro_body, is_active, free_id, with_list, without_list, HoldsList, IsSoundCollection};
 ghost use Rattle.attr_lists.specs.inner.Keeping.{StayRegistered, OthersStayRegistered, IsNumbered};
 ghost use Rattle.std.specs.Iterator.{YieldsFirstBy, item_count};
@@ -17,10 +17,9 @@ mod entry;
 mod numbers;
 mod parts;
 
-use crate::name_table::parts::{Parts, free_id, is_active};
+use crate::name_table::parts::{Parts, free_id, is_set, unset};
 use crate::types::{Metadata, Value};
 use attr_glob::search::pattern::Mapping;
-use indexmap::IndexSet;
 use std::alloc::{AllocError, Global};
 use std::marker::Model;
 
@@ -50,9 +49,11 @@ impl NameTable {
     {
         NameTable {
             parts: Parts {
-                names: IndexSet::new(alloc),
+                names: numbers::no_names(alloc),
                 entries: Vec::new(alloc),
                 active: Vec::new(alloc),
+                free_from: 0,
+                macro_free: Vec::new(alloc),
             },
         }
     }
@@ -70,6 +71,13 @@ impl NameTable {
         ensures { result ≡ number_of self.now.names name.now }
     {
         numbers::number_of(&self.parts.names, name)
+    }
+
+    /// The name with this number, if there is one.
+    pub fn name(&self, number: usize) -> Option<&str>
+        ensures { option_copied result ≡ slice_get self.now.names number }
+    {
+        Some(self.parts.names.get_index(number)?.as_str())
     }
 
     /// The metadata of the name with this number: the number, and the body of its last definition, which is empty if
@@ -133,9 +141,12 @@ impl NameTable {
         ensures err_list { OnErr result (mappings.new ≡ mappings.old) }
     {
         let count = self.parts.entries.len();
-        let list_id = free_id(&self.parts.active);
+        let list_id = free_id(&self.parts.active, self.parts.free_from);
+        unset(&mut self.parts.macro_free, list_id)?;
         match self.parts.insert(alloc, list_id, mappings) {
             Ok(()) => {
+                self.parts.free_from = list_id;
+                self.parts.macro_free[list_id] = entry::define_no_macro(mappings);
                 numbers::number_list(&self.parts.names, mappings);
                 Ok(list_id)
             }
@@ -146,9 +157,9 @@ impl NameTable {
         }
     }
 
-    /// Removes the list with this list id and its definitions. After that each name has the body of the last
-    /// definition that is left, and keeps its number. It takes no memory, and visits only the names that the list
-    /// defines.
+    /// Removes the list with this list id and its definitions. Each name then has the body of the last definition that is left,
+    /// and keeps its number. It takes no memory. It takes a step for each line, and looks at all names only if a list that was
+    /// added later defines one of the names too.
     pub fn remove(&mut self, list_id: usize, mappings: &[Mapping<Value>])
         requires { HoldsList self.old list_id (entries_view mappings.now) }
         ensures removed { self.new ≡ without_list list_id self.old }
@@ -158,14 +169,16 @@ impl NameTable {
         let (names, entries) = (&self.parts.names, &mut self.parts.entries);
         entry::remove_list(names, entries, list_id, mappings);
         self.parts.active[list_id] = false;
+        self.parts.free_from = self.parts.free_from.min(list_id);
     }
 
-    /// Whether the list is registered under the list id: for each name, the definitions under the list id are those of
-    /// the list, in order. It takes no memory. It goes through the list once for each name that the list defines.
+    /// Whether the list is registered under the list id: for each name, the definitions under the list id are, in their order,
+    /// those of the list. It takes no memory. A list that defines no macro is gone through once. For another, it goes through
+    /// all names, and through the list once for each macro.
     pub fn holds(&self, list_id: usize, mappings: &[Mapping<Value>]) -> bool
         ensures { IsTrue result ↔ HoldsList self.now list_id (entries_view mappings.now) }
     {
-        is_active(&self.parts.active, list_id) && self.parts.has_list(list_id, mappings)
+        is_set(&self.parts.active, list_id) && self.parts.has_list(list_id, mappings)
     }
 
     /// A copy, with the lists that are registered.
@@ -180,11 +193,14 @@ impl NameTable {
         let names = numbers::clone_names(alloc, &self.parts.names)?;
         let entries = entry::clone_entries(alloc, &self.parts.entries)?;
         let active = Vec::from_slice(alloc, &self.parts.active)?;
+        let macro_free = Vec::from_slice(alloc, &self.parts.macro_free)?;
         Ok(NameTable {
             parts: Parts {
                 names,
                 entries,
                 active,
+                free_from: self.parts.free_from,
+                macro_free,
             },
         })
     }

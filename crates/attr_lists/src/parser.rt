@@ -191,7 +191,8 @@ pub fn without_macros(mut mappings: Vec<Mapping<Value>>) -> Vec<Mapping<Value>>
     mappings
 }
 
-fn defines_no_macro(mapping: &Mapping<Value>) -> bool
+/// Whether the line defines no macro.
+pub(crate) fn defines_no_macro(mapping: &Mapping<Value>) -> bool
     ensures { result ≡ defines_no_macro (entry_view mapping.now) }
 {
     match &mapping.value {

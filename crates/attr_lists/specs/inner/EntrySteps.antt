@@ -1,6 +1,7 @@
 -- Steps that change the entries of names (own).
-use Rattle.std.specs.Prelude.{◌≡◌, ℕ, ◌<◌, ◌⊎◌, false, List, [], ◌++◌, length, map, Some}
+use Rattle.std.specs.Prelude.{◌≡◌, ℕ, ◌+◌, ◌<◌, ◌⊎◌, false, List, [], ◌∷◌, ◌++◌, length, map, Some}
 use Rattle.std.specs.List.{list_any}
+use Rattle.attr_lists.specs.declared.name_table.entry.Definition.{Definition}
 use Rattle.attr_lists.specs.declared.name_table.entry.NameEntry.{NameEntry}
 use Rattle.attr_lists.specs.Collections.{MacroDefinition}
 use Rattle.attr_lists.specs.Definitions.{bodies_defined, bodies_named, definition_of, is_of_list, of_other_lists, bodies_of_list}
@@ -19,12 +20,16 @@ abbrev pub KeepsOtherDefinitions : ℕ → List NameEntry → List NameEntry →
 KeepsOtherDefinitions list_id old new =
     (number : ℕ) → of_other_lists list_id (definitions_at new number) ≡ of_other_lists list_id (definitions_at old number)
 
--- the definitions of the list were removed from each name that the lines define, perhaps from others too
-abbrev pub RemovesDefinitions : ℕ → List (List ℕ) → List Entry → List NameEntry → List NameEntry → Type 0
-RemovesDefinitions list_id names lines old new =
+-- the last of these definitions was removed, which is the list's
+abbrev pub PopsOwn : ℕ → List Definition → List Definition → Type 0
+PopsOwn list_id old new = (last : Definition) × (last.list_id ≡ list_id) × (old ≡ new ++ last ∷ [])
+
+-- of each name as many definitions of the list were removed as the lines have
+abbrev pub RemovesAsMany : ℕ → List (List ℕ) → List Entry → List NameEntry → List NameEntry → Type 0
+RemovesAsMany list_id names lines old new =
     (name : List ℕ) (number : ℕ) → number_of names name ≡ Some number →
-    (definitions_at new number ≡ of_other_lists list_id (definitions_at old number)) ⊎
-    ((definitions_at new number ≡ definitions_at old number) × (bodies_named name lines ≡ []))
+    length (bodies_of_list list_id (definitions_at new number)) + length (bodies_named name lines)
+    ≡ length (bodies_of_list list_id (definitions_at old number))
 
 -- the list's definitions of the name are those of the lines
 abbrev pub HasBodies : ℕ → List ℕ → List Entry → List MacroDefinition → Type 0

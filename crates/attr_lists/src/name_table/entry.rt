@@ -1,19 +1,18 @@
 //! The entries of names: their definitions as macros.
-ghost use Rattle.std.specs.Prelude.{◌≡◌, true, ◌≤◌, ◌<◌, ◌↔◌, ◌==◌, not, filter, ◌++◌, List, [], ◌∷◌, ℕ, length, map, bytes_eq, slice_index_or, option_map, MatchOption, IfOk, OnOk, OnErr, IsTrue};
+ghost use Rattle.std.specs.Prelude.{◌≡◌, true, ◌≤◌, ◌<◌, ◌↔◌, ◌==◌, not, filter, ◌++◌, List, [], ◌∷◌, ℕ, length, map, bytes_eq, slice_index_or, option_map, MatchOption, IfOk, OnOk, OnErr, IsTrue, IsFalse, ◌+◌};
 ghost use Rattle.std.specs.List.{IsDistinct, list_any, list_all};
 ghost use Rattle.std.specs.Option.{option_to_list};
-ghost use Rattle.attr_lists.specs.Definitions.{bodies_named, definition_of, is_of_list, of_other_lists, last_body};
-ghost use Rattle.attr_lists.specs.KeptLists.{macro_valid, macros_valid};
-ghost use Rattle.attr_lists.specs.inner.EntrySteps.{AddsDefinitions, KeepsOtherDefinitions, RemovesDefinitions, HasBodies, AgreesOn};
+ghost use Rattle.attr_lists.specs.Definitions.{bodies_named, bodies_of_list, definition_of, is_of_list, of_other_lists, last_body};
+ghost use Rattle.attr_lists.specs.KeptLists.{defines_no_macro, macro_valid, macros_valid};
+ghost use Rattle.attr_lists.specs.inner.EntrySteps.{AddsDefinitions, KeepsOtherDefinitions, RemovesAsMany, PopsOwn, HasBodies, AgreesOn};
 ghost use Rattle.attr_lists.specs.inner.EntryViews.{numbered_view, definition_view, definitions_view, is_defined_in, all_definitions, definitions_at, definitions_by, name_texts, AreValid, IsEntry, AreEntries};
 ghost use Rattle.attr_lists.specs.ListViews.{entry_view, entries_view};
 
-use crate::name_table::numbers::{id_of, macro_name, number_of_text, numbered_copy};
+use crate::name_table::numbers::{NameSet, id_of, macro_name, number_of_text, numbered_copy};
+use crate::parser::defines_no_macro;
 use crate::types::{Assignments, AttributeId, Metadata, TrackedAssignment, Value};
 use attr_glob::search::pattern::Mapping;
-use indexmap::IndexSet;
 use std::alloc::{AllocError, Global};
-use std::rc::RcStr;
 
 /// The definitions of a name.
 #[derive(Debug, Drop)]
@@ -74,6 +73,18 @@ impl NameEntry {
         ensures entry { (number : ℕ) → IsEntry number self.old → IsEntry number self.new }
     {
         retain_others(&mut self.definitions, list_id);
+    }
+
+    // Removes the latest definition if it is the list's. Whether it was.
+    fn remove_latest(&mut self, list_id: usize) -> bool
+        ensures removed { IsTrue result →
+            length (bodies_of_list list_id (definitions_view self.new)) + 1
+            ≡ length (bodies_of_list list_id (definitions_view self.old)) }
+        ensures others { of_other_lists list_id (definitions_view self.new)
+            ≡ of_other_lists list_id (definitions_view self.old) }
+        ensures entry { (number : ℕ) → IsEntry number self.old → IsEntry number self.new }
+    {
+        pop_of(&mut self.definitions, list_id)
     }
 
     // Whether the list with this list id defines the name.
@@ -195,6 +206,20 @@ fn has_text(text: &[u8], name: &str) -> bool
     name.as_bytes() == text
 }
 
+// Removes the last definition if it is the list's. Whether it was.
+fn pop_of(definitions: &mut Vec<Definition>, list_id: usize) -> bool
+    ensures popped { IsTrue result → PopsOwn list_id definitions.old.items definitions.new.items }
+    ensures kept { IsFalse result → definitions.new.items ≡ definitions.old.items }
+{
+    match definitions.last() {
+        Some(definition) if definition.list_id == list_id => {
+            definitions.pop();
+            true
+        }
+        _ => false,
+    }
+}
+
 // Retains the definitions of all other lists.
 fn retain_others(definitions: &mut Vec<Definition>, list_id: usize)
     ensures { definitions.new.items
@@ -225,7 +250,7 @@ pub(super) fn extend(
 /// Adds the definitions of a list.
 pub(super) fn define_list(
     alloc: Global,
-    names: &IndexSet<RcStr>,
+    names: &NameSet,
     entries: &mut [NameEntry],
     list_id: usize,
     mappings: &[Mapping<Value>],
@@ -244,7 +269,7 @@ pub(super) fn define_list(
 
 fn define_line(
     alloc: Global,
-    names: &IndexSet<RcStr>,
+    names: &NameSet,
     entries: &mut [NameEntry],
     list_id: usize,
     mapping: &Mapping<Value>,
@@ -282,65 +307,105 @@ pub(super) fn remove_definitions(entries: &mut [NameEntry], list_id: usize)
     }
 }
 
-/// Removes the definitions of a list from the names that its lines define.
+/// Whether no line defines a macro.
+pub(super) fn define_no_macro(mappings: &[Mapping<Value>]) -> bool
+    ensures { result ≡ list_all (λ m. defines_no_macro (entry_view m)) mappings.now }
+{
+    mappings.iter().all(|mapping| defines_no_macro(mapping))
+}
+
+/// Removes the definitions of a registered list. If no later list defines one of its names, this takes a step for each line;
+/// else all names are looked at once.
 pub(super) fn remove_list(
-    names: &IndexSet<RcStr>,
+    names: &NameSet,
     entries: &mut [NameEntry],
     list_id: usize,
     mappings: &[Mapping<Value>],
 )
+    requires valid { AreValid (name_texts names.now) }
+    requires distinct { IsDistinct bytes_eq (name_texts names.now) }
+    requires counted { length entries.old ≡ length (name_texts names.now) }
+    requires held { (name : List ℕ) → HasBodies list_id name (entries_view mappings.now)
+        (definitions_by (name_texts names.now) entries.old name) }
+    ensures definitions { all_definitions entries.new
+        ≡ map (of_other_lists list_id) (all_definitions entries.old) }
+    ensures entries { AreEntries entries.old → AreEntries entries.new }
+{
+    if !remove_latest(names, entries, list_id, mappings) {
+        remove_definitions(entries, list_id);
+    }
+}
+
+// Removes a definition for each line that defines a macro, as long as the latest of its name is the list's. Whether all were.
+fn remove_latest(
+    names: &NameSet,
+    entries: &mut [NameEntry],
+    list_id: usize,
+    mappings: &[Mapping<Value>],
+) -> bool
     requires { AreValid (name_texts names.now) }
-    ensures definitions { RemovesDefinitions list_id (name_texts names.now)
+    ensures removed { IsTrue result → RemovesAsMany list_id (name_texts names.now)
         (entries_view mappings.now) entries.old entries.new }
+    ensures others { KeepsOtherDefinitions list_id entries.old entries.new }
     ensures entries { AreEntries entries.old → AreEntries entries.new }
 {
     for mapping in mappings {
-        remove_line(names, entries, list_id, mapping);
+        if !remove_line(names, entries, list_id, mapping) {
+            return false;
+        }
     }
+    true
 }
 
 fn remove_line(
-    names: &IndexSet<RcStr>,
+    names: &NameSet,
     entries: &mut [NameEntry],
     list_id: usize,
     mapping: &Mapping<Value>,
-)
+) -> bool
     requires { AreValid (name_texts names.now) }
-    ensures definitions { RemovesDefinitions list_id (name_texts names.now)
+    ensures removed { IsTrue result → RemovesAsMany list_id (name_texts names.now)
         (entry_view mapping.now ∷ []) entries.old entries.new }
+    ensures others { KeepsOtherDefinitions list_id entries.old entries.new }
     ensures entries { AreEntries entries.old → AreEntries entries.new }
 {
     let Value::MacroAssignments { .. } = &mapping.value else {
-        return;
+        return true;
     };
     let Some(number) = number_of_text(names, &mapping.pattern.text) else {
-        return;
+        return true;
     };
-    if number < entries.len() {
-        entries[number].remove(list_id);
+    if number >= entries.len() {
+        return false;
     }
+    entries[number].remove_latest(list_id)
 }
 
-/// Whether, for each name, the definitions under the list id are those of the lines.
+/// Whether, for each name, the definitions under the list id are those of the lines. If the list is known to be free of macros,
+/// no name is looked at.
 pub(super) fn has_definitions(
-    names: &IndexSet<RcStr>,
+    names: &NameSet,
     entries: &[NameEntry],
     list_id: usize,
     mappings: &[Mapping<Value>],
+    is_macro_free: bool,
 ) -> bool
     requires valid { AreValid (name_texts names.now) }
     requires distinct { IsDistinct bytes_eq (name_texts names.now) }
     requires counted { length entries.now ≡ length (name_texts names.now) }
+    requires macro_free { is_macro_free ≡ true → (number : ℕ) →
+        bodies_of_list list_id (definitions_at entries.now number) ≡ [] }
     ensures { IsTrue result ↔ ((name : List ℕ) →
         HasBodies list_id name (entries_view mappings.now)
         (definitions_by (name_texts names.now) entries.now name)) }
 {
-    are_defined(names, entries, list_id, mappings) && all_agree(names, entries, list_id, mappings)
+    are_defined(names, entries, list_id, mappings)
+        && (is_macro_free || all_agree(names, entries, list_id, mappings))
 }
 
 // Whether the list has a definition of each macro that the lines define.
 fn are_defined(
-    names: &IndexSet<RcStr>,
+    names: &NameSet,
     entries: &[NameEntry],
     list_id: usize,
     mappings: &[Mapping<Value>],
@@ -356,7 +421,7 @@ fn are_defined(
 }
 
 fn is_defined(
-    names: &IndexSet<RcStr>,
+    names: &NameSet,
     entries: &[NameEntry],
     list_id: usize,
     mapping: &Mapping<Value>,
@@ -374,12 +439,7 @@ fn is_defined(
 }
 
 // Whether the list has a definition of the name.
-fn has_definition(
-    names: &IndexSet<RcStr>,
-    entries: &[NameEntry],
-    list_id: usize,
-    name: &[u8],
-) -> bool
+fn has_definition(names: &NameSet, entries: &[NameEntry], list_id: usize, name: &[u8]) -> bool
     requires { AreValid (name_texts names.now) }
     ensures { result ≡ list_any (is_of_list list_id)
         (definitions_by (name_texts names.now) entries.now name.now) }
@@ -392,7 +452,7 @@ fn has_definition(
 
 // Whether each name that the list defines has the definitions of the lines.
 fn all_agree(
-    names: &IndexSet<RcStr>,
+    names: &NameSet,
     entries: &[NameEntry],
     list_id: usize,
     mappings: &[Mapping<Value>],

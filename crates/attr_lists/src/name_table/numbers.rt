@@ -16,12 +16,24 @@ use bstr::ByteSlice;
 use indexmap::IndexSet;
 use smallvec::SmallVec;
 use std::alloc::{AllocError, Global};
+use std::hash::{BuildHasherDefault, DefaultHasher};
 use std::rc::RcStr;
+
+/// Names in the order of their numbers. They come from files that anyone may have written, so they are hashed by a function
+/// for which names of one hash can only be found by trying.
+pub(super) type NameSet = IndexSet<RcStr, BuildHasherDefault<DefaultHasher>>;
+
+/// A set without names. It takes no memory.
+pub(super) fn no_names(alloc: Global) -> NameSet
+    ensures { name_texts result ≡ [] }
+{
+    IndexSet::with_hasher(alloc, BuildHasherDefault::new())
+}
 
 /// Inserts the names of a list that are new.
 pub(super) fn insert_names(
     alloc: Global,
-    names: &mut IndexSet<RcStr>,
+    names: &mut NameSet,
     mappings: &[Mapping<Value>],
 ) -> Result<(), AllocError>
     requires { macros_valid (entries_view mappings.now) ≡ true }
@@ -39,7 +51,7 @@ pub(super) fn insert_names(
 
 fn insert_line(
     alloc: Global,
-    names: &mut IndexSet<RcStr>,
+    names: &mut NameSet,
     mapping: &Mapping<Value>,
 ) -> Result<(), AllocError>
     requires { macro_valid (entry_view mapping.now) ≡ true }
@@ -56,7 +68,7 @@ fn insert_line(
 
 fn insert_macro(
     alloc: Global,
-    names: &mut IndexSet<RcStr>,
+    names: &mut NameSet,
     mapping: &Mapping<Value>,
 ) -> Result<(), AllocError>
     requires { macro_valid (entry_view mapping.now) ≡ true }
@@ -83,7 +95,7 @@ fn items_in(value: &Value) -> &[TrackedAssignment]
 
 fn insert_items(
     alloc: Global,
-    names: &mut IndexSet<RcStr>,
+    names: &mut NameSet,
     items: &[TrackedAssignment],
 ) -> Result<(), AllocError>
     ensures ok { OnOk result
@@ -98,7 +110,7 @@ fn insert_items(
     Ok(())
 }
 
-fn insert_name(alloc: Global, names: &mut IndexSet<RcStr>, name: &str) -> Result<(), AllocError>
+fn insert_name(alloc: Global, names: &mut NameSet, name: &str) -> Result<(), AllocError>
     requires { IsTrue (is_valid_name name.now) }
     ensures ok { OnOk result (InsertsNames (name.now ∷ []) names.old names.new) }
     ensures valid { OnOk result (AreValid (name_texts names.old) →
@@ -124,7 +136,7 @@ pub(super) fn macro_name(pattern: &Pattern) -> &str
 }
 
 /// The id of a name, which is `AttributeId::default()` if the name is not among them.
-pub(super) fn id_of(names: &IndexSet<RcStr>, name: &str) -> AttributeId
+pub(super) fn id_of(names: &NameSet, name: &str) -> AttributeId
     ensures { result ≡ id_of (name_texts names.now) name.now }
 {
     match number_of(names, name) {
@@ -134,14 +146,14 @@ pub(super) fn id_of(names: &IndexSet<RcStr>, name: &str) -> AttributeId
 }
 
 /// The number of a name, which is its index.
-pub(super) fn number_of(names: &IndexSet<RcStr>, name: &str) -> Option<usize>
+pub(super) fn number_of(names: &NameSet, name: &str) -> Option<usize>
     ensures { result ≡ number_of (name_texts names.now) name.now }
 {
     names.get_index_of(name)
 }
 
 /// The number of the name that a text is, if it is one of the names.
-pub(super) fn number_of_text(names: &IndexSet<RcStr>, text: &[u8]) -> Option<usize>
+pub(super) fn number_of_text(names: &NameSet, text: &[u8]) -> Option<usize>
     requires { AreValid (name_texts names.now) }
     ensures { result ≡ number_of (name_texts names.now) text.now }
 {
@@ -154,7 +166,7 @@ pub(super) fn number_of_text(names: &IndexSet<RcStr>, text: &[u8]) -> Option<usi
 /// A copy of the items, with the numbers of their names.
 pub(super) fn numbered_copy(
     alloc: Global,
-    names: &IndexSet<RcStr>,
+    names: &NameSet,
     items: &[TrackedAssignment],
 ) -> Result<Assignments, AllocError>
     ensures { IfOk result (λ copy. copy.items
@@ -171,7 +183,7 @@ pub(super) fn numbered_copy(
 }
 
 /// Sets the numbers of a list: those of its items, and those of the macros that it defines.
-pub(super) fn number_list(names: &IndexSet<RcStr>, mappings: &mut [Mapping<Value>])
+pub(super) fn number_list(names: &NameSet, mappings: &mut [Mapping<Value>])
     requires { macros_valid (entries_view mappings.old) ≡ true }
     ensures { entries_view mappings.new ≡ numbered_view names.now mappings.old }
 {
@@ -180,7 +192,7 @@ pub(super) fn number_list(names: &IndexSet<RcStr>, mappings: &mut [Mapping<Value
     }
 }
 
-fn number_line(names: &IndexSet<RcStr>, mapping: &mut Mapping<Value>)
+fn number_line(names: &NameSet, mapping: &mut Mapping<Value>)
     requires { macro_valid (entry_view mapping.old) ≡ true }
     ensures { entry_view mapping.new ≡ numbered (name_texts names.now) (entry_view mapping.old) }
 {
@@ -188,7 +200,7 @@ fn number_line(names: &IndexSet<RcStr>, mapping: &mut Mapping<Value>)
     number_assignments(names, &mut mapping.value);
 }
 
-fn number_macro(names: &IndexSet<RcStr>, mapping: &mut Mapping<Value>)
+fn number_macro(names: &NameSet, mapping: &mut Mapping<Value>)
     requires { macro_valid (entry_view mapping.old) ≡ true }
     ensures pattern { mapping.new.pattern ≡ mapping.old.pattern }
     ensures defined { macro_id mapping.new.value
@@ -202,7 +214,7 @@ fn number_macro(names: &IndexSet<RcStr>, mapping: &mut Mapping<Value>)
     }
 }
 
-fn number_assignments(names: &IndexSet<RcStr>, value: &mut Value)
+fn number_assignments(names: &NameSet, value: &mut Value)
     ensures defined { macro_id value.new ≡ macro_id value.old }
     ensures items { items_in value.new
         ≡ map (numbered_item (name_texts names.now)) (items_in value.old) }
@@ -213,7 +225,7 @@ fn number_assignments(names: &IndexSet<RcStr>, value: &mut Value)
     }
 }
 
-fn number_items(names: &IndexSet<RcStr>, items: &mut [TrackedAssignment])
+fn number_items(names: &NameSet, items: &mut [TrackedAssignment])
     ensures { items.new ≡ map (numbered_item (name_texts names.now)) items.old }
 {
     for item in items.iter_mut() {
@@ -222,21 +234,18 @@ fn number_items(names: &IndexSet<RcStr>, items: &mut [TrackedAssignment])
 }
 
 /// A copy of the names, in their order.
-pub(super) fn clone_names(
-    alloc: Global,
-    names: &IndexSet<RcStr>,
-) -> Result<IndexSet<RcStr>, AllocError>
+pub(super) fn clone_names(alloc: Global, names: &NameSet) -> Result<NameSet, AllocError>
     requires { IsDistinct bytes_eq (name_texts names.now) }
     ensures { IfOk result (λ copy. name_texts copy ≡ name_texts names.now) }
 {
-    let mut copy = IndexSet::new(alloc);
+    let mut copy = no_names(alloc);
     for name in names.as_slice() {
         insert(&mut copy, name)?;
     }
     Ok(copy)
 }
 
-fn insert(names: &mut IndexSet<RcStr>, name: &RcStr) -> Result<(), AllocError>
+fn insert(names: &mut NameSet, name: &RcStr) -> Result<(), AllocError>
     ensures { OnOk result (InsertsNames (rc_str_bytes name.now ∷ []) names.old names.new) }
 {
     names.insert(name.clone()?)?;

@@ -1,29 +1,32 @@
 //! The parts of a name table, and the steps that add a list to them.
-ghost use Rattle.std.specs.Prelude.{◌≡◌, true, ◌↔◌, ℕ, List, length, OnOk, OnErr, IsTrue};
-ghost use Rattle.attr_lists.specs.Definitions.{IsSoundCollection, definitions_for, free_id, is_active, with_active, with_list};
+ghost use Rattle.std.specs.Prelude.{◌≡◌, true, false, ◌↔◌, ◌≤◌, ◌<◌, slice_index_or, ℕ, List, length, OnOk, OnErr, IsTrue};
+ghost use Rattle.attr_lists.specs.Definitions.{IsSoundCollection, definitions_for, free_id, with_active, with_list};
 ghost use Rattle.attr_lists.specs.KeptLists.{macros_valid};
 ghost use Rattle.attr_lists.specs.ListViews.{entries_view};
 ghost use Rattle.attr_lists.specs.inner.EntrySteps.{HasBodies};
 ghost use Rattle.attr_lists.specs.inner.EntryViews.{name_texts, AreEntries, AreValid};
-ghost use Rattle.attr_lists.specs.inner.NameTableView.{parts_view, rolled_back, IsPartlyAdded};
+ghost use Rattle.attr_lists.specs.inner.NameTableView.{parts_view, rolled_back, AreMacroFree, IsPartlyAdded};
 
 use crate::name_table::entry::NameEntry;
+use crate::name_table::numbers::NameSet;
 use crate::name_table::{entry, numbers};
 use crate::types::Value;
 use attr_glob::search::pattern::Mapping;
-use indexmap::IndexSet;
 use std::alloc::{AllocError, Global};
-use std::rc::RcStr;
 
 /// The parts of a table. While a list is added, a name may lack its entry.
 #[derive(Debug, Drop)]
 pub(super) struct Parts {
     /// The names. The index of a name is its number.
-    pub(super) names: IndexSet<RcStr>,
+    pub(super) names: NameSet,
     /// The entries of the names, by number.
     pub(super) entries: Vec<NameEntry>,
     /// For each list id, whether a list is registered under it.
     pub(super) active: Vec<bool>,
+    /// A list id below which none is free, where the search for a free one starts.
+    pub(super) free_from: usize,
+    /// Whether the list under this list id is known to define no macro. Those past the end are not.
+    pub(super) macro_free: Vec<bool>,
 }
 
 impl Parts {
@@ -47,6 +50,8 @@ impl Parts {
         ensures entries { AreEntries self.old.entries.items → AreEntries self.new.entries.items }
         ensures err { OnErr result
             (IsPartlyAdded list_id (parts_view self.old) (parts_view self.new)) }
+        ensures from { self.new.free_from ≡ self.old.free_from }
+        ensures macro_free { self.new.macro_free ≡ self.old.macro_free }
     {
         numbers::insert_names(alloc, &mut self.names, mappings)?;
         entry::extend(alloc, &mut self.entries, self.names.len())?;
@@ -58,6 +63,8 @@ impl Parts {
     /// Removes the names whose numbers are `count` or greater, and all definitions of a list.
     pub(super) fn roll_back(&mut self, count: usize, list_id: usize)
         ensures table { parts_view self.new ≡ rolled_back count list_id (parts_view self.old) }
+        ensures from { self.new.free_from ≡ self.old.free_from }
+        ensures macro_free { self.new.macro_free ≡ self.old.macro_free }
         ensures entries { AreEntries self.old.entries.items → AreEntries self.new.entries.items }
     {
         self.names.truncate(count);
@@ -67,31 +74,53 @@ impl Parts {
 
     /// Whether, for each name, the definitions under the list id are those of the list.
     pub(super) fn has_list(&self, list_id: usize, mappings: &[Mapping<Value>]) -> bool
-        requires { IsSoundCollection (parts_view self.now) }
+        requires sound { IsSoundCollection (parts_view self.now) }
+        requires macro_free { AreMacroFree self.now.macro_free.items (parts_view self.now) }
         ensures { IsTrue result ↔ ((name : List ℕ) →
             HasBodies list_id name (entries_view mappings.now)
             (definitions_for (parts_view self.now) name)) }
     {
-        entry::has_definitions(&self.names, &self.entries, list_id, mappings)
+        let is_macro_free = is_set(&self.macro_free, list_id);
+        let (names, entries) = (&self.names, &self.entries);
+        entry::has_definitions(names, entries, list_id, mappings, is_macro_free)
     }
 }
 
-pub(super) fn is_active(active: &[bool], list_id: usize) -> bool
-    ensures { result ≡ is_active active.now list_id }
+/// Whether the mark of the list id is set. Those past the end are not.
+pub(super) fn is_set(marks: &[bool], list_id: usize) -> bool
+    ensures { result ≡ slice_index_or marks.now list_id false }
 {
-    if list_id < active.len() {
-        active[list_id]
+    if list_id < marks.len() {
+        marks[list_id]
     } else {
         false
     }
 }
 
-/// The least list id under which no list is registered.
-pub(super) fn free_id(active: &[bool]) -> usize
+/// Makes room for the mark of the list id, and takes the mark away.
+///
+/// # Errors
+///
+/// If memory runs out.
+pub(super) fn unset(marks: &mut Vec<bool>, list_id: usize) -> Result<(), AllocError>
+    ensures room { OnOk result (list_id < length marks.new.items) }
+    ensures marks { (other : ℕ) → slice_index_or marks.new.items other false ≡ true →
+        slice_index_or marks.old.items other false ≡ true }
+{
+    while marks.len() <= list_id {
+        marks.push(false)?;
+    }
+    marks[list_id] = false;
+    Ok(())
+}
+
+/// The least list id under which no list is registered, if none below `from` is free.
+pub(super) fn free_id(active: &[bool], from: usize) -> usize
+    requires { from ≤ free_id active.now }
     ensures { result ≡ free_id active.now }
 {
-    for (list_id, is_active) in active.iter().enumerate() {
-        if !*is_active {
+    for list_id in from..active.len() {
+        if !active[list_id] {
             return list_id;
         }
     }

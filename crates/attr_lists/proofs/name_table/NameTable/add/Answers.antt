@@ -1,12 +1,16 @@
 -- The table has the list after that, or is the one that was there.
-use Rattle.std.proofs.Common.{◌≡◌, false, ap, sym, ◌∙◌, subst, arith}
+use Rattle.std.proofs.Common.{◌≡◌, ◌<◌, ◌≤◌, [], get_or, length, true, false, ap, sym, ◌∙◌, subst, arith}
 use Rattle.std.proofs.lemmas.List.{length-map}
-use Rattle.attr_lists.specs.Definitions.{free_id, is_active, IsSoundCollection}
+use Rattle.attr_lists.specs.Definitions.{bodies_of_list, definitions_of, free_id, is_active, IsSoundCollection}
+use Rattle.attr_lists.specs.KeptLists.{defines_no_macro}
+use Rattle.attr_lists.proofs.ListLemmas.{list_all-map}
 use Rattle.attr_lists.specs.inner.EntryViews.{definitions_view}
-use Rattle.attr_lists.specs.ListViews.{entries_view}
+use Rattle.attr_lists.specs.ListViews.{entry_view, entries_view}
 use Rattle.attr_lists.specs.inner.NameTableView.{parts_view}
+use Rattle.attr_lists.specs.Collections.{Collection}
+use Rattle.attr_lists.proofs.FreeIdLemmas.{free_after_adding}
 use Rattle.attr_lists.proofs.NameTableLaws.{free_is}
-use Rattle.attr_lists.proofs.NameTableSteps.{rolled_back_is, is_fresh, is_added, is_sound, are_numbered, are_kept, is_held, are_held}
+use Rattle.attr_lists.proofs.NameTableSteps.{rolled_back_is, is_fresh, is_added, is_sound, are_numbered, are_kept, is_held, are_held, are_macro_free}
 use Rattle.attr_lists.proofs.name_table.NameTable.add.Goals as goal
 
 id_is : (c : goal.After-mappings-1) → c.free_id-list_id.result ≡ free_id c.self.inside.parts.active.items
@@ -50,10 +54,27 @@ returns-in-Ok-clause-sound c =
 
 pub invariant_of-self : goal.invariant_of-self
 invariant_of-self c = record {
+  sound = c.self.invariant.sound;
+  entries = c.self.invariant.entries;
+  from = c.self.invariant.from;
+  macro_free = λ other number set. c.self.invariant.macro_free other number (c.unset.ensures.marks other set);
+}
+
+pub invariant_of-self-in-Ok : goal.invariant_of-self-in-Ok
+invariant_of-self-in-Ok c = record {
   sound = is_sound (parts_view c.self.inside.parts) c.args.self.now _ c.free_id-list_id.result (entries_view c.args.mappings.now)
       (entries_view c.number_list.new.mappings) c.self.view_is (id_is c) c.in-Ok.ensures.added c.number_list.ensures c.self.invariant.sound
       c.in-Ok.ensures.valid;
   entries = c.insert.ensures.entries c.self.invariant.entries;
+  from = subst (λ l. c.free_id-list_id.result ≤ free_id l) (sym (ap (λ (v : Collection). v.active) c.in-Ok.ensures.added))
+      (free_after_adding c.self.inside.parts.active.items c.free_id-list_id.result (id_is c));
+  macro_free = are_macro_free (parts_view c.self.inside.parts) c.args.self.now _ c.free_id-list_id.result (entries_view c.args.mappings.now)
+      (entries_view c.number_list.new.mappings) c.self.view_is (id_is c) c.in-Ok.ensures.added c.number_list.ensures c.self.invariant.sound
+      c.insert.new.self.macro_free.items c.self.inside.parts.macro_free.items c.define_no_macro.result
+      (c.define_no_macro.ensures ∙ sym (list_all-map defines_no_macro entry_view c.args.mappings.now))
+      (subst (λ m. c.free_id-list_id.result < length m.items) (sym c.insert.ensures.macro_free) c.in_ok-unset.ensures.room)
+      (λ other set. c.unset.ensures.marks other (subst (λ m. get_or m.items other false ≡ true) c.insert.ensures.macro_free set))
+      c.self.invariant.macro_free;
 }
 
 same : (c : goal.After-roll_back) → parts_view c.roll_back.new.self ≡ parts_view c.self.inside.parts
@@ -77,4 +98,14 @@ pub invariant_of-self-in-Err : goal.invariant_of-self-in-Err
 invariant_of-self-in-Err c = record {
   sound = subst IsSoundCollection (sym (same c)) c.self.invariant.sound;
   entries = c.roll_back.ensures.entries (c.insert.ensures.entries c.self.invariant.entries);
+  from = omega (
+    arith,
+    c.self.invariant.from,
+    c.insert.ensures.from,
+    c.roll_back.ensures.from,
+    ap (λ (v : Collection). free_id v.active) (same c),
+  );
+  macro_free = λ other number set. subst (λ v. bodies_of_list other (definitions_of v number) ≡ []) (sym (same c))
+      (c.self.invariant.macro_free other number (c.unset.ensures.marks other
+      (subst (λ m. get_or m.items other false ≡ true) (c.roll_back.ensures.macro_free ∙ c.insert.ensures.macro_free) set)));
 }

@@ -1,9 +1,11 @@
-use Rattle.std.proofs.Common.{◌≡◌, length, ap, sym, ◌∙◌, subst, arith}
-use Rattle.std.proofs.lemmas.List.{with_items_is}
-use Rattle.attr_lists.specs.Definitions.{without_list, HoldsList, IsSoundCollection}
-use Rattle.attr_lists.specs.inner.EntryViews.{name_texts, AreEntries}
+use Rattle.std.proofs.Common.{◌≡◌, [], length, ap, sym, ◌∙◌, subst, arith}
+use Rattle.std.proofs.lemmas.List.{length-map, with_items_is}
+use Rattle.attr_lists.specs.Definitions.{bodies_of_list, definitions_of, without_list, HoldsList, IsSoundCollection}
+use Rattle.attr_lists.specs.inner.EntrySteps.{HasBodies}
+use Rattle.attr_lists.specs.inner.EntryViews.{name_texts, definitions_by, definitions_view, AreEntries}
 use Rattle.attr_lists.specs.ListViews.{entries_view}
-use Rattle.attr_lists.proofs.NameTableLaws.{removed_sound, removed_keeps}
+use Rattle.attr_lists.proofs.FreeIdLemmas.{free_after_removing}
+use Rattle.attr_lists.proofs.NameTableLaws.{removed_sound, removed_keeps, removed_macro_free}
 use Rattle.attr_lists.proofs.NameTableSteps.{removed_is}
 use Rattle.attr_lists.proofs.name_table.NameTable.remove.Goals as goal
 
@@ -11,16 +13,22 @@ pub returns-clause-removed : goal.returns-clause-removed
 returns-clause-removed c =
     let kept : length c.remove_list.new.entries ≡ c.self.inside.parts.entries.len = omega
     (arith, c.remove_list.auto.entries, ap length c.deref_mut.ensures.value, c.self.inside.parts.entries.ok.0) in
-    let items = with_items_is c.self.inside.parts.entries c.remove_list.new.entries kept in
-    let holds = subst (λ v. HoldsList v c.args.list_id (entries_view c.args.mappings.now)) (sym c.self.view_is) c.requires in
     removed_is (name_texts c.self.inside.parts.names) c.self.inside.parts.active.items c.self.inside.parts.entries.items c.deref_mut.result.now
-    c.remove_list.new.entries _
-    c.args.list_id (entries_view c.args.mappings.now) c.deref_mut.ensures.value c.remove_list.auto.entries items c.self.invariant.sound holds.bodies
+    c.remove_list.new.entries _ c.args.list_id c.deref_mut.ensures.value (with_items_is c.self.inside.parts.entries c.remove_list.new.entries kept)
     c.remove_list.ensures.definitions
     ∙ ap (without_list c.args.list_id) c.self.view_is
 
 pub remove_list-requires : goal.remove_list-requires
-remove_list-requires c = c.self.invariant.sound.valid
+remove_list-requires c =
+    let held = subst (λ v. HoldsList v c.args.list_id (entries_view c.args.mappings.now)) (sym c.self.view_is) c.requires in
+    record {
+      valid = c.self.invariant.sound.valid;
+      distinct = c.self.invariant.sound.distinct;
+      counted = ap length c.deref_mut.ensures.value ∙ (sym (length-map c.self.inside.parts.entries.items definitions_view)
+          ∙ c.self.invariant.sound.counted);
+      held = λ name. subst (λ l. HasBodies c.args.list_id name (entries_view c.args.mappings.now)
+          (definitions_by (name_texts c.self.inside.parts.names) l name)) (sym c.deref_mut.ensures.value) (held.bodies name);
+    }
 
 pub returns-clause-sound : goal.returns-clause-sound
 returns-clause-sound c =
@@ -36,6 +44,11 @@ invariant_of-self c =
           (removed_sound c.args.self.now c.args.list_id (subst IsSoundCollection c.self.view_is c.self.invariant.sound));
       entries = subst AreEntries (sym (with_items_is c.self.inside.parts.entries c.remove_list.new.entries kept))
           (c.remove_list.ensures.entries (subst AreEntries (sym c.deref_mut.ensures.value) c.self.invariant.entries));
+      from = free_after_removing c.self.inside.parts.active.items c.args.list_id c.self.inside.parts.free_from c.min-self-inside.result
+          c.self.invariant.from (omega (arith, c.min-self-inside.ensures)) (omega (arith, c.min-self-inside.ensures));
+      macro_free = λ other number set. subst (λ v. bodies_of_list other (definitions_of v number) ≡ []) (sym (returns-clause-removed c))
+          (removed_macro_free c.args.self.now c.args.list_id other number
+          (subst (λ v. bodies_of_list other (definitions_of v number) ≡ []) c.self.view_is (c.self.invariant.macro_free other number set)));
     }
 
 pub returns-clause-others : goal.returns-clause-others

@@ -1,11 +1,16 @@
-use Rattle.attr_lists.proofs.EntryLemmas.{remove_list_step}
+use Rattle.std.proofs.Common.{◌∙◌}
+use Rattle.attr_lists.specs.inner.EntryViews.{name_texts}
+use Rattle.attr_lists.specs.ListViews.{entries_view}
+use Rattle.attr_lists.proofs.NameTableSteps.{all_removed, others_alike}
 use Rattle.attr_lists.proofs.name_table.entry.remove_list.Goals as goal
 
-pub loop-mapping-preserved : goal.loop-mapping-preserved
-loop-mapping-preserved c = record {
-  definitions = λ name number e. remove_list_step c.args.list_id number name c.args.entries.now c.loop-mapping.entries c.remove_line.new.entries
-      c.args.mappings.now
-      c.loop-mapping.mapping-index c.mapping-item.result c.loop-mapping-test.true c.mapping-item.is
-      (c.loop-mapping.invariant.definitions name number e) (c.remove_line.ensures.definitions name number e);
-  entries = λ all. c.remove_line.ensures.entries (c.loop-mapping.invariant.entries all);
-}
+pub returns-then-not-remove_latest-clause-definitions : goal.returns-then-not-remove_latest-clause-definitions
+returns-then-not-remove_latest-clause-definitions c =
+    c.remove_definitions.ensures.definitions
+    ∙ others_alike c.args.list_id c.args.entries.now c.remove_latest.new.entries c.remove_latest.auto.entries c.remove_latest.ensures.others
+
+pub returns-else-not-remove_latest-clause-definitions : goal.returns-else-not-remove_latest-clause-definitions
+returns-else-not-remove_latest-clause-definitions c =
+    all_removed (name_texts c.args.names.now) c.args.entries.now c.remove_latest.new.entries c.args.list_id (entries_view c.args.mappings.now)
+    c.remove_latest.auto.entries c.requires.counted c.requires.distinct c.requires.held
+    (c.remove_latest.ensures.removed c.if-not-remove_latest.false) c.remove_latest.ensures.others
