@@ -23,7 +23,8 @@ use Rattle.attr_search.specs.inner.SlotContents.{SlotContents, wanted_numbers}
 use Rattle.attr_search.specs.Settings.{HaveSlots, BodiesAreNamed, HeldAreNamed}
 use Rattle.attr_search.specs.inner.Slotted.{BodiesHaveSlots}
 use Rattle.attr_lists.specs.Numbers.{AreNamed}
-use Rattle.smallvec.specs.SmallVec.{SmallVec}
+use Rattle.std.specs.Prelude.{Vec}
+use Rattle.std.specs.Global.{Global}
 use Rattle.attr_search.specs.declared.matching_line.MatchingLine.{MatchingLine}
 use Rattle.attr_search.specs.declared.slot_filler.SlotFiller.{SlotFiller}
 use Rattle.attr_lists.specs.declared.types.MatchKind.{MatchKind}
@@ -334,7 +335,7 @@ still_at_line line before after kept here placed origin =
     }
 
 -- copies of bodies fit copies of slots
-pub copies_fit : (slots slots' : ℕ) (bodies copies : List (SmallVec TrackedAssignment)) → slots' ≡ slots →
+pub copies_fit : (slots slots' : ℕ) (bodies copies : List (Vec TrackedAssignment Global)) → slots' ≡ slots →
     bodies_view copies ≡ bodies_view bodies → BodiesFit slots bodies → BodiesFit slots' copies
 copies_fit slots slots' bodies copies same e fit =
     record {

@@ -2,3 +2,5 @@
 
 -- a fact that holds anyway holds if there is a value, and it holds if there is an error
 pub use Rattle.attr_search.proofs.SlotLemmas.{on_ok, on_err}
+-- bodies are as many as they are sized to
+pub use Rattle.attr_search.proofs.BodyLemmas.{length_sized}

@@ -1,4 +1,6 @@
 pub mod IndexedListLemmas
+pub mod FolderLemmas
+pub mod KeyedLemmas
 pub mod RefLemmas
 pub mod SlotLemmas
 pub mod RefCopies
@@ -11,4 +13,6 @@ pub mod FoundAnswers
 pub mod RoundLemmas
 pub mod TaggedLines
 pub mod SearchedLemmas
+pub mod WantedLemmas
+pub mod BodyLemmas
 pub mod ForCallers

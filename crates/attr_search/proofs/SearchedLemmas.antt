@@ -1,6 +1,9 @@
 -- Parts of a search, one after another.
 use Rattle.std.proofs.Common.{◌≡◌, ℕ, ◌+◌, ◌-◌, ◌^◌, ◌<◌, ◌≤◌, ◌⊎◌, min, true, List, [], ◌∷◌, length, map, get_or, take, drop, Some, None}
-use Rattle.std.proofs.Common.{refl, subst, ◌∙◌}
+use Rattle.std.proofs.Common.{refl, sym, ap, arith, subst, ◌∙◌, zero, suc, inl, inr, Option}
+use Rattle.std.specs.Prelude.{slice_get}
+use Rattle.std.specs.List.Sorted.{IsNonDecreasing}
+use Rattle.std.proofs.lemmas.Option.{get_or_from_slice_get, slice_get_cases}
 use Rattle.bstr.specs.BStr.{bstr_bytes}
 use Rattle.attr_glob.specs.Bases.{rest_below}
 use Rattle.attr_glob.specs.Views.{patterns_of}
@@ -12,17 +15,19 @@ use Rattle.attr_search.specs.declared.indexed_list.IndexedList.{IndexedList}
 use Rattle.attr_search.specs.declared.path_query.PathQuery.{PathQuery}
 use Rattle.attr_search.specs.IndexedLists.{listed_view, lists_view}
 use Rattle.attr_search.specs.SearchContents.{SearchContents}
-use Rattle.attr_search.specs.Settings.{Listed}
+use Rattle.attr_search.specs.Settings.{Listed, candidates_in}
 use Rattle.attr_search.specs.Slots.{table_items}
+use Rattle.attr_search.specs.inner.FoundLists.{AreListsFor}
 use Rattle.attr_search.specs.inner.Lines.{place_tasks, query_lines}
 use Rattle.attr_search.specs.inner.Rounds.{Rounds, over, rounds_of}
 use Rattle.attr_search.specs.inner.Searched.{KeepsState, Searched, SearchedLine, SearchedList, SearchedLists, SearchedPlaces, state_bodies}
-use Rattle.attr_search.specs.inner.Searched.{state_slots}
+use Rattle.attr_search.specs.inner.Searched.{query_candidates, state_slots}
 use Rattle.attr_search.specs.inner.Searched.{state_wanted}
 use Rattle.attr_search.specs.inner.SlotContents.{wanted_numbers}
 use Rattle.attr_search.specs.inner.Trying.{AreTried}
 use Rattle.attr_search.proofs.LineLemmas.{places_more, places_stopped}
-use Rattle.attr_search.proofs.ListLemmas.{lists_begun, lists_more, lists_over, lists_stopped}
+use Rattle.attr_search.proofs.KeyedLemmas.{below_or}
+use Rattle.attr_search.proofs.ListLemmas.{count_more, lists_begun, lists_more, lists_over, lists_stopped}
 use Rattle.attr_search.proofs.CandidateLemmas.{list_passed, list_walked}
 use Rattle.attr_search.proofs.RoundLemmas.{all_begun, all_more, all_over, all_stopped, list_round, list_unasked, one_round, rounds_more}
 use Rattle.attr_search.proofs.RoundLemmas.{rounds_stopped}
@@ -177,3 +182,121 @@ lists_done query lists k first second kept done p =
       rounds = all_stopped (state_bodies first) first.wanted second.wanted (query_lines query) listed_view lists k (state_slots first)
           (state_slots second) first.tested second.tested kept.wanted done p.rounds;
     }
+
+-- lists are searched from a number on, and no more lines were tested than are candidates
+pub record CountedFrom (query : PathQuery) (lists : List IndexedList) (k : ℕ) (first second : SearchContents) : Type 0 where
+  pub tested : second.tested ≤ first.tested + query_candidates (lists_view (drop k lists)) query
+  pub searched : SearchedFrom query lists k first second
+
+-- the list before was searched
+pub counted_more : (query : PathQuery) (lists : List IndexedList) (k : ℕ) (list : IndexedList) (first second third : SearchContents) →
+    KeepsState first second → k < length lists → slice_get lists k ≡ Some list → CountedFrom query lists (k + 1) first second →
+    third.tested ≤ second.tested + candidates_in query.case (bstr_bytes query.path) (listed_view list) →
+    SearchedList query (listed_view list) second third → CountedFrom query lists k first third
+counted_more query lists k list first second third kept lt has before tested searched =
+    let less : k + 1 - 1 ≡ k = omega arith in
+    let is : list ≡ get_or lists (k + 1 - 1) list =
+    sym (get_or_from_slice_get lists k list list has) ∙ ap (λ n. get_or lists n list) (sym less) in
+    subst (λ n. CountedFrom query lists n first third) less
+    (record {
+      tested = count_more (candidates_in query.case (bstr_bytes query.path)) listed_view lists (k + 1) list first.tested second.tested
+          third.tested (omega arith) (omega (arith, lt)) is before.tested tested;
+      searched = more_lists query lists (k + 1) list first second third kept (omega arith) (omega (arith, lt)) is before.searched searched;
+    })
+
+-- the lists with numbers from one on and below another don't apply to the path
+abbrev pub ApartBetween : PathQuery → List IndexedList → ℕ → ℕ → Type 0
+ApartBetween query lists low high =
+    (number : ℕ) (list : IndexedList) → low ≤ number → number < high → slice_get lists number ≡ Some list →
+    None ≡ rest_below (listed_view list).base query.case (bstr_bytes query.path)
+
+skip_one : (query : PathQuery) (lists : List IndexedList) (k : ℕ) (first second : SearchContents) → KeepsState first second →
+    k < length lists →
+    ((list : IndexedList) × (k < length lists) × (slice_get lists k ≡ Some list) × (get_or lists k list ≡ list))
+    ⊎ ((length lists ≤ k) × (slice_get lists k ≡ None)) →
+    ((list : IndexedList) → slice_get lists k ≡ Some list → None ≡ rest_below (listed_view list).base query.case (bstr_bytes query.path)) →
+    CountedFrom query lists (k + 1) first second → CountedFrom query lists k first second
+skip_one query lists k first second kept lt (inl at) apart counted =
+    counted_more query lists k at.0 first second second kept lt at.2 counted (omega arith)
+    (list_apart query (listed_view at.0) second (apart at.0 at.2))
+skip_one query lists k first second kept lt (inr past) apart counted = let ge = past.0 in absurd (omega (arith, lt, ge))
+
+skip_by : (count : ℕ) (query : PathQuery) (lists : List IndexedList) (low : ℕ) (first second : SearchContents) → KeepsState first second →
+    low + count ≤ length lists → ApartBetween query lists low (low + count) → CountedFrom query lists (low + count) first second →
+    CountedFrom query lists low first second
+skip_by zero query lists low first second kept le apart counted =
+    let same : low + 0 ≡ low = omega arith in
+    subst (λ n. CountedFrom query lists n first second) same counted
+skip_by (suc count) query lists low first second kept le apart counted =
+    let same : low + suc count ≡ low + count + 1 = omega arith in
+    let lt : low + count < length lists = omega (arith, le) in
+    skip_by count query lists low first second kept (omega (arith, le))
+    (λ number list ge below has. apart number list ge (omega (arith, below)) has)
+    (skip_one query lists (low + count) first second kept lt (slice_get_cases lists (low + count)).1
+    (λ list has. apart (low + count) list (omega arith) (omega arith) has)
+    (subst (λ n. CountedFrom query lists n first second) same counted))
+
+pub skip_lists : (query : PathQuery) (lists : List IndexedList) (low high : ℕ) (first second : SearchContents) → KeepsState first second →
+    low ≤ high → high ≤ length lists → ApartBetween query lists low high → CountedFrom query lists high first second →
+    CountedFrom query lists low first second
+skip_lists query lists low high first second kept le most apart counted =
+    let same : high ≡ low + (high - low) = omega (arith, le) in
+    skip_by (high - low) query lists low first second kept (omega (arith, le, most))
+    (subst (ApartBetween query lists low) same apart) (subst (λ n. CountedFrom query lists n first second) same counted)
+
+-- of the lists below a bound, those that apply are among the first of the numbers
+abbrev pub AreLeft : PathQuery → List IndexedList → ℕ → ℕ → List ℕ → Type 0
+AreLeft query lists bound k numbers =
+    (number : ℕ) (list : IndexedList) (rest : List ℕ) → number < bound → slice_get lists number ≡ Some list →
+    rest_below (listed_view list).base query.case (bstr_bytes query.path) ≡ Some rest →
+    (place : ℕ) × (place < k) × (get_or numbers place 0 ≡ number)
+
+none_left : (query : PathQuery) (list : IndexedList) (rest : Option (List ℕ)) →
+    rest_below (listed_view list).base query.case (bstr_bytes query.path) ≡ rest →
+    ((r : List ℕ) → rest_below (listed_view list).base query.case (bstr_bytes query.path) ≡ Some r → ⊥) →
+    None ≡ rest_below (listed_view list).base query.case (bstr_bytes query.path)
+none_left query list None is none = sym is
+none_left query list (Some rest) is none = absurd (none rest is)
+
+-- those above the greatest number that is left don't apply
+pub apart_above : (query : PathQuery) (lists : List IndexedList) (bound k : ℕ) (numbers : List ℕ) → k < length numbers →
+    IsNonDecreasing numbers → AreLeft query lists bound (k + 1) numbers →
+    ApartBetween query lists (get_or numbers k 0 + 1) bound
+apart_above query lists bound k numbers lt rising left = λ number list ge below has.
+    none_left query list _ refl (λ rest applies.
+    let at = left number list rest below has applies in
+    let before = at.1 in
+    let is = at.2 in
+    let le = rising at.0 k 0 (omega (arith, before)) lt in
+    omega (arith, ge, le, is))
+
+below_top : (numbers : List ℕ) (place k number : ℕ) → place < k + 1 → get_or numbers place 0 ≡ number → (place ≡ k → ⊥) → place < k
+below_top numbers place k number lt is other =
+    elim (below_or place k lt) [ inl less ↦ less | inr same ↦ absurd (other same) ]
+
+-- fewer are left after the greatest
+pub left_less : (query : PathQuery) (lists : List IndexedList) (bound less k : ℕ) (numbers : List ℕ) → less ≤ bound →
+    less ≤ get_or numbers k 0 → AreLeft query lists bound (k + 1) numbers → AreLeft query lists less k numbers
+left_less query lists bound less k numbers le most left = λ number list rest below has applies.
+    let at = left number list rest (omega (arith, below, le)) has applies in
+    let before = at.1 in
+    let is = at.2 in
+    (at.0, below_top numbers at.0 k number before is (λ same. let e = ap (λ n. get_or numbers n 0) same in omega (arith, e, is, most, below)), is)
+
+-- at the end none is left
+pub apart_below : (query : PathQuery) (lists : List IndexedList) (bound k : ℕ) (numbers : List ℕ) → k ≤ 0 →
+    AreLeft query lists bound k numbers → ApartBetween query lists 0 bound
+apart_below query lists bound k numbers no_more left = λ number list ge below has.
+    none_left query list _ refl (λ rest applies. let before = (left number list rest below has applies).1 in omega (arith, before, no_more))
+
+-- at the beginning all are
+get_at : (numbers : List ℕ) (place number : ℕ) → place < length numbers → get_or numbers place number ≡ number → get_or numbers place 0 ≡ number
+get_at [] place number lt is = absurd (omega (arith, lt))
+get_at (n ∷ numbers) zero number lt is = is
+get_at (n ∷ numbers) (suc place) number lt is = get_at numbers place number (omega (arith, lt)) is
+
+pub all_left : (query : PathQuery) (lists : List IndexedList) (bound : ℕ) (numbers : List ℕ) →
+    AreListsFor (bstr_bytes query.path) lists numbers → AreLeft query lists bound (length numbers) numbers
+all_left query lists bound numbers are = λ number list rest below has applies.
+    let at = are.all query.case number list rest has applies in
+    (at.0, at.1, get_at numbers at.0 number at.1 at.2)

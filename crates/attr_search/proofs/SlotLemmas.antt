@@ -1,16 +1,21 @@
 -- What is left to fill, and slots over what is stored.
-use Rattle.std.proofs.Common.{◌≡◌, ℕ, zero, suc, ◌+◌, ◌-◌, ◌<◌, ◌≤◌, Bool, true, false, ◌&&◌, cond, nat_eq, List, [], ◌∷◌, ◌++◌, length, get_or, set}
+use Rattle.std.proofs.Common.{◌≡◌, ℕ, zero, suc, ◌+◌, ◌-◌, ◌<◌, ◌≤◌, Bool, true, false, ◌&&◌, ◌||◌, cond, nat_eq, List, [], ◌∷◌, ◌++◌, length, get_or}
+use Rattle.std.proofs.Common.{set}
 use Rattle.std.proofs.Common.{take, map, Option, Some, None, is_some, option_map, MatchOption, refl, sym, ap, ◌∙◌, arith, Result, Ok, Err, zero-add}
 use Rattle.std.proofs.Common.{length-take}
 use Rattle.std.specs.Bool.{⊤}
-use Rattle.std.specs.List.{list_all}
+use Rattle.std.specs.List.{list_all, list_any}
 use Rattle.std.specs.Result.{OnErr, OnOk}
 use mir.Val.{bool_byte}
-use Rattle.std.proofs.lemmas.List.{take_more, map-set, get_or_default}
-use Rattle.std.proofs.lemmas.List.Elements.{All-set, All-weaker, All-head, All-tail, All-same, All-map}
+use Rattle.std.proofs.Common.{drop, get_or, subst, replicate, length-append}
+use Rattle.std.proofs.lemmas.Bool.Decides.{nat_tests}
+use Rattle.std.proofs.lemmas.List.{drop_all, drop_more, get_or-set_other, get_or-set_same, get_or-take, length-map, length-replicate, length-set}
+use Rattle.std.proofs.lemmas.List.{take_more, map-set}
+use Rattle.std.proofs.lemmas.List.Elements.{All-set, All-weaker, All-head, All-tail, All-same, All-map, All-nil, All-push}
+use Rattle.std.proofs.lemmas.List.Folds.{list_any-append}
 use Rattle.attr_table.specs.Cut.{is_done}
 use Rattle.attr_table.specs.Setting.{Origin}
-use Rattle.attr_search.specs.inner.SlotContents.{count_remaining, remaining_at, wanted_numbers}
+use Rattle.attr_search.specs.inner.SlotContents.{AreListed, count_remaining, remaining_at, wanted_numbers}
 use Rattle.attr_search.specs.inner.Refs.{IsOriginRef, RefersTo, IsMatchRef, AreMatchRefs, origin_by_ref, match_by_ref, matches_by_ref}
 use Rattle.attr_search.specs.Slots.{Matched, slots_of, table_answer}
 use Rattle.attr_search.specs.inner.RefMapParts.{RefMapParts, KeepsRefs, Grows, no_pattern, no_assignment}
@@ -209,12 +214,11 @@ byte_is false = refl
 -- one slot less is left where a wanted one is filled
 pub fill_counts : {X : Type 0} (flags : List Bool) (slots : List (Option X)) (i : ℕ) (x : X) (w : Bool) (left taken : ℕ) → length flags ≡ length slots
     → i < length slots → is_some (get_or slots i None) ≡ false →
-    left ≡ count_remaining flags slots → w ≡ get_or flags i w → taken ≡ bool_byte w → (taken ≤ left) ×
+    left ≡ count_remaining flags slots → w ≡ get_or flags i false → taken ≡ bool_byte w → (taken ≤ left) ×
     (left - taken ≡ count_remaining flags (set slots i (Some x)))
 fill_counts flags slots i x w left taken same lt free counted read byte =
-    let lt' : i < length flags = omega arith in
     let step = count_left_set flags slots i x same lt free in
-    let one : taken ≡ cond (get_or flags i false) 1 0 = byte ∙ byte_is w ∙ ap (λ b. cond b 1 0) (read ∙ get_or_default flags i w false lt') in
+    let one : taken ≡ cond (get_or flags i false) 1 0 = byte ∙ byte_is w ∙ ap (λ b. cond b 1 0) read in
     (omega arith, omega arith)
 
 pub line_kept : (store : RefMapParts) (origin : Origin) (l : Option OriginRef) → MatchOption l ⊤ (λ s. RefersTo store s origin) → MatchOption l ⊤
@@ -236,3 +240,93 @@ left_seen (w ∷ flags) store (slot ∷ slots) =
     let a = remaining_at-seen store w slot in
     let b = left_seen flags store slots in
     omega arith
+
+-- every slot but those with these numbers is empty
+abbrev pub OthersEmpty : {X : Type 0} → List (Option X) → List ℕ → Type 0
+OthersEmpty slots numbers = (a : ℕ) → list_any (nat_eq a) numbers ≡ false → get_or slots a None ≡ None
+
+-- a slot is emptied
+pub one_emptied : {X : Type 0} (slots : List (Option X)) (numbers : List ℕ) (i number : ℕ) → i < length numbers → number ≡ get_or numbers i 0 →
+    number < length slots → OthersEmpty slots (drop i numbers) → OthersEmpty (set slots number None) (drop (i + 1) numbers)
+one_emptied slots numbers i number lt is below others = λ a rest. by a rest (nat_eq a number) refl
+  where
+    by : (a : ℕ) → list_any (nat_eq a) (drop (i + 1) numbers) ≡ false → (b : Bool) → nat_eq a number ≡ b
+        → get_or (set slots number None) a None ≡ None
+    by a rest true same =
+        let here : a ≡ number = grind (arith, nat_tests) in
+        ap (λ k. get_or (set slots number None) k None) here ∙ get_or-set_same slots number None None below
+    by a rest false apart =
+        let other : a ≡ number → ⊥ = λ e. grind (arith, nat_tests) in
+        let any : list_any (nat_eq a) (drop i numbers) ≡ false =
+        ap (list_any (nat_eq a)) (drop_more numbers i 0 lt) ∙ ap (λ k. nat_eq a k || list_any (nat_eq a) (drop (i + 1) numbers)) (sym is)
+        ∙ ap (λ b. b || list_any (nat_eq a) (drop (i + 1) numbers)) apart ∙ rest in
+        get_or-set_other slots number a None None other ∙ others a any
+
+-- all are empty, once those with all numbers are
+pub all_emptied : {X Y : Type 0} (slots : List (Option X)) (old : List Y) (numbers : List ℕ) (i : ℕ) → length slots ≡ length old →
+    length numbers ≤ i → OthersEmpty slots (drop i numbers) → slots ≡ map (λ y. None) old
+all_emptied slots old numbers i same le others =
+    all_empty slots old same (λ k lt. others k (ap (list_any (nat_eq k)) (drop_all i numbers le)))
+
+none_at : {Y : Type 0} (X : Type 0) (xs : List Y) (a : ℕ) → get_or {A = Option X} (map (λ x. None) xs) a None ≡ None
+none_at X [] a = refl
+none_at X (x ∷ xs) zero = refl
+none_at X (x ∷ xs) (suc a) = none_at X xs a
+
+-- empty slots need no number
+pub empty_listed : {X Y : Type 0} (slots : List (Option X)) (xs : List Y) → slots ≡ map (λ x. None) xs → AreListed slots []
+empty_listed {X} slots xs e = record { below = All-nil (λ n. n < length slots); others = λ a none. ap (λ l. get_or l a None) e ∙ none_at X xs a }
+
+-- one more number is listed
+pub listed_more : {X : Type 0} (slots : List (Option X)) (numbers : List ℕ) (number : ℕ) → number < length slots → AreListed slots numbers →
+    AreListed slots (numbers ++ number ∷ [])
+listed_more slots numbers number below listed = record {
+  below = All-push (λ n. n < length slots) numbers number listed.below below;
+  others = λ a none. listed.others a (first (list_any (nat_eq a) numbers) _ (sym (list_any-append (nat_eq a) numbers (number ∷ [])) ∙ none));
+}
+  where
+    first : (b c : Bool) → b || c ≡ false → b ≡ false
+    first true c e = e
+    first false c e = refl
+
+-- the slot of a listed number is filled
+pub listed_filled : {X : Type 0} (slots : List (Option X)) (numbers : List ℕ) (number : ℕ) (o : Option X) →
+    AreListed slots (numbers ++ number ∷ []) → AreListed (set slots number o) (numbers ++ number ∷ [])
+listed_filled slots numbers number o listed = record {
+  below = All-weaker (λ n. n < length slots) (λ n. n < length (set slots number o)) (λ n lt. rw (length-set slots number o) lt)
+      (numbers ++ number ∷ []) listed.below;
+  others = λ a none. get_or-set_other slots number a o None (other a none) ∙ listed.others a none;
+}
+  where
+    last : (b c : Bool) → b || (c || false) ≡ false → c ≡ false
+    last true c e = absurd cc
+    last false true e = e
+    last false false e = refl
+
+    other : (a : ℕ) → list_any (nat_eq a) (numbers ++ number ∷ []) ≡ false → a ≡ number → ⊥
+    other a none e =
+        let apart = last (list_any (nat_eq a) numbers) (nat_eq a number) (sym (list_any-append (nat_eq a) numbers (number ∷ [])) ∙ none) in
+        grind (arith, nat_tests)
+
+-- slots that were emptied and cut are as many as flags
+pub empty_cut : (old grown emptied cut : List (Option MatchRef)) (count : ℕ) (flags : List Bool) → count ≡ length flags →
+    grown ≡ old ++ replicate (count - length old) None → emptied ≡ map (λ slot. None) grown → cut ≡ take count emptied →
+    cut ≡ map (λ flag. None) flags
+empty_cut old grown emptied cut count flags counted grows empty is =
+    let many : length emptied ≡ length old + (count - length old) = ap length empty ∙ length-map grown (λ slot. None) ∙ ap length grows
+    ∙ length-append old (replicate (count - length old) None) ∙ ap (λ n. length old + n) (length-replicate (count - length old) None) in
+    let same : length cut ≡ length flags = omega (arith, ap length is, length-take count emptied) in
+    all_empty cut flags same
+    (λ k lt. ap (λ l. get_or l k None) is ∙ get_or-take count emptied k None (omega arith) ∙ ap (λ l. get_or l k None) empty
+    ∙ none_at MatchRef grown k)
+
+-- copies are as sound
+pub listed_same : {X : Type 0} (slots slots' : List (Option X)) (numbers numbers' : List ℕ) → slots ≡ slots' → numbers ≡ numbers' →
+    AreListed slots' numbers' → AreListed slots numbers
+listed_same slots slots' numbers numbers' e f listed = rw (e, f) listed
+
+pub refs_same : (store store' : RefMapParts) (slots slots' : List (Option MatchRef)) → store ≡ store' → slots ≡ slots' → AreMatchRefs store' slots' →
+    AreMatchRefs store slots
+refs_same store store' slots slots' e f within =
+    let own : AreMatchRefs store slots' = subst (λ s. AreMatchRefs s slots') (sym e) within in
+    All-same (λ o. MatchOption o ⊤ (IsMatchRef store)) slots slots' f own

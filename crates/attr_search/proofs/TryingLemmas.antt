@@ -1,6 +1,6 @@
 -- The keys of lines decide between the lines that match a path and the candidates for it.
-use Rattle.std.proofs.Common.{◌≡◌, ℕ, zero, suc, ◌==◌, Bool, true, false, not, ◌||◌, List, [], ◌∷◌, take, map, position, Option, Some, None, refl,
-    sym, ap, ◌∙◌}
+use Rattle.std.proofs.Common.{◌≡◌, ℕ, zero, suc, ◌==◌, Bool, true, false, not, ◌||◌, List, [], ◌∷◌, take, map, position, Option, Some, None, refl}
+use Rattle.std.proofs.Common.{sym, ap, ◌∙◌}
 use Rattle.std.proofs.Common.{cond, Result, Ok, Err, OnOk}
 use Rattle.std.specs.Prelude.{is_none, slice_get}
 use Rattle.std.specs.List.{starts_with}
@@ -17,8 +17,8 @@ use Rattle.attr_glob.specs.Matching.{same_byte}
 use Rattle.attr_glob.specs.Paths.{matched_part, is_directory, path_matches}
 use Rattle.attr_glob.specs.Patterns.{Reading, reading, has_flag, is_wildcard, must_be_dir, ends_with}
 use Rattle.attr_glob.specs.inner.LineShapes.{folds, is_tried}
-use Rattle.attr_glob.proofs.ForCallers.{by_test, and_parts, matching_line_is_candidate, reading-wildcard, no_wildcard, text_matches-literal,
-    text_matches-front}
+use Rattle.attr_glob.proofs.ForCallers.{by_test, and_parts, matching_line_is_candidate, reading-wildcard, no_wildcard, text_matches-literal}
+use Rattle.attr_glob.proofs.ForCallers.{text_matches-front}
 use Rattle.attr_glob.proofs.ForCallers.{whole_met, front_met, end_met, bytewise, falling_places, passes}
 use Rattle.attr_search.specs.inner.Trying.{AreTried, key_of_line}
 

@@ -1,11 +1,17 @@
 -- What contracts of functions inside the crate name (own). No contract of a public call reaches it, so nothing of it has to be
 -- believed.
+pub mod BaseKeys
+pub mod BodyChanges
 pub mod Filling
+pub mod FolderKeys
+pub mod FoundLists
+pub mod KeyLinks
 pub mod Lines
+pub mod NumbersView
 pub mod Pending
+pub mod ReadLines
 pub mod RefMapParts
 pub mod RefMapView
-pub mod ReadLines
 pub mod Refs
 pub mod Rounds
 pub mod SearchView
@@ -14,3 +20,4 @@ pub mod SlotContents
 pub mod SlotsView
 pub mod Slotted
 pub mod Trying
+pub mod WantedView

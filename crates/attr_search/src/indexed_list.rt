@@ -5,7 +5,8 @@ ghost use Rattle.bstr.specs.BStr.{bstr_bytes};
 ghost use Rattle.attr_glob.specs.Paths.{path_matches};
 ghost use Rattle.attr_search.specs.inner.Lines.{entry_at};
 ghost use Rattle.attr_search.specs.inner.Trying.{AreTried, key_of_line};
-ghost use Rattle.attr_glob.specs.Views.{patterns_of};
+ghost use Rattle.attr_glob.specs.Views.{base_bytes, patterns_of};
+ghost use Rattle.attr_search.specs.inner.FolderKeys.{base_key as key_of_base};
 ghost use Rattle.attr_lists.specs.Definitions.{free_id, is_active, with_list, HoldsList, IsSoundCollection};
 ghost use Rattle.attr_lists.specs.KeptLists.{macros_valid};
 ghost use Rattle.attr_lists.specs.ListViews.{entries_view};
@@ -13,6 +14,7 @@ ghost use Rattle.attr_lists.specs.Numbers.{numbered_lines};
 ghost use Rattle.attr_search.specs.inner.ReadLines.{AreRead};
 ghost use Rattle.attr_lists.specs.inner.Keeping.{StayRegistered};
 
+use crate::folder_keys::base_key;
 use crate::line_keys::{folds, line_keys};
 use crate::path_query::PathQuery;
 use attr_glob::matcher::Matcher;
@@ -39,14 +41,17 @@ pub struct IndexedList {
     /// The list id under which the list is registered in its collection.
     #[derive_where(skip)]
     pub list_id: usize,
+    /// The key of the base.
+    #[derive_where(skip)]
+    pub base_key: u64,
     ghost keyed: { keys ≡ map key_of_line (patterns_of list.patterns.items) },
     ghost matched: { matchers.items ≡ patterns_of list.patterns.items },
+    ghost based: { base_key ≡ key_of_base (base_bytes list.base) },
     ghost read: { ∥ AreRead (entries_view list.patterns.items) ∥₁ },
 }
 
 impl IndexedList {
     ghost use Rattle.attr_search.specs.IndexedLists.{listed_view};
-    ghost use Rattle.attr_search.specs.IndexedLists.{list_ids_of};
 
     /// Registers a list in the table, under the least free list id: its items and macros get the numbers of their
     /// names, and its definitions of macros are active from then on.
@@ -77,12 +82,14 @@ impl IndexedList {
     {
         let keys = line_keys(alloc, &list.patterns)?;
         let matchers = matchers_of(alloc, &list.patterns)?;
+        let base_key = base_key(alloc, &list.base)?;
         let list_id = names.add(alloc, &mut list.patterns)?;
         Ok(IndexedList {
             list,
             keys,
             matchers,
             list_id,
+            base_key,
         })
     }
 
@@ -138,38 +145,26 @@ impl IndexedList {
         )
     }
 
-    // A copy, with the same list id.
-    fn clone(&self, alloc: Global) -> Result<IndexedList, AllocError>
+    /// A copy, with the same list id.
+    ///
+    /// # Errors
+    ///
+    /// If memory runs out.
+    pub fn clone(&self, alloc: Global) -> Result<IndexedList, AllocError>
         ensures list { IfOk result (λ copy. listed_view copy ≡ listed_view self.now) }
         ensures list_id { IfOk result (λ copy. copy.list_id ≡ self.now.list_id) }
     {
         let list = self.list.clone(alloc)?;
         let keys = line_keys(alloc, &list.patterns)?;
         let matchers = matchers_of(alloc, &list.patterns)?;
+        let base_key = base_key(alloc, &list.base)?;
         Ok(IndexedList {
             list,
             keys,
             matchers,
             list_id: self.list_id,
+            base_key,
         })
-    }
-
-    /// Copies of lists, each with the same list id.
-    ///
-    /// # Errors
-    ///
-    /// If memory runs out.
-    pub fn copies(alloc: Global, lists: &[IndexedList]) -> Result<Vec<IndexedList>, AllocError>
-        ensures lists { IfOk result (λ copies.
-            map listed_view copies.items ≡ map listed_view lists.now) }
-        ensures list_ids { IfOk result (λ copies.
-            list_ids_of copies.items ≡ list_ids_of lists.now) }
-    {
-        let mut copies = Vec::new(alloc);
-        for list in lists {
-            copies.push(list.clone(alloc)?)?;
-        }
-        Ok(copies)
     }
 }
 

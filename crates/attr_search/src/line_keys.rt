@@ -24,7 +24,7 @@ use std::alloc::{AllocError, Global};
 pub fn line_keys(alloc: Global, mappings: &[Mapping<Value>]) -> Result<KeyIndex, AllocError>
     ensures { IfOk result (λ keys. keys ≡ map key_of_line (patterns_of mappings.now)) }
 {
-    let mut keys = Vec::new(alloc);
+    let mut keys = Vec::with_capacity(alloc, mappings.len())?;
     for mapping in mappings {
         keys.push(line_key(alloc, shape_of(&mapping.pattern))?)?;
     }

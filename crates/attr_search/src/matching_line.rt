@@ -6,7 +6,7 @@ ghost use Rattle.attr_search.specs.inner.Slotted.{bodies_view};
 ghost use Rattle.attr_search.specs.inner.Pending.{pending_item, IsPlaced};
 
 use attr_glob::search::pattern::Mapping;
-use attr_lists::types::{Assignments, AttributeId, MatchKind, TrackedAssignment, Value};
+use attr_lists::types::{AttributeId, MatchKind, TrackedAssignment, Value};
 
 /// A line that matches, with its list's source and with its items.
 #[derive(Clone, Copy)]
@@ -33,7 +33,7 @@ impl PendingItem {
     pub fn item<'a>(
         self,
         items: &'a [TrackedAssignment],
-        bodies: &'a [Assignments],
+        bodies: &'a [Vec<TrackedAssignment>],
     ) -> &'a TrackedAssignment
         requires { IsPlaced items.now (bodies_view bodies.now) self }
         ensures { result.now ≡ pending_item items.now (bodies_view bodies.now) self }
@@ -64,7 +64,7 @@ impl PendingItem {
 }
 
 /// The body of the attribute with this number, which is empty if the attribute is no macro.
-pub fn body_of(bodies: &[Assignments], attribute: usize) -> &[TrackedAssignment]
+pub fn body_of(bodies: &[Vec<TrackedAssignment>], attribute: usize) -> &[TrackedAssignment]
     requires { attribute < length bodies.now }
     ensures { result.now ≡ slice_index_or (bodies_view bodies.now) attribute [] }
 {

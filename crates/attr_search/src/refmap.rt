@@ -67,6 +67,15 @@ impl RefMap {
         }
     }
 
+    /// Forgets what is stored, and keeps the room for it.
+    pub fn clear(&mut self)
+        ensures { self.new ≡ record { patterns = []; assignments = []; sources = [] } }
+    {
+        self.patterns.clear();
+        self.assignments.clear();
+        self.sources.clear();
+    }
+
     /// Stores a line's pattern and source if they are new, and returns their places. What was stored keeps its place.
     ///
     /// # Errors

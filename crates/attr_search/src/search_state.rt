@@ -10,21 +10,26 @@ ghost use Rattle.attr_table.specs.Work.{work_of, newly_filled};
 ghost use Rattle.attr_search.specs.IndexedLists.{listed_view, lists_view};
 ghost use Rattle.attr_search.specs.Matches.{match_view};
 ghost use Rattle.attr_search.specs.Settings.{candidates_in, is_found};
-ghost use Rattle.attr_search.specs.inner.Slotted.{LinesHaveSlots, ListsHaveSlots};
+ghost use Rattle.attr_search.specs.inner.BodyChanges.{changed_bodies, sized_bodies};
+ghost use Rattle.attr_search.specs.inner.Slotted.{BodiesHaveSlots, LinesHaveSlots, ListsHaveSlots};
 ghost use Rattle.attr_search.specs.inner.Slotted.{bodies_view};
 ghost use Rattle.attr_search.specs.inner.Filling.{BodiesFit};
+ghost use Rattle.attr_search.specs.inner.FoundLists.{AreListsFor};
 ghost use Rattle.attr_search.specs.inner.Lines.{entry_at};
 ghost use Rattle.attr_search.specs.inner.Searched.{KeepsState, ListKeepsNamed, ListsKeepNamed, SearchedLine, SearchedList, SearchedLists, SearchedPlaces, TestsRoots, has_free_item, query_candidates, query_setting, state_slots, state_wanted};
 ghost use Rattle.attr_search.specs.inner.SlotContents.{count_remaining};
 ghost use Rattle.attr_search.specs.inner.Trying.{AreTried};
 
+use crate::bodies::{self, BodyChange};
 use crate::indexed_list::IndexedList;
+use crate::indexed_lists::IndexedLists;
 use crate::matching_line::MatchingLine;
 use crate::path_query::PathQuery;
 use crate::slot_filler::SlotFiller;
 use crate::slots::AnswerSlots;
+use crate::wanted::WantedFlags;
 use attr_glob::wildmatch::MatchBuffers;
-use attr_lists::types::{Assignments, Match, TrackedAssignment, Value};
+use attr_lists::types::{Match, TrackedAssignment, Value};
 use std::alloc::{AllocError, Global};
 use std::marker::Model;
 use std::mem;
@@ -45,6 +50,8 @@ struct SearchBuffers {
     // A base name, reversed.
     turned: Vec<u8>,
     places: Vec<usize>,
+    // The numbers of lists.
+    numbers: Vec<usize>,
 }
 
 impl Model for SearchState {
@@ -68,7 +75,7 @@ impl SearchState {
         SearchState::of(alloc, AnswerSlots::new(alloc), Vec::new(alloc))
     }
 
-    fn of(alloc: Global, slots: AnswerSlots, bodies: Vec<Assignments>) -> SearchState
+    fn of(alloc: Global, slots: AnswerSlots, bodies: Vec<Vec<TrackedAssignment>>) -> SearchState
         requires { BodiesFit (length slots.answers) bodies.items }
         ensures { result ≡ record {
           answers = slots.answers;
@@ -89,13 +96,50 @@ impl SearchState {
                 matching: MatchBuffers::new(alloc),
                 turned: Vec::new(alloc),
                 places: Vec::new(alloc),
+                numbers: Vec::new(alloc),
             },
             tested: 0,
         }
     }
 
-    /// Replaces the slots, and the bodies, one for each slot. The counts are 0 after that.
-    pub fn set_up(&mut self, slots: AnswerSlots, bodies: Vec<Assignments>)
+    /// Makes an empty slot for each flag in place of its own, keeps or makes a body for each, and changes some of these. It
+    /// costs what is changed, and takes memory for more slots only.
+    ///
+    /// # Errors
+    ///
+    /// If memory runs out. Nothing changes then.
+    pub fn set_up(
+        &mut self,
+        alloc: Global,
+        wanted: WantedFlags,
+        changes: Vec<BodyChange>,
+    ) -> Result<(), AllocError>
+        requires numbers { All (λ change. change.number < length wanted) changes.items }
+        requires within { BodiesHaveSlots (length wanted)
+            (changed_bodies changes.items (sized_bodies (length wanted) self.old.bodies)) }
+        ensures ok { OnOk result (self.new ≡ record {
+          answers = map (λ flag. None) wanted;
+          wanted = wanted;
+          bodies = changed_bodies changes.items (sized_bodies (length wanted) self.old.bodies);
+          taken = 0;
+          tested = 0;
+        }) }
+        ensures refused { OnErr result (self.new ≡ self.old) }
+    {
+        let (before, count) = (self.filler.bodies.len(), wanted.len());
+        bodies::grow(alloc, &mut self.filler.bodies, count)?;
+        if self.filler.slots.set_up(wanted).is_err() {
+            self.filler.bodies.truncate(before);
+            return Err(AllocError);
+        }
+        self.filler.bodies.truncate(count);
+        bodies::change(&mut self.filler.bodies, changes);
+        self.filler.taken = 0;
+        self.tested = 0;
+        Ok(())
+    }
+
+    fn replace(&mut self, slots: AnswerSlots, bodies: Vec<Vec<TrackedAssignment>>)
         requires { BodiesFit (length slots.answers) bodies.items }
         ensures { self.new ≡ record {
           answers = slots.answers;
@@ -111,7 +155,7 @@ impl SearchState {
         self.tested = 0;
     }
 
-    /// Empties the slots, and sets the counts to 0. It takes no memory.
+    /// Empties the slots, which costs what was filled, and sets the counts to 0. It takes no memory.
     pub fn reset(&mut self)
         ensures { self.new ≡ record self.old
             { answers = map (λ a. None) self.old.answers; taken = 0; tested = 0 } }
@@ -130,7 +174,7 @@ impl SearchState {
         ensures { IfOk result (λ copy. copy ≡ self.now) }
     {
         let slots = self.filler.slots.clone(alloc)?;
-        let bodies = copy_of_bodies(alloc, &self.filler.bodies)?;
+        let bodies = bodies::copy_of_bodies(alloc, &self.filler.bodies)?;
         let mut copy = SearchState::of(alloc, slots, bodies);
         copy.filler.taken = self.filler.taken;
         copy.tested = self.tested;
@@ -146,16 +190,16 @@ impl SearchState {
         &mut self,
         alloc: Global,
         other: &SearchState,
-        wanted: Vec<bool>,
+        wanted: WantedFlags,
     ) -> Result<(), AllocError>
-        requires { length wanted.items ≡ length other.now.answers }
+        requires { length wanted ≡ length other.now.answers }
         ensures copied { OnOk result (self.new ≡ record other.now
-            { wanted = wanted.items; taken = 0; tested = 0 }) }
+            { wanted = wanted; taken = 0; tested = 0 }) }
         ensures refused { OnErr result (self.new ≡ self.old) }
     {
         let slots = other.filler.slots.copy(alloc, wanted)?;
-        let bodies = copy_of_bodies(alloc, &other.filler.bodies)?;
-        self.set_up(slots, bodies);
+        let bodies = bodies::copy_of_bodies(alloc, &other.filler.bodies)?;
+        self.replace(slots, bodies);
         Ok(())
     }
 
@@ -188,7 +232,7 @@ impl SearchState {
     }
 
     /// The body of each attribute, by number: empty if it is no macro.
-    pub fn bodies(&self) -> &[Assignments]
+    pub fn bodies(&self) -> &[Vec<TrackedAssignment>]
         ensures bodies { bodies_view result.now ≡ self.now.bodies }
         ensures len { length result.now ≡ length self.now.answers }
     {
@@ -219,38 +263,43 @@ impl SearchState {
     pub fn search(
         &mut self,
         alloc: Global,
-        lists: &[IndexedList],
+        lists: &IndexedLists,
         query: PathQuery<'_>,
     ) -> Result<bool, AllocError>
-        requires in_lists { ListsHaveSlots (length self.old.answers) (lists_view lists.now) }
+        requires in_lists { ListsHaveSlots (length self.old.answers)
+            (lists_view lists.now.lists.items) }
         ensures kept { KeepsState self.old self.new }
 
         // The slots are the cut of the only stable table, over the slots before (`attr_table::laws` explains these).
-        ensures one { OneTable (query_setting self.old (lists_view lists.now) query.entry)
+        ensures one { OneTable
+            (query_setting self.old (lists_view lists.now.lists.items) query.entry)
             (state_slots self.old) }
         ensures searched { OnOk result (IsSearched
-            (query_setting self.old (lists_view lists.now) query.entry)
+            (query_setting self.old (lists_view lists.now.lists.items) query.entry)
             (state_wanted self.old) (state_slots self.old) (state_slots self.new)) }
         ensures joined { OnOk result (
-            let setting = query_setting self.old (lists_view lists.now) query.entry in
+            let setting = query_setting self.old (lists_view lists.now.lists.items) query.entry in
             ExtendsCuts setting.lists setting.bodies
             (state_wanted self.old) (state_slots self.old) (state_slots self.new)) }
         ensures found { IfOk result (λ found. found
             ≡ is_found (state_wanted self.old) (state_slots self.old) (state_slots self.new)) }
-        ensures named { OnOk result (ListsKeepNamed (lists_view lists.now) self.old self.new) }
+        ensures named { OnOk result
+            (ListsKeepNamed (lists_view lists.now.lists.items) self.old self.new) }
 
         // A search takes at most the items that there are, and at least one for each slot that it fills. It tests at
         // most the candidate lines, and at least the lines whose items fill slots, themselves or by macros.
         ensures most { is_done (state_wanted self.old) (state_slots self.old) ≡ false →
             OnOk result (self.new.taken
-            ≤ work_of (query_setting self.old (lists_view lists.now) query.entry)) }
+            ≤ work_of (query_setting self.old (lists_view lists.now.lists.items) query.entry)) }
         ensures least { is_done (state_wanted self.old) (state_slots self.old) ≡ false →
             OnOk result (newly_filled (state_slots self.old) (state_slots self.new)
             (length self.new.answers) ≤ self.new.taken) }
         ensures tested { is_done (state_wanted self.old) (state_slots self.old) ≡ false →
-            OnOk result (self.new.tested ≤ query_candidates (lists_view lists.now) query.entry) }
+            OnOk result (self.new.tested
+            ≤ query_candidates (lists_view lists.now.lists.items) query.entry) }
         ensures roots { is_done (state_wanted self.old) (state_slots self.old) ≡ false →
-            OnOk result (TestsRoots (query_setting self.old (lists_view lists.now) query.entry)
+            OnOk result (TestsRoots
+            (query_setting self.old (lists_view lists.now.lists.items) query.entry)
             self.old self.new) }
 
         // If each wanted attribute has an answer, nothing changes.
@@ -282,9 +331,61 @@ impl SearchState {
     fn search_lists(
         &mut self,
         alloc: Global,
-        lists: &[IndexedList],
+        lists: &IndexedLists,
         query: PathQuery<'_>,
     ) -> Result<(), AllocError>
+        requires in_lists { ListsHaveSlots (length self.old.answers)
+            (lists_view lists.now.lists.items) }
+        ensures kept { KeepsState self.old self.new }
+        ensures named { OnOk result
+            (ListsKeepNamed (lists_view lists.now.lists.items) self.old self.new) }
+        ensures tested { OnOk result (self.new.tested
+            ≤ self.old.tested + query_candidates (lists_view lists.now.lists.items) query.entry) }
+        ensures searched { OnOk result (SearchedLists
+            query.entry (lists_view lists.now.lists.items) self.old self.new) }
+    {
+        let numbers = self.find_lists(alloc, lists, query)?;
+        let searched = self.search_numbers(alloc, &lists.lists, &numbers, query);
+        self.keep_numbers(numbers);
+        searched
+    }
+
+    // The numbers of the lists that apply to the path, in the buffer of numbers. They don't fall.
+    fn find_lists(
+        &mut self,
+        alloc: Global,
+        lists: &IndexedLists,
+        query: PathQuery<'_>,
+    ) -> Result<Vec<usize>, AllocError>
+        ensures unchanged { self.new ≡ self.old }
+        ensures numbers { IfOk result (λ numbers.
+            AreListsFor (bstr_bytes query.entry.path) lists.now.lists.items numbers.items) }
+    {
+        let buffers = &mut self.buffers;
+        lists.find(
+            query.path.as_bytes(),
+            &mut buffers.turned,
+            &mut buffers.numbers,
+        )?;
+        Ok(mem::replace(&mut buffers.numbers, Vec::new(alloc)))
+    }
+
+    fn keep_numbers(&mut self, numbers: Vec<usize>)
+        ensures { self.new ≡ self.old }
+    {
+        self.buffers.numbers = numbers;
+    }
+
+    // Searches the lists with some numbers, the greatest first, until each wanted attribute has an answer. No other
+    // list applies to the path.
+    fn search_numbers(
+        &mut self,
+        alloc: Global,
+        lists: &[IndexedList],
+        numbers: &[usize],
+        query: PathQuery<'_>,
+    ) -> Result<(), AllocError>
+        requires numbers { AreListsFor (bstr_bytes query.path) lists.now numbers.now }
         requires in_lists { ListsHaveSlots (length self.old.answers) (lists_view lists.now) }
         ensures kept { KeepsState self.old self.new }
         ensures named { OnOk result (ListsKeepNamed (lists_view lists.now) self.old self.new) }
@@ -293,11 +394,16 @@ impl SearchState {
         ensures searched { OnOk result (SearchedLists
             query.entry (lists_view lists.now) self.old self.new) }
     {
-        for k in (0..lists.len()).rev() {
+        let mut bound = lists.len();
+        for k in (0..numbers.len()).rev() {
             if self.is_done() {
                 return Ok(());
             }
-            self.search_list(alloc, &lists[k], query)?;
+            let number = numbers[k];
+            if number < bound {
+                self.search_list(alloc, &lists[number], query)?;
+                bound = number;
+            }
         }
         Ok(())
     }
@@ -427,21 +533,4 @@ fn assigned(value: &Value) -> Option<&[TrackedAssignment]>
         } => None,
         Value::Assignments(assignments) => Some(assignments.as_slice()),
     }
-}
-
-fn copy_of_bodies(alloc: Global, bodies: &[Assignments]) -> Result<Vec<Assignments>, AllocError>
-    ensures { IfOk result (λ copy. bodies_view copy.items ≡ bodies_view bodies.now) }
-{
-    let mut copy = Vec::new(alloc);
-    for body in bodies {
-        let body = copy_of_body(body)?;
-        copy.push(body)?;
-    }
-    Ok(copy)
-}
-
-fn copy_of_body(body: &Assignments) -> Result<Assignments, AllocError>
-    ensures { IfOk result (λ copy. copy.items ≡ body.now.items) }
-{
-    body.clone()
 }

@@ -11,7 +11,7 @@ ghost use Rattle.attr_search.specs.inner.Pending.{IsPlaced, PushesFree, PushesPl
 
 use crate::matching_line::{MatchingLine, PendingItem, body_of};
 use crate::slots::AnswerSlots;
-use attr_lists::types::{Assignments, TrackedAssignment};
+use attr_lists::types::TrackedAssignment;
 use attr_text::State;
 use std::alloc::{AllocError, Global};
 
@@ -21,7 +21,7 @@ pub struct SlotFiller {
     /// The slots of the attributes, by number.
     pub slots: AnswerSlots,
     /// The body of each attribute, by number: empty if it is no macro.
-    pub bodies: Vec<Assignments>,
+    pub bodies: Vec<Vec<TrackedAssignment>>,
     /// The items that are still to be processed.
     pub stack: Vec<PendingItem>,
     /// How many items the last search popped from the stack. It stops at `u128::MAX`.

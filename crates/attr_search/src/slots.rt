@@ -1,7 +1,7 @@
 //! What a search fills: a slot for each attribute. A slot has the answer for its attribute, or is free. The wanted
 //! slots are those that a search looks for.
 
-ghost use Rattle.std.specs.Prelude.{◌≡◌, ◌<◌, ◌&&◌, ⊤, false, None, Some, [], IfOk, OnErr, OnOk, MatchOption, is_none, is_some, length, map, not, option_map, set, slice_index_or};
+ghost use Rattle.std.specs.Prelude.{◌≡◌, ◌<◌, ◌-◌, ◌++◌, ◌&&◌, ⊤, false, None, Some, [], IfOk, OnErr, OnOk, MatchOption, is_none, is_some, length, map, not, option_map, replicate, set, slice_index_or};
 ghost use Rattle.std.specs.List.{list_any};
 ghost use Rattle.attr_table.specs.Cut.{is_done};
 ghost use Rattle.attr_search.specs.Matches.{match_view};
@@ -10,10 +10,11 @@ ghost use Rattle.attr_search.specs.Slots.{slots_of};
 ghost use Rattle.attr_search.specs.inner.Pending.{item_match, line_origin};
 ghost use Rattle.attr_search.specs.inner.RefMapParts.{KeepsRefs};
 ghost use Rattle.attr_search.specs.inner.Refs.{AreMatchRefs, RefersTo, IsMatchRef, match_by_ref, matches_by_ref};
-ghost use Rattle.attr_search.specs.inner.SlotContents.{SlotContents, count_remaining, empty_slots, wanted_numbers};
+ghost use Rattle.attr_search.specs.inner.SlotContents.{AreListed, SlotContents, count_remaining, empty_slots, wanted_numbers};
 
 use crate::matching_line::MatchingLine;
 use crate::refmap::{MatchRef, OriginRef, RefMap};
+use crate::wanted::WantedFlags;
 use attr_lists::types::{Match, MatchKind, TrackedAssignment};
 use std::alloc::{AllocError, Global};
 use std::marker::Model;
@@ -22,7 +23,9 @@ use std::marker::Model;
 #[derive(Drop)]
 pub struct AnswerSlots {
     slots: Vec<Option<MatchRef>>,
-    wanted: Vec<bool>,
+    // The numbers of the slots that may be filled: the others are free.
+    filled: Vec<usize>,
+    wanted: WantedFlags,
     // How many wanted slots are free.
     remaining: usize,
     matches: MatchStore,
@@ -55,37 +58,32 @@ impl AnswerSlots {
     {
         AnswerSlots {
             slots: Vec::new(alloc),
-            wanted: Vec::new(alloc),
+            filled: Vec::new(alloc),
+            wanted: WantedFlags::new(alloc),
             remaining: 0,
             matches: MatchStore::of(RefMap::new(alloc)),
         }
     }
 
-    /// Empty slots, one for each flag. A slot is wanted if its flag is set.
+    /// Makes an empty slot for each flag, in place of its own. What was stored is forgotten. It costs what was filled,
+    /// and takes memory for more slots only.
     ///
     /// # Errors
     ///
-    /// If memory runs out.
-    pub fn sized(alloc: Global, wanted: Vec<bool>) -> Result<AnswerSlots, AllocError>
-        ensures { IfOk result (λ slots. slots ≡ empty_slots wanted.items) }
+    /// If memory runs out. Nothing changes then.
+    pub fn set_up(&mut self, wanted: WantedFlags) -> Result<(), AllocError>
+        ensures ok { OnOk result (self.new ≡ empty_slots wanted) }
+        ensures refused { OnErr result (self.new ≡ self.old) }
     {
-        let slots = no_slots(alloc, &wanted)?;
-        Ok(AnswerSlots::of(slots, wanted, RefMap::new(alloc)))
-    }
-
-    fn of(slots: Vec<Option<MatchRef>>, wanted: Vec<bool>, refs: RefMap) -> AnswerSlots
-        requires len { length wanted.items ≡ length slots.items }
-        requires within { AreMatchRefs refs slots.items }
-        ensures { result ≡ record
-            { answers = matches_by_ref refs slots.items; wanted = wanted.items; line = None } }
-    {
-        let remaining = count_remaining(&wanted, &slots);
-        AnswerSlots {
-            slots,
-            wanted,
-            remaining,
-            matches: MatchStore::of(refs),
-        }
+        let count = wanted.len();
+        grow(&mut self.slots, count)?;
+        empty(&mut self.slots, &self.filled);
+        self.filled.clear();
+        self.slots.truncate(count);
+        self.remaining = wanted.count();
+        self.wanted = wanted;
+        self.matches.clear();
+        Ok(())
     }
 
     /// How many wanted slots are free.
@@ -100,14 +98,22 @@ impl AnswerSlots {
     /// # Errors
     ///
     /// If memory runs out.
-    pub fn copy(&self, alloc: Global, wanted: Vec<bool>) -> Result<AnswerSlots, AllocError>
-        requires { length wanted.items ≡ length self.now.answers }
+    pub fn copy(&self, alloc: Global, wanted: WantedFlags) -> Result<AnswerSlots, AllocError>
+        requires { length wanted ≡ length self.now.answers }
         ensures { IfOk result (λ slots. slots ≡ record
-            { answers = self.now.answers; wanted = wanted.items; line = None }) }
+            { answers = self.now.answers; wanted = wanted; line = None }) }
     {
         let slots = Vec::from_slice(alloc, &self.slots)?;
+        let filled = Vec::from_slice(alloc, &self.filled)?;
         let refs = self.matches.refs.clone(alloc)?;
-        Ok(AnswerSlots::of(slots, wanted, refs))
+        let remaining = count_remaining(&wanted, &slots);
+        Ok(AnswerSlots {
+            slots,
+            filled,
+            wanted,
+            remaining,
+            matches: MatchStore::of(refs),
+        })
     }
 
     /// A copy of the slots, of which the same are wanted.
@@ -118,7 +124,7 @@ impl AnswerSlots {
     pub fn clone(&self, alloc: Global) -> Result<AnswerSlots, AllocError>
         ensures { IfOk result (λ slots. slots ≡ record self.now { line = None }) }
     {
-        let wanted = Vec::from_slice(alloc, &self.wanted)?;
+        let wanted = self.wanted.clone(alloc)?;
         self.copy(alloc, wanted)
     }
 
@@ -186,19 +192,22 @@ impl AnswerSlots {
         ensures wanted { self.new.wanted ≡ self.old.wanted }
         ensures line { MatchOption self.new.line ⊤ (λ o. o ≡ line_origin line.entry) }
     {
-        let found = self.matches.store(alloc, line, item, kind)?;
         let attribute = item.id.0;
-        self.remaining -= usize::from(self.wanted[attribute]);
+        self.filled.push(attribute)?;
+        let found = self.matches.store(alloc, line, item, kind)?;
+        self.remaining -= usize::from(self.wanted.has(attribute));
         self.slots[attribute] = Some(found);
         Ok(())
     }
 
-    /// Empties the slots. Patterns, sources and assignments stay stored for later matches.
+    /// Empties the slots, which costs what was filled. Patterns, sources and assignments stay stored for later matches.
     pub fn reset(&mut self)
         ensures { self.new ≡ record self.old
             { answers = map (λ a. None) self.old.answers; line = None } }
     {
-        empty(&mut self.slots, &self.wanted, &mut self.remaining);
+        empty(&mut self.slots, &self.filled);
+        self.filled.clear();
+        self.remaining = self.wanted.count();
         self.matches.line = None;
     }
 
@@ -219,6 +228,15 @@ impl MatchStore {
         ensures line { result.line ≡ None }
     {
         MatchStore { refs, line: None }
+    }
+
+    // Forgets what is stored.
+    fn clear(&mut self)
+        ensures refs { self.new.refs ≡ record { patterns = []; assignments = []; sources = [] } }
+        ensures line { self.new.line ≡ None }
+    {
+        self.refs.clear();
+        self.line = None;
     }
 
     // Stores an item, and the current line if it is not stored yet.
@@ -265,13 +283,13 @@ impl MatchStore {
 }
 
 // How many wanted slots are free.
-fn count_remaining(wanted: &[bool], slots: &[Option<MatchRef>]) -> usize
+fn count_remaining(wanted: &WantedFlags, slots: &[Option<MatchRef>]) -> usize
     requires { length wanted.now ≡ length slots.now }
     ensures { result ≡ count_remaining wanted.now slots.now }
 {
     let mut remaining = 0;
-    for place in 0..wanted.len() {
-        if is_remaining(wanted[place], slots[place]) {
+    for place in 0..slots.len() {
+        if is_remaining(wanted.has(place), slots[place]) {
             remaining += 1;
         }
     }
@@ -284,27 +302,25 @@ fn is_remaining(wanted: bool, slot: Option<MatchRef>) -> bool
     wanted && slot.is_none()
 }
 
-// Empties the slots, and counts anew how many wanted slots are free.
-fn empty(slots: &mut Vec<Option<MatchRef>>, wanted: &[bool], remaining: &mut usize)
-    requires { length wanted.now ≡ length slots.old.items }
-    ensures slots { slots.new.items ≡ map (λ slot. None) slots.old.items }
-    ensures remaining { remaining.new ≡ count_remaining wanted.now slots.new.items }
+// Appends free slots, until there are as many as the count if there were fewer.
+fn grow(slots: &mut Vec<Option<MatchRef>>, count: usize) -> Result<(), AllocError>
+    ensures ok { OnOk result (slots.new.items
+        ≡ slots.old.items ++ replicate (count - length slots.old.items) None) }
+    ensures refused { OnErr result (slots.new.items ≡ slots.old.items) }
 {
-    clear(slots);
-    *remaining = count_remaining(wanted, slots);
+    if slots.len() < count {
+        slots.resize(count, None)?;
+    }
+    Ok(())
 }
 
-fn clear(slots: &mut Vec<Option<MatchRef>>)
+// Empties the slots with these numbers, if the others are free.
+fn empty(slots: &mut Vec<Option<MatchRef>>, numbers: &[usize])
+    requires { AreListed slots.old.items numbers.now }
     ensures items { slots.new.items ≡ map (λ slot. None) slots.old.items }
     ensures len { length slots.new.items ≡ length slots.old.items }
 {
-    for place in 0..slots.len() {
-        slots[place] = None;
+    for number in numbers {
+        slots[*number] = None;
     }
-}
-
-fn no_slots(alloc: Global, wanted: &[bool]) -> Result<Vec<Option<MatchRef>>, AllocError>
-    ensures { IfOk result (λ slots. slots.items ≡ map (λ w. None) wanted.now) }
-{
-    wanted.iter().map(|_| None).collect(alloc)
 }

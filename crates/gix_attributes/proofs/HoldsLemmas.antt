@@ -5,7 +5,7 @@ use Rattle.std.specs.Prelude.{◌==◌, ◌||◌, length}
 use Rattle.std.specs.List.{AllZip, IsDistinct, list_any, AllByRecursion}
 use Rattle.std.specs.Cmp.{IsEquivalence}
 use Rattle.std.proofs.lemmas.Bool.{eqb-true}
-use Rattle.std.proofs.Common.{Some, eq-eqb}
+use Rattle.std.proofs.Common.{Some, arith, eq-eqb, ne_eqb}
 use Rattle.std.proofs.lemmas.List.{map-append}
 use Rattle.std.proofs.lemmas.List.Elements.{All-nil, All-cons, All-head, All-tail, All-push, All-pop, All-weaker, All-map, All-from_recursion}
 use Rattle.std.proofs.lemmas.List.Elements.{recursion_from_All}
@@ -17,7 +17,7 @@ use Rattle.attr_lists.specs.ListViews.{entries_view}
 use Rattle.attr_lists.specs.inner.Keeping.{StayRegistered}
 use Rattle.attr_lists.specs.inner.Keeping.{OthersStayRegistered}
 use Rattle.gix_attributes.specs.SearchViews.{AreHeld}
-use Rattle.gix_attributes.specs.inner.HeldLists.{AreHeldLists, IsHeldList}
+use Rattle.gix_attributes.specs.inner.HeldLists.{AreHeldLists, Ascend, IsBelowFirst, IsHeldList}
 use Rattle.attr_search.specs.IndexedLists.{list_ids_of, lists_view}
 use Rattle.attr_search.specs.Settings.{Listed}
 use Rattle.attr_search.specs.declared.indexed_list.IndexedList.{IndexedList}
@@ -131,6 +131,24 @@ pub none_apart : (lists : List IndexedList) → length lists ≡ 0 → IsDistinc
 unfolding IsDistinct
 none_apart [] e = tt
 none_apart (s ∷ ss) e = absurd cc
+
+pub none_ascend : (lists : List IndexedList) → length lists ≡ 0 → Ascend (list_ids_of lists)
+none_ascend [] e = tt
+none_ascend (s ∷ ss) e = absurd cc
+
+-- a number below the first of ascending ones is none of them
+below_all : (n : ℕ) (ns : List ℕ) → IsBelowFirst n ns → Ascend ns → AllByRecursion (λ m. nat_eq n m ≡ false) ns
+below_all n [] below a = tt
+below_all n (m ∷ ms) below a = (ne_eqb n m (λ same. omega (arith, below, same)), below_all n ms (further ms a.0) a.1)
+  where
+    further : (ks : List ℕ) → IsBelowFirst m ks → IsBelowFirst n ks
+    further [] h = tt
+    further (k ∷ ks) h = omega (arith, h, below)
+
+pub ascending_distinct : (ns : List ℕ) → Ascend ns → IsDistinct nat_eq ns
+unfolding IsDistinct
+ascending_distinct [] a = tt
+ascending_distinct (n ∷ ns) a = (below_all n ns a.0 a.1, ascending_distinct ns a.1)
 
 -- the list of each list id is registered
 IsEach : Collection → ℕ → Listed → Type 0

@@ -1,8 +1,8 @@
 -- What additions and removals keep, and what a collection registers after them.
-use Rattle.std.proofs.Common.{◌≡◌, ◌≢◌, ◌∙◌, ℕ, zero, suc, ◌+◌, ◌-◌, ◌<◌, ◌≤◌, true, false, not, cond, eqb, List, [], ◌∷◌, ◌++◌, length, get_or, map,
-    All}
-use Rattle.std.proofs.Common.{nat_eq, eq-eqb, slice_get, Option, Some, None, option_map, unwrap_or, MatchOption, refl, sym, ap, subst, append_assoc,
-    arith, ⊎_elim}
+use Rattle.std.proofs.Common.{◌≡◌, ◌≢◌, ◌∙◌, ℕ, zero, suc, ◌+◌, ◌-◌, ◌<◌, ◌≤◌, true, false, not, cond, eqb, List, [], ◌∷◌, ◌++◌, length, get_or, map}
+use Rattle.std.proofs.Common.{All}
+use Rattle.std.proofs.Common.{nat_eq, eq-eqb, slice_get, Option, Some, None, option_map, unwrap_or, MatchOption, refl, sym, ap, subst, append_assoc}
+use Rattle.std.proofs.Common.{arith, ⊎_elim}
 use Rattle.std.specs.Bool.{⊤}
 use Rattle.std.specs.Prelude.{IfSome}
 use Rattle.std.specs.List.{IsDistinct, flat_map}
@@ -163,17 +163,17 @@ all_of_map P f (x ∷ xs) h = All-cons (λ y. P (f y)) x xs (All-head P (f x) (m
 
 pub stay_held : (known now : Collection) → StayRegistered known now → KeepsSearches known now
 stay_held known now stays search h =
-    let was = held_lists known search.patterns.items h in
-    held_views now search.patterns.items (record {
+    let was = held_lists known search.patterns.lists.items h in
+    held_views now search.patterns.lists.items (record {
       distinct = was.distinct;
-      held = All-weaker (IsHeldList known) (IsHeldList now) (λ s e. stays s.list_id (entries_view s.list.patterns.items) e) search.patterns.items
-          was.held;
+      held = All-weaker (IsHeldList known) (IsHeldList now) (λ s e. stays s.list_id (entries_view s.list.patterns.items) e)
+          search.patterns.lists.items was.held;
     })
 
 others_held : (known now : Collection) (list_id : ℕ) → OthersStayRegistered list_id known now → (search : Search)
     → All (λ m. m ≢ list_id) (list_ids_in search) → Holds known search → Holds now search
 others_held known now list_id stays search apart h =
-    let items = search.patterns.items in
+    let items = search.patterns.lists.items in
     let was = held_lists known items h in
     let differ = all_of_map (λ m. m ≢ list_id) (λ (s : IndexedList). s.list_id) items apart in
     held_views now items (record {
@@ -185,7 +185,7 @@ others_held known now list_id stays search apart h =
 free_apart : (known : Collection) (list_id : ℕ) (search : Search) → is_active known.active list_id ≡ false → Holds known search
     → All (λ m. m ≢ list_id) (list_ids_in search)
 free_apart known list_id search free h =
-    let items = search.patterns.items in
+    let items = search.patterns.lists.items in
     All-map (λ m. m ≢ list_id) (λ (s : IndexedList). s.list_id) items
     (All-weaker (IsHeldList known) (λ (s : IndexedList). s.list_id ≢ list_id)
     (λ s e same. true≢false (sym e.active ∙ (ap (is_active known.active) same ∙ free))) items (held_lists known items h).held)

@@ -6,15 +6,16 @@ use Rattle.std.specs.List.{range_with_len, cons_option}
 use Rattle.std.specs.Str.{bytes_eq}
 use Rattle.std.proofs.lemmas.List.{length-map, drop_more, drop_all}
 use Rattle.std.proofs.lemmas.List.FromFn.{length-map-range_with_len}
-use Rattle.std.proofs.lemmas.List.Elements.{All-nil, All-cons, All-head, All-tail, All-map, All-from_get_or}
+use Rattle.std.proofs.lemmas.List.Elements.{All-nil, All-cons, All-head, All-tail, All-map, All-weaker, All-from_get_or}
 use Rattle.std.proofs.lemmas.Option.{slice_get_within, get_or_from_slice_get}
 use Rattle.std.proofs.lemmas.List.Quantifiers.{position-Some}
-use Rattle.smallvec.specs.SmallVec.{SmallVec}
 use Rattle.attr_lists.specs.Collections.{MacroDefinition, Collection}
 use Rattle.attr_lists.specs.Numbers.{number_of}
 use Rattle.attr_lists.specs.Definitions.{IsSoundCollection, IsWithin, last_body}
 use Rattle.attr_lists.specs.declared.types.TrackedAssignment.{TrackedAssignment}
-use Rattle.attr_search.specs.inner.SlotContents.{SlotContents, wanted_numbers}
+use Rattle.attr_search.specs.inner.BodyChanges.{changed_bodies, sized_bodies}
+use Rattle.attr_search.specs.declared.bodies.BodyChange.{BodyChange}
+use Rattle.attr_search.specs.inner.SlotContents.{wanted_numbers}
 use Rattle.gix_attributes.specs.Contents.{Content, Wanted, bodies_of, reset_content, found_in, initial_content, is_wanted, looked_up}
 use Rattle.gix_attributes.specs.inner.Consistency.{flags_of}
 use Rattle.gix_attributes.specs.Contents.{names_selected}
@@ -22,7 +23,6 @@ use Rattle.attr_search.specs.Settings.{HaveSlots}
 use Rattle.attr_search.specs.inner.Slotted.{BodiesHaveSlots}
 use Rattle.gix_attributes.specs.Searching.{KeepsAllButAnswers}
 use Rattle.gix_attributes.specs.Selection.{wanted_view, selection_view}
-use Rattle.attr_search.specs.inner.Slotted.{bodies_view}
 use Rattle.attr_search.specs.Slots.{Matched}
 use Rattle.gix_attributes.specs.declared.search.selection.SelectedName.{SelectedName}
 
@@ -122,22 +122,19 @@ without_shift (k ∷ ks) = let here : k + 0 ≡ k = omega arith in ap (λ j. j �
 pub wanted_by_flags : (p : ℕ → Bool) (n : ℕ) → wanted_numbers (map p (range_with_len 0 n)) ≡ filter p (range_with_len 0 n)
 wanted_by_flags p n = sym (without_shift (wanted_numbers (map p (range_with_len 0 n)))) ∙ wanted_from p 0 n
 
--- empty slots
-pub slots_made : (slots : SlotContents) (flags : List Bool) (seen : List Wanted) (count n : ℕ) → slots ≡ record
-    { answers = map (λ w. None) flags; wanted = flags; line = None } → flags ≡ flags_of seen count → count ≡ n →
-    (length slots.answers ≡ n) × (slots.wanted ≡ flags_of seen (length slots.answers))
-slots_made slots flags seen count n made e same =
-    let len : length slots.answers ≡ n = ap (λ (b : SlotContents). length b.answers) made ∙ length-map flags (λ w. None) ∙ length_flags seen count
-    flags e ∙ same in
-    (len, ap (λ (b : SlotContents). b.wanted) made ∙ e ∙ ap (flags_of seen) (same ∙ sym len))
+-- bodies that are changed to those of a collection have slots
+pub changed_to : (known : Collection) (changes : List BodyChange) (bodies seen : List (List TrackedAssignment)) (n : ℕ) → n ≡ length known.names →
+    seen ≡ bodies → changed_bodies changes (sized_bodies (length known.names) seen) ≡ bodies_of known → changed_bodies changes
+    (sized_bodies n bodies) ≡ bodies_of known
+changed_to known changes bodies seen n counted same made =
+    ap (λ l. changed_bodies changes (sized_bodies n l)) (sym same) ∙ ap (λ k. changed_bodies changes (sized_bodies k seen)) counted ∙ made
 
-pub bodies_counted : (bodies : List (SmallVec TrackedAssignment)) (known : Collection) → IsSoundCollection known → bodies_view bodies ≡ bodies_of
-    known → length bodies ≡ length known.names
-bodies_counted bodies known sound e = sym (length-map bodies (λ b. b.items)) ∙ ap length e ∙ length_bodies_of known sound
+pub changed_within : (known : Collection) (bodies : List (List TrackedAssignment)) (n : ℕ) → IsSoundCollection known → n ≡ length known.names →
+    bodies ≡ bodies_of known → BodiesHaveSlots n bodies
+changed_within known bodies n sound counted same = rw (same, counted) (bodies_within known sound)
 
-pub bodies_have_slots : (bodies : List (SmallVec TrackedAssignment)) (known : Collection) (n : ℕ) → IsSoundCollection known → bodies_view bodies ≡
-    bodies_of known → n ≡ length known.names → BodiesHaveSlots n (bodies_view bodies)
-bodies_have_slots bodies known n sound e same = rw (e, same) (bodies_within known sound)
+pub changes_below : (changes : List BodyChange) (n m : ℕ) → m ≡ n → All (λ c. c.number < n) changes → All (λ c. c.number < m) changes
+changes_below changes n m same below = All-weaker (λ c. c.number < n) (λ c. c.number < m) (λ c lt. omega arith) changes below
 
 -- what is held once all is made
 pub held_as : (known : Collection) (texts : List (List ℕ)) (slots slots' : List (Option Matched)) (bodies : List (List TrackedAssignment))

@@ -9,11 +9,11 @@ use Rattle.gix_attributes.specs.declared.search.attributes.Search.{Search}
 
 -- the lists of a search, in the order of their addition
 abbrev pub lists_in : Search → List Listed
-lists_in search = lists_view search.patterns.items
+lists_in search = lists_view search.patterns.lists.items
 
 -- the list ids under which a collection has registered them
 abbrev pub list_ids_in : Search → List ℕ
-list_ids_in search = list_ids_of search.patterns.items
+list_ids_in search = list_ids_of search.patterns.lists.items
 
 -- the lists are registered in a collection under these list ids, which differ, each with its definitions
 pub record AreHeld (known : Collection) (list_ids : List ℕ) (lists : List Listed) : Type 0 where

@@ -1,6 +1,6 @@
 -- What contracts of functions name that fill slots by the items of a line (own). Nothing here has to be believed.
-use Rattle.std.specs.Prelude.{◌≡◌, ℕ, ◌+◌, ◌-◌, ◌^◌, min, false, List, ◌∷◌, length, All, MatchOption, ⊤}
-use Rattle.smallvec.specs.SmallVec.{SmallVec}
+use Rattle.std.specs.Prelude.{◌≡◌, ℕ, ◌+◌, ◌-◌, ◌^◌, min, false, List, ◌∷◌, length, All, MatchOption, ⊤, Vec}
+use Rattle.std.specs.Global.{Global}
 use Rattle.attr_lists.specs.declared.types.TrackedAssignment.{TrackedAssignment}
 use Rattle.attr_table.specs.Table.{Slots}
 use Rattle.attr_table.specs.Cut.{is_done}
@@ -17,7 +17,7 @@ use Rattle.attr_search.specs.inner.Pending.{IsPlaced, line_origin, pending_tasks
 use Rattle.attr_search.specs.inner.SlotContents.{wanted_numbers}
 
 -- there is a body for each slot, and each item of a body has a slot
-pub record BodiesFit (slots : ℕ) (bodies : List (SmallVec TrackedAssignment)) : Type 0 where
+pub record BodiesFit (slots : ℕ) (bodies : List (Vec TrackedAssignment Global)) : Type 0 where
   pub same_length : length bodies ≡ slots
   pub in_bodies : BodiesHaveSlots slots (bodies_view bodies)
 
@@ -45,10 +45,10 @@ FillsNamed items before after =
     HeldAreNamed names before.slots.answers → HeldAreNamed names after.slots.answers
 
 -- the tasks of what waits, and the task of one item
-abbrev pub stack_tasks : MatchingLine → List (SmallVec TrackedAssignment) → List PendingItem → List Task
+abbrev pub stack_tasks : MatchingLine → List (Vec TrackedAssignment Global) → List PendingItem → List Task
 stack_tasks line bodies stack = pending_tasks (line_origin line) line.items.now (bodies_view bodies) stack
 
-abbrev pub item_task : MatchingLine → List (SmallVec TrackedAssignment) → PendingItem → Task
+abbrev pub item_task : MatchingLine → List (Vec TrackedAssignment Global) → PendingItem → Task
 item_task line bodies w = task_of (line_origin line) line.items.now (bodies_view bodies) w
 
 abbrev pub filler_slots : SlotFiller → Slots

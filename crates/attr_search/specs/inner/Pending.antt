@@ -1,6 +1,6 @@
 -- What waits on the stack of a search (own). Nothing here has to be believed.
-use Rattle.std.specs.Prelude.{◌≡◌, ℕ, ◌<◌, List, [], ◌∷◌, ◌++◌, map, length, All, Option, Some, None, slice_index_or, option_map, string_bytes}
-use Rattle.smallvec.specs.SmallVec.{SmallVec}
+use Rattle.std.specs.Prelude.{◌≡◌, ℕ, ◌<◌, List, [], ◌∷◌, ◌++◌, map, length, All, Option, Some, None, slice_index_or, option_map, string_bytes, Vec}
+use Rattle.std.specs.Global.{Global}
 use Rattle.attr_text.specs.declared.state.State.TheVariants.{Unspecified}
 use Rattle.attr_lists.specs.declared.types.MatchKind.{MatchKind}
 use Rattle.attr_lists.specs.declared.types.TrackedAssignment.{TrackedAssignment}
@@ -23,7 +23,7 @@ item_match line item kind =
     record { origin = line_origin line; assignment = item.inner; is_macro = is_macro_kind kind; cause = cause_of kind }
 
 -- the bodies, as the table knows them
-abbrev pub table_bodies : List (SmallVec TrackedAssignment) → List (List Item)
+abbrev pub table_bodies : List (Vec TrackedAssignment Global) → List (List Item)
 table_bodies bodies = map table_items (bodies_view bodies)
 
 -- the items of the line, or of its cause's body

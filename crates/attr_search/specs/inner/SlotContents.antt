@@ -1,5 +1,6 @@
 -- What a search fills (own).
-use Rattle.std.specs.Prelude.{ℕ, suc, ◌+◌, Bool, cond, List, [], ◌∷◌, map, Option, None, is_none, ◌&&◌}
+use Rattle.std.specs.Prelude.{◌≡◌, ℕ, suc, ◌+◌, ◌<◌, nat_eq, Bool, false, cond, List, [], ◌∷◌, length, map, sum_by, slice_index_or, All, Option, None, is_none, ◌&&◌}
+use Rattle.std.specs.List.{list_any}
 use Rattle.attr_table.specs.Setting.{Origin}
 use Rattle.attr_search.specs.Slots.{Matched}
 
@@ -18,6 +19,10 @@ abbrev pub wanted_numbers : List Bool → List ℕ
 wanted_numbers [] = []
 wanted_numbers (wanted ∷ rest) = cond wanted (0 ∷ map suc (wanted_numbers rest)) (map suc (wanted_numbers rest))
 
+-- how many numbers are wanted
+abbrev pub count_wanted : List Bool → ℕ
+count_wanted flags = sum_by (λ wanted. cond wanted 1 0) flags
+
 -- one if a slot is wanted and free
 abbrev pub remaining_at : {X : Type 0} → Bool → Option X → ℕ
 remaining_at wanted slot = cond (wanted && is_none slot) 1 0
@@ -27,3 +32,8 @@ abbrev pub count_remaining : {X : Type 0} → List Bool → List (Option X) → 
 count_remaining [] slots = 0
 count_remaining (wanted ∷ flags) [] = 0
 count_remaining (wanted ∷ flags) (slot ∷ slots) = remaining_at wanted slot + count_remaining flags slots
+
+-- the numbers are those of slots, and each slot of another number is empty
+pub record AreListed {X : Type 0} (slots : List (Option X)) (numbers : List ℕ) : Type 0 where
+  pub below : All (λ number. number < length slots) numbers
+  pub others : (a : ℕ) → list_any (nat_eq a) numbers ≡ false → slice_index_or slots a None ≡ None

@@ -1,6 +1,6 @@
--- The answers in slots, and that the places they refer to are in use (own).
+-- The answers in slots, that the places they refer to are in use, and that the numbers of filled slots are listed (own).
 use Rattle.std.specs.Prelude.{◌≡◌, ⊤, length, MatchOption, option_map}
-use Rattle.attr_search.specs.inner.SlotContents.{SlotContents, count_remaining}
+use Rattle.attr_search.specs.inner.SlotContents.{AreListed, SlotContents, count_remaining}
 use Rattle.attr_search.specs.inner.Refs.{IsOriginRef, AreMatchRefs, origin_by_ref, matches_by_ref}
 use Rattle.attr_search.specs.declared.slots.AnswerSlots.TheInside.{Inside}
 
@@ -8,12 +8,13 @@ abbrev pub slots_view : Inside → SlotContents
 slots_view b =
     record {
       answers = matches_by_ref b.matches.refs b.slots.items;
-      wanted = b.wanted.items;
+      wanted = b.wanted;
       line = option_map (origin_by_ref b.matches.refs) b.matches.line;
     }
 
 pub record AreSoundSlots (b : Inside) : Type 0 where
-  pub same_length : length b.wanted.items ≡ length b.slots.items
+  pub same_length : length b.wanted ≡ length b.slots.items
   pub within : AreMatchRefs b.matches.refs b.slots.items
   pub line : MatchOption b.matches.line ⊤ (IsOriginRef b.matches.refs)
-  pub counted : b.remaining ≡ count_remaining b.wanted.items b.slots.items
+  pub counted : b.remaining ≡ count_remaining b.wanted b.slots.items
+  pub listed : AreListed b.slots.items b.filled.items

@@ -1,6 +1,6 @@
 -- Which attributes have slots, and views of lines and of bodies (own).
-use Rattle.std.specs.Prelude.{ℕ, List, map, All, Option}
-use Rattle.smallvec.specs.SmallVec.{SmallVec}
+use Rattle.std.specs.Prelude.{ℕ, List, map, All, Option, Vec}
+use Rattle.std.specs.Global.{Global}
 use Rattle.attr_glob.specs.declared.search.pattern.Mapping.{Mapping}
 use Rattle.attr_glob.specs.Views.{pattern_view}
 use Rattle.attr_lists.specs.ListViews.{Entry}
@@ -31,5 +31,5 @@ origin_of source m =
     }
 
 -- the bodies by number
-abbrev pub bodies_view : List (SmallVec TrackedAssignment) → List (List TrackedAssignment)
+abbrev pub bodies_view : List (Vec TrackedAssignment Global) → List (List TrackedAssignment)
 bodies_view bodies = map (λ body. body.items) bodies

@@ -29,6 +29,7 @@ use attr_glob::search::pattern::{List, Mapping};
 use attr_lists::parser::without_macros;
 use attr_lists::types::{Attributes, Dropped, Value};
 use attr_search::indexed_list::IndexedList;
+use attr_search::indexed_lists::IndexedLists;
 use attr_search::path_query::PathQuery;
 use bstr::BStr;
 use std::alloc::{AllocError, Global};
@@ -39,7 +40,7 @@ use std::alloc::{AllocError, Global};
 /// passed again when the list is removed. Searches compare by their lists alone, and not by the collection.
 #[derive(PartialEq, Eq, PartialOrd, Ord, Hash, Debug, Drop)]
 pub struct Search {
-    patterns: Vec<IndexedList>,
+    patterns: IndexedLists,
 }
 
 impl Search {
@@ -50,7 +51,7 @@ impl Search {
         ensures held { (known : Collection) → Holds known result }
     {
         Search {
-            patterns: Vec::new(alloc),
+            patterns: IndexedLists::new(alloc),
         }
     }
 
@@ -58,7 +59,7 @@ impl Search {
     pub fn num_pattern_lists(&self) -> usize
         ensures { result ≡ length (lists_in self.now) }
     {
-        self.patterns.len()
+        self.patterns.lists.len()
     }
 
     /// Reads an attributes file's bytes as a list, adds it as the last one, and registers it in the collection. Returns
@@ -97,7 +98,7 @@ impl Search {
         ensures refused_list_ids { OnErr result (list_ids_in self.new ≡ list_ids_in self.old) }
         ensures unchanged { OnErr result (collection.new ≡ collection.old) }
     {
-        self.patterns.reserve(1)?;
+        self.patterns.reserve()?;
         let (list, dropped) = read_list(alloc, bytes, source, root, allow_macros)?;
         let indexed = collection.register(alloc, list)?;
         self.patterns.push_reserved(indexed);
@@ -209,15 +210,15 @@ impl Search {
             (known : Collection) → Holds known self.now → Holds known copy) }
     {
         Ok(Search {
-            patterns: IndexedList::copies(alloc, &self.patterns)?,
+            patterns: self.patterns.clone(alloc)?,
         })
     }
 
     // The lists, each with its index.
     pub(crate) fn lists(&self) -> &[IndexedList]
-        ensures { result.now ≡ self.now.patterns.items }
+        ensures { result.now ≡ self.now.patterns.lists.items }
     {
-        &self.patterns
+        &self.patterns.lists
     }
 }
 

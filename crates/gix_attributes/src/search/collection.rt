@@ -1,6 +1,6 @@
 //! The collection of attributes: their names by number, and the definitions of macros of the registered lists.
 
-ghost use Rattle.std.specs.Prelude.{◌≡◌, ◌↔◌, ◌<◌, [], length, true, false, IfOk, OnOk, OnErr, IsTrue, nat_eq, ◌==◌};
+ghost use Rattle.std.specs.Prelude.{◌≡◌, ◌↔◌, ◌<◌, [], length, true, false, IfOk, OnOk, OnErr, IsTrue, nat_eq, ◌==◌, slice_get, option_copied};
 ghost use Rattle.attr_lists.specs.Collections.{empty_collection};
 ghost use Rattle.attr_lists.specs.Numbers.{AppendsNames, number_of, numbered_lines};
 ghost use Rattle.attr_lists.specs.Definitions.{IsSoundCollection, free_id, macro_body, without_list, HoldsList};
@@ -16,7 +16,7 @@ ghost use Rattle.attr_search.specs.ListView.{list_view};
 ghost use Rattle.attr_search.specs.Settings.{LinesAreNamed};
 ghost use Rattle.gix_attributes.specs.Keeping.{KeepsSearches, RegistersLast};
 ghost use Rattle.gix_attributes.specs.Registers.{RegistersExactly};
-ghost use Rattle.gix_attributes.specs.inner.HeldLists.{AreHeldLists};
+ghost use Rattle.gix_attributes.specs.inner.HeldLists.{AreHeldLists, IsBelowFirst};
 ghost use Rattle.attr_lists.specs.inner.Keeping.{OthersStayRegistered};
 ghost use Rattle.gix_attributes.specs.inner.Registering.{Registers};
 
@@ -24,7 +24,7 @@ use crate::Search;
 use attr_glob::search::pattern::{List, Mapping};
 use attr_lists::name_table::{NameTable, Names};
 use attr_lists::parser::macros_valid;
-use attr_lists::types::{Assignments, Attributes, Value};
+use attr_lists::types::{Assignments, AttributeId, Attributes, Value};
 use attr_search::indexed_list::IndexedList;
 use std::alloc::{AllocError, Global};
 use std::marker::Model;
@@ -158,6 +158,15 @@ impl MetadataCollection {
         self.numbering.remove(list_id, mappings);
     }
 
+    /// The name with this number, such as that of the macro that [`MatchKind`](crate::search::MatchKind) reports, or none if
+    /// no name has the number.
+    pub fn name_of(&self, id: AttributeId) -> Option<&str>
+        ensures name { option_copied result ≡ slice_get self.now.names id.0 }
+        ensures sound { IsSoundCollection self.now }
+    {
+        self.numbering.name(id.0)
+    }
+
     /// Whether each macro of the list has a valid name, as [`MetadataCollection::update_from_list`] requires.
     pub fn macros_valid(list: &List<Attributes>) -> bool
         ensures { result ≡ macros_valid (entries_view list.now.patterns.items) }
@@ -200,8 +209,37 @@ fn are_held(numbering: &NameTable, lists: &[IndexedList]) -> bool
             .all(|s| numbering.holds(s.list_id, &s.list.patterns))
 }
 
-// Whether no two lists have the same list id.
+// Whether no two lists have the same list id. Those of a search mostly ascend; else each is compared with those after it.
 fn are_list_ids_distinct(lists: &[IndexedList]) -> bool
+    ensures { IsTrue result ↔ IsDistinct nat_eq (list_ids_of lists.now) }
+{
+    ascend(lists) || differ(lists)
+}
+
+// Whether each list id is above the one before it.
+fn ascend(lists: &[IndexedList]) -> bool
+    ensures { IsTrue result → IsDistinct nat_eq (list_ids_of lists.now) }
+{
+    let mut rest = lists;
+    while let Some((one, others)) = rest.split_first() {
+        if !is_below_first(one.list_id, others) {
+            return false;
+        }
+        rest = others;
+    }
+    true
+}
+
+fn is_below_first(list_id: usize, lists: &[IndexedList]) -> bool
+    ensures { IsTrue result → IsBelowFirst list_id (list_ids_of lists.now) }
+{
+    match lists.first() {
+        Some(first) => list_id < first.list_id,
+        None => true,
+    }
+}
+
+fn differ(lists: &[IndexedList]) -> bool
     ensures { IsTrue result ↔ IsDistinct nat_eq (list_ids_of lists.now) }
 {
     let mut rest = lists;

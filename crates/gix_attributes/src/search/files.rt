@@ -185,7 +185,7 @@ impl Search {
             IsIo e → Fails (F.failed files.old) (F.failed files.new)) }
         ensures count { F.failed files.old ≤ F.failed files.new }
     {
-        let mut search = built_in_alone(alloc, collection)?;
+        let mut search = Search::new_built_in(alloc, collection)?;
         let mut dropped = Vec::new(alloc);
         for name in names {
             dropped.reserve(1)?;
@@ -226,22 +226,29 @@ impl Search {
         let mut disk = Disk::new(rt);
         Search::new_globals_from(alloc, &mut disk, names, buf, collection)
     }
-}
 
-// A search of the built-in list alone.
-fn built_in_alone(alloc: Global, collection: &mut MetadataCollection) -> Result<Search, AllocError>
-    ensures loaded { IfOk result (λ search.
-        registered_lists search collection.new ≡ with_built_in collection.old) }
-    ensures held { IfOk result (λ search. Holds collection.new search) }
-    ensures kept { IfOk result (λ search. Keeps (no_lists collection.old)
-        (registered_lists search collection.new)) }
-    ensures added { IfOk result (λ search. Adds (no_lists collection.old)
-        (registered_lists search collection.new)) }
-    ensures refused { OnErr result (collection.new ≡ collection.old) }
-{
-    let mut search = Search::new(alloc);
-    let source = String::from_str(alloc, "[builtin]")?;
-    let bytes = b"[attr]binary -diff -merge -text";
-    search.add_patterns_buffer(alloc, bytes, source, None, collection, true)?;
-    Ok(search)
+    /// A search of the built-in list alone, which defines the macro `binary` (gitattributes page).
+    ///
+    /// # Errors
+    ///
+    /// If memory runs out. The collection is unchanged then.
+    pub fn new_built_in(
+        alloc: Global,
+        collection: &mut MetadataCollection,
+    ) -> Result<Search, AllocError>
+        ensures loaded { IfOk result (λ search.
+            registered_lists search collection.new ≡ with_built_in collection.old) }
+        ensures held { IfOk result (λ search. Holds collection.new search) }
+        ensures kept { IfOk result (λ search. Keeps (no_lists collection.old)
+            (registered_lists search collection.new)) }
+        ensures added { IfOk result (λ search. Adds (no_lists collection.old)
+            (registered_lists search collection.new)) }
+        ensures refused { OnErr result (collection.new ≡ collection.old) }
+    {
+        let mut search = Search::new(alloc);
+        let source = String::from_str(alloc, "[builtin]")?;
+        let bytes = b"[attr]binary -diff -merge -text";
+        search.add_patterns_buffer(alloc, bytes, source, None, collection, true)?;
+        Ok(search)
+    }
 }

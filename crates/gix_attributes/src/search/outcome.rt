@@ -1,6 +1,6 @@
 //! What searches find.
 
-ghost use Rattle.std.specs.Prelude.{◌≡◌, ◌↔◌, ◌<◌, All, None, IfOk, IsTrue, OnErr, OnOk, true, length, map, option_map, slice_index_or};
+ghost use Rattle.std.specs.Prelude.{◌≡◌, ◌↔◌, ◌<◌, All, None, IfOk, IsTrue, OnErr, OnOk, true, length, map, option_map, slice_get, slice_index_or};
 ghost use Rattle.attr_table.specs.Cut.{is_done};
 ghost use Rattle.attr_glob.specs.Views.{pattern_view};
 ghost use Rattle.attr_lists.specs.ListViews.{entry_view};
@@ -10,10 +10,8 @@ ghost use Rattle.gix_attributes.specs.Covered.{AreCovered, IsCovered, ListsAreCo
 ghost use Rattle.attr_search.specs.IndexedLists.{listed_view};
 ghost use Rattle.gix_attributes.specs.SearchViews.{lists_in};
 ghost use Rattle.attr_search.specs.Settings.{HaveSlots};
-ghost use Rattle.attr_search.specs.inner.Slotted.{BodiesHaveSlots};
 ghost use Rattle.attr_search.specs.Matches.{match_view};
 ghost use Rattle.gix_attributes.specs.Selection.{selection_view};
-ghost use Rattle.attr_search.specs.inner.Slotted.{bodies_view};
 ghost use Rattle.attr_search.specs.Slots.{slots_of};
 ghost use Rattle.attr_search.specs.inner.RefMapParts.{no_pattern};
 
@@ -21,13 +19,12 @@ use crate::Search;
 use crate::search::collection::MetadataCollection;
 use crate::search::matches::{Matches, Selected, unspecified};
 use crate::search::selection::{self, SelectedName};
-use crate::search::{Assignments, AttributeId, Match, TrackedAssignment, Value};
+use crate::search::{AttributeId, Match, TrackedAssignment, Value};
 use attr_glob::Pattern;
 use attr_glob::pattern::Mode;
 use attr_glob::search::pattern::Mapping;
 use attr_search::indexed_list::IndexedList;
 use attr_search::search_state::SearchState;
-use attr_search::slots::AnswerSlots;
 use attr_text::AssignmentRef;
 use bitflags::Flags;
 use std::alloc::{AllocError, Global};
@@ -75,7 +72,7 @@ impl Outcome {
     }
 
     /// Makes an empty slot for each name of a collection, and looks the selected names up again. It has to be called
-    /// whenever the collection has changed.
+    /// whenever the collection has changed. What is as it was takes no memory anew.
     ///
     /// # Errors
     ///
@@ -114,7 +111,7 @@ impl Outcome {
         self.set_up(alloc, collection, selected)
     }
 
-    // All is made before anything is replaced, so that nothing has changed if memory runs out.
+    // What takes memory comes first, so that nothing has changed if it is refused.
     fn set_up(
         &mut self,
         alloc: Global,
@@ -128,37 +125,14 @@ impl Outcome {
         ensures refused { OnErr result (self.new ≡ self.old) }
     {
         let wanted = selection::flags(alloc, &selected, collection.len())?;
-        let slots = AnswerSlots::sized(alloc, wanted)?;
-        let bodies = selection::bodies_of(alloc, collection)?;
-        self.set_contents(slots, bodies, selected);
+        let changes = selection::body_changes(alloc, self.state.bodies(), collection)?;
+        self.state.set_up(alloc, wanted, changes)?;
+        self.selected = selected;
+        self.is_initialized = true;
         Ok(())
     }
 
-    fn set_contents(
-        &mut self,
-        slots: AnswerSlots,
-        bodies: Vec<Assignments>,
-        selected: Vec<SelectedName>,
-    )
-        requires len { length bodies.items ≡ length slots.answers }
-        requires within { BodiesHaveSlots (length slots.answers) (bodies_view bodies.items) }
-        requires wanted { slots.wanted
-            ≡ flags_of (selection_view selected.items) (length slots.answers) }
-        ensures { self.new ≡ record {
-          is_initialized = true;
-          slots = slots.answers;
-          bodies = bodies_view bodies.items;
-          selection = selection_view selected.items;
-          taken = 0;
-          tested = 0;
-        } }
-    {
-        self.state.set_up(slots, bodies);
-        self.selected = selected;
-        self.is_initialized = true;
-    }
-
-    /// Empties the slots, for searches of another path. It takes no memory.
+    /// Empties the slots, for searches of another path. It takes no memory, and costs what was filled.
     pub fn reset(&mut self)
         ensures { self.new ≡ reset_content self.old }
     {
@@ -276,7 +250,21 @@ impl Outcome {
         Selected::of(self)
     }
 
-    pub(crate) fn selected_len(&self) -> usize
+    /// The answer for the selected name at this place, from 0, as [`Outcome::iter_selected`] returns it there, and none past the
+    /// last name.
+    pub fn selected_match(&self, place: usize) -> Option<Match<'_>>
+        ensures { option_map match_view result
+            ≡ slice_get (selected_in self.now.slots self.now.selection) place }
+    {
+        if place < self.selected_len() {
+            Some(self.selected_at(place))
+        } else {
+            None
+        }
+    }
+
+    /// How many names are selected. If none is, all are looked for.
+    pub fn selected_len(&self) -> usize
         ensures { result ≡ length self.now.selection }
     {
         self.selected.len()
@@ -298,7 +286,8 @@ impl Outcome {
         }
     }
 
-    pub(crate) fn len(&self) -> usize
+    /// How many slots there are: one for each name of the collection when the outcome was initialised with it.
+    pub fn len(&self) -> usize
         ensures { result ≡ length self.now.slots }
     {
         self.state.len()

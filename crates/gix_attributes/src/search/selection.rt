@@ -1,13 +1,16 @@
-//! The names that an outcome looks for, with their numbers, and the bodies that it copies from a collection.
+//! The names that an outcome looks for, with their numbers, and the bodies in which it differs from a collection.
 
-ghost use Rattle.std.specs.Prelude.{◌≡◌, ◌↔◌, ◌<◌, ⊤, IsTrue, All, IfOk, MatchOption, length, map};
+ghost use Rattle.std.specs.Prelude.{◌≡◌, ◌↔◌, ◌<◌, ⊤, [], IsTrue, All, IfOk, MatchOption, length, map, slice_index_or};
 ghost use Rattle.gix_attributes.specs.Contents.{bodies_of, looked_up, names_selected};
 ghost use Rattle.gix_attributes.specs.inner.Consistency.{flags_of};
 ghost use Rattle.gix_attributes.specs.Selection.{selection_view};
+ghost use Rattle.attr_search.specs.inner.BodyChanges.{changed_bodies, sized_bodies};
 ghost use Rattle.attr_search.specs.inner.Slotted.{bodies_view};
 
+use crate::search::TrackedAssignment;
 use crate::search::collection::MetadataCollection;
-use crate::search::{Assignments, AttributeId};
+use attr_search::bodies::{BodyChange, copy_of_body};
+use attr_search::wanted::WantedFlags;
 use std::alloc::{AllocError, Global};
 use std::rc::RcStr;
 
@@ -79,56 +82,71 @@ pub(crate) fn flags(
     alloc: Global,
     selected: &[SelectedName],
     count: usize,
-) -> Result<Vec<bool>, AllocError>
+) -> Result<WantedFlags, AllocError>
     requires { All (λ s. MatchOption s.number ⊤ (λ n. n < count)) selected.now }
-    ensures { IfOk result (λ flags. flags.items ≡ flags_of (selection_view selected.now) count) }
+    ensures { IfOk result (λ flags. flags ≡ flags_of (selection_view selected.now) count) }
 {
-    let mut flags = vec![in alloc; selected.is_empty(); count]?;
+    let mut flags = WantedFlags::all_or_none(alloc, count, selected.is_empty())?;
     for wanted in selected {
         if let Some(number) = wanted.number {
-            flags[number] = true;
+            flags.set(number);
         }
     }
     Ok(flags)
 }
 
-/// A copy of the bodies of a collection, by number.
-pub(crate) fn bodies_of(
+/// The changes that make bodies those of a collection, if there are as many.
+pub(crate) fn body_changes(
     alloc: Global,
+    bodies: &[Vec<TrackedAssignment>],
     collection: &MetadataCollection,
-) -> Result<Vec<Assignments>, AllocError>
-    ensures { IfOk result (λ bodies. bodies_view bodies.items ≡ bodies_of collection.now) }
+) -> Result<Vec<BodyChange>, AllocError>
+    ensures numbers { IfOk result (λ changes.
+        All (λ change. change.number < length collection.now.names) changes.items) }
+    ensures made { IfOk result (λ changes. changed_bodies changes.items
+        (sized_bodies (length collection.now.names) (bodies_view bodies.now))
+        ≡ bodies_of collection.now) }
 {
-    let mut bodies = Vec::new(alloc);
+    let mut changes = Vec::new(alloc);
     for number in 0..collection.len() {
-        let body = copy_of_body(collection.body(number))?;
-        bodies.push(body)?;
+        let body = collection.body(number).as_slice();
+        if !is_same(body_at(bodies, number), body) {
+            let body = copy_of_body(alloc, body)?;
+            changes.push(BodyChange { number, body })?;
+        }
     }
-    Ok(bodies)
+    Ok(changes)
 }
 
-fn copy_of_body(body: &Assignments) -> Result<Assignments, AllocError>
-    ensures { IfOk result (λ copy. copy.items ≡ body.now.items) }
+// The body with a number, which is empty past the last one.
+fn body_at(bodies: &[Vec<TrackedAssignment>], number: usize) -> &[TrackedAssignment]
+    ensures { result.now ≡ slice_index_or (bodies_view bodies.now) number [] }
 {
-    body.clone()
+    match bodies.get(number) {
+        Some(body) => body.as_slice(),
+        None => &[],
+    }
 }
 
 /// Whether the bodies are those of a collection.
-pub(crate) fn are_bodies_of(bodies: &[Assignments], collection: &MetadataCollection) -> bool
+pub(crate) fn are_bodies_of(
+    bodies: &[Vec<TrackedAssignment>],
+    collection: &MetadataCollection,
+) -> bool
     requires counted { length collection.now.definitions ≡ length collection.now.names }
     requires len { length bodies.now ≡ length collection.now.names }
     ensures { IsTrue result ↔ (bodies_view bodies.now ≡ bodies_of collection.now) }
 {
     for (number, body) in bodies.iter().enumerate() {
-        if !is_same(body, collection.body(number)) {
+        if !is_same(body, collection.body(number).as_slice()) {
             return false;
         }
     }
     true
 }
 
-fn is_same(body: &Assignments, other: &Assignments) -> bool
-    ensures { IsTrue result ↔ (body.now.items ≡ other.now.items) }
+fn is_same(body: &[TrackedAssignment], other: &[TrackedAssignment]) -> bool
+    ensures { IsTrue result ↔ (body.now ≡ other.now) }
 {
     body == other
 }

@@ -1,4 +1,4 @@
-use Rattle.std.proofs.Common.{◌≡◌, cond, get_or, false, None, sym, ap, ◌∙◌, arith}
+use Rattle.std.proofs.Common.{◌≡◌, ◌<◌, ◌&&◌, length, cond, get_or, false, None, is_none, sym, ap, ◌∙◌, arith}
 use Rattle.attr_search.specs.inner.SlotContents.{remaining_at}
 use Rattle.attr_search.proofs.SlotLemmas.{count_left_more}
 use Rattle.attr_search.proofs.slots.count_remaining.Goals as goal
@@ -9,9 +9,10 @@ loop-place-preserved c =
     let wanted = c.args.wanted.now in
     let slots = c.args.slots.now in
     let place = c.loop-place.place in
-    let more = count_left_more wanted slots place c.loop-place-test.true c.requires in
+    let lt : place < length wanted = omega (arith, c.requires) in
+    let more = count_left_more wanted slots place lt c.requires in
     let told : remaining_at (get_or wanted place false) (get_or slots place None) ≡ cond c.is_remaining.result 1 0 = ap (λ b. cond b 1 0)
-    (sym c.is_remaining.ensures) in
+    (sym (c.is_remaining.ensures ∙ ap (λ w. w && is_none (get_or slots place None)) c.has.ensures)) in
     elim c.if-is_remaining.branch [
       | then-is_remaining w ↦
           let one = told ∙ ap (λ b. cond b 1 0) w.if-is_remaining.true in

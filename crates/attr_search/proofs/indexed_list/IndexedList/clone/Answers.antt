@@ -15,6 +15,7 @@ invariant_of-result c =
     record {
       keyed = c.in_ok-keys.ensures ∙ ap (λ ms. map key_of_line (patterns_of ms)) c.deref.ensures.value;
       matched = c.in_ok-matchers.ensures ∙ ap patterns_of c.deref-2.ensures.value;
+      based = c.in_ok-base_key.ensures;
       read = ∥∥₁_map c.args.self.now.read (subst AreRead (sym lines));
     }
 

@@ -20,6 +20,7 @@ invariant_of-result c =
     record {
       keyed = c.in_ok-keys.ensures ∙ ap (λ ms. map key_of_line (patterns_of ms)) c.deref.ensures.value ∙ sym (ap (map key_of_line) same);
       matched = c.in_ok-matchers.ensures ∙ ap patterns_of c.deref-2.ensures.value ∙ sym same;
+      based = c.in_ok-base_key.ensures;
       read = ∣ subst AreRead (sym (ap entries_view whole ∙ numbered)) (numbered_read names (entries_view before) c.requires.read) ∣₁;
     }
 

@@ -15,17 +15,17 @@ returns-then-is_done-clause-kept c = state_kept c.args.self.now
 
 pub returns-then-is_done-clause-one : goal.returns-then-is_done-clause-one
 returns-then-is_done-clause-one c =
-    OneTable-of (query_setting c.args.self.now (lists_view c.args.lists.now) c.args.query) (state_slots c.args.self.now)
+    OneTable-of (query_setting c.args.self.now (lists_view c.args.lists.now.lists.items) c.args.query) (state_slots c.args.self.now)
 
 pub returns-then-is_done-clause-searched : goal.returns-then-is_done-clause-searched
 returns-then-is_done-clause-searched c =
     let slots = state_slots c.args.self.now in
-    walked_searched (query_setting c.args.self.now (lists_view c.args.lists.now) c.args.query) (state_wanted c.args.self.now) slots slots
+    walked_searched (query_setting c.args.self.now (lists_view c.args.lists.now.lists.items) c.args.query) (state_wanted c.args.self.now) slots slots
     (stops (sym c.if-is_done.ensures))
 
 pub returns-then-is_done-clause-joined : goal.returns-then-is_done-clause-joined
 returns-then-is_done-clause-joined c =
-    let s = query_setting c.args.self.now (lists_view c.args.lists.now) c.args.query in
+    let s = query_setting c.args.self.now (lists_view c.args.lists.now.lists.items) c.args.query in
     let slots = state_slots c.args.self.now in
     extends s (state_wanted c.args.self.now) slots slots
     (walked_searched s (state_wanted c.args.self.now) slots slots (stops (sym c.if-is_done.ensures)))
@@ -43,7 +43,7 @@ returns-in_err-search_lists-clause-kept c =
 
 pub returns-in_err-search_lists-clause-one : goal.returns-in_err-search_lists-clause-one
 returns-in_err-search_lists-clause-one c =
-    OneTable-of (query_setting c.args.self.now (lists_view c.args.lists.now) c.args.query) (state_slots c.args.self.now)
+    OneTable-of (query_setting c.args.self.now (lists_view c.args.lists.now.lists.items) c.args.query) (state_slots c.args.self.now)
 
 pub returns-clause-kept : goal.returns-clause-kept
 returns-clause-kept c =
@@ -52,18 +52,18 @@ returns-clause-kept c =
 
 pub returns-clause-one : goal.returns-clause-one
 returns-clause-one c =
-    OneTable-of (query_setting c.args.self.now (lists_view c.args.lists.now) c.args.query) (state_slots c.args.self.now)
+    OneTable-of (query_setting c.args.self.now (lists_view c.args.lists.now.lists.items) c.args.query) (state_slots c.args.self.now)
 
 pub returns-clause-searched : goal.returns-clause-searched
 returns-clause-searched c =
     let p = rw c.begin_counts.ensures at c.in_ok-search_lists.ensures.searched in
-    walked_searched (query_setting c.args.self.now (lists_view c.args.lists.now) c.args.query) (state_wanted c.args.self.now)
+    walked_searched (query_setting c.args.self.now (lists_view c.args.lists.now.lists.items) c.args.query) (state_wanted c.args.self.now)
     (state_slots c.args.self.now) (state_slots c.search_lists.new.self) p.searches.walks
 
 pub returns-clause-joined : goal.returns-clause-joined
 returns-clause-joined c =
     let p = rw c.begin_counts.ensures at c.in_ok-search_lists.ensures.searched in
-    let s = query_setting c.args.self.now (lists_view c.args.lists.now) c.args.query in
+    let s = query_setting c.args.self.now (lists_view c.args.lists.now.lists.items) c.args.query in
     extends s (state_wanted c.args.self.now) (state_slots c.args.self.now) (state_slots c.search_lists.new.self)
     (walked_searched s (state_wanted c.args.self.now) (state_slots c.args.self.now) (state_slots c.search_lists.new.self) p.searches.walks)
 
@@ -81,7 +81,7 @@ returns-clause-named c = rw c.begin_counts.ensures at c.in_ok-search_lists.ensur
 pub returns-clause-most : goal.returns-clause-most
 returns-clause-most c = λ undone.
     let p = rw c.begin_counts.ensures at c.in_ok-search_lists.ensures.searched in
-    taken_most (query_setting c.args.self.now (lists_view c.args.lists.now) c.args.query) (state_wanted c.args.self.now)
+    taken_most (query_setting c.args.self.now (lists_view c.args.lists.now.lists.items) c.args.query) (state_wanted c.args.self.now)
     (state_slots c.args.self.now) (state_slots c.search_lists.new.self) c.search_lists.new.self.taken p.searches
 
 pub returns-clause-least : goal.returns-clause-least
@@ -89,18 +89,18 @@ returns-clause-least c = λ undone.
     let p = rw c.begin_counts.ensures at c.in_ok-search_lists.ensures.searched in
     let kept = rw c.begin_counts.ensures at c.search_lists.ensures.kept in
     let long = kept.len in
-    taken_least (query_setting c.args.self.now (lists_view c.args.lists.now) c.args.query) (state_wanted c.args.self.now)
+    taken_least (query_setting c.args.self.now (lists_view c.args.lists.now.lists.items) c.args.query) (state_wanted c.args.self.now)
     (state_slots c.args.self.now) (state_slots c.search_lists.new.self) c.search_lists.new.self.taken (length c.search_lists.new.self.answers)
     (omega (arith, long, c.len.ensures)) p.searches
 
 pub returns-clause-tested : goal.returns-clause-tested
 returns-clause-tested c = λ undone.
-    let most : c.search_lists.new.self.tested ≤ 0 + query_candidates (lists_view c.args.lists.now) c.args.query =
+    let most : c.search_lists.new.self.tested ≤ 0 + query_candidates (lists_view c.args.lists.now.lists.items) c.args.query =
     rw c.begin_counts.ensures at c.in_ok-search_lists.ensures.tested in
     omega (arith, most)
 
 pub returns-clause-roots : goal.returns-clause-roots
 returns-clause-roots c = λ undone table stable.
     let p = rw c.begin_counts.ensures at c.in_ok-search_lists.ensures.searched in
-    roots_most (query_setting c.args.self.now (lists_view c.args.lists.now) c.args.query) (state_wanted c.args.self.now)
+    roots_most (query_setting c.args.self.now (lists_view c.args.lists.now.lists.items) c.args.query) (state_wanted c.args.self.now)
     (state_slots c.args.self.now) (state_slots c.search_lists.new.self) c.search_lists.new.self.tested table stable p.rounds

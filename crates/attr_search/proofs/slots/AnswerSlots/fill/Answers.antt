@@ -1,14 +1,16 @@
-use Rattle.std.proofs.Common.{◌≡◌, ◌<◌, length, false, get_or, option_map, is_some, None, Some, sym, ap, ◌∙◌, arith}
+use Rattle.std.proofs.Common.{◌≡◌, ◌<◌, ◌++◌, [], ◌∷◌, length, false, get_or, option_map, is_some, None, Some, sym, ap, ◌∙◌, arith}
 use Rattle.std.proofs.Math.ListN.{length-set, length-map}
 use Rattle.attr_search.specs.inner.Refs.{match_by_ref}
 use Rattle.attr_search.specs.Slots.{slots_of}
-use Rattle.attr_search.proofs.SlotLemmas.{on_err, matches_stay, fill_counts, line_kept, slots_filled, matches_filled, seen_filled}
+use Rattle.attr_search.proofs.SlotLemmas.{listed_filled, listed_more, on_err, matches_stay, fill_counts, line_kept, slots_filled, matches_filled}
+use Rattle.attr_search.proofs.SlotLemmas.{seen_filled}
 use Rattle.attr_search.proofs.slots.AnswerSlots.fill.Goals as goal
 
 pub returns-in_err-found-clause-refused : goal.returns-in_err-found-clause-refused
 returns-in_err-found-clause-refused c =
     let b = c.self.inside in
-    rw (← c.self.view_is) (on_err c.from_residual.result (matches_stay b.matches.refs c.store.new.self.refs b.slots.items c.store.ensures.extends
+    rw (← c.self.view_is) (on_err c.from_residual-in_err-found.result
+    (matches_stay b.matches.refs c.store.new.self.refs b.slots.items c.store.ensures.extends
     c.self.invariant.within))
 
 pub overflow_sub-self : goal.overflow_sub-self
@@ -24,15 +26,16 @@ overflow_sub-self c =
       length-map b.slots.items
           (λ o. option_map (match_by_ref b.matches.refs) o),
     ) in
-    (fill_counts b.wanted.items b.slots.items place c.in_ok-found.found c.index.result.now b.remaining c.from.result c.self.invariant.same_length
+    (fill_counts b.wanted b.slots.items place c.in_ok-found.found c.has.result b.remaining c.from.result c.self.invariant.same_length
     within
-    free c.self.invariant.counted c.index.ensures c.from.ensures).0
+    free c.self.invariant.counted c.has.ensures c.from.ensures).0
 
 pub invariant_of-self-2 : goal.invariant_of-self-2
 invariant_of-self-2 c =
     let b = c.self.inside in
     let place = c.args.item.now.id.0 in
     let stored = c.store.new.self.refs in
+    let pushed : c.push.new.self.items ≡ b.filled.items ++ place ∷ [] = c.in_ok-push.ensures.items in
     let free : is_some (get_or b.slots.items place None) ≡ false = sym (seen_filled b.matches.refs b.slots.items place) ∙ ap
     (λ v. is_some (slots_of v.answers place)) c.self.view_is ∙ c.requires.free in
     let within : place < length b.slots.items = omega (
@@ -47,8 +50,10 @@ invariant_of-self-2 c =
       within = slots_filled b.matches.refs stored b.slots.items place c.in_ok-found.found c.store.ensures.extends c.self.invariant.within
           c.in_ok-found.ensures.within;
       line = line_kept stored _ c.store.new.self.line c.store.ensures.line;
-      counted = (fill_counts b.wanted.items b.slots.items place c.in_ok-found.found c.index.result.now b.remaining c.from.result
-          c.self.invariant.same_length within free c.self.invariant.counted c.index.ensures c.from.ensures).1;
+      counted = (fill_counts b.wanted b.slots.items place c.in_ok-found.found c.has.result b.remaining c.from.result
+          c.self.invariant.same_length within free c.self.invariant.counted c.has.ensures c.from.ensures).1;
+      listed = rw pushed (listed_filled b.slots.items b.filled.items place (Some c.in_ok-found.found)
+          (listed_more b.slots.items b.filled.items place within c.self.invariant.listed));
     }
 
 pub returns-clause-answers : goal.returns-clause-answers

@@ -3,23 +3,28 @@ use Rattle.std.proofs.Math.ListN.{length-map}
 use Rattle.attr_search.specs.inner.SlotContents.{SlotContents, count_remaining}
 use Rattle.attr_search.specs.inner.Refs.{matches_by_ref}
 use Rattle.attr_search.specs.Slots.{Matched}
-use Rattle.attr_search.proofs.SlotLemmas.{emptied_seen, empty_within}
+use Rattle.attr_search.proofs.SlotLemmas.{emptied_seen, empty_listed, empty_within}
+use Rattle.attr_search.specs.declared.refmap.MatchRef.{MatchRef}
+use Rattle.attr_search.proofs.WantedLemmas.{count_empty}
 use Rattle.attr_search.proofs.slots.AnswerSlots.reset.Goals as goal
 
 pub invariant_of-self : goal.invariant_of-self
 invariant_of-self c =
     let b = c.self.inside in
+    let same = c.self.invariant.same_length in
     record {
-      same_length = c.self.invariant.same_length ∙ sym (ap length c.empty.ensures.slots ∙ length-map b.slots.items _);
-      within = empty_within b.matches.refs c.empty.new.slots.items b.slots.items c.empty.ensures.slots;
+      same_length = same ∙ sym c.empty.ensures.len;
+      within = empty_within b.matches.refs c.empty.new.slots.items b.slots.items c.empty.ensures.items;
       line = tt;
-      counted = c.empty.ensures.remaining ∙ ap (λ flags. count_remaining flags c.empty.new.slots.items) c.deref.ensures.value;
+      counted = c.count-self-inside.ensures ∙ sym (count_empty MatchRef b.wanted b.slots.items same)
+          ∙ ap (count_remaining b.wanted) (sym c.empty.ensures.items);
+      listed = rw c.clear.ensures.items (empty_listed c.empty.new.slots.items b.slots.items c.empty.ensures.items);
     }
 
 pub returns : goal.returns
 returns c =
     let b = c.self.inside in
-    let Emptied : List (Option Matched) → SlotContents = λ answers. record { answers = answers; wanted = b.wanted.items; line = None } in
+    let Emptied : List (Option Matched) → SlotContents = λ answers. record { answers = answers; wanted = b.wanted; line = None } in
     rw (← c.self.view_is) (ap Emptied (emptied_seen b.matches.refs b.slots.items c.empty.new.slots.items (matches_by_ref b.matches.refs b.slots.items)
     refl
-    c.empty.ensures.slots))
+    c.empty.ensures.items))

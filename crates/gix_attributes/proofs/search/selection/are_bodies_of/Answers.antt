@@ -11,7 +11,7 @@ loop-number-preserved c =
     let within : number < length known.definitions = omega (arith, c.requires.counted, c.requires.len) in
     let same : (get_or c.args.bodies.now number body).items ≡ body.items = ap (λ b. b.items) (sym c.index-bodies-number.is) in
     bodies_more c.args.bodies.now known number body c.loop-number-test.true within c.loop-number.invariant
-    (same ∙ c.is_same.ensures.0 c.if-not-is_same.false ∙ c.body.ensures)
+    (same ∙ sym c.deref.ensures.value ∙ c.is_same.ensures.0 c.if-not-is_same.false ∙ c.as_slice.ensures ∙ c.body.ensures)
 
 pub returns-then-not-is_same : goal.returns-then-not-is_same
 returns-then-not-is_same c =
@@ -21,6 +21,7 @@ returns-then-not-is_same c =
     let within : number < length known.definitions = omega (arith, c.requires.counted, c.requires.len) in
     let same : (get_or c.args.bodies.now number body).items ≡ body.items = ap (λ b. b.items) (sym c.index-bodies-number.is) in (
       λ f. absurd (false≢true f),
-      λ e. sym c.if-not-is_same.true ∙ c.is_same.ensures.1 (sym same ∙ bodies_same_at c.args.bodies.now known number body c.loop-number-test.true
-          within e ∙ sym c.body.ensures),
+      λ e. sym c.if-not-is_same.true ∙ c.is_same.ensures.1 (c.deref.ensures.value ∙ sym same
+          ∙ bodies_same_at c.args.bodies.now known number body c.loop-number-test.true
+          within e ∙ sym c.body.ensures ∙ sym c.as_slice.ensures),
     )

@@ -5,6 +5,6 @@ use Rattle.gix_attributes.proofs.search.selection.flags.Goals as goal
 
 pub returns : goal.returns
 returns c =
-    flags_made c.loop-wanted.flags.items c.args.count (length c.args.selected.now == 0) c.args.selected.now
+    flags_made c.loop-wanted.flags c.args.count (length c.args.selected.now == 0) c.args.selected.now
     (take c.loop-wanted.wanted-index c.args.selected.now)
     (take_all c.loop-wanted.wanted-index c.args.selected.now (omega arith)) refl c.loop-wanted.invariant

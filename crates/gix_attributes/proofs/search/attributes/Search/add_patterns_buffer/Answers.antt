@@ -14,21 +14,21 @@ returns-clause-collection c =
 pub returns-clause-held : goal.returns-clause-held
 returns-clause-held c held =
     let registered = c.in_ok-indexed.ensures.registered in
-    let pushed = c.push_reserved.ensures.items ∙ ap (λ xs. xs ++ c.in_ok-indexed.indexed ∷ []) c.in_ok-reserve.ensures.items in
-    held_views c.register.new.self c.push_reserved.new.self.items (subst (AreHeldLists c.register.new.self) (sym pushed)
+    let pushed = c.push_reserved.ensures ∙ ap (λ xs. xs ++ c.in_ok-indexed.indexed ∷ []) c.in_ok-reserve.ensures.lists in
+    held_views c.register.new.self c.push_reserved.new.self.lists.items (subst (AreHeldLists c.register.new.self) (sym pushed)
     (held_more c.args.collection.now c.register.new.self _ c.in_ok-indexed.indexed nat_eq_equiv registered.others registered.holds
-    registered.fresh (held_lists c.args.collection.now c.args.self.now.patterns.items held)))
+    registered.fresh (held_lists c.args.collection.now c.args.self.now.patterns.lists.items held)))
 
 pub returns-clause-kept : goal.returns-clause-kept
 returns-clause-kept c =
     let registered = c.in_ok-indexed.ensures.registered in
-    let pushed = c.push_reserved.ensures.items ∙ ap (λ xs. xs ++ c.in_ok-indexed.indexed ∷ []) c.in_ok-reserve.ensures.items in
-    keeps_added c.args.collection.now c.register.new.self _ registered.added c.args.self.now.patterns.items c.push_reserved.new.self.items
+    let pushed = c.push_reserved.ensures ∙ ap (λ xs. xs ++ c.in_ok-indexed.indexed ∷ []) c.in_ok-reserve.ensures.lists in
+    keeps_added c.args.collection.now c.register.new.self _ registered.added c.args.self.now.patterns.lists.items c.push_reserved.new.self.lists.items
     c.in_ok-indexed.indexed pushed registered.list_id registered.lines registered.fresh registered.others
 
 pub returns-clause-added : goal.returns-clause-added
 returns-clause-added c =
     let registered = c.in_ok-indexed.ensures.registered in
-    let pushed = c.push_reserved.ensures.items ∙ ap (λ xs. xs ++ c.in_ok-indexed.indexed ∷ []) c.in_ok-reserve.ensures.items in
-    adds_added c.args.collection.now c.register.new.self _ registered.added c.args.self.now.patterns.items c.push_reserved.new.self.items
+    let pushed = c.push_reserved.ensures ∙ ap (λ xs. xs ++ c.in_ok-indexed.indexed ∷ []) c.in_ok-reserve.ensures.lists in
+    adds_added c.args.collection.now c.register.new.self _ registered.added c.args.self.now.patterns.lists.items c.push_reserved.new.self.lists.items
     c.in_ok-indexed.indexed pushed registered.list_id registered.lines registered.fresh registered.others registered.sound

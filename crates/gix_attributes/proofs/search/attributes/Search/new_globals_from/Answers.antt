@@ -1,5 +1,5 @@
-use Rattle.std.proofs.Common.{◌≡◌, ◌∙◌, ◌+◌, ◌∷◌, [], ◌++◌, List, Vec, Global, map, drop, string_bytes, refl, sym, ap, subst, arith, Result, Ok, Err,
-    OnErr}
+use Rattle.std.proofs.Common.{◌≡◌, ◌∙◌, ◌+◌, ◌∷◌, [], ◌++◌, List, Vec, Global, map, drop, string_bytes, refl, sym, ap, subst, arith, Result, Ok, Err}
+use Rattle.std.proofs.Common.{OnErr}
 use Rattle.std.proofs.lemmas.List.{map-append, take_all}
 use Rattle.attr_lists.specs.declared.types.Dropped.{Dropped}
 use Rattle.attr_lists.specs.Collections.{Collection}
@@ -23,8 +23,8 @@ before_refusal old after lists same kept added = record { lists = lists; known =
 
 pub returns-in_err-search-clause-added_before : goal.returns-in_err-search-clause-added_before
 returns-in_err-search-clause-added_before g c = of_refusal c.from_residual.result
-    (AddsBeforeRefusal c.args.collection.now c.built_in_alone.new.collection) (before_refusal c.args.collection.now c.built_in_alone.new.collection
-        (no_lists c.args.collection.now)
+    (AddsBeforeRefusal c.args.collection.now c.new_built_in.new.collection) (before_refusal c.args.collection.now c.new_built_in.new.collection
+    (no_lists c.args.collection.now)
     (sym c.in_err-search.ensures.refused) (keeps_same (no_lists c.args.collection.now)) (adds_same (no_lists c.args.collection.now)))
 
 pub returns-in_err-reserve-clause-added_before : goal.returns-in_err-reserve-clause-added_before
@@ -40,7 +40,7 @@ returns-in_err-source-clause-added_before g c = of_refusal c.from_residual-in_er
 pub returns-in_err-added-clause-added_before : goal.returns-in_err-added-clause-added_before
 returns-in_err-added-clause-added_before g c = of_refusal c.from_residual-in_err-added.result
     (AddsBeforeRefusal c.args.collection.now c.add_patterns_file_from.new.collection)
-        (before_refusal c.args.collection.now c.add_patterns_file_from.new.collection
+    (before_refusal c.args.collection.now c.add_patterns_file_from.new.collection
     (registered_lists c.loop-name.search c.loop-name.collection) (sym c.in_err-added.ensures.unchanged) c.loop-name.invariant.kept
     c.loop-name.invariant.registered)
 

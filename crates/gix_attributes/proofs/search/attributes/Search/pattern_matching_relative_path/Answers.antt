@@ -1,4 +1,4 @@
-use Rattle.std.proofs.Common.{◌≡◌, ◌≤◌, ℕ, List, Ok, true, false, IfOk, OnOk, length, sym, ap, ◌∙◌}
+use Rattle.std.proofs.Common.{refl, ◌≡◌, ◌≤◌, ℕ, List, Ok, true, false, IfOk, OnOk, length, sym, ap, ◌∙◌}
 use Rattle.attr_table.specs.Cut.{ExtendsCuts, IsSearched, is_done}
 use Rattle.attr_table.specs.Table.{IsStable, OneTable, Table}
 use Rattle.attr_table.specs.Work.{newly_filled, work_of}
@@ -13,16 +13,16 @@ use Rattle.gix_attributes.proofs.search.attributes.Search.pattern_matching_relat
 
 pub returns-then-is_err-clause-one : goal.returns-then-is_err-clause-one
 returns-then-is_err-clause-one c =
-    as_seen c.out.inside c.args.out.now c.args.self.now.patterns.items c.deref.result.now c.new-query.result (bstr_bytes c.args.path)
-    c.args.case c.args.is_dir c.out.view_is c.out.invariant.wanted c.deref.ensures.value c.new-query.ensures.path c.new-query.ensures.case
+    as_seen c.out.inside c.args.out.now c.args.self.now.patterns.lists.items c.args.self.now.patterns.lists.items c.new-query.result
+    (bstr_bytes c.args.path) c.args.case c.args.is_dir c.out.view_is c.out.invariant.wanted refl c.new-query.ensures.path c.new-query.ensures.case
     c.new-query.ensures.is_dir
     (λ lists bodies wanted slots path case is_dir. OneTable (setting_of lists bodies path case is_dir) (slots_of slots))
     c.search-found.ensures.one
 
 pub returns-then-is_err-clause-complete : goal.returns-then-is_err-clause-complete
 returns-then-is_err-clause-complete c =
-    as_seen c.out.inside c.args.out.now c.args.self.now.patterns.items c.deref.result.now c.new-query.result (bstr_bytes c.args.path)
-    c.args.case c.args.is_dir c.out.view_is c.out.invariant.wanted c.deref.ensures.value c.new-query.ensures.path c.new-query.ensures.case
+    as_seen c.out.inside c.args.out.now c.args.self.now.patterns.lists.items c.args.self.now.patterns.lists.items c.new-query.result
+    (bstr_bytes c.args.path) c.args.case c.args.is_dir c.out.view_is c.out.invariant.wanted refl c.new-query.ensures.path c.new-query.ensures.case
     c.new-query.ensures.is_dir
     (λ lists bodies wanted slots path case is_dir. is_done wanted (slots_of slots) ≡ true → c.search-found.result ≡ Ok false)
     c.search-found.ensures.done
@@ -40,16 +40,16 @@ returns-then-is_err-clause-refused c =
 
 pub returns-else-is_err-clause-one : goal.returns-else-is_err-clause-one
 returns-else-is_err-clause-one c =
-    as_seen c.out.inside c.args.out.now c.args.self.now.patterns.items c.deref.result.now c.new-query.result (bstr_bytes c.args.path)
-    c.args.case c.args.is_dir c.out.view_is c.out.invariant.wanted c.deref.ensures.value c.new-query.ensures.path c.new-query.ensures.case
+    as_seen c.out.inside c.args.out.now c.args.self.now.patterns.lists.items c.args.self.now.patterns.lists.items c.new-query.result
+    (bstr_bytes c.args.path) c.args.case c.args.is_dir c.out.view_is c.out.invariant.wanted refl c.new-query.ensures.path c.new-query.ensures.case
     c.new-query.ensures.is_dir
     (λ lists bodies wanted slots path case is_dir. OneTable (setting_of lists bodies path case is_dir) (slots_of slots))
     c.search-found.ensures.one
 
 pub returns-else-is_err-clause-searched : goal.returns-else-is_err-clause-searched
 returns-else-is_err-clause-searched c =
-    as_seen c.out.inside c.args.out.now c.args.self.now.patterns.items c.deref.result.now c.new-query.result (bstr_bytes c.args.path)
-    c.args.case c.args.is_dir c.out.view_is c.out.invariant.wanted c.deref.ensures.value c.new-query.ensures.path c.new-query.ensures.case
+    as_seen c.out.inside c.args.out.now c.args.self.now.patterns.lists.items c.args.self.now.patterns.lists.items c.new-query.result
+    (bstr_bytes c.args.path) c.args.case c.args.is_dir c.out.view_is c.out.invariant.wanted refl c.new-query.ensures.path c.new-query.ensures.case
     c.new-query.ensures.is_dir
     (λ lists bodies wanted slots path case is_dir. OnOk c.search-found.result (IsSearched (setting_of lists bodies path case is_dir)
     wanted (slots_of slots) (slots_of c.search-found.new.self.answers)))
@@ -57,8 +57,8 @@ returns-else-is_err-clause-searched c =
 
 pub returns-else-is_err-clause-joined : goal.returns-else-is_err-clause-joined
 returns-else-is_err-clause-joined c =
-    as_seen c.out.inside c.args.out.now c.args.self.now.patterns.items c.deref.result.now c.new-query.result (bstr_bytes c.args.path)
-    c.args.case c.args.is_dir c.out.view_is c.out.invariant.wanted c.deref.ensures.value c.new-query.ensures.path c.new-query.ensures.case
+    as_seen c.out.inside c.args.out.now c.args.self.now.patterns.lists.items c.args.self.now.patterns.lists.items c.new-query.result
+    (bstr_bytes c.args.path) c.args.case c.args.is_dir c.out.view_is c.out.invariant.wanted refl c.new-query.ensures.path c.new-query.ensures.case
     c.new-query.ensures.is_dir
     (λ lists bodies wanted slots path case is_dir. OnOk c.search-found.result (let s = setting_of lists bodies path case is_dir in
     ExtendsCuts s.lists s.bodies wanted (slots_of slots) (slots_of c.search-found.new.self.answers)))
@@ -66,8 +66,8 @@ returns-else-is_err-clause-joined c =
 
 pub returns-else-is_err-clause-found : goal.returns-else-is_err-clause-found
 returns-else-is_err-clause-found c =
-    as_seen c.out.inside c.args.out.now c.args.self.now.patterns.items c.deref.result.now c.new-query.result (bstr_bytes c.args.path)
-    c.args.case c.args.is_dir c.out.view_is c.out.invariant.wanted c.deref.ensures.value c.new-query.ensures.path c.new-query.ensures.case
+    as_seen c.out.inside c.args.out.now c.args.self.now.patterns.lists.items c.args.self.now.patterns.lists.items c.new-query.result
+    (bstr_bytes c.args.path) c.args.case c.args.is_dir c.out.view_is c.out.invariant.wanted refl c.new-query.ensures.path c.new-query.ensures.case
     c.new-query.ensures.is_dir
     (λ lists bodies wanted slots path case is_dir. IfOk c.search-found.result (λ found. found ≡ is_found wanted (slots_of slots)
     (slots_of c.search-found.new.self.answers)))
@@ -75,8 +75,8 @@ returns-else-is_err-clause-found c =
 
 pub returns-else-is_err-clause-named : goal.returns-else-is_err-clause-named
 returns-else-is_err-clause-named c =
-    as_seen c.out.inside c.args.out.now c.args.self.now.patterns.items c.deref.result.now c.new-query.result (bstr_bytes c.args.path)
-    c.args.case c.args.is_dir c.out.view_is c.out.invariant.wanted c.deref.ensures.value c.new-query.ensures.path c.new-query.ensures.case
+    as_seen c.out.inside c.args.out.now c.args.self.now.patterns.lists.items c.args.self.now.patterns.lists.items c.new-query.result
+    (bstr_bytes c.args.path) c.args.case c.args.is_dir c.out.view_is c.out.invariant.wanted refl c.new-query.ensures.path c.new-query.ensures.case
     c.new-query.ensures.is_dir
     (λ lists bodies wanted slots path case is_dir. OnOk c.search-found.result
     ((names : List (List ℕ)) → ListsAreNamed names lists → BodiesAreNamed names bodies →
@@ -85,8 +85,8 @@ returns-else-is_err-clause-named c =
 
 pub returns-else-is_err-clause-most : goal.returns-else-is_err-clause-most
 returns-else-is_err-clause-most c =
-    as_seen c.out.inside c.args.out.now c.args.self.now.patterns.items c.deref.result.now c.new-query.result (bstr_bytes c.args.path)
-    c.args.case c.args.is_dir c.out.view_is c.out.invariant.wanted c.deref.ensures.value c.new-query.ensures.path c.new-query.ensures.case
+    as_seen c.out.inside c.args.out.now c.args.self.now.patterns.lists.items c.args.self.now.patterns.lists.items c.new-query.result
+    (bstr_bytes c.args.path) c.args.case c.args.is_dir c.out.view_is c.out.invariant.wanted refl c.new-query.ensures.path c.new-query.ensures.case
     c.new-query.ensures.is_dir
     (λ lists bodies wanted slots path case is_dir. is_done wanted (slots_of slots) ≡ false → OnOk c.search-found.result (c.search-found.new.self.taken
     ≤ work_of (setting_of lists bodies path case is_dir)))
@@ -94,8 +94,8 @@ returns-else-is_err-clause-most c =
 
 pub returns-else-is_err-clause-least : goal.returns-else-is_err-clause-least
 returns-else-is_err-clause-least c =
-    as_seen c.out.inside c.args.out.now c.args.self.now.patterns.items c.deref.result.now c.new-query.result (bstr_bytes c.args.path)
-    c.args.case c.args.is_dir c.out.view_is c.out.invariant.wanted c.deref.ensures.value c.new-query.ensures.path c.new-query.ensures.case
+    as_seen c.out.inside c.args.out.now c.args.self.now.patterns.lists.items c.args.self.now.patterns.lists.items c.new-query.result
+    (bstr_bytes c.args.path) c.args.case c.args.is_dir c.out.view_is c.out.invariant.wanted refl c.new-query.ensures.path c.new-query.ensures.case
     c.new-query.ensures.is_dir
     (λ lists bodies wanted slots path case is_dir. is_done wanted (slots_of slots) ≡ false → OnOk c.search-found.result (newly_filled (slots_of slots)
     (slots_of c.search-found.new.self.answers) (length c.search-found.new.self.answers) ≤ c.search-found.new.self.taken))
@@ -103,8 +103,8 @@ returns-else-is_err-clause-least c =
 
 pub returns-else-is_err-clause-tested : goal.returns-else-is_err-clause-tested
 returns-else-is_err-clause-tested c =
-    as_seen c.out.inside c.args.out.now c.args.self.now.patterns.items c.deref.result.now c.new-query.result (bstr_bytes c.args.path)
-    c.args.case c.args.is_dir c.out.view_is c.out.invariant.wanted c.deref.ensures.value c.new-query.ensures.path c.new-query.ensures.case
+    as_seen c.out.inside c.args.out.now c.args.self.now.patterns.lists.items c.args.self.now.patterns.lists.items c.new-query.result
+    (bstr_bytes c.args.path) c.args.case c.args.is_dir c.out.view_is c.out.invariant.wanted refl c.new-query.ensures.path c.new-query.ensures.case
     c.new-query.ensures.is_dir
     (λ lists bodies wanted slots path case is_dir. is_done wanted (slots_of slots) ≡ false → OnOk c.search-found.result
     (c.search-found.new.self.tested
@@ -113,8 +113,8 @@ returns-else-is_err-clause-tested c =
 
 pub returns-else-is_err-clause-roots : goal.returns-else-is_err-clause-roots
 returns-else-is_err-clause-roots c =
-    as_seen c.out.inside c.args.out.now c.args.self.now.patterns.items c.deref.result.now c.new-query.result (bstr_bytes c.args.path)
-    c.args.case c.args.is_dir c.out.view_is c.out.invariant.wanted c.deref.ensures.value c.new-query.ensures.path c.new-query.ensures.case
+    as_seen c.out.inside c.args.out.now c.args.self.now.patterns.lists.items c.args.self.now.patterns.lists.items c.new-query.result
+    (bstr_bytes c.args.path) c.args.case c.args.is_dir c.out.view_is c.out.invariant.wanted refl c.new-query.ensures.path c.new-query.ensures.case
     c.new-query.ensures.is_dir
     (λ lists bodies wanted slots path case is_dir. is_done wanted (slots_of slots) ≡ false → OnOk c.search-found.result ((table : Table) →
     IsStable (setting_of lists bodies path case is_dir) (slots_of slots) table →
@@ -123,8 +123,8 @@ returns-else-is_err-clause-roots c =
 
 pub returns-else-is_err-clause-complete : goal.returns-else-is_err-clause-complete
 returns-else-is_err-clause-complete c =
-    as_seen c.out.inside c.args.out.now c.args.self.now.patterns.items c.deref.result.now c.new-query.result (bstr_bytes c.args.path)
-    c.args.case c.args.is_dir c.out.view_is c.out.invariant.wanted c.deref.ensures.value c.new-query.ensures.path c.new-query.ensures.case
+    as_seen c.out.inside c.args.out.now c.args.self.now.patterns.lists.items c.args.self.now.patterns.lists.items c.new-query.result
+    (bstr_bytes c.args.path) c.args.case c.args.is_dir c.out.view_is c.out.invariant.wanted refl c.new-query.ensures.path c.new-query.ensures.case
     c.new-query.ensures.is_dir
     (λ lists bodies wanted slots path case is_dir. is_done wanted (slots_of slots) ≡ true → c.search-found.result ≡ Ok false)
     c.search-found.ensures.done
@@ -138,8 +138,8 @@ returns-else-is_err-clause-kept c =
 pub returns-else-is_err-clause-unchanged : goal.returns-else-is_err-clause-unchanged
 returns-else-is_err-clause-unchanged c = λ complete.
     let same : c.search-found.new.self ≡ c.out.inside.state =
-    as_seen c.out.inside c.args.out.now c.args.self.now.patterns.items c.deref.result.now c.new-query.result (bstr_bytes c.args.path)
-    c.args.case c.args.is_dir c.out.view_is c.out.invariant.wanted c.deref.ensures.value c.new-query.ensures.path c.new-query.ensures.case
+    as_seen c.out.inside c.args.out.now c.args.self.now.patterns.lists.items c.args.self.now.patterns.lists.items c.new-query.result
+    (bstr_bytes c.args.path) c.args.case c.args.is_dir c.out.view_is c.out.invariant.wanted refl c.new-query.ensures.path c.new-query.ensures.case
     c.new-query.ensures.is_dir
     (λ lists bodies wanted slots path case is_dir. is_done wanted (slots_of slots) ≡ true → c.search-found.new.self ≡ c.out.inside.state)
     c.search-found.ensures.unchanged complete in

@@ -11,22 +11,22 @@ remove-requires c =
     let known = c.args.collection.now in
     let one = c.in_ok-last.last in
     subst (λ ms. HoldsList known one.list_id (entries_view ms)) (sym c.deref.ensures.value)
-    (last_held known c.pop.new.self.items one
-    (subst (AreHeldLists known) c.in_ok-last.ensures.items (held_lists known c.args.self.now.patterns.items c.requires)))
+    (last_held known c.pop.new.self.lists.items one
+    (subst (AreHeldLists known) c.in_ok-last.ensures.last (held_lists known c.args.self.now.patterns.lists.items c.requires)))
 
 pub returns-clause-held : goal.returns-clause-held
 returns-clause-held c =
     let known = c.args.collection.now in
-    held_views c.remove.new.self c.pop.new.self.items (held_less known c.remove.new.self c.pop.new.self.items c.in_ok-last.last
+    held_views c.remove.new.self c.pop.new.self.lists.items (held_less known c.remove.new.self c.pop.new.self.lists.items c.in_ok-last.last
     c.remove.ensures.others
-    (subst (AreHeldLists known) c.in_ok-last.ensures.items (held_lists known c.args.self.now.patterns.items c.requires)))
+    (subst (AreHeldLists known) c.in_ok-last.ensures.last (held_lists known c.args.self.now.patterns.lists.items c.requires)))
 
 pub returns-clause-kept : goal.returns-clause-kept
 returns-clause-kept c =
-    keeps_removed c.args.collection.now c.remove.new.self c.args.self.now.patterns.items c.pop.new.self.items c.in_ok-last.last
-    c.in_ok-last.ensures.items c.remove.ensures.removed c.remove.ensures.others
+    keeps_removed c.args.collection.now c.remove.new.self c.args.self.now.patterns.lists.items c.pop.new.self.lists.items c.in_ok-last.last
+    c.in_ok-last.ensures.last c.remove.ensures.removed c.remove.ensures.others
 
 pub returns-clause-removed : goal.returns-clause-removed
 returns-clause-removed c =
-    removes_removed c.args.collection.now c.remove.new.self c.args.self.now.patterns.items c.pop.new.self.items c.in_ok-last.last
-    c.in_ok-last.ensures.items c.remove.ensures.removed c.remove.ensures.others c.remove.ensures.sound
+    removes_removed c.args.collection.now c.remove.new.self c.args.self.now.patterns.lists.items c.pop.new.self.lists.items c.in_ok-last.last
+    c.in_ok-last.ensures.last c.remove.ensures.removed c.remove.ensures.others c.remove.ensures.sound

@@ -6,7 +6,7 @@ use Rattle.gix_attributes.proofs.search.collection.MetadataCollection.holds.Goal
 pub returns-clause-held : goal.returns-clause-held
 returns-clause-held c =
     let known = c.args.self.now in
-    let lists = c.args.search.now.patterns.items in (
+    let lists = c.args.search.now.patterns.lists.items in (
       λ yes. held_views known lists (subst (λ k. AreHeldLists k lists) c.self.view_is
           (subst (AreHeldLists c.self.inside.numbering) c.lists.ensures (c.are_held.ensures.0 yes))),
       λ held. c.are_held.ensures.1 (subst (AreHeldLists c.self.inside.numbering) (sym c.lists.ensures)

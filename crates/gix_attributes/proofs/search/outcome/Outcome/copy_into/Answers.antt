@@ -12,7 +12,7 @@ flags-requires c =
 
 pub copy_from-requires : goal.copy_from-requires
 copy_from-requires c =
-    length_flags (selection_view c.deref-2.result.now) c.len.result c.in_ok-wanted.wanted.items c.in_ok-wanted.ensures ∙ c.len.ensures.count
+    length_flags (selection_view c.deref-2.result.now) c.len.result c.in_ok-wanted.wanted c.in_ok-wanted.ensures ∙ c.len.ensures.count
     ∙ sym c.requires.current.slots ∙ sym (ap (λ v. length v.slots) c.self.view_is)
 
 pub invariant_of-dest-2 : goal.invariant_of-dest-2

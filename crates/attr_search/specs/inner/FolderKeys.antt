@@ -1,0 +1,39 @@
+-- The keys of bases, by which the lists of a path are found (own). Nothing here has to be believed.
+use Rattle.std.specs.Prelude.{◌≡◌, ℕ, ◌-◌, ◌≤◌, ◌==◌, ◌⊎◌, Contains, List, [], length, map, take, Option, Some, None, slice_get, slice_index}
+use Rattle.std.specs.Prelude.{if◌then◌else◌}
+use Rattle.std.specs.Char.{to_ascii_lowercase}
+use Rattle.std.specs.Hash.DefaultHasher as sip
+use Rattle.attr_glob.specs.Bytes.{slash}
+
+-- the key of a text
+abbrev pub text_key : List ℕ → ℕ
+text_key text = sip.finish (sip.write sip.initial text)
+
+-- a text in small letters
+abbrev pub small_letters : List ℕ → List ℕ
+small_letters text = map to_ascii_lowercase text
+
+-- a base in small letters, if it ends in a slash, as that of each file does; none otherwise
+abbrev pub base_text : Option (List ℕ) → List ℕ
+base_text None = []
+base_text (Some base) = if slice_index base (length base - 1) == slash then small_letters base else []
+
+abbrev pub base_key : Option (List ℕ) → ℕ
+base_key base = text_key (base_text base)
+
+abbrev pub base_len : Option (List ℕ) → ℕ
+base_len None = 0
+base_len (Some base) = length base
+
+-- a folder of the text ends at the place, or nothing was read so far
+abbrev pub EndsFolder : List ℕ → ℕ → Type 0
+EndsFolder text place = (place ≡ 0) ⊎ (slice_index text (place - 1) ≡ slash)
+
+-- the numbers with this key are among those found
+abbrev pub HasNumbersOf : List ℕ → List ℕ → ℕ → Type 0
+HasNumbersOf keys found key = (number : ℕ) → slice_get keys number ≡ Some key → Contains found number
+
+-- and so are those with the key of a folder that ends in the first part of the text
+abbrev pub GathersFolders : List ℕ → List ℕ → ℕ → List ℕ → Type 0
+GathersFolders keys text len found =
+    (place : ℕ) → place ≤ len → EndsFolder text place → HasNumbersOf keys found (text_key (take place text))

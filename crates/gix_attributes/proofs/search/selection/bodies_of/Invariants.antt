@@ -1,7 +1,0 @@
-use Rattle.std.proofs.Common.{◌≡◌, take}
-use Rattle.gix_attributes.specs.Contents.{bodies_of}
-use Rattle.attr_search.specs.inner.Slotted.{bodies_view}
-use Rattle.gix_attributes.proofs.search.selection.bodies_of.Given as goal
-
-abbrev pub invariant-loop-number : goal.invariant-loop-number
-invariant-loop-number l = bodies_view l.bodies.items ≡ take l.number (bodies_of l.collection)
