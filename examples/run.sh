@@ -11,10 +11,10 @@ for script in "$here"/*.script; do
     "$here/../crates/check_attr_cli/out/check_attr_cli" <"$script" | diff "$answers" -
     echo "run: $(basename "$script") gives $(basename "$answers")"
 done
-programs='first ask walk lines'
+programs='first ask walk lines engine'
 "$here/../tests/copy_crates.sh" "$room"
 for name in $programs; do
-    echo "$name: gix_attributes bstr anyhow" >>"$room/crates.txt"
+    echo "$name: attr_engine gix_attributes bstr anyhow" >>"$room/crates.txt"
     mkdir -p "$room/crates/$name/src"
     cp "$here/$name.rt.in" "$room/crates/$name/src/main.rt"
 done

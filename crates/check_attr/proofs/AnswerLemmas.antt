@@ -1,28 +1,20 @@
--- What is written of the answers of a lookup: the text of the answers of the only stable table.
-use Rattle.std.proofs.Common.{◌≡◌, ℕ, zero, suc, ◌-◌, Bool, true, false, List, [], ◌∷◌, ◌++◌, length, filter, All, Option, Some, None}
-use Rattle.std.proofs.Common.{option_map, get_or, slice_get, refl, sym, ap, ◌∙◌, eqb-true}
+-- What is written of the answers of an engine: the text of the answers of the only stable table.
+use Rattle.std.proofs.Common.{◌≡◌, ℕ, Bool, true, false, List, [], ◌∷◌, ◌++◌, length, Option, Some, None}
+use Rattle.std.proofs.Common.{option_map, get_or, refl, sym, ap, ◌∙◌, subst}
 use Rattle.std.specs.Prelude.{◌==◌, option_and_then, unwrap_or, if◌then◌else◌}
-use Rattle.std.proofs.Math.Path.{subst}
 use Rattle.std.specs.List.{cons_option, filter_map, flat_map, range_with_len}
-use Rattle.gix_attributes.specs.Contents.{Content, found_in, initial_content, reported_name, selected_in, unspecified, wanted_of}
-use Rattle.gix_attributes.specs.Cut.{IsSearched, no_answers}
-use Rattle.gix_attributes.specs.Lookups.{IsLookedUp, Lookup, attribute_state, named_answer, selected_answers, setting_in, table_answers}
-use Rattle.gix_attributes.specs.Collections.{Collection}
+use Rattle.gix_attributes.specs.Contents.{reported_name, unspecified}
+use Rattle.gix_attributes.specs.Lookups.{OfTheOnlyTable, answers_by_number, attribute_state, named_answer, selected_answers}
 use Rattle.gix_attributes.specs.Numbers.{number_of}
-use Rattle.gix_attributes.specs.Searching.{KeepsAllButAnswers, KeepsNames, answers_in, setting_for}
-use Rattle.gix_attributes.specs.Setting.{Answer, Set, Setting, State, Unset, Unspecified, Value}
-use Rattle.gix_attributes.specs.Settings.{Listed, setting_of}
+use Rattle.gix_attributes.specs.Setting.{Answer, Set, State, Unset, Unspecified, Value}
 use Rattle.gix_attributes.specs.Slots.{Matched, table_state}
-use Rattle.gix_attributes.specs.Table.{IsStable, Slots, Table}
-use Rattle.gix_attributes.proofs.ForCallers.{bodies_have_names, looked_up_answers}
-use Rattle.check_attr.specs.inner.Registration.{RegistersAlone}
-use Rattle.check_attr.specs.inner.MatchText.{answer_view, matched_text, specified_match_text}
+use Rattle.gix_attributes.specs.Table.{Slots}
+use Rattle.attr_engine.specs.EngineStates.{EngineContent, EngineState, is_specified, path_setting, returned_answers, specified_among}
+use Rattle.check_attr.specs.inner.MatchText.{answer_view, matched_text}
 use Rattle.check_attr.specs.Script.{Question}
-use Rattle.check_attr.specs.ScriptText.{IsAnswerText, answers_text, entry_text, is_unspecified, selected_text, specified_text}
-use Rattle.check_attr.specs.ScriptStates.{ScriptState}
+use Rattle.check_attr.specs.ScriptText.{IsAnswerText, entry_text, is_unspecified, selected_text, specified_text}
 use Rattle.check_attr.specs.declared.script.Form.{Form}
 use Rattle.check_attr.specs.declared.script.Form.TheVariants as forms
-use Rattle.check_attr.proofs.RegistrationLemmas.{bodies_registered}
 
 -- ---- texts
 
@@ -73,21 +65,34 @@ all_selected q known answers (name ∷ names) =
     (one_selected q known name (option_and_then answers (number_of known name)))
     ∙ ap (λ text. selected_text q known name (option_and_then answers (number_of known name)) ++ text) (all_selected q known answers names)
 
-specified_same : (q : Question) (known : List (List ℕ)) (name : List ℕ) (answer : Answer) →
-    specified_match_text q known (named_answer name answer) ≡ specified_text q known name (Some answer)
-specified_same q known name answer =
-    ap (λ state. if is_unspecified state then [] else matched_text q known (named_answer name answer)) (table_again answer.assignment.state)
-    ∙ ap (λ text. if is_unspecified answer.assignment.state then [] else text) (matched_same q known name answer)
-
+-- without a selection an answer is written if it is specified
 one_specified : (q : Question) (known : List (List ℕ)) (name : List ℕ) (o : Option Answer) (others : List Matched) →
-    flat_map (specified_match_text q known) (cons_option (option_map (named_answer name) o) others)
-    ≡ specified_text q known name o ++ flat_map (specified_match_text q known) others
+    flat_map (matched_text q known) (specified_among (cons_option (option_map (named_answer name) o) others))
+    ≡ specified_text q known name o ++ flat_map (matched_text q known) (specified_among others)
 one_specified q known name None others = refl
-one_specified q known name (Some answer) others =
-    ap (λ text. text ++ flat_map (specified_match_text q known) others) (specified_same q known name answer)
+one_specified q known name (Some answer) others = at answer.assignment.state refl
+  where
+    rest : List ℕ
+    rest = flat_map (matched_text q known) (specified_among others)
+
+    -- whether it is depends on its state alone
+    Is : State → Type 0
+    Is state = flat_map (matched_text q known)
+        (if is_specified (attribute_state state) then named_answer name answer ∷ specified_among others else specified_among others)
+        ≡ (if is_unspecified state then [] else entry_text q.form known q.path name (Some answer)) ++ rest
+
+    written : matched_text q known (named_answer name answer) ++ rest ≡ entry_text q.form known q.path name (Some answer) ++ rest
+    written = ap (λ text. text ++ rest) (matched_same q known name answer)
+
+    at : (state : State) → answer.assignment.state ≡ state → Is answer.assignment.state
+    at Set e = subst Is (sym e) written
+    at Unset e = subst Is (sym e) written
+    at (Value bytes) e = subst Is (sym e) written
+    at Unspecified e = subst Is (sym e) refl
 
 all_specified : (q : Question) (known : List (List ℕ)) (answers : Slots) (numbers : List ℕ) →
-    flat_map (specified_match_text q known) (filter_map (λ number. option_map (named_answer (get_or known number [])) (answers number)) numbers)
+    flat_map (matched_text q known)
+    (specified_among (filter_map (λ number. option_map (named_answer (get_or known number [])) (answers number)) numbers))
     ≡ flat_map (λ number. specified_text q known (get_or known number []) (answers number)) numbers
 all_specified q known answers [] = refl
 all_specified q known answers (number ∷ numbers) =
@@ -95,65 +100,24 @@ all_specified q known answers (number ∷ numbers) =
     one_specified q known (get_or known number []) (answers number) (filter_map named numbers)
     ∙ ap (λ text. specified_text q known (get_or known number []) (answers number) ++ text) (all_specified q known answers numbers)
 
--- ---- what is written after a search of an engine's lists
+-- ---- what is written of the answers of an engine
 
--- a text by the only stable table of a setting
-abbrev IsTextBy : ScriptState → Question → Setting → List ℕ → Type 0
-IsTextBy s q setting text = (table : Table) × IsStable setting no_answers table × (text ≡ answers_text s q (table_answers setting table))
+returned_text : (s : EngineState) (q : Question) (answers : Slots) (b : Bool) → (length s.selection == 0) ≡ b →
+    flat_map (matched_text q s.names)
+    (if b then specified_among (answers_by_number s.names answers) else selected_answers s.names answers s.selection)
+    ≡ (if b then flat_map (λ number. specified_text q s.names (get_or s.names number []) (answers number)) (range_with_len 0 (length s.names))
+    else flat_map (λ name. selected_text q s.names name (option_and_then answers (number_of s.names name))) s.selection)
+returned_text s q answers true e = all_specified q s.names answers (range_with_len 0 (length s.names))
+returned_text s q answers false e = all_selected q s.names answers s.selection
 
-module _ (known : Collection) (list_ids : List ℕ) (lists : List Listed) (selected : List (List ℕ)) (q : Question) (before after : Content)
-    (same : length list_ids ≡ length lists) (knows : RegistersAlone known list_ids lists) (fresh : before ≡ initial_content known selected)
-    (searched : IsSearched (setting_for lists before q.path q.case q.is_dir) (wanted_of before) (answers_in before) (answers_in after))
-    (keeps : KeepsNames lists before after) (kept : KeepsAllButAnswers before after) where
-  abbrev state : ScriptState
-  state = record { names = known.names; lists = lists; selection = selected }
-
-  abbrev asked : Lookup
-  asked = record { known = known; selected = selected; lists = lists; path = q.path; case = q.case; is_dir = q.is_dir }
-
-  looked : IsLookedUp asked before after
-  looked =
-      record {
-        initialized = fresh;
-        lists_named = knows.named;
-        bodies_named = bodies_have_names known knows.exactly.sound;
-        searched = searched;
-        named = keeps;
-        kept = kept;
-      }
-
-  -- the bodies are those of the lists
-  by_lists : (text : List ℕ) → IsTextBy state q (setting_in asked) text → IsAnswerText state q text
-  by_lists text written = subst (λ bs. IsTextBy state q (setting_of lists bs q.path q.case q.is_dir) text)
-      (bodies_registered known list_ids lists selected same knows) written
-
-  -- without a selection
-  pub unselected : (length selected == 0) ≡ true → IsAnswerText state q (flat_map (specified_match_text q known.names) (found_in after.slots))
-  unselected none =
-      let found = looked_up_answers asked before after looked in
-      let answers : Slots = table_answers (setting_in asked) found.0.0 in
-      let f : ℕ → List ℕ = λ number. specified_text q known.names (get_or known.names number []) (answers number) in
-      let chosen : List ℕ = flat_map (λ name. selected_text q known.names name (option_and_then answers (number_of known.names name))) selected in
-      by_lists (flat_map (specified_match_text q known.names) (found_in after.slots)) (
-        found.0.0,
-        found.0.1,
-        ap (flat_map (specified_match_text q known.names)) (found.1.all (eqb-true (length selected) 0 none))
-            ∙ (all_specified q known.names answers (range_with_len 0 (length known.names))
-            ∙ ap (λ (b : Bool). if b then flat_map f (range_with_len 0 (length known.names)) else chosen) (sym none)),
-      )
-
-  -- with one
-  pub with_selection : (length selected == 0) ≡ false →
-      IsAnswerText state q (flat_map (matched_text q known.names) (selected_in after.slots after.selection))
-  with_selection some =
-      let found = looked_up_answers asked before after looked in
-      let answers : Slots = table_answers (setting_in asked) found.0.0 in
-      let f : ℕ → List ℕ = λ number. specified_text q known.names (get_or known.names number []) (answers number) in
-      let chosen : List ℕ = flat_map (λ name. selected_text q known.names name (option_and_then answers (number_of known.names name))) selected in
-      by_lists (flat_map (matched_text q known.names) (selected_in after.slots after.selection)) (
-        found.0.0,
-        found.0.1,
-        ap (flat_map (matched_text q known.names)) found.1.selected
-            ∙ (all_selected q known.names answers selected
-            ∙ ap (λ (b : Bool). if b then flat_map f (range_with_len 0 (length known.names)) else chosen) (sym some)),
-      )
+-- the text of the answers that are returned is that of the only stable table
+pub answer_text_of : (q : Question) (before after : EngineContent)
+    → OfTheOnlyTable (path_setting before.state q.path q.case q.is_dir)
+    (λ answers. after ≡ record before { answers = Some (returned_answers before.state answers) })
+    → IsAnswerText before.state q (flat_map (matched_text q after.state.names) (unwrap_or after.answers []))
+answer_text_of q before after found = (
+  found.0.0,
+  found.0.1,
+  ap (λ (held : EngineContent). flat_map (matched_text q held.state.names) (unwrap_or held.answers [])) found.1
+      ∙ returned_text before.state q _ (length before.state.selection == 0) refl,
+)

@@ -1,20 +1,8 @@
 -- The lines that global files leave out.
-use Rattle.std.proofs.Common.{◌≡◌, ◌∙◌, ◌⊎◌, inl, inr, ◌+◌, ℕ, Bool, true, List, [], ◌∷◌, ◌++◌, length, map, Option, Some, None, refl, sym, ap, arith}
-use Rattle.std.proofs.Common.{append_assoc, length-append, All, Vec, String, Global, string_bytes}
-use Rattle.std.proofs.Math.Path.{subst}
-use Rattle.std.specs.Prelude.{fold}
+use Rattle.std.proofs.Common.{◌≡◌, ◌∙◌, ◌⊎◌, inl, inr, ℕ, List, [], ◌∷◌, ◌++◌, map, sym, ap}
+use Rattle.std.proofs.Common.{append_assoc, Vec, String, Global, string_bytes}
 use Rattle.std.specs.List.{flat_map}
-use Rattle.std.proofs.lemmas.List.{append-nil, get_or_past}
-use Rattle.std.proofs.lemmas.List.Elements.{All-nil}
-use Rattle.gix_attributes.specs.Bases.{base_of}
-use Rattle.gix_attributes.specs.Definitions.{free_id}
-use Rattle.gix_attributes.specs.KeptLists.{kept_list_where}
-use Rattle.gix_attributes.specs.Collections.{empty_collection}
-use Rattle.gix_attributes.specs.Additions.{RegisteredLists, with_buffer, with_file}
-use Rattle.gix_attributes.specs.Answers.{ReadAnswer, found, missing, device_failed, memory_refused}
-use Rattle.gix_attributes.specs.FileReads.{FileRead}
-use Rattle.gix_attributes.specs.Globals.{Globals, with_global, with_built_in, globals_of, built_in, built_in_source}
-use Rattle.gix_attributes.specs.Settings.{Listed}
+use Rattle.std.proofs.lemmas.List.{append-nil}
 use Rattle.gix_attributes.specs.declared.search.Dropped.{Dropped}
 use Rattle.check_attr.specs.GlobalFiles.{all_dropped_text}
 use Rattle.check_attr.specs.ScriptText.{dropped_text}

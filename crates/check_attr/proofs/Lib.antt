@@ -3,12 +3,10 @@ mod ReportLemmas
 mod PrintLemmas
 mod PieceLemmas
 mod ArgLemmas
-mod NameLemmas
 mod ScriptLemmas
 mod PartLemmas
 mod SpellingLemmas
 mod RecordLemmas
-mod RegistrationLemmas
 mod AnswerLemmas
 mod RunLemmas
 mod TextLemmas

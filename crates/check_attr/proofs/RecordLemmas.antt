@@ -1,10 +1,11 @@
 -- A script is that of its records.
-use Rattle.std.proofs.Common.{◌≡◌, ◌≢◌, ℕ, suc, ◌+◌, List, [], ◌∷◌, ◌++◌, length, All, Option, Some, None, refl, sym, ap, ◌∙◌, subst, arith}
+use Rattle.std.proofs.Common.{◌≡◌, ℕ, ◌+◌, List, [], ◌∷◌, ◌++◌, length, All, Option, Some, None, refl, sym, ap, ◌∙◌, subst, arith}
 use Rattle.std.proofs.Common.{append_assoc}
 use Rattle.std.proofs.lemmas.List.{append-nil}
-use Rattle.check_attr.specs.Script.{Record, spelled, script_of, CanBeWritten, BeginsWithRecord, IsMalformed}
+use Rattle.check_attr.specs.Script.{Record, spelled, script_of, CanBeWritten, BeginsWithRecord}
 use Rattle.check_attr.specs.ScriptText.{IsRecordText, IsTextOfRecords, EndsAt, Writes, WritesRecords, ends, breaks, goes_on}
-use Rattle.check_attr.specs.ScriptStates.{ScriptState, next_state}
+use Rattle.attr_engine.specs.EngineStates.{EngineState}
+use Rattle.check_attr.specs.ScriptStates.{next_state}
 use Rattle.check_attr.proofs.SpellingLemmas.{first_of, others_of, all_with, one_record, shorter}
 
 -- the script of records has the text of the first one in front
@@ -12,7 +13,7 @@ begins_of : (r : Record) (records : List Record) (script rest : List ℕ) → Al
     → script ≡ script_of (r ∷ records) ++ rest → BeginsWithRecord script r (script_of records ++ rest)
 begins_of r records script rest can e = (first_of CanBeWritten r records can, e ∙ append_assoc (spelled r) (script_of records) rest)
 
-at_end : (s : ScriptState) (number : ℕ) (script : List ℕ) (malformed : Option ℕ) (text : List ℕ) → EndsAt (number + 0) script malformed
+at_end : (s : EngineState) (number : ℕ) (script : List ℕ) (malformed : Option ℕ) (text : List ℕ) → EndsAt (number + 0) script malformed
     → text ≡ []
     → Writes s number script malformed text
 at_end s number script None text end none =
@@ -21,7 +22,7 @@ at_end s number script (Some k) text end none =
     let same : number ≡ k = omega (arith, end.2) in
     subst (λ n. Writes s number script (Some n) text) same (subst (Writes s number script (Some number)) (sym none) (breaks end.0 end.1))
 
-writes-from : (records : List Record) (s : ScriptState) (number : ℕ) (script rest : List ℕ) (malformed : Option ℕ) (text : List ℕ)
+writes-from : (records : List Record) (s : EngineState) (number : ℕ) (script rest : List ℕ) (malformed : Option ℕ) (text : List ℕ)
     → All CanBeWritten records → script ≡ script_of records ++ rest → EndsAt (number + length records) rest malformed
     → IsTextOfRecords s records text → Writes s number script malformed text
 writes-from [] s number script rest malformed text can e end is_text =
@@ -32,14 +33,14 @@ writes-from (r ∷ records) s number script rest malformed text can e end is_tex
     subst (Writes s number script malformed) (sym is_text.2)
     (goes_on r (script_of records ++ rest) is_text.0 is_text.1 (begins_of r records script rest can e) is_text.3 left)
 
-pub writes_records : (s : ScriptState) (number : ℕ) (script : List ℕ) (malformed : Option ℕ) (text : List ℕ)
+pub writes_records : (s : EngineState) (number : ℕ) (script : List ℕ) (malformed : Option ℕ) (text : List ℕ)
     → WritesRecords s number script malformed text → Writes s number script malformed text
 writes_records s number script malformed text w = writes-from w.0 s number script w.1 malformed text w.2 w.3 w.4 w.5
 
 no_records : All CanBeWritten []
 no_records k d inside = absurd (omega (arith, inside))
 
-pub has_records : (s : ScriptState) (number : ℕ) (script : List ℕ) (malformed : Option ℕ) (text : List ℕ)
+pub has_records : (s : EngineState) (number : ℕ) (script : List ℕ) (malformed : Option ℕ) (text : List ℕ)
     → Writes s number script malformed text → WritesRecords s number script malformed text
 has_records s number _ _ _ ends = ([], [], no_records, refl, refl, refl)
 has_records s number script _ _ (breaks some bad) = ([], script, no_records, refl, (some, bad, omega arith), refl)
@@ -54,10 +55,10 @@ has_records s number script malformed _ (goes_on r rest first others begins is_t
     )
 
 -- what is written for a script of records is the text of these
-IsReadBack : ScriptState → List Record → Option ℕ → List ℕ → Type 0
+IsReadBack : EngineState → List Record → Option ℕ → List ℕ → Type 0
 IsReadBack s records malformed text = (malformed ≡ None) × IsTextOfRecords s records text
 
-read_back : (records : List Record) (s : ScriptState) (number : ℕ) (script : List ℕ) (malformed : Option ℕ) (text : List ℕ)
+read_back : (records : List Record) (s : EngineState) (number : ℕ) (script : List ℕ) (malformed : Option ℕ) (text : List ℕ)
     → All CanBeWritten records → script ≡ script_of records ++ [] → Writes s number script malformed text → IsReadBack s records malformed text
 unfolding IsReadBack
 read_back [] s number _ _ _ can e ends = (refl, refl)
@@ -74,13 +75,13 @@ read_back (r ∷ records) s number script malformed _ can e (goes_on q rest firs
     (subst (λ x. Writes (next_state x s) (number + 1) rest malformed others) same.0 left) in
     (o.0, (first, others, refl, subst (λ x. IsRecordText s x first) same.0 is_text, o.1))
 
-pub records_read_back : (s : ScriptState) (number : ℕ) (records : List Record) (malformed : Option ℕ) (text : List ℕ) → All CanBeWritten records
+pub records_read_back : (s : EngineState) (number : ℕ) (records : List Record) (malformed : Option ℕ) (text : List ℕ) → All CanBeWritten records
     → Writes s number (script_of records) malformed text → (malformed ≡ None) × IsTextOfRecords s records text
 unfolding IsReadBack
 records_read_back s number records malformed text can w =
     read_back records s number (script_of records) malformed text can (sym (append-nil (script_of records))) w
 
-pub records_written : (s : ScriptState) (number : ℕ) (records : List Record) (text : List ℕ) → All CanBeWritten records
+pub records_written : (s : EngineState) (number : ℕ) (records : List Record) (text : List ℕ) → All CanBeWritten records
     → IsTextOfRecords s records text → Writes s number (script_of records) None text
 records_written s number records text can is_text =
     writes-from records s number (script_of records) [] None text can (sym (append-nil (script_of records))) refl is_text

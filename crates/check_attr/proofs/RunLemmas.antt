@@ -1,12 +1,14 @@
 -- Scripts, record by record.
+use Rattle.std.proofs.Common.{Bool, true, false}
 use Rattle.std.proofs.Common.{◌≡◌, ◌≢◌, ℕ, ◌+◌, List, [], ◌∷◌, ◌++◌, length, Option, Some, None, refl, sym, ap, ◌∙◌, subst, arith, append_assoc}
 use Rattle.std.proofs.lemmas.List.{append-nil}
 use Rattle.check_attr.specs.Script.{Record, BeginsWithRecord, IsMalformed}
 use Rattle.check_attr.specs.ScriptText.{IsRecordText, Writes, ends, breaks, goes_on}
-use Rattle.check_attr.specs.ScriptStates.{ScriptState, next_state}
+use Rattle.attr_engine.specs.EngineStates.{EngineState}
+use Rattle.check_attr.specs.ScriptStates.{next_state}
 
 -- one more record is applied
-pub step : (start s now : ScriptState) (script rest others : List ℕ) (number : ℕ) (r : Record) (first old new : List ℕ)
+pub step : (start s now : EngineState) (script rest others : List ℕ) (number : ℕ) (r : Record) (first old new : List ℕ)
     → ((malformed : Option ℕ) (text : List ℕ) → Writes s number rest malformed text → Writes start 1 script malformed (old ++ text))
     → BeginsWithRecord rest r others → IsRecordText s r first → now ≡ next_state r s → new ≡ old ++ first
     → (malformed : Option ℕ) (text : List ℕ) → Writes now (number + 1) others malformed text → Writes start 1 script malformed (new ++ text)
@@ -16,14 +18,14 @@ step start s now script rest others number r first old new written read is_text 
     (goes_on r others first text read is_text (subst (λ x. Writes x (number + 1) others malformed text) now_is left)))
 
 -- the next record is malformed
-pub broken : (start s : ScriptState) (script rest : List ℕ) (number : ℕ) (old : List ℕ)
+pub broken : (start s : EngineState) (script rest : List ℕ) (number : ℕ) (old : List ℕ)
     → ((malformed : Option ℕ) (text : List ℕ) → Writes s number rest malformed text → Writes start 1 script malformed (old ++ text))
     → rest ≢ [] → IsMalformed rest → Writes start 1 script (Some number) old
 broken start s script rest number old written some read =
     subst (Writes start 1 script (Some number)) (append-nil old) (written (Some number) [] (breaks some read))
 
 -- no record is left
-pub done : (start s : ScriptState) (script rest : List ℕ) (number : ℕ) (old : List ℕ)
+pub done : (start s : EngineState) (script rest : List ℕ) (number : ℕ) (old : List ℕ)
     → ((malformed : Option ℕ) (text : List ℕ) → Writes s number rest malformed text → Writes start 1 script malformed (old ++ text))
     → rest ≡ [] → Writes start 1 script None old
 done start s script rest number old written none =
@@ -35,3 +37,8 @@ no_bytes (x ∷ xs) e = absurd (omega arith)
 
 pub some_bytes : (xs : List ℕ) → (length xs ≡ 0 → ⊥) → xs ≢ []
 some_bytes xs h e = h (ap length e)
+
+-- a test has one answer
+pub clash : (b : Bool) → b ≡ true → b ≡ false → ⊥
+clash true is is_not = absurd (cc)
+clash false is is_not = absurd (cc)

@@ -1,18 +1,19 @@
 -- The first record of a script is read exactly if it is spelled.
-use Rattle.std.proofs.Common.{◌≡◌, ◌≢◌, ℕ, zero, suc, ◌+◌, ◌^◌, ◌<◌, ◌≤◌, ◌⊎◌, inl, inr, Bool, true, false, ◌&&◌, List, [], ◌∷◌, ◌++◌}
+use Rattle.std.proofs.Common.{◌≡◌, ℕ, zero, suc, ◌<◌, ◌⊎◌, inl, inr, Bool, true, false, ◌&&◌, List, [], ◌∷◌, ◌++◌}
 use Rattle.std.proofs.Common.{length, get_or, drop, Option, Some, None, option_map, unwrap_or, IfSome, All, flat_map, codes, refl, sym, ap, ◌∙◌}
 use Rattle.std.proofs.Common.{subst, arith}
 use Rattle.std.proofs.Common.{append_assoc, length-append, true≢false, is_some, zero-lt-suc}
-use Rattle.std.specs.Prelude.{⊤, nat_eq, decimal, if◌then◌else◌, Result, Ok, Err, IfOk}
+use Rattle.std.specs.Prelude.{nat_eq, decimal, if◌then◌else◌, Result, Ok, Err, IfOk}
 use Rattle.std.specs.Char.{is_ascii_digit}
 use Rattle.std.specs.List.{list_all, starts_with, join_with_byte}
 use Rattle.std.specs.Str.{IsUtf8}
 use Rattle.gix_attributes.specs.declared.glob.pattern.Case.{Case}
 use Rattle.gix_attributes.specs.declared.glob.pattern.Case.TheVariants.{Sensitive, Fold}
-use Rattle.gix_attributes.specs.LinesJoined.{line_feed, IsLine}
+use Rattle.gix_attributes.specs.LinesJoined.{line_feed}
 use Rattle.check_attr.specs.declared.script.Form.{Form}
 use Rattle.check_attr.specs.declared.script.Form.TheVariants.{Line, Zero, Origin}
-use Rattle.check_attr.specs.Script.{Addition, Question, Record, add, pop, names, ask, space, header, macros_word, root_word, form_word, case_word}
+use Rattle.attr_engine.specs.EngineStates.{AddedFile}
+use Rattle.check_attr.specs.Script.{Question, Record, add, pop, names, ask, space, header, macros_word, root_word, form_word, case_word}
 use Rattle.check_attr.specs.Script.{folder_word}
 use Rattle.check_attr.specs.Script.{ended_line, spelled, IsHeaderNumber, IsShortText, IsNameLine, CanBeWritten, BeginsWithRecord, IsMalformed}
 use Rattle.check_attr.specs.inner.ScriptParts.{◌then◌, AddHeader, AskHeader, choice_of, macro_flags, forms, cases, folder_flags, strip_prefix}
@@ -48,13 +49,13 @@ ended_line-onto : (line rest : List ℕ) → ended_line line ++ rest ≡ line ++
 ended_line-onto line rest = append_assoc line (line_feed ∷ []) rest
 
 -- the words of a header behind its first one
-addition_words : Addition → List (List ℕ)
+addition_words : AddedFile → List (List ℕ)
 addition_words a = macros_word a.allow_macros ∷ decimal (length a.source) ∷ root_word a.root ∷ decimal (length a.buffer) ∷ []
 
 question_words : Question → List (List ℕ)
 question_words q = form_word q.form ∷ case_word q.case ∷ folder_word q.is_dir ∷ decimal (length q.path) ∷ []
 
-addition_parts : Addition → List ℕ → List ℕ
+addition_parts : AddedFile → List ℕ → List ℕ
 addition_parts a rest = a.source ++ (unwrap_or a.root [] ++ (a.buffer ++ line_feed ∷ rest))
 
 text_with : Record → List ℕ → List ℕ
@@ -134,10 +135,10 @@ root_of-back : (root : Option (List ℕ)) (rest : List ℕ) → IfSome root IsSh
 root_of-back None rest short = refl
 root_of-back (Some root) rest short = ap (option_map _) (split_text-back (length root) root rest refl short.1)
 
-lengths_of : Addition → AddHeader
+lengths_of : AddedFile → AddHeader
 lengths_of a = record { allow_macros = a.allow_macros; source = length a.source; root = option_map length a.root; buffer = length a.buffer }
 
-add_header-back : (a : Addition) (rest : List ℕ) → CanBeWritten (add a) → add_header (onto (addition_words a) rest) ≡ Some (lengths_of a, rest)
+add_header-back : (a : AddedFile) (rest : List ℕ) → CanBeWritten (add a) → add_header (onto (addition_words a) rest) ≡ Some (lengths_of a, rest)
 unfolding onto addition_words lengths_of
 add_header-back a rest can =
     then-step _ _ _ (macros-back a.allow_macros _)
@@ -145,7 +146,7 @@ add_header-back a rest can =
     ∙ (then-step _ _ _ (root_length-back a.root _ can.1)
     ∙ ap (option_map _) (number_before-back line_feed (length a.buffer) rest refl can.2)))
 
-addition_of-back : (a : Addition) (rest : List ℕ) → CanBeWritten (add a) → addition_of (lengths_of a) (addition_parts a rest) ≡ Some (a, rest)
+addition_of-back : (a : AddedFile) (rest : List ℕ) → CanBeWritten (add a) → addition_of (lengths_of a) (addition_parts a rest) ≡ Some (a, rest)
 unfolding lengths_of addition_parts
 addition_of-back a rest can =
     then-step _ _ _ (split_text-back (length a.source) a.source _ refl can.0.1)
@@ -304,7 +305,7 @@ short_root : (root : Option (List ℕ)) (n : Option ℕ) → option_map length r
 short_root None n e short text = tt
 short_root (Some root) n e short text = (subst (λ m. IfSome m IsHeaderNumber) (sym e) short, text)
 
-addition_of-only : (h : AddHeader) (bytes after : List ℕ) (a : Addition) (rest : List ℕ) → IsAddHeader h bytes after
+addition_of-only : (h : AddHeader) (bytes after : List ℕ) (a : AddedFile) (rest : List ℕ) → IsAddHeader h bytes after
     → addition_of h after ≡ Some (a, rest)
     → CanBeWritten (add a) × (bytes ≡ onto (addition_words a) (addition_parts a rest))
 unfolding IsAddHeader onto addition_words addition_parts
@@ -320,7 +321,7 @@ addition_of-only h bytes after a rest is e =
     let root_is : length_word h.root ≡ root_word root.0.0 = ap length_word (sym r.0) ∙ root_word-length root.0.0 in
     let parts : after ≡ source.0.0 ++ (unwrap_or root.0.0 [] ++ (buffer.0.0 ++ line_feed ∷ end.0)) =
     s.2 ∙ ap (λ xs. source.0.0 ++ xs) (r.2 ∙ ap (λ xs. unwrap_or root.0.0 [] ++ xs) (b.1 ∙ ap (λ xs. buffer.0.0 ++ xs) n)) in
-    subst (λ (p : Addition × List ℕ). CanBeWritten (add p.0) × (bytes ≡ onto (addition_words p.0) (addition_parts p.0 p.1))) end.2 (
+    subst (λ (p : AddedFile × List ℕ). CanBeWritten (add p.0) × (bytes ≡ onto (addition_words p.0) (addition_parts p.0 p.1))) end.2 (
       ((subst IsHeaderNumber (sym s.0) is.0, s.1), short_root root.0.0 h.root r.0 is.1 r.1, subst IsHeaderNumber (sym b.0) is.2),
       is.3 ∙ λ i. macros_word h.allow_macros ++ space ∷ (decimal (sym s.0 i) ++ space ∷ (root_is i ++ space ∷ (decimal
           (sym b.0 i) ++ line_feed ∷ parts i))),

@@ -4,18 +4,19 @@ use Rattle.std.specs.Prelude.{option_and_then}
 use Rattle.gix_attributes.specs.Table.{Table}
 use Rattle.gix_attributes.specs.Cut.{answer_at, no_answers}
 use Rattle.attr_table.proofs.ForCallers.{OneTable-of}
-use Rattle.check_attr.specs.Script.{Question, Record, add, pop, names, ask, BeginsWithRecord, IsMalformed}
+use Rattle.check_attr.specs.Script.{Question, Record, add, pop, names, ask, BeginsWithRecord}
 use Rattle.check_attr.specs.inner.ScriptParts.{IsFirstRecord, record_of}
 use Rattle.check_attr.specs.ScriptText.{IsRecordText, OneText, Writes, answers_text, asked_setting, ends, breaks, goes_on}
-use Rattle.check_attr.specs.ScriptStates.{ScriptState, next_state}
+use Rattle.attr_engine.specs.EngineStates.{EngineState}
+use Rattle.check_attr.specs.ScriptStates.{next_state}
 use Rattle.check_attr.proofs.SpellingLemmas.{first_record, one_record, shorter}
 
 -- the answers to a question, by a table
-abbrev answers_by : ScriptState → Question → Table → List ℕ
+abbrev answers_by : EngineState → Question → Table → List ℕ
 answers_by s q table = answers_text s q (λ number. option_and_then (answer_at (asked_setting s q)) (table number))
 
 -- each record writes something
-pub some_record_text : (s : ScriptState) (r : Record) → (text : List ℕ) × IsRecordText s r text
+pub some_record_text : (s : EngineState) (r : Record) → (text : List ℕ) × IsRecordText s r text
 some_record_text s (add a) = (_, refl)
 some_record_text s pop = (_, refl)
 some_record_text s (names selected) = (_, refl)
@@ -24,7 +25,7 @@ some_record_text s (ask q) =
     (answers_by s q one.0, (one.0, one.1, refl))
 
 -- and nothing else
-one_record_text : (s : ScriptState) (r : Record) (text other : List ℕ) → IsRecordText s r text → IsRecordText s r other → text ≡ other
+one_record_text : (s : EngineState) (r : Record) (text other : List ℕ) → IsRecordText s r text → IsRecordText s r other → text ≡ other
 one_record_text s (add a) text other is is_other = is ∙ sym is_other
 one_record_text s pop text other is is_other = is ∙ sym is_other
 one_record_text s (names selected) text other is is_other = is ∙ sym is_other
@@ -33,10 +34,10 @@ one_record_text s (ask q) text other is is_other =
     let tables : is.0 ≡ is_other.0 = one.2 is.0 is.1 ∙ sym (one.2 is_other.0 is_other.1) in
     is.2 ∙ (ap (answers_by s q) tables ∙ sym is_other.2)
 
-abbrev HasText : ScriptState → ℕ → List ℕ → Type 0
+abbrev HasText : EngineState → ℕ → List ℕ → Type 0
 HasText s number script = (malformed : Option ℕ) × (text : List ℕ) × Writes s number script malformed text
 
-text_by : (s : ScriptState) (number : ℕ) (script : List ℕ) → script ≢ [] → (o : Option (Record × List ℕ)) → IsFirstRecord script o
+text_by : (s : EngineState) (number : ℕ) (script : List ℕ) → script ≢ [] → (o : Option (Record × List ℕ)) → IsFirstRecord script o
     → ((r : Record) (rest : List ℕ) → BeginsWithRecord script r rest → HasText (next_state r s) (number + 1) rest) → HasText s number script
 text_by s number script some None read others = (Some number, [], breaks some read)
 text_by s number script some (Some p) read others =
@@ -45,7 +46,7 @@ text_by s number script some (Some p) read others =
     (left.0, first.0 ++ left.1, goes_on p.0 p.1 first.0 left.1 read first.1 left.2)
 
 -- each script writes something, however long it is
-some_text : (longest : ℕ) (s : ScriptState) (number : ℕ) (script : List ℕ) → length script ≤ longest → HasText s number script
+some_text : (longest : ℕ) (s : EngineState) (number : ℕ) (script : List ℕ) → length script ≤ longest → HasText s number script
 some_text longest s number [] short = (None, [], ends)
 some_text zero s number (b ∷ bs) short = absurd (omega (arith, short))
 some_text (suc longest) s number (b ∷ bs) short =
@@ -53,7 +54,7 @@ some_text (suc longest) s number (b ∷ bs) short =
     (λ r rest read. some_text longest (next_state r s) (number + 1) rest (omega (arith, short, shorter (b ∷ bs) r rest read)))
 
 -- and nothing else
-one_text : (s : ScriptState) (number : ℕ) (script : List ℕ) (malformed other_malformed : Option ℕ) (text other : List ℕ)
+one_text : (s : EngineState) (number : ℕ) (script : List ℕ) (malformed other_malformed : Option ℕ) (text other : List ℕ)
     → Writes s number script malformed text → Writes s number script other_malformed other → (other_malformed ≡ malformed) × (other ≡ text)
 one_text _ _ _ _ _ _ _ ends ends = (refl, refl)
 one_text _ _ _ _ _ _ _ ends (breaks some read) = absurd (some refl)
@@ -72,7 +73,7 @@ one_text s number script malformed other_malformed _ _ (goes_on r rest first oth
     (subst (λ x. Writes (next_state r' s) (number + 1) x other_malformed others') reads.1 left')) in
     (left_is.0, ap (λ xs. xs ++ others') first_is ∙ ap (λ xs. first ++ xs) left_is.1)
 
-pub OneText-of : (s : ScriptState) (number : ℕ) (script : List ℕ) → OneText s number script
+pub OneText-of : (s : EngineState) (number : ℕ) (script : List ℕ) → OneText s number script
 OneText-of s number script =
     let some = some_text (length script) s number script (omega arith) in
     (some.0, some.1, some.2, λ m t writes. one_text s number script some.0 m some.1 t some.2 writes)

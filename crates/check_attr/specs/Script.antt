@@ -7,15 +7,9 @@ use Rattle.std.specs.Str.{IsUtf8}
 use Rattle.gix_attributes.specs.declared.glob.pattern.Case.{Case}
 use Rattle.gix_attributes.specs.declared.glob.pattern.Case.TheVariants.{Sensitive, Fold}
 use Rattle.gix_attributes.specs.LinesJoined.{line_feed, IsLine}
+use Rattle.attr_engine.specs.EngineStates.{AddedFile}
 use Rattle.check_attr.specs.declared.script.Form.{Form}
 use Rattle.check_attr.specs.declared.script.Form.TheVariants.{Line, Zero, Origin}
-
--- an attributes file to add: whether it may define macros, its path, the root of the repository, and its bytes
-pub record Addition : Type 0 where
-  pub allow_macros : Bool
-  pub source : List ℕ
-  pub root : Option (List ℕ)
-  pub buffer : List ℕ
 
 -- a path to look up: the form of the answers, how letters compare, whether the path is a folder if that is known, and its bytes
 pub record Question : Type 0 where
@@ -25,7 +19,7 @@ pub record Question : Type 0 where
   pub path : List ℕ
 
 pub data Record : Type 0 where
-  add : Addition → Record
+  add : AddedFile → Record
   pop : Record
   names : List (List ℕ) → Record
   ask : Question → Record

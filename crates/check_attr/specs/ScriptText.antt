@@ -15,11 +15,11 @@ use Rattle.gix_attributes.specs.Setting.{State, Set, Unset, Value, Unspecified, 
 use Rattle.gix_attributes.specs.Table.{Slots, Table, IsStable}
 use Rattle.gix_attributes.specs.Cut.{answer_at, no_answers}
 use Rattle.gix_attributes.specs.Contents.{reported_name}
-use Rattle.gix_attributes.specs.Settings.{setting_of}
+use Rattle.attr_engine.specs.EngineStates.{EngineState, path_setting}
 use Rattle.check_attr.specs.Script.{Question, Record, add, pop, names, ask, CanBeWritten, BeginsWithRecord, IsMalformed}
 use Rattle.check_attr.specs.Script.{script_of}
 use Rattle.check_attr.specs.Failures.{AppendsFront}
-use Rattle.check_attr.specs.ScriptStates.{GlobalLists, ScriptState, next_state, initial_state, bodies_by}
+use Rattle.check_attr.specs.ScriptStates.{GlobalLists, next_state, initial_state}
 use Rattle.check_attr.specs.declared.script.Form.{Form}
 use Rattle.check_attr.specs.declared.script.Form.TheVariants as forms
 
@@ -93,26 +93,25 @@ selected_text q known name None = entry_text q.form known q.path (reported_name 
 selected_text q known name (Some answer) = entry_text q.form known q.path name (Some answer)
 
 -- an entry for each name by number, or for each selected text
-abbrev pub answers_text : ScriptState → Question → Slots → List ℕ
+abbrev pub answers_text : EngineState → Question → Slots → List ℕ
 answers_text s q answers =
     if length s.selection == 0
     then flat_map (λ number. specified_text q s.names (slice_index_or s.names number []) (answers number))
     (range_with_len 0 (length s.names))
     else flat_map (λ name. selected_text q s.names name (option_and_then answers (number_of s.names name))) s.selection
 
--- the setting of a question: the lists, and the bodies of their macros
-abbrev pub asked_setting : ScriptState → Question → Setting
-asked_setting s q = setting_of s.lists (bodies_by s) q.path q.case q.is_dir
+abbrev pub asked_setting : EngineState → Question → Setting
+asked_setting s q = path_setting s q.path q.case q.is_dir
 
 -- the answers for a path are those of the only stable table
-abbrev pub IsAnswerText : ScriptState → Question → List ℕ → Type 0
+abbrev pub IsAnswerText : EngineState → Question → List ℕ → Type 0
 IsAnswerText s q text =
     let setting = asked_setting s q in
     (table : Table) × IsStable setting no_answers table
     × (text ≡ answers_text s q (λ number. option_and_then (answer_at setting) (table number)))
 
 -- the text that a record writes
-abbrev pub IsRecordText : ScriptState → Record → List ℕ → Type 0
+abbrev pub IsRecordText : EngineState → Record → List ℕ → Type 0
 IsRecordText s (add a) text = text ≡ flat_map (dropped_text a.source) (dropped_lines a.buffer)
 IsRecordText s pop text = text ≡ []
 IsRecordText s (names selected) text = text ≡ []
@@ -120,10 +119,10 @@ IsRecordText s (ask q) text = IsAnswerText s q text
 
 -- the text that a script writes from a state, if its first record has this number: the texts of its records up to the first
 -- malformed one, and the number of that one
-pub data Writes : ScriptState → ℕ → List ℕ → Option ℕ → List ℕ → Type 0 where
-  ends : {s : ScriptState} {n : ℕ} → Writes s n [] None []
-  breaks : {s : ScriptState} {n : ℕ} {script : List ℕ} → script ≢ [] → IsMalformed script → Writes s n script (Some n) []
-  goes_on : {s : ScriptState} {n : ℕ} {script : List ℕ} {malformed : Option ℕ} (r : Record) (rest first others : List ℕ) →
+pub data Writes : EngineState → ℕ → List ℕ → Option ℕ → List ℕ → Type 0 where
+  ends : {s : EngineState} {n : ℕ} → Writes s n [] None []
+  breaks : {s : EngineState} {n : ℕ} {script : List ℕ} → script ≢ [] → IsMalformed script → Writes s n script (Some n) []
+  goes_on : {s : EngineState} {n : ℕ} {script : List ℕ} {malformed : Option ℕ} (r : Record) (rest first others : List ℕ) →
       BeginsWithRecord script r rest → IsRecordText s r first → Writes (next_state r s) (n + 1) rest malformed others →
       Writes s n script malformed (first ++ others)
 
@@ -145,7 +144,7 @@ abbrev pub WritesTextFront : GlobalLists → Option (List ℕ) → Option (List 
 WritesTextFront globals script old new = IfSome script (λ s. AppendsTextFront globals s old new)
 
 -- the text that records write from a state, one after the other
-abbrev pub IsTextOfRecords : ScriptState → List Record → List ℕ → Type 0
+abbrev pub IsTextOfRecords : EngineState → List Record → List ℕ → Type 0
 IsTextOfRecords s [] text = text ≡ []
 IsTextOfRecords s (r ∷ records) text =
     (first others : List ℕ) × (text ≡ first ++ others) × IsRecordText s r first × IsTextOfRecords (next_state r s) records others
@@ -156,13 +155,13 @@ EndsAt number rest None = rest ≡ []
 EndsAt number rest (Some malformed) = (rest ≢ []) × IsMalformed rest × (malformed ≡ number)
 
 -- a script is that of records that can be written, up to its end or to a malformed record, and the text is that of these records
-abbrev pub WritesRecords : ScriptState → ℕ → List ℕ → Option ℕ → List ℕ → Type 0
+abbrev pub WritesRecords : EngineState → ℕ → List ℕ → Option ℕ → List ℕ → Type 0
 WritesRecords s number script malformed text =
     (records : List Record) × (rest : List ℕ) × All CanBeWritten records × (script ≡ script_of records ++ rest)
     × EndsAt (number + length records) rest malformed × IsTextOfRecords s records text
 
 -- a script writes exactly one text from a state, and has at most one first malformed record
-abbrev pub OneText : ScriptState → ℕ → List ℕ → Type 0
+abbrev pub OneText : EngineState → ℕ → List ℕ → Type 0
 OneText s number script =
     (malformed : Option ℕ) × (text : List ℕ) × Writes s number script malformed text
     × ((m : Option ℕ) (t : List ℕ) → Writes s number script m t → (m ≡ malformed) × (t ≡ text))

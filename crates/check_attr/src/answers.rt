@@ -1,12 +1,12 @@
 //! The text of the answers for a path, in the form of its question. It is written in pieces.
 
-ghost use Rattle.std.specs.Prelude.{◌≡◌, ◌++◌, OnOk, slice_index_or, [], Some};
+ghost use Rattle.std.specs.Prelude.{◌≡◌, ◌++◌, OnOk, [], Some, slice_index_or, unwrap_or};
 ghost use Rattle.std.specs.List.{flat_map};
 ghost use Rattle.gix_attributes.specs.TextViews.{state_view};
 ghost use Rattle.gix_attributes.specs.Matches.{match_view, cause_of};
 ghost use Rattle.gix_attributes.specs.Slots.{table_state};
 ghost use Rattle.check_attr.specs.inner.Pieces.{Passes};
-ghost use Rattle.check_attr.specs.inner.MatchText.{answer_view, match_entry, specified_entry};
+ghost use Rattle.check_attr.specs.inner.MatchText.{answer_view, match_entry};
 ghost use Rattle.check_attr.specs.ScriptText.{info, cause_text, origin_text, answer_text};
 
 use crate::buffer::{push_bytes, push_number, push_text};
@@ -14,69 +14,29 @@ use crate::fault::Fault;
 use crate::pieces::write_full;
 use crate::script::{Form, Question};
 use crate::writing::Push;
-use gix_attributes::search::{Match, MatchKind, Matches, MetadataCollection, Selected};
+use attr_engine::Engine;
+use gix_attributes::search::{AttributeId, Match, MatchKind};
 use gix_attributes::{AssignmentRef, StateRef};
 use std::alloc::AllocError;
 
-/// Appends an entry to `held` for each answer that is not unspecified, as `git check-attr --all` does, and writes
-/// `held` whenever it fills a piece.
+/// Appends an entry to `held` for each answer to the last question, and writes `held` whenever it fills a piece.
 ///
 /// # Errors
 ///
 /// `Write` if a write failed or took no byte, and `OutOfMemory` if a buffer could not grow. A beginning of the text
 /// may be written then.
-pub fn pass_specified<W: Push>(
+pub fn pass_answers<W: Push>(
     writer: &mut W,
     held: &mut Vec<u8>,
     question: Question<'_>,
-    collection: &MetadataCollection,
-    found: Matches<'_>,
+    engine: &Engine,
 ) -> Result<(), Fault>
     ensures { Passes W.contents W.failed W.stalled writer.old writer.new held.new.items
-        (held.old.items ++ flat_map (specified_entry question.entry collection.now) found.entry)
-        result }
+        (held.old.items ++ flat_map (match_entry question.entry engine.now)
+        (unwrap_or engine.now.answers [])) result }
 {
-    for one in found {
-        push_if_specified(held, question, collection, one)?;
-        write_full(writer, held)?;
-    }
-    Ok(())
-}
-
-fn push_if_specified(
-    out: &mut Vec<u8>,
-    question: Question<'_>,
-    collection: &MetadataCollection,
-    one: Match<'_>,
-) -> Result<(), AllocError>
-    ensures { OnOk result (out.new.items
-        ≡ out.old.items ++ specified_entry question.entry collection.now (match_view one.entry)) }
-{
-    if one.assignment.state.is_unspecified() {
-        return Ok(());
-    }
-    push_entry(out, question, collection, one)
-}
-
-/// Appends an entry to `held` for each answer, and writes `held` whenever it fills a piece.
-///
-/// # Errors
-///
-/// `Write` if a write failed or took no byte, and `OutOfMemory` if a buffer could not grow. A beginning of the text
-/// may be written then.
-pub fn pass_selected<W: Push>(
-    writer: &mut W,
-    held: &mut Vec<u8>,
-    question: Question<'_>,
-    collection: &MetadataCollection,
-    found: Selected<'_>,
-) -> Result<(), Fault>
-    ensures { Passes W.contents W.failed W.stalled writer.old writer.new held.new.items
-        (held.old.items ++ flat_map (match_entry question.entry collection.now) found.entry)
-        result }
-{
-    for one in found {
-        push_entry(held, question, collection, one)?;
+    for one in engine.answers() {
+        push_entry(held, question, engine, one)?;
         write_full(writer, held)?;
     }
     Ok(())
@@ -85,11 +45,11 @@ pub fn pass_selected<W: Push>(
 fn push_entry(
     out: &mut Vec<u8>,
     question: Question<'_>,
-    collection: &MetadataCollection,
+    engine: &Engine,
     one: Match<'_>,
 ) -> Result<(), AllocError>
     ensures { OnOk result (out.new.items
-        ≡ out.old.items ++ match_entry question.entry collection.now (match_view one.entry)) }
+        ≡ out.old.items ++ match_entry question.entry engine.now (match_view one.entry)) }
 {
     match question.form {
         Form::Line => {
@@ -103,7 +63,7 @@ fn push_entry(
         Form::Origin => {
             push_answer(out, question.path, ": ", one.assignment)?;
             push_text(out, "\t")?;
-            push_origin(out, collection, one)?;
+            push_origin(out, engine, one)?;
             push_text(out, "\n")
         }
     }
@@ -140,13 +100,9 @@ fn push_info(out: &mut Vec<u8>, state: StateRef<'_>) -> Result<(), AllocError>
 }
 
 // The source, line and pattern that decided, and the macro. An attribute that no line assigns has none of these.
-fn push_origin(
-    out: &mut Vec<u8>,
-    collection: &MetadataCollection,
-    one: Match<'_>,
-) -> Result<(), AllocError>
+fn push_origin(out: &mut Vec<u8>, engine: &Engine, one: Match<'_>) -> Result<(), AllocError>
     ensures { OnOk result (out.new.items ≡ out.old.items
-        ++ origin_text collection.now.names (Some (answer_view (match_view one.entry)))) }
+        ++ origin_text engine.now.state.names (Some (answer_view (match_view one.entry)))) }
 {
     let Some(source) = one.location.source else {
         return push_text(out, "-\t-\t-");
@@ -159,28 +115,24 @@ fn push_origin(
     let pattern = one.pattern.write_text(*out.allocator())?;
     push_bytes(out, &pattern)?;
     push_text(out, "\t")?;
-    push_cause(out, collection, one.kind)
+    push_cause(out, engine, one.kind)
 }
 
-fn push_cause(
-    out: &mut Vec<u8>,
-    collection: &MetadataCollection,
-    kind: MatchKind,
-) -> Result<(), AllocError>
+fn push_cause(out: &mut Vec<u8>, engine: &Engine, kind: MatchKind) -> Result<(), AllocError>
     ensures { OnOk result (out.new.items
-        ≡ out.old.items ++ cause_text collection.now.names (cause_of kind)) }
+        ≡ out.old.items ++ cause_text engine.now.state.names (cause_of kind)) }
 {
     match kind.source_id() {
         None => push_text(out, "-"),
-        Some(id) => push_text(out, name_of(collection, id.0)),
+        Some(id) => push_text(out, name_of(engine, id)),
     }
 }
 
-fn name_of(collection: &MetadataCollection, number: usize) -> &str
-    ensures { result.now ≡ slice_index_or collection.now.names number [] }
+fn name_of(engine: &Engine, id: AttributeId) -> &str
+    ensures { result.now ≡ slice_index_or engine.now.state.names id.0 [] }
 {
-    match collection.iter().nth(number) {
-        Some((name, _)) => name,
+    match engine.name_of(id) {
+        Some(name) => name,
         None => "",
     }
 }

@@ -139,7 +139,8 @@ fn status_of(fault: &Fault) -> u8
 // Prints why a run ended early, if it did, and returns the status.
 fn finish<E: Push>(errors: &mut E, outcome: &Result<(), Fault>) -> u8
     ensures status { result ≡ status_after outcome.now }
-    ensures printed { PrintsOutcome E.contents E.failed E.stalled errors.old errors.new outcome.now }
+    ensures printed { PrintsOutcome E.contents E.failed E.stalled
+        errors.old errors.new outcome.now }
 {
     match outcome {
         Ok(()) => 0,

@@ -5,9 +5,11 @@ ghost use Rattle.gix_attributes.specs.Additions.{IsIo};
 ghost use Rattle.gix_attributes.specs.Failures.{Fails};
 ghost use Rattle.gix_attributes.specs.SearchViews.{Holds, lists_in, list_ids_in};
 ghost use Rattle.gix_attributes.specs.FileReads.{FileRead, ReadInOrder};
-ghost use Rattle.check_attr.specs.inner.Registration.{RegistersAlone};
+ghost use Rattle.attr_engine.specs.Registration.{RegistersAlone};
+ghost use Rattle.check_attr.specs.ScriptStates.{initial_state};
 ghost use Rattle.check_attr.specs.GlobalFiles.{ReadsNames, RefusedAt, loaded_from};
 
+use attr_engine::Engine;
 use gix_attributes::Search;
 use gix_attributes::files::Files;
 use gix_attributes::search::{AddError, Dropped, MetadataCollection};
@@ -62,14 +64,11 @@ impl Globals {
         &self.dropped
     }
 
-    // The lists, and the collection that registers them.
-    pub(crate) fn into_parts(self) -> (Search, MetadataCollection)
-        ensures held { Holds result.1 result.0 }
-        ensures known { RegistersAlone result.1 (list_ids_in result.0) (lists_in result.0) }
-        ensures names { result.1.names ≡ self.names }
-        ensures lists { lists_in result.0 ≡ self.lists }
+    // The engine with the lists, before a script.
+    pub(crate) fn into_engine(self, alloc: Global) -> Engine
+        ensures { result.state ≡ initial_state self }
     {
-        (self.search, self.collection)
+        Engine::of(alloc, self.search, self.collection)
     }
 }
 

@@ -3,10 +3,10 @@
 #![tactic(auto)]
 
 mod answers;
+mod applying;
 mod buffer;
 mod command;
 mod dropped_lines;
-mod engine;
 mod failure_count;
 mod fault;
 mod global_lists;

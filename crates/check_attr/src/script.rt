@@ -7,8 +7,10 @@ ghost use Rattle.std.specs.Option.{option_copied};
 ghost use Rattle.std.specs.Str.{is_utf8};
 ghost use Rattle.gix_attributes.specs.LinesJoined.{line_feed};
 ghost use Rattle.check_attr.specs.inner.ScriptParts.{IsFirstRecord, IsNumberBefore, strip_prefix, choice_of, cases, folder_flags, forms, macro_flags, split_once, split_at, if_text, is_number, digits_value, digit_zero, number_before, root_length, root_of, add_header, addition_of, add_record, names_record, ask_record, text_lines, ask_header, question_of, ◌then◌};
-ghost use Rattle.check_attr.specs.inner.ScriptViews.{addition_view, add_header_view, ask_header_view, lines_view, part_view, question_view, record_view, with_rest};
+ghost use Rattle.attr_engine.specs.EngineView.{addition_view};
+ghost use Rattle.check_attr.specs.inner.ScriptViews.{add_header_view, ask_header_view, lines_view, part_view, question_view, record_view, with_rest};
 
+use attr_engine::Addition;
 use gix_attributes::glob::pattern::Case;
 use std::alloc::{AllocError, Global};
 use std::str;
@@ -38,19 +40,6 @@ pub enum Record<'a> {
     Names(Vec<&'a str>),
     /// Looks up the attributes of a path.
     Ask(Question<'a>),
-}
-
-/// The attributes file that an `add` record adds as the last list.
-#[derive(Clone, Copy)]
-pub struct Addition<'a> {
-    /// Whether the file may define macros.
-    pub allow_macros: bool,
-    /// The path of the file.
-    pub source: &'a str,
-    /// The root of the repository, if the file's patterns are relative to its folder.
-    pub root: Option<&'a str>,
-    /// The contents of the file.
-    pub buffer: &'a [u8],
 }
 
 /// The path that an `ask` record looks up.

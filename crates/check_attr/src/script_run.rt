@@ -5,9 +5,9 @@ ghost use Rattle.std.specs.Io.KnownBytes.{IsAtEnd};
 ghost use Rattle.check_attr.specs.Outcomes.{CountsReads, CountsWrites, ReadsInputFirst};
 ghost use Rattle.check_attr.specs.ScriptText.{WritesText, WritesTextFront};
 ghost use Rattle.check_attr.specs.ScriptStates.{initial_state};
-ghost use Rattle.check_attr.specs.inner.EngineViews.{PassesScript};
+ghost use Rattle.check_attr.specs.inner.PassedText.{PassesScript};
 
-use crate::engine::Engine;
+use crate::applying::apply;
 use crate::fault::Fault;
 use crate::global_lists::Globals;
 use crate::reading::{Pull, read_all};
@@ -73,14 +73,14 @@ fn answer<W: Push>(
     ensures { PassesScript W.contents W.failed W.stalled (initial_state globals) script.now
         writer.old writer.new held.new.items result }
 {
-    let mut engine = Engine::new(alloc, globals);
+    let mut engine = globals.into_engine(alloc);
     let mut rest = script;
     let mut number = 1;
     while !rest.is_empty() {
         let Some((next, others)) = record_of(alloc, rest)? else {
             return Ok(Some(number));
         };
-        engine.apply(alloc, next, writer, held)?;
+        apply(&mut engine, alloc, next, writer, held)?;
         rest = others;
         number += 1;
     }

@@ -9,7 +9,8 @@ use Rattle.std.specs.Str.{is_utf8}
 use Rattle.gix_attributes.specs.declared.glob.pattern.Case.{Case}
 use Rattle.gix_attributes.specs.declared.glob.pattern.Case.TheVariants.{Sensitive, Fold}
 use Rattle.gix_attributes.specs.LinesJoined.{line_feed}
-use Rattle.check_attr.specs.Script.{Addition, Question, Record, add, pop, names, ask, space, IsHeaderNumber, BeginsWithRecord}
+use Rattle.attr_engine.specs.EngineStates.{AddedFile}
+use Rattle.check_attr.specs.Script.{Question, Record, add, pop, names, ask, space, IsHeaderNumber, BeginsWithRecord}
 use Rattle.check_attr.specs.Script.{IsMalformed}
 use Rattle.check_attr.specs.declared.script.Form.{Form}
 use Rattle.check_attr.specs.declared.script.Form.TheVariants.{Line, Zero, Origin}
@@ -108,7 +109,7 @@ add_header bytes =
     (number_before line_feed root.1)
 
 -- the parts of an addition, and a line feed
-abbrev pub addition_of : AddHeader → List ℕ → Option (Addition × List ℕ)
+abbrev pub addition_of : AddHeader → List ℕ → Option (AddedFile × List ℕ)
 addition_of header bytes =
     (split_at header.source bytes then if_text) then λ source.
     root_of header.root source.1 then λ root.

@@ -1,21 +1,16 @@
 -- What clauses see of records that borrow from a script: their content (own).
-use Rattle.std.specs.Prelude.{ℕ, Bool, true, false, List, Vec, map}
+use Rattle.std.specs.Prelude.{ℕ, List, Vec, map}
 use Rattle.std.specs.Borrow.{Bor}
 use Rattle.std.specs.Global.{Global}
-use Rattle.std.specs.Option.{option_copied}
-use Rattle.check_attr.specs.Script.{Addition as ReadAddition, Question as ReadQuestion}
+use Rattle.attr_engine.specs.EngineView.{addition_view}
+use Rattle.check_attr.specs.Script.{Question as ReadQuestion}
 use Rattle.check_attr.specs.Script.{Record as ReadRecord, add, pop, names, ask}
 use Rattle.check_attr.specs.inner.ScriptParts.{AddHeader as ReadAddHeader, AskHeader as ReadAskHeader}
-use Rattle.check_attr.specs.declared.script.Addition.{Addition}
 use Rattle.check_attr.specs.declared.script.Question.{Question}
 use Rattle.check_attr.specs.declared.script.AddHeader.{AddHeader}
 use Rattle.check_attr.specs.declared.script.AskHeader.{AskHeader}
 use Rattle.check_attr.specs.declared.script.Record.{Record}
 use Rattle.check_attr.specs.declared.script.Record.TheVariants.{Add, Pop, Names, Ask}
-
-abbrev pub addition_view : Addition → ReadAddition
-addition_view a =
-    record { allow_macros = a.allow_macros; source = a.source.now; root = option_copied a.root; buffer = a.buffer.now }
 
 abbrev pub question_view : Question → ReadQuestion
 question_view q = record { form = q.form; case = q.case; is_dir = q.is_dir; path = q.path.now }
@@ -31,12 +26,6 @@ record_view (Add a) = add (addition_view a)
 record_view Pop = pop
 record_view (Names lines) = names (map (λ line. line.now) lines.items)
 record_view (Ask q) = ask (question_view q)
-
-abbrev pub is_question : Record → Bool
-is_question (Add a) = false
-is_question Pop = false
-is_question (Names lines) = false
-is_question (Ask q) = true
 
 -- a part that was read, and the bytes after it
 abbrev pub with_rest : {X Y : Type 0} → (X → Y) → X × Bor (List ℕ) → Y × List ℕ

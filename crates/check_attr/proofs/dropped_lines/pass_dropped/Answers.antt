@@ -1,8 +1,8 @@
 use Rattle.std.proofs.Common.{rules, Ok, arith}
 use Rattle.std.specs.Prelude.{⊤}
 use Rattle.check_attr.specs.ScriptText.{dropped_text}
-use Rattle.check_attr.proofs.PieceLemmas.{all_passed, holds_all, item_left, none_left, passes_refused, passes_then, pushed, stops_as, stops_of,
-    stops_then}
+use Rattle.check_attr.proofs.PieceLemmas.{all_passed, holds_all, item_left, none_left, passes_refused, passes_then, pushed, stops_as, stops_of}
+use Rattle.check_attr.proofs.PieceLemmas.{stops_then}
 use Rattle.check_attr.proofs.dropped_lines.pass_dropped.Goals as goal
 
 pub loop-line-init : goal.loop-line-init

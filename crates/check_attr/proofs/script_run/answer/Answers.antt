@@ -1,12 +1,11 @@
-use Rattle.std.proofs.Common.{◌≡◌, ◌<◌, ◌+◌, true, Some, None, Ok, ◌++◌, length, option_map, refl, sym, ap, ◌∙◌, subst, arith, eqb-true}
+use Rattle.std.proofs.Common.{◌<◌, ◌+◌, Some, None, Ok, ◌++◌, length, option_map, refl, sym, ap, ◌∙◌, subst, arith, eqb-true}
 use Rattle.std.specs.Prelude.{◌==◌, ⊤}
-use Rattle.check_attr.specs.inner.EngineViews.{script_state_of}
 use Rattle.check_attr.specs.Script.{BeginsWithRecord}
 use Rattle.check_attr.specs.inner.ScriptParts.{IsFirstRecord}
 use Rattle.check_attr.specs.ScriptText.{Writes}
 use Rattle.check_attr.specs.inner.ScriptViews.{record_view, with_rest}
 use Rattle.check_attr.specs.ScriptStates.{initial_state, next_state}
-use Rattle.check_attr.proofs.RunLemmas.{step, broken, done, no_bytes, some_bytes}
+use Rattle.check_attr.proofs.RunLemmas.{clash, step, broken, done, no_bytes, some_bytes}
 use Rattle.check_attr.proofs.SpellingLemmas.{shorter}
 use Rattle.check_attr.proofs.PieceLemmas.{holds_all, holds_more, no_value, passes_on, passes_refused, stops_as, stops_longer, stops_of, stops_on}
 use Rattle.check_attr.proofs.TextLemmas.{OneText-of}
@@ -14,14 +13,13 @@ use Rattle.check_attr.proofs.script_run.answer.Goals as goal
 
 pub loop-rest-init : goal.loop-rest-init
 loop-rest-init g c = record {
-  sound = c.new-engine.ensures.sound;
   counted = omega arith;
   passed = (
     c.args.held.now.items,
     holds_all g.W.Push.contents g.W.Push.failed g.W.Push.stalled c.args.writer.now c.args.held.now.items,
     λ malformed others left.
         subst (λ xs. Writes (initial_state c.args.globals) 1 c.args.script.now malformed (xs ++ others)) (sym c.requires)
-        (subst (λ s. Writes s 1 c.args.script.now malformed others) c.new-engine.ensures.state left),
+        (subst (λ s. Writes s 1 c.args.script.now malformed others) c.into_engine-engine.ensures left),
   );
 }
 
@@ -33,13 +31,12 @@ loop-rest-preserved g c =
     let applied = c.in_ok-apply.ensures in
     let so_far = c.loop-rest.invariant.passed in
     record {
-      sound = applied.sound;
       counted = omega (arith, less, c.loop-rest.invariant.counted);
       passed = (
         so_far.0 ++ applied.text.0,
         passes_on g.W.Push.contents g.W.Push.failed g.W.Push.stalled _ _ _ _ _ _ (Ok c.in_ok-apply.field-0)
             (holds_more g.W.Push.contents g.W.Push.failed g.W.Push.stalled _ _ _ _ applied.text.0 so_far.1) applied.text.2,
-        step (initial_state c.args.globals) (script_state_of c.loop-rest.engine) (script_state_of c.apply.new.self) c.args.script.now
+        step (initial_state c.args.globals) c.loop-rest.engine.state c.apply.new.engine.state c.args.script.now
             c.loop-rest.rest.now c.in-Some.others.now
             c.loop-rest.number (record_view c.in-Some.next) applied.text.0 so_far.0 (so_far.0 ++ applied.text.0)
             so_far.2 read applied.text.1 applied.state refl,
@@ -56,7 +53,7 @@ loop-rest-smaller g c =
 pub returns-in_err-next : goal.returns-in_err-next
 returns-in_err-next g c =
     let so_far = c.loop-rest.invariant.passed in
-    let others = OneText-of (script_state_of c.loop-rest.engine) c.loop-rest.number c.loop-rest.rest.now in (
+    let others = OneText-of c.loop-rest.engine.state c.loop-rest.number c.loop-rest.rest.now in (
       others.0,
       so_far.0 ++ others.1,
       so_far.2 others.0 others.1 others.2,
@@ -71,11 +68,11 @@ returns-in_err-apply g c =
     subst (λ o. IsFirstRecord c.loop-rest.rest.now (option_map (with_rest record_view) o)) c.in-Some.is c.in_ok-next.ensures in
     let applied = c.in_err-apply.ensures in
     let so_far = c.loop-rest.invariant.passed in
-    let next = next_state (record_view c.in-Some.next) (script_state_of c.loop-rest.engine) in
+    let next = next_state (record_view c.in-Some.next) c.loop-rest.engine.state in
     let others = OneText-of next (c.loop-rest.number + 1) c.in-Some.others.now in (
       others.0,
       (so_far.0 ++ applied.text.0) ++ others.1,
-      step (initial_state c.args.globals) (script_state_of c.loop-rest.engine) next c.args.script.now c.loop-rest.rest.now c.in-Some.others.now
+      step (initial_state c.args.globals) c.loop-rest.engine.state next c.args.script.now c.loop-rest.rest.now c.in-Some.others.now
           c.loop-rest.number (record_view c.in-Some.next) applied.text.0 so_far.0 (so_far.0 ++ applied.text.0)
           so_far.2 read applied.text.1 refl refl others.0 others.1 others.2,
       no_value c.from_residual-in_err-apply.result _ _ c.from_residual-in_err-apply.ensures.1,
@@ -92,9 +89,9 @@ returns-in_default g c =
     let so_far = c.loop-rest.invariant.passed in (
       Some c.loop-rest.number,
       so_far.0,
-      broken (initial_state c.args.globals) (script_state_of c.loop-rest.engine) c.args.script.now c.loop-rest.rest.now c.loop-rest.number
+      broken (initial_state c.args.globals) c.loop-rest.engine.state c.args.script.now c.loop-rest.rest.now c.loop-rest.number
           so_far.0 so_far.2
-          (some_bytes c.loop-rest.rest.now (λ e. let yes : c.is_empty.result ≡ true = c.is_empty.ensures ∙ ap (λ n. n == 0) e in absurd (cc)))
+          (some_bytes c.loop-rest.rest.now (λ e. clash c.is_empty.result (c.is_empty.ensures ∙ ap (λ n. n == 0) e) c.loop-rest-test.true))
           (subst (λ o. IsFirstRecord c.loop-rest.rest.now (option_map (with_rest record_view) o)) c.in_default.is c.in_ok-next.ensures),
       refl,
       so_far.1,
@@ -105,7 +102,7 @@ returns g c =
     let so_far = c.loop-rest.invariant.passed in (
       None,
       so_far.0,
-      done (initial_state c.args.globals) (script_state_of c.loop-rest.engine) c.args.script.now c.loop-rest.rest.now c.loop-rest.number
+      done (initial_state c.args.globals) c.loop-rest.engine.state c.args.script.now c.loop-rest.rest.now c.loop-rest.number
           so_far.0 so_far.2
           (no_bytes c.loop-rest.rest.now (eqb-true (length c.loop-rest.rest.now) 0 (sym c.is_empty.ensures ∙ c.loop-rest-test.false))),
       refl,

@@ -1,6 +1,5 @@
 -- What is written and what is held are together the text of the records so far, and with what the others write that of the script.
 use Rattle.std.proofs.Common.{◌≤◌, ◌+◌, ◌++◌, ℕ, List, Option, length}
-use Rattle.check_attr.specs.inner.EngineViews.{IsSoundEngine, script_state_of}
 use Rattle.check_attr.specs.ScriptText.{Writes}
 use Rattle.check_attr.specs.ScriptStates.{initial_state}
 use Rattle.check_attr.proofs.PieceLemmas.{Holds}
@@ -8,10 +7,9 @@ use Rattle.check_attr.proofs.script_run.answer.Given as goal
 
 abbrev pub invariant-loop-rest : goal.invariant-loop-rest
 invariant-loop-rest g l = record {
-  sound : IsSoundEngine l.engine;
   counted : l.number + length l.rest ≤ 1 + length l.script;
   passed : (text : List ℕ) × Holds g.W.Push.contents g.W.Push.failed g.W.Push.stalled l.initial.writer l.writer l.held.items text
-      × ((malformed : Option ℕ) (others : List ℕ) → Writes (script_state_of l.engine) l.number l.rest malformed others
+      × ((malformed : Option ℕ) (others : List ℕ) → Writes l.engine.state l.number l.rest malformed others
       → Writes (initial_state l.fn.globals) 1 l.script malformed (text ++ others));
 }
 

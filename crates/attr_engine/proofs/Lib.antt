@@ -1,0 +1,3 @@
+mod RegistrationLemmas
+mod AnswerLemmas
+pub mod ForCallers

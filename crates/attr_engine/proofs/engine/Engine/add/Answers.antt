@@ -1,0 +1,15 @@
+use Rattle.gix_attributes.specs.Additions.{registered_lists}
+use Rattle.attr_engine.proofs.RegistrationLemmas.{alone_added}
+use Rattle.attr_engine.proofs.engine.Engine.add.Goals as goal
+
+pub invariant_of-self-2 : goal.invariant_of-self-2
+invariant_of-self-2 c =
+    let old = c.self.inside in
+    let added = c.in_ok-self-inside.ensures in
+    record {
+      held = added.held c.self.invariant.held;
+      known = alone_added (registered_lists old.search old.collection)
+          (registered_lists c.add_patterns_buffer.new.self c.add_patterns_buffer.new.collection) added.kept added.added c.self.invariant.known;
+      current = λ never. absurd (cc);
+      numbered = λ never. absurd (cc);
+    }

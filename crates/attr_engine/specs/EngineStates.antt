@@ -1,0 +1,99 @@
+-- What an engine holds, and what each call makes of it (own): lists are added and removed, names are selected, and paths are asked for.
+use Rattle.std.specs.Prelude.{ℕ, ◌-◌, ◌==◌, Bool, true, false, List, [], ◌∷◌, ◌++◌, length, map, filter, take, Option, None, Some}
+use Rattle.std.specs.Prelude.{if◌then◌else◌}
+use Rattle.gix_attributes.specs.Bases.{base_of}
+use Rattle.gix_attributes.specs.KeptLists.{dropped_lines, kept_list_where}
+use Rattle.gix_attributes.specs.Lookups.{answers_by_number, selected_answers}
+use Rattle.gix_attributes.specs.Numbers.{names_in, numbered_lines, with_names}
+use Rattle.gix_attributes.specs.Registers.{last_definition}
+use Rattle.gix_attributes.specs.Setting.{Setting}
+use Rattle.gix_attributes.specs.Settings.{Listed, setting_of}
+use Rattle.gix_attributes.specs.Slots.{Matched}
+use Rattle.gix_attributes.specs.Table.{Slots}
+use Rattle.gix_attributes.specs.declared.glob.pattern.Case.{Case}
+use Rattle.gix_attributes.specs.declared.search.Dropped.{Dropped}
+use Rattle.gix_attributes.specs.declared.search.TrackedAssignment.{TrackedAssignment}
+use Rattle.gix_attributes.specs.declared.State.{State}
+use Rattle.gix_attributes.specs.declared.State.TheVariants.{Set, Unset, Value, Unspecified}
+
+-- the names by number, the lists, and the selected names
+pub record EngineState : Type 0 where
+  pub names : List (List ℕ)
+  pub lists : List Listed
+  pub selection : List (List ℕ)
+
+-- What a caller sees of an engine: what it looks paths up in; the answers to the last question, none if it has no question or has
+-- changed since; and the lines that were dropped of the last list that was added.
+pub record EngineContent : Type 0 where
+  pub state : EngineState
+  pub answers : Option (List Matched)
+  pub dropped : List Dropped
+
+-- an attributes file to add: whether it may define macros, its path, the root of the repository, and its bytes
+pub record AddedFile : Type 0 where
+  pub allow_macros : Bool
+  pub source : List ℕ
+  pub root : Option (List ℕ)
+  pub buffer : List ℕ
+
+-- no question was asked so far, and no list was added
+abbrev pub unasked : EngineState → EngineContent
+unasked s = record { state = s; answers = None; dropped = [] }
+
+-- the list of the buffer becomes the last one, and its new names take the next numbers
+abbrev pub state_with_list : AddedFile → EngineState → EngineState
+state_with_list a s =
+    let kept = kept_list_where a.allow_macros a.buffer in
+    let known = with_names s.names (names_in kept) in
+    record {
+      names = known;
+      lists = s.lists ++ record {
+        source = Some a.source;
+        base = base_of a.source a.root;
+        lines = numbered_lines known kept;
+      } ∷ [];
+      selection = s.selection;
+    }
+
+-- the last list is removed, if there is one; the names keep their numbers
+abbrev pub state_without_last : EngineState → EngineState
+state_without_last s = record s { lists = take (length s.lists - 1) s.lists }
+
+-- these names are selected, in place of those before
+abbrev pub state_selecting : List (List ℕ) → EngineState → EngineState
+state_selecting selected s = record s { selection = selected }
+
+-- the same for all that a caller sees: a change leaves no answers
+abbrev pub with_addition : AddedFile → EngineContent → EngineContent
+with_addition a held = record { state = state_with_list a held.state; answers = None; dropped = dropped_lines a.buffer }
+
+abbrev pub without_last : EngineContent → EngineContent
+without_last held = record held { state = state_without_last held.state; answers = None }
+
+abbrev pub with_selection : List (List ℕ) → EngineContent → EngineContent
+with_selection selected held = record held { state = state_selecting selected held.state; answers = None }
+
+-- the bodies by number: for each name its last definition in the lists
+abbrev pub bodies_by : EngineState → List (List TrackedAssignment)
+bodies_by s = map (last_definition s.lists) s.names
+
+-- the setting of a path: the lists, and the bodies of their macros
+abbrev pub path_setting : EngineState → List ℕ → Case → Option Bool → Setting
+path_setting s path case is_dir = setting_of s.lists (bodies_by s) path case is_dir
+
+-- the attribute is listed, and not with a `!`
+abbrev pub is_specified : State → Bool
+is_specified Set = true
+is_specified Unset = true
+is_specified (Value bytes) = true
+is_specified Unspecified = false
+
+abbrev pub specified_among : List Matched → List Matched
+specified_among answers = filter (λ m. is_specified m.assignment.state) answers
+
+-- The answers that are returned: without a selection those of all names, by number, without the unspecified ones; and otherwise one
+-- for each selected name, in their order.
+abbrev pub returned_answers : EngineState → Slots → List Matched
+returned_answers s answers =
+    if length s.selection == 0 then specified_among (answers_by_number s.names answers)
+    else selected_answers s.names answers s.selection

@@ -1,0 +1,4 @@
+pub mod EngineStates
+pub mod EngineView
+pub mod Registration
+pub mod inner

@@ -1,0 +1,266 @@
+//! [`Engine`]: lists, selected names, and the answers to the last question.
+
+ghost use Rattle.std.specs.Prelude.{◌≡◌, ◌↔◌, ◌<◌, [], IfOk, IsTrue, None, OnErr, OnOk, Some, false, length, true, map, option_and_then, option_map, slice_get, unwrap_or};
+ghost use Rattle.attr_engine.specs.EngineStates.{path_setting, returned_answers, unasked, with_addition, with_selection, without_last};
+ghost use Rattle.attr_engine.specs.EngineView.{addition_view, state_by, started};
+ghost use Rattle.attr_engine.specs.Registration.{RegistersAlone};
+ghost use Rattle.attr_engine.specs.inner.SoundEngines.{IsCurrentFor};
+ghost use Rattle.gix_attributes.specs.Contents.{initial_content, names_selected};
+ghost use Rattle.gix_attributes.specs.Lookups.{OfTheOnlyTable};
+ghost use Rattle.gix_attributes.specs.Matches.{match_view};
+ghost use Rattle.gix_attributes.specs.SearchViews.{Holds, list_ids_in, lists_in};
+
+use crate::answers::Answers;
+use crate::specified::number_answers;
+use bstr::BStr;
+use gix_attributes::Search;
+use gix_attributes::glob::pattern::Case;
+use gix_attributes::search::{AttributeId, Dropped, Match, MetadataCollection, Outcome};
+use std::alloc::{AllocError, Global};
+use std::marker::Model;
+
+/// An attributes file to add.
+#[derive(Clone, Copy)]
+pub struct Addition<'a> {
+    /// Whether the file may define macros.
+    pub allow_macros: bool,
+    /// The path of the file.
+    pub source: &'a str,
+    /// The folder from which the file's folder is seen. Without one the patterns apply to all paths.
+    pub root: Option<&'a str>,
+    /// The bytes of the file.
+    pub buffer: &'a [u8],
+}
+
+/// A path to look up.
+#[derive(Clone, Copy)]
+pub struct Question<'a> {
+    /// The path, without a leading slash.
+    pub path: BStr<'a>,
+    /// How letters compare.
+    pub case: Case,
+    /// Whether the path is a folder, if that is known.
+    pub is_dir: Option<bool>,
+}
+
+/// Lists of attributes files with the names that are looked up in them, and the answers to the last question.
+///
+/// Whatever changes the lists or the selected names leaves no answers.
+#[derive(Drop)]
+pub struct Engine {
+    search: Search,
+    collection: MetadataCollection,
+    // It has the selected names too.
+    outcome: Outcome,
+    // Whether the outcome was initialised since the lists or the selection changed last.
+    is_current: bool,
+    // Whether the outcome has the answers to a question.
+    has_answers: bool,
+    // The numbers of the answers, if nothing is selected.
+    numbers: Vec<usize>,
+    dropped: Vec<Dropped>,
+}
+
+impl Model for Engine {
+    ghost use Rattle.attr_engine.specs.EngineStates.{EngineContent};
+
+    ghost Value = { EngineContent };
+
+    ghost use Rattle.attr_engine.specs.EngineView.{engine_view};
+    ghost use Rattle.attr_engine.specs.inner.SoundEngines.{IsSoundEngine};
+
+    ghost view = { engine_view };
+
+    ghost invariant = { IsSoundEngine };
+}
+
+impl Engine {
+    /// An engine with the built-in list, which defines the macro `binary`, and without a selection.
+    ///
+    /// # Errors
+    ///
+    /// If there is no memory.
+    pub fn new(alloc: Global) -> Result<Engine, AllocError>
+        ensures { IfOk result (λ engine. engine ≡ unasked started) }
+    {
+        let mut collection = MetadataCollection::new(alloc);
+        let search = Search::new_built_in(alloc, &mut collection)?;
+        Ok(Engine::of(alloc, search, collection))
+    }
+
+    /// An engine with the lists of a search, without a selection. The collection registers these lists, and no others. It takes no memory.
+    pub fn of(alloc: Global, search: Search, collection: MetadataCollection) -> Engine
+        requires held { Holds collection search }
+        requires known { RegistersAlone collection (list_ids_in search) (lists_in search) }
+        ensures { result ≡ unasked (state_by collection.names search) }
+    {
+        Engine {
+            search,
+            collection,
+            outcome: Outcome::new(alloc),
+            is_current: false,
+            has_answers: false,
+            numbers: Vec::new(alloc),
+            dropped: Vec::new(alloc),
+        }
+    }
+
+    /// Adds the list of an attributes file as the last one, which takes precedence. [`Engine::dropped`] returns the lines that are
+    /// dropped of it.
+    ///
+    /// # Errors
+    ///
+    /// If there is no memory. Nothing changes then.
+    pub fn add(&mut self, alloc: Global, addition: Addition<'_>) -> Result<(), AllocError>
+        ensures added { OnOk result
+            (self.new ≡ with_addition (addition_view addition.entry) self.old) }
+        ensures refused { OnErr result (self.new ≡ self.old) }
+    {
+        let source = String::from_str(alloc, addition.source)?;
+        self.dropped = self.search.add_patterns_buffer(
+            alloc,
+            addition.buffer,
+            source,
+            addition.root,
+            &mut self.collection,
+            addition.allow_macros,
+        )?;
+        self.is_current = false;
+        self.has_answers = false;
+        Ok(())
+    }
+
+    /// Removes the last list, and returns whether there was one. Names keep their numbers. It takes no memory.
+    pub fn pop(&mut self) -> bool
+        ensures found { IsTrue result ↔ 0 < length self.old.state.lists }
+        ensures popped { IsTrue result → self.new ≡ without_last self.old }
+        ensures none { result ≡ false → self.new ≡ self.old }
+    {
+        if self.search.pop_pattern_list(&mut self.collection).is_none() {
+            return false;
+        }
+        self.is_current = false;
+        self.has_answers = false;
+        true
+    }
+
+    /// Selects the names that are looked up, in the order of the answers, in place of those before. No names select all of them.
+    ///
+    /// A text that is no valid name is always unspecified.
+    ///
+    /// # Errors
+    ///
+    /// If there is no memory. Nothing changes then.
+    pub fn select(&mut self, alloc: Global, names: &[&str]) -> Result<(), AllocError>
+        ensures selected { OnOk result
+            (self.new ≡ with_selection (map (λ name. name.now) names.now) self.old) }
+        ensures refused { OnErr result (self.new ≡ self.old) }
+    {
+        self.outcome
+            .initialize_with_selection(alloc, &self.collection, names)?;
+        self.is_current = true;
+        self.has_answers = false;
+        Ok(())
+    }
+
+    /// Looks a path up, and returns the number of answers: one for each selected name, and without a selection one for each name
+    /// that is specified.
+    ///
+    /// # Errors
+    ///
+    /// If there is no memory. No answers are left then, and nothing else changes.
+    pub fn ask(&mut self, alloc: Global, question: Question<'_>) -> Result<usize, AllocError>
+        ensures answers { OnOk result (OfTheOnlyTable
+            (path_setting self.old.state question.entry.path.bytes.now
+            question.entry.case question.entry.is_dir)
+            (λ answers. self.new
+            ≡ record self.old { answers = Some (returned_answers self.old.state answers) })) }
+        ensures count { IfOk result
+            (λ count. option_map length self.new.answers ≡ Some count) }
+        ensures refused { OnErr result (self.new ≡ record self.old { answers = None }) }
+    {
+        self.has_answers = false;
+        prepare(alloc, &mut self.outcome, self.is_current, &self.collection)?;
+        self.is_current = true;
+        self.search.pattern_matching_relative_path(
+            alloc,
+            question.path,
+            question.case,
+            question.is_dir,
+            &mut self.outcome,
+        )?;
+        number_answers(&self.outcome, &mut self.numbers)?;
+        self.has_answers = true;
+        Ok(self.num_answers())
+    }
+
+    /// The number of answers to the last question, and 0 after a change.
+    pub fn num_answers(&self) -> usize
+        ensures { result ≡ length (unwrap_or self.now.answers []) }
+    {
+        if !self.has_answers {
+            return 0;
+        }
+        let selected = self.outcome.selected_len();
+        if selected > 0 {
+            selected
+        } else {
+            self.numbers.len()
+        }
+    }
+
+    /// The answer with this number, from 0: none if there are no answers, or not so many.
+    pub fn answer(&self, number: usize) -> Option<Match<'_>>
+        ensures { option_map match_view result
+            ≡ option_and_then (λ answers. slice_get answers number) self.now.answers }
+    {
+        if !self.has_answers {
+            return None;
+        }
+        if self.outcome.selected_len() > 0 {
+            return self.outcome.selected_match(number);
+        }
+        let slot = self.numbers.get(number)?;
+        self.outcome.match_by_id(AttributeId(*slot))
+    }
+
+    /// The answers to the last question, in their order, and none after a change.
+    pub fn answers(&self) -> Answers<'_>
+        ensures { result ≡ unwrap_or self.now.answers [] }
+    {
+        Answers::of(self)
+    }
+
+    /// The lines that were dropped of the last list that was added.
+    pub fn dropped(&self) -> &[Dropped]
+        ensures { result.now ≡ self.now.dropped }
+    {
+        &self.dropped
+    }
+
+    /// The name of an attribute or macro, as of the macro that is the cause of an answer. There is none if no name has this number.
+    pub fn name_of(&self, id: AttributeId) -> Option<&str>
+        ensures { option_map (λ name. name.now) result ≡ slice_get self.now.state.names id.0 }
+    {
+        self.collection.name_of(id)
+    }
+}
+
+// Empties an outcome for the next question. It is initialised only if the lists have changed.
+fn prepare(
+    alloc: Global,
+    outcome: &mut Outcome,
+    is_current: bool,
+    collection: &MetadataCollection,
+) -> Result<(), AllocError>
+    requires { is_current ≡ true → IsCurrentFor collection.now outcome.old }
+    ensures ready { OnOk result (outcome.new
+        ≡ initial_content collection.now (names_selected outcome.old.selection)) }
+    ensures refused { OnErr result (outcome.new ≡ outcome.old) }
+{
+    if is_current {
+        outcome.reset();
+        return Ok(());
+    }
+    outcome.initialize(alloc, collection)
+}

@@ -1,0 +1,32 @@
+-- An addition, a pop and a selection write one text each.
+use Rattle.std.proofs.Common.{[], refl, subst, sym}
+use Rattle.std.specs.List.{flat_map}
+use Rattle.gix_attributes.specs.KeptLists.{dropped_lines}
+use Rattle.attr_engine.specs.EngineView.{addition_view}
+use Rattle.check_attr.specs.ScriptText.{IsRecordText, dropped_text}
+use Rattle.check_attr.specs.inner.ScriptViews.{record_view}
+use Rattle.check_attr.proofs.PieceLemmas.{passes_nothing}
+use Rattle.check_attr.proofs.applying.apply.Goals as goal
+
+pub returns-in-Add-clause-text : goal.returns-in-Add-clause-text
+returns-in-Add-clause-text g c =
+    let a = addition_view c.in-Add.addition in
+    let text = flat_map (dropped_text a.source) (dropped_lines a.buffer) in (
+      text,
+      subst (λ r. IsRecordText c.args.engine.now.state (record_view r) text) (sym c.in-Add.is) refl,
+      c.add.ensures.text,
+    )
+
+pub returns-in-Pop-clause-text : goal.returns-in-Pop-clause-text
+returns-in-Pop-clause-text g c = (
+  [],
+  subst (λ r. IsRecordText c.args.engine.now.state (record_view r) []) (sym c.in-Pop.is) refl,
+  passes_nothing g.W.Push.contents g.W.Push.failed g.W.Push.stalled c.args.writer.now c.args.held.now.items,
+)
+
+pub returns-in_ok-select-in-Names-clause-text : goal.returns-in_ok-select-in-Names-clause-text
+returns-in_ok-select-in-Names-clause-text g c = (
+  [],
+  subst (λ r. IsRecordText c.args.engine.now.state (record_view r) []) (sym c.in-Names.is) refl,
+  passes_nothing g.W.Push.contents g.W.Push.failed g.W.Push.stalled c.args.writer.now c.args.held.now.items,
+)

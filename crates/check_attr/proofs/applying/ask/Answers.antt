@@ -1,0 +1,32 @@
+use Rattle.std.proofs.Common.{◌≡◌, [], Some, subst}
+use Rattle.std.specs.Prelude.{unwrap_or}
+use Rattle.std.specs.List.{flat_map}
+use Rattle.gix_attributes.specs.Lookups.{OfTheOnlyTable}
+use Rattle.attr_engine.specs.EngineStates.{path_setting, returned_answers}
+use Rattle.check_attr.specs.Script.{ask}
+use Rattle.check_attr.specs.inner.MatchText.{matched_text}
+use Rattle.check_attr.specs.inner.ScriptViews.{question_view}
+use Rattle.check_attr.proofs.AnswerLemmas.{answer_text_of}
+use Rattle.check_attr.proofs.PieceLemmas.{refused_at_once}
+use Rattle.check_attr.proofs.TextLemmas.{some_record_text}
+use Rattle.check_attr.proofs.applying.ask.Goals as goal
+
+pub returns-in_err-ask-clause-text : goal.returns-in_err-ask-clause-text
+returns-in_err-ask-clause-text g c =
+    let some = some_record_text c.args.engine.now.state (ask (question_view c.args.question)) in (
+      some.0,
+      some.1,
+      refused_at_once g.W.Push.contents g.W.Push.failed g.W.Push.stalled _ _ _ c.from_residual.result c.from_residual.ensures.1,
+    )
+
+pub returns-clause-text : goal.returns-clause-text
+returns-clause-text g c =
+    let q = question_view c.args.question in
+    let before = c.args.engine.now in
+    let after = c.ask.new.self in
+    let found = subst (λ path. OfTheOnlyTable (path_setting before.state path q.case q.is_dir)
+    (λ answers. after ≡ record before { answers = Some (returned_answers before.state answers) })) c.from.ensures c.in_ok-ask.ensures.answers in (
+      flat_map (matched_text q after.state.names) (unwrap_or after.answers []),
+      answer_text_of q before after found,
+      c.pass_answers.ensures,
+    )

@@ -1,0 +1,5 @@
+//! Tests of `attr_engine`: lists that are added and removed, selections, questions and their answers.
+#![tactic(auto)]
+
+#[cfg(test)]
+mod tests;
