@@ -10,7 +10,7 @@ follows the names. It fails, with a line for each, if
 
 It starts at the clauses (`requires`, `ensures`) of public functions and of functions of public traits, and at the ghost
 members (`view`, `next_gives`, `reads`, ..) of public traits and of impls of public types. Public is what `pub mod` and
-`pub use` show from the top of attr_glob, attr_text, gix_attributes or check_attr; so a type of attr_lists is public if
+`pub use` show from the top of attr_glob, attr_text, gix_attributes, attr_engine or check_attr; so a type of attr_lists is public if
 gix_attributes shows it, and a `pub fn` of a private module is not. A view looks into the fields of its type, so the
 definitions that are their contents (`Value` of their types) are a start too.
 
@@ -32,9 +32,11 @@ import re
 import sys
 
 TOP = os.path.join(os.path.dirname(os.path.abspath(__file__)), "..")
-PUBLIC_CRATES = ["attr_glob", "attr_text", "gix_attributes", "check_attr"]
-TEST_CRATES = ["attr_vectors", "glob_tests", "list_tests", "script_rows", "search_tests", "small_settings", "worktree"]
+PUBLIC_CRATES = ["attr_glob", "attr_text", "gix_attributes", "attr_engine", "yektrod", "check_attr"]
+TEST_CRATES = ["attr_vectors", "engine_tests", "glob_tests", "list_tests", "script_rows", "search_tests", "small_settings", "worktree"]
 READING = "docs/READING.md"
+# The members that say what a type contains, and what memory it owns beside its fields.
+CONTENTS = ("Value", "also_owns")
 
 # A name in a clause or a definition.
 NAME = r"[^\s(){}\[\],;.:=@\"`λ]+"
@@ -333,11 +335,11 @@ def public_roots(specs):
         crates[crate].show(modules, items)
     contracts = [(source, source.find(name.split("::")), where, text, imports)
         for crate in crates.values() for source in crate.all() for name, where, text, imports in source.contracts]
-    contents = contents_of_fields(items, {found for _, found, where, _, _ in contracts if where == "Value"})
+    contents = contents_of_fields(items, {found for _, found, where, _, _ in contracts if where in CONTENTS})
     roots = {}
     for source, found, where, text, imports in contracts:
         # What is not found is of a crate of the kit, and public.
-        if found is None or found in items or found in contents and where == "Value":
+        if found is None or found in items or found in contents and where in CONTENTS:
             for definition in sorted(specs.cited(text, imports), key=in_order):
                 roots.setdefault(definition, (where.strip(), source.file))
     return roots

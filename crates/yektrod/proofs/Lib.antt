@@ -1,0 +1,2 @@
+pub mod BoxedEngine
+mod AskLemmas

@@ -1,0 +1,58 @@
+#!/bin/sh
+# Builds the library for C, gathers it in a folder, and runs its clients: in C as gcc and clang compile them, in Python and in
+# Rust. Each script of examples/ and of crates/script_rows/data is played by calls, and gives the answers beside it. Each request
+# for memory is refused in turn. What valgrind, clang or rustc would show is left out if the machine lacks them.
+set -eu
+top=$(cd "$(dirname "$0")/.." && pwd)
+room=$(mktemp -d)
+trap 'rm -rf "$room"' EXIT
+has() { command -v "$1" >/dev/null || { echo "c_library: there is no $1 here, so this is left out: $2"; false; }; }
+
+(cd "$top/crates/yektrod" && rt lib >"$room/log" 2>&1) || { cat "$room/log" >&2; exit 1; }
+"$top/tools/c-library" "$room/yektrod"
+printf 'text: set\neol: lf\n' >"$room/first.answers"
+
+# Plays the scripts that are named in pairs with their answers.
+plays() {
+    grep -a '^script ' "$top/crates/script_rows/data/manifest" | while read -r kind name rest; do
+        echo "$top/crates/script_rows/data/$name.in $top/crates/script_rows/data/$name.out"
+    done
+    for script in "$top"/examples/*.script; do echo "$script ${script%.script}.answers"; done
+}
+plays >"$room/scripts"
+
+# Compiles the clients, and runs them.
+clients() {
+    flags="-std=c11 -O2 -g -Wall -Wextra -Werror -I$room/yektrod/include"
+    for name in first statuses script; do
+        "$1" $flags "$top/clients/c/$name.c" "$room/yektrod/lib/libyektrod.a" -o "$room/$name"
+    done
+    "$1" $flags -Wl,--wrap=malloc,--wrap=realloc "$top/clients/c/refused.c" "$room/yektrod/lib/libyektrod.a" -o "$room/refused"
+    "$room/first" | diff "$room/first.answers" -
+    "$room/statuses"
+    "$room/refused"
+    while read -r script answers; do
+        "$room/script" <"$script" | cmp -s "$answers" - || { echo "c_library: $script gives other answers" >&2; exit 1; }
+    done <"$room/scripts"
+    echo "c_library: with $1, $(wc -l <"$room/scripts") scripts give their answers"
+}
+
+clients "${CC:-cc}"
+if has valgrind 'reads and writes of memory that is not there, and leaks'; then
+    for name in first statuses refused; do
+        valgrind -q --leak-check=full --error-exitcode=9 "$room/$name" >"$room/said" 2>&1 || { cat "$room/said" >&2; exit 1; }
+    done
+    for name in checkout all archive pathspec; do
+        valgrind -q --leak-check=full --error-exitcode=9 "$room/script" <"$top/examples/$name.script" >"$room/said" 2>"$room/errors" ||
+            { cat "$room/errors" >&2; exit 1; }
+    done
+    echo 'c_library: valgrind finds nothing'
+fi
+if has clang 'the clients as it compiles them'; then clients clang; fi
+YEKTROD_LIBRARY=$room/yektrod/lib/libyektrod.so PYTHONDONTWRITEBYTECODE=1 \
+    python3 "$top/clients/python/test_yektrod.py" "$top/examples" "$top/crates/script_rows/data"
+if has rustc 'the client in Rust'; then
+    rustc -O --edition 2021 -o "$room/first_rust" -L "$room/yektrod/lib" -l static=yektrod "$top/clients/rust/first.rs"
+    "$room/first_rust" | diff "$room/first.answers" -
+    echo 'c_library: rust gives the answers'
+fi
