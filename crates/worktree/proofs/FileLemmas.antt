@@ -1,13 +1,113 @@
 -- The file of a folder that is added and removed.
-use Rattle.std.proofs.Common.{◌≡◌, ◌-◌, List, [], ◌∷◌, ◌++◌, length, take, refl, ap, ◌∙◌, arith}
-use Rattle.std.proofs.lemmas.List.{length-append}
+use Rattle.std.proofs.Common.{◌≡◌, ◌⊎◌, inr, ◌-◌, List, [], ◌∷◌, ◌++◌, length, take, Option, None, Some, option_map, refl, sym, ap, ◌∙◌, arith}
+use Rattle.std.specs.Prelude.{ℕ, suc, Bool, true, false, slice_get, Result, Ok, Err, OnOk, OnErr, IfNone, MatchOption}
+use Rattle.std.specs.List.{AllZip}
+use Rattle.std.specs.Option.{option_to_list}
+use Rattle.std.proofs.lemmas.List.{append-nil, length-append}
+use Rattle.gix_attributes.specs.Additions.{buffer_list, with_registered}
+use Rattle.gix_attributes.specs.Collections.{Collection}
+use Rattle.gix_attributes.specs.Definitions.{free_id}
+use Rattle.gix_attributes.specs.KeptLists.{kept_list_where}
+use Rattle.gix_attributes.specs.SearchViews.{LosesLast, RemovesLast}
+use Rattle.gix_attributes.specs.Settings.{Listed}
+use Rattle.worktree.specs.Worktrees.{Files, all_but_last, with_folder, with_global_file, without_last_folder, without_registration}
+use Rattle.worktree.specs.declared.File.{File}
+
+count_before : {X : Type 0} (xs : List X) (x : X) → length (xs ++ x ∷ []) - 1 ≡ length xs
+count_before xs x = omega (arith, length-append xs (x ∷ []))
 
 take_all : {X : Type 0} (xs ys : List X) → take (length xs) (xs ++ ys) ≡ xs
 take_all [] ys = refl
 take_all (x ∷ xs) ys = ap (λ zs. x ∷ zs) (take_all xs ys)
 
 -- without the last list, those before it are left
-pub before_last : {X : Type 0} (xs : List X) (x : X) → take (length (xs ++ x ∷ []) - 1) (xs ++ x ∷ []) ≡ xs
-before_last xs x =
-    let count : length (xs ++ x ∷ []) - 1 ≡ length xs = omega (arith, length-append xs (x ∷ [])) in
-    ap (λ n. take n (xs ++ x ∷ [])) count ∙ take_all xs (x ∷ [])
+pub before_last : {X : Type 0} (xs : List X) (x : X) → all_but_last (xs ++ x ∷ []) ≡ xs
+before_last xs x = ap (λ n. take n (xs ++ x ∷ [])) (count_before xs x) ∙ take_all xs (x ∷ [])
+
+get_after : {X : Type 0} (xs : List X) (x : X) → slice_get (xs ++ x ∷ []) (length xs) ≡ Some x
+get_after [] x = refl
+get_after (y ∷ ys) x = get_after ys x
+
+get_last : {X : Type 0} (xs : List X) (x : X) → slice_get (xs ++ x ∷ []) (length (xs ++ x ∷ []) - 1) ≡ Some x
+get_last xs x = ap (slice_get (xs ++ x ∷ [])) (count_before xs x) ∙ get_after xs x
+
+-- two lists of which each element has its counterpart are as long as one another
+pub count_zip : {X Y : Type 0} (R : X → Y → Type 0) (xs : List X) (ys : List Y) → AllZip R xs ys → length xs ≡ length ys
+count_zip R [] [] h = refl
+count_zip R [] (y ∷ ys) h = absurd h
+count_zip R (x ∷ xs) [] h = absurd h
+count_zip R (x ∷ xs) (y ∷ ys) h = ap suc (count_zip R xs ys h.1)
+
+none_of_none : {X : Type 0} (xs : List X) → length xs ≡ 0 → xs ≡ []
+none_of_none [] e = refl
+none_of_none (x ∷ xs) e = absurd (omega arith)
+
+same_files : (globals : List Listed) (folders folders' : List Listed) (ids ids' : List ℕ) (known known' : Collection) → folders ≡ folders'
+    → ids ≡ ids' → known ≡ known' →
+    (let before : Files = record { globals = globals; folders = folders; folder_ids = ids; known = known } in
+    let after : Files = record { globals = globals; folders = folders'; folder_ids = ids'; known = known' } in before ≡ after)
+same_files globals folders folders' ids ids' known known' e f g =
+    let files : List Listed → List ℕ → Collection → Files = λ l m k. record { globals = globals; folders = l; folder_ids = m; known = k } in
+    ap (λ l. files l ids known) e ∙ (ap (λ m. files folders' m known) f ∙ ap (files folders' ids') g)
+
+-- what a pop leaves is what is left without the last folder
+pub folder_left : {X : Type 0} (read : X → Listed) (r : Option X) (globals before after : List Listed) (ids ids' : List ℕ)
+    (known now : Collection) → length ids ≡ length before → before ≡ after ++ option_to_list (option_map read r)
+    → IfNone r (before ≡ []) → MatchOption r (ids' ≡ ids) (λ _. LosesLast ids ids') → MatchOption r (now ≡ known) (λ _. RemovesLast ids known now) →
+    (let old : Files = record { globals = globals; folders = before; folder_ids = ids; known = known } in
+    let new : Files = record { globals = globals; folders = after; folder_ids = ids'; known = now } in new ≡ without_last_folder old)
+folder_left read None globals before after ids ids' known now count lists none ids_are now_is =
+    let no_ids : ids ≡ [] = none_of_none ids (count ∙ ap length none) in
+    same_files globals after (all_but_last before) ids' (all_but_last ids) now
+    (without_registration (slice_get ids (length ids - 1)) known)
+    (sym (append-nil after) ∙ (sym lists ∙ (none ∙ sym (ap all_but_last none))))
+    (ids_are ∙ (no_ids ∙ sym (ap all_but_last no_ids)))
+    (now_is ∙ sym (ap (λ (l : List ℕ). without_registration (slice_get l (length l - 1)) known) no_ids))
+folder_left read (Some x) globals before after ids ids' known now count lists none ids_are now_is =
+    let (list_id, others, is_last, removed) = now_is in
+    same_files globals after (all_but_last before) ids' (all_but_last ids) now
+    (without_registration (slice_get ids (length ids - 1)) known)
+    (sym (ap all_but_last lists ∙ before_last after (read x)))
+    (sym (ap all_but_last ids_are.1 ∙ before_last ids' ids_are.0))
+    (removed
+    ∙ sym (ap (λ (l : List ℕ). without_registration (slice_get l (length l - 1)) known) is_last
+    ∙ ap (λ m. without_registration m known) (get_last others list_id)))
+
+pub if_ok : {T E P : Type 0} (r : Result T E) → P → OnOk r P
+if_ok (Ok x) p = p
+if_ok (Err e) p = tt
+
+pub if_err : {T E P : Type 0} (r : Result T E) → P → OnErr r P
+if_err (Ok x) p = tt
+if_err (Err e) p = p
+
+-- a file's list that comes after the others, registered in a collection
+abbrev Added : (path : List ℕ) (root : Option (List ℕ)) (allow : Bool) (bytes : List ℕ) (lists : List Listed) (known : Collection) → List Listed
+Added path root allow bytes lists known = lists ++ buffer_list path root allow bytes known ∷ []
+
+added : (path path' : List ℕ) (root : Option (List ℕ)) (allow : Bool) (bytes : List ℕ) (before after : List Listed) (now : Collection)
+    → path ≡ path' →
+    after ≡ Added path root allow bytes before now → after ≡ Added path' root allow bytes before now
+added path path' root allow bytes before after now same e = e ∙ ap (λ p. Added p root allow bytes before now) same
+
+-- what an addition of a global file leaves
+pub global_added : (file : File) (path : List ℕ) (old : Files) (after : List Listed) (now : Collection) → path ≡ file.path.now →
+    after ≡ Added path None true file.bytes.now old.globals now → now ≡ with_registered (kept_list_where true file.bytes.now) old.known →
+    (let new : Files = record { globals = after; folders = old.folders; folder_ids = old.folder_ids; known = now } in
+    new ≡ with_global_file file old)
+global_added file path old after now same lists registered =
+    let files : List Listed → Collection → Files = λ g m. record { globals = g; folders = old.folders; folder_ids = old.folder_ids; known = m } in
+    ap (λ g. files g now) (added path file.path.now None true file.bytes.now old.globals after now same lists)
+    ∙ ap (λ m. files (Added file.path.now None true file.bytes.now old.globals m) m) registered
+
+-- what an addition of a folder's file leaves
+pub folder_added : (file : File) (path : List ℕ) (old : Files) (after : List Listed) (ids : List ℕ) (now : Collection) → path ≡ file.path.now →
+    after ≡ Added path (Some []) false file.bytes.now old.folders now → ids ≡ old.folder_ids ++ free_id old.known.active ∷ [] →
+    now ≡ with_registered (kept_list_where false file.bytes.now) old.known →
+    (let new : Files = record { globals = old.globals; folders = after; folder_ids = ids; known = now } in new ≡ with_folder file old)
+folder_added file path old after ids now same lists ids_are registered =
+    let files : List Listed → List ℕ → Collection → Files = λ l i m. record { globals = old.globals; folders = l; folder_ids = i; known = m } in
+    ap (λ l. files l ids now) (added path file.path.now (Some []) false file.bytes.now old.folders after now same lists)
+    ∙ (ap (λ i. files (Added file.path.now (Some []) false file.bytes.now old.folders now) i now) ids_are
+    ∙ ap (λ m. files (Added file.path.now (Some []) false file.bytes.now old.folders m)
+    (old.folder_ids ++ free_id old.known.active ∷ []) m) registered)

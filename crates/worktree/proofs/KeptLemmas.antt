@@ -1,5 +1,5 @@
 -- What a worktree keeps when lists are added and removed.
-use Rattle.std.proofs.Common.{◌≡◌, ◌≢◌, ℕ, List, [], ◌++◌, length, All, Option, Some, None, option_map, refl, sym, ap, ◌∙◌, subst}
+use Rattle.std.proofs.Common.{◌≡◌, ◌≢◌, ℕ, List, [], ◌++◌, length, All, Option, Some, None, option_map, refl, sym, ◌∙◌, subst}
 use Rattle.std.specs.Prelude.{IfSome, MatchOption}
 use Rattle.std.specs.Option.{option_to_list}
 use Rattle.std.proofs.lemmas.List.{append-nil}
@@ -134,9 +134,3 @@ kept_leaving read (Some x) law globals before after known now kept gone lists_ar
       register = without_registered gone.removed.list_id h.register;
       registered = gone.of_collection h.register h.registered;
     }
-
--- the names stay
-pub names_left : {X : Type 0} (ids : List ℕ) (r : Option X) (known now : Collection) → MatchOption r (now ≡ known) (λ _. RemovesLast ids known now)
-    → now.names ≡ known.names
-names_left ids None known now now_is = ap (λ (k : Collection). k.names) now_is
-names_left ids (Some x) known now gone = ap (λ (k : Collection). k.names) gone.3

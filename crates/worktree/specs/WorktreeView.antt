@@ -11,7 +11,13 @@ use Rattle.worktree.specs.Worktrees.{Files}
 use Rattle.worktree.specs.declared.Worktree.TheInside.{Inside}
 
 abbrev pub files_of : Inside → Files
-files_of w = record { globals = lists_in w.globals; folders = lists_in w.folders; known = w.collection }
+files_of w =
+    record {
+      globals = lists_in w.globals;
+      folders = lists_in w.folders;
+      folder_ids = list_ids_in w.folders;
+      known = w.collection;
+    }
 
 -- the lists of a search have the numbers of their names, and no others
 pub record HasItsNumbers (known : Collection) (search : Search) : Type 0 where

@@ -2,9 +2,9 @@
 //! searches find, by the clauses and laws of that crate alone.
 #![tactic(auto)]
 
-ghost use Rattle.std.specs.Prelude.{◌≡◌, ◌++◌, ◌-◌, length, take, OnOk, OnErr};
+ghost use Rattle.std.specs.Prelude.{◌≡◌, ◌⊎◌, OnOk, OnErr};
 ghost use Rattle.gix_attributes.specs.Lookups.{OfTheOnlyTable, ReturnsAnswers, setting_in};
-ghost use Rattle.worktree.specs.Worktrees.{lookup, no_attributes_files, with_folder, with_global_file};
+ghost use Rattle.worktree.specs.Worktrees.{after_visit, lookup, no_attributes_files, with_folder, with_global_file, without_last_folder};
 
 use bstr::BStr;
 use gix_attributes::Search;
@@ -86,12 +86,12 @@ impl Worktree {
         Ok(())
     }
 
-    /// Adds the file of a folder, looks up names for a path in it, and removes the file. So the files are the same
-    /// after that.
+    /// Looks names up for a path in a folder whose file comes after those that are there, and removes this file again.
+    /// Its names stay in the collection, without definitions.
     ///
     /// # Errors
     ///
-    /// If memory runs out. The files are the same then, too.
+    /// If memory runs out. The file was not added then, or it was removed again.
     pub fn look_up_in(
         &mut self,
         alloc: Global,
@@ -102,6 +102,9 @@ impl Worktree {
         ensures answers { OnOk result (
             let q = lookup question.entry (with_folder file.entry self.old) in
             OfTheOnlyTable (setting_in q) (ReturnsAnswers q out.new)) }
+        ensures left { OnOk result (self.new ≡ after_visit file.entry self.old) }
+        ensures refused { OnErr result ((self.new ≡ self.old)
+            ⊎ (self.new ≡ after_visit file.entry self.old)) }
         ensures folders { self.new.folders ≡ self.old.folders }
         ensures globals { self.new.globals ≡ self.old.globals }
     {
@@ -133,12 +136,9 @@ impl Worktree {
         Ok(())
     }
 
-    /// Removes the file of the last folder, if there is one.
+    /// Removes the file of the last folder, if there is one. Its names stay in the collection, without definitions.
     pub fn leave(&mut self)
-        ensures folders { self.new.folders
-            ≡ take (length self.old.folders - 1) self.old.folders }
-        ensures globals { self.new.globals ≡ self.old.globals }
-        ensures names { self.new.known.names ≡ self.old.known.names }
+        ensures { self.new ≡ without_last_folder self.old }
     {
         let _ = self.folders.pop_pattern_list(&mut self.collection);
         laws::registers::names_stay();

@@ -1,5 +1,8 @@
-use Rattle.std.proofs.Common.{refl, sym, subst}
-use Rattle.gix_attributes.specs.SearchViews.{Holds}
+use Rattle.std.proofs.Common.{refl, sym, ap, subst, ◌∙◌}
+use Rattle.gix_attributes.specs.SearchViews.{Holds, list_ids_in, lists_in}
+use Rattle.worktree.specs.Worktrees.{with_folder, with_global_file}
+use Rattle.worktree.specs.WorktreeView.{files_of}
+use Rattle.worktree.proofs.FileLemmas.{global_added}
 use Rattle.worktree.proofs.KeptLemmas.{NamesStay, kept_globally, kept_same}
 use Rattle.worktree.proofs.Worktree.add_global.Goals as goal
 
@@ -19,3 +22,10 @@ invariant_of-self-2 c =
     let added = c.in_ok-add_patterns_buffer.ensures in
     kept_globally law w.globals c.add_patterns_buffer.new.self w.folders w.collection c.add_patterns_buffer.new.collection
     added.kept added.added added.held c.self.invariant
+
+pub returns-clause-added : goal.returns-clause-added
+returns-clause-added c =
+    let w = c.self.inside in
+    let added = c.in_ok-add_patterns_buffer.ensures in
+    global_added c.args.file _ (files_of w) (lists_in c.add_patterns_buffer.new.self) c.add_patterns_buffer.new.collection
+    c.in_ok-source.ensures.ok added.list added.collection ∙ ap (with_global_file c.args.file) c.self.view_is

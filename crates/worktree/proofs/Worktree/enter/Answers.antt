@@ -1,5 +1,8 @@
-use Rattle.std.proofs.Common.{refl, sym, subst}
-use Rattle.gix_attributes.specs.SearchViews.{Holds}
+use Rattle.std.proofs.Common.{refl, sym, ap, subst, ◌∙◌}
+use Rattle.gix_attributes.specs.SearchViews.{Holds, list_ids_in, lists_in}
+use Rattle.worktree.specs.Worktrees.{with_folder, with_global_file}
+use Rattle.worktree.specs.WorktreeView.{files_of}
+use Rattle.worktree.proofs.FileLemmas.{folder_added}
 use Rattle.worktree.proofs.KeptLemmas.{NamesStay, kept_entering, kept_same}
 use Rattle.worktree.proofs.Worktree.enter.Goals as goal
 
@@ -19,3 +22,11 @@ invariant_of-self-2 c =
     let added = c.in_ok-add_patterns_buffer.ensures in
     kept_entering law w.globals w.folders c.add_patterns_buffer.new.self w.collection c.add_patterns_buffer.new.collection
     added.kept added.added added.held c.self.invariant
+
+pub returns-clause-entered : goal.returns-clause-entered
+returns-clause-entered c =
+    let w = c.self.inside in
+    let added = c.in_ok-add_patterns_buffer.ensures in
+    folder_added c.args.file _ (files_of w) (lists_in c.add_patterns_buffer.new.self) (list_ids_in c.add_patterns_buffer.new.self)
+    c.add_patterns_buffer.new.collection
+    c.in_ok-source.ensures.ok added.list added.list_ids added.collection ∙ ap (with_folder c.args.file) c.self.view_is

@@ -1,8 +1,11 @@
-use Rattle.std.proofs.Common.{ap, ◌∙◌}
+use Rattle.std.proofs.Common.{ℕ, ap, ◌∙◌}
+use Rattle.gix_attributes.specs.Settings.{Listed}
 use Rattle.gix_attributes.specs.ListView.{list_view}
-use Rattle.gix_attributes.specs.SearchViews.{list_ids_in}
-use Rattle.worktree.specs.Worktrees.{Files}
-use Rattle.worktree.proofs.KeptLemmas.{NamesStay, kept_leaving, names_left}
+use Rattle.gix_attributes.specs.Definitions.{HoldsList}
+use Rattle.gix_attributes.specs.SearchViews.{list_ids_in, lists_in}
+use Rattle.worktree.specs.Worktrees.{without_last_folder}
+use Rattle.worktree.proofs.FileLemmas.{count_zip, folder_left}
+use Rattle.worktree.proofs.KeptLemmas.{NamesStay, kept_leaving}
 use Rattle.worktree.proofs.Worktree.leave.Goals as goal
 
 pub pop_pattern_list-requires : goal.pop_pattern_list-requires
@@ -16,8 +19,13 @@ invariant_of-self c =
     kept_leaving list_view c.pop_pattern_list.result law w.globals w.folders c.pop_pattern_list.new.self w.collection
     c.pop_pattern_list.new.collection popped.kept popped.removed popped.list popped.collection popped.list_ids popped.held c.self.invariant
 
-pub returns-clause-names : goal.returns-clause-names
-returns-clause-names c =
-    names_left (list_ids_in c.self.inside.folders) c.pop_pattern_list.result c.self.inside.collection c.pop_pattern_list.new.collection
-    c.pop_pattern_list.ensures.collection
-    ∙ ap (λ (files : Files). files.known.names) c.self.view_is
+pub returns : goal.returns
+returns c =
+    let w = c.self.inside in
+    let popped = c.pop_pattern_list.ensures in
+    let count = count_zip (λ (list_id : ℕ) (list : Listed). HoldsList w.collection list_id list.lines) (list_ids_in w.folders) (lists_in w.folders)
+    c.self.invariant.folders_held.each in
+    folder_left list_view c.pop_pattern_list.result (lists_in w.globals) (lists_in w.folders) (lists_in c.pop_pattern_list.new.self)
+    (list_ids_in w.folders) (list_ids_in c.pop_pattern_list.new.self) w.collection c.pop_pattern_list.new.collection count popped.list popped.none
+    popped.list_ids popped.collection
+    ∙ ap without_last_folder c.self.view_is

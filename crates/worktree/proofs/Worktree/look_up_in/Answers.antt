@@ -1,8 +1,8 @@
-use Rattle.std.proofs.Common.{◌-◌, length, take, ap, ◌∙◌, subst}
+use Rattle.std.proofs.Common.{inr, ap, ◌∙◌, subst}
 use Rattle.std.specs.Prelude.{OnOk}
 use Rattle.gix_attributes.specs.Lookups.{OfTheOnlyTable, ReturnsAnswers, setting_in}
-use Rattle.worktree.specs.Worktrees.{Files, lookup}
-use Rattle.worktree.proofs.FileLemmas.{before_last}
+use Rattle.worktree.specs.Worktrees.{Files, lookup, without_last_folder}
+use Rattle.worktree.proofs.FileLemmas.{before_last, if_err, if_ok}
 use Rattle.worktree.proofs.Worktree.look_up_in.Goals as goal
 
 pub returns-clause-answers : goal.returns-clause-answers
@@ -12,9 +12,15 @@ returns-clause-answers c =
     OfTheOnlyTable (setting_in q) (ReturnsAnswers q c.look_up-answered.new.out)))
     c.in_ok-enter.ensures.entered c.look_up-answered.ensures
 
+pub returns-clause-left : goal.returns-clause-left
+returns-clause-left c =
+    if_ok c.look_up-answered.result (c.leave.ensures ∙ ap without_last_folder c.in_ok-enter.ensures.entered)
+
+pub returns-clause-refused : goal.returns-clause-refused
+returns-clause-refused c =
+    if_err c.look_up-answered.result (inr (c.leave.ensures ∙ ap without_last_folder c.in_ok-enter.ensures.entered))
+
 pub returns-clause-folders : goal.returns-clause-folders
 returns-clause-folders c =
-    let entered = ap (λ (files : Files). files.folders) c.in_ok-enter.ensures.entered in
-    c.leave.ensures.folders
-    ∙ (ap (λ lists. take (length lists - 1) lists) entered
-    ∙ before_last c.args.self.now.folders _)
+    ap (λ (files : Files). files.folders) (c.leave.ensures ∙ ap without_last_folder c.in_ok-enter.ensures.entered)
+    ∙ before_last c.args.self.now.folders _
