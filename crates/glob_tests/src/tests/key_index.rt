@@ -109,3 +109,59 @@ fn candidates_know_no_fronts(rt: HostRuntime) -> Result<(), Fail> {
     assert_eq!(rt; all.as_slice(), [2, 0].as_slice());
     Ok(())
 }
+
+// For each of twelve letters the keys of the name xa, *.a, a/* and a/xa, and so on.
+fn many_keys(alloc: Global) -> Result<KeyIndex, AllocError> {
+    let mut keys = Vec::new(alloc);
+    for letter in b"abcdefghijkl" {
+        let text = [*letter, b'/', b'x', *letter];
+        keys.push(line_key(alloc, named(&text[2..], None))?)?;
+        let end = Shape {
+            text: &[b'*', b'.', *letter],
+            wildcard: Some(0),
+            is_macro: false,
+            asks_name: true,
+            is_end: true,
+        };
+        keys.push(line_key(alloc, end)?)?;
+        keys.push(line_key(alloc, placed(&[*letter, b'/', b'*'], Some(2)))?)?;
+        keys.push(line_key(alloc, placed(&text, None))?)?;
+    }
+    KeyIndex::of(alloc, keys)
+}
+
+#[test]
+fn many_keys_are_looked_up(rt: HostRuntime) -> Result<(), Fail> {
+    let keys = many_keys(rt.alloc())?;
+    let whole = found(rt.alloc(), &keys, b"xb", b"c/xb", false)?;
+    assert_eq!(rt; whole.as_slice(), [10, 4].as_slice());
+    let path = found(rt.alloc(), &keys, b"xl", b"l/xl", false)?;
+    assert_eq!(rt; path.as_slice(), [47, 46, 44].as_slice());
+    let end = found(rt.alloc(), &keys, b"xb.d", b"b/xb.d", false)?;
+    assert_eq!(rt; end.as_slice(), [13, 6].as_slice());
+    let exact = found(rt.alloc(), &keys, b"XB", b"B/XB", false)?;
+    assert_eq!(rt; exact.is_empty(), true);
+    let folded = found(rt.alloc(), &keys, b"XB", b"B/XB", true)?;
+    assert_eq!(rt; folded.as_slice(), [7, 6, 4].as_slice());
+    Ok(())
+}
+
+#[test]
+fn fronts_of_fronts_are_found(rt: HostRuntime) -> Result<(), Fail> {
+    let text = b"aaaaaaaaaaaa*";
+    let mut keys = Vec::new(rt.alloc());
+    for front in 1..13 {
+        keys.push(line_key(rt.alloc(), named(&text[12 - front..], Some(front)))?)?;
+    }
+    let index = KeyIndex::of(rt.alloc(), keys)?;
+    let some = found(rt.alloc(), &index, b"aaab", b"aaab", false)?;
+    assert_eq!(rt; some.as_slice(), [2, 1, 0].as_slice());
+    let last = found(rt.alloc(), &index, b"aaaaaaaaaaa", b"x", false)?;
+    assert_eq!(rt;
+        last.as_slice(),
+        [10, 9, 8, 7, 6, 5, 4, 3, 2, 1, 0].as_slice()
+    );
+    let none = found(rt.alloc(), &index, b"ba", b"ba", true)?;
+    assert_eq!(rt; none.is_empty(), true);
+    Ok(())
+}

@@ -151,6 +151,9 @@ fn copies_lists(rt: HostRuntime) -> Result<(), Fail> {
     let (list, _) = List::from_bytes(rt.alloc(), b"/x\na", source, Some(""), Lines)?;
     let copy = list.clone(rt.alloc())?;
     assert!(rt; copy == list);
+    for mapping in &list.patterns {
+        assert!(rt; mapping.clone(rt.alloc())? == *mapping);
+    }
     Ok(())
 }
 

@@ -1,6 +1,6 @@
 //! Worked rows: pattern texts, and the paths that patterns match.
 use attr_glob::Pattern;
-use attr_glob::pattern::{Case, Mode, base_name_place};
+use attr_glob::pattern::{Case, Mode, base_name, base_name_place};
 use bitflags::Flags;
 use bstr::BStr;
 use std::alloc::{AllocError, Global};
@@ -42,6 +42,51 @@ fn orders_modes_and_cases(rt: HostRuntime) {
     assert_eq!(rt; both.bits(), 17);
     assert!(rt; Mode::ABSOLUTE < both);
     assert!(rt; Case::Sensitive < Case::Fold);
+}
+
+// As the pages of bitflags define them, over the five bits of the modes.
+#[test]
+fn modes_are_sets(rt: HostRuntime) {
+    let both = Mode::NO_SUB_DIR.union(Mode::ABSOLUTE);
+    let other = Mode::ENDS_WITH.union(Mode::ABSOLUTE);
+    for (mode, bits) in [
+        (Mode::empty(), 0),
+        (Mode::all(), 31),
+        (Mode::from_bits_truncate(33), 1),
+        (Mode::from_bits_retain(33), 33),
+        (both.intersection(other), 16),
+        (both.difference(other), 1),
+        (both.symmetric_difference(other), 3),
+        (both.complement(), 14),
+    ] {
+        assert_eq!(rt; mode.bits(), bits);
+        assert_eq!(rt; mode.is_empty(), bits == 0);
+        assert_eq!(rt; mode.is_all(), bits == 31);
+    }
+    assert!(rt; both.contains(Mode::ABSOLUTE) && !both.contains(other));
+    assert!(rt; both.intersects(other) && !both.intersects(Mode::ENDS_WITH));
+    assert!(rt; Mode::from_bits(31) == Some(Mode::all()) && Mode::from_bits(32).is_none());
+    assert!(rt; Mode::from_name("ENDS_WITH") == Some(Mode::ENDS_WITH));
+    assert!(rt; Mode::from_name("ends_with").is_none());
+    assert_eq!(rt; Mode::flags().len(), 5);
+}
+
+#[test]
+fn modes_change(rt: HostRuntime) {
+    let mut mode = Mode::from_bits_retain(33);
+    mode.insert(Mode::NEGATIVE);
+    assert_eq!(rt; mode.bits(), 41);
+    mode.remove(Mode::NO_SUB_DIR);
+    assert_eq!(rt; mode.bits(), 40);
+    mode.toggle(Mode::MUST_BE_DIR);
+    assert_eq!(rt; mode.bits(), 44);
+    mode.set(Mode::NEGATIVE, false);
+    assert_eq!(rt; mode.bits(), 36);
+    assert!(rt; mode.contains_unknown_bits());
+    mode.truncate();
+    assert!(rt; mode == Mode::MUST_BE_DIR);
+    mode.clear();
+    assert!(rt; mode.is_empty());
 }
 
 // Whether the pattern text matches the path.
@@ -145,4 +190,7 @@ fn places_of_base_names(rt: HostRuntime) {
     assert_eq!(rt; base_name_place(b"a/"), Some(2));
     assert_eq!(rt; base_name_place(b"a"), None);
     assert_eq!(rt; base_name_place(b""), None);
+    assert_eq!(rt; base_name(b"a/b/c", Some(4)), b"c".as_slice());
+    assert_eq!(rt; base_name(b"a/", Some(2)), b"".as_slice());
+    assert_eq!(rt; base_name(b"a", None), b"a".as_slice());
 }

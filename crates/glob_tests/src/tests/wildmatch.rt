@@ -143,5 +143,9 @@ fn kept_tokens(rt: HostRuntime) -> Result<(), Fail> {
     assert!(rt; tokens.matches(b"d/a.x", Case::Sensitive, &mut rows));
     assert!(rt; !tokens.matches(b"d/d.x", Case::Sensitive, &mut rows));
     assert!(rt; tokens.matches(b"B.X", Case::Fold, &mut rows));
+    let (matched, pairs) = tokens.count(b"d/a.x", Case::Sensitive, &mut rows);
+    assert!(rt; matched && pairs <= 36);
+    let (matched, pairs) = tokens.count(b"d/d.x", Case::Sensitive, &mut rows);
+    assert!(rt; !matched && pairs <= 36);
     Ok(())
 }

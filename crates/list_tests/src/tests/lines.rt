@@ -1,5 +1,5 @@
 //! Worked rows: the results of items and lines, and hostile buffers.
-use attr_text::parse::{Error, Iter, Kind, parse};
+use attr_text::parse::{Error, Iter, Kind, Lines, parse};
 use bstr::BStr;
 use std::alloc::{AllocError, Global};
 use std::fmt::Write;
@@ -180,6 +180,20 @@ fn refused_lines_keep_their_input(rt: HostRuntime) -> Result<(), Fail> {
     }
     assert!(rt; lines.next().is_none());
     Ok(())
+}
+
+// After a line that is refused the next one follows.
+#[test]
+fn lines_follow_a_refused_one(rt: HostRuntime) {
+    let mut lines = Lines::new(rt.alloc(), b"!a b\n* z");
+    assert!(rt;
+        matches!(
+            lines.next(),
+            Some(Err(Error::NegativePattern { line: 1, .. }))
+        )
+    );
+    assert!(rt; matches!(lines.next(), Some(Ok((Kind::Pattern(_), _, 2)))));
+    assert!(rt; lines.next().is_none());
 }
 
 #[test]

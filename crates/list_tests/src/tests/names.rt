@@ -55,6 +55,8 @@ fn names_compare_as_their_text(rt: HostRuntime) -> Result<(), Fail> {
 fn states_are_copied(rt: HostRuntime) -> Result<(), Fail> {
     let value = StateRef::from_bytes(b"true");
     assert!(rt; value == StateRef::Value(ValueRef::from("true")));
+    assert!(rt; value == StateRef::Value(ValueRef::from_bytes(b"true")));
+    assert!(rt; ValueRef::from("true").as_bstr() == BStr::from("true"));
     assert!(rt; value.is_set());
     assert!(rt; !value.is_unset());
     assert!(rt; !value.is_unspecified());

@@ -19,7 +19,7 @@ fn add(
 }
 
 // Removes a list if it is registered.
-fn is_removed(table: &mut NameTable, list_id: usize, list: &[Mapping<Value>]) -> bool {
+pub(super) fn is_removed(table: &mut NameTable, list_id: usize, list: &[Mapping<Value>]) -> bool {
     let is_registered = table.holds(list_id, list);
     if is_registered {
         table.remove(list_id, list);
@@ -28,7 +28,7 @@ fn is_removed(table: &mut NameTable, list_id: usize, list: &[Mapping<Value>]) ->
 }
 
 // The number of the first item in the body of a name.
-fn first_number(table: &NameTable, name: &str) -> Option<usize> {
+pub(super) fn first_number(table: &NameTable, name: &str) -> Option<usize> {
     let metadata = table.metadata(table.number_of(name)?)?;
     let item = metadata.macro_attributes.first()?;
     Some(item.id.0)
@@ -42,7 +42,7 @@ fn push_numbers(out: &mut String, items: &[TrackedAssignment]) -> Result<(), All
 }
 
 // The names, each with the numbers of its body.
-fn push_names(out: &mut String, table: &NameTable) -> Result<(), AllocError> {
+pub(super) fn push_names(out: &mut String, table: &NameTable) -> Result<(), AllocError> {
     for (name, metadata) in table.iter() {
         out.push_str(name)?;
         push_numbers(out, &metadata.macro_attributes)?;
@@ -94,6 +94,50 @@ fn a_removal_restores_earlier_bodies(rt: HostRuntime) -> Result<(), Fail> {
     Ok(())
 }
 
+// The first list goes while the second, which defines one of its macros too, stays.
+#[test]
+fn a_list_below_another_is_removed(rt: HostRuntime) -> Result<(), Fail> {
+    let mut table = NameTable::new(rt.alloc());
+    let text = "[attr]m x\n[attr]m y\n[attr]n x";
+    let (goes, below) = add(rt.alloc(), &mut table, text)?;
+    let (stays, above) = add(rt.alloc(), &mut table, "[attr]m z")?;
+    assert!(rt; first_number(&table, "n") == Some(1));
+    assert!(rt; is_removed(&mut table, goes, &below));
+    assert!(rt; first_number(&table, "m") == Some(4));
+    assert!(rt; first_number(&table, "n").is_none());
+    assert!(rt; is_removed(&mut table, stays, &above));
+    assert!(rt; first_number(&table, "m").is_none());
+    Ok(())
+}
+
+#[test]
+fn a_new_list_gets_the_least_free_id(rt: HostRuntime) -> Result<(), Fail> {
+    let mut table = NameTable::new(rt.alloc());
+    for list_id in 0..4usize {
+        assert_eq!(rt; add(rt.alloc(), &mut table, "* a")?.0, list_id);
+    }
+    let (fourth, list) = add(rt.alloc(), &mut table, "[attr]m a")?;
+    assert!(rt; table.holds(fourth, &list) && !table.holds(2, &list));
+    assert!(rt; is_removed(&mut table, fourth, &list));
+    for list_id in [2usize, 1] {
+        assert!(rt; is_removed(&mut table, list_id, &[]));
+    }
+    for list_id in [1usize, 2, 4] {
+        assert_eq!(rt; add(rt.alloc(), &mut table, "* a")?.0, list_id);
+    }
+    Ok(())
+}
+
+#[test]
+fn a_number_has_a_name(rt: HostRuntime) -> Result<(), Fail> {
+    let mut table = NameTable::new(rt.alloc());
+    add(rt.alloc(), &mut table, "[attr]m x y\n* z x\n[attr]y q")?;
+    assert!(rt; table.name(0) == Some("m"));
+    assert!(rt; table.name(4) == Some("q"));
+    assert!(rt; table.name(5).is_none());
+    Ok(())
+}
+
 #[test]
 fn copies_have_the_registered_lists(rt: HostRuntime) -> Result<(), Fail> {
     let mut table = NameTable::new(rt.alloc());
@@ -124,7 +168,7 @@ fn a_new_table_is_empty(rt: HostRuntime) -> Result<(), Fail> {
     let text = format!(in rt.alloc(); "{:?}", NameTable::new(rt.alloc()))?;
     assert_eq!(rt;
         text.as_str(),
-        "NameTable { parts: Parts { names: {}, entries: [], active: [] } }"
+        "NameTable { parts: Parts { names: {}, entries: [], active: [], free_from: 0, macro_free: [] } }"
     );
     Ok(())
 }

@@ -1,7 +1,7 @@
 //! Lists that are added and removed, and the names and bodies of the collection after that.
 use gix_attributes::Search;
 use gix_attributes::glob::search::pattern::List;
-use gix_attributes::search::{Attributes, DropReason, Dropped, MetadataCollection};
+use gix_attributes::search::{AttributeId, Attributes, DropReason, Dropped, MetadataCollection};
 use std::alloc::{AllocError, Global};
 use std::test::Fail;
 
@@ -100,6 +100,15 @@ fn names_are_numbered_when_they_are_first_seen(rt: HostRuntime) -> Result<(), Fa
     let lists = with_list(rt.alloc(), b"[attr]m x y\n* z x\n[attr]y q\n")?;
     let text = lists.known(rt.alloc())?;
     assert_eq!(rt; text.as_str(), "m: x y\nx:\ny: q\nz:\nq:\n");
+    Ok(())
+}
+
+#[test]
+fn a_number_has_its_name(rt: HostRuntime) -> Result<(), Fail> {
+    let lists = with_list(rt.alloc(), b"[attr]m x y\n* z x\n[attr]y q\n")?;
+    for (number, name) in [(0, Some("m")), (3, Some("z")), (5, None)] {
+        assert!(rt; lists.collection.name_of(AttributeId(number)) == name);
+    }
     Ok(())
 }
 

@@ -1,6 +1,7 @@
 //! Outcomes that are searched, copied, and initialised again.
 use super::scene::Step::{
-    Add, Begin, Clone, CopyFor, Count, Find, Fit, Numbers, Places, Reset, Select, Show, Turn,
+    Add, Begin, Clone, CopyFor, Count, Find, Fit, Numbers, Places, Renew, Reset, Rows, Select,
+    Show, Turn,
 };
 use super::scene::{TOP, expect};
 use gix_attributes::glob::pattern::Case::Sensitive;
@@ -170,5 +171,70 @@ fn a_clone_keeps_what_is_reset(rt: HostRuntime) -> Result<(), AllocError> {
         rt.alloc(),
         &steps,
         "true\ndone 2 1\nOutcome(a, b)\nopen 0 0\nOutcome\n",
+    )
+}
+
+#[test]
+fn a_reset_empties_what_was_filled(rt: HostRuntime) -> Result<(), AllocError> {
+    let steps = [
+        Add(TOP, "* a\n*.c b\n/d c e\n"),
+        Select(&[]),
+        Find("x.c", Sensitive),
+        Numbers,
+        Reset,
+        Numbers,
+        Find("d", Sensitive),
+        Show,
+    ];
+    expect(
+        &rt,
+        rt.alloc(),
+        &steps,
+        "true\n0\n1\ntrue\nOutcome(a, c, e)\n",
+    )
+}
+
+#[test]
+fn another_selection_is_looked_for(rt: HostRuntime) -> Result<(), AllocError> {
+    for (names, answer) in [
+        (["b"].as_slice(), "true\nOutcome(a)\ntrue\nOutcome(b=1)\n"),
+        ([].as_slice(), "true\nOutcome(a)\ntrue\nOutcome(a, b=1)\n"),
+    ] {
+        let steps = [
+            Add(TOP, "* b=1\n* a\n"),
+            Select(&["a"]),
+            Find("f", Sensitive),
+            Show,
+            Select(names),
+            Find("f", Sensitive),
+            Show,
+        ];
+        expect(&rt, rt.alloc(), &steps, answer)?;
+    }
+    Ok(())
+}
+
+// The number of the macro is then that of a name that is none.
+#[test]
+fn another_collection_has_fewer_names(rt: HostRuntime) -> Result<(), AllocError> {
+    let steps = [
+        Add(TOP, "[attr]m x y\n* m a b\n"),
+        Select(&["m", "y"]),
+        Find("f", Sensitive),
+        Show,
+        Renew,
+        Add(TOP, "* z\n"),
+        Fit,
+        Select(&[]),
+        Fit,
+        Find("f", Sensitive),
+        Numbers,
+        Rows,
+    ];
+    expect(
+        &rt,
+        rt.alloc(),
+        &steps,
+        "true\nOutcome(m, y)\ntrue false\ntrue true\ntrue\n0\nz attribute - 1\n",
     )
 }

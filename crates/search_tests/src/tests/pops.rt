@@ -18,6 +18,36 @@ fn a_popped_list_has_no_effect(rt: HostRuntime) -> Result<(), AllocError> {
 }
 
 #[test]
+fn popped_lists_of_folders_are_not_found(rt: HostRuntime) -> Result<(), AllocError> {
+    let steps = [
+        Add("a/.gitattributes", "* x=1\n"),
+        Add("a/b/.gitattributes", "* x=2\n"),
+        Add("a/b/.gitattributes", "* x=3\n"),
+        Select(&[]),
+        Find("a/b/f", Sensitive),
+        Show,
+        Pop,
+        Begin,
+        Find("a/b/f", Sensitive),
+        Show,
+        Pop,
+        Begin,
+        Find("a/b/f", Sensitive),
+        Show,
+        Add("A/B/.gitattributes", "* x=4\n"),
+        Begin,
+        Find("a/b/f", Sensitive),
+        Show,
+        Begin,
+        Find("A/B/f", Sensitive),
+        Show,
+    ];
+    let answer =
+        "true\nOutcome(x=3)\ntrue\nOutcome(x=2)\ntrue\nOutcome(x=1)\ntrue\nOutcome(x=1)\ntrue\nOutcome(x=4)\n";
+    expect(&rt, rt.alloc(), &steps, answer)
+}
+
+#[test]
 fn a_popped_body_makes_room_for_the_one_before(rt: HostRuntime) -> Result<(), AllocError> {
     for (first, second, answer) in [
         (

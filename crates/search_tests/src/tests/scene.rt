@@ -23,6 +23,8 @@ pub(super) enum Step<'a> {
     Pop,
     /// Changes to the other search over the same collection.
     Turn,
+    /// Changes to a new collection, with new searches. The outcomes stay.
+    Renew,
     /// Initialises the outcome for these names, and for all if there are none.
     Select(&'a [&'a str]),
     /// Initialises the outcome again, for the same names.
@@ -200,6 +202,7 @@ impl Scene {
             Step::AddWithoutMacros(text) => self.add(alloc, TOP, text, false),
             Step::Pop => self.pop(rt),
             Step::Turn => self.turn(),
+            Step::Renew => self.renew(alloc),
             Step::Select(names) => self.select(alloc, names),
             Step::Begin => self.outcome.initialize(alloc, &self.collection),
             Step::Reset => self.reset(),
@@ -240,6 +243,13 @@ impl Scene {
 
     fn turn(&mut self) -> Result<(), AllocError> {
         mem::swap(&mut self.search, &mut self.other_search);
+        Ok(())
+    }
+
+    fn renew(&mut self, alloc: Global) -> Result<(), AllocError> {
+        self.collection = MetadataCollection::new(alloc);
+        self.search = Search::new(alloc);
+        self.other_search = Search::new(alloc);
         Ok(())
     }
 

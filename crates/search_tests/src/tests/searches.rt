@@ -59,6 +59,34 @@ fn selected_names_are_answered_in_their_order(rt: HostRuntime) -> Result<(), All
 }
 
 #[test]
+fn lists_of_folders_in_one_another_are_found(rt: HostRuntime) -> Result<(), AllocError> {
+    for (path, case, answer) in [
+        (
+            "a/B/c/f",
+            Sensitive,
+            "true\nOutcome(x=3, one, two, three)\n",
+        ),
+        ("a/B/f", Sensitive, "true\nOutcome(x=2, one, two)\n"),
+        ("a/b/c/f", Sensitive, "true\nOutcome(x=1, one)\n"),
+        ("A/b/C/f", Sensitive, "false\nOutcome\n"),
+        ("A/b/C/f", Fold, "true\nOutcome(x=3, one, two, three)\n"),
+        ("a/Bc/f", Fold, "true\nOutcome(x=1, one)\n"),
+        ("a/B", Fold, "true\nOutcome(x=1, one)\n"),
+    ] {
+        let steps = [
+            Add("a/.gitattributes", "* x=1 one\n"),
+            Add("a/B/.gitattributes", "* x=2 two\n"),
+            Add("a/B/c/.gitattributes", "* x=3 three\n"),
+            Select(&[]),
+            Find(path, case),
+            Show,
+        ];
+        expect(&rt, rt.alloc(), &steps, answer)?;
+    }
+    Ok(())
+}
+
+#[test]
 fn lines_apply_below_their_base(rt: HostRuntime) -> Result<(), AllocError> {
     let below = "sub/.gitattributes";
     for (first, second, path, case, answer) in [
