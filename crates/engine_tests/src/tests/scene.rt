@@ -143,8 +143,24 @@ fn ask(
     question: Question<'_>,
     out: &mut String,
 ) -> Result<(), AllocError> {
+    out.reserve(8)?;
     let count = engine.ask(alloc, question)?;
-    out.push_str(format!(in alloc; "{count}\n")?.as_str())
+    out.push_str(digit(count))?;
+    out.push_str("\n")
+}
+
+// The number in words that take no memory.
+fn digit(count: usize) -> &'static str {
+    match count {
+        0 => "0",
+        1 => "1",
+        2 => "2",
+        3 => "3",
+        4 => "4",
+        5 => "5",
+        6 => "6",
+        _ => "many",
+    }
 }
 
 fn push_rows(engine: &Engine, alloc: Global, out: &mut String) -> Result<(), AllocError> {

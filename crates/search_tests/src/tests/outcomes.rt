@@ -198,7 +198,7 @@ fn a_reset_empties_what_was_filled(rt: HostRuntime) -> Result<(), AllocError> {
 fn another_selection_is_looked_for(rt: HostRuntime) -> Result<(), AllocError> {
     for (names, answer) in [
         (["b"].as_slice(), "true\nOutcome(a)\ntrue\nOutcome(b=1)\n"),
-        ([].as_slice(), "true\nOutcome(a)\ntrue\nOutcome(a, b=1)\n"),
+        ([].as_slice(), "true\nOutcome(a)\ntrue\nOutcome(b=1, a)\n"),
     ] {
         let steps = [
             Add(TOP, "* b=1\n* a\n"),
