@@ -14,15 +14,16 @@
  *   1. A `yektrod` is all zero bytes before the first call, and only these functions write it after that.
  *   2. It may be moved, but not copied and used twice: two copies would free one engine twice.
  *   3. A call has its `yektrod` for itself alone, and so each `to`, `needed`, `answers`, `dropped`, `answer` and `line`: no
- *      other thread uses them, and they overlap neither one another nor what is read.
+ *      other thread uses them, and they overlap neither one another nor what is read. Likewise `out`, `written` and
+ *      `malformed`.
  *   4. No pointer is NULL, also at length 0, and each is aligned for its type. `length` bytes can be read there, and
- *      `room` bytes can be written; `to` is initialised. A length is below 2^63. A `bool` is 0 or 1.
+ *      `room` bytes can be written; `to` and `out` are initialised. A length is below 2^63. A `bool` is 0 or 1.
  *   5. An engine stays on the thread that opened it.
  *   6. `malloc`, `realloc` and `free` are of one allocator, and align a block to each power of two up to 16 that divides
  *      its size. No call comes from a signal handler, or from the forked child of a process with threads.
  *
  * What is no promise, since a status answers it: a call before `yektrod_open`, after `yektrod_close`, a second open or
- * close, a number past the end, too little room, bytes that are no UTF-8, no memory.
+ * close, a number past the end, too little room, bytes that are no UTF-8, a malformed script, no memory.
  *
  * Nothing that a call is passed is kept. What `yektrod_open` takes `yektrod_close` frees; a caller frees nothing.
  */
@@ -49,7 +50,8 @@ typedef struct {
     size_t length;
 } yektrod_bytes;
 
-/* What the functions return. If it is not 0, nothing has changed, but for YEKTROD_NO_MEMORY of yektrod_ask. */
+/* What the functions return. If it is not 0, nothing has changed, but for YEKTROD_NO_MEMORY of yektrod_ask, and for what yektrod_run
+   writes with YEKTROD_NO_ROOM and YEKTROD_MALFORMED. */
 enum {
     YEKTROD_DONE = 0,
     YEKTROD_NO_MEMORY = 1,
@@ -57,7 +59,8 @@ enum {
     YEKTROD_MISSING = 3,    /* no such answer, line or text */
     YEKTROD_UNREADABLE = 4, /* a source, root or name is no UTF-8, or is_dir is out of range */
     YEKTROD_NO_LIST = 5,    /* there is no list to remove */
-    YEKTROD_NO_ROOM = 6     /* the text is longer than the room; `needed` gets its length */
+    YEKTROD_NO_ROOM = 6,    /* the text is longer than the room; `needed` or `written` gets its length */
+    YEKTROD_MALFORMED = 7   /* a record of a script is malformed */
 };
 
 /* Why a line was dropped. */
@@ -123,6 +126,12 @@ int32_t yektrod_text(yektrod *y, size_t i, int32_t which, uint8_t *to, size_t ro
 
 /* Frees the engine, if there is one. */
 void yektrod_close(yektrod *y);
+
+/* Plays a script (docs/SCRIPT.md) over an engine of its own, which begins with the built-in list: what the program writes for it
+   goes to the front of `out`, as far as there is room. `written` gets the length of the whole text, also if the room is too little.
+   With YEKTROD_MALFORMED, also if the room is too little, the text is that of the records before the first malformed one, and
+   `malformed` gets the number of that record, from 1. With YEKTROD_NO_MEMORY nothing is written to any of the three. */
+int32_t yektrod_run(const uint8_t *script, size_t length, uint8_t *out, size_t room, size_t *written, size_t *malformed);
 
 #ifdef __cplusplus
 }

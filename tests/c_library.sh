@@ -24,7 +24,7 @@ plays >"$room/scripts"
 # Compiles the clients, and runs them.
 clients() {
     flags="-std=c11 -O2 -g -Wall -Wextra -Werror -I$room/yektrod/include"
-    for name in first statuses script; do
+    for name in first statuses script run; do
         "$1" $flags "$top/clients/c/$name.c" "$room/yektrod/lib/libyektrod.a" -o "$room/$name"
     done
     "$1" $flags -Wl,--wrap=malloc,--wrap=realloc "$top/clients/c/refused.c" "$room/yektrod/lib/libyektrod.a" -o "$room/refused"
@@ -32,19 +32,40 @@ clients() {
     "$room/statuses"
     "$room/refused"
     while read -r script answers; do
-        "$room/script" <"$script" | cmp -s "$answers" - || { echo "c_library: $script gives other answers" >&2; exit 1; }
+        for name in script run; do
+            "$room/$name" <"$script" | cmp -s "$answers" - || { echo "c_library: $name: $script gives other answers" >&2; exit 1; }
+        done
     done <"$room/scripts"
     echo "c_library: with $1, $(wc -l <"$room/scripts") scripts give their answers"
 }
 
+# Runs the scripts without their last bytes, here and in the program.
+cuts() {
+    program=$top/crates/check_attr_cli/out/check_attr_cli
+    [ -x "$program" ] || { echo 'c_library: the program is not built, so this is left out: scripts without their last bytes'; return; }
+    while read -r script answers; do
+        for bytes in 1 3 20; do
+            head -c "-$bytes" "$script" >"$room/cut"
+            status=0; "$program" <"$room/cut" >"$room/wanted" 2>"$room/wanted_errors" || status=$?
+            got=0; "$room/run" <"$room/cut" >"$room/text" 2>"$room/errors" || got=$?
+            sed 's/^check_attr: /run: /' "$room/wanted_errors" | cmp -s - "$room/errors" && cmp -s "$room/wanted" "$room/text" &&
+                [ "$status" = "$got" ] || { echo "c_library: run: $script without its last $bytes bytes ends otherwise" >&2; exit 1; }
+        done
+    done <"$room/scripts"
+    echo 'c_library: scripts without their last bytes end as in the program'
+}
+
 clients "${CC:-cc}"
+cuts
 if has valgrind 'reads and writes of memory that is not there, and leaks'; then
     for name in first statuses refused; do
         valgrind -q --leak-check=full --error-exitcode=9 "$room/$name" >"$room/said" 2>&1 || { cat "$room/said" >&2; exit 1; }
     done
     for name in checkout all archive pathspec; do
-        valgrind -q --leak-check=full --error-exitcode=9 "$room/script" <"$top/examples/$name.script" >"$room/said" 2>"$room/errors" ||
-            { cat "$room/errors" >&2; exit 1; }
+        for client in script run; do
+            valgrind -q --leak-check=full --error-exitcode=9 "$room/$client" <"$top/examples/$name.script" >"$room/said" 2>"$room/errors" ||
+                { cat "$room/errors" >&2; exit 1; }
+        done
     done
     echo 'c_library: valgrind finds nothing'
 fi

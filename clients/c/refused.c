@@ -103,8 +103,38 @@ static int one(long nth, char *wanted) {
     return was_refused ? 0 : -1;
 }
 
+#define SCRIPT "add m 1 - 23\nf[attr]m -a b=c\n* =\n* m\n\nask l s f 1\nx\n"
+#define RUN_TEXT "dropped: f:2: attribute-name\nx: m: set\nx: a: unset\nx: b: c\n"
+
+static int run_one(long nth) {
+    uint8_t out[128], before[128];
+    size_t written = 77, malformed = 77;
+    memset(out, 7, sizeof out);
+    memset(before, 7, sizeof before);
+    left = nth;
+    int32_t status = yektrod_run(BYTES(SCRIPT), out, sizeof out, &written, &malformed);
+    bool was_refused = left < 0;
+    left = -1;
+    if (status == YEKTROD_NO_MEMORY) {
+        refusals++;
+        if (written != 77 || memcmp(out, before, sizeof out)) return 8;
+    } else if (status != YEKTROD_DONE || written != sizeof RUN_TEXT - 1 || memcmp(out, RUN_TEXT "\7", written + 1)) return 9;
+    return malformed != 77 ? 10 : was_refused ? 0 : -1;
+}
+
+/* Refuses each request of a run in turn. */
+static int run_all(void) {
+    for (long nth = 0; nth < MOST; nth++) {
+        int status = run_one(nth);
+        if (status > 0) return fprintf(stderr, "refused: request %ld of a run: %d\n", nth, status), 1;
+        if (status < 0) return 0;
+    }
+    return 1;
+}
+
 int main(void) {
     static char wanted[2048];
+    if (run_one(MOST) != -1 || run_all()) return fputs("refused: a run\n", stderr), 1;
     int status = one(MOST, wanted);
     if (status != -1) return fprintf(stderr, "refused: without a refusal: %d\n", status), 1;
     for (long nth = 0; nth < MOST; nth++) {

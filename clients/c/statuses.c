@@ -107,8 +107,31 @@ static int pops(void) {
     return 0;
 }
 
+#define SCRIPT "add - 1 - 4\nf* a\n\nask l s u 1\nx\n"
+
+/* Plays a script into the first bytes of a room that is full of sevens. */
+static int32_t run(const char *script, size_t room, size_t *malformed) {
+    memset(to, 7, sizeof to);
+    needed = *malformed = 77;
+    return yektrod_run((const uint8_t *)script, strlen(script), to, room, &needed, malformed);
+}
+
+static int scripts(void) {
+    size_t malformed;
+    CHECK(run("", 0, &malformed) == YEKTROD_DONE && needed == 0 && malformed == 77);
+    CHECK(run(SCRIPT, 32, &malformed) == YEKTROD_DONE && needed == 10 && malformed == 77 && !memcmp(to, "x: a: set\n\7", 11));
+    CHECK(run(SCRIPT, 10, &malformed) == YEKTROD_DONE && needed == 10 && !memcmp(to, "x: a: set\n\7", 11));
+    CHECK(run(SCRIPT, 9, &malformed) == YEKTROD_NO_ROOM && needed == 10 && malformed == 77 && !memcmp(to, "x: a: set\7", 10));
+    CHECK(run(SCRIPT, 0, &malformed) == YEKTROD_NO_ROOM && needed == 10 && to[0] == 7);
+    CHECK(run(SCRIPT "pop\nask l s u 1\nx", 32, &malformed) == YEKTROD_MALFORMED && needed == 10 && malformed == 4);
+    CHECK(!memcmp(to, "x: a: set\n\7", 11));
+    CHECK(run(SCRIPT "ask", 3, &malformed) == YEKTROD_MALFORMED && needed == 10 && malformed == 3 && !memcmp(to, "x: \7", 4));
+    CHECK(run("names 01\na\n", 0, &malformed) == YEKTROD_MALFORMED && needed == 0 && malformed == 1);
+    return 0;
+}
+
 int main(void) {
-    if (shut() || built_in() || lists() || questions() || pops()) return 1;
+    if (shut() || built_in() || lists() || questions() || pops() || scripts()) return 1;
     count = needed = 77;
     if (shut() || yektrod_open(&y) != YEKTROD_DONE) return 1;
     yektrod_close(&y);

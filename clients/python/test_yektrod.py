@@ -3,7 +3,7 @@ import os
 import sys
 import unittest
 
-from yektrod import Answer, Closed, Dropped, Engine, NoList, NotText
+from yektrod import Answer, Closed, Dropped, Engine, Malformed, NoList, NotText, run
 
 
 class Calls(unittest.TestCase):
@@ -48,6 +48,15 @@ class Calls(unittest.TestCase):
             engine.add(b'A.c x\nd/ y\n', 'f', None)
             self.assertEqual([len(engine.ask('a.c', fold=fold)) for fold in (False, True)], [0, 1])
             self.assertEqual([len(engine.ask('d', is_dir=kind)) for kind in (True, False, None)], [1, 0, 0])
+
+    def test_run(self):
+        script = b'add - 1 - 4\nf* a\n\nask l s u 1\nx\n'
+        self.assertEqual(run(b''), b'')
+        self.assertEqual(run(script), b'x: a: set\n')
+        self.assertEqual(run(script + b'ask l s u 1\nx\n' * 9999), b'x: a: set\n' * 10000)
+        with self.assertRaises(Malformed) as caught:
+            run(script + b'pop\nask')
+        self.assertEqual((caught.exception.number, caught.exception.text), (4, b'x: a: set\n'))
 
 
 class Script:
@@ -119,7 +128,7 @@ def compare(folders):
     for folder in folders:
         for script, answers in played(folder, 'manifest'):
             text, wanted = open(script, 'rb').read(), open(answers, 'rb').read()
-            if Script(text).play() != wanted:
+            if Script(text).play() != wanted or run(text) != wanted:
                 sys.exit(f'test_yektrod: {script} gives other answers')
             count += 1
     print(f'test_yektrod: {count} scripts give their answers')

@@ -12,7 +12,7 @@ import os
 from typing import NamedTuple, Optional, Union
 
 # What the library returns.
-DONE, NO_MEMORY, SHUT, MISSING, UNREADABLE, NO_LIST, NO_ROOM = range(7)
+DONE, NO_MEMORY, SHUT, MISSING, UNREADABLE, NO_LIST, NO_ROOM, MALFORMED = range(8)
 # The texts of an answer.
 NAME, VALUE, SOURCE, PATTERN, CAUSE = range(5)
 REASONS = {1: 'macro-name', 2: 'negative', 3: 'attribute-name', 4: 'reserved'}
@@ -34,6 +34,14 @@ class NotText(Error, ValueError):
 
 class NoList(Error, IndexError):
     """There is no list to remove."""
+
+
+class Malformed(Error, ValueError):
+    """A record of a script is malformed: `number` is its number, from 1, and `text` what the records before it write."""
+
+    def __init__(self, number: int, text: bytes):
+        super().__init__(f'run: malformed record {number}')
+        self.number, self.text = number, text
 
 
 class Answer(NamedTuple):
@@ -92,6 +100,8 @@ def _load():
         function = getattr(library, 'yektrod_' + name)
         function.argtypes = [slot] + types
         function.restype = None if name == 'close' else number
+    library.yektrod_run.argtypes = text + text + [count, count]
+    library.yektrod_run.restype = number
     return library
 
 
@@ -113,6 +123,22 @@ def _done(status, what):
 
 def _bytes(text):
     return os.fsencode(text) if isinstance(text, str) else bytes(text)
+
+
+def run(script: bytes) -> bytes:
+    """Plays a script (docs/SCRIPT.md) over an engine of its own, and returns what the program writes for it."""
+    script, room = bytes(script), 1 << 16
+    written, malformed = ctypes.c_size_t(), ctypes.c_size_t()
+    while True:
+        out = ctypes.create_string_buffer(room)
+        status = _library.yektrod_run(script, len(script), out, room, written, malformed)
+        if status != NO_MEMORY and written.value > room:
+            room = written.value
+            continue
+        if status == MALFORMED:
+            raise Malformed(malformed.value, out.raw[:written.value])
+        _done(status, 'run')
+        return out.raw[:written.value]
 
 
 class Engine:

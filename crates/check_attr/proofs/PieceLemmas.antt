@@ -114,6 +114,12 @@ module _ {W : Type 0} (contents : W → Option (List ℕ)) (failed stalled : W �
   stops_of T a b held text Write p = p
   stops_of T a b held text OutOfMemory p = p
 
+  pub stops_front : (a b : W) (text : List ℕ) (e : Fault) → Stops a b text e → AppendsFront (contents a) (contents b) text
+  stops_front a b text (Record k) p = absurd p
+  stops_front a b text Read p = absurd p
+  stops_front a b text Write p = p.0
+  stops_front a b text OutOfMemory p = p.0
+
   pub stops_as : {U : Type 0} (a b : W) (held text : List ℕ) (e : Fault) (r : Result U Fault) → IsErrAnd r (λ x. x ≡ e) → Stops a b text e
       → Passes contents failed stalled a b held text r
   stops_as a b held text e (Ok x) is p = absurd is

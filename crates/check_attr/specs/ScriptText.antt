@@ -126,15 +126,21 @@ pub data Writes : EngineState → ℕ → List ℕ → Option ℕ → List ℕ �
       BeginsWithRecord script r rest → IsRecordText s r first → Writes (next_state r s) (n + 1) rest malformed others →
       Writes s n script malformed (first ++ others)
 
--- the text of a script from the global lists was appended, whole or up to its malformed record of this number
-abbrev pub AppendsText : GlobalLists → List ℕ → Option ℕ → Option (List ℕ) → Option (List ℕ) → Type 0
-AppendsText globals script malformed old new =
-    (text : List ℕ) × Writes (initial_state globals) 1 script malformed text × Appends old new text
+-- the text of a script from a state was appended, whole or up to its malformed record of this number
+abbrev pub AppendsTextFrom : EngineState → List ℕ → Option ℕ → Option (List ℕ) → Option (List ℕ) → Type 0
+AppendsTextFrom s script malformed old new = (text : List ℕ) × Writes s 1 script malformed text × Appends old new text
 
 -- a beginning of that text was appended
+abbrev pub AppendsFrontFrom : EngineState → List ℕ → Option (List ℕ) → Option (List ℕ) → Type 0
+AppendsFrontFrom s script old new =
+    (malformed : Option ℕ) × (text : List ℕ) × Writes s 1 script malformed text × AppendsFront old new text
+
+-- the same from the global lists
+abbrev pub AppendsText : GlobalLists → List ℕ → Option ℕ → Option (List ℕ) → Option (List ℕ) → Type 0
+AppendsText globals = AppendsTextFrom (initial_state globals)
+
 abbrev pub AppendsTextFront : GlobalLists → List ℕ → Option (List ℕ) → Option (List ℕ) → Type 0
-AppendsTextFront globals script old new =
-    (malformed : Option ℕ) × (text : List ℕ) × Writes (initial_state globals) 1 script malformed text × AppendsFront old new text
+AppendsTextFront globals = AppendsFrontFrom (initial_state globals)
 
 -- the same, if the bytes of the script are known
 abbrev pub WritesText : GlobalLists → Option (List ℕ) → Option ℕ → Option (List ℕ) → Option (List ℕ) → Type 0

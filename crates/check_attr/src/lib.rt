@@ -23,5 +23,5 @@ pub use crate::fault::Fault;
 pub use crate::global_lists::{Globals, read_globals as globals};
 pub use crate::line_report::lines;
 pub use crate::reading::{Pull, Reader};
-pub use crate::script_run::run;
+pub use crate::script_run::{play, run};
 pub use crate::writing::{Push, Writer};

@@ -1,10 +1,9 @@
 //! A run of a script: read it, apply its records, and write the text in pieces.
 
-ghost use Rattle.std.specs.Prelude.{◌≡◌, ◌⊎◌, ℕ, [], None, Some, Err, OnOk, IsErrOf};
+ghost use Rattle.std.specs.Prelude.{◌≡◌, ◌≢◌, ◌⊎◌, ℕ, [], None, Some, Err, OnOk, IsErrOf};
 ghost use Rattle.std.specs.Io.KnownBytes.{IsAtEnd};
 ghost use Rattle.check_attr.specs.Outcomes.{CountsReads, CountsWrites, ReadsInputFirst};
-ghost use Rattle.check_attr.specs.ScriptText.{WritesText, WritesTextFront};
-ghost use Rattle.check_attr.specs.ScriptStates.{initial_state};
+ghost use Rattle.check_attr.specs.ScriptText.{AppendsFrontFrom, AppendsTextFrom, WritesText, WritesTextFront};
 ghost use Rattle.check_attr.specs.inner.PassedText.{PassesScript};
 
 use crate::applying::apply;
@@ -13,6 +12,7 @@ use crate::global_lists::Globals;
 use crate::reading::{Pull, read_all};
 use crate::script::record_of;
 use crate::writing::{Push, write_all};
+use attr_engine::Engine;
 use std::alloc::Global;
 
 /// Runs a script over global lists: adds and removes lists, selects names, and looks up paths. The
@@ -51,8 +51,39 @@ pub fn run<R: Pull, W: Push>(
         (W.stalled writer.old) (W.stalled writer.new) }
 {
     let script = read_all(alloc, reader)?;
+    play(alloc, &script, globals.into_engine(alloc), writer)
+}
+
+/// Plays a script that is in memory over an engine: adds and removes lists, selects names, and looks
+/// up paths. The text is written in pieces, one whenever 65,536 bytes are held, and flushed once, at
+/// the end.
+///
+/// # Errors
+///
+/// `Record` if a record is malformed: the text of those before it was written and flushed. `Write` if
+/// the writer failed or took no byte, and `OutOfMemory` if a buffer could not grow: a beginning of the
+/// text may be written, and what was held is dropped.
+pub fn play<W: Push>(
+    alloc: Global,
+    script: &[u8],
+    engine: Engine,
+    writer: &mut W,
+) -> Result<(), Fault>
+    ensures ok { OnOk result (AppendsTextFrom engine.state script.now None
+        (W.contents writer.old) (W.contents writer.new)) }
+    ensures malformed { (k : ℕ) → result ≡ Err (Fault.Record k) →
+        AppendsTextFrom engine.state script.now (Some k)
+        (W.contents writer.old) (W.contents writer.new) }
+    ensures front { (IsErrOf result Fault.Write ⊎ IsErrOf result Fault.OutOfMemory) →
+        AppendsFrontFrom engine.state script.now (W.contents writer.old) (W.contents writer.new) }
+    ensures read { result ≢ Err Fault.Read }
+    ensures flushed { OnOk result (W.Flushed writer.new) }
+    ensures flushed_before { (k : ℕ) → result ≡ Err (Fault.Record k) → W.Flushed writer.new }
+    ensures writes { CountsWrites result (W.failed writer.old) (W.failed writer.new)
+        (W.stalled writer.old) (W.stalled writer.new) }
+{
     let mut held = Vec::new(alloc);
-    let malformed = answer(alloc, &script, globals, writer, &mut held)?;
+    let malformed = answer(alloc, script, engine, writer, &mut held)?;
     write_all(writer, &held)?;
     match malformed {
         None => Ok(()),
@@ -65,15 +96,14 @@ pub fn run<R: Pull, W: Push>(
 fn answer<W: Push>(
     alloc: Global,
     script: &[u8],
-    globals: Globals,
+    mut engine: Engine,
     writer: &mut W,
     held: &mut Vec<u8>,
 ) -> Result<Option<usize>, Fault>
     requires { held.old.items ≡ [] }
-    ensures { PassesScript W.contents W.failed W.stalled (initial_state globals) script.now
+    ensures { PassesScript W.contents W.failed W.stalled engine.state script.now
         writer.old writer.new held.new.items result }
 {
-    let mut engine = globals.into_engine(alloc);
     let mut rest = script;
     let mut number = 1;
     while !rest.is_empty() {

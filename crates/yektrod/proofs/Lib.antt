@@ -1,2 +1,3 @@
 pub mod BoxedEngine
 mod AskLemmas
+mod RoomLemmas

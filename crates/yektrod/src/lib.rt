@@ -8,6 +8,8 @@ mod handle;
 pub mod lists;
 pub mod open;
 pub mod questions;
+mod room;
+pub mod script;
 pub mod slot;
 mod status;
 mod texts;

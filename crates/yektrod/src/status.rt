@@ -16,3 +16,5 @@ pub const UNREADABLE: i32 = 4;
 pub const NO_LIST: i32 = 5;
 /// The room is too little.
 pub const NO_ROOM: i32 = 6;
+/// A record of a script is malformed.
+pub const MALFORMED: i32 = 7;

@@ -2,12 +2,11 @@
 use mathlib.Core.Bool.{true}
 use mathlib.Core.Path.{refl}
 use mathlib.Core.List.{[], ◌∷◌, ◌++◌}
-use mir.Val.{Val}
 use base.Fml.{ftrue, fsep}
 use base.Logic.{emp, id⊢}
 use contract.Running.{tables}
 use prog.Wp.{WpFn}
-use types.Kit.{‵, raw, prop, ◌⊛◌, ◌$◌, ◌∵◌, !, qed, by, done, drop, fjoin, fsplit, join, keep, move, regoal, split, suffices, use1}
+use types.Kit.{‵, raw, prop, ◌⊛◌, ◌$◌, ◌∵◌, !, qed, done, drop, fjoin, fsplit, join, keep, regoal, split, suffices, use1}
 use types.Part.{whole, sub, agg}
 use types.Run.{stop, fld, no_more, and_then, of_opd, returns, enter}
 use types.ByLocal.{alloc_all, pass_all, free_all, look_at, get, get_in, sets}

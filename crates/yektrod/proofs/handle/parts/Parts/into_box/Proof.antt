@@ -25,9 +25,8 @@ use denote.Triple.Table.{framed}
 use denote.Triple.Walked.{Stays, says, stay_dropped, walk_of, ends_at}
 use Rattle.std.proofs.VecSteps.Shapes.{after}
 use Rattle.std.proofs.raw_atomic.Walks.{proved_at}
-use Rattle.core.proofs.alloc.Calls.{token, Goes-blank}
-use Rattle.std_alloc.specs.Box.Ownership.{box_owns}
-use Rattle.std_alloc.proofs.BoxSteps.Form.{Bx, D, R, P, B, args, box_ty, word, box_typed}
+use Rattle.core.proofs.alloc.Calls.{Goes-blank}
+use Rattle.std_alloc.proofs.BoxSteps.Form.{Bx, D, R, P, B, args, box_ty, box_typed}
 use Rattle.std_alloc.proofs.BoxSteps.Steps.{box_out, box_in}
 use Rattle.std_alloc.specs.contracts.boxed.Box.from_raw as g
 use Rattle.std_alloc.proofs.boxed.Box.from_raw.Met.{met}

@@ -1,6 +1,6 @@
 -- What the box owns is what the raw pointer and the allocator own that come of it.
 use mathlib.Core.Path.{◌≡◌, refl, ap, ◌∙◌}
-use mathlib.Core.List.{List, [], ◌∷◌, ◌++◌}
+use mathlib.Core.List.{[], ◌∷◌, ◌++◌}
 use mir.MapTy.{inst_fn}
 use mir.Raw.{raw as bare}
 use mir.Syntax.{a_type, dcons, dnil}
