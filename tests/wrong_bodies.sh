@@ -1,8 +1,8 @@
 #!/bin/sh
 # Tries the wrong bodies in crates/*/wrong-bodies: the prover must refuse each. They are edits like those in
-# crates/*/must-fail, which the gate tries, but there are more than a gate of an hour has time for.
+# crates/*/must-fail, which the gate tries, but there are more than a gate has time for.
 # usage: wrong_bodies.sh [CRATE [NAME..]]
-# Without arguments those of all crates are tried, which takes some two hours. With a crate its own are tried, and with
+# Without arguments those of all crates are tried, which takes hours. With a crate its own are tried, and with
 # names only these, in minutes; a name may be in the crate's must-fail too. What `rt check` kept of the libraries below
 # is used if it is still good.
 set -eu

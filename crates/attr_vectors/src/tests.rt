@@ -4,6 +4,7 @@ mod global_names;
 mod hostile;
 mod memory;
 mod pieces;
+mod plays;
 mod rows;
 mod scripts;
 mod statuses;

@@ -1,6 +1,6 @@
 //! The answers to the last question.
 
-ghost use Rattle.std.specs.Prelude.{◌≡◌, ◌⊎◌, ◌↔◌, ◌<◌, ◌++◌, IfSome, MatchOption, None, Some, drop, length, option_and_then, option_map, slice_get};
+ghost use Rattle.std.specs.Prelude.{◌≡◌, ◌⊎◌, ◌↔◌, ◌<◌, ◌++◌, IfSome, MatchOption, None, Some, drop, length, option_and_then, option_map, pos, slice_get};
 ghost use Rattle.gix_attributes.specs.Matches.{cause_of, match_view};
 ghost use Rattle.gix_attributes.specs.TextViews.{state_view};
 ghost use Rattle.yektrod.specs.Held.{answer_held, answer_in, held, text_held};
@@ -91,7 +91,11 @@ pub extern "C" fn yektrod_text(
         return SHUT;
     };
     let status = match engine.answer(i) {
-        Some(found) => copy_part(alloc, &engine, found, which, to, needed),
+        Some(found) if which == 3 => copy_pattern(alloc, found, to, needed),
+        Some(found) => match text_of(&engine, found, which) {
+            Some(text) => copy_text(text, to, needed),
+            None => MISSING,
+        },
         None => MISSING,
     };
     put(slot, engine);
@@ -127,33 +131,12 @@ fn number_of_state(state: StateRef<'_>) -> i32
     }
 }
 
-// Copies a text of an answer of the engine.
-fn copy_part(
-    alloc: Global,
-    engine: &Engine,
-    found: Match<'_>,
-    which: i32,
-    to: &mut [u8],
-    needed: &mut usize,
-) -> i32
-    ensures done { result ≡ status_done → MatchOption
-        (text_numbered engine.now.state.names (match_view found.entry) which) ⊥
-        (λ text. to.new ≡ text ++ drop (length text) to.old) }
-    ensures short { result ≡ status_no_room → MatchOption
-        (text_numbered engine.now.state.names (match_view found.entry) which) ⊥
-        (λ text. length to.old < length text) }
-    ensures needed { (result ≡ status_done) ⊎ (result ≡ status_no_room) → option_map length
-        (text_numbered engine.now.state.names (match_view found.entry) which) ≡ Some needed.new }
-    ensures failed { ¬ (result ≡ status_done) → to.new ≡ to.old }
-    ensures missing { result ≡ status_missing
-        ↔ (text_numbered engine.now.state.names (match_view found.entry) which ≡ None) }
-    ensures status { (result ≡ status_done) ⊎ (result ≡ status_no_memory)
-        ⊎ (result ≡ status_missing) ⊎ (result ≡ status_no_room) }
+// A text of an answer of the engine, if it is not the pattern, and if the answer has it.
+fn text_of<'a>(engine: &'a Engine, found: Match<'a>, which: i32) -> Option<&'a [u8]>
+    ensures { ¬ (which ≡ pos 3) → option_map (λ text. text.now) result
+        ≡ text_numbered engine.now.state.names (match_view found.entry) which }
 {
-    if which == 3 {
-        return copy_pattern(alloc, found, to, needed);
-    }
-    let text = match which {
+    match which {
         0 => Some(found.assignment.name.as_str().as_bytes()),
         1 => match found.assignment.state.as_bstr() {
             Some(value) => Some(value.as_bytes()),
@@ -165,10 +148,6 @@ fn copy_part(
         },
         4 => cause_of_match(engine, found),
         _ => None,
-    };
-    match text {
-        Some(text) => copy_text(text, to, needed),
-        None => MISSING,
     }
 }
 
