@@ -8,14 +8,14 @@ use Rattle.std_heap.specs.contracts.Global as Global
 use Rattle.std_heap.specs.contracts.GlobalAllocator.TheImpl.{ghosts, dict}
 use Rattle.std_heap.proofs.Global.TheLaws as global
 use Rattle.attr_engine.specs.contracts.engine.Engine as Engine
-use Rattle.attr_engine.proofs.engine.Engine.TheLaws as engine
+use Rattle.attr_engine.proofs.ForCallers.{engine_laws}
 use Rattle.yektrod.specs.contracts.handle.parts.Parts as Parts
 use Rattle.yektrod.specs.contracts.handle.Handle as Handle
 
 abbrev pub engine_box : Bx
 engine_box = record {
   row = Engine.the_row;
-  laws = engine.the_row_laws;
+  laws = engine_laws;
   al = record { row = Global.the_row; laws = global.the_row_laws; g = ghosts; d = dict; drops = impl [] tnil dnil };
 }
 
