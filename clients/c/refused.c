@@ -127,7 +127,7 @@ static int run_all(void) {
     for (long nth = 0; nth < MOST; nth++) {
         int status = run_one(nth);
         if (status > 0) return fprintf(stderr, "refused: request %ld of a run: %d\n", nth, status), 1;
-        if (status < 0) return 0;
+        if (status < 0) return printf("refused: %ld requests of a run, each refused once\n", nth), 0;
     }
     return 1;
 }
