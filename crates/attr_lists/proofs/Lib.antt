@@ -5,6 +5,7 @@ pub mod KeptLaws
 pub mod KeptLemmas
 pub mod ListDefinitions
 pub mod ListLemmas
+pub mod MacroLemmas
 pub mod NameLemmas
 pub mod NameTableLaws
 pub mod NameTableSteps

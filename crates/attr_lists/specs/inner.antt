@@ -3,6 +3,7 @@
 pub mod EntryViews
 pub mod EntrySteps
 pub mod Keeping
+pub mod MacroNumbers
 pub mod NameSteps
 pub mod NameTableView
 pub mod LineSteps

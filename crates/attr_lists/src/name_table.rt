@@ -6,6 +6,7 @@
 ghost use Rattle.std.specs.Prelude.{◌≡◌, true, false, ◌<◌, ◌↔◌, length, All, Some, None, nat_lt, if◌then◌else◌, option_map, IfOk, OnOk, OnErr, IfSome, IsSome, IsTrue, slice_get, option_copied};
 ghost use Rattle.attr_lists.specs.Definitions.{macro_body, is_active, free_id, with_list, without_list, HoldsList, IsSoundCollection};
 ghost use Rattle.attr_lists.specs.inner.Keeping.{StayRegistered, OthersStayRegistered, IsNumbered};
+ghost use Rattle.attr_lists.specs.inner.MacroNumbers.{ListsMacros};
 ghost use Rattle.std.specs.Iterator.{YieldsFirstBy, item_count};
 ghost use Rattle.attr_lists.specs.NameViews.{named_body, names_from, named_view, names_left};
 ghost use Rattle.attr_lists.specs.KeptLists.{macros_valid};
@@ -14,6 +15,7 @@ ghost use Rattle.attr_lists.specs.Collections.{empty_collection};
 ghost use Rattle.attr_lists.specs.Numbers.{AppendsNames, number_of, numbered_lines};
 
 mod entry;
+mod macros;
 mod numbers;
 mod parts;
 
@@ -21,6 +23,7 @@ use crate::name_table::parts::{Parts, free_id, is_set, unset};
 use crate::types::{Metadata, Value};
 use attr_glob::search::pattern::Mapping;
 use std::alloc::{AllocError, Global};
+use std::collections::BTreeSet;
 use std::marker::Model;
 
 /// Attribute names by number, and the definitions of macros, each under the list id of its list.
@@ -54,6 +57,7 @@ impl NameTable {
                 active: Vec::new(alloc),
                 free_from: 0,
                 macro_free: Vec::new(alloc),
+                macros: BTreeSet::new(alloc),
             },
         }
     }
@@ -90,6 +94,13 @@ impl NameTable {
     {
         let entry = self.parts.entries.get(number)?;
         Some(entry.metadata())
+    }
+
+    /// The numbers of the names that have definitions. The other names are no macros.
+    pub fn macros(&self) -> &BTreeSet<usize>
+        ensures { ListsMacros result.now self.now }
+    {
+        &self.parts.macros
     }
 
     /// The names with their metadata, by number.
@@ -168,6 +179,8 @@ impl NameTable {
     {
         let (names, entries) = (&self.parts.names, &mut self.parts.entries);
         entry::remove_list(names, entries, list_id, mappings);
+        let macros = &mut self.parts.macros;
+        macros::remove_macros(names, &self.parts.entries, macros, mappings);
         self.parts.active[list_id] = false;
         self.parts.free_from = self.parts.free_from.min(list_id);
     }
@@ -194,6 +207,7 @@ impl NameTable {
         let entries = entry::clone_entries(alloc, &self.parts.entries)?;
         let active = Vec::from_slice(alloc, &self.parts.active)?;
         let macro_free = Vec::from_slice(alloc, &self.parts.macro_free)?;
+        let macros = self.parts.macros.clone()?;
         Ok(NameTable {
             parts: Parts {
                 names,
@@ -201,6 +215,7 @@ impl NameTable {
                 active,
                 free_from: self.parts.free_from,
                 macro_free,
+                macros,
             },
         })
     }

@@ -4,7 +4,18 @@ use Rattle.std.proofs.Common.{All, Option, None, refl, sym, ap, ◌∙◌, arith
 use mir.Val.{bool_byte}
 use Rattle.std.proofs.lemmas.List.{get_or_default, length-set}
 use Rattle.std.proofs.lemmas.List.Sums.{sum_by-cons, sum_by-set}
+use Rattle.std.proofs.Common.{◌≢◌, ◌||◌, ⊎_elim, Less, Greater}
+use Rattle.std.specs.BTreeMap.{is_at}
+use Rattle.std.specs.BTreeSet.{contains}
+use Rattle.std.specs.Cmp.{nat_cmp_is}
+use Rattle.std.specs.List.{list_any}
+use Rattle.std.specs.Ordering.{is_eq, nat_cmp}
+use Rattle.std.proofs.lemmas.Bool.{cases_eq, cases_lt}
+use Rattle.std.proofs.lemmas.List.{get_or-replicate, get_or-set_other, get_or-set_same, length-replicate}
+use Rattle.std.proofs.lemmas.List.FromFn.{fill_by_all, get_or-map-range_with_len, length-map-range_with_len}
 use Rattle.attr_search.specs.inner.SlotContents.{count_wanted, count_remaining}
+use Rattle.attr_search.specs.inner.WantedView.{is_flag_set, wanted_flags_view}
+use Rattle.attr_search.specs.declared.wanted.WantedFlags.TheInside.{Inside}
 
 abbrev one : Bool → ℕ
 one w = cond w 1 0
@@ -50,6 +61,54 @@ count_set flags number count more w lt counted read told =
     let small : count_wanted (set flags number true) ≤ length (set flags number true) = count_small (set flags number true) in
     let len : length (set flags number true) ≡ length flags = length-set flags number true in
     (omega arith, omega arith)
+
+-- another number is not at this one's place
+pub at_other : (n k : ℕ) → k ≢ n → is_at (nat_cmp n) k ≡ false
+at_other n k apart =
+    ⊎_elim
+    (λ (below : n < k). ap is_eq (sym (nat_cmp_is n k Less below)))
+    (λ (le : k ≤ n). ⊎_elim
+    (λ (above : k < n). ap is_eq (sym (nat_cmp_is n k Greater above)))
+    (λ (ge : n ≤ k). absurd (apart (omega arith)))
+    (cases_lt k n))
+    (cases_lt n k)
+
+or_false : (b : Bool) → b || false ≡ b
+or_false true = refl
+or_false false = refl
+
+or_true : (b : Bool) → b || true ≡ true
+or_true true = refl
+or_true false = refl
+
+-- the flag of a number
+pub flag_at : (w : Inside) (k : ℕ) → k < w.len → get_or (wanted_flags_view w) k false ≡ is_flag_set w k
+flag_at w k lt = get_or-map-range_with_len (is_flag_set w) 0 w.len k k false lt (omega arith)
+
+pub length_flags : (w : Inside) → length (wanted_flags_view w) ≡ w.len
+length_flags w = length-map-range_with_len (is_flag_set w) 0 w.len
+
+-- at first they are all the same
+pub flags_same : (w : Inside) → w.numbers.keys ≡ [] → wanted_flags_view w ≡ replicate w.len w.all
+flags_same w none =
+    sym (fill_by_all (is_flag_set w) (replicate w.len w.all) w.len false (length-replicate w.len w.all)
+    (λ k lt. get_or-replicate w.len k w.all false lt ∙ sym (ap (λ ks. w.all || list_any (is_at (nat_cmp k)) ks) none ∙ or_false w.all)))
+
+-- one more flag is set
+pub flags_more : (w v : Inside) (number : ℕ) → number < w.len → v.len ≡ w.len → v.all ≡ w.all → contains nat_cmp v.numbers number ≡ true →
+    ((k : ℕ) → is_at (nat_cmp number) k ≡ false → contains nat_cmp v.numbers k ≡ contains nat_cmp w.numbers k) →
+    wanted_flags_view v ≡ set (wanted_flags_view w) number true
+flags_more w v number lt len all here others =
+    let flags = wanted_flags_view w in
+    sym (fill_by_all (is_flag_set v) (set flags number true) v.len false (length-set flags number true ∙ length_flags w ∙ sym len)
+    (λ k below.
+    ⊎_elim
+    (λ (same : k ≡ number). ap (λ i. get_or (set flags number true) i false) same
+    ∙ get_or-set_same flags number true false (omega (arith, length_flags w))
+    ∙ sym (ap (is_flag_set v) same ∙ ap (λ b. v.all || b) here ∙ or_true v.all))
+    (λ (apart : k ≢ number). get_or-set_other flags number k true false apart ∙ flag_at w k (omega (arith, below, len))
+    ∙ sym (ap (λ b. b || contains nat_cmp v.numbers k) all ∙ ap (λ b. w.all || b) (others k (at_other number k apart))))
+    (cases_eq k number)))
 
 -- where all slots are free, each wanted one is left
 pub count_empty : {Y : Type 0} (X : Type 0) (flags : List Bool) (xs : List Y) → length flags ≡ length xs →

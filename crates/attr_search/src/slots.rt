@@ -124,7 +124,7 @@ impl AnswerSlots {
     pub fn clone(&self, alloc: Global) -> Result<AnswerSlots, AllocError>
         ensures { IfOk result (λ slots. slots ≡ record self.now { line = None }) }
     {
-        let wanted = self.wanted.clone(alloc)?;
+        let wanted = self.wanted.clone()?;
         self.copy(alloc, wanted)
     }
 

@@ -1,15 +1,19 @@
 //! Which numbers a search looks for.
 
-ghost use Rattle.std.specs.Prelude.{◌≡◌, ◌<◌, true, [], IfOk, length, replicate, set, slice_index_or, false};
+ghost use Rattle.std.specs.Prelude.{◌≡◌, ◌<◌, true, [], IfOk, OnErr, OnOk, length, replicate, set, slice_index_or, false};
 ghost use Rattle.attr_search.specs.inner.SlotContents.{count_wanted};
 
 use std::alloc::{AllocError, Global};
+use std::collections::BTreeSet;
 use std::marker::Model;
 
-/// For each number whether it is wanted, and how many are.
+/// For each number below a count whether it is wanted, and how many are. What it costs grows with those that were set one by one.
 #[derive(Drop)]
 pub struct WantedFlags {
-    flags: Vec<bool>,
+    len: usize,
+    // Whether all flags are set. If not, those of these numbers are.
+    all: bool,
+    numbers: BTreeSet<usize>,
     // How many flags are set.
     count: usize,
 }
@@ -31,23 +35,19 @@ impl WantedFlags {
     pub fn new(alloc: Global) -> WantedFlags
         ensures { result ≡ [] }
     {
-        WantedFlags {
-            flags: Vec::new(alloc),
-            count: 0,
-        }
+        WantedFlags::all_or_none(alloc, 0, false)
     }
 
-    /// Flags for the numbers below a count, all of them set or none.
-    ///
-    /// # Errors
-    ///
-    /// If memory runs out.
-    pub fn all_or_none(alloc: Global, count: usize, all: bool) -> Result<WantedFlags, AllocError>
-        ensures { IfOk result (λ flags. flags ≡ replicate count all) }
+    /// Flags for the numbers below a count, all of them set or none. It takes no memory.
+    pub fn all_or_none(alloc: Global, len: usize, all: bool) -> WantedFlags
+        ensures { result ≡ replicate len all }
     {
-        let flags = vec![in alloc; all; count]?;
-        let set = if all { count } else { 0 };
-        Ok(WantedFlags { flags, count: set })
+        WantedFlags {
+            len,
+            all,
+            numbers: BTreeSet::new(alloc),
+            count: if all { len } else { 0 },
+        }
     }
 
     /// A copy.
@@ -55,11 +55,13 @@ impl WantedFlags {
     /// # Errors
     ///
     /// If memory runs out.
-    pub fn clone(&self, alloc: Global) -> Result<WantedFlags, AllocError>
+    pub fn clone(&self) -> Result<WantedFlags, AllocError>
         ensures { IfOk result (λ copy. copy ≡ self.now) }
     {
         Ok(WantedFlags {
-            flags: Vec::from_slice(alloc, &self.flags)?,
+            len: self.len,
+            all: self.all,
+            numbers: self.numbers.clone()?,
             count: self.count,
         })
     }
@@ -68,7 +70,7 @@ impl WantedFlags {
     pub fn len(&self) -> usize
         ensures { result ≡ length self.now }
     {
-        self.flags.len()
+        self.len
     }
 
     /// How many flags are set.
@@ -83,17 +85,24 @@ impl WantedFlags {
         requires { number < length self.now }
         ensures { result ≡ slice_index_or self.now number false }
     {
-        self.flags[number]
+        self.all || self.numbers.contains(&number)
     }
 
     /// Sets the flag of a number.
-    pub fn set(&mut self, number: usize)
+    ///
+    /// # Errors
+    ///
+    /// If memory runs out. Nothing changes then.
+    pub fn set(&mut self, number: usize) -> Result<(), AllocError>
         requires { number < length self.old }
-        ensures { self.new ≡ set self.old number true }
+        ensures ok { OnOk result (self.new ≡ set self.old number true) }
+        ensures refused { OnErr result (self.new ≡ self.old) }
     {
-        // Flags can be counted.
-        prove!(self.flags.len() <= usize::MAX);
-        self.count += usize::from(!self.flags[number]);
-        self.flags[number] = true;
+        if self.has(number) {
+            return Ok(());
+        }
+        self.numbers.insert(number)?;
+        self.count += 1;
+        Ok(())
     }
 }

@@ -1,4 +1,14 @@
 -- Lists that are built element by element, flags of a selection, and bodies that are the same.
+use Rattle.std.proofs.Common.{◌≢◌, ◌≤◌, ⊎_elim, inl, inr}
+use Rattle.std.specs.BTreeMap.{is_at}
+use Rattle.std.specs.BTreeSet.{BTreeSet}
+use Rattle.std.specs.Ordering.{nat_cmp}
+use Rattle.std.specs.List.{AllZip}
+use Rattle.std.proofs.lemmas.List.Elements.{same_from_all_zip}
+use Rattle.std.proofs.lemmas.Bool.{cases_eq, cases_lt}
+use Rattle.std.proofs.lemmas.List.{ext_get_or, get_or-set_other, get_or-set_same, get_or_past}
+use Rattle.attr_lists.specs.inner.MacroNumbers.{ListsMacros}
+use Rattle.attr_search.proofs.ForCallers.{at_other, length_changed, length_sized}
 use Rattle.std.proofs.Common.{rules, ◌≡◌, ℕ, zero, suc, ◌+◌, ◌<◌, Bool, true, false, ◌||◌, ◌==◌, List, [], ◌∷◌, ◌++◌, length, get_or, set, take, Some}
 use Rattle.std.proofs.Common.{None, option_map, unwrap_or, refl, sym, ap, ◌∙◌, ◌-◌, append_assoc, drop, length-take, arith, replicate}
 use Rattle.std.specs.Bool.{Decides}
@@ -14,7 +24,8 @@ use Rattle.attr_lists.specs.Definitions.{macro_body, last_body}
 use Rattle.attr_lists.specs.declared.types.TrackedAssignment.{TrackedAssignment}
 use Rattle.attr_lists.specs.contracts.types.TrackedAssignmentPartialEq.TheImpl as tracked
 use Rattle.gix_attributes.specs.Contents.{has_number, is_wanted, bodies_of}
-use Rattle.gix_attributes.specs.inner.Consistency.{flags_of}
+use Rattle.gix_attributes.specs.inner.BodiesMade.{AreMade, bodies_for, changed_at}
+use Rattle.gix_attributes.specs.inner.Consistency.{AreEmptyElsewhere, flags_of}
 use Rattle.gix_attributes.specs.Selection.{wanted_view, selection_view}
 use Rattle.attr_search.specs.inner.Slotted.{bodies_view}
 use Rattle.attr_search.specs.inner.BodyChanges.{changed_bodies, sized_bodies}
@@ -159,12 +170,6 @@ changed_push : (changes : List BodyChange) (change : BodyChange) (bodies : List 
 changed_push [] change bodies = refl
 changed_push (c ∷ changes) change bodies = changed_push changes change (set bodies c.number c.body.items)
 
-set_seam : {X : Type 0} (xs ys : List X) (y x : X) (n : ℕ) → n ≡ length xs → set (xs ++ y ∷ ys) n x ≡ xs ++ x ∷ ys
-set_seam [] ys y x zero e = refl
-set_seam [] ys y x (suc n) e = absurd (omega arith)
-set_seam (z ∷ xs) ys y x zero e = absurd (omega arith)
-set_seam (z ∷ xs) ys y x (suc n) e = ap (λ l. z ∷ l) (set_seam xs ys y x n (omega arith))
-
 none_more : (n k : ℕ) → get_or {A = List TrackedAssignment} (replicate n []) k [] ≡ []
 none_more zero k = refl
 none_more (suc n) zero = refl
@@ -180,27 +185,112 @@ pub sized_at : (count : ℕ) (bodies : List (List TrackedAssignment)) (k : ℕ) 
 sized_at count bodies k lt =
     get_or-take count (bodies ++ replicate (count - length bodies) []) k [] lt ∙ padded_at bodies (count - length bodies) k
 
--- one more body is as in the collection: it was, or it is changed
-abbrev pub made_below : ℕ → List (List TrackedAssignment) → List (List TrackedAssignment) → List (List TrackedAssignment)
-made_below k new base = take k new ++ drop k base
+-- a body is changed, and the others stay
+changed_here : (known : Collection) (bodies : List (Vec TrackedAssignment Global)) (changes changes' : List BodyChange) (change : BodyChange) →
+    changes' ≡ changes ++ change ∷ [] → change.number < length known.names →
+    changed_at known bodies changes' change.number ≡ change.body.items
+changed_here known bodies changes changes' change pushed lt =
+    let base = bodies_for known bodies in
+    ap (λ l. get_or (changed_bodies l base) change.number []) pushed ∙ ap (λ l. get_or l change.number []) (changed_push changes change base)
+    ∙ get_or-set_same (changed_bodies changes base) change.number change.body.items []
+    (omega (arith, length_changed changes base, length_sized (length known.names) (bodies_view bodies)))
 
-put_at : (k : ℕ) (new base : List (List TrackedAssignment)) → k < length new →
-    take k new ++ get_or new k [] ∷ drop (k + 1) base ≡ made_below (k + 1) new base
-put_at k new base lt =
-    sym (ap (λ l. l ++ drop (k + 1) base) (take_more new k [] lt) ∙ append_assoc (take k new) (get_or new k [] ∷ []) (drop (k + 1) base))
+changed_other : (known : Collection) (bodies : List (Vec TrackedAssignment Global)) (changes changes' : List BodyChange) (change : BodyChange) (k : ℕ) →
+    changes' ≡ changes ++ change ∷ [] → k ≢ change.number → changed_at known bodies changes' k ≡ changed_at known bodies changes k
+changed_other known bodies changes changes' change k pushed apart =
+    let base = bodies_for known bodies in
+    ap (λ l. get_or (changed_bodies l base) k []) pushed ∙ ap (λ l. get_or l k []) (changed_push changes change base)
+    ∙ get_or-set_other (changed_bodies changes base) change.number k change.body.items [] apart
 
-pub body_kept : (k : ℕ) (new base changed : List (List TrackedAssignment)) → k < length new → k < length base → get_or base k [] ≡ get_or new k [] →
-    changed ≡ made_below k new base → changed ≡ made_below (k + 1) new base
-body_kept k new base changed lt lt' same made =
-    made ∙ ap (λ l. take k new ++ l) (drop_more base k [] lt') ∙ ap (λ x. take k new ++ x ∷ drop (k + 1) base) same ∙ put_at k new base lt
+-- a number is not among those before, and is not the next one
+not_next : (done : List ℕ) (number k : ℕ) → list_any (is_at (nat_cmp k)) done ≡ false → k ≢ number →
+    list_any (is_at (nat_cmp k)) (done ++ number ∷ []) ≡ false
+not_next done number k none apart =
+    list_any-append (is_at (nat_cmp k)) done (number ∷ []) ∙ ap (λ b. b || (is_at (nat_cmp k) number || false)) none
+    ∙ ap (λ b. b || false) (at_other k number (λ e. apart (sym e)))
 
-pub body_changed : (k : ℕ) (new base : List (List TrackedAssignment)) (changes changes' : List BodyChange) (change : BodyChange) → k < length new →
-    k < length base → changes' ≡ changes ++ change ∷ [] → change.number ≡ k → change.body.items ≡ get_or new k [] →
-    changed_bodies changes base ≡ made_below k new base → changed_bodies changes' base ≡ made_below (k + 1) new base
-body_changed k new base changes changes' change lt lt' pushed at body made =
-    let front : k ≡ length (take k new) = omega (arith, length-take k new) in
-    ap (λ l. changed_bodies l base) pushed ∙ changed_push changes change base
-    ∙ ap (λ n. set (changed_bodies changes base) n change.body.items) at
-    ∙ ap (λ l. set l k change.body.items) (made ∙ ap (λ l. take k new ++ l) (drop_more base k [] lt'))
-    ∙ set_seam (take k new) (drop (k + 1) base) (get_or base k []) change.body.items k front
-    ∙ ap (λ x. take k new ++ x ∷ drop (k + 1) base) body ∙ put_at k new base lt
+-- one more number, whose body is changed
+pub made_by_change : (known : Collection) (bodies : List (Vec TrackedAssignment Global)) (done : List ℕ) (changes changes' : List BodyChange)
+    (change : BodyChange) → changes' ≡ changes ++ change ∷ [] → change.number < length known.names → length known.definitions ≡ length known.names →
+    change.body.items ≡ macro_body known change.number → AreMade known bodies done changes →
+    AreMade known bodies (done ++ change.number ∷ []) changes'
+made_by_change known bodies done changes changes' change pushed lt counted same made = λ k.
+    ⊎_elim
+    (λ (here : k ≡ change.number). inl (ap (changed_at known bodies changes') here
+    ∙ changed_here known bodies changes changes' change pushed lt ∙ same ∙ sym (body_at known change.number (omega arith))
+    ∙ sym (ap (λ i. get_or (bodies_of known) i []) here)))
+    (λ (apart : k ≢ change.number).
+    let stays = changed_other known bodies changes changes' change k pushed apart in
+    ⊎_elim
+    (λ right. inl (stays ∙ right))
+    (λ rest. inr (not_next done change.number k rest.0 apart, stays ∙ rest.1))
+    (made k))
+    (cases_eq k change.number)
+
+-- one more number, whose body is the same
+pub made_by_same : (known : Collection) (bodies : List (Vec TrackedAssignment Global)) (done : List ℕ) (changes : List BodyChange) (number : ℕ) →
+    get_or (bodies_for known bodies) number [] ≡ get_or (bodies_of known) number [] → AreMade known bodies done changes →
+    AreMade known bodies (done ++ number ∷ []) changes
+made_by_same known bodies done changes number same made = λ k.
+    ⊎_elim
+    (λ right. inl right)
+    (λ rest. ⊎_elim
+    (λ (here : k ≡ number). inl (rest.1 ∙ ap (λ i. get_or (bodies_for known bodies) i []) here ∙ same
+    ∙ sym (ap (λ i. get_or (bodies_of known) i []) here)))
+    (λ (apart : k ≢ number). inr (not_next done number k rest.0 apart, rest.1))
+    (cases_eq k number))
+    (made k)
+
+-- a number that no name has
+pub same_past : (known : Collection) (bodies : List (Vec TrackedAssignment Global)) (number : ℕ) → length known.names ≤ number →
+    length known.definitions ≡ length known.names →
+    get_or (bodies_for known bodies) number [] ≡ get_or (bodies_of known) number []
+same_past known bodies number past counted =
+    get_or_past (bodies_for known bodies) number [] (omega (arith, length_sized (length known.names) (bodies_view bodies)))
+    ∙ sym (get_or_past (bodies_of known) number [] (omega (arith, length_bodies known)))
+
+-- at first nothing is changed
+pub made_first : (known : Collection) (bodies : List (Vec TrackedAssignment Global)) → AreMade known bodies [] []
+made_first known bodies = λ k. inr (refl, refl)
+
+neither : (p : ℕ → Bool) (xs ys : List ℕ) → list_any p (xs ++ ys) ≡ false → (list_any p xs ≡ false) × (list_any p ys ≡ false)
+neither p xs ys none = both (list_any p xs) (list_any p ys) (sym (list_any-append p xs ys) ∙ none)
+  where
+    both : (a b : Bool) → a || b ≡ false → (a ≡ false) × (b ≡ false)
+    both true b e = absurd cc
+    both false b e = (refl, e)
+
+-- after the numbers of both, all bodies are those of the collection
+pub made_all : (known : Collection) (bodies : List (Vec TrackedAssignment Global)) (macros own : BTreeSet ℕ) (changes : List BodyChange) →
+    length known.definitions ≡ length known.names → AreEmptyElsewhere macros (bodies_view bodies) → ListsMacros own known →
+    AreMade known bodies (([] ++ macros.keys) ++ own.keys) changes →
+    changed_bodies changes (bodies_for known bodies) ≡ bodies_of known
+made_all known bodies macros own changes counted elsewhere listed made =
+    let base = bodies_for known bodies in
+    let len : length base ≡ length known.names = length_sized (length known.names) (bodies_view bodies) in
+    ext_get_or [] (changed_bodies changes base) (bodies_of known)
+    (length_changed changes base ∙ len ∙ sym counted ∙ sym (length_bodies known))
+    (λ k lt.
+    let below : k < length known.names = omega (arith, lt, length_changed changes base, len) in
+    ⊎_elim (λ right. right)
+    (λ rest.
+    let none = neither (is_at (nat_cmp k)) macros.keys own.keys rest.0 in
+    rest.1 ∙ sized_at (length known.names) (bodies_view bodies) k below ∙ elsewhere k none.0
+    ∙ sym (body_at known k (omega arith) ∙ ap last_body (listed k none.1)))
+    (made k))
+
+-- a collection's bodies of other numbers are empty
+pub listed_elsewhere : (known : Collection) (macros : BTreeSet ℕ) → ListsMacros macros known → AreEmptyElsewhere macros (bodies_of known)
+listed_elsewhere known macros listed = λ number none.
+    ⊎_elim
+    (λ (lt : number < length known.definitions). body_at known number lt ∙ ap last_body (listed number none))
+    (λ (past : length known.definitions ≤ number). get_or_past (bodies_of known) number [] (omega (arith, length_bodies known)))
+    (cases_lt number (length known.definitions))
+
+-- the same beside copies of the numbers and of the bodies
+pub copied_elsewhere : (C : ℕ → ℕ → Type 0) → ((x y : ℕ) → C x y → y ≡ x) → (macros copy : BTreeSet ℕ) (bodies bodies' : List (List TrackedAssignment)) →
+    AllZip C macros.keys copy.keys → bodies' ≡ bodies → AreEmptyElsewhere macros bodies → AreEmptyElsewhere copy bodies'
+copied_elsewhere C same macros copy bodies bodies' copied is elsewhere = λ number none.
+    let keys : copy.keys ≡ macros.keys = same_from_all_zip C macros.keys copy.keys copied same in
+    ap (λ l. get_or l number []) is
+    ∙ elsewhere number (ap (λ ks. list_any (is_at (nat_cmp number)) ks) (sym keys) ∙ none)

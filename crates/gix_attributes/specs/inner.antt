@@ -1,5 +1,6 @@
 -- Relations between functions inside the crate (own). No contract of a public call reaches them, so nothing of them has to be
 -- believed.
+pub mod BodiesMade
 pub mod Consistency
 pub mod HeldLists
 pub mod Registering

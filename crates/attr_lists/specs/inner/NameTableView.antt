@@ -6,6 +6,7 @@ use Rattle.attr_lists.specs.Collections.{Collection}
 use Rattle.attr_lists.specs.Definitions.{bodies_of_list, definitions_of, free_id, of_other_lists, IsSoundCollection}
 use Rattle.attr_lists.specs.inner.EntryViews.{name_texts, all_definitions, AreEntries}
 use Rattle.attr_lists.specs.Numbers.{AppendsNames}
+use Rattle.attr_lists.specs.inner.MacroNumbers.{ListsMacros}
 
 abbrev pub parts_view : Parts → Collection
 parts_view p = record { names = name_texts p.names; definitions = all_definitions p.entries.items; active = p.active.items }
@@ -23,6 +24,7 @@ pub record IsNameTable (table : Inside) : Type 0 where
   pub entries : AreEntries table.parts.entries.items
   pub from : table.parts.free_from ≤ free_id table.parts.active.items
   pub macro_free : AreMacroFree table.parts.macro_free.items (parts_view table.parts)
+  pub macros : ListsMacros table.parts.macros (parts_view table.parts)
 
 -- what is left of an addition that ran out of memory: some of the list's names and definitions
 pub record IsPartlyAdded (list_id : ℕ) (old new : Collection) : Type 0 where

@@ -1,5 +1,6 @@
 //! The entries of names: their definitions as macros.
 ghost use Rattle.std.specs.Prelude.{◌≡◌, true, ◌≤◌, ◌<◌, ◌↔◌, ◌==◌, not, filter, ◌++◌, List, [], ◌∷◌, ℕ, length, map, bytes_eq, slice_index_or, option_map, MatchOption, IfOk, OnOk, OnErr, IsTrue, IsFalse, ◌+◌};
+ghost use Rattle.std.specs.Bool.{OnFalse};
 ghost use Rattle.std.specs.List.{IsDistinct, list_any, list_all};
 ghost use Rattle.std.specs.Option.{option_to_list};
 ghost use Rattle.attr_lists.specs.Definitions.{bodies_named, bodies_of_list, definition_of, is_of_list, of_other_lists, last_body};
@@ -52,6 +53,13 @@ impl NameEntry {
             Some(definition) => &definition.metadata,
             None => &self.undefined,
         }
+    }
+
+    /// Whether there is a definition.
+    pub(super) fn is_defined(&self) -> bool
+        ensures { OnFalse result (definitions_view self.now ≡ []) }
+    {
+        !self.definitions.is_empty()
     }
 
     // Adds a definition.

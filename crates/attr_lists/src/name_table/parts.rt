@@ -4,15 +4,17 @@ ghost use Rattle.attr_lists.specs.Definitions.{IsSoundCollection, definitions_fo
 ghost use Rattle.attr_lists.specs.KeptLists.{macros_valid};
 ghost use Rattle.attr_lists.specs.ListViews.{entries_view};
 ghost use Rattle.attr_lists.specs.inner.EntrySteps.{HasBodies};
-ghost use Rattle.attr_lists.specs.inner.EntryViews.{name_texts, AreEntries, AreValid};
+ghost use Rattle.attr_lists.specs.inner.EntryViews.{name_texts, numbered_view, AreEntries, AreValid};
+ghost use Rattle.attr_lists.specs.inner.MacroNumbers.{KeepsNumbers, ListsDefined};
 ghost use Rattle.attr_lists.specs.inner.NameTableView.{parts_view, rolled_back, AreMacroFree, IsPartlyAdded};
 
 use crate::name_table::entry::NameEntry;
 use crate::name_table::numbers::NameSet;
-use crate::name_table::{entry, numbers};
+use crate::name_table::{entry, macros, numbers};
 use crate::types::Value;
 use attr_glob::search::pattern::Mapping;
 use std::alloc::{AllocError, Global};
+use std::collections::BTreeSet;
 
 /// The parts of a table. While a list is added, a name may lack its entry.
 #[derive(Debug, Drop)]
@@ -27,6 +29,8 @@ pub(super) struct Parts {
     pub(super) free_from: usize,
     /// Whether the list under this list id is known to define no macro. Those past the end are not.
     pub(super) macro_free: Vec<bool>,
+    /// The numbers of the names that have definitions.
+    pub(super) macros: BTreeSet<usize>,
 }
 
 impl Parts {
@@ -52,8 +56,12 @@ impl Parts {
             (IsPartlyAdded list_id (parts_view self.old) (parts_view self.new)) }
         ensures from { self.new.free_from ≡ self.old.free_from }
         ensures macro_free { self.new.macro_free ≡ self.old.macro_free }
+        ensures kept { KeepsNumbers self.old.macros self.new.macros }
+        ensures listed { OnOk result (ListsDefined
+            self.new.macros (numbered_view self.new.names mappings.now)) }
     {
         numbers::insert_names(alloc, &mut self.names, mappings)?;
+        macros::insert_macros(&self.names, &mut self.macros, mappings)?;
         entry::extend(alloc, &mut self.entries, self.names.len())?;
         entry::define_list(alloc, &self.names, &mut self.entries, list_id, mappings)?;
         mark_active(&mut self.active, list_id)?;
@@ -65,6 +73,7 @@ impl Parts {
         ensures table { parts_view self.new ≡ rolled_back count list_id (parts_view self.old) }
         ensures from { self.new.free_from ≡ self.old.free_from }
         ensures macro_free { self.new.macro_free ≡ self.old.macro_free }
+        ensures macros { self.new.macros ≡ self.old.macros }
         ensures entries { AreEntries self.old.entries.items → AreEntries self.new.entries.items }
     {
         self.names.truncate(count);

@@ -1,10 +1,17 @@
 -- The flags of wanted numbers, and that the set ones are counted (own).
-use Rattle.std.specs.Prelude.{◌≡◌, Bool, List}
+use Rattle.std.specs.Prelude.{◌≡◌, ℕ, Bool, List, map, ◌||◌}
+use Rattle.std.specs.BTreeSet.{contains}
+use Rattle.std.specs.List.{range_with_len}
+use Rattle.std.specs.Ordering.{nat_cmp}
 use Rattle.attr_search.specs.inner.SlotContents.{count_wanted}
 use Rattle.attr_search.specs.declared.wanted.WantedFlags.TheInside.{Inside}
 
+-- the flag of a number: all are set, or the number is in the set
+abbrev pub is_flag_set : Inside → ℕ → Bool
+is_flag_set w number = w.all || contains nat_cmp w.numbers number
+
 abbrev pub wanted_flags_view : Inside → List Bool
-wanted_flags_view w = w.flags.items
+wanted_flags_view w = map (is_flag_set w) (range_with_len 0 w.len)
 
 abbrev pub IsCounted : Inside → Type 0
-IsCounted w = w.count ≡ count_wanted w.flags.items
+IsCounted w = w.count ≡ count_wanted (wanted_flags_view w)

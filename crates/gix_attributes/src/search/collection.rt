@@ -18,6 +18,7 @@ ghost use Rattle.gix_attributes.specs.Keeping.{KeepsSearches, RegistersLast};
 ghost use Rattle.gix_attributes.specs.Registers.{RegistersExactly};
 ghost use Rattle.gix_attributes.specs.inner.HeldLists.{AreHeldLists, IsBelowFirst};
 ghost use Rattle.attr_lists.specs.inner.Keeping.{OthersStayRegistered};
+ghost use Rattle.attr_lists.specs.inner.MacroNumbers.{ListsMacros};
 ghost use Rattle.gix_attributes.specs.inner.Registering.{Registers};
 
 use crate::Search;
@@ -27,6 +28,7 @@ use attr_lists::parser::macros_valid;
 use attr_lists::types::{Assignments, AttributeId, Attributes, Value};
 use attr_search::indexed_list::IndexedList;
 use std::alloc::{AllocError, Global};
+use std::collections::BTreeSet;
 use std::marker::Model;
 
 /// The attributes of the lists of searches: each name with its number, and the definitions of macros.
@@ -87,6 +89,13 @@ impl MetadataCollection {
             Some(metadata) => &metadata.macro_attributes,
             None => unreachable!(),
         }
+    }
+
+    // The numbers of the names that have definitions. The other names are no macros.
+    pub(crate) fn macros(&self) -> &BTreeSet<usize>
+        ensures { ListsMacros result.now self.now }
+    {
+        self.numbering.macros()
     }
 
     /// Registers a list that no search has: its names and items are numbered, and its definitions of macros stay

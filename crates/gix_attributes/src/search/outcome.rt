@@ -28,6 +28,7 @@ use attr_search::search_state::SearchState;
 use attr_text::AssignmentRef;
 use bitflags::Flags;
 use std::alloc::{AllocError, Global};
+use std::collections::BTreeSet;
 use std::fmt;
 use std::marker::Model;
 
@@ -39,6 +40,8 @@ use std::marker::Model;
 pub struct Outcome {
     // The answers, the body of each attribute, and the buffers of a search.
     pub(crate) state: SearchState,
+    // The numbers of the macros: the other bodies are empty.
+    macros: BTreeSet<usize>,
     selected: Vec<SelectedName>,
     // The pattern of the answer for an unspecified attribute.
     no_pattern: Pattern,
@@ -65,6 +68,7 @@ impl Outcome {
     {
         Outcome {
             state: SearchState::new(alloc),
+            macros: BTreeSet::new(alloc),
             selected: Vec::new(alloc),
             no_pattern: no_pattern(alloc),
             is_initialized: false,
@@ -125,8 +129,10 @@ impl Outcome {
         ensures refused { OnErr result (self.new ≡ self.old) }
     {
         let wanted = selection::flags(alloc, &selected, collection.len())?;
-        let changes = selection::body_changes(alloc, self.state.bodies(), collection)?;
+        let macros = collection.macros().clone()?;
+        let changes = selection::body_changes(alloc, self.state.bodies(), &self.macros, collection)?;
         self.state.set_up(alloc, wanted, changes)?;
+        self.macros = macros;
         self.selected = selected;
         self.is_initialized = true;
         Ok(())
@@ -160,7 +166,9 @@ impl Outcome {
     {
         let selected = selection::look_up_again(alloc, collection, &dest.selected)?;
         let wanted = selection::flags(alloc, &selected, collection.len())?;
+        let macros = self.macros.clone()?;
         dest.state.copy_from(alloc, &self.state, wanted)?;
+        dest.macros = macros;
         dest.selected = selected;
         dest.is_initialized = true;
         Ok(())
@@ -176,6 +184,7 @@ impl Outcome {
     {
         Ok(Outcome {
             state: self.state.clone(alloc)?,
+            macros: self.macros.clone()?,
             selected: selection::copy_of(alloc, &self.selected)?,
             no_pattern: no_pattern(alloc),
             is_initialized: self.is_initialized,

@@ -1,8 +1,9 @@
 //! The names that an outcome looks for, with their numbers, and the bodies in which it differs from a collection.
 
-ghost use Rattle.std.specs.Prelude.{◌≡◌, ◌↔◌, ◌<◌, ⊤, [], IsTrue, All, IfOk, MatchOption, length, map, slice_index_or};
+ghost use Rattle.std.specs.Prelude.{◌≡◌, ◌↔◌, ◌<◌, ◌++◌, ⊤, ℕ, List, [], ◌∷◌, IsTrue, All, IfOk, OnOk, MatchOption, length, map, slice_index_or};
 ghost use Rattle.gix_attributes.specs.Contents.{bodies_of, looked_up, names_selected};
-ghost use Rattle.gix_attributes.specs.inner.Consistency.{flags_of};
+ghost use Rattle.gix_attributes.specs.inner.BodiesMade.{AreMade};
+ghost use Rattle.gix_attributes.specs.inner.Consistency.{AreEmptyElsewhere, flags_of};
 ghost use Rattle.gix_attributes.specs.Selection.{selection_view};
 ghost use Rattle.attr_search.specs.inner.BodyChanges.{changed_bodies, sized_bodies};
 ghost use Rattle.attr_search.specs.inner.Slotted.{bodies_view};
@@ -12,6 +13,7 @@ use crate::search::collection::MetadataCollection;
 use attr_search::bodies::{BodyChange, copy_of_body};
 use attr_search::wanted::WantedFlags;
 use std::alloc::{AllocError, Global};
+use std::collections::BTreeSet;
 use std::rc::RcStr;
 
 /// A selected name, with its number if the collection has it.
@@ -86,21 +88,25 @@ pub(crate) fn flags(
     requires { All (λ s. MatchOption s.number ⊤ (λ n. n < count)) selected.now }
     ensures { IfOk result (λ flags. flags ≡ flags_of (selection_view selected.now) count) }
 {
-    let mut flags = WantedFlags::all_or_none(alloc, count, selected.is_empty())?;
+    let mut flags = WantedFlags::all_or_none(alloc, count, selected.is_empty());
     for wanted in selected {
         if let Some(number) = wanted.number {
-            flags.set(number);
+            flags.set(number)?;
         }
     }
     Ok(flags)
 }
 
-/// The changes that make bodies those of a collection, if there are as many.
+/// The changes that make bodies those of a collection, if there are as many. The bodies of other numbers than these are empty, so
+/// that macros alone are compared.
 pub(crate) fn body_changes(
     alloc: Global,
     bodies: &[Vec<TrackedAssignment>],
+    macros: &BTreeSet<usize>,
     collection: &MetadataCollection,
 ) -> Result<Vec<BodyChange>, AllocError>
+    requires counted { length collection.now.definitions ≡ length collection.now.names }
+    requires macros { AreEmptyElsewhere macros.now (bodies_view bodies.now) }
     ensures numbers { IfOk result (λ changes.
         All (λ change. change.number < length collection.now.names) changes.items) }
     ensures made { IfOk result (λ changes. changed_bodies changes.items
@@ -108,14 +114,55 @@ pub(crate) fn body_changes(
         ≡ bodies_of collection.now) }
 {
     let mut changes = Vec::new(alloc);
-    for number in 0..collection.len() {
-        let body = collection.body(number).as_slice();
-        if !is_same(body_at(bodies, number), body) {
-            let body = copy_of_body(alloc, body)?;
-            changes.push(BodyChange { number, body })?;
-        }
-    }
+    push_changes(alloc, bodies, macros, collection, &mut changes)?;
+    push_changes(alloc, bodies, collection.macros(), collection, &mut changes)?;
     Ok(changes)
+}
+
+// Pushes the changes of the bodies with these numbers.
+fn push_changes(
+    alloc: Global,
+    bodies: &[Vec<TrackedAssignment>],
+    numbers: &BTreeSet<usize>,
+    collection: &MetadataCollection,
+    changes: &mut Vec<BodyChange>,
+) -> Result<(), AllocError>
+    ensures numbers { OnOk result (
+        All (λ change. change.number < length collection.now.names) changes.old.items →
+        All (λ change. change.number < length collection.now.names) changes.new.items) }
+    ensures made { OnOk result ((done : List ℕ) →
+        AreMade collection.now bodies.now done changes.old.items →
+        AreMade collection.now bodies.now (done ++ numbers.now.keys) changes.new.items) }
+{
+    for number in numbers.iter() {
+        push_change(alloc, bodies, *number, collection, changes)?;
+    }
+    Ok(())
+}
+
+fn push_change(
+    alloc: Global,
+    bodies: &[Vec<TrackedAssignment>],
+    number: usize,
+    collection: &MetadataCollection,
+    changes: &mut Vec<BodyChange>,
+) -> Result<(), AllocError>
+    ensures numbers { OnOk result (
+        All (λ change. change.number < length collection.now.names) changes.old.items →
+        All (λ change. change.number < length collection.now.names) changes.new.items) }
+    ensures made { OnOk result ((done : List ℕ) →
+        AreMade collection.now bodies.now done changes.old.items →
+        AreMade collection.now bodies.now (done ++ number ∷ []) changes.new.items) }
+{
+    if number >= collection.len() {
+        return Ok(());
+    }
+    let body = collection.body(number).as_slice();
+    if !is_same(body_at(bodies, number), body) {
+        let body = copy_of_body(alloc, body)?;
+        changes.push(BodyChange { number, body })?;
+    }
+    Ok(())
 }
 
 // The body with a number, which is empty past the last one.

@@ -8,7 +8,10 @@ use Rattle.attr_lists.specs.inner.EntryViews.{definitions_view}
 use Rattle.attr_lists.specs.ListViews.{entry_view, entries_view}
 use Rattle.attr_lists.specs.inner.NameTableView.{parts_view}
 use Rattle.attr_lists.specs.Collections.{Collection}
+use Rattle.attr_lists.specs.Numbers.{numbered_lines}
+use Rattle.attr_lists.specs.inner.MacroNumbers.{ListsDefined, ListsMacros}
 use Rattle.attr_lists.proofs.FreeIdLemmas.{free_after_adding}
+use Rattle.attr_lists.proofs.MacroLemmas.{added_listed, still_listed}
 use Rattle.attr_lists.proofs.NameTableLaws.{free_is}
 use Rattle.attr_lists.proofs.NameTableSteps.{rolled_back_is, is_fresh, is_added, is_sound, are_numbered, are_kept, is_held, are_held, are_macro_free}
 use Rattle.attr_lists.proofs.name_table.NameTable.add.Goals as goal
@@ -58,6 +61,7 @@ invariant_of-self c = record {
   entries = c.self.invariant.entries;
   from = c.self.invariant.from;
   macro_free = λ other number set. c.self.invariant.macro_free other number (c.unset.ensures.marks other set);
+  macros = c.self.invariant.macros;
 }
 
 pub invariant_of-self-in-Ok : goal.invariant_of-self-in-Ok
@@ -75,6 +79,11 @@ invariant_of-self-in-Ok c = record {
       (subst (λ m. c.free_id-list_id.result < length m.items) (sym c.insert.ensures.macro_free) c.in_ok-unset.ensures.room)
       (λ other set. c.unset.ensures.marks other (subst (λ m. get_or m.items other false ≡ true) c.insert.ensures.macro_free set))
       c.self.invariant.macro_free;
+  macros = subst (ListsMacros c.insert.new.self.macros) (sym c.in-Ok.ensures.added)
+      (added_listed (parts_view c.self.inside.parts) c.free_id-list_id.result (entries_view c.args.mappings.now) c.self.inside.parts.macros
+      c.insert.new.self.macros c.self.invariant.macros c.insert.ensures.kept
+      (subst (λ t. ListsDefined c.insert.new.self.macros (numbered_lines t (entries_view c.args.mappings.now)))
+      (ap (λ (v : Collection). v.names) c.in-Ok.ensures.added) c.in-Ok.ensures.listed));
 }
 
 same : (c : goal.After-roll_back) → parts_view c.roll_back.new.self ≡ parts_view c.self.inside.parts
@@ -108,4 +117,8 @@ invariant_of-self-in-Err c = record {
   macro_free = λ other number set. subst (λ v. bodies_of_list other (definitions_of v number) ≡ []) (sym (same c))
       (c.self.invariant.macro_free other number (c.unset.ensures.marks other
       (subst (λ m. get_or m.items other false ≡ true) (c.roll_back.ensures.macro_free ∙ c.insert.ensures.macro_free) set)));
+  macros = subst (λ m. ListsMacros m (parts_view c.roll_back.new.self)) (sym c.roll_back.ensures.macros)
+      (subst (ListsMacros c.insert.new.self.macros) (sym (same c))
+      (still_listed (parts_view c.self.inside.parts) c.self.inside.parts.macros c.insert.new.self.macros c.self.invariant.macros
+      c.insert.ensures.kept));
 }

@@ -1,5 +1,5 @@
 -- A table without names is sound.
-use Rattle.std.proofs.Common.{◌∙◌, ap, arith, false, get_or, subst, sym, true≢false}
+use Rattle.std.proofs.Common.{◌∙◌, [], ap, arith, false, get_or, subst, sym, true≢false}
 use Rattle.attr_lists.specs.Definitions.{IsSoundCollection}
 use Rattle.attr_lists.specs.inner.EntryViews.{all_definitions, AreEntries}
 use Rattle.attr_lists.proofs.NameTableLaws.{nothing_sound}
@@ -22,4 +22,5 @@ invariant_of-result c = record {
   entries = subst AreEntries (sym c.new.ensures.items) (λ number d lt. absurd (omega arith));
   from = omega arith;
   macro_free = λ other number set. absurd (true≢false (sym set ∙ ap (λ l. get_or l other false) c.new-3.ensures.items));
+  macros = λ number none. ap (λ l. get_or (all_definitions l) number []) c.new.ensures.items;
 }

@@ -2,9 +2,11 @@ use Rattle.std.proofs.Common.{◌≡◌, [], length, ap, sym, ◌∙◌, subst, 
 use Rattle.std.proofs.lemmas.List.{length-map, with_items_is}
 use Rattle.attr_lists.specs.Definitions.{bodies_of_list, definitions_of, without_list, HoldsList, IsSoundCollection}
 use Rattle.attr_lists.specs.inner.EntrySteps.{HasBodies}
-use Rattle.attr_lists.specs.inner.EntryViews.{name_texts, definitions_by, definitions_view, AreEntries}
+use Rattle.attr_lists.specs.inner.EntryViews.{name_texts, definitions_at, definitions_by, definitions_view, AreEntries}
 use Rattle.attr_lists.specs.ListViews.{entries_view}
+use Rattle.attr_lists.specs.inner.MacroNumbers.{ListsMacros}
 use Rattle.attr_lists.proofs.FreeIdLemmas.{free_after_removing}
+use Rattle.attr_lists.proofs.MacroLemmas.{removed_listed}
 use Rattle.attr_lists.proofs.NameTableLaws.{removed_sound, removed_keeps, removed_macro_free}
 use Rattle.attr_lists.proofs.NameTableSteps.{removed_is}
 use Rattle.attr_lists.proofs.name_table.NameTable.remove.Goals as goal
@@ -49,6 +51,11 @@ invariant_of-self c =
       macro_free = λ other number set. subst (λ v. bodies_of_list other (definitions_of v number) ≡ []) (sym (returns-clause-removed c))
           (removed_macro_free c.args.self.now c.args.list_id other number
           (subst (λ v. bodies_of_list other (definitions_of v number) ≡ []) c.self.view_is (c.self.invariant.macro_free other number set)));
+      macros = subst (ListsMacros c.remove_macros.new.macros) (sym (returns-clause-removed c))
+          (removed_listed c.args.self.now c.args.list_id c.deref.result.now c.self.inside.parts.macros c.remove_macros.new.macros
+          (subst (ListsMacros c.self.inside.parts.macros) c.self.view_is c.self.invariant.macros) c.remove_macros.ensures
+          (λ number. ap (λ l. definitions_at l number) c.deref.ensures.value
+          ∙ ap (λ v. definitions_of v number) (returns-clause-removed c)));
     }
 
 pub returns-clause-others : goal.returns-clause-others

@@ -23,6 +23,14 @@ extend-requires c =
       c.requires.counted,
     )
 
+pub returns-in_err-insert_macros-clause-err : goal.returns-in_err-insert_macros-clause-err
+returns-in_err-insert_macros-clause-err c =
+    let more = with_names-extends (name_texts c.args.self.now.names) (names_in (entries_view c.args.mappings.now)) in
+    let old = c.args.self.now.entries.items in
+    on_err c.from_residual-in_err-insert_macros.result _ (partly_added (name_texts c.args.self.now.names) (name_texts c.insert_names.new.names)
+    c.args.self.now.active.items c.args.self.now.active.items old old old c.args.list_id (more.0, c.in_ok-insert_names.ensures.ok ∙ more.1)
+    (omega arith) (λ n. refl) refl refl)
+
 pub returns-in_err-extend-clause-err : goal.returns-in_err-extend-clause-err
 returns-in_err-extend-clause-err c =
     let more = with_names-extends (name_texts c.args.self.now.names) (names_in (entries_view c.args.mappings.now)) in

@@ -3,6 +3,8 @@ use Rattle.gix_attributes.specs.Contents.{looked_up, names_selected}
 use Rattle.gix_attributes.specs.inner.Consistency.{flags_of}
 use Rattle.gix_attributes.specs.Selection.{selection_view}
 use Rattle.gix_attributes.proofs.OutcomeLemmas.{held_as, length_flags, selected_below}
+use Rattle.attr_search.specs.SearchContents.{SearchContents}
+use Rattle.gix_attributes.proofs.SelectionLemmas.{copied_elsewhere}
 use Rattle.gix_attributes.proofs.search.outcome.Outcome.copy_into.Goals as goal
 
 pub flags-requires : goal.flags-requires
@@ -22,6 +24,8 @@ invariant_of-dest-2 c =
     record {
       wanted = rw c.in_ok-copy_from.ensures.copied (flags ∙ ap (flags_of (selection_view c.in_ok-selected.selected.items))
           (c.len.ensures.count ∙ sym counted));
+      macros = copied_elsewhere _ (λ x y e. e) c.self.inside.macros c.in_ok-macros.macros c.self.inside.state.bodies c.copy_from.new.self.bodies
+          c.in_ok-macros.ensures.cases (ap (λ (s : SearchContents). s.bodies) c.in_ok-copy_from.ensures.copied) c.self.invariant.macros;
       no_pattern = c.dest.invariant.no_pattern;
     }
 

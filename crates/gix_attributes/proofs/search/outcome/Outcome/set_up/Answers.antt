@@ -6,6 +6,8 @@ use Rattle.attr_search.specs.inner.Slotted.{bodies_view}
 use Rattle.gix_attributes.specs.Contents.{Content}
 use Rattle.gix_attributes.specs.inner.Consistency.{flags_of}
 use Rattle.gix_attributes.specs.Selection.{selection_view}
+use Rattle.gix_attributes.specs.Contents.{bodies_of}
+use Rattle.gix_attributes.proofs.SelectionLemmas.{copied_elsewhere, listed_elsewhere}
 use Rattle.gix_attributes.proofs.OutcomeLemmas.{changed_to, changed_within, changes_below, held_as, length_flags, same_empty, selected_below}
 use Rattle.gix_attributes.proofs.search.outcome.Outcome.set_up.Goals as goal
 
@@ -41,7 +43,12 @@ invariant_of-self-2 c =
     ∙ ap (λ l. flags_of (selection_view l) c.len.result) c.deref.ensures.value in
     let count : length wanted ≡ c.len.result = length_flags seen c.len.result wanted flags in
     let made = c.in_ok-set_up.ensures.ok in
+    let known = c.args.collection.now in
+    let bodies = changed_to known c.in_ok-changes.changes.items c.self.inside.state.bodies (bodies_view c.bodies.result.now) (length wanted)
+    (count ∙ c.len.ensures.count) c.bodies.ensures.bodies c.in_ok-changes.ensures.made in
     record {
+      macros = copied_elsewhere _ (λ x y e. e) c.macros.result.now c.in_ok-macros.macros (bodies_of known) c.set_up.new.self.bodies
+          c.in_ok-macros.ensures.cases (ap (λ (s : SearchContents). s.bodies) made ∙ bodies) (listed_elsewhere known c.macros.result.now c.macros.ensures);
       wanted = ap (λ (s : SearchContents). s.wanted) made ∙ flags ∙ ap (flags_of seen)
           (sym (ap (λ (s : SearchContents). length s.answers) made ∙ length-map wanted (λ flag. None) ∙ count));
       no_pattern = c.self.invariant.no_pattern;

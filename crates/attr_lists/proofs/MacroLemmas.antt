@@ -1,0 +1,80 @@
+-- The numbers of the names that have definitions are listed.
+use Rattle.std.proofs.Common.{◌≡◌, ℕ, ◌+◌, ◌<◌, ◌≤◌, false, List, [], ◌∷◌, ◌++◌, length, get_or, take, map, filter, sym, ap}
+use Rattle.std.proofs.Common.{◌∙◌, ⊎_elim, arith}
+use Rattle.std.specs.BTreeSet.{BTreeSet, contains}
+use Rattle.std.specs.Ordering.{nat_cmp}
+use Rattle.std.proofs.lemmas.Bool.{cases_Bool, cases_lt, true≢false}
+use Rattle.std.proofs.lemmas.List.{get_or_past, map-append, take_more}
+use Rattle.std.proofs.lemmas.List.Elements.{filter-append}
+use Rattle.std.proofs.lemmas.List.FromFn.{get_or-map-range_with_len, length-map-range_with_len}
+use Rattle.attr_glob.specs.declared.search.pattern.Mapping.{Mapping}
+use Rattle.attr_lists.specs.declared.name_table.entry.NameEntry.{NameEntry}
+use Rattle.attr_lists.specs.declared.types.Value.{Value}
+use Rattle.attr_lists.specs.Collections.{Collection}
+use Rattle.attr_lists.specs.Definitions.{bodies_defined, definition_of, definitions_of, is_definition, of_other_lists, with_list, without_list}
+use Rattle.attr_lists.specs.ListViews.{Entry, entry_view, entries_view}
+use Rattle.attr_lists.specs.Numbers.{names_in, numbered, numbered_lines, with_names}
+use Rattle.attr_lists.specs.inner.EntryViews.{definitions_at}
+use Rattle.attr_lists.specs.inner.MacroNumbers.{KeepsNumbers, ListsDefined, ListsMacros, RemovesUndefined}
+use Rattle.attr_lists.proofs.ListLemmas.{get_or-map}
+
+-- a number that isn't among more numbers isn't among fewer
+absent : (old new : BTreeSet ℕ) (n : ℕ) → KeepsNumbers old new → contains nat_cmp new n ≡ false → contains nat_cmp old n ≡ false
+absent old new n kept none =
+    ⊎_elim (λ t. absurd (true≢false (sym (kept n t) ∙ none))) (λ f. f) (cases_Bool (contains nat_cmp old n))
+
+defined-append : (number : ℕ) (xs ys : List Entry) → bodies_defined number (xs ++ ys) ≡ bodies_defined number xs ++ bodies_defined number ys
+defined-append number xs ys =
+    ap (map (λ (entry : Entry). entry.items)) (filter-append (is_definition number) xs ys)
+    ∙ map-append (λ (entry : Entry). entry.items) (filter (is_definition number) xs) (filter (is_definition number) ys)
+
+-- one more line
+pub listed_more : (now after : BTreeSet ℕ) (names : List (List ℕ)) (lines : List (Mapping Value)) (i : ℕ) (line : Mapping Value) → i < length lines →
+    line ≡ get_or lines i line → KeepsNumbers now after → ListsDefined now (numbered_lines names (entries_view (take i lines))) →
+    ListsDefined after (numbered_lines names (entries_view (line ∷ []))) →
+    ListsDefined after (numbered_lines names (entries_view (take (i + 1) lines)))
+listed_more now after names lines i line lt at kept so_far here = λ number none.
+    let Lines : List (Mapping Value) → List Entry = λ l. numbered_lines names (entries_view l) in
+    let split : Lines (take (i + 1) lines) ≡ Lines (take i lines) ++ Lines (line ∷ []) =
+    ap Lines (take_more lines i line lt ∙ ap (λ z. take i lines ++ z ∷ []) (sym at))
+    ∙ ap (map (numbered names)) (map-append entry_view (take i lines) (line ∷ []))
+    ∙ map-append (numbered names) (entries_view (take i lines)) (entries_view (line ∷ [])) in
+    ap (bodies_defined number) split ∙ defined-append number (Lines (take i lines)) (Lines (line ∷ []))
+    ∙ ap (λ l. l ++ bodies_defined number (Lines (line ∷ []))) (so_far number (absent now after number kept none)) ∙ here number none
+
+pub kept_both : (a b c : BTreeSet ℕ) → KeepsNumbers a b → KeepsNumbers b c → KeepsNumbers a c
+kept_both a b c first second = λ n h. second n (first n h)
+
+-- what one line after the other removes
+pub removed_both : (entries : List NameEntry) (a b c : BTreeSet ℕ) → RemovesUndefined entries a b → RemovesUndefined entries b c →
+    RemovesUndefined entries a c
+removed_both entries a b c first second = λ n had none.
+    ⊎_elim (λ t. second n t none) (λ f. first n had f) (cases_Bool (contains nat_cmp b n))
+
+-- after an addition
+pub added_listed : (old : Collection) (list_id : ℕ) (entries : List Entry) (now after : BTreeSet ℕ) → ListsMacros now old → KeepsNumbers now after →
+    ListsDefined after (numbered_lines (with_names old.names (names_in entries)) entries) → ListsMacros after (with_list list_id entries old)
+added_listed old list_id entries now after listed kept defined = λ number none.
+    let names = with_names old.names (names_in entries) in
+    let lines = numbered_lines names entries in
+    let Added : ℕ → _ = λ n. definitions_of old n ++ map (definition_of list_id) (bodies_defined n lines) in
+    ⊎_elim
+    (λ (lt : number < length names). get_or-map-range_with_len Added 0 (length names) number number [] lt (omega arith)
+    ∙ ap (λ l. l ++ map (definition_of list_id) (bodies_defined number lines)) (listed number (absent now after number kept none))
+    ∙ ap (map (definition_of list_id)) (defined number none))
+    (λ (past : length names ≤ number).
+    get_or_past (map Added _) number [] (omega (arith, length-map-range_with_len Added 0 (length names))))
+    (cases_lt number (length names))
+
+pub still_listed : (known : Collection) (now after : BTreeSet ℕ) → ListsMacros now known → KeepsNumbers now after → ListsMacros after known
+still_listed known now after listed kept = λ number none. listed number (absent now after number kept none)
+
+-- after a removal
+pub removed_listed : (old : Collection) (list_id : ℕ) (entries : List NameEntry) (now after : BTreeSet ℕ) → ListsMacros now old →
+    RemovesUndefined entries now after → ((number : ℕ) → definitions_at entries number ≡ definitions_of (without_list list_id old) number) →
+    ListsMacros after (without_list list_id old)
+removed_listed old list_id entries now after listed removed same = λ number none.
+    ⊎_elim
+    (λ had. sym (same number) ∙ removed number had none)
+    (λ not_had. get_or-map (of_other_lists list_id) old.definitions number [] ∙ ap (of_other_lists list_id) (listed number not_had))
+    (cases_Bool (contains nat_cmp now number))

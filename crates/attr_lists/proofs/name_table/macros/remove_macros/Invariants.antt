@@ -1,0 +1,5 @@
+use Rattle.attr_lists.specs.inner.MacroNumbers.{RemovesUndefined}
+use Rattle.attr_lists.proofs.name_table.macros.remove_macros.Given as goal
+
+abbrev pub invariant-loop-mapping : goal.invariant-loop-mapping
+invariant-loop-mapping l = RemovesUndefined l.entries l.initial.macros l.macros

@@ -1,0 +1,26 @@
+-- The numbers of the names that have definitions (own).
+use Rattle.std.specs.Prelude.{◌≡◌, ℕ, true, false, List, []}
+use Rattle.std.specs.BTreeSet.{BTreeSet, contains}
+use Rattle.std.specs.Ordering.{nat_cmp}
+use Rattle.attr_lists.specs.Collections.{Collection}
+use Rattle.attr_lists.specs.Definitions.{bodies_defined, definitions_of}
+use Rattle.attr_lists.specs.ListViews.{Entry}
+use Rattle.attr_lists.specs.declared.name_table.entry.NameEntry.{NameEntry}
+use Rattle.attr_lists.specs.inner.EntryViews.{definitions_at}
+
+-- a name whose number isn't among these has no definition
+abbrev pub ListsMacros : BTreeSet ℕ → Collection → Type 0
+ListsMacros numbers known = (number : ℕ) → contains nat_cmp numbers number ≡ false → definitions_of known number ≡ []
+
+-- the lines define no macro of another number
+abbrev pub ListsDefined : BTreeSet ℕ → List Entry → Type 0
+ListsDefined numbers lines = (number : ℕ) → contains nat_cmp numbers number ≡ false → bodies_defined number lines ≡ []
+
+-- what was among the numbers is among them still
+abbrev pub KeepsNumbers : BTreeSet ℕ → BTreeSet ℕ → Type 0
+KeepsNumbers old new = (number : ℕ) → contains nat_cmp old number ≡ true → contains nat_cmp new number ≡ true
+
+-- a number was removed only if its name has no definition
+abbrev pub RemovesUndefined : List NameEntry → BTreeSet ℕ → BTreeSet ℕ → Type 0
+RemovesUndefined entries old new =
+    (number : ℕ) → contains nat_cmp old number ≡ true → contains nat_cmp new number ≡ false → definitions_at entries number ≡ []
