@@ -9,6 +9,7 @@ pub mod LineLemmas
 pub mod CandidateLemmas
 pub mod TryingLemmas
 pub mod ListLemmas
+pub mod ListedLemmas
 pub mod FoundAnswers
 pub mod RoundLemmas
 pub mod TaggedLines

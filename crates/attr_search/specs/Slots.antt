@@ -1,6 +1,6 @@
 -- The answer of an outcome for each attribute, and how it is seen as slots of the table that the
 -- gitattributes page describes (own).
-use Rattle.std.specs.Prelude.{ℕ, Bool, List, map, Option, None, option_map, slice_index_or}
+use Rattle.std.specs.Prelude.{◌≡◌, ℕ, ◌≤◌, ◌<◌, Bool, true, List, map, Option, None, is_some, option_map, slice_index_or}
 use Rattle.attr_text.specs.declared.assignment.Assignment.{Assignment}
 use Rattle.attr_text.specs.declared.state.State.{State}
 use Rattle.attr_text.specs.declared.state.State.TheVariants.{Set, Unset, Value, Unspecified}
@@ -43,3 +43,13 @@ table_answer a m =
 -- the answers for all numbers, as the table's slots
 abbrev pub slots_of : List (Option Matched) → Slots
 slots_of answers a = option_map (table_answer a) (slice_index_or answers a None)
+
+-- each slot from this number on is free
+abbrev pub AreFreeFrom : {X : Type 0} → List (Option X) → ℕ → Type 0
+AreFreeFrom slots from = (number : ℕ) → from ≤ number → slice_index_or slots number None ≡ None
+
+-- the number is the first from this one on whose slot is filled
+pub record IsNextFilled {X : Type 0} (slots : List (Option X)) (from number : ℕ) : Type 0 where
+  pub reached : from ≤ number
+  pub filled : is_some (slice_index_or slots number None) ≡ true
+  pub free : (other : ℕ) → from ≤ other → other < number → slice_index_or slots other None ≡ None

@@ -1,6 +1,6 @@
 //! The state of a search over lists: slots that are filled by the lines that match a path.
 
-ghost use Rattle.std.specs.Prelude.{◌≡◌, ◌+◌, ◌<◌, ◌≤◌, [], length, map, All, OnErr, OnOk, IfOk, IfSome, IsNone, is_none, false, true, Ok, None, option_map, slice_index_or};
+ghost use Rattle.std.specs.Prelude.{◌≡◌, ◌+◌, ◌<◌, ◌≤◌, [], length, map, All, OnErr, OnOk, IfOk, IfSome, IsNone, MatchOption, is_none, false, true, Ok, None, option_map, slice_index_or};
 ghost use Rattle.bstr.specs.BStr.{bstr_bytes};
 ghost use Rattle.attr_glob.specs.Views.{patterns_of};
 ghost use Rattle.attr_lists.specs.ListViews.{items_in, macro_id};
@@ -10,6 +10,7 @@ ghost use Rattle.attr_table.specs.Work.{work_of, newly_filled};
 ghost use Rattle.attr_search.specs.IndexedLists.{listed_view, lists_view};
 ghost use Rattle.attr_search.specs.Matches.{match_view};
 ghost use Rattle.attr_search.specs.Settings.{candidates_in, is_found};
+ghost use Rattle.attr_search.specs.Slots.{AreFreeFrom, IsNextFilled};
 ghost use Rattle.attr_search.specs.inner.BodyChanges.{changed_bodies, sized_bodies};
 ghost use Rattle.attr_search.specs.inner.Slotted.{BodiesHaveSlots, LinesHaveSlots, ListsHaveSlots};
 ghost use Rattle.attr_search.specs.inner.Slotted.{bodies_view};
@@ -231,6 +232,14 @@ impl SearchState {
         self.filler.slots.get(attribute)
     }
 
+    /// The first number from this one on whose slot has an answer. After a search this takes a few steps.
+    pub fn next_filled(&self, from: usize) -> Option<usize>
+        ensures { MatchOption result
+            (AreFreeFrom self.now.answers from) (IsNextFilled self.now.answers from) }
+    {
+        self.filler.slots.next_filled(from)
+    }
+
     /// The body of each attribute, by number: empty if it is no macro.
     pub fn bodies(&self) -> &[Vec<TrackedAssignment>]
         ensures bodies { bodies_view result.now ≡ self.now.bodies }
@@ -316,6 +325,7 @@ impl SearchState {
         let remaining = self.remaining();
         self.begin_counts();
         self.search_lists(alloc, lists, query)?;
+        self.filler.slots.order();
         Ok(self.remaining() < remaining)
     }
 

@@ -6,7 +6,8 @@ ghost use Rattle.std.specs.List.{list_any};
 ghost use Rattle.attr_table.specs.Cut.{is_done};
 ghost use Rattle.attr_search.specs.Matches.{match_view};
 ghost use Rattle.attr_search.specs.Settings.{HaveSlots};
-ghost use Rattle.attr_search.specs.Slots.{slots_of};
+ghost use Rattle.std.specs.List.Sorted.{IsNonDecreasing};
+ghost use Rattle.attr_search.specs.Slots.{AreFreeFrom, IsNextFilled, slots_of};
 ghost use Rattle.attr_search.specs.inner.Pending.{item_match, line_origin};
 ghost use Rattle.attr_search.specs.inner.RefMapParts.{KeepsRefs};
 ghost use Rattle.attr_search.specs.inner.Refs.{AreMatchRefs, RefersTo, IsMatchRef, match_by_ref, matches_by_ref};
@@ -25,6 +26,8 @@ pub struct AnswerSlots {
     slots: Vec<Option<MatchRef>>,
     // The numbers of the slots that may be filled: the others are free.
     filled: Vec<usize>,
+    // Whether these numbers are in their order.
+    is_ordered: bool,
     wanted: WantedFlags,
     // How many wanted slots are free.
     remaining: usize,
@@ -59,6 +62,7 @@ impl AnswerSlots {
         AnswerSlots {
             slots: Vec::new(alloc),
             filled: Vec::new(alloc),
+            is_ordered: true,
             wanted: WantedFlags::new(alloc),
             remaining: 0,
             matches: MatchStore::of(RefMap::new(alloc)),
@@ -79,6 +83,7 @@ impl AnswerSlots {
         grow(&mut self.slots, count)?;
         empty(&mut self.slots, &self.filled);
         self.filled.clear();
+        self.is_ordered = true;
         self.slots.truncate(count);
         self.remaining = wanted.count();
         self.wanted = wanted;
@@ -110,6 +115,7 @@ impl AnswerSlots {
         Ok(AnswerSlots {
             slots,
             filled,
+            is_ordered: self.is_ordered,
             wanted,
             remaining,
             matches: MatchStore::of(refs),
@@ -193,11 +199,34 @@ impl AnswerSlots {
         ensures line { MatchOption self.new.line ⊤ (λ o. o ≡ line_origin line.entry) }
     {
         let attribute = item.id.0;
+        self.is_ordered = false;
         self.filled.push(attribute)?;
         let found = self.matches.store(alloc, line, item, kind)?;
         self.remaining -= usize::from(self.wanted.has(attribute));
         self.slots[attribute] = Some(found);
         Ok(())
+    }
+
+    /// Puts the numbers of the filled slots in their order, so that they are found by halving.
+    pub fn order(&mut self)
+        ensures { self.new ≡ self.old }
+    {
+        if !self.is_ordered {
+            self.filled.sort_unstable();
+            self.is_ordered = true;
+        }
+    }
+
+    /// The first number from this one on whose slot has an answer.
+    pub fn next_filled(&self, from: usize) -> Option<usize>
+        ensures { MatchOption result
+            (AreFreeFrom self.now.answers from) (IsNextFilled self.now.answers from) }
+    {
+        if self.is_ordered {
+            next_listed(&self.slots, &self.filled, from)
+        } else {
+            next_slot(&self.slots, from)
+        }
     }
 
     /// Empties the slots, which costs what was filled. Patterns, sources and assignments stay stored for later matches.
@@ -207,6 +236,7 @@ impl AnswerSlots {
     {
         empty(&mut self.slots, &self.filled);
         self.filled.clear();
+        self.is_ordered = true;
         self.remaining = self.wanted.count();
         self.matches.line = None;
     }
@@ -300,6 +330,34 @@ fn is_remaining(wanted: bool, slot: Option<MatchRef>) -> bool
     ensures { result ≡ wanted && is_none slot }
 {
     wanted && slot.is_none()
+}
+
+// The first of the numbers from this one on whose slot is filled. The slots of other numbers are free.
+fn next_listed(slots: &[Option<MatchRef>], numbers: &[usize], from: usize) -> Option<usize>
+    requires listed { AreListed slots.now numbers.now }
+    requires ordered { IsNonDecreasing numbers.now }
+    ensures { MatchOption result (AreFreeFrom slots.now from) (IsNextFilled slots.now from) }
+{
+    let start = numbers.partition_point(|number| *number < from);
+    for place in start..numbers.len() {
+        let number = numbers[place];
+        if slots[number].is_some() {
+            return Some(number);
+        }
+    }
+    None
+}
+
+// The first number from this one on whose slot is filled.
+fn next_slot(slots: &[Option<MatchRef>], from: usize) -> Option<usize>
+    ensures { MatchOption result (AreFreeFrom slots.now from) (IsNextFilled slots.now from) }
+{
+    for number in from..slots.len() {
+        if slots[number].is_some() {
+            return Some(number);
+        }
+    }
+    None
 }
 
 // Appends free slots, until there are as many as the count if there were fewer.

@@ -1,8 +1,9 @@
-use Rattle.std.proofs.Common.{◌≡◌, length, option_map, sym, ap, ◌∙◌}
+use Rattle.std.proofs.Common.{◌≡◌, length, option_map, subst, sym, ap, ◌∙◌}
 use Rattle.std.proofs.lemmas.List.{length-map}
 use Rattle.attr_search.specs.inner.Refs.{match_by_ref}
 use Rattle.attr_search.specs.inner.SlotContents.{count_remaining}
 use Rattle.attr_search.proofs.SlotLemmas.{listed_same, refs_same}
+use Rattle.std.specs.List.Sorted.{IsNonDecreasing}
 use Rattle.attr_search.proofs.slots.AnswerSlots.copy.Goals as goal
 
 pub invariant_of-result : goal.invariant_of-result
@@ -20,4 +21,5 @@ invariant_of-result c =
       line = rw c.of.ensures.line tt;
       counted = c.count_remaining-remaining.ensures ∙ ap (count_remaining c.args.wanted) c.deref-3.ensures.value;
       listed = listed_same copy b.slots.items numbers b.filled.items same same_numbers c.self.invariant.listed;
+      ordered = λ t. subst IsNonDecreasing (sym same_numbers) (c.self.invariant.ordered t);
     }

@@ -4,6 +4,7 @@ use Rattle.attr_search.specs.inner.Refs.{match_by_ref}
 use Rattle.attr_search.specs.Slots.{slots_of}
 use Rattle.attr_search.proofs.SlotLemmas.{listed_filled, listed_more, on_err, matches_stay, fill_counts, line_kept, slots_filled, matches_filled}
 use Rattle.attr_search.proofs.SlotLemmas.{seen_filled}
+use Rattle.std.proofs.lemmas.Bool.{false≢true}
 use Rattle.attr_search.proofs.slots.AnswerSlots.fill.Goals as goal
 
 pub returns-in_err-found-clause-refused : goal.returns-in_err-found-clause-refused
@@ -54,6 +55,7 @@ invariant_of-self-2 c =
           c.self.invariant.same_length within free c.self.invariant.counted c.has.ensures c.from.ensures).1;
       listed = rw pushed (listed_filled b.slots.items b.filled.items place (Some c.in_ok-found.found)
           (listed_more b.slots.items b.filled.items place within c.self.invariant.listed));
+      ordered = λ t. absurd (false≢true t);
     }
 
 pub returns-clause-answers : goal.returns-clause-answers

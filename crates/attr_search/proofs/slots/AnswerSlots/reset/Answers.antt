@@ -6,6 +6,7 @@ use Rattle.attr_search.specs.Slots.{Matched}
 use Rattle.attr_search.proofs.SlotLemmas.{emptied_seen, empty_listed, empty_within}
 use Rattle.attr_search.specs.declared.refmap.MatchRef.{MatchRef}
 use Rattle.attr_search.proofs.WantedLemmas.{count_empty}
+use Rattle.attr_search.proofs.ListedLemmas.{rising_nothing}
 use Rattle.attr_search.proofs.slots.AnswerSlots.reset.Goals as goal
 
 pub invariant_of-self : goal.invariant_of-self
@@ -19,6 +20,7 @@ invariant_of-self c =
       counted = c.count-self-inside.ensures ∙ sym (count_empty MatchRef b.wanted b.slots.items same)
           ∙ ap (count_remaining b.wanted) (sym c.empty.ensures.items);
       listed = rw c.clear.ensures.items (empty_listed c.empty.new.slots.items b.slots.items c.empty.ensures.items);
+      ordered = λ t. rising_nothing c.clear.new.self.items c.clear.ensures.items;
     }
 
 pub returns : goal.returns

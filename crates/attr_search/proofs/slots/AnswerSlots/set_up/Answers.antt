@@ -6,6 +6,7 @@ use Rattle.attr_search.specs.declared.refmap.MatchRef.{MatchRef}
 use Rattle.attr_search.specs.inner.Refs.{origin_by_ref}
 use Rattle.attr_search.specs.inner.SlotContents.{SlotContents, count_remaining}
 use Rattle.attr_search.proofs.SlotLemmas.{empty_cut, empty_listed, empty_seen, empty_within}
+use Rattle.attr_search.proofs.ListedLemmas.{rising_nothing}
 use Rattle.attr_search.proofs.WantedLemmas.{count_empty}
 use Rattle.attr_search.proofs.slots.AnswerSlots.set_up.Goals as goal
 
@@ -21,6 +22,7 @@ invariant_of-self-2 c =
       line = rw c.clear-2.ensures.line tt;
       counted = c.count-self-inside.ensures ∙ sym (count_empty MatchRef wanted wanted refl) ∙ ap (count_remaining wanted) (sym cut);
       listed = rw c.clear.ensures.items (empty_listed slots wanted cut);
+      ordered = λ t. rising_nothing c.clear.new.self.items c.clear.ensures.items;
     }
 
 pub returns-clause-ok : goal.returns-clause-ok

@@ -1,0 +1,111 @@
+-- The first filled slot from a number on, by numbers in their order.
+use Rattle.std.proofs.Common.{◌≡◌, ◌≢◌, ℕ, ◌+◌, ◌<◌, ◌≤◌, Bool, true, false, List, length, get_or, All, Option, None, refl, sym, ap, ◌∙◌, arith}
+use Rattle.std.proofs.Common.{MatchOption, subst, ⊎_elim, nat_eq, is_some, zero, suc, [], ◌∷◌, map, option_map, Some}
+use Rattle.std.specs.List.{list_any}
+use Rattle.std.specs.List.Sorted.{IsNonDecreasing, IsPermutation}
+use Rattle.std.proofs.lemmas.List.Sorted.{All-permutation, list_any-IsPermutation}
+use Rattle.std.proofs.lemmas.Bool.{cases_eq, cases_lt}
+use Rattle.std.proofs.lemmas.Bool.Decides.{nat_tests}
+use Rattle.std.proofs.lemmas.List.Folds.{list_any_none}
+use Rattle.attr_search.specs.Slots.{AreFreeFrom, IsNextFilled}
+use Rattle.attr_search.specs.inner.SlotContents.{AreListed}
+
+mapped_at : {X Y : Type 0} (f : X → Y) (slots : List (Option X)) (n : ℕ) →
+    get_or (map (λ o. option_map f o) slots) n None ≡ option_map f (get_or slots n None)
+mapped_at f [] n = refl
+mapped_at f (o ∷ slots) zero = refl
+mapped_at f (o ∷ slots) (suc n) = mapped_at f slots n
+
+is_some_map : {X Y : Type 0} (f : X → Y) (o : Option X) → is_some (option_map f o) ≡ is_some o
+is_some_map f None = refl
+is_some_map f (Some x) = refl
+
+-- no number from this place on is n
+abbrev pub IsPast : List ℕ → ℕ → ℕ → Type 0
+IsPast numbers place n = (j d : ℕ) → place ≤ j → j < length numbers → get_or numbers j d ≢ n
+
+-- from a number on, a slot is free if its number isn't left
+abbrev pub AreFreeButLeft : {X : Type 0} → List (Option X) → List ℕ → ℕ → ℕ → Type 0
+AreFreeButLeft slots numbers from place = (n : ℕ) → from ≤ n → IsPast numbers place n → get_or slots n None ≡ None
+
+-- at first, if the numbers before the place are below
+pub free_first : {X : Type 0} (slots : List (Option X)) (numbers : List ℕ) (from place : ℕ) → AreListed slots numbers →
+    ((j d : ℕ) → j < place → j < length numbers → get_or numbers j d < from) → AreFreeButLeft slots numbers from place
+free_first slots numbers from place listed below = λ n le past.
+    listed.others n (list_any_none (nat_eq n) numbers (λ j d lt.
+    other n (get_or numbers j d)
+    (λ e. ⊎_elim
+    (λ (early : j < place). let lower = below j d early lt in absurd (omega (arith, lower, e, le)))
+    (λ (late : place ≤ j). past j d late lt e)
+    (cases_lt j place))))
+  where
+    other : (n m : ℕ) → m ≢ n → nat_eq n m ≡ false
+    other n m apart = grind (arith, nat_tests)
+
+-- one more slot is free
+pub free_more : {X : Type 0} (slots : List (Option X)) (numbers : List ℕ) (from place number : ℕ) → ((d : ℕ) → get_or numbers place d ≡ number) →
+    get_or slots number None ≡ None → AreFreeButLeft slots numbers from place → AreFreeButLeft slots numbers from (place + 1)
+free_more slots numbers from place number at free so_far = λ n le past.
+    ⊎_elim
+    (λ (here : n ≡ number). ap (λ i. get_or slots i None) here ∙ free)
+    (λ (apart : n ≢ number). so_far n le (λ j d ge lt e.
+    ⊎_elim
+    (λ (same : j ≡ place). apart (sym (sym (at d) ∙ ap (λ i. get_or numbers i d) (sym same) ∙ e)))
+    (λ (later : j ≢ place). past j d (after j ge later) lt e)
+    (cases_eq j place)))
+    (cases_eq n number)
+  where
+    after : (j : ℕ) → place ≤ j → j ≢ place → place + 1 ≤ j
+    after j ge apart = ⊎_elim (λ (lt : place < j). omega (arith, lt)) (λ (le : j ≤ place). absurd (apart (omega (arith, ge, le)))) (cases_lt place j)
+
+-- this one is filled
+pub next_is : {X : Type 0} (slots : List (Option X)) (numbers : List ℕ) (from place number : ℕ) → IsNonDecreasing numbers →
+    place < length numbers → ((d : ℕ) → get_or numbers place d ≡ number) → from ≤ number → is_some (get_or slots number None) ≡ true →
+    AreFreeButLeft slots numbers from place → IsNextFilled slots from number
+next_is slots numbers from place number rising within at le filled so_far = record {
+  reached = le;
+  filled = filled;
+  free = λ k ge lt. so_far k ge (λ j d later below e.
+      let rises = rising place j d later below in
+      absurd (omega (arith, rises, ap (λ i. i) (at d), e, lt)));
+}
+
+-- none is left
+pub none_left : {X : Type 0} (slots : List (Option X)) (numbers : List ℕ) (from place : ℕ) → length numbers ≤ place →
+    AreFreeButLeft slots numbers from place → AreFreeFrom slots from
+none_left slots numbers from place past so_far = λ n le. so_far n le (λ j d ge lt e. absurd (omega (arith, past, ge, lt)))
+
+-- slots are seen as free and filled where they are so
+pub seen_free : {X Y : Type 0} (f : X → Y) (slots : List (Option X)) (from : ℕ) → AreFreeFrom slots from →
+    AreFreeFrom (map (λ o. option_map f o) slots) from
+seen_free f slots from free = λ n le. mapped_at f slots n ∙ ap (option_map f) (free n le)
+
+pub seen_next : {X Y : Type 0} (f : X → Y) (slots : List (Option X)) (from number : ℕ) → IsNextFilled slots from number →
+    IsNextFilled (map (λ o. option_map f o) slots) from number
+seen_next f slots from number next = record {
+  reached = next.reached;
+  filled = ap is_some (mapped_at f slots number) ∙ is_some_map f (get_or slots number None) ∙ next.filled;
+  free = λ k ge lt. mapped_at f slots k ∙ ap (option_map f) (next.free k ge lt);
+}
+
+pub seen_match : {X Y : Type 0} (f : X → Y) (slots slots' : List (Option X)) (from : ℕ) (found : Option ℕ) → slots' ≡ slots →
+    MatchOption found (AreFreeFrom slots' from) (IsNextFilled slots' from) →
+    MatchOption found (AreFreeFrom (map (λ o. option_map f o) slots) from) (IsNextFilled (map (λ o. option_map f o) slots) from)
+seen_match f slots slots' from None same free = seen_free f slots from (subst (λ l. AreFreeFrom l from) same free)
+seen_match f slots slots' from (Some number) same next =
+    seen_next f slots from number (subst (λ l. IsNextFilled l from number) same next)
+
+pub not_filled : {X : Type 0} (o : Option X) → is_some o ≡ false → o ≡ None
+not_filled None e = refl
+not_filled (Some x) e = absurd cc
+
+pub rising_nothing : (numbers : List ℕ) → numbers ≡ [] → IsNonDecreasing numbers
+rising_nothing numbers none = subst IsNonDecreasing (sym none) (λ i j d le lt. absurd (omega arith))
+
+-- numbers that are put in order list the same slots
+pub listed_permuted : {X : Type 0} (slots : List (Option X)) (numbers sorted : List ℕ) → IsPermutation numbers sorted → AreListed slots numbers →
+    AreListed slots sorted
+listed_permuted slots numbers sorted same listed = record {
+  below = All-permutation (λ n. n < length slots) numbers sorted same listed.below;
+  others = λ a none. listed.others a (list_any-IsPermutation (nat_eq a) numbers sorted same ∙ none);
+}

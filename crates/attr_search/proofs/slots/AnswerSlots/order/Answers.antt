@@ -1,0 +1,16 @@
+use Rattle.std.proofs.lemmas.List.Sorted.{IsNonDecreasingBy-from_sort}
+use Rattle.attr_search.proofs.ListedLemmas.{listed_permuted}
+use Rattle.attr_search.proofs.slots.AnswerSlots.order.Goals as goal
+
+pub invariant_of-self : goal.invariant_of-self
+invariant_of-self c =
+    let b = c.self.inside in
+    let sorted = c.sort_unstable.new.self.items in
+    record {
+      same_length = c.self.invariant.same_length;
+      within = c.self.invariant.within;
+      line = c.self.invariant.line;
+      counted = c.self.invariant.counted;
+      listed = listed_permuted b.slots.items b.filled.items sorted c.sort_unstable.ensures.permutation c.self.invariant.listed;
+      ordered = λ t. IsNonDecreasingBy-from_sort (λ n. n) sorted c.sort_unstable.ensures.sorted;
+    }
