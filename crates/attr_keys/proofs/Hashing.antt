@@ -6,7 +6,7 @@ use Rattle.std.specs.List.{starts_with}
 use Rattle.std.proofs.lemmas.Bool.{eqb-true}
 use Rattle.std.proofs.lemmas.Bool.Decides.{nat_tests}
 use Rattle.attr_keys.specs.declared.key.Key.{Key}
-use Rattle.attr_keys.specs.declared.whole.HashedRow.{HashedRow}
+use Rattle.attr_keys.specs.declared.hashed.HashedRow.{HashedRow}
 use Rattle.attr_keys.specs.inner.Codes.{codes_of, key_codes, row_codes}
 use Rattle.attr_keys.specs.inner.Hashes.{IsHashOfKey, hashed_rows, text_hash}
 use Rattle.attr_keys.specs.declared.key.Subject.{Subject}
@@ -46,24 +46,32 @@ kept_rows row test (h ∷ hs) kept =
     (λ e. let no : false ≡ true = sym f ∙ kept 0 h (omega arith) e in absurd cc)
     (λ e. rw (f, e) rest))
 
--- the text has no key of another hash
-pub alike_rows : (keys : List Key) (text : List ℕ) (row : ℕ) (rows alike : List HashedRow) (hash : ℕ) → All (IsHashOfKey keys) rows →
-    hash ≡ text_hash text → alike ≡ filter (λ h. eqb h.hash hash) rows →
-    has_row (hashed_rows alike) row && starts_with nat_eq (codes_of false text true) (row_codes keys row)
-    ≡ has_row (hashed_rows rows) row && starts_with nat_eq (codes_of false text true) (row_codes keys row)
-alike_rows keys text row rows alike hash hashes is same =
-    let has = starts_with nat_eq (codes_of false text true) (row_codes keys row) in
-    ap (λ l. has_row (hashed_rows l) row && has) same
-    ∙ by_test has
-    (λ t. ap (λ b. b && has) (kept_rows row (λ h. eqb h.hash hash) rows
+-- no key of another hash is had
+pub alike_rows : (has : ℕ → Bool) (row : ℕ) (rows alike : List HashedRow) (hash : ℕ) →
+    All (λ h. has h.row ≡ true → h.hash ≡ hash) rows → alike ≡ filter (λ h. eqb h.hash hash) rows →
+    has_row (hashed_rows alike) row && has row ≡ has_row (hashed_rows rows) row && has row
+alike_rows has row rows alike hash hashes same =
+    ap (λ l. has_row (hashed_rows l) row && has row) same
+    ∙ by_test (has row)
+    (λ t. ap (λ b. b && has row) (kept_rows row (λ h. eqb h.hash hash) rows
     (λ k d lt e.
     let h = get_or rows k d in
-    equal h.hash hash (hashes k d lt text (ap (λ r. starts_with nat_eq (codes_of false text true) (row_codes keys r)) (eqb-true h.row row e) ∙ t)
-    ∙ sym is))))
+    equal h.hash hash (hashes k d lt (ap has (eqb-true h.row row e) ∙ t)))))
     (λ f. rw f (and_none (has_row (hashed_rows (filter (λ h. eqb h.hash hash) rows)) row) ∙ sym (and_none (has_row (hashed_rows rows) row))))
   where
     equal : (a b : ℕ) → a ≡ b → eqb a b ≡ true
     equal a b e = grind (arith, nat_tests)
+
+-- no key is had at all
+pub no_row : (has : ℕ → Bool) (row : ℕ) (rows : List HashedRow) → All (λ h. has h.row ≡ true → ⊥) rows →
+    has_row (hashed_rows rows) row && has row ≡ false
+no_row has row [] none = refl
+no_row has row (h ∷ hs) none =
+    by_test (has row)
+    (λ t. by_test (eqb h.row row)
+    (λ e. absurd (none 0 h (omega arith) (ap has (eqb-true h.row row e) ∙ t)))
+    (λ e. rw e (no_row has row hs (λ k d lt. none (suc k) d (omega arith)))))
+    (λ f. rw f (and_none (eqb h.row row || has_row (hashed_rows hs) row)))
 
 pub rows_push : (hashed : List HashedRow) (h : HashedRow) → hashed_rows (hashed ++ h ∷ []) ≡ hashed_rows hashed ++ h.row ∷ []
 rows_push [] h = refl

@@ -6,3 +6,5 @@ pub mod Ordering
 pub mod Meetings
 pub mod Parts
 pub mod Hashing
+pub mod ExtensionLemmas
+pub mod Buckets

@@ -17,7 +17,7 @@ alike : (a b : ℕ) → a ≤ b → b ≤ a → eqb a b ≡ true
 alike a b le ge = grind (arith, nat_tests)
 
 -- what the front fails is dropped
-filter_drop : {X : Type 0} (p : X → Bool) (d : X) (i : ℕ) (xs : List X) → ((k : ℕ) → k < i → k < length xs → p (get_or xs k d) ≡ false) →
+pub filter_drop : {X : Type 0} (p : X → Bool) (d : X) (i : ℕ) (xs : List X) → ((k : ℕ) → k < i → k < length xs → p (get_or xs k d) ≡ false) →
     filter p xs ≡ filter p (drop i xs)
 filter_drop p d zero [] out = refl
 filter_drop p d zero (x ∷ xs) out = refl

@@ -1,11 +1,12 @@
 -- The codes of a text and whether it is whole.
-use Rattle.std.proofs.Common.{◌≡◌, ℕ, suc, ◌+◌, Bool, true, false, not, ◌&&◌, ◌||◌, List, [], ◌∷◌, length, refl, sym, ap, ◌∙◌, arith, eqb, nat_eq}
+use Rattle.std.proofs.Common.{◌≡◌, ◌≢◌, ◌⊎◌, inl, inr, ℕ, suc, ◌+◌, Bool, true, false, not, ◌&&◌, ◌||◌, List, [], ◌∷◌, length, reverse, refl, sym, ap, ◌∙◌, arith, eqb, nat_eq}
 use Rattle.std.specs.Cmp.Lexicographic.{slice_cmp}
 use Rattle.std.specs.List.{starts_with}
 use Rattle.std.specs.Ordering.{nat_cmp, bool_cmp, ordering_then}
 use Rattle.std.specs.declared.cmp.Ordering.{Ordering}
 use Rattle.std.specs.declared.cmp.Ordering.TheVariants.{Less, Equal, Greater}
 use Rattle.std.proofs.lemmas.Bool.Decides.{nat_tests}
+use Rattle.std.proofs.lemmas.List.{length-reverse}
 use Rattle.attr_keys.specs.inner.Codes.{codes_of}
 
 end_below : (b : ℕ) → nat_cmp 1 (b + 2) ≡ Less
@@ -70,7 +71,51 @@ codes_begin (b ∷ bs) (c ∷ cs) w =
     ∙ (and_assoc (nat_eq c b) (starts_with nat_eq bs cs) (not w || eqb (length cs) (length bs))
     ∙ ap (λ t. (nat_eq c b && starts_with nat_eq bs cs) && (not w || t)) (sym (both_longer (length cs) (length bs)))))
 
--- the answer of a comparison of the parts
-pub has_by_parts : (text front codes : List ℕ) (w b : Bool) → codes_of false front w ≡ codes →
-    b ≡ starts_with nat_eq text front && (not w || eqb (length front) (length text)) → b ≡ starts_with nat_eq (codes_of false text true) codes
-has_by_parts text front codes w b is same = same ∙ (sym (codes_begin text front w) ∙ ap (starts_with nat_eq (codes_of false text true)) is)
+-- a whole key is as long as the text, or another one is asked for
+pub has_if_long : (text front codes : List ℕ) (w : Bool) → codes_of false front w ≡ codes →
+    ((w ≡ true) × (length front ≡ length text)) ⊎ (w ≡ false) →
+    starts_with nat_eq text front ≡ starts_with nat_eq (codes_of false text true) codes
+has_if_long text front codes w is long =
+    sym (ap (starts_with nat_eq (codes_of false text true)) (sym is)
+    ∙ (codes_begin text front w
+    ∙ (ap (λ b. starts_with nat_eq text front && b) (fits long) ∙ and_all (starts_with nat_eq text front))))
+  where
+    and_all : (a : Bool) → a && true ≡ a
+    and_all true = refl
+    and_all false = refl
+
+    equal : (a b : ℕ) → a ≡ b → eqb a b ≡ true
+    equal a b e = grind (arith, nat_tests)
+
+    or_true : (a : Bool) → a || true ≡ true
+    or_true true = refl
+    or_true false = refl
+
+    fits : ((w ≡ true) × (length front ≡ length text)) ⊎ (w ≡ false) → not w || eqb (length front) (length text) ≡ true
+    fits (inl e) = ap (λ b. not w || b) (equal (length front) (length text) e.1) ∙ or_true (not w)
+    fits (inr e) = ap (λ b. not b || eqb (length front) (length text)) e
+
+-- a whole key of another length
+pub lacks_if_other : (text front codes : List ℕ) (w : Bool) → codes_of false front w ≡ codes → w ≡ true → length front ≢ length text →
+    false ≡ starts_with nat_eq (codes_of false text true) codes
+lacks_if_other text front codes w is whole other =
+    sym (ap (starts_with nat_eq (codes_of false text true)) (sym is)
+    ∙ (codes_begin text front w
+    ∙ (ap (λ b. starts_with nat_eq text front && (not b || eqb (length front) (length text))) whole
+    ∙ (ap (λ b. starts_with nat_eq text front && b) (apart (length front) (length text) other) ∙ and_none (starts_with nat_eq text front)))))
+  where
+    apart : (a b : ℕ) → a ≢ b → eqb a b ≡ false
+    apart a b ne = grind (arith, nat_tests)
+
+    and_none : (a : Bool) → a && false ≡ false
+    and_none true = refl
+    and_none false = refl
+
+pub has_if_long_turned : (text front codes : List ℕ) (w : Bool) → codes_of false front w ≡ codes →
+    ((w ≡ true) × (length text ≡ length front)) ⊎ (w ≡ false) →
+    starts_with nat_eq (reverse text) front ≡ starts_with nat_eq (codes_of false (reverse text) true) codes
+has_if_long_turned text front codes w is long = has_if_long (reverse text) front codes w is (turned long)
+  where
+    turned : ((w ≡ true) × (length text ≡ length front)) ⊎ (w ≡ false) → ((w ≡ true) × (length front ≡ length (reverse text))) ⊎ (w ≡ false)
+    turned (inl e) = inl (e.0, sym e.1 ∙ sym (length-reverse text))
+    turned (inr e) = inr e

@@ -1,7 +1,7 @@
 //! Keys, and the codes by which they are sorted: 0 past the end of a text, 1 at the end of a whole text, and else the
 //! value of a byte plus 2.
 
-ghost use Rattle.std.specs.Prelude.{◌≡◌, Some, false, true, nat_eq, slice_index};
+ghost use Rattle.std.specs.Prelude.{◌≡◌, Some, false, true, nat_eq, reverse, slice_index};
 ghost use Rattle.std.specs.Cmp.Lexicographic.{slice_cmp};
 ghost use Rattle.std.specs.List.{starts_with};
 ghost use Rattle.std.specs.Ordering.{nat_cmp};
@@ -101,5 +101,35 @@ pub fn has_row_key(keys: &[Key], row: usize, text: &[u8]) -> bool
     ensures { result ≡ starts_with nat_eq (codes_of false text.now true) (row_codes keys.now row) }
 {
     let (front, is_whole) = parts(keys, row);
-    text.starts_with(front) && (!is_whole || front.len() == text.len())
+    if is_whole && front.len() != text.len() {
+        return false;
+    }
+    text.starts_with(front)
+}
+
+/// Whether a text, reversed, has the key with this number.
+pub fn has_turned_row_key(keys: &[Key], row: usize, text: &[u8]) -> bool
+    ensures { result
+        ≡ starts_with nat_eq (codes_of false (reverse text.now) true) (row_codes keys.now row) }
+{
+    let (front, is_whole) = parts(keys, row);
+    if is_whole && text.len() != front.len() {
+        return false;
+    }
+    ends_with_turned(text, front)
+}
+
+// Whether a text, reversed, begins with these bytes.
+fn ends_with_turned(text: &[u8], front: &[u8]) -> bool
+    ensures { result ≡ starts_with nat_eq (reverse text.now) front.now }
+{
+    if front.len() > text.len() {
+        return false;
+    }
+    for (place, byte) in front.iter().enumerate() {
+        if text[text.len() - 1 - place] != *byte {
+            return false;
+        }
+    }
+    true
 }

@@ -1,15 +1,18 @@
 //! The index of lines by their keys: it finds the lines that a path may match.
 
-ghost use Rattle.std.specs.Prelude.{◌≡◌, ◌&&◌, ◌||◌, ℕ, IfOk, OnOk, map, false, true, slice_get};
-ghost use Rattle.std.specs.Bool.{OnFalse};
-ghost use Rattle.attr_keys.specs.inner.Hashes.{AreHashed};
-ghost use Rattle.attr_keys.specs.inner.Meeting.{content_met_at, is_about, is_kind, key_content, text_has};
-ghost use Rattle.attr_keys.specs.inner.Orders.{AreSorted, AreSubjectRows, content_in_case, gathered, has_subject_row, in_case, key_contents};
+ghost use Rattle.std.specs.Prelude.{◌≡◌, ◌&&◌, ◌||◌, ◌++◌, ℕ, All, IfOk, OnOk, Some, map, reverse, false, true, slice_get};
+ghost use Rattle.std.specs.Bool.{OnFalse, OnTrue};
+ghost use Rattle.attr_keys.specs.inner.Extensions.{is_front};
+ghost use Rattle.attr_keys.specs.inner.Hashes.{IsHashOfKey};
+ghost use Rattle.attr_keys.specs.inner.Meeting.{content_met_at, is_about, key_content, text_has};
+ghost use Rattle.attr_keys.specs.inner.Orders.{AreSorted, AreSubjectRows, content_in_case, gathered, has_by_name, has_subject_row, in_case, key_contents};
 ghost use Rattle.attr_keys.specs.inner.Rows.{AreInOrder, IsFalling, has_row};
 
+use crate::extension::{append_extension, extension_rows, is_extension_key};
+use crate::hashed::HashedRows;
 use crate::key::{Key, Subject, is_kind, is_same};
 use crate::order::{append_found, fall, put_in_order};
-use crate::whole::{HashedRow, append_whole, whole_rows};
+use crate::whole::{append_whole, whole_rows};
 use std::alloc::{AllocError, Global};
 use std::marker::Model;
 
@@ -19,15 +22,16 @@ pub struct KeyIndex {
     exact: SortedKeys,
     // The keys in lower case, if any has a capital letter.
     folded: Option<SortedKeys>,
-    // The lines that any path may match.
+    // The lines that any path may match, the last first.
     others: Vec<usize>,
 }
 
-// Keys, and the numbers of those of each subject, in the order of the keys.
+// Keys, and the numbers of those of each subject. Ends that are extensions are apart.
 #[derive(Debug, Drop)]
 struct SortedKeys {
     keys: Vec<Key>,
     names: SubjectRows,
+    extensions: HashedRows,
     ends: SubjectRows,
     paths: SubjectRows,
 }
@@ -35,7 +39,7 @@ struct SortedKeys {
 // The numbers of a subject's keys: of whole keys by their hashes, and of others in the order of the keys.
 #[derive(Debug, Drop)]
 struct SubjectRows {
-    wholes: Vec<HashedRow>,
+    wholes: HashedRows,
     fronts: Vec<usize>,
 }
 
@@ -72,7 +76,8 @@ impl KeyIndex {
     pub fn of(alloc: Global, keys: Vec<Key>) -> Result<KeyIndex, AllocError>
         ensures { IfOk result (λ index. index ≡ map key_content keys.items) }
     {
-        let others = rows_about(alloc, &keys, Subject::Anything)?;
+        let mut others = rows_about(alloc, &keys, Subject::Anything)?;
+        others.reverse();
         let folded = if have_capitals(&keys) {
             Some(sorted(alloc, lower_keys(alloc, &keys)?)?)
         } else {
@@ -105,7 +110,7 @@ impl KeyIndex {
     {
         found.clear();
         gather(self.keys(texts.fold), texts, buffer, found)?;
-        found.extend_from_slice(&self.others)?;
+        append(&self.others, found)?;
         fall(found);
         Ok(())
     }
@@ -140,19 +145,75 @@ fn gather(
         (in_case texts.entry.fold texts.entry.path.now)
         (slice_get sorted.now.keys.items row))) }
 {
-    let keys = &sorted.keys;
-    write_in_case(texts.name, texts.fold, buffer)?;
-    append_subject(keys, &sorted.names, buffer, found)?;
-    buffer.reverse();
-    append_subject(keys, &sorted.ends, buffer, found)?;
-    if !texts.fold {
-        return append_subject(keys, &sorted.paths, texts.path, found);
+    if texts.fold {
+        return gather_folded(sorted, texts, buffer, found);
     }
-    write_in_case(texts.path, texts.fold, buffer)?;
-    append_subject(keys, &sorted.paths, buffer, found)
+    append_name(sorted, texts.name, found)?;
+    if !is_empty(&sorted.ends) {
+        write_turned(texts.name, buffer)?;
+        append_rows(&sorted.keys, &sorted.ends, buffer, found)?;
+    }
+    append_subject(&sorted.keys, &sorted.paths, texts.path, found)
 }
 
-// Appends the numbers of a subject's keys that the text has.
+// Appends the rows of the keys that the texts have in lower case.
+fn gather_folded(
+    sorted: &SortedKeys,
+    texts: Texts<'_>,
+    buffer: &mut Vec<u8>,
+    found: &mut Vec<usize>,
+) -> Result<(), AllocError>
+    requires { AreSorted sorted.now }
+    ensures { OnOk result ((row : ℕ) → has_row found.new.items row
+        ≡ (has_row found.old.items row
+        || gathered (in_case true texts.entry.name.now) (in_case true texts.entry.path.now)
+        (slice_get sorted.now.keys.items row))) }
+{
+    write_lower(texts.name, buffer)?;
+    append_name(sorted, buffer, found)?;
+    if !is_empty(&sorted.ends) {
+        buffer.reverse();
+        append_rows(&sorted.keys, &sorted.ends, buffer, found)?;
+    }
+    if is_empty(&sorted.paths) {
+        return Ok(());
+    }
+    write_lower(texts.path, buffer)?;
+    append_rows(&sorted.keys, &sorted.paths, buffer, found)
+}
+
+// Appends the numbers of the names that the base name has, and of the extensions.
+fn append_name(sorted: &SortedKeys, name: &[u8], found: &mut Vec<usize>) -> Result<(), AllocError>
+    requires { AreSorted sorted.now }
+    ensures { OnOk result ((row : ℕ) → has_row found.new.items row
+        ≡ (has_row found.old.items row
+        || has_by_name name.now (slice_get sorted.now.keys.items row))) }
+{
+    append_subject(&sorted.keys, &sorted.names, name, found)?;
+    if sorted.extensions.all().is_empty() {
+        return Ok(());
+    }
+    append_extension(&sorted.keys, &sorted.extensions, name, found)
+}
+
+// Appends numbers to others.
+fn append(rows: &[usize], found: &mut Vec<usize>) -> Result<(), AllocError>
+    ensures { OnOk result (found.new.items ≡ found.old.items ++ rows.now) }
+{
+    if rows.is_empty() {
+        return Ok(());
+    }
+    found.extend_from_slice(rows)
+}
+
+// Whether there are no rows.
+fn is_empty(rows: &SubjectRows) -> bool
+    ensures { OnTrue result ((row : ℕ) → has_subject_row rows.now row ≡ false) }
+{
+    rows.wholes.all().is_empty() && rows.fronts.is_empty()
+}
+
+// Appends the numbers of a subject's keys that the text has. It costs nothing if there are none.
 fn append_subject(
     keys: &[Key],
     rows: &SubjectRows,
@@ -160,7 +221,26 @@ fn append_subject(
     found: &mut Vec<usize>,
 ) -> Result<(), AllocError>
     requires fronts { AreInOrder keys.now rows.now.fronts.items }
-    requires wholes { AreHashed keys.now rows.now.wholes.items }
+    requires wholes { All (IsHashOfKey keys.now) rows.now.wholes }
+    ensures { OnOk result ((row : ℕ) → has_row found.new.items row
+        ≡ (has_row found.old.items row
+        || (has_subject_row rows.now row && text_has text.now (slice_get keys.now row)))) }
+{
+    if is_empty(rows) {
+        return Ok(());
+    }
+    append_rows(keys, rows, text, found)
+}
+
+// Appends the numbers of a subject's keys that the text has.
+fn append_rows(
+    keys: &[Key],
+    rows: &SubjectRows,
+    text: &[u8],
+    found: &mut Vec<usize>,
+) -> Result<(), AllocError>
+    requires fronts { AreInOrder keys.now rows.now.fronts.items }
+    requires wholes { All (IsHashOfKey keys.now) rows.now.wholes }
     ensures { OnOk result ((row : ℕ) → has_row found.new.items row
         ≡ (has_row found.old.items row
         || (has_subject_row rows.now row && text_has text.now (slice_get keys.now row)))) }
@@ -169,15 +249,29 @@ fn append_subject(
     append_found(keys, &rows.fronts, text, found)
 }
 
-// The text, in lower case if case doesn't matter, in place of what the buffer had.
-fn write_in_case(text: &[u8], fold: bool, buffer: &mut Vec<u8>) -> Result<(), AllocError>
-    ensures { OnOk result (buffer.new.items ≡ in_case fold text.now) }
+// The text, in place of what the buffer had.
+fn write(text: &[u8], buffer: &mut Vec<u8>) -> Result<(), AllocError>
+    ensures { OnOk result (buffer.new.items ≡ text.now) }
 {
     buffer.clear();
-    buffer.extend_from_slice(text)?;
-    if fold {
-        buffer.make_ascii_lowercase();
-    }
+    buffer.extend_from_slice(text)
+}
+
+// The text, reversed, in place of what the buffer had.
+fn write_turned(text: &[u8], buffer: &mut Vec<u8>) -> Result<(), AllocError>
+    ensures { OnOk result (buffer.new.items ≡ reverse text.now) }
+{
+    write(text, buffer)?;
+    buffer.reverse();
+    Ok(())
+}
+
+// The text in lower case, in place of what the buffer had.
+fn write_lower(text: &[u8], buffer: &mut Vec<u8>) -> Result<(), AllocError>
+    ensures { OnOk result (buffer.new.items ≡ in_case true text.now) }
+{
+    write(text, buffer)?;
+    buffer.make_ascii_lowercase();
     Ok(())
 }
 
@@ -186,11 +280,13 @@ fn sorted(alloc: Global, keys: Vec<Key>) -> Result<SortedKeys, AllocError>
     ensures keys { IfOk result (λ sorted. sorted.keys ≡ keys) }
 {
     let names = subject_rows(alloc, &keys, Subject::Name)?;
+    let extensions = extension_rows(alloc, &keys)?;
     let ends = subject_rows(alloc, &keys, Subject::End)?;
     let paths = subject_rows(alloc, &keys, Subject::Path)?;
     Ok(SortedKeys {
         keys,
         names,
+        extensions,
         ends,
         paths,
     })
@@ -205,18 +301,24 @@ fn subject_rows(alloc: Global, keys: &[Key], subject: Subject) -> Result<Subject
     Ok(SubjectRows { wholes, fronts })
 }
 
-// The numbers of a subject's keys that aren't whole.
+// The numbers of a subject's keys that are neither whole nor extensions.
 fn front_rows(alloc: Global, keys: &[Key], subject: Subject) -> Result<Vec<usize>, AllocError>
     ensures { IfOk result (λ rows. (row : ℕ) →
-        has_row rows.items row ≡ is_kind subject false (slice_get keys.now row)) }
+        has_row rows.items row ≡ is_front subject (slice_get keys.now row)) }
 {
     let mut rows = Vec::new(alloc);
     for (row, key) in keys.iter().enumerate() {
-        if is_kind(subject, false, key) {
+        if is_front(subject, key) {
             rows.push(row)?;
         }
     }
     Ok(rows)
+}
+
+fn is_front(subject: Subject, key: &Key) -> bool
+    ensures { result ≡ is_front subject (Some key.now) }
+{
+    is_kind(subject, false, key) && !is_extension_key(key)
 }
 
 // Copies of the keys, in lower case.

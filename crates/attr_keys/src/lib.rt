@@ -1,9 +1,12 @@
 //! An index of lines by keys, so that a search needs not test each line (own: it changes no answer).
 //!
 //! A key is a text that a path needs if a line may match it: the path or its base name begins with the key, or the base
-//! name ends with it. The keys are sorted, and looked up byte by byte: each byte narrows the keys by a binary search.
+//! name ends with it. Whole texts and extensions are looked up by their hashes. Other keys are sorted, and looked up byte by
+//! byte: each byte narrows the keys by a binary search.
 #![tactic(auto)]
 
+mod extension;
+mod hashed;
 pub mod key;
 pub mod key_index;
 pub mod line_key;

@@ -1,6 +1,7 @@
 //! Rows, which are indexes of keys, in the order of the keys' codes.
 
 ghost use Rattle.std.specs.Prelude.{◌≡◌, ◌==◌, ◌&&◌, ◌||◌, ℕ, OnOk, false, true, nat_eq, slice_index};
+ghost use Rattle.std.specs.Bool.{OnTrue};
 ghost use Rattle.std.specs.List.{filter, starts_with};
 ghost use Rattle.std.specs.List.Sorted.{IsNonDecreasingBy};
 ghost use Rattle.attr_keys.specs.inner.Codes.{codes_of, row_codes};
@@ -94,9 +95,22 @@ pub fn fall(rows: &mut Vec<usize>)
     ensures rows { (row : ℕ) → has_row rows.new.items row ≡ has_row rows.old.items row }
     ensures falling { IsFalling rows.new.items }
 {
-    if rows.len() > 1 {
-        rows.sort_unstable();
-        rows.dedup();
-        rows.reverse();
+    if is_falling(rows) {
+        return;
     }
+    rows.sort_unstable();
+    rows.dedup();
+    rows.reverse();
+}
+
+// Whether each row is below the one before it, as in most files, which go from lines of all paths to those of few.
+fn is_falling(rows: &[usize]) -> bool
+    ensures { OnTrue result (IsFalling rows.now) }
+{
+    for place in 1..rows.len() {
+        if rows[place - 1] <= rows[place] {
+            return false;
+        }
+    }
+    true
 }

@@ -1,12 +1,14 @@
--- Whole keys by the hashes of their texts (own).
-use Rattle.std.specs.Prelude.{◌≡◌, ℕ, true, false, List, map, nat_eq}
+-- Numbers of keys by hashes (own).
+use Rattle.std.specs.Prelude.{◌≡◌, ℕ, ◌+◌, ◌-◌, ◌<◌, ◌≤◌, ◌/◌, ◌^◌, true, false, List, length, map, nat_eq, slice_index, Some, option_map}
 use Rattle.std.specs.Hash.DefaultHasher as sip
-use Rattle.std.specs.Prelude.{All}
+use Rattle.std.specs.Prelude.{reverse}
 use Rattle.std.specs.List.{starts_with}
-use Rattle.std.specs.List.Sorted.{IsNonDecreasingBy}
+use Rattle.std.specs.List.Sorted.{IsNonDecreasingBy, IsPartitionPoint}
+use Rattle.attr_keys.specs.declared.hashed.HashedRow.{HashedRow}
+use Rattle.attr_keys.specs.declared.hashed.HashedRows.TheInside.{Inside}
 use Rattle.attr_keys.specs.declared.key.Key.{Key}
-use Rattle.attr_keys.specs.declared.whole.HashedRow.{HashedRow}
 use Rattle.attr_keys.specs.inner.Codes.{codes_of, row_codes}
+use Rattle.attr_keys.specs.inner.Extensions.{extension}
 
 abbrev pub text_hash : List ℕ → ℕ
 text_hash text = sip.finish (sip.write sip.initial text)
@@ -14,12 +16,29 @@ text_hash text = sip.finish (sip.write sip.initial text)
 abbrev pub hashed_rows : List HashedRow → List ℕ
 hashed_rows hashed = map (λ h. h.row) hashed
 
+abbrev pub hashed_view : Inside → List HashedRow
+hashed_view table = table.rows.items
+
+-- the rows before this place are of earlier buckets, the others are not
+pub record IsBucketStart (width : ℕ) (rows : List HashedRow) (bucket start : ℕ) : Type 0 where
+  pub bound : start ≤ length rows
+  pub point : IsPartitionPoint (λ h. h.hash / width < bucket) (λ h. bucket ≤ h.hash / width) rows start
+
+-- The hashes don't fall, and each bucket, of so many hashes, has its start. One more start is the end of the last bucket.
+pub record AreBuckets (table : Inside) : Type 0 where
+  pub order : IsNonDecreasingBy (λ h. h.hash) table.rows.items
+  pub width : 2 ≤ table.width
+  pub count : length table.starts.items ≡ (2 ^ 64 - 1) / table.width + 2
+  pub starts : (bucket : ℕ) → bucket < length table.starts.items →
+      IsBucketStart table.width table.rows.items bucket (slice_index table.starts.items bucket)
+
 -- each text that has the key has its hash
 abbrev pub IsHashOfKey : List Key → HashedRow → Type 0
 IsHashOfKey keys h =
     (text : List ℕ) → starts_with nat_eq (codes_of false text true) (row_codes keys h.row) ≡ true → h.hash ≡ text_hash text
 
--- the hashes are those of the keys, and don't fall
-pub record AreHashed (keys : List Key) (hashed : List HashedRow) : Type 0 where
-  pub hashes : All (IsHashOfKey keys) hashed
-  pub order : IsNonDecreasingBy (λ h. h.hash) hashed
+-- each name that, reversed, has the key has an extension of its hash
+abbrev pub IsHashOfExtension : List Key → HashedRow → Type 0
+IsHashOfExtension keys h =
+    (name : List ℕ) → starts_with nat_eq (codes_of false (reverse name) true) (row_codes keys h.row) ≡ true →
+    option_map text_hash (extension name) ≡ Some h.hash

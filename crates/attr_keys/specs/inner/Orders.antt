@@ -1,5 +1,5 @@
 -- Keys with the orders of each subject's (own).
-use Rattle.std.specs.Prelude.{◌≡◌, ℕ, Bool, ◌&&◌, ◌||◌, List, map, reverse, Option, slice_get, if◌then◌else◌}
+use Rattle.std.specs.Prelude.{◌≡◌, ℕ, Bool, ◌&&◌, ◌||◌, List, All, map, not, reverse, Option, slice_get, if◌then◌else◌}
 use Rattle.std.specs.Char.{to_ascii_lowercase}
 use Rattle.attr_keys.specs.declared.key.Key.{Key}
 use Rattle.attr_keys.specs.declared.key.Subject.{Subject}
@@ -7,24 +7,40 @@ use Rattle.attr_keys.specs.declared.key.Subject.TheVariants.{Name, End, Path}
 use Rattle.attr_keys.specs.declared.key_index.SortedKeys.{SortedKeys}
 use Rattle.attr_keys.specs.declared.key_index.SubjectRows.{SubjectRows}
 use Rattle.attr_keys.specs.KeyContents.{KeyContent}
-use Rattle.attr_keys.specs.inner.Hashes.{AreHashed, hashed_rows}
+use Rattle.attr_keys.specs.declared.hashed.HashedRow.{HashedRow}
+use Rattle.attr_keys.specs.inner.Extensions.{is_extension_key}
+use Rattle.attr_keys.specs.inner.Hashes.{IsHashOfExtension, IsHashOfKey, hashed_rows}
 use Rattle.attr_keys.specs.inner.Meeting.{is_about, key_content, text_has}
 use Rattle.attr_keys.specs.inner.Rows.{AreInOrder, has_row}
 
 -- the number is of a subject's key
 abbrev pub has_subject_row : SubjectRows → ℕ → Bool
-has_subject_row rows row = has_row rows.fronts.items row || has_row (hashed_rows rows.wholes.items) row
+has_subject_row rows row = has_row rows.fronts.items row || has_row (hashed_rows rows.wholes) row
 
--- the numbers of a subject's keys, in their orders
+-- there is a key of this subject, and it is no extension
+abbrev pub is_other : Subject → Option Key → Bool
+is_other subject key = is_about subject key && not (is_extension_key key)
+
+-- the numbers of a subject's keys that are no extensions, in their orders
 pub record AreSubjectRows (subject : Subject) (keys : List Key) (rows : SubjectRows) : Type 0 where
-  pub has : (row : ℕ) → has_subject_row rows row ≡ is_about subject (slice_get keys row)
+  pub has : (row : ℕ) → has_subject_row rows row ≡ is_other subject (slice_get keys row)
   pub fronts : AreInOrder keys rows.fronts.items
-  pub wholes : AreHashed keys rows.wholes.items
+  pub wholes : All (IsHashOfKey keys) rows.wholes
+
+-- the numbers of the extensions
+pub record AreExtensions (keys : List Key) (rows : List HashedRow) : Type 0 where
+  pub has : (row : ℕ) → has_row (hashed_rows rows) row ≡ is_extension_key (slice_get keys row)
+  pub hashes : All (IsHashOfExtension keys) rows
 
 pub record AreSorted (sorted : SortedKeys) : Type 0 where
   pub names : AreSubjectRows Name sorted.keys.items sorted.names
+  pub extensions : AreExtensions sorted.keys.items sorted.extensions
   pub ends : AreSubjectRows End sorted.keys.items sorted.ends
   pub paths : AreSubjectRows Path sorted.keys.items sorted.paths
+
+-- the key is a name's, and no extension, or it is an extension, and the base name has it
+abbrev pub has_by_name : List ℕ → Option Key → Bool
+has_by_name name key = (is_other Name key && text_has name key) || (is_extension_key key && text_has (reverse name) key)
 
 -- the key is of a name, an end or a path, which has it
 abbrev pub gathered : List ℕ → List ℕ → Option Key → Bool

@@ -1,8 +1,8 @@
-use Rattle.std.proofs.Common.{◌≡◌, ℕ, false, take}
+use Rattle.std.proofs.Common.{◌≡◌, ℕ, take}
 use Rattle.std.specs.Prelude.{slice_get}
-use Rattle.attr_keys.specs.inner.Meeting.{is_kind}
+use Rattle.attr_keys.specs.inner.Extensions.{is_front}
 use Rattle.attr_keys.specs.inner.Rows.{has_row}
 use Rattle.attr_keys.proofs.key_index.front_rows.Given as goal
 
 abbrev pub invariant-loop-row : goal.invariant-loop-row
-invariant-loop-row l = (r : ℕ) → has_row l.rows.items r ≡ is_kind l.subject false (slice_get (take l.row l.keys) r)
+invariant-loop-row l = (r : ℕ) → has_row l.rows.items r ≡ is_front l.subject (slice_get (take l.row l.keys) r)

@@ -1,10 +1,11 @@
-use Rattle.std.proofs.Common.{◌≡◌, true, Some, refl, sym, ap, subst, ◌∙◌, arith, eqb, rules}
+use Rattle.std.proofs.Common.{◌≡◌, true, Some, refl, sym, ap, subst, ◌∙◌, arith, eqb}
 use Rattle.std.specs.Prelude.{All, slice_get}
 use Rattle.std.proofs.lemmas.List.{take_all}
 use Rattle.std.proofs.lemmas.List.Elements.{All-push}
-use Rattle.std.proofs.lemmas.List.Sorted.{All-permutation, IsNonDecreasingBy-from_sort_by_key, IsPermutation-map, list_any-IsPermutation}
+use Rattle.std.proofs.lemmas.List.Sorted.{All-permutation, IsPermutation-map, list_any-IsPermutation}
+use Rattle.std.proofs.lemmas.Result.{IfOk-weaker}
 use Rattle.std.proofs.lemmas.Option.{slice_get-get_or}
-use Rattle.attr_keys.specs.declared.whole.HashedRow.{HashedRow}
+use Rattle.attr_keys.specs.declared.hashed.HashedRow.{HashedRow}
 use Rattle.attr_keys.specs.inner.Hashes.{IsHashOfKey, hashed_rows, text_hash}
 use Rattle.attr_keys.specs.inner.Meeting.{is_kind}
 use Rattle.attr_keys.specs.inner.Rows.{has_row}
@@ -49,15 +50,14 @@ loop-row-preserved c =
     ]
 
 pub returns-clause-rows : goal.returns-clause-rows
-returns-clause-rows c = λ row.
-    let moved = c.sort_unstable_by_key.ensures.permutation in
+returns-clause-rows c =
     let whole = take_all c.loop-row.row c.args.keys.now (omega arith) in
+    IfOk-weaker c.of.result _ _
+    (λ hashed moved row.
     sym (list_any-IsPermutation (λ r. eqb r row) _ _ (IsPermutation-map (λ (h : HashedRow). h.row) _ _ moved))
-    ∙ (c.loop-row.invariant.rows row ∙ ap (λ l. is_kind c.args.subject true (slice_get l row)) whole)
+    ∙ (c.loop-row.invariant.rows row ∙ ap (λ l. is_kind c.args.subject true (slice_get l row)) whole))
+    c.of.ensures
 
-pub returns-clause-hashed : goal.returns-clause-hashed
-returns-clause-hashed c =
-    record {
-      hashes = All-permutation (IsHashOfKey c.args.keys.now) _ _ c.sort_unstable_by_key.ensures.permutation c.loop-row.invariant.hashes;
-      order = IsNonDecreasingBy-from_sort_by_key (λ (h : HashedRow). h.hash) _ c.sort_unstable_by_key.ensures.sorted (λ a r q k. search rules);
-    }
+pub returns-clause-hashes : goal.returns-clause-hashes
+returns-clause-hashes c =
+    IfOk-weaker c.of.result _ _ (λ hashed moved. All-permutation (IsHashOfKey c.args.keys.now) _ _ moved c.loop-row.invariant.hashes) c.of.ensures

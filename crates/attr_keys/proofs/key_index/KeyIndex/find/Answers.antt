@@ -14,7 +14,7 @@ returns-clause-found c = λ row.
     let found = c.gather.new.found.items in
     let others = c.self.inside.others.items in
     c.fall.ensures.rows row
-    ∙ (ap (λ l. has_row l row) c.in_ok-extend_from_slice.ensures.items
+    ∙ (ap (λ l. has_row l row) c.in_ok-append.ensures
     ∙ (list_any-append (λ r. eqb r row) found c.deref.result.now
     ∙ (ap (λ l. has_row found row || has_row l row) c.deref.ensures.value
     ∙ (ap (λ b. b || has_row others row) (c.in_ok-gather.ensures row)

@@ -1,9 +1,9 @@
 use Rattle.std.proofs.Common.{ℕ, ltb, leb, ◌-◌, take, drop, length, sym, subst, rules}
 use Rattle.std.specs.List.Sorted.{IsNonDecreasingBy}
 use Rattle.std.proofs.lemmas.List.Sorted.{IsPartitionPoint-from_clause, IsPartitionedBy-leb, IsPartitionedBy-ltb, IsNonDecreasingBy-drop}
-use Rattle.attr_keys.specs.declared.whole.HashedRow.{HashedRow}
+use Rattle.attr_keys.specs.declared.hashed.HashedRow.{HashedRow}
 use Rattle.attr_keys.proofs.Narrowing.{between_points, rest_is}
-use Rattle.attr_keys.proofs.whole.of_hash.Goals as goal
+use Rattle.attr_keys.proofs.hashed.halved.Goals as goal
 
 pub returns : goal.returns
 returns c =

@@ -1,0 +1,39 @@
+use Rattle.std.proofs.Common.{◌-◌, eqb, length, take, drop, sym, ap, subst, ◌∙◌, arith}
+use Rattle.std.specs.List.{filter}
+use Rattle.std.specs.List.Sorted.{IsNonDecreasingBy}
+use Rattle.std.proofs.lemmas.List.Sorted.{IsNonDecreasingBy-drop, IsNonDecreasingBy-take}
+use Rattle.attr_keys.specs.declared.hashed.HashedRow.{HashedRow}
+use Rattle.attr_keys.proofs.Buckets.{between_starts}
+use Rattle.attr_keys.proofs.hashed.HashedRows.of_hash.Goals as goal
+
+pub between-rows-requires-clause-start : goal.between-rows-requires-clause-start
+between-rows-requires-clause-start c =
+    (between_starts c.self.inside c.self.invariant c.args.hash c.bucket-place.result c.index.result.now c.index-2.result.now c.ranges.hash.fits
+    c.bucket-place.ensures c.index.ensures c.index-2.ensures).0
+
+pub between-rows-requires-clause-end : goal.between-rows-requires-clause-end
+between-rows-requires-clause-end c =
+    let within = (between_starts c.self.inside c.self.invariant c.args.hash c.bucket-place.result c.index.result.now c.index-2.result.now
+    c.ranges.hash.fits c.bucket-place.ensures c.index.ensures c.index-2.ensures).1 in
+    let same = ap length c.deref.ensures.value in
+    omega (arith, within, same)
+
+pub halved-requires : goal.halved-requires
+halved-requires c =
+    let n : HashedRow → _ = λ h. h.hash in
+    let rows = c.self.inside.rows.items in
+    let start = c.index.result.now in
+    let end = c.index-2.result.now in
+    subst (λ l. IsNonDecreasingBy n l)
+    (sym (c.between-rows.ensures ∙ ap (λ l. take (end - start) (drop start l)) c.deref.ensures.value))
+    (IsNonDecreasingBy-take n (end - start) (drop start rows) (IsNonDecreasingBy-drop n start rows c.self.invariant.order))
+
+pub returns : goal.returns
+returns c =
+    let alike = filter (λ (h : HashedRow). eqb h.hash c.args.hash) in
+    let start = c.index.result.now in
+    let end = c.index-2.result.now in
+    c.halved.ensures
+    ∙ (ap alike (c.between-rows.ensures ∙ ap (λ l. take (end - start) (drop start l)) c.deref.ensures.value)
+    ∙ ((between_starts c.self.inside c.self.invariant c.args.hash c.bucket-place.result start end c.ranges.hash.fits c.bucket-place.ensures
+    c.index.ensures c.index-2.ensures).2 ∙ ap alike c.self.view_is))

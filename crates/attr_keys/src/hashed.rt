@@ -1,0 +1,147 @@
+//! Numbers of keys, found by hashes.
+
+ghost use Rattle.std.specs.Prelude.{◌≡◌, ◌==◌, ◌-◌, ◌/◌, ◌<◌, ◌≤◌, IfOk, drop, length, take};
+ghost use Rattle.std.specs.List.{AllWithin, filter};
+ghost use Rattle.std.specs.List.Sorted.{IsNonDecreasingBy, IsPermutation};
+ghost use Rattle.attr_keys.specs.inner.Hashes.{IsBucketStart, text_hash};
+
+use std::alloc::{AllocError, Global};
+use std::hash::{DefaultHasher, Hasher};
+use std::marker::Model;
+
+/// So few keys are compared one by one.
+pub const FEW: usize = 8;
+
+/// The number of a key, and a hash.
+#[derive(Clone, Copy, Debug)]
+pub struct HashedRow {
+    /// The hash of what has the key.
+    pub hash: u64,
+    /// The number of the key.
+    pub row: usize,
+}
+
+/// Numbers of keys, which are found by their hashes in a time that does not depend on how many there are.
+#[derive(Debug, Drop)]
+pub struct HashedRows {
+    // In the order of the hashes.
+    rows: Vec<HashedRow>,
+    // How many hashes a bucket has: that of a hash is its quotient.
+    width: u64,
+    // The place in `rows` where each bucket starts, and after the last bucket the number of rows.
+    starts: Vec<usize>,
+}
+
+impl Model for HashedRows {
+    ghost use Rattle.std.specs.Prelude.{List};
+    ghost use Rattle.attr_keys.specs.declared.hashed.HashedRow.{HashedRow};
+
+    ghost Value = { List HashedRow };
+
+    ghost use Rattle.attr_keys.specs.inner.Hashes.{AreBuckets, hashed_view};
+
+    ghost view = { hashed_view };
+
+    ghost invariant = { AreBuckets };
+}
+
+/// The hash of a text. Its keys are known, so that each look-up finds the same.
+pub fn text_hash(text: &[u8]) -> u64
+    ensures { result ≡ text_hash text.now }
+{
+    let mut state = DefaultHasher::new();
+    state.write(text);
+    state.finish()
+}
+
+impl HashedRows {
+    /// The rows, with about as many buckets.
+    ///
+    /// # Errors
+    ///
+    /// If memory runs out.
+    pub fn of(alloc: Global, mut rows: Vec<HashedRow>) -> Result<HashedRows, AllocError>
+        ensures { IfOk result (λ hashed. IsPermutation rows.items hashed) }
+    {
+        rows.sort_unstable_by_key(|row| row.hash);
+        let width = bucket_width(&rows);
+        let count = bucket(u64::MAX, width) + 2;
+        let mut starts = Vec::with_capacity(alloc, count)?;
+        let mut start = 0;
+        for place in 0..count {
+            start = bucket_start(&rows, width, place, start);
+            starts.push(start)?;
+        }
+        Ok(HashedRows {
+            rows,
+            width,
+            starts,
+        })
+    }
+
+    /// All rows, in the order of their hashes.
+    pub fn all(&self) -> &[HashedRow]
+        ensures { result.now ≡ self.now }
+    {
+        &self.rows
+    }
+
+    /// The rows of this hash. Those of its bucket are halved, so that many in one bucket cost little.
+    pub fn of_hash(&self, hash: u64) -> &[HashedRow]
+        ensures { result.now ≡ filter (λ hashed. hashed.hash == hash) self.now }
+    {
+        let place = bucket(hash, self.width);
+        let rows = between(&self.rows, self.starts[place], self.starts[place + 1]);
+        halved(rows, hash)
+    }
+}
+
+// How many hashes a bucket has, if there are about as many buckets as rows.
+fn bucket_width(rows: &[HashedRow]) -> u64
+    ensures { 2 ≤ result }
+{
+    u64::MAX / (rows.len() as u64 + 2) + 1
+}
+
+// The bucket of a hash.
+fn bucket(hash: u64, width: u64) -> usize
+    requires { 2 ≤ width }
+    ensures { result ≡ hash / width }
+{
+    (hash / width) as usize
+}
+
+// Where a bucket starts, if it does not start before this place and the hashes don't fall.
+fn bucket_start(rows: &[HashedRow], width: u64, place: usize, from: usize) -> usize
+    requires width { 2 ≤ width }
+    requires order { IsNonDecreasingBy (λ h. h.hash) rows.now }
+    requires from { from ≤ length rows.now }
+    requires before { AllWithin (λ h. h.hash / width < place) rows.now 0 from }
+    ensures { IsBucketStart width rows.now place result }
+{
+    let mut start = from;
+    while start < rows.len() && bucket(rows[start].hash, width) < place {
+        start += 1;
+    }
+    start
+}
+
+// The rows from a place to another one.
+fn between(rows: &[HashedRow], start: usize, end: usize) -> &[HashedRow]
+    requires start { start ≤ end }
+    requires end { end ≤ length rows.now }
+    ensures { result.now ≡ take (end - start) (drop start rows.now) }
+{
+    &rows[start..end]
+}
+
+// Those of this hash, if the hashes don't fall.
+fn halved(rows: &[HashedRow], hash: u64) -> &[HashedRow]
+    requires { IsNonDecreasingBy (λ hashed. hashed.hash) rows.now }
+    ensures { result.now ≡ filter (λ hashed. hashed.hash == hash) rows.now }
+{
+    let start = rows.partition_point(|hashed| hashed.hash < hash);
+    let rest = &rows[start..];
+    let len = rest.partition_point(|hashed| hashed.hash <= hash);
+    &rest[..len]
+}
