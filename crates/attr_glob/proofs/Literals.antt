@@ -14,6 +14,7 @@ use Rattle.attr_glob.specs.Patterns.{is_wildcard, is_slash, is_suffix}
 use Rattle.attr_glob.specs.Tokens.{Token, lit, star, tokens_from, tokens, token_at}
 use Rattle.attr_glob.specs.Matching.{same_byte}
 use Rattle.attr_glob.specs.Deciding.{star_then, matches, some_match, text_matches}
+use Rattle.attr_glob.specs.inner.StarEnds.{ends_after_star}
 use Rattle.attr_glob.proofs.Basics.{and_parts, and_both, by_test, equal, equal_so}
 
 pub or_none : (a b : Bool) → (a || b) ≡ false → (a ≡ false) × (b ≡ false)
@@ -54,6 +55,10 @@ pub text_matches-literal : (case : Case) (text value : List ℕ) → list_any is
 text_matches-literal case text value h =
     ap (λ o. some_match case o value) (tokens_from-literal (length text) true text (omega arith) h) ∙ matches-literals case text value
 
+and_false : (a : Bool) → (a && false) ≡ false
+and_false true = refl
+and_false false = refl
+
 -- texts of other lengths are not the same
 pointwise-unlike : (case : Case) (text value : List ℕ) → length text ≢ length value → pointwise (same_byte case) text value ≡ false
 pointwise-unlike case [] [] h = absurd (h refl)
@@ -61,10 +66,6 @@ pointwise-unlike case [] (b ∷ bs) h = refl
 pointwise-unlike case (c ∷ cs) [] h = refl
 pointwise-unlike case (c ∷ cs) (b ∷ bs) h =
     rw (pointwise-unlike case cs bs (λ e. h (ap suc e))) (and_false (same_byte case c b))
-  where
-    and_false : (a : Bool) → (a && false) ≡ false
-    and_false true = refl
-    and_false false = refl
 
 or_false : (a : Bool) → (a || false) ≡ a
 or_false true = refl
@@ -74,8 +75,13 @@ drop-none : (n : ℕ) → drop {A = ℕ} n [] ≡ []
 drop-none zero = refl
 drop-none (suc n) = refl
 
-no_slash_then : (b : ℕ) (x : Bool) → is_slash b ≡ false → (not (b == slash) && x) ≡ x
-no_slash_then b x h = rw h refl
+take-none : (n : ℕ) → take {A = ℕ} n [] ≡ []
+take-none zero = refl
+take-none (suc n) = refl
+
+and_true : (a : Bool) → a ≡ (a && true)
+and_true true = refl
+and_true false = refl
 
 -- one more byte in front of a value that is long enough leaves its end as it is
 end_longer : (case : Case) (text : List ℕ) (b : ℕ) (bs : List ℕ) → length text ≤ length bs →
@@ -91,29 +97,57 @@ end_whole case text value l =
     let n : length value - length text ≡ 0 = omega arith in
     ap (λ k. pointwise (same_byte case) text (drop k value)) n
 
--- a star and then bytes that stand for themselves take a value without a slash by its end
-star_then-end : (case : Case) (text value : List ℕ) → list_any is_slash value ≡ false →
-    star_then (matches case (literals text)) value ≡ ends_with (same_byte case) value text
-star_then-end case text [] h =
-    matches-literals case text [] ∙ sym (ap (pointwise (same_byte case) text) (drop-none (0 - length text)))
-star_then-end case text (b ∷ bs) h =
-    let w = or_none (is_slash b) (list_any is_slash bs) h in
-    let rest = star_then-end case text bs w.1 in
+-- what is before the end of a longer value has its first byte
+before_longer : (text : List ℕ) (b : ℕ) (bs : List ℕ) → length text ≤ length bs →
+    list_any is_slash (take (suc (length bs) - length text) (b ∷ bs))
+    ≡ (is_slash b || list_any is_slash (take (length bs - length text) bs))
+before_longer text b bs l =
+    let n : suc (length bs) - length text ≡ suc (length bs - length text) = omega arith in
+    ap (λ k. list_any is_slash (take k (b ∷ bs))) n
+
+-- nothing is before the end of a value that is no longer
+before_none : (text value : List ℕ) → length value ≤ length text → list_any is_slash (take (length value - length text) value) ≡ false
+before_none text value l =
+    let n : length value - length text ≡ 0 = omega arith in
+    ap (λ k. list_any is_slash (take k value)) n
+
+-- a star and then bytes that stand for themselves take a value that ends with these, and has no slash before
+star_then-end : (case : Case) (text value : List ℕ) → star_then (matches case (literals text)) value ≡ ends_after_star case value text
+star_then-end case text [] =
+    matches-literals case text []
+    ∙ (sym (ap (pointwise (same_byte case) text) (drop-none (0 - length text)))
+    ∙ (and_true (ends_with (same_byte case) [] text)
+    ∙ sym (ap (λ v. ends_with (same_byte case) [] text && not (list_any is_slash v)) (take-none (0 - length text)))))
+star_then-end case text (b ∷ bs) =
+    let rest = star_then-end case text bs in
     let here = matches-literals case text (b ∷ bs) in
-    let passed = no_slash_then b (star_then (matches case (literals text)) bs) w.0 in
-    ap (λ x. matches case (literals text) (b ∷ bs) || x) (passed ∙ rest)
-    ∙ (ap (λ x. x || ends_with (same_byte case) bs text) here ∙ decided case text b bs)
+    ap (λ x. matches case (literals text) (b ∷ bs) || (not (b == slash) && x)) rest
+    ∙ (ap (λ x. x || (not (b == slash) && ends_after_star case bs text)) here ∙ decided case text b bs)
   where
+    joined : (s e r : Bool) → (not s && (e && not r)) ≡ (e && not (s || r))
+    joined true true r = refl
+    joined true false r = refl
+    joined false e r = refl
+
     decided : (case : Case) (text : List ℕ) (b : ℕ) (bs : List ℕ) →
-        (pointwise (same_byte case) text (b ∷ bs) || ends_with (same_byte case) bs text) ≡ ends_with (same_byte case) (b ∷ bs) text
+        (pointwise (same_byte case) text (b ∷ bs) || (not (b == slash) && ends_after_star case bs text)) ≡ ends_after_star case (b ∷ bs) text
     decided case text b bs = elim (by_length (length text) (length bs)) [
       | inl l ↦
           let longer : length text ≢ suc (length bs) = λ e. omega arith in
-          rw (pointwise-unlike case text (b ∷ bs) longer) (sym (end_longer case text b bs l))
+          ap (λ x. x || (not (b == slash) && ends_after_star case bs text)) (pointwise-unlike case text (b ∷ bs) longer)
+          ∙ (joined (is_slash b) (ends_with (same_byte case) bs text) (list_any is_slash (take (length bs - length text) bs))
+          ∙ (ap (λ x. ends_with (same_byte case) bs text && not x) (sym (before_longer text b bs l))
+          ∙ ap (λ x. x && not (list_any is_slash (take (suc (length bs) - length text) (b ∷ bs)))) (sym (end_longer case text b bs l))))
       | inr l ↦
           let shorter : length text ≢ length bs = λ e. omega arith in
-          ap (λ x. pointwise (same_byte case) text (b ∷ bs) || x) (end_whole case text bs (omega arith) ∙ pointwise-unlike case text bs shorter)
-          ∙ (or_false (pointwise (same_byte case) text (b ∷ bs)) ∙ sym (end_whole case text (b ∷ bs) (omega arith)))
+          let none : ends_with (same_byte case) bs text ≡ false = end_whole case text bs (omega arith) ∙ pointwise-unlike case text bs shorter in
+          let whole = pointwise (same_byte case) text (b ∷ bs) in
+          ap (λ x. whole || (not (b == slash) && (x && not (list_any is_slash (take (length bs - length text) bs))))) none
+          ∙ (ap (λ x. whole || x) (and_false (not (b == slash)))
+          ∙ (or_false whole
+          ∙ (and_true whole
+          ∙ (ap (λ x. whole && not x) (sym (before_none text (b ∷ bs) (omega arith)))
+          ∙ ap (λ x. x && not (list_any is_slash (take (suc (length bs) - length text) (b ∷ bs)))) (sym (end_whole case text (b ∷ bs) (omega arith)))))))
     ]
       where
         by_length : (m n : ℕ) → (m ≤ n) ⊎ (n < m)
@@ -131,20 +165,29 @@ tokens-suffix (b ∷ bs) h =
     let s = or_none (b == asterisk) (b == question_mark) v.0 in
     rw s.0 (ap (option_map (λ ts. star ∷ ts)) (tokens_from-literal (suc (length bs)) false (b ∷ bs) (omega arith) h))
 
--- a text of one star and no other wildcard takes a value without a slash where it ends with what follows the star
-pub text_matches-suffix : (case : Case) (text value : List ℕ) → is_suffix text ≡ true → list_any is_slash value ≡ false →
-    text_matches case text value ≡ ends_with (same_byte case) value (drop 1 text)
-text_matches-suffix case [] value h k = cc
-text_matches-suffix case (b ∷ bs) value h k =
+-- a text of one star and no other wildcard takes a value that ends with what follows the star, and has no slash before
+pub text_matches-suffix : (case : Case) (text value : List ℕ) → is_suffix text ≡ true →
+    text_matches case text value ≡ ends_after_star case value (drop 1 text)
+text_matches-suffix case [] value h = cc
+text_matches-suffix case (b ∷ bs) value h =
     let w = and_parts (b == asterisk) (not (list_any is_wildcard bs)) h in
     let plain = no_more (list_any is_wildcard bs) w.1 in
     let same : b ≡ asterisk = equal b asterisk w.0 in
     ap (λ x. text_matches case (x ∷ bs) value) same
-    ∙ (ap (λ o. some_match case o value) (tokens-suffix bs plain) ∙ star_then-end case bs value k)
+    ∙ (ap (λ o. some_match case o value) (tokens-suffix bs plain) ∙ star_then-end case bs value)
   where
     no_more : (a : Bool) → not a ≡ true → a ≡ false
     no_more true e = cc
     no_more false e = refl
+
+-- so a value that it takes ends with what follows the star
+pub suffix-ends : (case : Case) (text value : List ℕ) → is_suffix text ≡ true → text_matches case text value ≡ true →
+    ends_with (same_byte case) value (drop 1 text) ≡ true
+suffix-ends case text value h m =
+    let tail = drop 1 text in
+    let parts = and_parts (ends_with (same_byte case) value tail) (not (list_any is_slash (take (length value - length tail) value)))
+    (sym (text_matches-suffix case text value h) ∙ m) in
+    parts.0
 
 -- the value begins with the byte, and the tokens after it take the rest
 record Taken (case : Case) (c : ℕ) (o : Option (List Token)) (value : List ℕ) : Type 0 where

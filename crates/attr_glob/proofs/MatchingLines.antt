@@ -1,46 +1,23 @@
 -- A line that matches a path is a candidate for it, so that a search may pass over all others.
-use Rattle.std.proofs.Common.{◌≡◌, ℕ, ◌-◌, ◌<◌, Bool, true, false, cond, not, ◌||◌, List, [], ◌∷◌, length, drop, map, Option, Some, None, refl, sym}
-use Rattle.std.proofs.Common.{ap, ◌∙◌, arith, nat_eq, nat_lt}
+use Rattle.std.proofs.Common.{◌≡◌, ℕ, ◌-◌, Bool, true, false, cond, not, ◌||◌, List, [], ◌∷◌, length, drop, map, Option, Some, None, refl, sym}
+use Rattle.std.proofs.Common.{ap, ◌∙◌, nat_eq}
 use Rattle.std.specs.Prelude.{is_none}
-use Rattle.std.specs.List.{list_any, suffix_len, ends_with as ends_with_list}
+use Rattle.std.specs.List.{ends_with as ends_with_list}
 use Rattle.std.specs.Char.{to_ascii_lowercase}
 use Rattle.std.specs.Cmp.Lexicographic.{pointwise, bytes_decides}
-use Rattle.std.proofs.lemmas.Bool.Decides.{nat_tests}
-use Rattle.std.proofs.lemmas.List.{length-drop, length-map, drop-map}
+use Rattle.std.proofs.lemmas.List.{length-map, drop-map}
 use Rattle.attr_glob.specs.declared.pattern.Case.{Case}
 use Rattle.attr_glob.specs.declared.pattern.Case.TheVariants.{Sensitive, Fold}
-use Rattle.attr_glob.specs.BaseNames.{base_name, base_name_place}
+use Rattle.attr_glob.specs.BaseNames.{base_name}
 use Rattle.attr_glob.specs.Candidates.{has_macro_mode, matches_base_name, name, end, anything, has_key, is_candidate}
 use Rattle.attr_glob.specs.Folding.{folded, same_text}
 use Rattle.attr_glob.specs.Matching.{same_byte}
 use Rattle.attr_glob.specs.Deciding.{text_matches}
 use Rattle.attr_glob.specs.Paths.{matched_part, is_directory, path_matches}
-use Rattle.attr_glob.specs.Patterns.{Reading, reading, has_flag, is_slash, ends_with, must_be_dir}
+use Rattle.attr_glob.specs.Patterns.{Reading, reading, has_flag, ends_with, must_be_dir}
 use Rattle.attr_glob.proofs.Basics.{by_test, and_parts, equal}
-use Rattle.attr_glob.proofs.Places.{base_name_place-drop}
 use Rattle.attr_glob.proofs.PathLemmas.{reading-wildcard, reading-ends_with}
-use Rattle.attr_glob.proofs.Literals.{text_matches-literal, text_matches-suffix, no_wildcard}
-
-lt-same : (n m : ℕ) → m ≡ n → nat_lt n m ≡ false
-lt-same n m e = by_test (nat_lt n m) (λ t. let lt : n < m = grind (arith, nat_tests) in absurd (omega arith)) (λ f. f)
-
--- a base name has no slash
-base_name-has_no_place : (path : List ℕ) → base_name_place (base_name path) ≡ None
-base_name-has_no_place path =
-    let n = length path - suffix_len (λ b. not (is_slash b)) path in
-    let m = length path - length (base_name path) in
-    let same : m ≡ n = let e = length-drop n path in omega (arith, e) in
-    base_name_place-drop n path
-    ∙ by_test (list_any is_slash path)
-    (λ t. rw t (ap (λ b. cond b (Some (m - n)) None) (lt-same n m same)))
-    (λ f. rw f refl)
-
-base_name-has_no_slash : (path : List ℕ) → list_any is_slash (base_name path) ≡ false
-base_name-has_no_slash path =
-    let base = base_name path in
-    by_test (list_any is_slash base)
-    (λ t. let e : Some (length base - length (base_name base)) ≡ None = rw t at (base_name-has_no_place path) in absurd (cc))
-    (λ f. f)
+use Rattle.attr_glob.proofs.Literals.{text_matches-literal, suffix-ends, no_wildcard}
 
 -- bytes that are the same, one by one, fold to the same text
 same_folded : (case : Case) (x y : List ℕ) → pointwise (same_byte case) x y ≡ true → folded case x ≡ folded case y
@@ -83,10 +60,10 @@ same_end case value tail h =
 
 -- a base name that a line's text matches has the line's key
 has_key_if_matched : (case : Case) (text : List ℕ) (r : Reading) (base : List ℕ) → reading text ≡ Some r →
-    list_any is_slash base ≡ false → text_matches case r.text base ≡ true →
+    text_matches case r.text base ≡ true →
     (literal : Bool) → is_none r.wildcard ≡ literal → (suffix : Bool) → has_flag r.mode ends_with ≡ suffix →
     has_key case base (cond literal (name r.text) (cond suffix (end (drop 1 r.text)) anything)) ≡ true
-has_key_if_matched case text r base read flat m true literal suffix flag =
+has_key_if_matched case text r base read m true literal suffix flag =
     let none : r.wildcard ≡ None = none_of r.wildcard literal in
     let plain = no_wildcard r.text (sym (reading-wildcard text r read) ∙ none) in
     same_text_of case r.text base (sym (text_matches-literal case r.text base plain) ∙ m)
@@ -94,10 +71,9 @@ has_key_if_matched case text r base read flat m true literal suffix flag =
     none_of : (o : Option ℕ) → is_none o ≡ true → o ≡ None
     none_of None h = refl
     none_of (Some x) h = cc
-has_key_if_matched case text r base read flat m false literal true flag =
-    same_end case base (drop 1 r.text)
-    (sym (text_matches-suffix case r.text base (sym (reading-ends_with text r read) ∙ flag) flat) ∙ m)
-has_key_if_matched case text r base read flat m false literal false flag = refl
+has_key_if_matched case text r base read m false literal true flag =
+    same_end case base (drop 1 r.text) (suffix-ends case r.text base (sym (reading-ends_with text r read) ∙ flag) m)
+has_key_if_matched case text r base read m false literal false flag = refl
 
 -- a line that matches a path is a candidate for its base name
 pub matching_line_is_candidate : (case : Case) (text : List ℕ) (r : Reading) (path : List ℕ) (is_dir : Option Bool) →
@@ -110,5 +86,5 @@ matching_line_is_candidate case text r path is_dir read plain m =
     (λ t.
     let part : text_matches case r.text base ≡ true = ap (λ b. text_matches case r.text (cond b base path)) (sym t) ∙ w.1 in
     rw (plain, t)
-    (has_key_if_matched case text r base read (base_name-has_no_slash path) part (is_none r.wildcard) refl (has_flag r.mode ends_with) refl))
+    (has_key_if_matched case text r base read part (is_none r.wildcard) refl (has_flag r.mode ends_with) refl))
     (λ f. rw (plain, f) refl)

@@ -8,4 +8,5 @@ pub mod Left
 pub mod LineShapes
 pub mod PlacesAfter
 pub mod RowPlaces
+pub mod StarEnds
 pub mod Stretches

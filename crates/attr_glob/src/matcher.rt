@@ -81,9 +81,7 @@ impl Matcher {
             length ts < rows.old → IsOk result }
         ensures malformed { meaning_of_text self.now.text ≡ None → IsOk result }
         ensures literal { self.now.wildcard ≡ None → IsOk result }
-        ensures suffix { let part = matched_part self.now (bstr_bytes path.entry) in
-            IsTrue (has_flag self.now.mode ends_with) →
-            list_any is_slash part ≡ false → IsOk result }
+        ensures suffix { IsTrue (has_flag self.now.mode ends_with) → IsOk result }
         ensures front { let part = matched_part self.now (bstr_bytes path.entry) in
             (n : ℕ) → self.now.wildcard ≡ Some n →
             starts_with (same_byte case) part (take n self.now.text) ≡ false → IsOk result }

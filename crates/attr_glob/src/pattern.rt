@@ -11,6 +11,7 @@ ghost use Rattle.attr_glob.specs.Folding.{same_text};
 ghost use Rattle.attr_glob.specs.Paths.{matched_part, is_directory, PathMatches, path_matches};
 ghost use Rattle.attr_glob.specs.BaseNames.{base_name, base_name_place};
 ghost use Rattle.attr_glob.specs.Views.{mode_bits, pattern_view};
+ghost use Rattle.attr_glob.specs.inner.StarEnds.{ends_after_star};
 
 use crate::wildmatch;
 use bitflags::{Flag, Flags};
@@ -186,11 +187,10 @@ impl Pattern {
             (text : List ℕ) → reading text ≡ Some r →
             IsTrue answer ↔ PathMatches case r (bstr_bytes path.entry) is_dir) }
 
-        // No memory is taken without a wildcard, if the end of the base name decides, and if the front differs.
+        // No memory is taken without a wildcard, for one star and an end, and if the front differs.
         ensures literal { (pattern_view self.now).wildcard ≡ None → IsOk result }
-        ensures suffix { let r = pattern_view self.now in
-            let part = matched_part r (bstr_bytes path.entry) in
-            IsTrue (has_flag r.mode ends_with_flag) → list_any is_slash part ≡ false → IsOk result }
+        ensures suffix { IsTrue (has_flag (pattern_view self.now).mode ends_with_flag) →
+            IsOk result }
         ensures front { let r = pattern_view self.now in
             let part = matched_part r (bstr_bytes path.entry) in (n : ℕ) → r.wildcard ≡ Some n →
             starts_with (same_byte case) part (take n r.text) ≡ false → IsOk result }
@@ -237,7 +237,7 @@ impl Pattern {
             answer ≡ text_matches case (pattern_view self.now).text value.now) }
         ensures literal { (pattern_view self.now).wildcard ≡ None → IsSome result }
         ensures suffix { IsTrue (has_flag (pattern_view self.now).mode ends_with_flag) →
-            list_any is_slash value.now ≡ false → IsSome result }
+            IsSome result }
         ensures front { let r = pattern_view self.now in (n : ℕ) → r.wildcard ≡ Some n →
             starts_with (same_byte case) value.now (take n r.text) ≡ false → IsSome result }
     {
@@ -248,8 +248,8 @@ impl Pattern {
         if !starts_with(value, &text[..place.min(text.len())], case) {
             return Some(false);
         }
-        if self.mode.contains(Mode::ENDS_WITH) && !has_slash(value) {
-            return Some(ends_with(value, after_star(text), case));
+        if self.mode.contains(Mode::ENDS_WITH) {
+            return Some(is_star_then(value, after_star(text), case));
         }
         None
     }
@@ -408,6 +408,14 @@ fn ends_with(value: &[u8], end: &[u8], case: Case) -> bool
     ensures { result ≡ ends_with (same_byte case) value.now end.now }
 {
     end.len() <= value.len() && same_text(case, end, &value[value.len() - end.len()..])
+}
+
+// Whether the value is any bytes but slashes, and then this end, under this case.
+fn is_star_then(value: &[u8], end: &[u8], case: Case) -> bool
+    ensures { result ≡ ends_after_star case value.now end.now }
+{
+    let before = &value[..value.len().saturating_sub(end.len())];
+    ends_with(value, end, case) && !has_slash(before)
 }
 
 /// The place of a path's base name, in bytes from 0: after the last slash. None without a slash.

@@ -1,9 +1,10 @@
 use Rattle.std.proofs.Common.{◌≡◌, true, false, Some, None, length, take, drop, position, sym, ap, ◌∙◌, arith}
-use Rattle.std.specs.List.{starts_with, ends_with}
+use Rattle.std.specs.List.{starts_with}
 use Rattle.std.specs.Cmp.Lexicographic.{pointwise}
 use Rattle.attr_glob.specs.Patterns.{is_wildcard, is_suffix, has_flag, ends_with as ends_with_flag}
 use Rattle.attr_glob.specs.Matching.{same_byte}
 use Rattle.attr_glob.specs.Views.{pattern_view}
+use Rattle.attr_glob.specs.inner.StarEnds.{ends_after_star}
 use Rattle.attr_glob.proofs.Literals.{text_matches-literal, text_matches-suffix, text_matches-front, no_wildcard, place_inside}
 use Rattle.attr_glob.proofs.PathLemmas.{reading-wildcard, reading-ends_with}
 use Rattle.attr_glob.proofs.pattern.Pattern.answer_by_bytes.Goals as goal
@@ -30,13 +31,12 @@ returns-then-not-starts_with-clause-matched c = λ text read.
     sym (ap (starts_with (same_byte c.args.case) c.args.value.now) front) ∙ (sym c.starts_with.ensures ∙ c.if-not-starts_with.true) in
     sym (text_matches-front c.args.case own c.args.value.now c.in-Some.place found other)
 
-pub returns-then-not-has_slash-clause-matched : goal.returns-then-not-has_slash-clause-matched
-returns-then-not-has_slash-clause-matched c = λ text read.
+pub returns-then-contains-clause-matched : goal.returns-then-contains-clause-matched
+returns-then-contains-clause-matched c = λ text read.
     let own = c.args.self.now.text.items in
     let r = pattern_view c.args.self.now in
     let flag : has_flag r.mode ends_with_flag ≡ true = sym (c.contains.ensures tt) ∙ c.if-contains.true in
     let suffix : is_suffix own ≡ true = sym (reading-ends_with text r read) ∙ flag in
-    let bare = sym c.has_slash.ensures ∙ c.if-not-has_slash.true in
-    c.ends_with.ensures
-    ∙ (ap (ends_with (same_byte c.args.case) c.args.value.now) (c.after_star.ensures ∙ ap (drop 1) c.as_slice-text.ensures.value)
-    ∙ sym (text_matches-suffix c.args.case own c.args.value.now suffix bare))
+    c.is_star_then.ensures
+    ∙ (ap (ends_after_star c.args.case c.args.value.now) (c.after_star.ensures ∙ ap (drop 1) c.as_slice-text.ensures.value)
+    ∙ sym (text_matches-suffix c.args.case own c.args.value.now suffix))
