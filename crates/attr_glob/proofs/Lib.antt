@@ -22,6 +22,7 @@ pub mod Spellings
 pub mod Undoing
 pub mod UndoneTexts
 pub mod Literals
+pub mod KeptLemmas
 pub mod PathLemmas
 pub mod Ends
 pub mod Folders

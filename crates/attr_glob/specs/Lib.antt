@@ -7,6 +7,7 @@ pub mod Spelling
 pub mod Matching
 pub mod Deciding
 pub mod Patterns
+pub mod KeptTokens
 pub mod Quotes
 pub mod Refusals
 pub mod Views

@@ -8,7 +8,7 @@ use Rattle.attr_glob.specs.Tokens.{Token, lit, one, set, star, dirs, rest}
 abbrev pub token_of : written.Token → Token
 token_of (Lit c) = lit c
 token_of One = one
-token_of (Set negated members) = set negated members
+token_of (Set negated members) = set negated members.value
 token_of Star = star
 token_of Dirs = dirs
 token_of Rest = rest

@@ -1,42 +1,107 @@
 //! Patterns whose tokens are read once, to be matched against many paths.
 
-ghost use Rattle.std.specs.Prelude.{◌≡◌, ◌↔◌, ◌≤◌, ◌<◌, ℕ, List, Some, None, false, IsTrue, IsOk, IfOk, length, take};
-ghost use Rattle.std.specs.List.{list_any, starts_with};
+ghost use Rattle.std.specs.Prelude.{◌≡◌, ◌↔◌, ◌≤◌, ◌<◌, ℕ, List, Some, None, false, not, IsTrue, IsOk, IfOk, length, take};
+ghost use Rattle.std.specs.List.{starts_with};
+ghost use Rattle.std.specs.Option.{option_copied};
 ghost use Rattle.bstr.specs.BStr.{bstr_bytes};
-ghost use Rattle.attr_glob.specs.Patterns.{reading, is_slash, has_flag, ends_with};
+ghost use Rattle.attr_glob.specs.Patterns.{reading, has_flag, ends_with};
 ghost use Rattle.attr_glob.specs.Tokens.{Token as Meaning, tokens as meaning_of_text};
+ghost use Rattle.attr_glob.specs.KeptTokens.{needs_tokens, kept_tokens};
 ghost use Rattle.attr_glob.specs.Matching.{same_byte};
+ghost use Rattle.attr_glob.specs.Deciding.{text_matches};
 ghost use Rattle.attr_glob.specs.Paths.{matched_part, PathMatches};
 ghost use Rattle.attr_glob.specs.BaseNames.{base_name_place};
 ghost use Rattle.attr_glob.specs.Views.{pattern_view};
 
-use crate::pattern::{Case, Pattern};
+use crate::pattern::{Case, Mode, Pattern};
 use crate::token::Tokens;
 use crate::wildmatch::MatchBuffers;
+use bitflags::Flags;
 use bstr::BStr;
 use std::alloc::{AllocError, Global};
 use std::marker::Model;
+
+impl Pattern {
+    /// Whether a match may need the tokens of the text, since bytes alone may not decide.
+    pub fn needs_tokens(&self) -> bool
+        ensures { result ≡ needs_tokens (pattern_view self.now) }
+    {
+        self.first_wildcard_pos.is_some() && !self.mode.contains(Mode::ENDS_WITH)
+    }
+
+    /// Reads the tokens that [`matches_part`](Pattern::matches_part) needs. None if a match needs none, or if the text is
+    /// malformed.
+    ///
+    /// # Errors
+    ///
+    /// If memory runs out.
+    pub fn kept_tokens(&self, alloc: Global) -> Result<Option<Tokens>, AllocError>
+        ensures ok { IfOk result (λ tokens. tokens ≡ kept_tokens (pattern_view self.now)) }
+    {
+        if !self.needs_tokens() {
+            return Ok(None);
+        }
+        Tokens::read(alloc, &self.text)
+    }
+
+    /// Whether the text matches the part of a path that it is [matched against](Pattern::matched_part). `tokens` are
+    /// what [`kept_tokens`](Pattern::kept_tokens) read. The answer for a pattern that was not read from a text is not
+    /// specified.
+    ///
+    /// # Errors
+    ///
+    /// If `rows` has no room for the tokens and memory runs out. No other memory is taken.
+    pub fn matches_part(
+        &self,
+        tokens: Option<&Tokens>,
+        part: &[u8],
+        case: Case,
+        rows: &mut MatchBuffers,
+    ) -> Result<bool, AllocError>
+        requires { option_copied tokens ≡ kept_tokens (pattern_view self.now) }
+        ensures matched { IfOk result (λ answer. (text : List ℕ) →
+            reading text ≡ Some (pattern_view self.now) →
+            answer ≡ text_matches case (pattern_view self.now).text part.now) }
+        ensures kept { rows.old ≤ rows.new }
+
+        // No memory is taken if the rows have room, and if no token is looked at.
+        ensures room { let r = pattern_view self.now in (ts : List Meaning) →
+            meaning_of_text r.text ≡ Some ts → length ts < rows.old → IsOk result }
+        ensures malformed { meaning_of_text (pattern_view self.now).text ≡ None → IsOk result }
+        ensures literal { (pattern_view self.now).wildcard ≡ None → IsOk result }
+        ensures suffix { IsTrue (has_flag (pattern_view self.now).mode ends_with) → IsOk result }
+        ensures front { let r = pattern_view self.now in (n : ℕ) → r.wildcard ≡ Some n →
+            starts_with (same_byte case) part.now (take n r.text) ≡ false → IsOk result }
+    {
+        if let Some(answer) = self.answer_by_bytes(part, case) {
+            return Ok(answer);
+        }
+        let Some(tokens) = tokens else {
+            return Ok(false);
+        };
+        rows.reserve(tokens.places())?;
+        Ok(tokens.matches(part, case, rows))
+    }
+}
 
 /// A pattern with the tokens of its text, which no match reads again.
 #[derive(Debug, Drop)]
 pub struct Matcher {
     pattern: Pattern,
-    // None if the text is malformed, or has no wildcard, so that no tokens are needed.
     tokens: Option<Tokens>,
 }
 
 impl Model for Matcher {
-    ghost use Rattle.std.specs.Prelude.{◌≡◌, IsSome};
+    ghost use Rattle.std.specs.Prelude.{◌≡◌};
+    ghost use Rattle.attr_glob.specs.KeptTokens.{kept_tokens};
     ghost use Rattle.attr_glob.specs.Patterns.{Reading};
-    ghost use Rattle.attr_glob.specs.Tokens.{tokens as meaning_of_text};
     ghost use Rattle.attr_glob.specs.Views.{pattern_view};
 
     ghost Value = { Reading };
 
     ghost view = { λ m. pattern_view m.pattern };
 
-    ghost invariant = { λ m. IsSome m.pattern.first_wildcard_pos →
-        m.tokens ≡ meaning_of_text m.pattern.text.items };
+    ghost invariant = { λ m. m.tokens ≡ kept_tokens (pattern_view m.pattern) };
 }
 
 impl Matcher {
@@ -48,10 +113,7 @@ impl Matcher {
     pub fn of(alloc: Global, pattern: &Pattern) -> Result<Matcher, AllocError>
         ensures { IfOk result (λ matcher. matcher ≡ pattern_view pattern.now) }
     {
-        let tokens = match pattern.first_wildcard_pos {
-            None => None,
-            Some(_) => Tokens::read(alloc, &pattern.text)?,
-        };
+        let tokens = pattern.kept_tokens(alloc)?;
         let pattern = pattern.clone(alloc)?;
         Ok(Matcher { pattern, tokens })
     }
@@ -89,16 +151,10 @@ impl Matcher {
         if !self.pattern.takes_kind(is_dir) {
             return Ok(false);
         }
-        let value = self
+        let part = self
             .pattern
             .matched_part(path.as_bytes(), basename_start_pos);
-        if let Some(answer) = self.pattern.answer_by_bytes(value, case) {
-            return Ok(answer);
-        }
-        let Some(tokens) = &self.tokens else {
-            return Ok(false);
-        };
-        rows.reserve(tokens.places())?;
-        Ok(tokens.matches(value, case, rows))
+        self.pattern
+            .matches_part(self.tokens.as_ref(), part, case, rows)
     }
 }

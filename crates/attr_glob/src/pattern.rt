@@ -206,20 +206,18 @@ impl Pattern {
         Ok(answer)
     }
 
-    // Whether a path that is or isn't a directory may match.
-    pub(crate) fn takes_kind(&self, is_dir: Option<bool>) -> bool
+    /// Whether the pattern takes paths of this kind: one that has to match a directory takes no other path. A path that
+    /// isn't known to be a directory counts as none.
+    pub fn takes_kind(&self, is_dir: Option<bool>) -> bool
         ensures { result ≡
             (not (has_flag (pattern_view self.now).mode must_be_dir) || is_directory is_dir) }
     {
         !self.mode.contains(Mode::MUST_BE_DIR) || is_dir == Some(true)
     }
 
-    // The part of the path that the text is matched against.
-    pub(crate) fn matched_part<'a>(
-        &self,
-        path: &'a [u8],
-        basename_start_pos: Option<usize>,
-    ) -> &'a [u8]
+    /// The part of the path that the text is matched against: the base name or the whole path. `basename_start_pos` is
+    /// the path's [`base_name_place`].
+    pub fn matched_part<'a>(&self, path: &'a [u8], basename_start_pos: Option<usize>) -> &'a [u8]
         requires { basename_start_pos ≡ base_name_place path.now }
         ensures { result.now ≡ matched_part (pattern_view self.now) path.now }
     {

@@ -20,8 +20,12 @@ pub(crate) enum Token {
     Lit(u8),
     /// `?`: one byte, but no slash.
     One,
-    /// A bracket: one byte of the members or, if negated, one that isn't of them, but no slash.
-    Set { negated: bool, members: MemberSet },
+    /// A bracket: one byte of the members or, if negated, one that isn't of them, but no slash. The members stand
+    /// apart, since other tokens are far smaller.
+    Set {
+        negated: bool,
+        members: Box<MemberSet>,
+    },
     /// `*`: any text without a slash.
     Star,
     /// A folder star, which is `**/` at the start or after a slash: nothing, or any text that ends in a slash.
@@ -151,7 +155,10 @@ fn set(alloc: Global, bytes: &[u8]) -> Result<Option<(Token, &[u8])>, AllocError
     };
     match bracket::members(alloc, inside)? {
         None => Ok(None),
-        Some((members, rest)) => Ok(Some((Token::Set { negated, members }, rest))),
+        Some((members, rest)) => {
+            let members = Box::new(alloc, members)?;
+            Ok(Some((Token::Set { negated, members }, rest)))
+        }
     }
 }
 
@@ -208,7 +215,7 @@ impl Tokens {
         ensures tokens { IfOk result (λ o. o ≡ meaning_of_text text.now) }
         ensures few { IfOk result (λ o. IfSome o (λ ts. length ts ≤ length text.now)) }
     {
-        let mut list = Vec::new(alloc);
+        let mut list = Vec::with_capacity(alloc, text.len())?;
         let mut border = true;
         let mut rest = text;
         while let Some((byte, tail)) = rest.split_first() {

@@ -9,7 +9,7 @@ use Rattle.attr_glob.proofs.token.Tokens.read.Goals as goal
 
 pub loop-byte-init : goal.loop-byte-init
 loop-byte-init c =
-    rw c.new-list.ensures.items
+    rw c.in_ok-list.ensures.items
     (omega arith, length c.args.text.now, omega arith, after-nil (tokens_from (length c.args.text.now) true c.args.text.now), refl, refl)
 
 pub returns-clause-few : goal.returns-clause-few
