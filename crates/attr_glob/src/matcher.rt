@@ -36,7 +36,7 @@ impl Pattern {
     ///
     /// If memory runs out.
     pub fn kept_tokens(&self, alloc: Global) -> Result<Option<Tokens>, AllocError>
-        ensures ok { IfOk result (λ tokens. tokens ≡ kept_tokens (pattern_view self.now)) }
+        ensures { IfOk result (λ tokens. tokens ≡ kept_tokens (pattern_view self.now)) }
     {
         if !self.needs_tokens() {
             return Ok(None);

@@ -1,14 +1,17 @@
 -- What is made of a list's patterns stays theirs when the list is numbered.
+use Rattle.std.proofs.Common.{arith}
 use Rattle.std.proofs.Common.{◌≡◌, ℕ, ◌+◌, ◌<◌, List, [], ◌∷◌, ◌++◌, length, get_or, take, map, Option, Some, None, refl, sym, ap, ◌∙◌}
 use Rattle.std.proofs.Common.{drop}
-use Rattle.std.specs.Prelude.{option_map, string_bytes}
+use Rattle.std.specs.Prelude.{Box, option_map, string_bytes}
 use Rattle.std.proofs.Math.Seq.{take-append_seam}
-use Rattle.std.proofs.lemmas.List.{take_more, map-append, length-map}
+use Rattle.std.proofs.lemmas.List.{take_more, map-append, length-map, get_or-map}
 use Rattle.std.proofs.lemmas.List.Elements.{All-nil, All-cons, All-head, All-tail}
 use Rattle.attr_glob.specs.declared.search.pattern.Mapping.{Mapping}
 use Rattle.attr_glob.specs.declared.search.pattern.List.{List as PatternList}
 use Rattle.attr_glob.specs.Clones.{AreMappingClones, IsMappingClone}
+use Rattle.attr_glob.specs.KeptTokens.{kept_tokens}
 use Rattle.attr_glob.specs.Patterns.{Reading}
+use Rattle.attr_glob.specs.Tokens.{Token}
 use Rattle.attr_glob.specs.Views.{base_bytes, pattern_view, patterns_of}
 use Rattle.attr_lists.specs.declared.parser.Attributes.{Attributes}
 use Rattle.attr_lists.specs.declared.types.Dropped.{Dropped}
@@ -17,17 +20,47 @@ use Rattle.attr_lists.specs.declared.types.Value.TheVariants.{MacroAssignments, 
 use Rattle.attr_lists.specs.ListViews.{Entry, SameValue, entry_view, entries_view, items_in, macro_id}
 use Rattle.attr_lists.specs.Numbers.{numbered, numbered_lines}
 use Rattle.attr_search.specs.ListView.{list_view}
+use Rattle.attr_search.specs.inner.LineTokens.{unboxed}
 use Rattle.attr_search.specs.inner.ReadLines.{IsRead, AreRead}
 
--- one more pattern
-pub lines_more : {V : Type 0} (readings : List Reading) (mappings : List (Mapping V)) (i : ℕ) (d : Mapping V) (more : List Reading)
-    (reading : Reading) (mapping : Mapping V) → i < length mappings
-    → mapping ≡ get_or mappings i d → readings ≡ patterns_of (take i mappings) → more ≡ readings ++ reading ∷ [] → reading ≡ pattern_view
-    mapping.pattern
-    → more ≡ patterns_of (take (i + 1) mappings)
-lines_more readings mappings i d more reading mapping lt is before pushed read =
-    pushed ∙ ap (λ r. r ++ reading ∷ []) before ∙ ap (λ r. patterns_of (take i mappings) ++ r ∷ []) (read ∙ ap (λ m. pattern_view m.pattern) is)
-    ∙ sym (ap patterns_of (take_more mappings i d lt) ∙ map-append (λ m. pattern_view m.pattern) (take i mappings) (get_or mappings i d ∷ []))
+-- the tokens of one more pattern
+pub kept_more : {V Y : Type 0} (tokens : List (Option (Box (List Token) Y))) (mappings : List (Mapping V)) (i : ℕ) (d : Mapping V)
+    (more : List (Option (Box (List Token) Y))) (kept : Option (Box (List Token) Y)) (mapping : Mapping V) → i < length mappings →
+    mapping ≡ get_or mappings i d → map unboxed tokens ≡ map kept_tokens (patterns_of (take i mappings)) → more ≡ tokens ++ kept ∷ [] →
+    unboxed kept ≡ kept_tokens (pattern_view mapping.pattern) → map unboxed more ≡ map kept_tokens (patterns_of (take (i + 1) mappings))
+kept_more tokens mappings i d more kept mapping lt is before pushed read =
+    let fronts = patterns_of (take i mappings) in
+    let next = pattern_view (get_or mappings i d).pattern in
+    let whole : patterns_of (take (i + 1) mappings) ≡ fronts ++ next ∷ [] =
+    ap patterns_of (take_more mappings i d lt) ∙ map-append (λ m. pattern_view m.pattern) (take i mappings) (get_or mappings i d ∷ []) in
+    ap (map unboxed) pushed
+    ∙ (map-append unboxed tokens (kept ∷ [])
+    ∙ (ap (λ r. r ++ unboxed kept ∷ []) before
+    ∙ (ap (λ r. map kept_tokens fronts ++ r ∷ []) (read ∙ ap (λ m. kept_tokens (pattern_view m.pattern)) is)
+    ∙ sym (ap (map kept_tokens) whole ∙ map-append kept_tokens fronts (next ∷ [])))))
+
+-- as many tokens are kept as there are lines
+pub kept_length : {V Y : Type 0} (tokens : List (Option (Box (List Token) Y))) (mappings : List (Mapping V)) →
+    map unboxed tokens ≡ map kept_tokens (patterns_of mappings) → length tokens ≡ length mappings
+kept_length tokens mappings e =
+    sym (length-map tokens unboxed) ∙ (ap length e
+    ∙ (length-map (patterns_of mappings) kept_tokens ∙ length-map mappings (λ m. pattern_view m.pattern)))
+
+-- the tokens at the place of a line are those of its pattern
+pub kept_at : {V Y : Type 0} (tokens : List (Option (Box (List Token) Y))) (mappings : List (Mapping V)) (place : ℕ)
+    (kept : Option (Box (List Token) Y)) (mapping : Mapping V) → map unboxed tokens ≡ map kept_tokens (patterns_of mappings) →
+    place < length mappings → kept ≡ get_or tokens place kept → mapping ≡ get_or mappings place mapping →
+    unboxed kept ≡ kept_tokens (pattern_view mapping.pattern)
+kept_at tokens mappings place kept mapping e lt is here =
+    let same = kept_length tokens mappings e in
+    let long = length-map mappings (λ m. pattern_view m.pattern) in
+    let d = pattern_view mapping.pattern in
+    ap unboxed is
+    ∙ (sym (get_or-map unboxed tokens place kept (kept_tokens d) (omega (arith, same, lt)))
+    ∙ (ap (λ ts. get_or ts place (kept_tokens d)) e
+    ∙ (get_or-map kept_tokens (patterns_of mappings) place d (kept_tokens d) (omega (arith, long, lt))
+    ∙ (ap kept_tokens (get_or-map (λ m. pattern_view m.pattern) mappings place mapping d lt)
+    ∙ ap (λ m. kept_tokens (pattern_view m.pattern)) (sym here)))))
 
 -- the patterns of a list, as its lines have them
 patterns_in : List Entry → List Reading

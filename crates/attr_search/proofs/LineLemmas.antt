@@ -1,5 +1,6 @@
 -- The lines of a list, of which a search goes through the candidates alone.
 use Rattle.std.proofs.Common.{◌≡◌, ℕ, ◌+◌, ◌<◌, Bool, true, false, ◌&&◌, List, [], ◌∷◌, ◌++◌, length, map, get_or, take, drop, Option, Some, None, Ok}
+use Rattle.std.proofs.Common.{not, ◌||◌}
 use Rattle.std.proofs.Common.{Err, Result, refl, sym, ap, subst, ◌∙◌, arith}
 use Rattle.std.specs.Prelude.{All, IfOk, IsTrue, ◌↔◌, is_none}
 use Rattle.std.specs.List.{flat_map, list_any}
@@ -11,9 +12,10 @@ use Rattle.std.proofs.lemmas.Grind.{flat_map-append}
 use Rattle.attr_glob.specs.declared.pattern.Case.{Case}
 use Rattle.attr_glob.specs.declared.search.pattern.Mapping.{Mapping}
 use Rattle.attr_glob.specs.Candidates.{places_where}
-use Rattle.attr_glob.specs.Paths.{PathMatches, path_matches}
-use Rattle.attr_glob.specs.Patterns.{Reading, reading, has_flag, negative}
-use Rattle.attr_glob.specs.Views.{patterns_of}
+use Rattle.attr_glob.specs.Deciding.{text_matches}
+use Rattle.attr_glob.specs.Paths.{matched_part, is_directory, path_matches}
+use Rattle.attr_glob.specs.Patterns.{Reading, reading, has_flag, negative, must_be_dir}
+use Rattle.attr_glob.specs.Views.{pattern_view, patterns_of}
 use Rattle.attr_glob.proofs.ForCallers.{by_test}
 use Rattle.attr_glob.proofs.ForCallers.{same_answer}
 use Rattle.attr_glob.proofs.ForCallers.{path_match_of_test, test_of_path_match}
@@ -40,50 +42,43 @@ pub lines_patterns : (ms : List (Mapping Value)) → patterns_of ms ≡ map (λ 
 lines_patterns [] = refl
 lines_patterns (m ∷ ms) = let e = lines_patterns ms in cc
 
-pattern_at : (ms : List (Mapping Value)) (place : ℕ) (r : Reading) → place < length ms → r ≡ get_or (patterns_of ms) place r →
-    r ≡ (entry_at (entries_view ms) place).pattern
-pattern_at ms place r lt is =
-    let n = length-map ms entry_view in
-    is
-    ∙ (ap (λ (xs : List Reading). get_or xs place r) (lines_patterns ms)
-    ∙ get_or-map (λ (entry : Entry). entry.pattern) (entries_view ms) place no_entry r (omega arith))
-
 -- what is known of a line that defines no macro
 read_at : (lines : List Entry) (place : ℕ) → AreRead lines → place < length lines → (entry_at lines place).macro ≡ None →
     (text : List ℕ) × (reading text ≡ Some (entry_at lines place).pattern) × (has_flag (entry_at lines place).pattern.mode negative ≡ false)
 read_at lines place all lt none = rw none at (all place no_entry lt)
 
--- the answer of a matcher is the test of its line
-told_is : (case : Case) (entry : Entry) (r : Reading) (path : List ℕ) (is_dir : Option Bool) (answer : Bool) →
-    r ≡ entry.pattern → ((text : List ℕ) × (reading text ≡ Some entry.pattern) × (has_flag entry.pattern.mode negative ≡ false)) →
-    ((text : List ℕ) → reading text ≡ Some r → IsTrue answer ↔ PathMatches case r path is_dir) →
-    answer ≡ path_matches case entry.pattern path is_dir
-told_is case entry r path is_dir answer same known told =
-    let both = told known.0 (known.1 ∙ ap (λ (x : Reading). Some x) (sym same)) in
-    let exact : answer ≡ path_matches case r path is_dir =
-    same_answer answer (path_matches case r path is_dir)
-    (λ t. test_of_path_match case r path is_dir (both.0 t))
-    (λ t. both.1 (path_match_of_test case r path is_dir t)) in
-    exact ∙ ap (λ (x : Reading). path_matches case x path is_dir) same
-
-pub matched_answer : {E : Type 0} (ms : List (Mapping Value)) (matchers : List Reading) (place : ℕ) (r : Reading) (case : Case) (path : List ℕ)
-    (is_dir : Option Bool) (result : Result Bool E) →
-    matchers ≡ patterns_of ms → ∥ AreRead (entries_view ms) ∥₁ → place < length ms →
-    (entry_at (entries_view ms) place).macro ≡ None → r ≡ get_or matchers place r →
-    IfOk result (λ answer. (text : List ℕ) → reading text ≡ Some r → IsTrue answer ↔ PathMatches case r path is_dir) →
-    IfOk result (λ answer. answer ≡ path_matches case (entry_at (entries_view ms) place).pattern path is_dir)
-matched_answer ms matchers place r case path is_dir (Err e) all read lt none is told = tt
-matched_answer ms matchers place r case path is_dir (Ok answer) all read lt none is told =
-    let entry = entry_at (entries_view ms) place in
-    let same = pattern_at ms place r lt (is ∙ ap (λ (xs : List Reading). get_or xs place r) all) in
-    let n = length-map ms entry_view in
-    ∥∥₁_elim read (Bool-set answer (path_matches case entry.pattern path is_dir))
-    (λ lines. told_is case entry r path is_dir answer same (read_at (entries_view ms) place lines (omega arith) none) told)
-
 -- the line at a place is that of the mapping there
 pub entry_is : (ms : List (Mapping Value)) (place : ℕ) (m : Mapping Value) → place < length ms → m ≡ get_or ms place m →
     entry_at (entries_view ms) place ≡ entry_view m
 entry_is ms place m lt is = get_or-map entry_view ms place m no_entry lt ∙ ap entry_view (sym is)
+
+-- a pattern that wants a directory matches no other path
+pub other_kind : (ms : List (Mapping Value)) (place : ℕ) (m : Mapping Value) (case : Case) (path : List ℕ) (is_dir : Option Bool) →
+    place < length ms → m ≡ get_or ms place m →
+    (not (has_flag (pattern_view m.pattern).mode must_be_dir) || is_directory is_dir) ≡ false →
+    false ≡ path_matches case (entry_at (entries_view ms) place).pattern path is_dir
+other_kind ms place m case path is_dir lt is kind = rw (entry_is ms place m lt is, kind) refl
+
+-- else the answer for the matched part is the test of the line
+pub matched_answer : {E : Type 0} (ms : List (Mapping Value)) (place : ℕ) (m : Mapping Value) (case : Case) (path part : List ℕ)
+    (is_dir : Option Bool) (result : Result Bool E) →
+    ∥ AreRead (entries_view ms) ∥₁ → place < length ms → (entry_at (entries_view ms) place).macro ≡ None → m ≡ get_or ms place m →
+    (not (has_flag (pattern_view m.pattern).mode must_be_dir) || is_directory is_dir) ≡ true →
+    part ≡ matched_part (pattern_view m.pattern) path →
+    IfOk result (λ answer. (text : List ℕ) → reading text ≡ Some (pattern_view m.pattern) →
+    answer ≡ text_matches case (pattern_view m.pattern).text part) →
+    IfOk result (λ answer. answer ≡ path_matches case (entry_at (entries_view ms) place).pattern path is_dir)
+matched_answer ms place m case path part is_dir (Err e) read lt none is kind same told = tt
+matched_answer ms place m case path part is_dir (Ok answer) read lt none is kind same told =
+    let here = entry_is ms place m lt is in
+    let n = length-map ms entry_view in
+    let r = pattern_view m.pattern in
+    let test : text_matches case r.text (matched_part r path) ≡ path_matches case (entry_at (entries_view ms) place).pattern path is_dir =
+    rw (here, kind) refl in
+    ∥∥₁_elim read (Bool-set answer (path_matches case (entry_at (entries_view ms) place).pattern path is_dir))
+    (λ lines. let known = read_at (entries_view ms) place lines (omega arith) none in
+    told known.0 (known.1 ∙ ap (λ (x : Entry). Some x.pattern) here)
+    ∙ (ap (text_matches case r.text) same ∙ test))
 
 -- a line that gives nothing
 not_given : (bodies : List (List Item)) (wanted : List ℕ) (case : Case) (is_dir : Option Bool) (source : Option (List ℕ)) (rest : List ℕ)

@@ -6,6 +6,7 @@ pub mod Filling
 pub mod FolderKeys
 pub mod FoundLists
 pub mod KeyLinks
+pub mod LineTokens
 pub mod Lines
 pub mod NumbersView
 pub mod Pending

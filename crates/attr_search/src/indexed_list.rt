@@ -1,7 +1,9 @@
 //! A list of a search, with the keys and tokens of its patterns, which are made once.
 
 ghost use Rattle.std.specs.Prelude.{◌≡◌, ◌<◌, None, length, true, false, IfOk, OnOk, OnErr, map};
+ghost use Rattle.std.specs.Option.{option_copied};
 ghost use Rattle.bstr.specs.BStr.{bstr_bytes};
+ghost use Rattle.attr_glob.specs.KeptTokens.{kept_tokens};
 ghost use Rattle.attr_glob.specs.Paths.{path_matches};
 ghost use Rattle.attr_search.specs.inner.Lines.{entry_at};
 ghost use Rattle.attr_search.specs.inner.Trying.{AreTried, key_of_line};
@@ -12,14 +14,15 @@ ghost use Rattle.attr_lists.specs.KeptLists.{macros_valid};
 ghost use Rattle.attr_lists.specs.ListViews.{entries_view};
 ghost use Rattle.attr_lists.specs.Numbers.{numbered_lines};
 ghost use Rattle.attr_search.specs.inner.ReadLines.{AreRead};
+ghost use Rattle.attr_search.specs.inner.LineTokens.{unboxed};
 ghost use Rattle.attr_lists.specs.inner.Keeping.{StayRegistered};
 
 use crate::folder_keys::base_key;
 use crate::line_keys::{folds, line_keys};
 use crate::path_query::PathQuery;
-use attr_glob::matcher::Matcher;
 use attr_glob::pattern::base_name;
 use attr_glob::search::pattern::{List, Mapping};
+use attr_glob::token::Tokens;
 use attr_glob::wildmatch::MatchBuffers;
 use attr_keys::key_index::{KeyIndex, Texts};
 use attr_lists::name_table::NameTable;
@@ -35,9 +38,9 @@ pub struct IndexedList {
     /// The keys of the lines, by which a search finds the lines that may match a path.
     #[derive_where(skip)]
     pub keys: KeyIndex,
-    /// The patterns with their tokens.
+    /// The tokens of each line's pattern, where a match may need them.
     #[derive_where(skip)]
-    pub matchers: Vec<Matcher>,
+    pub tokens: Vec<Option<Box<Tokens>>>,
     /// The list id under which the list is registered in its collection.
     #[derive_where(skip)]
     pub list_id: usize,
@@ -45,7 +48,7 @@ pub struct IndexedList {
     #[derive_where(skip)]
     pub base_key: u64,
     ghost keyed: { keys ≡ map key_of_line (patterns_of list.patterns.items) },
-    ghost matched: { matchers.items ≡ patterns_of list.patterns.items },
+    ghost kept: { map unboxed tokens.items ≡ map kept_tokens (patterns_of list.patterns.items) },
     ghost based: { base_key ≡ key_of_base (base_bytes list.base) },
     ghost read: { ∥ AreRead (entries_view list.patterns.items) ∥₁ },
 }
@@ -81,13 +84,13 @@ impl IndexedList {
         ensures refused { OnErr result (names.new ≡ names.old) }
     {
         let keys = line_keys(alloc, &list.patterns)?;
-        let matchers = matchers_of(alloc, &list.patterns)?;
+        let tokens = kept_tokens(alloc, &list.patterns)?;
         let base_key = base_key(alloc, &list.base)?;
         let list_id = names.add(alloc, &mut list.patterns)?;
         Ok(IndexedList {
             list,
             keys,
-            matchers,
+            tokens,
             list_id,
             base_key,
         })
@@ -136,13 +139,12 @@ impl IndexedList {
             (entry_at (entries_view self.now.list.patterns.items) place).pattern
             (bstr_bytes rest.entry.path) rest.entry.is_dir) }
     {
-        self.matchers[place].matches_repo_relative_path(
-            rest.path,
-            rest.name_place,
-            rest.is_dir,
-            rest.case,
-            buffers,
-        )
+        let pattern = &self.list.patterns[place].pattern;
+        if !pattern.takes_kind(rest.is_dir) {
+            return Ok(false);
+        }
+        let part = pattern.matched_part(rest.path.as_bytes(), rest.name_place);
+        pattern.matches_part(lent(&self.tokens[place]), part, rest.case, buffers)
     }
 
     /// A copy, with the same list id.
@@ -156,25 +158,47 @@ impl IndexedList {
     {
         let list = self.list.clone(alloc)?;
         let keys = line_keys(alloc, &list.patterns)?;
-        let matchers = matchers_of(alloc, &list.patterns)?;
+        let tokens = kept_tokens(alloc, &list.patterns)?;
         let base_key = base_key(alloc, &list.base)?;
         Ok(IndexedList {
             list,
             keys,
-            matchers,
+            tokens,
             list_id: self.list_id,
             base_key,
         })
     }
 }
 
-// The patterns of mappings with their tokens.
-fn matchers_of(alloc: Global, mappings: &[Mapping<Value>]) -> Result<Vec<Matcher>, AllocError>
-    ensures { IfOk result (λ matchers. matchers.items ≡ patterns_of mappings.now) }
+// The tokens that are kept of the mappings' patterns, at the places of the mappings.
+fn kept_tokens(
+    alloc: Global,
+    mappings: &[Mapping<Value>],
+) -> Result<Vec<Option<Box<Tokens>>>, AllocError>
+    ensures { IfOk result (λ kept.
+        map unboxed kept.items ≡ map kept_tokens (patterns_of mappings.now)) }
 {
-    let mut matchers = Vec::new(alloc);
+    let mut kept = Vec::with_capacity(alloc, mappings.len())?;
     for mapping in mappings {
-        matchers.push(Matcher::of(alloc, &mapping.pattern)?)?;
+        kept.push(boxed(alloc, mapping.pattern.kept_tokens(alloc)?)?)?;
     }
-    Ok(matchers)
+    Ok(kept)
+}
+
+fn boxed(alloc: Global, tokens: Option<Tokens>) -> Result<Option<Box<Tokens>>, AllocError>
+    ensures { IfOk result (λ kept. unboxed kept ≡ tokens) }
+{
+    match tokens {
+        Some(tokens) => Ok(Some(Box::new(alloc, tokens)?)),
+        None => Ok(None),
+    }
+}
+
+fn lent(kept: &Option<Box<Tokens>>) -> Option<&Tokens>
+    ensures { option_copied result ≡ unboxed kept.now }
+{
+    match kept {
+        Some(tokens) => Some(&**tokens),
+        None => None,
+    }
 }

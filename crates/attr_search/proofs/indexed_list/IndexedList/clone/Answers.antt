@@ -1,5 +1,6 @@
 use Rattle.std.proofs.Common.{◌≡◌, ◌∙◌, sym, ap, subst, map}
 use Rattle.std.proofs.Math.Logic.{∥∥₁_map}
+use Rattle.attr_glob.specs.KeptTokens.{kept_tokens}
 use Rattle.attr_glob.specs.Views.{patterns_of}
 use Rattle.attr_lists.specs.ListViews.{entries_view}
 use Rattle.attr_search.specs.inner.ReadLines.{AreRead}
@@ -14,7 +15,7 @@ invariant_of-result c =
     copied_lines own c.in_ok-list.list.patterns.items c.in_ok-list.ensures.patterns in
     record {
       keyed = c.in_ok-keys.ensures ∙ ap (λ ms. map key_of_line (patterns_of ms)) c.deref.ensures.value;
-      matched = c.in_ok-matchers.ensures ∙ ap patterns_of c.deref-2.ensures.value;
+      kept = c.in_ok-tokens.ensures ∙ ap (λ ms. map kept_tokens (patterns_of ms)) c.deref-2.ensures.value;
       based = c.in_ok-base_key.ensures;
       read = ∥∥₁_map c.args.self.now.read (subst AreRead (sym lines));
     }

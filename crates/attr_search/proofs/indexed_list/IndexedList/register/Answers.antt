@@ -1,4 +1,5 @@
 use Rattle.std.proofs.Common.{◌≡◌, ◌∙◌, sym, ap, subst, length, map}
+use Rattle.attr_glob.specs.KeptTokens.{kept_tokens}
 use Rattle.attr_glob.specs.Views.{patterns_of}
 use Rattle.attr_lists.specs.ListViews.{entries_view}
 use Rattle.attr_lists.specs.Numbers.{numbered_lines}
@@ -19,7 +20,7 @@ invariant_of-result c =
     let same = ap patterns_of whole ∙ numbered_lines_read names before after numbered in
     record {
       keyed = c.in_ok-keys.ensures ∙ ap (λ ms. map key_of_line (patterns_of ms)) c.deref.ensures.value ∙ sym (ap (map key_of_line) same);
-      matched = c.in_ok-matchers.ensures ∙ ap patterns_of c.deref-2.ensures.value ∙ sym same;
+      kept = c.in_ok-tokens.ensures ∙ ap (λ ms. map kept_tokens (patterns_of ms)) c.deref-2.ensures.value ∙ sym (ap (map kept_tokens) same);
       based = c.in_ok-base_key.ensures;
       read = ∣ subst AreRead (sym (ap entries_view whole ∙ numbered)) (numbered_read names (entries_view before) c.requires.read) ∣₁;
     }
