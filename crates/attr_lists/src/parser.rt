@@ -10,12 +10,13 @@ ghost use Rattle.attr_lists.specs.inner.LineSteps.{given_by, IsLineRead, kept_li
 ghost use Rattle.attr_lists.specs.ListViews.{entry_view, entries_view};
 ghost use Rattle.attr_lists.specs.KeptLists.{tracked, reason_of, items_read, macro_mode, macro_pattern, entry_for, line_read, defines_no_macro, macro_valid, macros_valid};
 
+use crate::known_names::KnownNames;
 use crate::types::{Assignments, AttributeId, DropReason, Dropped, TrackedAssignment, Value};
 use attr_glob::pattern::Mode;
 use attr_glob::search;
 use attr_glob::search::pattern::Mapping;
 use attr_text::parse::{AttrError, Error, Iter, Kind, parse};
-use attr_text::{AssignmentRef, NameRef};
+use attr_text::{Assignment, AssignmentRef, NameRef};
 use bitflags::Flags;
 use bstr::BStr;
 use smallvec::SmallVec;
@@ -43,8 +44,9 @@ impl search::Pattern for Attributes {
     ) -> Result<(Vec<Mapping<Value>>, Vec<Dropped>), AllocError> {
         let mut mappings = Vec::new(alloc);
         let mut dropped = Vec::new(alloc);
+        let mut names = KnownNames::new(alloc)?;
         for line in parse(alloc, bytes) {
-            let read = read_line(alloc, line)?;
+            let read = read_line(alloc, &mut names, line)?;
             push_line(&mut mappings, &mut dropped, read)?;
         }
         Ok((mappings, dropped))
@@ -72,12 +74,13 @@ fn push_line(
 // The mapping of a line, or the line as a dropped one.
 fn read_line(
     alloc: Global,
+    names: &mut KnownNames,
     line: Result<(Kind, Iter<'_>, usize), Error>,
 ) -> Result<Result<Mapping<Value>, Dropped>, AllocError>
     ensures { IfOk result (λ read. IsLineRead (line_view line.entry) (kept_line_view read)) }
 {
     match line {
-        Ok((kind, items, number)) => read_given(alloc, kind, items, number),
+        Ok((kind, items, number)) => read_given(alloc, names, kind, items, number),
         Err(Error::MacroName { line, .. }) => Ok(Err(Dropped {
             line,
             reason: DropReason::MacroName,
@@ -92,6 +95,7 @@ fn read_line(
 
 fn read_given(
     alloc: Global,
+    names: &mut KnownNames,
     kind: Kind,
     items: Iter<'_>,
     line: usize,
@@ -99,20 +103,24 @@ fn read_given(
     ensures { IfOk result (λ read. kept_line_view read
         ≡ line_read (Ok (given_by kind items.entry line))) }
 {
-    match read_items(alloc, items)? {
+    match read_items(alloc, names, items)? {
         Ok(assignments) => Ok(Ok(mapping_of(alloc, kind, line, assignments)?)),
         Err(reason) => Ok(Err(Dropped { line, reason })),
     }
 }
 
 // The assignments of a line, or why one of its items is refused.
-fn read_items(alloc: Global, items: Iter<'_>) -> Result<Result<Assignments, DropReason>, AllocError>
+fn read_items(
+    alloc: Global,
+    names: &mut KnownNames,
+    items: Iter<'_>,
+) -> Result<Result<Assignments, DropReason>, AllocError>
     ensures { IfOk result (λ read. result_map_both (λ a. a.items) (λ reason. reason) read
         ≡ items_read items.entry) }
 {
     let mut assignments = SmallVec::new(alloc);
     for item in items {
-        match read_item(alloc, item)? {
+        match read_item(alloc, names, item)? {
             Ok(assignment) => assignments.push(assignment)?,
             Err(reason) => return Ok(Err(reason)),
         }
@@ -122,6 +130,7 @@ fn read_items(alloc: Global, items: Iter<'_>) -> Result<Result<Assignments, Drop
 
 fn read_item(
     alloc: Global,
+    names: &mut KnownNames,
     item: Result<AssignmentRef<'_>, AttrError<'_>>,
 ) -> Result<Result<TrackedAssignment, DropReason>, AllocError>
     ensures { IfOk result (λ read. read
@@ -130,7 +139,10 @@ fn read_item(
     match item {
         Ok(assignment) => Ok(Ok(TrackedAssignment {
             id: AttributeId::default(),
-            inner: assignment.to_owned(alloc)?,
+            inner: Assignment {
+                name: names.own(alloc, assignment.name)?,
+                state: assignment.state.to_owned(alloc)?,
+            },
         })),
         Err(AttrError::InvalidName(_)) => Ok(Err(DropReason::InvalidName)),
         Err(AttrError::Reserved(_)) => Ok(Err(DropReason::Reserved)),
