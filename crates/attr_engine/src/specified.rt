@@ -14,10 +14,15 @@ pub(crate) fn number_answers(outcome: &Outcome, numbers: &mut Vec<usize>) -> Res
     if outcome.selected_len() > 0 {
         return Ok(());
     }
-    for number in 0..outcome.len() {
-        if is_specified(outcome, number) {
-            numbers.push(number)?;
+    let mut from = 0;
+    while let Some(id) = outcome.next_found(AttributeId(from)) {
+        if is_specified(outcome, id.0) {
+            numbers.push(id.0)?;
         }
+
+        // Slots can be counted.
+        prove!(id.0 < outcome.len());
+        from = id.0 + 1;
     }
     Ok(())
 }

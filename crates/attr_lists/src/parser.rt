@@ -44,7 +44,7 @@ impl search::Pattern for Attributes {
     ) -> Result<(Vec<Mapping<Value>>, Vec<Dropped>), AllocError> {
         let mut mappings = Vec::new(alloc);
         let mut dropped = Vec::new(alloc);
-        let mut names = KnownNames::new(alloc)?;
+        let mut names = KnownNames::new(alloc);
         for line in parse(alloc, bytes) {
             let read = read_line(alloc, &mut names, line)?;
             push_line(&mut mappings, &mut dropped, read)?;

@@ -325,7 +325,6 @@ impl SearchState {
         let remaining = self.remaining();
         self.begin_counts();
         self.search_lists(alloc, lists, query)?;
-        self.filler.slots.order();
         Ok(self.remaining() < remaining)
     }
 
@@ -356,7 +355,7 @@ impl SearchState {
     {
         let numbers = self.find_lists(alloc, lists, query)?;
         let searched = self.search_numbers(alloc, &lists.lists, &numbers, query);
-        self.keep_numbers(numbers);
+        self.end(numbers);
         searched
     }
 
@@ -380,10 +379,12 @@ impl SearchState {
         Ok(mem::replace(&mut buffers.numbers, Vec::new(alloc)))
     }
 
-    fn keep_numbers(&mut self, numbers: Vec<usize>)
+    // Ends a search: the buffer of numbers is put back, and the numbers of filled slots in their order.
+    fn end(&mut self, numbers: Vec<usize>)
         ensures { self.new ≡ self.old }
     {
         self.buffers.numbers = numbers;
+        self.filler.slots.order();
     }
 
     // Searches the lists with some numbers, the greatest first, until each wanted attribute has an answer. No other

@@ -1,10 +1,11 @@
 -- What initialising leaves is consistent, and what is wanted of it.
 use Rattle.std.proofs.Common.{◌≡◌, ℕ, zero, suc, ◌+◌, ◌<◌, ◌≤◌, Bool, true, false, cond, List, [], ◌∷◌, length, get_or, drop, slice_get, map, filter}
-use Rattle.std.proofs.Common.{All, Option, Some, None, MatchOption, option_map, unwrap_or, refl, sym, ap, ◌∙◌, ◌-◌, arith}
+use Rattle.std.proofs.Common.{⊎_elim, is_some, All, Option, Some, None, MatchOption, option_map, unwrap_or, refl, sym, ap, ◌∙◌, ◌-◌, arith}
 use Rattle.std.specs.Bool.{⊤}
 use Rattle.std.specs.List.{range_with_len, cons_option}
 use Rattle.std.specs.Str.{bytes_eq}
-use Rattle.std.proofs.lemmas.List.{length-map, drop_more, drop_all}
+use Rattle.std.proofs.lemmas.Bool.{cases_lt, false≢true}
+use Rattle.std.proofs.lemmas.List.{length-map, drop_more, drop_all, get_or_past}
 use Rattle.std.proofs.lemmas.List.FromFn.{length-map-range_with_len}
 use Rattle.std.proofs.lemmas.List.Elements.{All-nil, All-cons, All-head, All-tail, All-map, All-weaker, All-from_get_or}
 use Rattle.std.proofs.lemmas.Option.{slice_get_within, get_or_from_slice_get}
@@ -16,14 +17,14 @@ use Rattle.attr_lists.specs.declared.types.TrackedAssignment.{TrackedAssignment}
 use Rattle.attr_search.specs.inner.BodyChanges.{changed_bodies, sized_bodies}
 use Rattle.attr_search.specs.declared.bodies.BodyChange.{BodyChange}
 use Rattle.attr_search.specs.inner.SlotContents.{wanted_numbers}
-use Rattle.gix_attributes.specs.Contents.{Content, Wanted, bodies_of, reset_content, found_in, initial_content, is_wanted, looked_up}
+use Rattle.gix_attributes.specs.Contents.{Content, IsNextFound, Wanted, bodies_of, reset_content, found_in, initial_content, is_wanted, looked_up}
 use Rattle.gix_attributes.specs.inner.Consistency.{flags_of}
 use Rattle.gix_attributes.specs.Contents.{names_selected}
 use Rattle.attr_search.specs.Settings.{HaveSlots}
 use Rattle.attr_search.specs.inner.Slotted.{BodiesHaveSlots}
 use Rattle.gix_attributes.specs.Searching.{KeepsAllButAnswers}
 use Rattle.gix_attributes.specs.Selection.{wanted_view, selection_view}
-use Rattle.attr_search.specs.Slots.{Matched}
+use Rattle.attr_search.specs.Slots.{AreFreeFrom, IsNextFilled, Matched}
 use Rattle.gix_attributes.specs.declared.search.selection.SelectedName.{SelectedName}
 
 -- names stay what they are where they are looked up
@@ -162,6 +163,47 @@ found_skip slots i lt e = found_at slots i None lt e
 
 pub found_none : (slots : List (Option Matched)) (i : ℕ) → length slots ≤ i → found_in (drop i slots) ≡ []
 found_none slots i le = ap found_in (drop_all i slots le)
+
+-- slots without a match are passed over
+pub found_over : (slots : List (Option Matched)) (from number gap : ℕ) → from + gap ≡ number → number ≤ length slots →
+    ((k : ℕ) → from ≤ k → k < number → get_or slots k None ≡ None) → found_in (drop from slots) ≡ found_in (drop number slots)
+found_over slots from number zero e le free = let same : from ≡ number = omega (arith, e) in ap (λ n. found_in (drop n slots)) same
+found_over slots from number (suc gap) e le free =
+    found_skip slots from (omega (arith, e, le)) (free from (omega arith) (omega (arith, e)))
+    ∙ found_over slots (from + 1) number gap (omega (arith, e)) le (λ k ge lt. free k (omega (arith, ge)) lt)
+
+filled_within : (slots : List (Option Matched)) (number : ℕ) → is_some (get_or slots number None) ≡ true → number < length slots
+filled_within slots number filled =
+    ⊎_elim (λ lt. lt) (λ past. absurd (false≢true (ap is_some (sym (get_or_past slots number None past)) ∙ filled))) (cases_lt number (length slots))
+
+pub next_found : (slots : List (Option Matched)) (from number : ℕ) → IsNextFilled slots from number → IsNextFound slots from number
+next_found slots from number next = record {
+  filled = next.filled;
+  first = found_over slots from number (number - from) (omega (arith, next.reached))
+      (let lt = filled_within slots number next.filled in omega (arith, lt)) next.free;
+}
+
+pub nothing_found : (slots : List (Option Matched)) (from : ℕ) → AreFreeFrom slots from → found_in (drop from slots) ≡ []
+nothing_found slots from free =
+    ⊎_elim
+    (λ (lt : from < length slots). found_over slots from (length slots) (length slots - from) (omega (arith, lt)) (omega arith) (λ k ge below. free k ge)
+    ∙ found_none slots (length slots) (omega arith))
+    (λ past. found_none slots from past)
+    (cases_lt from (length slots))
+
+pub found_match : (slots : List (Option Matched)) (from : ℕ) (found : Option ℕ) →
+    MatchOption found (AreFreeFrom slots from) (IsNextFilled slots from) →
+    MatchOption found (found_in (drop from slots) ≡ []) (IsNextFound slots from)
+found_match slots from None free = nothing_found slots from free
+found_match slots from (Some number) next = next_found slots from number next
+
+-- the match of the next number, and those after it
+pub found_first : (slots : List (Option Matched)) (from number : ℕ) (m : Matched) → IsNextFound slots from number → get_or slots number None ≡ Some m →
+    found_in (drop from slots) ≡ m ∷ found_in (drop (number + 1) slots)
+found_first slots from number m next e = next.first ∙ found_next slots number m (filled_within slots number next.filled) e
+
+pub found_within : (slots : List (Option Matched)) (from number : ℕ) → IsNextFound slots from number → number < length slots
+found_within slots from number next = filled_within slots number next.filled
 
 -- resetting again changes nothing
 pub emptied_again : (held : Content) → reset_content (reset_content held) ≡ reset_content held

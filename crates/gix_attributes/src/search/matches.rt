@@ -61,12 +61,12 @@ fn first_match(outcome: &Outcome, from: usize) -> Option<(usize, Match<'_>)>
         (λ r. found_in (drop from outcome.now.slots)
         ≡ match_view r.1 ∷ found_in (drop r.0 outcome.now.slots)) }
 {
-    for number in from..outcome.len() {
-        if let Some(found) = outcome.match_by_id(AttributeId(number)) {
-            return Some((number + 1, found));
-        }
-    }
-    None
+    let id = outcome.next_found(AttributeId(from))?;
+    let found = outcome.match_by_id(id)?;
+
+    // Slots can be counted.
+    prove!(id.0 < outcome.len());
+    Some((id.0 + 1, found))
 }
 
 /// An iterator over the matches of the selected names, in their order. A name that no matching line assigns is

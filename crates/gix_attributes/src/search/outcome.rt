@@ -1,10 +1,10 @@
 //! What searches find.
 
-ghost use Rattle.std.specs.Prelude.{◌≡◌, ◌↔◌, ◌<◌, All, None, IfOk, IsTrue, OnErr, OnOk, true, length, map, option_map, slice_get, slice_index_or};
+ghost use Rattle.std.specs.Prelude.{◌≡◌, ◌↔◌, ◌<◌, [], All, None, IfOk, IsTrue, MatchOption, OnErr, OnOk, true, drop, length, map, option_map, slice_get, slice_index_or};
 ghost use Rattle.attr_table.specs.Cut.{is_done};
 ghost use Rattle.attr_glob.specs.Views.{pattern_view};
 ghost use Rattle.attr_lists.specs.ListViews.{entry_view};
-ghost use Rattle.gix_attributes.specs.Contents.{IsCurrent, reset_content, found_in, initial_content, looked_up, names_selected, empty_content, selected_answer, selected_in, wanted_of};
+ghost use Rattle.gix_attributes.specs.Contents.{IsCurrent, IsNextFound, reset_content, found_in, initial_content, looked_up, names_selected, empty_content, selected_answer, selected_in, wanted_of};
 ghost use Rattle.gix_attributes.specs.inner.Consistency.{flags_of, nothing_wanted};
 ghost use Rattle.gix_attributes.specs.Covered.{AreCovered, IsCovered, ListsAreCovered};
 ghost use Rattle.attr_search.specs.IndexedLists.{listed_view};
@@ -242,6 +242,15 @@ impl Outcome {
         ensures { result ≡ self.now.tested }
     {
         self.state.tested()
+    }
+
+    /// The first attribute with an answer, from this number on. After a search it is found by halving.
+    pub fn next_found(&self, from: AttributeId) -> Option<AttributeId>
+        ensures { MatchOption result (found_in (drop from.0 self.now.slots) ≡ [])
+            (λ id. IsNextFound self.now.slots from.0 id.0) }
+    {
+        let number = self.state.next_filled(from.0)?;
+        Some(AttributeId(number))
     }
 
     /// The answers that were found, by number, whatever is selected.
