@@ -191,12 +191,6 @@ nothing_found slots from free =
     (λ past. found_none slots from past)
     (cases_lt from (length slots))
 
-pub found_match : (slots : List (Option Matched)) (from : ℕ) (found : Option ℕ) →
-    MatchOption found (AreFreeFrom slots from) (IsNextFilled slots from) →
-    MatchOption found (found_in (drop from slots) ≡ []) (IsNextFound slots from)
-found_match slots from None free = nothing_found slots from free
-found_match slots from (Some number) next = next_found slots from number next
-
 -- the match of the next number, and those after it
 pub found_first : (slots : List (Option Matched)) (from number : ℕ) (m : Matched) → IsNextFound slots from number → get_or slots number None ≡ Some m →
     found_in (drop from slots) ≡ m ∷ found_in (drop (number + 1) slots)

@@ -61,8 +61,12 @@ fn first_match(outcome: &Outcome, from: usize) -> Option<(usize, Match<'_>)>
         (λ r. found_in (drop from outcome.now.slots)
         ≡ match_view r.1 ∷ found_in (drop r.0 outcome.now.slots)) }
 {
-    let id = outcome.next_found(AttributeId(from))?;
-    let found = outcome.match_by_id(id)?;
+    let Some(id) = outcome.next_found(AttributeId(from)) else {
+        return None;
+    };
+    let Some(found) = outcome.match_by_id(id) else {
+        unreachable!()
+    };
 
     // Slots can be counted.
     prove!(id.0 < outcome.len());

@@ -249,8 +249,10 @@ impl Outcome {
         ensures { MatchOption result (found_in (drop from.0 self.now.slots) ≡ [])
             (λ id. IsNextFound self.now.slots from.0 id.0) }
     {
-        let number = self.state.next_filled(from.0)?;
-        Some(AttributeId(number))
+        match self.state.next_filled(from.0) {
+            Some(number) => Some(AttributeId(number)),
+            None => None,
+        }
     }
 
     /// The answers that were found, by number, whatever is selected.

@@ -1,4 +1,6 @@
-use Rattle.std.proofs.Common.{sym, subst}
+use Rattle.std.proofs.Common.{◌∷◌, [], ap, sym, subst, ◌∙◌}
+use Rattle.std.proofs.lemmas.List.{map-append}
+use Rattle.attr_search.specs.IndexedLists.{list_ids_of}
 use Rattle.attr_lists.specs.Definitions.{HoldsList}
 use Rattle.attr_lists.specs.ListViews.{entries_view}
 use Rattle.gix_attributes.specs.inner.HeldLists.{AreHeldLists}
@@ -13,6 +15,12 @@ remove-requires c =
     subst (λ ms. HoldsList known one.list_id (entries_view ms)) (sym c.deref.ensures.value)
     (last_held known c.pop.new.self.lists.items one
     (subst (AreHeldLists known) c.in_ok-last.ensures.last (held_lists known c.args.self.now.patterns.lists.items c.requires)))
+
+pub returns-clause-collection : goal.returns-clause-collection
+returns-clause-collection c =
+    let left = c.pop.new.self.lists.items in
+    let last = c.in_ok-last.last in
+    (last.list_id, list_ids_of left, ap list_ids_of c.in_ok-last.ensures.last ∙ map-append (λ s. s.list_id) left (last ∷ []), c.remove.ensures.removed)
 
 pub returns-clause-held : goal.returns-clause-held
 returns-clause-held c =
