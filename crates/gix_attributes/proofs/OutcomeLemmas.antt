@@ -178,6 +178,7 @@ filled_within slots number filled =
 
 pub next_found : (slots : List (Option Matched)) (from number : ℕ) → IsNextFilled slots from number → IsNextFound slots from number
 next_found slots from number next = record {
+  reached = next.reached;
   filled = next.filled;
   first = found_over slots from number (number - from) (omega (arith, next.reached))
       (let lt = filled_within slots number next.filled in omega (arith, lt)) next.free;

@@ -1,6 +1,6 @@
 -- The contents of an outcome: its slots, what it reports of them, and what initialising it leaves (own; what an unspecified
 -- attribute is: the gitattributes page).
-use Rattle.std.specs.Prelude.{◌≡◌, ℕ, Bool, true, false, ◌==◌, ◌||◌, List, [], drop, map, length, filter, is_some, slice_index_or, codes}
+use Rattle.std.specs.Prelude.{◌≡◌, ℕ, ◌≤◌, Bool, true, false, ◌==◌, ◌||◌, List, [], drop, map, length, filter, is_some, slice_index_or, codes}
 use Rattle.std.specs.Prelude.{Option, None, unwrap_or, option_map, option_and_then, if◌then◌else◌}
 use Rattle.std.specs.List.{list_any, filter_map, range_with_len}
 use Rattle.attr_text.specs.Names.{is_valid_name}
@@ -78,8 +78,9 @@ pub record IsCurrent (held : Content) (known : Collection) : Type 0 where
 abbrev pub found_in : List (Option Matched) → List Matched
 found_in slots = filter_map (λ slot. slot) slots
 
--- the number has a match, and none from the other number on comes before it
+-- the number has a match, the first from the other number on
 pub record IsNextFound (slots : List (Option Matched)) (from number : ℕ) : Type 0 where
+  pub reached : from ≤ number
   pub filled : is_some (slice_index_or slots number None) ≡ true
   pub first : found_in (drop from slots) ≡ found_in (drop number slots)
 

@@ -1,9 +1,12 @@
 -- The numbers so far and what is left to be numbered are together all of it.
-use Rattle.std.proofs.Common.{◌≡◌, ◌++◌, map, None, get_or}
+use Rattle.std.proofs.Common.{◌≡◌, ◌++◌, ◌-◌, length, map, None, get_or}
 use Rattle.attr_engine.proofs.AnswerLemmas.{left_from}
 use Rattle.attr_engine.proofs.specified.number_answers.Given as goal
 
-abbrev pub invariant-loop-number : goal.invariant-loop-number
-invariant-loop-number l =
+abbrev pub invariant-loop-id : goal.invariant-loop-id
+invariant-loop-id l =
     let slots = l.outcome.slots in
-    map (λ number. get_or slots number None) l.numbers.items ++ left_from slots l.number ≡ left_from slots 0
+    map (λ number. get_or slots number None) l.numbers.items ++ left_from slots l.from ≡ left_from slots 0
+
+abbrev pub decreases-loop-id : goal.decreases-loop-id
+decreases-loop-id l = length l.outcome.slots - l.from
