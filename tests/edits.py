@@ -20,9 +20,6 @@ def faults(path):
             text = open(target, encoding='utf-8').read()
         elif line.startswith('old:'):
             old = line[len('old: '):]
-            # The blanks around a text count only if the text without them occurs more than once.
-            if text.count(old) != 1 and text.count(old.strip()) == 1:
-                old = old.strip()
             if text.count(old) != 1:
                 yield 'this text occurs %d times in %s: %s' % (text.count(old), target, old.strip())
         elif line.startswith('new:'):

@@ -5,7 +5,7 @@ use Rattle.std.specs.Prelude.{◌==◌, if◌then◌else◌, option_and_then, un
 use Rattle.std.proofs.lemmas.List.{length-map, drop_more, drop_all}
 use Rattle.std.proofs.lemmas.Option.{get_or_from_slice_get, slice_get_within}
 use Rattle.gix_attributes.specs.Collections.{Collection}
-use Rattle.gix_attributes.specs.Contents.{Content, IsNextFound, found_in, initial_content, looked_up, names_selected, reset_content, selected_in}
+use Rattle.gix_attributes.specs.Contents.{Content, found_in, initial_content, looked_up, names_selected, reset_content, selected_in}
 use Rattle.gix_attributes.specs.Contents.{wanted_of}
 use Rattle.gix_attributes.specs.Cut.{IsSearched}
 use Rattle.gix_attributes.specs.Lookups.{IsLookedUp, Lookup, OfTheOnlyTable, answers_by_number, selected_answers}
@@ -151,14 +151,6 @@ passes_one slots i lt e = ap (λ l. map Some (specified_among (found_in l))) (dr
 -- after the last slot nothing is left
 pub none_left : (slots : List (Option Matched)) (i : ℕ) → length slots ≤ i → left_from slots i ≡ []
 none_left slots i le = ap (λ l. map Some (specified_among (found_in l))) (drop_all i slots le)
-
--- nothing is passed over before the next match
-pub left_over : (slots : List (Option Matched)) (from number : ℕ) → IsNextFound slots from number → left_from slots from ≡ left_from slots number
-left_over slots from number next = ap (λ l. map Some (specified_among l)) next.first
-
--- without a further match nothing is left
-pub nothing_over : (slots : List (Option Matched)) (from : ℕ) → found_in (drop from slots) ≡ [] → left_from slots from ≡ []
-nothing_over slots from none = ap (λ l. map Some (specified_among l)) none
 
 -- as many numbers as answers
 pub same_length : (slots : List (Option Matched)) (matches : List Matched) (numbers : List ℕ) → ArePlacesOf slots matches numbers

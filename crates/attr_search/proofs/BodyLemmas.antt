@@ -1,6 +1,6 @@
 -- How bodies grow and change.
-use Rattle.std.proofs.Common.{◌≡◌, ℕ, ◌+◌, ◌-◌, ◌<◌, ◌≤◌, List, [], ◌∷◌, ◌++◌, length, length-take, set, take, map, replicate, All, Vec, append_assoc}
-use Rattle.std.proofs.Common.{min, Bool, true, false, Result, Ok, Err, is_err, length-append, refl, sym, ap, ◌∙◌, arith}
+use Rattle.std.proofs.Common.{◌≡◌, ℕ, ◌+◌, ◌-◌, ◌<◌, ◌≤◌, List, [], ◌∷◌, ◌++◌, length, length-take, set, take, replicate, All, Vec, append_assoc}
+use Rattle.std.proofs.Common.{Bool, true, false, Result, Ok, Err, is_err, length-append, refl, sym, ap, ◌∙◌, arith}
 use Rattle.std.specs.Global.{Global}
 use Rattle.std.specs.Result.{OnErr, OnOk}
 use Rattle.std.proofs.lemmas.List.{length-replicate, take-map, take_all, length-map, length-set, map_push, map-set, replicate_more, take-append-le}

@@ -2,7 +2,7 @@
 use Rattle.std.proofs.Common.{◌≡◌, ℕ, ◌+◌, ◌<◌, Bool, true, false, ◌&&◌, List, [], ◌∷◌, ◌++◌, length, map, get_or, take, drop, Option, Some, None, Ok}
 use Rattle.std.proofs.Common.{not, ◌||◌}
 use Rattle.std.proofs.Common.{Err, Result, refl, sym, ap, subst, ◌∙◌, arith}
-use Rattle.std.specs.Prelude.{All, IfOk, IsTrue, ◌↔◌, is_none}
+use Rattle.std.specs.Prelude.{All, IfOk, is_none}
 use Rattle.std.specs.List.{flat_map, list_any}
 use Rattle.std.proofs.Math.Logic.{∥∥₁_elim}
 use Rattle.std.proofs.Math.Bool.{Bool-set}
@@ -14,11 +14,9 @@ use Rattle.attr_glob.specs.declared.search.pattern.Mapping.{Mapping}
 use Rattle.attr_glob.specs.Candidates.{places_where}
 use Rattle.attr_glob.specs.Deciding.{text_matches}
 use Rattle.attr_glob.specs.Paths.{matched_part, is_directory, path_matches}
-use Rattle.attr_glob.specs.Patterns.{Reading, reading, has_flag, negative, must_be_dir}
+use Rattle.attr_glob.specs.Patterns.{reading, has_flag, negative, must_be_dir}
 use Rattle.attr_glob.specs.Views.{pattern_view, patterns_of}
 use Rattle.attr_glob.proofs.ForCallers.{by_test}
-use Rattle.attr_glob.proofs.ForCallers.{same_answer}
-use Rattle.attr_glob.proofs.ForCallers.{path_match_of_test, test_of_path_match}
 use Rattle.attr_lists.specs.declared.types.Value.{Value}
 use Rattle.attr_lists.specs.declared.types.AttributeId.{AttributeId}
 use Rattle.attr_lists.specs.declared.types.TrackedAssignment.{TrackedAssignment}

@@ -16,5 +16,3 @@ pub use Rattle.gix_attributes.proofs.LookupLemmas.{looked_up_answers}
 -- `left_alone`: a collection that registers the lists of a search alone registers what a pop leaves of them.
 -- `lists_with_ids`: lists with their list ids are these lists.
 pub use Rattle.gix_attributes.proofs.KeepingLemmas.{bodies_have_names, bodies_registered, left_alone, lists_with_ids}
--- the number of a match that is found is that of a slot
-pub use Rattle.gix_attributes.proofs.OutcomeLemmas.{found_within}

@@ -21,7 +21,7 @@ use Rattle.attr_lists.specs.declared.types.TrackedAssignment.{TrackedAssignment}
 use Rattle.attr_lists.proofs.ForCallers.{added_for, get_or-map, list_numbered, number_at, of_other_lists-append, of_other_lists-own, removed_for}
 use Rattle.attr_lists.proofs.ForCallers.{with_names-extends}
 use Rattle.attr_search.specs.IndexedLists.{list_ids_of, listed_view, lists_view}
-use Rattle.attr_search.specs.Settings.{HaveSlots, BodiesAreNamed, HeldAreNamed, LinesAreNamed, Listed, ListsAreNamed}
+use Rattle.attr_search.specs.Settings.{BodiesAreNamed, HeldAreNamed, LinesAreNamed, Listed, ListsAreNamed}
 use Rattle.attr_search.specs.Slots.{Matched}
 use Rattle.attr_search.specs.declared.indexed_list.IndexedList.{IndexedList}
 use Rattle.gix_attributes.specs.Additions.{RegisteredLists, registered_lists, with_registered}

@@ -192,14 +192,6 @@ nothing_found slots from free =
     (λ past. found_none slots from past)
     (cases_lt from (length slots))
 
--- the match of the next number, and those after it
-pub found_first : (slots : List (Option Matched)) (from number : ℕ) (m : Matched) → IsNextFound slots from number → get_or slots number None ≡ Some m →
-    found_in (drop from slots) ≡ m ∷ found_in (drop (number + 1) slots)
-found_first slots from number m next e = next.first ∙ found_next slots number m (filled_within slots number next.filled) e
-
-pub found_within : (slots : List (Option Matched)) (from number : ℕ) → IsNextFound slots from number → number < length slots
-found_within slots from number next = filled_within slots number next.filled
-
 -- resetting again changes nothing
 pub emptied_again : (held : Content) → reset_content (reset_content held) ≡ reset_content held
 emptied_again held =

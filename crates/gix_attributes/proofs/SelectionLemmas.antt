@@ -10,11 +10,11 @@ use Rattle.std.proofs.lemmas.List.{ext_get_or, get_or-set_other, get_or-set_same
 use Rattle.attr_lists.specs.inner.MacroNumbers.{ListsMacros}
 use Rattle.attr_search.proofs.ForCallers.{at_other, length_changed, length_sized}
 use Rattle.std.proofs.Common.{rules, ◌≡◌, ℕ, zero, suc, ◌+◌, ◌<◌, Bool, true, false, ◌||◌, ◌==◌, List, [], ◌∷◌, ◌++◌, length, get_or, set, take, Some}
-use Rattle.std.proofs.Common.{None, option_map, unwrap_or, refl, sym, ap, ◌∙◌, ◌-◌, append_assoc, drop, length-take, arith, replicate}
+use Rattle.std.proofs.Common.{None, option_map, unwrap_or, refl, sym, ap, ◌∙◌, ◌-◌, arith, replicate}
 use Rattle.std.specs.Bool.{Decides}
 use Rattle.std.specs.List.{list_any}
 use Rattle.std.proofs.Math.ListN.{length-set, length-map}
-use Rattle.std.proofs.lemmas.List.{drop_more, get_or-take, take_more, map_push, get_or-map, length-replicate, get_or-replicate}
+use Rattle.std.proofs.lemmas.List.{get_or-take, take_more, map_push, get_or-map, length-replicate, get_or-replicate}
 use Rattle.std.proofs.lemmas.List.Folds.{list_any-append}
 use Rattle.std.proofs.lemmas.List.FromFn.{fill_by_all}
 use Rattle.std.specs.Prelude.{Vec}

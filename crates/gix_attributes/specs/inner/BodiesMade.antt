@@ -25,4 +25,4 @@ AreMade known bodies numbers changes =
     (number : ℕ) →
     (changed_at known bodies changes number ≡ slice_index_or (bodies_of known) number [])
     ⊎ ((list_any (is_at (nat_cmp number)) numbers ≡ false)
-      × (changed_at known bodies changes number ≡ slice_index_or (bodies_for known bodies) number []))
+    × (changed_at known bodies changes number ≡ slice_index_or (bodies_for known bodies) number []))

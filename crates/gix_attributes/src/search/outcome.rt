@@ -130,7 +130,12 @@ impl Outcome {
     {
         let wanted = selection::flags(alloc, &selected, collection.len())?;
         let macros = collection.macros().clone()?;
-        let changes = selection::body_changes(alloc, self.state.bodies(), &self.macros, collection)?;
+        let changes = selection::body_changes(
+            alloc,
+            self.state.bodies(),
+            &self.macros,
+            collection,
+        )?;
         self.state.set_up(alloc, wanted, changes)?;
         self.macros = macros;
         self.selected = selected;

@@ -1,6 +1,4 @@
 use Rattle.std.specs.Vec.Iter.{into_iter_items}
-use Rattle.attr_search.specs.inner.BodyChanges.{changed_bodies}
-use Rattle.attr_search.specs.inner.Slotted.{bodies_view}
 use Rattle.attr_search.proofs.BodyLemmas.{change_below, change_made}
 use Rattle.attr_search.proofs.bodies.change.Goals as goal
 

@@ -1,4 +1,4 @@
-use Rattle.std.proofs.Common.{◌≡◌, ℕ, List, Bool, None, length, map, ap, ◌∙◌, arith}
+use Rattle.std.proofs.Common.{◌≡◌, List, None, length, map, ap, ◌∙◌, arith}
 use Rattle.std.proofs.lemmas.List.{length-map}
 use Rattle.attr_lists.specs.declared.types.TrackedAssignment.{TrackedAssignment}
 use Rattle.attr_search.specs.SearchContents.{SearchContents}

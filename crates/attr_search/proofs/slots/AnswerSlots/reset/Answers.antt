@@ -1,5 +1,4 @@
-use Rattle.std.proofs.Common.{List, Option, None, ap, refl, ◌∙◌, length, sym}
-use Rattle.std.proofs.Math.ListN.{length-map}
+use Rattle.std.proofs.Common.{List, Option, None, ap, refl, ◌∙◌, sym}
 use Rattle.attr_search.specs.inner.SlotContents.{SlotContents, count_remaining}
 use Rattle.attr_search.specs.inner.Refs.{matches_by_ref}
 use Rattle.attr_search.specs.Slots.{Matched}

@@ -1,4 +1,4 @@
-use Rattle.std.proofs.Common.{◌≡◌, ◌<◌, ◌∙◌, ◌||◌, ap, false, get_or, length, sym, arith}
+use Rattle.std.proofs.Common.{◌<◌, ◌∙◌, ◌||◌, ap, false, get_or, length, sym, arith}
 use Rattle.std.specs.BTreeSet.{contains}
 use Rattle.std.specs.Ordering.{nat_cmp}
 use Rattle.attr_search.proofs.WantedLemmas.{flag_at, length_flags}
