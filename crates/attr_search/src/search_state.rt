@@ -232,7 +232,7 @@ impl SearchState {
         self.filler.slots.get(attribute)
     }
 
-    /// The first number from this one on whose slot has an answer. After a search this takes a few steps.
+    /// The first number from this one on whose slot has an answer. After a search for all attributes it is found by halving.
     pub fn next_filled(&self, from: usize) -> Option<usize>
         ensures { MatchOption result
             (AreFreeFrom self.now.answers from) (IsNextFilled self.now.answers from) }
@@ -379,7 +379,7 @@ impl SearchState {
         Ok(mem::replace(&mut buffers.numbers, Vec::new(alloc)))
     }
 
-    // Ends a search: the buffer of numbers is put back, and the numbers of filled slots in their order.
+    // Ends a search: the buffer of numbers is put back, and the numbers of filled slots are put in their order.
     fn end(&mut self, numbers: Vec<usize>)
         ensures { self.new ≡ self.old }
     {

@@ -207,11 +207,11 @@ impl AnswerSlots {
         Ok(())
     }
 
-    /// Puts the numbers of the filled slots in their order, so that they are found by halving.
+    /// Puts the numbers of the filled slots in their order if all are wanted, so that the next one is found by halving.
     pub fn order(&mut self)
         ensures { self.new ≡ self.old }
     {
-        if !self.is_ordered {
+        if !self.is_ordered && self.wanted.count() == self.wanted.len() {
             self.filled.sort_unstable();
             self.is_ordered = true;
         }

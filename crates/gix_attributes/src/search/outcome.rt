@@ -249,7 +249,7 @@ impl Outcome {
         self.state.tested()
     }
 
-    /// The first attribute with an answer, from this number on. After a search it is found by halving.
+    /// The first attribute with an answer, from this number on. After a search without a selection it is found by halving.
     pub fn next_found(&self, from: AttributeId) -> Option<AttributeId>
         ensures { MatchOption result (found_in (drop from.0 self.now.slots) ≡ [])
             (λ id. IsNextFound self.now.slots from.0 id.0) }
