@@ -11,7 +11,7 @@ path. Columns:
 
   script         the size of the script that check_attr reads: the files and the paths
   time           processor time of the whole run, which reads the files too: medians of runs that take turns, and their ratio
-  instructions   by callgrind, a path: those of many paths less those of 20, so that start and reading are left out
+  instructions   by callgrind, a path: those of many paths less those of 100, so that start and reading are left out
   memory         the most that the whole run held
 """
 import argparse
@@ -27,6 +27,8 @@ import measure
 from measure import Command, OverLimit, say
 
 CURVES = measure.BENCH / "path_cost.csv"
+# So many paths are asked before those that are counted: by then what reading left to free is freed.
+FEW = 100
 HEAD = ("workload", "paths", "script, KB", "time, ms", "git", "ratio", "instructions a path", "git", "memory, KB", "git")
 WIDTHS = (-76, 10, 11, 10, 10, 8, 21, 13, 12, 11)
 
@@ -51,7 +53,7 @@ class Workload:
         blocks = max(1, self.counted // 20)
         apart = len(self.paths) / blocks
         many = [path for block in range(blocks) for path in self.paths[int(block * apart):][:20]][:self.counted]
-        return (self.files, many[:20]), (self.files, many), len(many) - 20
+        return (self.files, many[:FEW]), (self.files, many), len(many) - FEW
 
 
 class Reading(Workload):
@@ -87,7 +89,7 @@ class Walk(Workload):
             left -= len(below)
 
     def few_and_many(self):
-        return (self.files, self.paths[:20]), (self.files, self.paths[:self.counted]), self.counted - 20
+        return (self.files, self.paths[:FEW]), (self.files, self.paths[:self.counted]), self.counted - FEW
 
 
 # How many paths are asked: fewer where git tries many lines for each.
@@ -97,7 +99,7 @@ def timed(lines, quick):
 
 
 def counted(lines, quick=False):
-    return max(100, min(2000, 3_000_000 // lines) // (4 if quick else 1))
+    return max(2 * FEW, min(2000, 3_000_000 // lines) // (4 if quick else 1))
 
 
 KINDS = {"names": inputs.names, "ends": inputs.ends, "exact": inputs.exact, "globs": inputs.globs}
