@@ -147,7 +147,8 @@ star_then-end case text (b ∷ bs) =
           ∙ (or_false whole
           ∙ (and_true whole
           ∙ (ap (λ x. whole && not x) (sym (before_none text (b ∷ bs) (omega arith)))
-          ∙ ap (λ x. x && not (list_any is_slash (take (suc (length bs) - length text) (b ∷ bs)))) (sym (end_whole case text (b ∷ bs) (omega arith)))))))
+          ∙ ap (λ x. x && not (list_any is_slash (take (suc (length bs) - length text) (b ∷ bs))))
+          (sym (end_whole case text (b ∷ bs) (omega arith)))))))
     ]
       where
         by_length : (m n : ℕ) → (m ≤ n) ⊎ (n < m)

@@ -187,7 +187,8 @@ next_found slots from number next = record {
 pub nothing_found : (slots : List (Option Matched)) (from : ℕ) → AreFreeFrom slots from → found_in (drop from slots) ≡ []
 nothing_found slots from free =
     ⊎_elim
-    (λ (lt : from < length slots). found_over slots from (length slots) (length slots - from) (omega (arith, lt)) (omega arith) (λ k ge below. free k ge)
+    (λ (lt : from < length slots). found_over slots from (length slots) (length slots - from) (omega (arith, lt)) (omega arith)
+    (λ k ge below. free k ge)
     ∙ found_none slots (length slots) (omega arith))
     (λ past. found_none slots from past)
     (cases_lt from (length slots))

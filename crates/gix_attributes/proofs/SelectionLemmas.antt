@@ -195,7 +195,8 @@ changed_here known bodies changes changes' change pushed lt =
     ∙ get_or-set_same (changed_bodies changes base) change.number change.body.items []
     (omega (arith, length_changed changes base, length_sized (length known.names) (bodies_view bodies)))
 
-changed_other : (known : Collection) (bodies : List (Vec TrackedAssignment Global)) (changes changes' : List BodyChange) (change : BodyChange) (k : ℕ) →
+changed_other : (known : Collection) (bodies : List (Vec TrackedAssignment Global)) (changes changes' : List BodyChange) (change : BodyChange)
+    (k : ℕ) →
     changes' ≡ changes ++ change ∷ [] → k ≢ change.number → changed_at known bodies changes' k ≡ changed_at known bodies changes k
 changed_other known bodies changes changes' change k pushed apart =
     let base = bodies_for known bodies in
@@ -288,7 +289,8 @@ listed_elsewhere known macros listed = λ number none.
     (cases_lt number (length known.definitions))
 
 -- the same beside copies of the numbers and of the bodies
-pub copied_elsewhere : (C : ℕ → ℕ → Type 0) → ((x y : ℕ) → C x y → y ≡ x) → (macros copy : BTreeSet ℕ) (bodies bodies' : List (List TrackedAssignment)) →
+pub copied_elsewhere : (C : ℕ → ℕ → Type 0) → ((x y : ℕ) → C x y → y ≡ x) → (macros copy : BTreeSet ℕ)
+    (bodies bodies' : List (List TrackedAssignment)) →
     AllZip C macros.keys copy.keys → bodies' ≡ bodies → AreEmptyElsewhere macros bodies → AreEmptyElsewhere copy bodies'
 copied_elsewhere C same macros copy bodies bodies' copied is elsewhere = λ number none.
     let keys : copy.keys ≡ macros.keys = same_from_all_zip C macros.keys copy.keys copied same in

@@ -21,7 +21,8 @@ loop-place-preserved c =
     record {
       bound = here.bound;
       before = λ k d le lt. let below = here.point.0 k d le lt in omega (arith, below);
-      count = ap length c.in_ok-push.ensures.items ∙ (length-append c.loop-place.starts.items (start ∷ []) ∙ ap (λ n. n + 1) c.loop-place.invariant.count);
+      count = ap length c.in_ok-push.ensures.items
+          ∙ (length-append c.loop-place.starts.items (start ∷ []) ∙ ap (λ n. n + 1) c.loop-place.invariant.count);
       starts = starts_more width place start rows c.loop-place.starts.items _ c.in_ok-push.ensures.items c.loop-place.invariant.count
           c.loop-place.invariant.starts here;
     }

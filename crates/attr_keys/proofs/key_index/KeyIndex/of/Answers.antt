@@ -13,7 +13,8 @@ invariant_of-result c =
     let exact = c.in_ok-exact.exact in
     let kept = sym (ap (λ v. v.items) c.in_ok-exact.ensures.keys) in
     let others : (row : ℕ) → has_row c.reverse.new.self.items row ≡ is_about Anything (slice_get exact.keys.items row) = λ row.
-    sym (list_any-IsPermutation (λ r. eqb r row) _ _ c.reverse.ensures.permutation) ∙ c.in_ok-others.ensures row ∙ ap (λ l. is_about Anything (slice_get l row)) (c.deref.ensures.value ∙ kept) in
+    sym (list_any-IsPermutation (λ r. eqb r row) _ _ c.reverse.ensures.permutation)
+    ∙ c.in_ok-others.ensures row ∙ ap (λ l. is_about Anything (slice_get l row)) (c.deref.ensures.value ∙ kept) in
     elim c.if-have_capitals.branch [
       | then-have_capitals+in_ok-lower_keys+in_ok-sorted w ↦
           let same = ap (λ o. unwrap_or o exact) w.folded-is in

@@ -22,7 +22,8 @@ invariant_of-self-2 c =
     let free : get_or flags c.args.number false ≡ false =
     ap (λ l. get_or l c.args.number false) c.self.view_is ∙ sym c.has.ensures ∙ c.if-has.false in
     let counted = count_set flags c.args.number w.count 1 false lt c.self.invariant (sym free) refl in
-    counted.1 ∙ ap count_wanted (sym (flags_more w (record w { numbers = c.insert.new.self; count = w.count + 1 }) c.args.number (omega (arith, lt, length_flags w)) refl refl
+    counted.1 ∙ ap count_wanted (sym (flags_more w (record w { numbers = c.insert.new.self; count = w.count + 1 }) c.args.number
+    (omega (arith, lt, length_flags w)) refl refl
     c.in_ok-insert.ensures.updates.1 c.in_ok-insert.ensures.updates.2))
 
 pub returns-clause-ok : goal.returns-clause-ok

@@ -8,7 +8,8 @@ use Rattle.gix_attributes.proofs.search.selection.push_change.Goals as goal
 pub returns-in_ok-push-clause-made : goal.returns-in_ok-push-clause-made
 returns-in_ok-push-clause-made c = λ done made.
     made_by_change c.args.collection.now c.args.bodies.now done c.args.changes.now.items c.push.new.self.items _ c.in_ok-push.ensures.items
-    (omega (arith, c.if-number-len.false, c.len.ensures.count)) c.len.ensures.sound.counted (c.in_ok-body.ensures ∙ c.as_slice-body.ensures ∙ c.body.ensures) made
+    (omega (arith, c.if-number-len.false, c.len.ensures.count)) c.len.ensures.sound.counted
+    (c.in_ok-body.ensures ∙ c.as_slice-body.ensures ∙ c.body.ensures) made
 
 pub returns-else-not-is_same-clause-made : goal.returns-else-not-is_same-clause-made
 returns-else-not-is_same-clause-made c = λ done made.

@@ -11,7 +11,8 @@ invariant_of-result c =
     c.in_ok-copy_of.ensures ∙ ap selection_view c.deref.ensures.value in
     record {
       wanted = rw (selected, c.in_ok-clone.ensures) c.self.invariant.wanted;
-      macros = copied_elsewhere _ (λ x y e. e) o.macros c.in_ok-clone-2.field-0 o.state.bodies c.in_ok-clone.field-0.bodies c.in_ok-clone-2.ensures.cases
+      macros = copied_elsewhere _ (λ x y e. e) o.macros c.in_ok-clone-2.field-0 o.state.bodies
+          c.in_ok-clone.field-0.bodies c.in_ok-clone-2.ensures.cases
           (ap (λ (s : SearchContents). s.bodies) c.in_ok-clone.ensures) c.self.invariant.macros;
       no_pattern = c.no_pattern.ensures;
     }

@@ -48,7 +48,8 @@ invariant_of-self-2 c =
     (count ∙ c.len.ensures.count) c.bodies.ensures.bodies c.in_ok-changes.ensures.made in
     record {
       macros = copied_elsewhere _ (λ x y e. e) c.macros.result.now c.in_ok-macros.macros (bodies_of known) c.set_up.new.self.bodies
-          c.in_ok-macros.ensures.cases (ap (λ (s : SearchContents). s.bodies) made ∙ bodies) (listed_elsewhere known c.macros.result.now c.macros.ensures);
+          c.in_ok-macros.ensures.cases (ap (λ (s : SearchContents). s.bodies) made ∙ bodies)
+          (listed_elsewhere known c.macros.result.now c.macros.ensures);
       wanted = ap (λ (s : SearchContents). s.wanted) made ∙ flags ∙ ap (flags_of seen)
           (sym (ap (λ (s : SearchContents). length s.answers) made ∙ length-map wanted (λ flag. None) ∙ count));
       no_pattern = c.self.invariant.no_pattern;
