@@ -19,9 +19,12 @@ remove-requires c =
 pub returns-clause-collection : goal.returns-clause-collection
 returns-clause-collection c =
     let left = c.pop.new.self.lists.items in
-    let last = c.in_ok-last.last in
-    (last.list_id, list_ids_of left, ap list_ids_of c.in_ok-last.ensures.last ∙ map-append (λ s. s.list_id) left (last ∷ []),
-    c.remove.ensures.removed)
+    let last = c.in_ok-last.last in (
+      last.list_id,
+      list_ids_of left,
+      ap list_ids_of c.in_ok-last.ensures.last ∙ map-append (λ s. s.list_id) left (last ∷ []),
+      c.remove.ensures.removed,
+    )
 
 pub returns-clause-held : goal.returns-clause-held
 returns-clause-held c =
