@@ -1,14 +1,16 @@
 -- The lists that apply to a path are found by the keys of its folders.
 use Rattle.std.proofs.Common.{◌≡◌, ℕ, zero, suc, ◌+◌, ◌-◌, ◌==◌, ◌<◌, ◌≤◌, inl, inr, Bool, true, false, List, [], ◌∷◌, ◌++◌, length}
-use Rattle.std.proofs.Common.{take, drop, min}
+use Rattle.std.proofs.Common.{get_or, take, drop, min}
 use Rattle.std.proofs.Common.{Option, Some, None, refl, sym, ap, subst, ◌∙◌, arith}
 use Rattle.std.specs.Prelude.{Contains, MatchOption, ⊤, option_map, slice_get, slice_index, if◌then◌else◌}
 use Rattle.std.specs.Char.{to_ascii_lowercase}
 use Rattle.std.specs.Hash.DefaultHasher as sip
 use Rattle.std.specs.declared.hash.DefaultHasher.{DefaultHasher}
-use Rattle.std.proofs.Math.Seq.{take-add, take-append_seam}
+use Rattle.std.proofs.Math.Seq.{get_or-append_seam, take-add, take-append_seam}
 use Rattle.std.proofs.lemmas.Bool.Decides.{eqb_tells}
-use Rattle.std.proofs.lemmas.List.{get_or-map, get_or-take, length-append, length-map, length-take, map-append, take-map}
+use Rattle.std.proofs.lemmas.List.Elements.{Contains-get_or}
+use Rattle.std.proofs.lemmas.List.Sorted.{IsNonDecreasingBy-from_default}
+use Rattle.std.proofs.lemmas.List.{get_or-map, get_or_append_left, get_or-take, length-append, length-map, length-take, map-append, take-map}
 use Rattle.std.proofs.lemmas.List.Sums.{fold-append}
 use Rattle.std.proofs.lemmas.Option.{slice_get-map, slice_get_within}
 use Rattle.std.proofs.lemmas.Slice.Eq.{bytes_eq-Decides}
@@ -21,6 +23,8 @@ use Rattle.attr_glob.specs.declared.pattern.Case.TheVariants.{Sensitive, Fold}
 use Rattle.attr_search.specs.declared.indexed_list.IndexedList.{IndexedList}
 use Rattle.attr_search.specs.inner.BaseKeys.{base_keys, longest_base}
 use Rattle.attr_search.proofs.KeyedLemmas.{below_or, some_inside}
+use Rattle.attr_search.specs.inner.Counting.{CountUp}
+use Rattle.attr_search.specs.inner.FoundLists.{AreListsFor}
 use Rattle.attr_search.specs.inner.FolderKeys.{EndsFolder, GathersFolders, HasNumbersOf, base_len, base_text, small_letters, text_key}
 
 -- the keys and the longest base of one more list, and of one less
@@ -177,3 +181,29 @@ list_found lists keys path found rest longest case number list is le gathers has
     gathers at.place at.within at.ends number
     (ap (λ ks. slice_get ks number) is ∙ slice_get-map (λ (l : IndexedList). l.base_key) lists number
     ∙ ap (option_map (λ (l : IndexedList). l.base_key)) has ∙ ap Some key)
+
+-- one number more
+pub count_on : (count : ℕ) (numbers : List ℕ) → CountUp count numbers → CountUp (count + 1) (numbers ++ count ∷ [])
+count_on count numbers up =
+    record {
+      len = length-append numbers (count ∷ []) ∙ ap (λ n. n + 1) up.len;
+      each = λ place lt. elim (below_or place count lt) [
+        | inl less ↦ get_or_append_left numbers (count ∷ []) 0 place (omega (arith, less, up.len)) ∙ up.each place (omega (arith, less))
+        | inr last ↦
+            let same : place ≡ length numbers = omega (arith, last, up.len) in
+            ap (λ p. get_or (numbers ++ count ∷ []) p 0) same ∙ get_or-append_seam numbers count [] 0 ∙ omega (arith, last)
+      ];
+    }
+
+-- all lists are found by the numbers below their count
+pub all_found : (path : List ℕ) (lists : List IndexedList) (numbers : List ℕ) → CountUp (length lists) numbers → AreListsFor path lists numbers
+all_found path lists numbers up =
+    record {
+      all = λ case number list rest has applies.
+          let lt = slice_get_within lists number list has in
+          subst (Contains numbers) (up.each number lt) (Contains-get_or numbers number 0 (omega (arith, lt, up.len)));
+      rising = IsNonDecreasingBy-from_default (λ x. x) numbers 0 (λ i j le lt.
+          let first = up.each i (omega (arith, le, lt, up.len)) in
+          let second = up.each j (omega (arith, lt, up.len)) in
+          omega (arith, le, first, second));
+    }

@@ -2,6 +2,7 @@
 -- believed.
 pub mod BaseKeys
 pub mod BodyChanges
+pub mod Counting
 pub mod Filling
 pub mod FolderKeys
 pub mod FoundLists

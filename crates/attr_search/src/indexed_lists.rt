@@ -4,12 +4,16 @@ ghost use Rattle.std.specs.Prelude.{◌≡◌, ◌≤◌, [], ◌∷◌, ◌++�
 ghost use Rattle.attr_glob.specs.Views.{base_bytes};
 ghost use Rattle.attr_search.specs.inner.BaseKeys.{base_keys, longest_base};
 ghost use Rattle.attr_search.specs.inner.FolderKeys.{GathersFolders, base_len};
+ghost use Rattle.attr_search.specs.inner.Counting.{CountUp};
 
 use crate::folder_keys::fold_into;
 use crate::indexed_list::IndexedList;
 use crate::numbers_by_key::NumbersByKey;
 use std::alloc::{AllocError, Global};
 use std::hash::{DefaultHasher, Hasher};
+
+// So few lists are all found: to compare their bases with a path costs less than the hashes of its folders.
+const FEW: usize = 4;
 
 /// The lists of a search, the last of which takes precedence. They compare as the lists.
 #[derive(Drop)]
@@ -112,6 +116,10 @@ impl IndexedLists {
     ) -> Result<(), AllocError>
         ensures { OnOk result (AreListsFor path.now self.now.lists.items numbers.new.items) }
     {
+        if self.lists.len() <= FEW {
+            put_numbers(self.lists.len(), numbers)?;
+            return Ok(());
+        }
         numbers.clear();
         fold_into(&path[..path.len().min(self.longest)], folded)?;
         self.gather(folded, numbers)?;
@@ -136,6 +144,17 @@ impl IndexedLists {
         }
         Ok(())
     }
+}
+
+// The numbers below a count, in their order, in place of what the buffer had.
+fn put_numbers(count: usize, numbers: &mut Vec<usize>) -> Result<(), AllocError>
+    ensures { OnOk result (CountUp count numbers.new.items) }
+{
+    numbers.clear();
+    for number in 0..count {
+        numbers.push(number)?;
+    }
+    Ok(())
 }
 
 fn base_len(base: &Option<Vec<u8>>) -> usize

@@ -10,6 +10,7 @@ mod line_keys;
 pub mod matching_line;
 pub mod numbers_by_key;
 pub mod path_query;
+mod recent_places;
 pub mod refmap;
 pub mod search_state;
 pub mod slot_filler;

@@ -1,6 +1,7 @@
 //! The parts of matches: patterns, assignments and sources. Each is stored once, and has a place: its index, from 0.
 
 ghost use Rattle.std.specs.Prelude.{◌≡◌, ◌<◌, ⊤, [], Some, IfOk, MatchOption, length, map, option_map, slice_get, slice_index_or, string_bytes};
+ghost use Rattle.std.specs.Bool.{OnTrue};
 ghost use Rattle.attr_glob.specs.Views.{pattern_view};
 ghost use Rattle.attr_search.specs.inner.Pending.{line_origin};
 ghost use Rattle.attr_search.specs.inner.RefMapParts.{KeepsRefs, Grows, no_assignment, no_pattern};
@@ -8,9 +9,11 @@ ghost use Rattle.attr_search.specs.Matches.{match_view};
 ghost use Rattle.attr_search.specs.inner.Refs.{RefersTo, IsMatchRef, match_by_ref};
 
 use crate::matching_line::MatchingLine;
+use crate::recent_places::{KEPT, RecentPlaces};
 use attr_glob::Pattern;
-use attr_lists::types::{Match, MatchKind, MatchLocation};
-use attr_text::Assignment;
+use attr_glob::search::pattern::Mapping;
+use attr_lists::types::{Match, MatchKind, MatchLocation, TrackedAssignment, Value};
+use attr_text::{Assignment, State};
 use indexmap::IndexSet;
 use std::alloc::{AllocError, Global};
 use std::marker::Model;
@@ -43,6 +46,10 @@ pub struct RefMap {
     patterns: IndexSet<Pattern>,
     assignments: IndexSet<Assignment>,
     sources: IndexSet<String>,
+    // Where lines and items were stored of late, which is tried before they are looked up.
+    recent_patterns: RecentPlaces,
+    recent_assignments: RecentPlaces,
+    recent_source: usize,
 }
 
 impl Model for RefMap {
@@ -64,6 +71,9 @@ impl RefMap {
             patterns: IndexSet::new(alloc),
             assignments: IndexSet::new(alloc),
             sources: IndexSet::new(alloc),
+            recent_patterns: RecentPlaces::new(alloc),
+            recent_assignments: RecentPlaces::new(alloc),
+            recent_source: 0,
         }
     }
 
@@ -85,8 +95,10 @@ impl RefMap {
         ensures line { IfOk result (λ l. RefersTo self.new l (line_origin line.entry)) }
         ensures extends { KeepsRefs self.old self.new }
     {
-        let pattern = pattern_place(&mut self.patterns, alloc, &line.mapping.pattern)?;
-        let source = optional_source_place(&mut self.sources, alloc, line.source)?;
+        let recent = &mut self.recent_patterns;
+        let pattern = pattern_place(&mut self.patterns, recent, alloc, line.mapping)?;
+        let recent = &mut self.recent_source;
+        let source = optional_source_place(&mut self.sources, recent, alloc, line.source)?;
         Ok(OriginRef {
             pattern,
             source,
@@ -94,7 +106,7 @@ impl RefMap {
         })
     }
 
-    /// Stores an assignment if it is new, and returns its place. What was stored keeps its place.
+    /// Stores an item's assignment if it is new, and returns its place. What was stored keeps its place.
     ///
     /// # Errors
     ///
@@ -102,13 +114,14 @@ impl RefMap {
     pub fn assignment(
         &mut self,
         alloc: Global,
-        assignment: &Assignment,
+        item: &TrackedAssignment,
     ) -> Result<usize, AllocError>
         ensures place { IfOk result (λ place.
-            slice_get self.new.assignments place ≡ Some assignment.now) }
+            slice_get self.new.assignments place ≡ Some item.now.inner) }
         ensures extends { KeepsRefs self.old self.new }
     {
-        assignment_place(&mut self.assignments, alloc, assignment)
+        let recent = &mut self.recent_assignments;
+        assignment_place(&mut self.assignments, recent, alloc, item)
     }
 
     /// A copy. Each part has the same place in it.
@@ -123,6 +136,9 @@ impl RefMap {
             patterns: copy_of_patterns(alloc, &self.patterns)?,
             assignments: copy_of_assignments(alloc, &self.assignments)?,
             sources: copy_of_sources(alloc, &self.sources)?,
+            recent_patterns: RecentPlaces::new(alloc),
+            recent_assignments: RecentPlaces::new(alloc),
+            recent_source: 0,
         })
     }
 
@@ -178,7 +194,55 @@ impl RefMap {
     }
 }
 
+// The place of a line's pattern. The place that was noted last for such a line is tried first.
 fn pattern_place(
+    patterns: &mut IndexSet<Pattern>,
+    recent: &mut RecentPlaces,
+    alloc: Global,
+    line: &Mapping<Value>,
+) -> Result<usize, AllocError>
+    ensures place { IfOk result (λ place. option_map pattern_view
+        (slice_get patterns.new.keys place) ≡ Some (pattern_view line.now.pattern)) }
+    ensures grows { Grows patterns.old.keys patterns.new.keys }
+{
+    let number = line_number(line);
+    let place = recent.get(number);
+    if has_pattern(patterns, place, &line.pattern) {
+        return Ok(place);
+    }
+    let place = found_pattern(patterns, alloc, &line.pattern)?;
+    recent.note(number, place)?;
+    Ok(place)
+}
+
+// A number for a line by which its pattern is noted.
+fn line_number(line: &Mapping<Value>) -> usize {
+    line.sequence_number % KEPT + text_number(&line.pattern.text)
+}
+
+// A number for a text, by its length and its last byte.
+fn text_number(text: &[u8]) -> usize
+    ensures { result < 2304 }
+{
+    match text.last() {
+        Some(byte) => text.len() % KEPT * 8 + usize::from(*byte),
+        None => 0,
+    }
+}
+
+// Whether the pattern has this place.
+fn has_pattern(patterns: &IndexSet<Pattern>, place: usize, pattern: &Pattern) -> bool
+    ensures { OnTrue result (option_map pattern_view (slice_get patterns.now.keys place)
+        ≡ Some (pattern_view pattern.now)) }
+{
+    match patterns.get_index(place) {
+        Some(stored) => *pattern == *stored,
+        None => false,
+    }
+}
+
+// The place of a pattern by its hash. It is stored if it is new.
+fn found_pattern(
     patterns: &mut IndexSet<Pattern>,
     alloc: Global,
     pattern: &Pattern,
@@ -194,7 +258,50 @@ fn pattern_place(
     Ok(place)
 }
 
+// The place of an item's assignment. The place that was noted last for such an item is tried first.
 fn assignment_place(
+    assignments: &mut IndexSet<Assignment>,
+    recent: &mut RecentPlaces,
+    alloc: Global,
+    item: &TrackedAssignment,
+) -> Result<usize, AllocError>
+    ensures place { IfOk result (λ place.
+        slice_get assignments.new.keys place ≡ Some item.now.inner) }
+    ensures grows { Grows assignments.old.keys assignments.new.keys }
+{
+    let number = item_number(item);
+    let place = recent.get(number);
+    if has_assignment(assignments, place, &item.inner) {
+        return Ok(place);
+    }
+    let place = found_assignment(assignments, alloc, &item.inner)?;
+    recent.note(number, place)?;
+    Ok(place)
+}
+
+// A number for an item by which its assignment is noted. Items that set different attributes seldom share one.
+fn item_number(item: &TrackedAssignment) -> usize {
+    let state = match &item.inner.state {
+        State::Set => 0,
+        State::Unset => 64,
+        State::Unspecified => 128,
+        State::Value(value) => text_number(value.as_ref().as_bstr().as_bytes()),
+    };
+    item.id.0 % KEPT + state
+}
+
+// Whether the assignment has this place.
+fn has_assignment(assignments: &IndexSet<Assignment>, place: usize, assignment: &Assignment) -> bool
+    ensures { OnTrue result (slice_get assignments.now.keys place ≡ Some assignment.now) }
+{
+    match assignments.get_index(place) {
+        Some(stored) => *assignment == *stored,
+        None => false,
+    }
+}
+
+// The place of an assignment by its hash. It is stored if it is new.
+fn found_assignment(
     assignments: &mut IndexSet<Assignment>,
     alloc: Global,
     assignment: &Assignment,
@@ -212,6 +319,7 @@ fn assignment_place(
 
 fn optional_source_place(
     sources: &mut IndexSet<String>,
+    recent: &mut usize,
     alloc: Global,
     source: &Option<String>,
 ) -> Result<Option<usize>, AllocError>
@@ -221,12 +329,43 @@ fn optional_source_place(
     ensures grows { Grows sources.old.keys sources.new.keys }
 {
     match source {
-        Some(source) => Ok(Some(source_place(sources, alloc, source.as_str())?)),
+        Some(source) => Ok(Some(source_place(sources, recent, alloc, source.as_str())?)),
         None => Ok(None),
     }
 }
 
+// The place of a source. The place that was found last is tried first.
 fn source_place(
+    sources: &mut IndexSet<String>,
+    recent: &mut usize,
+    alloc: Global,
+    source: &str,
+) -> Result<usize, AllocError>
+    ensures place { IfOk result (λ place.
+        option_map string_bytes (slice_get sources.new.keys place) ≡ Some source.now) }
+    ensures grows { Grows sources.old.keys sources.new.keys }
+{
+    if has_source(sources, *recent, source) {
+        return Ok(*recent);
+    }
+    let place = found_source(sources, alloc, source)?;
+    *recent = place;
+    Ok(place)
+}
+
+// Whether the source has this place.
+fn has_source(sources: &IndexSet<String>, place: usize, source: &str) -> bool
+    ensures { OnTrue result
+        (option_map string_bytes (slice_get sources.now.keys place) ≡ Some source.now) }
+{
+    match sources.get_index(place) {
+        Some(stored) => source == stored.as_str(),
+        None => false,
+    }
+}
+
+// The place of a source by its hash. It is stored if it is new.
+fn found_source(
     sources: &mut IndexSet<String>,
     alloc: Global,
     source: &str,

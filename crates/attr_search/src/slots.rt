@@ -287,7 +287,7 @@ impl MatchStore {
             match_by_ref self.new.refs m ≡ item_match line.entry item.now kind) }
     {
         let origin = self.store_line(alloc, line)?;
-        let assignment = self.refs.assignment(alloc, &item.inner)?;
+        let assignment = self.refs.assignment(alloc, item)?;
         Ok(MatchRef {
             line: origin,
             assignment,

@@ -3,7 +3,7 @@ use Rattle.attr_glob.specs.Views.{pattern_view}
 use Rattle.attr_glob.specs.contracts.pattern.PatternPartialEq.TheImpl as pattern
 use Rattle.attr_glob.proofs.ForCallers.{read_same}
 use Rattle.attr_search.proofs.RefLemmas.{found_at}
-use Rattle.attr_search.proofs.refmap.pattern_place.Goals as goal
+use Rattle.attr_search.proofs.refmap.found_pattern.Goals as goal
 
 pub returns-in-Some-clause-place : goal.returns-in-Some-clause-place
 returns-in-Some-clause-place c =

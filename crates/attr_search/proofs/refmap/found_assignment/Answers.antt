@@ -1,7 +1,7 @@
 use Rattle.std.proofs.Common.{sym}
 use Rattle.attr_text.specs.contracts.assignment.AssignmentPartialEq.TheImpl as assignment
 use Rattle.attr_search.proofs.RefLemmas.{found_key, assignment_same}
-use Rattle.attr_search.proofs.refmap.assignment_place.Goals as goal
+use Rattle.attr_search.proofs.refmap.found_assignment.Goals as goal
 
 pub returns-in-Some-clause-place : goal.returns-in-Some-clause-place
 returns-in-Some-clause-place c =

@@ -2,7 +2,7 @@ use Rattle.std.proofs.Common.{sym, string_bytes}
 use Rattle.std.specs.Str.{bytes_eq}
 use Rattle.std.specs.Cmp.Lexicographic.{bytes_decides}
 use Rattle.attr_search.proofs.RefLemmas.{found_at}
-use Rattle.attr_search.proofs.refmap.source_place.Goals as goal
+use Rattle.attr_search.proofs.refmap.found_source.Goals as goal
 
 pub returns-in-Some-clause-place : goal.returns-in-Some-clause-place
 returns-in-Some-clause-place c =
