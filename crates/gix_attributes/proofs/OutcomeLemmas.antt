@@ -25,7 +25,7 @@ use Rattle.attr_search.specs.inner.Slotted.{BodiesHaveSlots}
 use Rattle.gix_attributes.specs.Searching.{KeepsAllButAnswers}
 use Rattle.gix_attributes.specs.Selection.{wanted_view, selection_view}
 use Rattle.attr_search.specs.Slots.{AreFreeFrom, IsNextFilled, Matched}
-use Rattle.gix_attributes.specs.declared.search.selection.SelectedName.{SelectedName}
+use Rattle.gix_attributes.specs.declared.search.selected_name.SelectedName.{SelectedName}
 
 -- names stay what they are where they are looked up
 names_looked_up : (names selected : List (List ℕ)) → names_selected (looked_up names selected) ≡ selected

@@ -30,7 +30,7 @@ use Rattle.gix_attributes.specs.Selection.{wanted_view, selection_view}
 use Rattle.attr_search.specs.inner.Slotted.{bodies_view}
 use Rattle.attr_search.specs.inner.BodyChanges.{changed_bodies, sized_bodies}
 use Rattle.attr_search.specs.declared.bodies.BodyChange.{BodyChange}
-use Rattle.gix_attributes.specs.declared.search.selection.SelectedName.{SelectedName}
+use Rattle.gix_attributes.specs.declared.search.selected_name.SelectedName.{SelectedName}
 
 or_pushed : (a b : Bool) → a || (b || false) ≡ a || b
 or_pushed true b = refl

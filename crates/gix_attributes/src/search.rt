@@ -4,7 +4,7 @@
 //! - `files`: lists that are read from files, and the global ones.
 //! - `collection`: [`MetadataCollection`], the names of attributes by number, with the bodies of macros.
 //! - `outcome`: [`Outcome`], which a search fills.
-//! - `selection`: the names that an outcome looks for.
+//! - `selection`, `selected_name`: the names that an outcome looks for.
 //! - `matches`: [`Matches`] and [`Selected`], the iterators over an outcome.
 //! - [`laws`]: facts of all searches.
 
@@ -14,6 +14,7 @@ mod files;
 pub mod laws;
 mod matches;
 mod outcome;
+mod selected_name;
 mod selection;
 
 pub use crate::search::attributes::Search;

@@ -1,18 +1,18 @@
 //! Iterators over the matches of an outcome.
 
-ghost use Rattle.std.specs.Prelude.{◌≡◌, [], ◌∷◌, MatchOption, codes, drop};
+ghost use Rattle.std.specs.Prelude.{◌≡◌, [], ◌∷◌, MatchOption, drop};
+ghost use Rattle.std.specs.Rc.{rc_str_bytes};
 ghost use Rattle.std.specs.Iterator.{YieldsFirstBy, item_count};
 ghost use Rattle.attr_glob.specs.Views.{pattern_view};
-ghost use Rattle.attr_text.specs.TextViews.{name_text};
-ghost use Rattle.gix_attributes.specs.Contents.{reported_name, found_in, selected_in, unspecified};
+ghost use Rattle.gix_attributes.specs.Contents.{found_in, selected_in, unspecified};
 ghost use Rattle.attr_search.specs.Matches.{match_view};
 ghost use Rattle.attr_search.specs.inner.RefMapParts.{no_pattern};
 
 use crate::search::outcome::Outcome;
+use crate::search::selected_name::SelectedName;
 use crate::search::{AttributeId, Match, MatchKind, MatchLocation};
 use attr_glob::Pattern;
-use attr_text::{AssignmentRef, NameRef, StateRef};
-use bstr::BStr;
+use attr_text::{AssignmentRef, StateRef};
 use std::marker::Model;
 
 /// An iterator over the matches of an outcome, by the numbers of their attributes, whatever is selected.
@@ -120,14 +120,14 @@ impl<'a> Iterator for Selected<'a> {
 
 /// The match of a name that no matching line assigns: unspecified (gitattributes page), with the empty pattern, no
 /// source and line 0 (own).
-pub(crate) fn unspecified<'a>(name: &'a str, empty: &'a Pattern) -> Match<'a>
+pub(crate) fn unspecified<'a>(selected: &'a SelectedName, empty: &'a Pattern) -> Match<'a>
     requires { pattern_view empty.now ≡ no_pattern }
-    ensures { match_view result ≡ unspecified name.now }
+    ensures { match_view result ≡ unspecified (rc_str_bytes selected.now.name) }
 {
     Match {
         pattern: empty,
         assignment: AssignmentRef {
-            name: reported_name(name),
+            name: selected.reported(),
             state: StateRef::Unspecified,
         },
         kind: MatchKind::Attribute { macro_id: None },
@@ -135,25 +135,5 @@ pub(crate) fn unspecified<'a>(name: &'a str, empty: &'a Pattern) -> Match<'a>
             source: None,
             sequence_number: 0,
         },
-    }
-}
-
-// The name that is reported for a selected text.
-fn reported_name(name: &str) -> NameRef<'_>
-    ensures { name_text result ≡ reported_name name.now }
-{
-    match NameRef::try_from(BStr::from(name)) {
-        Ok(name) => name,
-        Err(_) => invalid_name(),
-    }
-}
-
-// The name that is reported for a text that is no valid name.
-fn invalid_name<'a>() -> NameRef<'a>
-    ensures { name_text result ≡ codes "invalid" }
-{
-    match NameRef::try_from(BStr::from("invalid")) {
-        Ok(name) => name,
-        Err(_) => unreachable!(),
     }
 }

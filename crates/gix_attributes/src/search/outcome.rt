@@ -18,8 +18,8 @@ ghost use Rattle.attr_search.specs.inner.RefMapParts.{no_pattern};
 use crate::Search;
 use crate::search::collection::MetadataCollection;
 use crate::search::matches::{Matches, Selected, unspecified};
-use crate::search::selection::{self, SelectedName};
-use crate::search::{AttributeId, Match, TrackedAssignment, Value};
+use crate::search::selected_name::SelectedName;
+use crate::search::{AttributeId, Match, TrackedAssignment, Value, selection};
 use attr_glob::Pattern;
 use attr_glob::pattern::Mode;
 use attr_glob::search::pattern::Mapping;
@@ -307,7 +307,7 @@ impl Outcome {
         };
         match found {
             Some(found) => found,
-            None => unspecified(selected.name.as_str(), &self.no_pattern),
+            None => unspecified(selected, &self.no_pattern),
         }
     }
 

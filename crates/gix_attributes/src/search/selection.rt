@@ -10,20 +10,11 @@ ghost use Rattle.attr_search.specs.inner.Slotted.{bodies_view};
 
 use crate::search::TrackedAssignment;
 use crate::search::collection::MetadataCollection;
+use crate::search::selected_name::SelectedName;
 use attr_search::bodies::{BodyChange, copy_of_body};
 use attr_search::wanted::WantedFlags;
 use std::alloc::{AllocError, Global};
 use std::collections::BTreeSet;
-use std::rc::RcStr;
-
-/// A selected name, with its number if the collection has it.
-#[derive(Drop)]
-pub(crate) struct SelectedName {
-    /// The name as it was selected. It need not be a valid name.
-    pub name: RcStr,
-    /// The number that the collection had for it.
-    pub number: Option<usize>,
-}
 
 /// Looks up the numbers of names.
 pub(crate) fn look_up(
@@ -37,8 +28,7 @@ pub(crate) fn look_up(
     let mut selected = Vec::new(alloc);
     for name in names {
         let number = collection.number_of(name);
-        let name = RcStr::from_str(alloc, name)?;
-        selected.push(SelectedName { name, number })?;
+        selected.push(SelectedName::new(alloc, name, number)?)?;
     }
     Ok(selected)
 }
@@ -55,8 +45,7 @@ pub(crate) fn look_up_again(
     let mut again = Vec::new(alloc);
     for wanted in selected {
         let number = collection.number_of(wanted.name.as_str());
-        let name = wanted.name.clone()?;
-        again.push(SelectedName { name, number })?;
+        again.push(wanted.numbered(alloc, number)?)?;
     }
     Ok(again)
 }
@@ -70,11 +59,7 @@ pub(crate) fn copy_of(
 {
     let mut copy = Vec::new(alloc);
     for wanted in selected {
-        let name = wanted.name.clone()?;
-        copy.push(SelectedName {
-            name,
-            number: wanted.number,
-        })?;
+        copy.push(wanted.numbered(alloc, wanted.number)?)?;
     }
     Ok(copy)
 }
