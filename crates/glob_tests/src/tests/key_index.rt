@@ -4,7 +4,7 @@ use attr_keys::key::Key;
 use attr_keys::key_index::{KeyIndex, Texts};
 use attr_keys::line_key::{Shape, candidate_key, line_key};
 use std::alloc::{AllocError, Global};
-use std::test::Fail;
+use std::process::Abort;
 
 fn named(text: &[u8], wildcard: Option<usize>) -> Shape<'_> {
     Shape {
@@ -26,22 +26,85 @@ fn placed(text: &[u8], wildcard: Option<usize>) -> Shape<'_> {
     }
 }
 
-// The keys of README, *.c, ext0_*, src/lib.rs, docs/**, *foo*, a macro, readme and README.
-fn keys(alloc: Global) -> Result<KeyIndex, AllocError> {
-    let mut keys = Vec::new(alloc);
-    keys.push(line_key(alloc, named(b"README", None))?)?;
-    let end = Shape {
-        text: b"*.c",
+fn ending(text: &[u8]) -> Shape<'_> {
+    Shape {
+        text,
         wildcard: Some(0),
         is_macro: false,
         asks_name: true,
         is_end: true,
+    }
+}
+
+fn push_keys(alloc: Global, shapes: &[Shape<'_>], keys: &mut Vec<Key>) -> Result<(), AllocError> {
+    for shape in shapes {
+        keys.push(line_key(alloc, *shape)?)?;
+    }
+    Ok(())
+}
+
+fn index_of(alloc: Global, shapes: &[Shape<'_>]) -> Result<KeyIndex, AllocError> {
+    let mut keys = Vec::new(alloc);
+    push_keys(alloc, shapes, &mut keys)?;
+    KeyIndex::of(alloc, keys)
+}
+
+// The tables are functions of their own: a test that has both an index and a table takes long to prove.
+
+/// A look-up, and the lines that it finds.
+#[derive(Clone, Copy)]
+struct LookUp<'a> {
+    name: &'a [u8],
+    path: &'a [u8],
+    fold: bool,
+    lines: &'a [usize],
+}
+
+fn found(alloc: Global, keys: &KeyIndex, lookup: LookUp<'_>) -> Result<Vec<usize>, AllocError> {
+    let texts = Texts {
+        name: lookup.name,
+        path: lookup.path,
+        fold: lookup.fold,
     };
-    keys.push(line_key(alloc, end)?)?;
-    keys.push(line_key(alloc, named(b"ext0_*", Some(5)))?)?;
-    keys.push(line_key(alloc, placed(b"src/lib.rs", None))?)?;
-    keys.push(line_key(alloc, placed(b"docs/**", Some(5)))?)?;
-    keys.push(line_key(alloc, named(b"*foo*", Some(0)))?)?;
+    let mut turned = Vec::new(alloc);
+    let mut found = Vec::new(alloc);
+    keys.find(texts, &mut turned, &mut found)?;
+    Ok(found)
+}
+
+fn expect(
+    rt: &impl Abort,
+    alloc: Global,
+    keys: &KeyIndex,
+    lookups: &[LookUp<'_>],
+) -> Result<(), AllocError> {
+    for lookup in lookups {
+        let lines = found(alloc, keys, *lookup)?;
+        assert_eq!(rt; lines.as_slice(), lookup.lines);
+    }
+    Ok(())
+}
+
+fn exact(name: &'static [u8], path: &'static [u8], lines: &'static [usize]) -> LookUp<'static> {
+    LookUp {
+        name,
+        path,
+        fold: false,
+        lines,
+    }
+}
+
+fn folded(name: &'static [u8], path: &'static [u8], lines: &'static [usize]) -> LookUp<'static> {
+    LookUp {
+        name,
+        path,
+        fold: true,
+        lines,
+    }
+}
+
+// The keys of README, *.c, ext0_*, src/lib.rs, docs/**, *foo*, a macro, readme and README.
+fn keys(alloc: Global) -> Result<KeyIndex, AllocError> {
     let definition = Shape {
         text: b"README",
         wildcard: None,
@@ -49,119 +112,130 @@ fn keys(alloc: Global) -> Result<KeyIndex, AllocError> {
         asks_name: true,
         is_end: true,
     };
-    keys.push(line_key(alloc, definition)?)?;
-    keys.push(line_key(alloc, named(b"readme", None))?)?;
-    keys.push(line_key(alloc, named(b"README", None))?)?;
+    let shapes = [
+        named(b"README", None),
+        ending(b"*.c"),
+        named(b"ext0_*", Some(5)),
+        placed(b"src/lib.rs", None),
+        placed(b"docs/**", Some(5)),
+        named(b"*foo*", Some(0)),
+        definition,
+        named(b"readme", None),
+        named(b"README", None),
+    ];
+    index_of(alloc, &shapes)
+}
+
+fn each_key() -> [LookUp<'static>; 7] {
+    [
+        exact(b"ext0_a.c", b"docs/ext0_a.c", &[5, 4, 2, 1]),
+        exact(b"README", b"README", &[8, 5, 0]),
+        folded(b"README", b"README", &[8, 7, 5, 0]),
+        exact(b"lib.rs", b"src/lib.rs", &[5, 3]),
+        folded(b"lib.rsx", b"src/lib.rsx", &[5]),
+        exact(b"LIB.RS", b"SRC/LIB.RS", &[5]),
+        folded(b"LIB.RS", b"SRC/LIB.RS", &[5, 3]),
+    ]
+}
+
+#[test]
+fn lines_of_each_key(rt: HostRuntime) -> Result<(), AllocError> {
+    let lookups = each_key();
+    let keys = keys(rt.alloc())?;
+    expect(&rt, rt.alloc(), &keys, &lookups)
+}
+
+fn last_bytes() -> [LookUp<'static>; 2] {
+    [exact(b".c", b"a/.c", &[5, 1]), exact(b"c", b"a/c", &[5])]
+}
+
+#[test]
+fn ends_are_told_by_their_last_bytes(rt: HostRuntime) -> Result<(), AllocError> {
+    let lookups = last_bytes();
+    let keys = keys(rt.alloc())?;
+    expect(&rt, rt.alloc(), &keys, &lookups)
+}
+
+// The candidate keys of ext0_*, ext0 and src/lib.rs.
+fn candidates(alloc: Global) -> Result<KeyIndex, AllocError> {
+    let shapes = [
+        named(b"ext0_*", Some(5)),
+        named(b"ext0", None),
+        placed(b"src/lib.rs", None),
+    ];
+    let mut keys: Vec<Key> = Vec::new(alloc);
+    for shape in shapes {
+        keys.push(candidate_key(alloc, shape)?)?;
+    }
     KeyIndex::of(alloc, keys)
 }
 
-fn found(
-    alloc: Global,
-    keys: &KeyIndex,
-    name: &[u8],
-    path: &[u8],
-    fold: bool,
-) -> Result<Vec<usize>, AllocError> {
-    let mut turned = Vec::new(alloc);
-    let mut found = Vec::new(alloc);
-    keys.find(Texts { name, path, fold }, &mut turned, &mut found)?;
-    Ok(found)
+#[test]
+fn candidates_know_no_fronts(rt: HostRuntime) -> Result<(), AllocError> {
+    let lookups = [exact(b"x", b"x", &[2, 0])];
+    let index = candidates(rt.alloc())?;
+    expect(&rt, rt.alloc(), &index, &lookups)
 }
 
-#[test]
-fn lines_of_each_key(rt: HostRuntime) -> Result<(), Fail> {
-    let keys = keys(rt.alloc())?;
-    let all = found(rt.alloc(), &keys, b"ext0_a.c", b"docs/ext0_a.c", false)?;
-    assert_eq!(rt; all.as_slice(), [5, 4, 2, 1].as_slice());
-    let exact = found(rt.alloc(), &keys, b"README", b"README", false)?;
-    assert_eq!(rt; exact.as_slice(), [8, 5, 0].as_slice());
-    let folded = found(rt.alloc(), &keys, b"README", b"README", true)?;
-    assert_eq!(rt; folded.as_slice(), [8, 7, 5, 0].as_slice());
-    let path = found(rt.alloc(), &keys, b"lib.rs", b"src/lib.rs", false)?;
-    assert_eq!(rt; path.as_slice(), [5, 3].as_slice());
-    let longer = found(rt.alloc(), &keys, b"lib.rsx", b"src/lib.rsx", true)?;
-    assert_eq!(rt; longer.as_slice(), [5].as_slice());
-    let other = found(rt.alloc(), &keys, b"LIB.RS", b"SRC/LIB.RS", false)?;
-    assert_eq!(rt; other.as_slice(), [5].as_slice());
-    let same = found(rt.alloc(), &keys, b"LIB.RS", b"SRC/LIB.RS", true)?;
-    assert_eq!(rt; same.as_slice(), [5, 3].as_slice());
-    Ok(())
-}
-
-#[test]
-fn ends_are_told_by_their_last_bytes(rt: HostRuntime) -> Result<(), Fail> {
-    let keys = keys(rt.alloc())?;
-    let end = found(rt.alloc(), &keys, b".c", b"a/.c", false)?;
-    assert_eq!(rt; end.as_slice(), [5, 1].as_slice());
-    let none = found(rt.alloc(), &keys, b"c", b"a/c", false)?;
-    assert_eq!(rt; none.as_slice(), [5].as_slice());
-    Ok(())
-}
-
-#[test]
-fn candidates_know_no_fronts(rt: HostRuntime) -> Result<(), Fail> {
-    let mut keys: Vec<Key> = Vec::new(rt.alloc());
-    keys.push(candidate_key(rt.alloc(), named(b"ext0_*", Some(5)))?)?;
-    keys.push(candidate_key(rt.alloc(), named(b"ext0", None))?)?;
-    keys.push(candidate_key(rt.alloc(), placed(b"src/lib.rs", None))?)?;
-    let index = KeyIndex::of(rt.alloc(), keys)?;
-    let all = found(rt.alloc(), &index, b"x", b"x", false)?;
-    assert_eq!(rt; all.as_slice(), [2, 0].as_slice());
-    Ok(())
+fn push_letter(alloc: Global, letter: u8, keys: &mut Vec<Key>) -> Result<(), AllocError> {
+    let text = [letter, b'/', b'x', letter];
+    let (end, front) = ([b'*', b'.', letter], [letter, b'/', b'*']);
+    let shapes = [
+        named(&text[2..], None),
+        ending(&end),
+        placed(&front, Some(2)),
+        placed(&text, None),
+    ];
+    push_keys(alloc, &shapes, keys)
 }
 
 // For each of twelve letters the keys of the name xa, *.a, a/* and a/xa, and so on.
 fn many_keys(alloc: Global) -> Result<KeyIndex, AllocError> {
     let mut keys = Vec::new(alloc);
     for letter in b"abcdefghijkl" {
-        let text = [*letter, b'/', b'x', *letter];
-        keys.push(line_key(alloc, named(&text[2..], None))?)?;
-        let end = Shape {
-            text: &[b'*', b'.', *letter],
-            wildcard: Some(0),
-            is_macro: false,
-            asks_name: true,
-            is_end: true,
-        };
-        keys.push(line_key(alloc, end)?)?;
-        keys.push(line_key(alloc, placed(&[*letter, b'/', b'*'], Some(2)))?)?;
-        keys.push(line_key(alloc, placed(&text, None))?)?;
+        push_letter(alloc, *letter, &mut keys)?;
     }
     KeyIndex::of(alloc, keys)
 }
 
-#[test]
-fn many_keys_are_looked_up(rt: HostRuntime) -> Result<(), Fail> {
-    let keys = many_keys(rt.alloc())?;
-    let whole = found(rt.alloc(), &keys, b"xb", b"c/xb", false)?;
-    assert_eq!(rt; whole.as_slice(), [10, 4].as_slice());
-    let path = found(rt.alloc(), &keys, b"xl", b"l/xl", false)?;
-    assert_eq!(rt; path.as_slice(), [47, 46, 44].as_slice());
-    let end = found(rt.alloc(), &keys, b"xb.d", b"b/xb.d", false)?;
-    assert_eq!(rt; end.as_slice(), [13, 6].as_slice());
-    let exact = found(rt.alloc(), &keys, b"XB", b"B/XB", false)?;
-    assert_eq!(rt; exact.is_empty(), true);
-    let folded = found(rt.alloc(), &keys, b"XB", b"B/XB", true)?;
-    assert_eq!(rt; folded.as_slice(), [7, 6, 4].as_slice());
-    Ok(())
+fn letters() -> [LookUp<'static>; 5] {
+    [
+        exact(b"xb", b"c/xb", &[10, 4]),
+        exact(b"xl", b"l/xl", &[47, 46, 44]),
+        exact(b"xb.d", b"b/xb.d", &[13, 6]),
+        exact(b"XB", b"B/XB", &[]),
+        folded(b"XB", b"B/XB", &[7, 6, 4]),
+    ]
 }
 
 #[test]
-fn fronts_of_fronts_are_found(rt: HostRuntime) -> Result<(), Fail> {
+fn many_keys_are_looked_up(rt: HostRuntime) -> Result<(), AllocError> {
+    let lookups = letters();
+    let keys = many_keys(rt.alloc())?;
+    expect(&rt, rt.alloc(), &keys, &lookups)
+}
+
+// The keys of a*, aa* and so on, up to twelve letters.
+fn fronts(alloc: Global) -> Result<KeyIndex, AllocError> {
     let text = b"aaaaaaaaaaaa*";
-    let mut keys = Vec::new(rt.alloc());
+    let mut keys = Vec::new(alloc);
     for front in 1..13 {
-        keys.push(line_key(rt.alloc(), named(&text[12 - front..], Some(front)))?)?;
+        keys.push(line_key(alloc, named(&text[12 - front..], Some(front)))?)?;
     }
-    let index = KeyIndex::of(rt.alloc(), keys)?;
-    let some = found(rt.alloc(), &index, b"aaab", b"aaab", false)?;
-    assert_eq!(rt; some.as_slice(), [2, 1, 0].as_slice());
-    let last = found(rt.alloc(), &index, b"aaaaaaaaaaa", b"x", false)?;
-    assert_eq!(rt;
-        last.as_slice(),
-        [10, 9, 8, 7, 6, 5, 4, 3, 2, 1, 0].as_slice()
-    );
-    let none = found(rt.alloc(), &index, b"ba", b"ba", true)?;
-    assert_eq!(rt; none.is_empty(), true);
-    Ok(())
+    KeyIndex::of(alloc, keys)
+}
+
+fn fronts_of_fronts() -> [LookUp<'static>; 3] {
+    [
+        exact(b"aaab", b"aaab", &[2, 1, 0]),
+        exact(b"aaaaaaaaaaa", b"x", &[10, 9, 8, 7, 6, 5, 4, 3, 2, 1, 0]),
+        folded(b"ba", b"ba", &[]),
+    ]
+}
+
+#[test]
+fn fronts_of_fronts_are_found(rt: HostRuntime) -> Result<(), AllocError> {
+    let lookups = fronts_of_fronts();
+    let index = fronts(rt.alloc())?;
+    expect(&rt, rt.alloc(), &index, &lookups)
 }
