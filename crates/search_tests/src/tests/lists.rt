@@ -81,7 +81,7 @@ fn pop(search: &mut Search, collection: &mut MetadataCollection) -> Option<List<
 }
 
 /// The names by number, each with its body.
-fn known(alloc: Global, collection: &MetadataCollection) -> Result<String, AllocError> {
+pub(super) fn known(alloc: Global, collection: &MetadataCollection) -> Result<String, AllocError> {
     let mut text = String::new(alloc);
     for (name, metadata) in collection.iter() {
         text.push_str(name)?;

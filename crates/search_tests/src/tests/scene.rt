@@ -1,6 +1,7 @@
 //! Steps of a test: lists are added and removed, outcomes are initialised and searched, and what they have is reported.
 //!
 //! The tests of searches are lists of steps, since a function that owns a search and an outcome takes long to prove.
+use super::lists::known;
 use bstr::BStr;
 use gix_attributes::Search;
 use gix_attributes::glob::pattern::Case;
@@ -60,6 +61,35 @@ pub(super) enum Step<'a> {
 struct Query<'a> {
     path: &'a str,
     case: Case,
+}
+
+/// What a scene shows of itself: its lists, its names with the bodies of macros, and the answers of its outcomes.
+#[derive(Drop)]
+struct State {
+    lists: String,
+    names: String,
+    answers: String,
+    other_answers: String,
+}
+
+impl State {
+    // Expects what was there before a step that found no memory. A search leaves an outcome that is reset, and a copy for
+    // names may have initialised the other outcome for them.
+    fn expect_after_refusal(&self, rt: &impl Abort, step: Step<'_>, before: &State) {
+        assert_eq!(rt; self.lists.as_str(), before.lists.as_str());
+        assert_eq!(rt; self.names.as_str(), before.names.as_str());
+        if !matches!(step, Step::Find(_, _)) {
+            assert_eq!(rt; self.answers.as_str(), before.answers.as_str());
+        }
+        if !matches!(step, Step::CopyFor(_)) {
+            assert_eq!(rt; self.other_answers.as_str(), before.other_answers.as_str());
+        }
+    }
+}
+
+fn answers(alloc: Global, outcome: &Outcome) -> Result<String, AllocError> {
+    let (taken, tested) = (outcome.taken(), outcome.tested());
+    format!(in alloc; "{outcome:?} {taken} {tested}")
 }
 
 /// A collection with two searches, and two outcomes, of which steps use one each.
@@ -167,7 +197,7 @@ impl Scene {
         Ok(())
     }
 
-    // A step that finds no memory leaves lists and names as they were.
+    // A step that finds no memory is taken again, in the state that it has to leave.
     fn take_again(
         &mut self,
         rt: &impl Abort,
@@ -175,19 +205,33 @@ impl Scene {
         step: Step<'_>,
         out: &mut String,
     ) -> Result<(), AllocError> {
-        let (lists, names) = (
-            self.search.num_pattern_lists(),
-            count_of_names(&self.collection),
-        );
+        let before = self.state_again(alloc)?;
         let mut report = String::new(alloc);
         if self.take(rt, alloc, step, &mut report).is_err() {
-            assert_eq!(rt; self.search.num_pattern_lists(), lists);
-            assert_eq!(rt; count_of_names(&self.collection), names);
+            let after = self.state(alloc)?;
+            after.expect_after_refusal(rt, step, &before);
             report.clear();
             self.take(rt, alloc, step, &mut report)?;
         }
         out.push_str(report.as_str())
             .or_else(|_| out.push_str(report.as_str()))
+    }
+
+    fn state_again(&self, alloc: Global) -> Result<State, AllocError> {
+        match self.state(alloc) {
+            Ok(state) => Ok(state),
+            Err(_) => self.state(alloc),
+        }
+    }
+
+    fn state(&self, alloc: Global) -> Result<State, AllocError> {
+        let (search, other_search) = (&self.search, &self.other_search);
+        Ok(State {
+            lists: format!(in alloc; "{search:?} {other_search:?}")?,
+            names: known(alloc, &self.collection)?,
+            answers: answers(alloc, &self.outcome)?,
+            other_answers: answers(alloc, &self.other_outcome)?,
+        })
     }
 
     fn take(
