@@ -129,6 +129,12 @@ fn adds_the_files_that_there_are(rt: HostRuntime) -> Result<(), AllocError> {
 }
 
 #[test]
+fn without_files_there_is_the_built_in_list(rt: HostRuntime) -> Result<(), AllocError> {
+    let answer = "1 true binary diff merge text ";
+    expect_globals(&rt, rt.alloc(), &mut Memory::new(rt.alloc()), &[], answer)
+}
+
+#[test]
 fn a_failing_read_ends_the_globals(rt: HostRuntime) -> Result<(), AllocError> {
     for (read, answer) in [
         (1, "reading failed; binary diff merge text "),

@@ -4,6 +4,7 @@
 use super::lists::known;
 use bstr::BStr;
 use gix_attributes::Search;
+use gix_attributes::files::Memory;
 use gix_attributes::glob::pattern::Case;
 use gix_attributes::search::{AttributeId, Match, MatchKind, MetadataCollection, Outcome};
 use std::alloc::{AllocError, Global};
@@ -20,6 +21,8 @@ pub(super) enum Step<'a> {
     Add(&'a str, &'a str),
     /// Adds lines of the file at the top, in which macros are not allowed.
     AddWithoutMacros(&'a str),
+    /// Changes to a search of the global lists, without files.
+    Globals,
     /// Removes the last list.
     Pop,
     /// Changes to the other search over the same collection.
@@ -46,6 +49,8 @@ pub(super) enum Step<'a> {
     Show,
     /// Reports whether the outcome is done, and how many items were taken and patterns tested.
     Count,
+    /// Expects that no more items were taken: those of the lines that match, and those of all bodies.
+    AtMost(u128),
     /// Reports whether the outcome covers the search, and whether it is current.
     Fit,
     /// Reports each match with its kind, the number of its macro and its line.
@@ -244,6 +249,7 @@ impl Scene {
         match step {
             Step::Add(source, text) => self.add(alloc, source, text, true),
             Step::AddWithoutMacros(text) => self.add(alloc, TOP, text, false),
+            Step::Globals => self.read_globals(alloc),
             Step::Pop => self.pop(rt),
             Step::Turn => self.turn(),
             Step::Renew => self.renew(alloc),
@@ -257,6 +263,7 @@ impl Scene {
             Step::Find(path, case) => self.find(rt, alloc, Query { path, case }, out),
             Step::Show => self.show(alloc, out),
             Step::Count => self.count(rt, alloc, out),
+            Step::AtMost(most) => self.expect_at_most(rt, most),
             Step::Fit => self.fit(alloc, out),
             Step::Rows => push_rows(alloc, &self.outcome, out),
             Step::Places => push_places(alloc, &self.outcome, out),
@@ -276,6 +283,16 @@ impl Scene {
         let collection = &mut self.collection;
         self.search
             .add_patterns_buffer(alloc, bytes, source, Some(""), collection, allow_macros)?;
+        Ok(())
+    }
+
+    fn read_globals(&mut self, alloc: Global) -> Result<(), AllocError> {
+        let (mut files, mut buf) = (Memory::new(alloc), Vec::new(alloc));
+        let collection = &mut self.collection;
+        match Search::new_globals_from(alloc, &mut files, &[], &mut buf, collection) {
+            Ok((search, _)) => self.search = search,
+            Err(_) => return Err(AllocError),
+        }
         Ok(())
     }
 
@@ -375,6 +392,11 @@ impl Scene {
         };
         let (taken, tested) = (self.outcome.taken(), self.outcome.tested());
         out.push_str(format!(in alloc; "{state} {taken} {tested}\n")?.as_str())
+    }
+
+    fn expect_at_most(&self, rt: &impl Abort, most: u128) -> Result<(), AllocError> {
+        assert!(rt; self.outcome.taken() <= most);
+        Ok(())
     }
 
     fn fit(&self, alloc: Global, out: &mut String) -> Result<(), AllocError> {

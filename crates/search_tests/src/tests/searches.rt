@@ -1,5 +1,5 @@
 //! The answers of searches.
-use super::scene::Step::{Add, AddWithoutMacros, Count, Find, Rows, Select, Show};
+use super::scene::Step::{Add, AddWithoutMacros, AtMost, Count, Find, Globals, Rows, Select, Show};
 use super::scene::{TOP, expect};
 use gix_attributes::glob::pattern::Case::{Fold, Sensitive};
 use std::alloc::AllocError;
@@ -34,6 +34,41 @@ fn the_deciding_line_is_reported(rt: HostRuntime) -> Result<(), AllocError> {
         Rows,
     ];
     expect(&rt, rt.alloc(), &steps, "true\na=2 attribute - 2\n")
+}
+
+#[test]
+fn global_lists_define_the_macro_binary(rt: HostRuntime) -> Result<(), AllocError> {
+    let steps = [
+        Globals,
+        Add(TOP, "*.png binary\n"),
+        Select(&[]),
+        Find("a.png", Sensitive),
+        Rows,
+        Count,
+        AtMost(4),
+    ];
+    let answer =
+        "true\nbinary macro - 1\n-diff attribute 0 1\n-merge attribute 0 1\n-text attribute 0 1\ndone 4 1\n";
+    expect(&rt, rt.alloc(), &steps, answer)
+}
+
+#[test]
+fn no_more_items_are_taken_than_there_are(rt: HostRuntime) -> Result<(), AllocError> {
+    for (text, most, answer) in [
+        ("[attr]a b\n[attr]b a\n* a\n", 3, "true\ndone 2 1\n"),
+        ("[attr]m x=2\n* x=1 m\n", 3, "true\ndone 2 1\n"),
+        ("[attr]m x\n[attr]n y z\n* m\n", 4, "true\nopen 2 1\n"),
+    ] {
+        let steps = [
+            Add(TOP, text),
+            Select(&[]),
+            Find("f", Sensitive),
+            AtMost(most),
+            Count,
+        ];
+        expect(&rt, rt.alloc(), &steps, answer)?;
+    }
+    Ok(())
 }
 
 #[test]
