@@ -1,7 +1,7 @@
 //! Calls that answer rightly when they are made again, whichever request for memory is refused.
 //!
 //! `tests/refused_memory.sh` refuses one request of a test in turn; what is called again then finds memory.
-use super::pattern_lists::{Lines, listed};
+use super::pattern_lists::{Lines, candidates, listed};
 use attr_glob::Pattern;
 use attr_glob::pattern::{Case, Mode, base_name, base_name_place};
 use attr_glob::quote::ansi_c::{UndoError, undo};
@@ -136,19 +136,10 @@ fn without_memory_bytes_alone_decide(rt: HostRuntime) {
     }
 }
 
-// The lines that a path is to be tried with, last to first.
-fn candidates(
-    alloc: Global,
-    text: &[u8],
-    path: &[u8],
-    case: Case,
-) -> Result<Vec<usize>, AllocError> {
-    let list = listed(alloc, text)?.clone(alloc)?;
-    let index = Index::of(alloc, &list)?;
-    if !index.is_of(&list) {
-        return Ok(Vec::new(alloc));
-    }
-    index.candidates(alloc, &list, BStr::new(path), base_name_place(path), case)
+// A copy of the list that was read.
+fn copied(alloc: Global, text: &[u8]) -> Result<List<Lines>, AllocError> {
+    let list = listed(alloc, text)?;
+    list.clone(alloc)
 }
 
 #[test]
@@ -221,13 +212,24 @@ fn without_memory_bases_are_stripped(rt: HostRuntime) {
 }
 
 #[test]
+fn without_memory_lists_are_copied_again(rt: HostRuntime) -> Result<(), AllocError> {
+    let list = copied(rt.alloc(), b"a\nb").or_else(|_| copied(rt.alloc(), b"a\nb"))?;
+    assert_eq!(rt; list.patterns.len(), 2);
+    Ok(())
+}
+
+fn expect_told_apart(rt: &impl Abort, alloc: Global, list: &List<Lines>, other: &List<Lines>) {
+    if let Ok(index) = Index::of(alloc, list) {
+        assert!(rt; index.is_of(list) && !index.is_of(other));
+    }
+}
+
+#[test]
 fn without_memory_lists_are_told_apart(rt: HostRuntime) {
     let (Ok(list), Ok(other)) = (listed(rt.alloc(), b"a\nb"), listed(rt.alloc(), b"b\na")) else {
         return;
     };
-    if let Ok(index) = Index::of(rt.alloc(), &list) {
-        assert!(rt; index.is_of(&list) && !index.is_of(&other));
-    }
+    expect_told_apart(&rt, rt.alloc(), &list, &other);
     let _buffers = IndexBuffers::new(rt.alloc());
 }
 

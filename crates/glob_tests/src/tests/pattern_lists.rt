@@ -1,11 +1,12 @@
 //! Worked rows: lists of patterns, their bases, and their index.
 ghost use Rattle.std.specs.Prelude.{◌≡◌, [], ◌∷◌, IfOk, map, string_bytes};
 
-use attr_glob::pattern::Case;
+use attr_glob::pattern::{Case, base_name_place};
 use attr_glob::search::pattern::{Index, IndexBuffers, List, Mapping};
 use attr_glob::{Pattern, search};
 use bstr::BStr;
 use std::alloc::{AllocError, Global};
+use std::process::Abort;
 use std::test::Fail;
 
 // One mapping for each line: its first word is the pattern.
@@ -87,61 +88,112 @@ fn sources_reach_the_parser(rt: HostRuntime) -> Result<(), Fail> {
     Ok(())
 }
 
-#[test]
-fn bases_of_sources(rt: HostRuntime) -> Result<(), Fail> {
-    let rows = [
-        ("a/b/.gitattributes", Some("a"), Some("b/")),
-        ("a/b/.gitattributes", Some("a/"), Some("b/")),
-        ("a/b/.gitattributes", Some("a/b"), None),
-        ("a/b/.gitattributes", Some("ab"), None),
-        ("a/b/.gitattributes", Some("/"), None),
-        ("/x/.gitattributes", Some("/"), Some("x/")),
-        (".gitattributes", Some(""), None),
-        ("a/b/.gitattributes", None, None),
-        ("sub/.gitattributes", Some(""), Some("sub/")),
-        ("a//b/.gitattributes", Some("a//"), Some("b/")),
-        ("a/b/.gitattributes", Some("a//"), None),
-        ("a.b/c/.gitattributes", Some("a"), None),
-    ];
-    for (source, root, base) in rows {
-        let source = String::from_str(rt.alloc(), source)?;
-        let (list, dropped) = List::from_bytes(rt.alloc(), b"x\n\ny", source, root, Lines)?;
-        assert_eq!(rt; list.patterns.len(), 2);
-        assert_eq!(rt; dropped.as_slice(), [1].as_slice());
-        assert!(rt; list.source.is_some());
-        match (&list.base, base) {
-            (Some(found), Some(base)) => assert_eq!(rt; found.as_slice(), base.as_bytes()),
-            (None, None) => {}
-            _ => assert!(rt; false),
-        }
+// A file, the root below which it is found, and the base of its list.
+#[derive(Clone, Copy)]
+struct Based {
+    source: &'static str,
+    root: Option<&'static str>,
+    base: Option<&'static str>,
+}
+
+fn below(source: &'static str, root: &'static str, base: Option<&'static str>) -> Based {
+    Based {
+        source,
+        root: Some(root),
+        base,
+    }
+}
+
+// A test owns few values at a time, since each call that may fail has to drop them all in a proof.
+
+fn read(
+    alloc: Global,
+    text: &[u8],
+    source: &str,
+    root: Option<&str>,
+) -> Result<(List<Lines>, Vec<usize>), AllocError> {
+    let source = String::from_str(alloc, source)?;
+    List::from_bytes(alloc, text, source, root, Lines)
+}
+
+fn expect_base(rt: &impl Abort, alloc: Global, row: Based) -> Result<(), AllocError> {
+    let (list, dropped) = read(alloc, b"x\n\ny", row.source, row.root)?;
+    assert_eq!(rt; list.patterns.len(), 2);
+    assert_eq!(rt; dropped.as_slice(), [1].as_slice());
+    assert!(rt; list.source.as_deref() == Some(row.source));
+    assert!(rt; list.base.as_deref() == row.base.map(|base| base.as_bytes()));
+    Ok(())
+}
+
+fn expect_bases(rt: &impl Abort, alloc: Global, rows: &[Based]) -> Result<(), AllocError> {
+    for row in rows {
+        expect_base(rt, alloc, *row)?;
     }
     Ok(())
 }
 
 #[test]
-fn strips_bases(rt: HostRuntime) -> Result<(), Fail> {
-    let source = String::from_str(rt.alloc(), "sub/.gitattributes")?;
-    let (list, _) = List::from_bytes(rt.alloc(), b"/x", source, Some(""), Lines)?;
-    let strip = |path, place, case| list.strip_base_handle_recompute_basename_pos(
-        path, place, case,
-    );
-    let (rest, place) = strip(BStr::new(b"sub/x"), Some(4), Case::Sensitive).ok_or("below")?;
-    assert_eq!(rt; rest.as_bytes(), b"x".as_slice());
-    assert_eq!(rt; place, None);
-    let (rest, place) = strip(BStr::new(b"sub/d/x"), Some(6), Case::Sensitive).ok_or("deeper")?;
-    assert_eq!(rt; rest.as_bytes(), b"d/x".as_slice());
-    assert_eq!(rt; place, Some(2));
-    let (rest, _) = strip(BStr::new(b"SUB/X"), Some(4), Case::Fold).ok_or("folded")?;
-    assert_eq!(rt; rest.as_bytes(), b"X".as_slice());
-    assert!(rt; strip(BStr::new(b"SUB/X"), Some(4), Case::Sensitive).is_none());
-    assert!(rt; strip(BStr::new(b"x"), None, Case::Sensitive).is_none());
-    assert!(rt; strip(BStr::new(b"subway"), None, Case::Sensitive).is_none());
-    let (whole, _) = List::from_bytes(rt.alloc(), b"/x", String::new(rt.alloc()), None, Lines)?;
-    let (rest, place) = whole
-        .strip_base_handle_recompute_basename_pos(BStr::new(b"d/x"), Some(2), Case::Fold)
-        .ok_or("whole")?;
-    assert_eq!(rt; rest.as_bytes(), b"d/x".as_slice());
-    assert_eq!(rt; place, Some(2));
+fn bases_of_sources(rt: HostRuntime) -> Result<(), AllocError> {
+    let rows = [
+        below("a/b/.gitattributes", "a", Some("b/")),
+        below("a/b/.gitattributes", "a/", Some("b/")),
+        below("a/b/.gitattributes", "a/b", None),
+        below("a/b/.gitattributes", "ab", None),
+        below("a/b/.gitattributes", "/", None),
+        below("/x/.gitattributes", "/", Some("x/")),
+        below(".gitattributes", "", None),
+        below("sub/.gitattributes", "", Some("sub/")),
+        below("a//b/.gitattributes", "a//", Some("b/")),
+        below("a/b/.gitattributes", "a//", None),
+        below("a.b/c/.gitattributes", "a", None),
+        Based {
+            source: "a/b/.gitattributes",
+            root: None,
+            base: None,
+        },
+    ];
+    expect_bases(&rt, rt.alloc(), &rows)
+}
+
+fn stripped<'a>(
+    list: &List<Lines>,
+    path: &'a [u8],
+    case: Case,
+) -> Option<(&'a [u8], Option<usize>)> {
+    let place = base_name_place(path);
+    let (rest, place) = list.strip_base_handle_recompute_basename_pos(
+        BStr::new(path),
+        place,
+        case,
+    )?;
+    Some((rest.as_bytes(), place))
+}
+
+#[test]
+fn strips_bases(rt: HostRuntime) -> Result<(), AllocError> {
+    let (list, _) = read(rt.alloc(), b"/x", "sub/.gitattributes", Some(""))?;
+    for (path, case, below) in [
+        (
+            b"sub/x".as_slice(),
+            Case::Sensitive,
+            Some((b"x".as_slice(), None)),
+        ),
+        (b"sub/d/x", Case::Sensitive, Some((b"d/x", Some(2)))),
+        (b"SUB/X", Case::Fold, Some((b"X", None))),
+        (b"SUB/X", Case::Sensitive, None),
+        (b"x", Case::Sensitive, None),
+        (b"subway", Case::Sensitive, None),
+    ] {
+        assert!(rt; stripped(&list, path, case) == below);
+    }
+    Ok(())
+}
+
+#[test]
+fn a_list_without_a_base_strips_nothing(rt: HostRuntime) -> Result<(), AllocError> {
+    let (list, _) = read(rt.alloc(), b"/x", "", None)?;
+    let below = stripped(&list, b"d/x", Case::Fold);
+    assert!(rt; below == Some((b"d/x".as_slice(), Some(2))));
     Ok(())
 }
 
@@ -162,51 +214,95 @@ pub(super) fn listed(alloc: Global, text: &[u8]) -> Result<List<Lines>, AllocErr
     Ok(list)
 }
 
-#[test]
-fn candidates_of_few_lines(rt: HostRuntime) -> Result<(), Fail> {
-    let list = listed(rt.alloc(), b"*.rs\n*s\n*.c\nx.rs\n/x.rs\nd/x.rs")?;
-    let index = Index::of(rt.alloc(), &list)?;
-    assert!(rt; index.is_of(&list));
-    let path = BStr::new(b"d/x.rs");
-    let found = index.candidates(rt.alloc(), &list, path, Some(2), Case::Sensitive)?;
-    assert_eq!(rt; found.as_slice(), [5, 4, 3, 1, 0].as_slice());
-    let path = BStr::new(b"D/X.RS");
-    let found = index.candidates(rt.alloc(), &list, path, Some(2), Case::Fold)?;
-    assert_eq!(rt; found.as_slice(), [5, 4, 3, 1, 0].as_slice());
-    let found = index.candidates(rt.alloc(), &list, path, Some(2), Case::Sensitive)?;
-    assert_eq!(rt; found.as_slice(), [5, 4].as_slice());
-    let other = listed(rt.alloc(), b"f\nf")?;
-    assert!(rt; !index.is_of(&other));
-    Ok(())
+// The places in the list that a path is to be tried with, last to first.
+fn candidates_in(
+    alloc: Global,
+    list: &List<Lines>,
+    path: &[u8],
+    case: Case,
+) -> Result<Vec<usize>, AllocError> {
+    let index = Index::of(alloc, list)?;
+    if !index.is_of(list) {
+        return Ok(Vec::new(alloc));
+    }
+    index.candidates(alloc, list, BStr::new(path), base_name_place(path), case)
+}
+
+pub(super) fn candidates(
+    alloc: Global,
+    text: &[u8],
+    path: &[u8],
+    case: Case,
+) -> Result<Vec<usize>, AllocError> {
+    let list = listed(alloc, text)?;
+    candidates_in(alloc, &list, path, case)
 }
 
 #[test]
-fn candidates_of_equal_lines(rt: HostRuntime) -> Result<(), Fail> {
-    let list = listed(rt.alloc(), b"f\nf")?;
-    let index = Index::of(rt.alloc(), &list)?;
-    assert!(rt; index.is_of(&list));
-    let mut buffers = IndexBuffers::new(rt.alloc());
-    let mut places = Vec::new(rt.alloc());
-    places.push(9)?;
-    for case in [Case::Fold, Case::Sensitive] {
-        index.append_candidates(b"f", case, &mut buffers, &mut places)?;
+fn candidates_of_few_lines(rt: HostRuntime) -> Result<(), AllocError> {
+    let text = b"*.rs\n*s\n*.c\nx.rs\n/x.rs\nd/x.rs";
+    for (path, case, places) in [
+        (
+            b"d/x.rs".as_slice(),
+            Case::Sensitive,
+            [5usize, 4, 3, 1, 0].as_slice(),
+        ),
+        (b"D/X.RS", Case::Fold, &[5, 4, 3, 1, 0]),
+        (b"D/X.RS", Case::Sensitive, &[5, 4]),
+    ] {
+        let found = candidates(rt.alloc(), text, path, case)?;
+        assert_eq!(rt; found.as_slice(), places);
     }
+    Ok(())
+}
+
+fn is_of(alloc: Global, list: &List<Lines>, other: &List<Lines>) -> Result<bool, AllocError> {
+    let index = Index::of(alloc, list)?;
+    Ok(index.is_of(other))
+}
+
+#[test]
+fn an_index_is_of_its_list(rt: HostRuntime) -> Result<(), AllocError> {
+    let list = listed(rt.alloc(), b"*.rs\n*s")?;
+    let other = listed(rt.alloc(), b"f\nf")?;
+    assert!(rt; is_of(rt.alloc(), &list, &list)?);
+    assert!(rt; !is_of(rt.alloc(), &list, &other)?);
+    Ok(())
+}
+
+fn append_twice(alloc: Global, index: &Index, places: &mut Vec<usize>) -> Result<(), AllocError> {
+    let mut buffers = IndexBuffers::new(alloc);
+    index.append_candidates(b"f", Case::Fold, &mut buffers, places)?;
+    index.append_candidates(b"f", Case::Sensitive, &mut buffers, places)
+}
+
+fn append_of(alloc: Global, text: &[u8], places: &mut Vec<usize>) -> Result<(), AllocError> {
+    let list = listed(alloc, text)?;
+    let index = Index::of(alloc, &list)?;
+    append_twice(alloc, &index, places)
+}
+
+#[test]
+fn candidates_of_equal_lines(rt: HostRuntime) -> Result<(), AllocError> {
+    let mut places = vec![in rt.alloc(); 9]?;
+    append_of(rt.alloc(), b"f\nf", &mut places)?;
     assert_eq!(rt; places.as_slice(), [9, 1, 0, 1, 0].as_slice());
     Ok(())
 }
 
-#[test]
-fn candidates_of_a_thousand_lines(rt: HostRuntime) -> Result<(), Fail> {
-    let mut text = String::new(rt.alloc());
+fn a_thousand_lines(alloc: Global) -> Result<String, AllocError> {
+    let mut text = String::new(alloc);
     for i in 0..1000u32 {
-        let line = format!(in rt.alloc(); "f{i}\n")?;
+        let line = format!(in alloc; "f{i}\n")?;
         text.push_str(line.as_str())?;
     }
-    let list = listed(rt.alloc(), text.as_bytes())?;
-    let index = Index::of(rt.alloc(), &list)?;
-    assert!(rt; index.is_of(&list));
-    let path = BStr::new(b"d/f7");
-    let found = index.candidates(rt.alloc(), &list, path, Some(2), Case::Sensitive)?;
+    Ok(text)
+}
+
+#[test]
+fn candidates_of_a_thousand_lines(rt: HostRuntime) -> Result<(), AllocError> {
+    let text = a_thousand_lines(rt.alloc())?;
+    let found = candidates(rt.alloc(), text.as_bytes(), b"d/f7", Case::Sensitive)?;
     assert_eq!(rt; found.as_slice(), [7].as_slice());
     Ok(())
 }

@@ -4,32 +4,121 @@ use attr_glob::pattern::{Case, Mode, base_name, base_name_place};
 use bitflags::Flags;
 use bstr::BStr;
 use std::alloc::{AllocError, Global};
+use std::process::Abort;
 use std::test::Fail;
 
+// A pattern's text in a file, and the pattern.
+#[derive(Clone, Copy)]
+struct Row {
+    input: &'static str,
+    text: &'static str,
+    mode: u32,
+    wildcard: Option<usize>,
+    written: &'static str,
+}
+
+const ROWS: [Row; 9] = [
+    Row {
+        input: "!*.rs",
+        text: "*.rs",
+        mode: 11,
+        wildcard: Some(0),
+        written: "!*.rs",
+    },
+    Row {
+        input: "/a/",
+        text: "a",
+        mode: 21,
+        wildcard: None,
+        written: "/a/",
+    },
+    Row {
+        input: "//",
+        text: "",
+        mode: 21,
+        wildcard: None,
+        written: "//",
+    },
+    Row {
+        input: "/",
+        text: "",
+        mode: 17,
+        wildcard: None,
+        written: "/",
+    },
+    Row {
+        input: "a//",
+        text: "a/",
+        mode: 4,
+        wildcard: None,
+        written: "a//",
+    },
+    Row {
+        input: r"\#x",
+        text: "#x",
+        mode: 1,
+        wildcard: None,
+        written: "#x",
+    },
+    Row {
+        input: r"!\!a",
+        text: r"\!a",
+        mode: 9,
+        wildcard: Some(0),
+        written: r"!\!a",
+    },
+    Row {
+        input: "a ",
+        text: "a ",
+        mode: 1,
+        wildcard: None,
+        written: "a ",
+    },
+    Row {
+        input: "a/b[c]",
+        text: "a/b[c]",
+        mode: 0,
+        wildcard: Some(3),
+        written: "a/b[c]",
+    },
+];
+
+fn expect_fields(rt: &impl Abort, pattern: &Pattern, row: &Row) {
+    assert_eq!(rt; pattern.text.as_slice(), row.text.as_bytes());
+    assert_eq!(rt; pattern.mode.bits(), row.mode);
+    assert_eq!(rt; pattern.first_wildcard_pos, row.wildcard);
+    assert_eq!(rt; pattern.is_negative(), row.input.starts_with('!'));
+}
+
+fn expect_copy(
+    rt: &impl Abort,
+    alloc: Global,
+    pattern: &Pattern,
+    row: &Row,
+) -> Result<(), AllocError> {
+    let copy = pattern.clone(alloc)?;
+    assert!(rt; copy == *pattern);
+    let written = copy.write_text(alloc)?;
+    assert_eq!(rt; written.as_slice(), row.written.as_bytes());
+    Ok(())
+}
+
+fn expect_read(rt: &impl Abort, alloc: Global, row: &Row) -> Result<(), AllocError> {
+    let pattern = Pattern::from_bytes(alloc, row.input.as_bytes())?.expect(rt, "a pattern");
+    expect_fields(rt, &pattern, row);
+    expect_copy(rt, alloc, &pattern, row)
+}
+
 #[test]
-fn reads_patterns(rt: HostRuntime) -> Result<(), Fail> {
-    let rows = [
-        ("!*.rs", "*.rs", 11, Some(0), "!*.rs"),
-        ("/a/", "a", 21, None, "/a/"),
-        ("//", "", 21, None, "//"),
-        ("/", "", 17, None, "/"),
-        ("a//", "a/", 4, None, "a//"),
-        (r"\#x", "#x", 1, None, "#x"),
-        (r"!\!a", r"\!a", 9, Some(0), r"!\!a"),
-        ("a ", "a ", 1, None, "a "),
-        ("a/b[c]", "a/b[c]", 0, Some(3), "a/b[c]"),
-    ];
-    for (input, text, mode, wildcard, written) in rows {
-        let pattern = Pattern::from_bytes(rt.alloc(), input.as_bytes())?.ok_or("none")?;
-        let copy = pattern.clone(rt.alloc())?;
-        let answer = copy.write_text(rt.alloc())?;
-        assert_eq!(rt; pattern.text.as_slice(), text.as_bytes());
-        assert_eq!(rt; pattern.mode.bits(), mode);
-        assert_eq!(rt; pattern.first_wildcard_pos, wildcard);
-        assert_eq!(rt; pattern.is_negative(), input.starts_with('!'));
-        assert_eq!(rt; answer.as_slice(), written.as_bytes());
-        assert!(rt; copy == pattern);
+fn reads_patterns(rt: HostRuntime) -> Result<(), AllocError> {
+    for row in &ROWS {
+        expect_read(&rt, rt.alloc(), row)?;
     }
+    Ok(())
+}
+
+#[test]
+fn blank_patterns_are_none(rt: HostRuntime) -> Result<(), AllocError> {
     for blank in ["!", "", " ", "! \t\n\x0c\r"] {
         assert!(rt; Pattern::from_bytes(rt.alloc(), blank.as_bytes())?.is_none());
     }
