@@ -23,14 +23,22 @@ fn owned_value(alloc: Global, text: &str) -> Result<Value, AllocError> {
     value.as_ref().to_owned(alloc)
 }
 
+fn is_name_copied(alloc: Global, borrowed: NameRef<'_>) -> Result<bool, AllocError> {
+    let copy = borrowed.to_owned(alloc)?.clone(alloc)?;
+    Ok(copy.as_ref() == borrowed)
+}
+
+fn is_state_copied(alloc: Global, borrowed: StateRef<'_>) -> Result<bool, AllocError> {
+    let copy = borrowed.to_owned(alloc)?.clone(alloc)?;
+    Ok(copy.as_ref() == borrowed)
+}
+
 fn copied(alloc: Global, borrowed: AssignmentRef<'_>) -> Result<bool, AllocError> {
-    let owned = borrowed.to_owned(alloc)?.clone(alloc)?;
-    let name = borrowed.name.to_owned(alloc)?.clone(alloc)?;
-    let state = borrowed.state.to_owned(alloc)?.clone(alloc)?;
+    let copy = borrowed.to_owned(alloc)?.clone(alloc)?;
     Ok(
-        owned.as_ref() == borrowed
-            && name.as_ref() == borrowed.name
-            && state.as_ref() == borrowed.state,
+        copy.as_ref() == borrowed
+            && is_name_copied(alloc, borrowed.name)?
+            && is_state_copied(alloc, borrowed.state)?,
     )
 }
 
@@ -376,6 +384,13 @@ fn without_memory_numbers_answer(rt: HostRuntime) {
     );
 }
 
+fn expect_removed(rt: &impl Abort, table: &mut NameTable, list_id: usize, list: &[Mapping<Line>]) {
+    assert!(rt; first_number(table, "m") == Some(1) && first_number(table, "x").is_none());
+    assert!(rt; is_removed(table, list_id, list));
+    assert!(rt; first_number(table, "m").is_none() && !table.holds(list_id, list));
+    assert!(rt; table.number_of("x") == Some(1) && table.len() == 2);
+}
+
 #[test]
 fn without_memory_lists_are_removed(rt: HostRuntime) {
     let mut table = NameTable::new(rt.alloc());
@@ -384,12 +399,8 @@ fn without_memory_lists_are_removed(rt: HostRuntime) {
         return;
     };
     assert!(rt; macros_valid(&list));
-    let Ok(list_id) = table.add(rt.alloc(), &mut list) else {
-        return;
-    };
-    assert!(rt; first_number(&table, "m") == Some(1) && first_number(&table, "x").is_none());
-    assert!(rt; is_removed(&mut table, list_id, &list));
-    assert!(rt; first_number(&table, "m").is_none() && !table.holds(list_id, &list));
-    assert!(rt; table.number_of("x") == Some(1) && table.len() == 2);
-    assert_eq!(rt; without_macros(list).len(), 1);
+    if let Ok(list_id) = table.add(rt.alloc(), &mut list) {
+        expect_removed(&rt, &mut table, list_id, &list);
+        assert_eq!(rt; without_macros(list).len(), 1);
+    }
 }

@@ -2,6 +2,7 @@
 use attr_text::state::{Value, ValueRef};
 use attr_text::{AssignmentRef, NameRef, StateRef, name};
 use bstr::BStr;
+use std::alloc::AllocError;
 use std::test::Fail;
 
 #[test]
@@ -52,7 +53,7 @@ fn names_compare_as_their_text(rt: HostRuntime) -> Result<(), Fail> {
 }
 
 #[test]
-fn states_are_copied(rt: HostRuntime) -> Result<(), Fail> {
+fn a_state_of_bytes_is_a_value(rt: HostRuntime) {
     let value = StateRef::from_bytes(b"true");
     assert!(rt; value == StateRef::Value(ValueRef::from("true")));
     assert!(rt; value == StateRef::Value(ValueRef::from_bytes(b"true")));
@@ -62,9 +63,19 @@ fn states_are_copied(rt: HostRuntime) -> Result<(), Fail> {
     assert!(rt; !value.is_unspecified());
     assert!(rt; value.as_bstr() == Some(BStr::from("true")));
     assert!(rt; StateRef::Set.as_bstr().is_none());
+}
+
+#[test]
+fn states_are_copied(rt: HostRuntime) -> Result<(), AllocError> {
+    let value = StateRef::from_bytes(b"true");
     let owned = value.to_owned(rt.alloc())?;
     assert!(rt; owned.as_ref() == value);
     assert!(rt; owned.clone(rt.alloc())? == owned);
+    Ok(())
+}
+
+#[test]
+fn values_are_copied(rt: HostRuntime) -> Result<(), AllocError> {
     let text = Value::from_str_in(rt.alloc(), "true")?;
     assert!(rt; ValueRef::from("true").to_owned(rt.alloc())? == text);
     assert!(rt; text.as_ref() == ValueRef::from("true"));

@@ -5,6 +5,7 @@ use attr_lists::name_table::NameTable;
 use attr_lists::types::{Attributes, TrackedAssignment, Value};
 use std::alloc::{AllocError, Global};
 use std::fmt::Write;
+use std::process::Abort;
 use std::test::Fail;
 
 // Adds the list of a text, and returns it with its list id.
@@ -61,71 +62,147 @@ fn push_list(out: &mut String, list: &[Mapping<Value>]) -> Result<(), AllocError
     Ok(())
 }
 
-#[test]
-fn names_get_numbers_in_the_order_of_the_lines(rt: HostRuntime) -> Result<(), Fail> {
-    let mut table = NameTable::new(rt.alloc());
-    let (_, list) = add(rt.alloc(), &mut table, "[attr]m x y\n* z x\n[attr]y q")?;
-    let mut text = String::new(rt.alloc());
-    push_names(&mut text, &table)?;
-    assert_eq!(rt; text.as_str(), "m 1 2;x;y 4;z;q;");
-    text.clear();
-    push_list(&mut text, &list)?;
-    assert_eq!(rt; text.as_str(), " 1 2; 3 1; 4;");
+// A test owns few values at a time, since each call that may fail has to drop them all in a proof.
+
+fn expect_names(
+    rt: &impl Abort,
+    alloc: Global,
+    table: &NameTable,
+    names: &str,
+) -> Result<(), AllocError> {
+    let mut text = String::new(alloc);
+    push_names(&mut text, table)?;
+    assert_eq!(rt; text.as_str(), names);
+    Ok(())
+}
+
+fn expect_numbers(
+    rt: &impl Abort,
+    alloc: Global,
+    list: &[Mapping<Value>],
+    numbers: &str,
+) -> Result<(), AllocError> {
+    let mut text = String::new(alloc);
+    push_list(&mut text, list)?;
+    assert_eq!(rt; text.as_str(), numbers);
     Ok(())
 }
 
 #[test]
-fn a_removal_restores_earlier_bodies(rt: HostRuntime) -> Result<(), Fail> {
-    let rows = [
+fn names_get_numbers_in_the_order_of_the_lines(rt: HostRuntime) -> Result<(), AllocError> {
+    let mut table = NameTable::new(rt.alloc());
+    let (_, list) = add(rt.alloc(), &mut table, "[attr]m x y\n* z x\n[attr]y q")?;
+    expect_names(&rt, rt.alloc(), &table, "m 1 2;x;y 4;z;q;")?;
+    expect_numbers(&rt, rt.alloc(), &list, " 1 2; 3 1; 4;")
+}
+
+// Two lists, and the first number in the body of `m` before and after the second one is removed.
+#[derive(Clone, Copy)]
+struct Removal {
+    first: &'static str,
+    second: &'static str,
+    before: Option<usize>,
+    after: Option<usize>,
+}
+
+fn expect_removed(
+    rt: &impl Abort,
+    alloc: Global,
+    table: &mut NameTable,
+    row: Removal,
+) -> Result<(), AllocError> {
+    let (list_id, list) = add(alloc, table, row.second)?;
+    assert!(rt; first_number(table, "m") == row.before);
+    assert!(rt; is_removed(table, list_id, &list));
+    assert!(rt; first_number(table, "m") == row.after);
+    Ok(())
+}
+
+fn expect_restored(
+    rt: &impl Abort,
+    alloc: Global,
+    table: &mut NameTable,
+    row: Removal,
+) -> Result<(), AllocError> {
+    let (list_id, list) = add(alloc, table, row.first)?;
+    expect_removed(rt, alloc, table, row)?;
+    assert!(rt; table.holds(list_id, &list));
+    Ok(())
+}
+
+#[test]
+fn a_removal_restores_earlier_bodies(rt: HostRuntime) -> Result<(), AllocError> {
+    for (first, second, before, after) in [
         ("[attr]m x\n* m", "[attr]m y", Some(2), Some(1)),
         ("* m", "[attr]m x", Some(1), None),
         ("[attr]m x\n* m", "[attr]m y\n[attr]m z", Some(3), Some(1)),
         ("[attr]m x\n* m", "[attr]m", None, Some(1)),
-    ];
-    for (first, second, before, after) in rows {
+    ] {
         let mut table = NameTable::new(rt.alloc());
-        let (stays, first) = add(rt.alloc(), &mut table, first)?;
-        let (goes, second) = add(rt.alloc(), &mut table, second)?;
-        assert!(rt; first_number(&table, "m") == before);
-        assert!(rt; is_removed(&mut table, goes, &second));
-        assert!(rt; first_number(&table, "m") == after);
-        assert!(rt; table.holds(stays, &first));
+        let row = Removal {
+            first,
+            second,
+            before,
+            after,
+        };
+        expect_restored(&rt, rt.alloc(), &mut table, row)?;
     }
+    Ok(())
+}
+
+fn expect_below_removed(
+    rt: &impl Abort,
+    alloc: Global,
+    table: &mut NameTable,
+    (goes, below): (usize, &[Mapping<Value>]),
+) -> Result<(), AllocError> {
+    let (stays, above) = add(alloc, table, "[attr]m z")?;
+    assert!(rt; first_number(table, "n") == Some(1));
+    assert!(rt; is_removed(table, goes, below));
+    assert!(rt; first_number(table, "m") == Some(4));
+    assert!(rt; first_number(table, "n").is_none());
+    assert!(rt; is_removed(table, stays, &above));
+    assert!(rt; first_number(table, "m").is_none());
     Ok(())
 }
 
 // The first list goes while the second, which defines one of its macros too, stays.
 #[test]
-fn a_list_below_another_is_removed(rt: HostRuntime) -> Result<(), Fail> {
+fn a_list_below_another_is_removed(rt: HostRuntime) -> Result<(), AllocError> {
     let mut table = NameTable::new(rt.alloc());
     let text = "[attr]m x\n[attr]m y\n[attr]n x";
     let (goes, below) = add(rt.alloc(), &mut table, text)?;
-    let (stays, above) = add(rt.alloc(), &mut table, "[attr]m z")?;
-    assert!(rt; first_number(&table, "n") == Some(1));
-    assert!(rt; is_removed(&mut table, goes, &below));
-    assert!(rt; first_number(&table, "m") == Some(4));
-    assert!(rt; first_number(&table, "n").is_none());
-    assert!(rt; is_removed(&mut table, stays, &above));
-    assert!(rt; first_number(&table, "m").is_none());
+    expect_below_removed(&rt, rt.alloc(), &mut table, (goes, &below))
+}
+
+fn expect_ids(
+    rt: &impl Abort,
+    alloc: Global,
+    table: &mut NameTable,
+    list_ids: &[usize],
+) -> Result<(), AllocError> {
+    for list_id in list_ids {
+        assert_eq!(rt; add(alloc, table, "* a")?.0, *list_id);
+    }
+    Ok(())
+}
+
+fn expect_gone(rt: &impl Abort, alloc: Global, table: &mut NameTable) -> Result<(), AllocError> {
+    let (list_id, list) = add(alloc, table, "[attr]m a")?;
+    assert!(rt; table.holds(list_id, &list) && !table.holds(2, &list));
+    assert!(rt; is_removed(table, list_id, &list));
     Ok(())
 }
 
 #[test]
-fn a_new_list_gets_the_least_free_id(rt: HostRuntime) -> Result<(), Fail> {
+fn a_new_list_gets_the_least_free_id(rt: HostRuntime) -> Result<(), AllocError> {
     let mut table = NameTable::new(rt.alloc());
-    for list_id in 0..4usize {
-        assert_eq!(rt; add(rt.alloc(), &mut table, "* a")?.0, list_id);
-    }
-    let (fourth, list) = add(rt.alloc(), &mut table, "[attr]m a")?;
-    assert!(rt; table.holds(fourth, &list) && !table.holds(2, &list));
-    assert!(rt; is_removed(&mut table, fourth, &list));
+    expect_ids(&rt, rt.alloc(), &mut table, &[0, 1, 2, 3])?;
+    expect_gone(&rt, rt.alloc(), &mut table)?;
     for list_id in [2usize, 1] {
         assert!(rt; is_removed(&mut table, list_id, &[]));
     }
-    for list_id in [1usize, 2, 4] {
-        assert_eq!(rt; add(rt.alloc(), &mut table, "* a")?.0, list_id);
-    }
-    Ok(())
+    expect_ids(&rt, rt.alloc(), &mut table, &[1, 2, 4])
 }
 
 #[test]
