@@ -1,19 +1,21 @@
 //! Lists that are added and removed, and the names and bodies of the collection after that.
+use super::scene::Step::{Add, CloneLists, Held, Lists, Names, Removed, Turn, TurnCollections};
+use super::scene::{TOP, expect};
 use gix_attributes::Search;
 use gix_attributes::glob::search::pattern::List;
 use gix_attributes::search::{AttributeId, Attributes, DropReason, Dropped, MetadataCollection};
 use std::alloc::{AllocError, Global};
-use std::test::Fail;
+use std::process::Abort;
 
 /// A search, and the collection in which its lists are registered.
 #[derive(Drop)]
-pub(super) struct Registered {
-    pub(super) search: Search,
+struct Registered {
+    search: Search,
     collection: MetadataCollection,
 }
 
 impl Registered {
-    pub(super) fn new(alloc: Global) -> Registered {
+    fn new(alloc: Global) -> Registered {
         Registered {
             search: Search::new(alloc),
             collection: MetadataCollection::new(alloc),
@@ -21,24 +23,20 @@ impl Registered {
     }
 
     /// Adds the list of a file in the top folder.
-    pub(super) fn add(&mut self, alloc: Global, bytes: &[u8]) -> Result<(), AllocError> {
-        add(alloc, &mut self.search, &mut self.collection, bytes)
+    fn add(&mut self, alloc: Global, bytes: &[u8]) -> Result<(), AllocError> {
+        let source = String::from_str(alloc, TOP)?;
+        let collection = &mut self.collection;
+        self.search
+            .add_patterns_buffer(alloc, bytes, source, Some(""), collection, true)?;
+        Ok(())
     }
 
     /// Removes the last list, if the collection holds the search.
-    pub(super) fn pop(&mut self) -> Option<List<Attributes>> {
-        pop(&mut self.search, &mut self.collection)
-    }
-
-    pub(super) fn is_held(&self) -> bool {
-        self.collection.holds(&self.search)
-    }
-
-    pub(super) fn clone(&self, alloc: Global) -> Result<Registered, AllocError> {
-        Ok(Registered {
-            search: self.search.clone(alloc)?,
-            collection: self.collection.clone(alloc)?,
-        })
+    fn pop(&mut self) -> Option<List<Attributes>> {
+        if !self.collection.holds(&self.search) {
+            return None;
+        }
+        self.search.pop_pattern_list(&mut self.collection)
     }
 
     fn known(&self, alloc: Global) -> Result<String, AllocError> {
@@ -52,32 +50,24 @@ fn with_list(alloc: Global, bytes: &[u8]) -> Result<Registered, AllocError> {
     Ok(lists)
 }
 
-fn add(
-    alloc: Global,
-    search: &mut Search,
-    collection: &mut MetadataCollection,
-    bytes: &[u8],
-) -> Result<(), AllocError> {
-    add_from(alloc, search, collection, ".gitattributes", bytes)
+/// A list that was added and removed.
+pub(super) fn popped(alloc: Global, text: &[u8]) -> Result<Option<List<Attributes>>, AllocError> {
+    let mut lists = with_list(alloc, text)?;
+    Ok(lists.pop())
 }
 
-fn add_from(
+// The lines that a buffer without a base drops.
+fn dropped(
     alloc: Global,
-    search: &mut Search,
-    collection: &mut MetadataCollection,
-    source: &str,
-    bytes: &[u8],
-) -> Result<(), AllocError> {
-    let source = String::from_str(alloc, source)?;
-    search.add_patterns_buffer(alloc, bytes, source, Some(""), collection, true)?;
-    Ok(())
-}
-
-fn pop(search: &mut Search, collection: &mut MetadataCollection) -> Option<List<Attributes>> {
-    if !collection.holds(search) {
-        return None;
-    }
-    search.pop_pattern_list(collection)
+    lists: &mut Registered,
+    buffer: &[u8],
+    allow_macros: bool,
+) -> Result<Vec<Dropped>, AllocError> {
+    let source = String::from_str(alloc, "s")?;
+    let collection = &mut lists.collection;
+    lists
+        .search
+        .add_patterns_buffer(alloc, buffer, source, None, collection, allow_macros)
 }
 
 /// The names by number, each with its body.
@@ -96,15 +86,13 @@ pub(super) fn known(alloc: Global, collection: &MetadataCollection) -> Result<St
 }
 
 #[test]
-fn names_are_numbered_when_they_are_first_seen(rt: HostRuntime) -> Result<(), Fail> {
-    let lists = with_list(rt.alloc(), b"[attr]m x y\n* z x\n[attr]y q\n")?;
-    let text = lists.known(rt.alloc())?;
-    assert_eq!(rt; text.as_str(), "m: x y\nx:\ny: q\nz:\nq:\n");
-    Ok(())
+fn names_are_numbered_when_they_are_first_seen(rt: HostRuntime) -> Result<(), AllocError> {
+    let steps = [Add(TOP, "[attr]m x y\n* z x\n[attr]y q\n"), Names];
+    expect(&rt, rt.alloc(), &steps, "m: x y\nx:\ny: q\nz:\nq:\n")
 }
 
 #[test]
-fn a_number_has_its_name(rt: HostRuntime) -> Result<(), Fail> {
+fn a_number_has_its_name(rt: HostRuntime) -> Result<(), AllocError> {
     let lists = with_list(rt.alloc(), b"[attr]m x y\n* z x\n[attr]y q\n")?;
     for (number, name) in [(0, Some("m")), (3, Some("z")), (5, None)] {
         assert!(rt; lists.collection.name_of(AttributeId(number)) == name);
@@ -113,230 +101,260 @@ fn a_number_has_its_name(rt: HostRuntime) -> Result<(), Fail> {
 }
 
 #[test]
-fn built_in_macro_comes_first(rt: HostRuntime) -> Result<(), Fail> {
-    let mut lists = with_list(rt.alloc(), b"[attr]binary -diff -merge -text")?;
-    lists.add(rt.alloc(), b"\n*.png binary\n")?;
-    let text = lists.known(rt.alloc())?;
-    assert_eq!(rt;
-        text.as_str(),
-        "binary: -diff -merge -text\ndiff:\nmerge:\ntext:\n"
-    );
-    assert_eq!(rt; lists.search.num_pattern_lists(), 2);
-    Ok(())
+fn built_in_macro_comes_first(rt: HostRuntime) -> Result<(), AllocError> {
+    let steps = [
+        Add(TOP, "[attr]binary -diff -merge -text"),
+        Add(TOP, "\n*.png binary\n"),
+        Names,
+        Lists,
+    ];
+    expect(
+        &rt,
+        rt.alloc(),
+        &steps,
+        "binary: -diff -merge -text\ndiff:\nmerge:\ntext:\n2\n",
+    )
 }
 
 #[test]
-fn dropped_lines_are_returned(rt: HostRuntime) -> Result<(), Fail> {
-    let mut search = Search::new(rt.alloc());
-    let mut collection = MetadataCollection::new(rt.alloc());
+fn dropped_lines_are_returned(rt: HostRuntime) -> Result<(), AllocError> {
+    let mut lists = Registered::new(rt.alloc());
     for (buffer, reason) in [
         (b"!a b".as_slice(), DropReason::NegativePattern),
         (b"* a =x".as_slice(), DropReason::InvalidName),
         (b"* builtin_x".as_slice(), DropReason::Reserved),
         (b"[attr]-x a".as_slice(), DropReason::MacroName),
     ] {
-        let source = String::from_str(rt.alloc(), "s")?;
-        let dropped = search.add_patterns_buffer(
-            rt.alloc(),
-            buffer,
-            source,
-            None,
-            &mut collection,
-            true,
-        )?;
+        let dropped = dropped(rt.alloc(), &mut lists, buffer, true)?;
         assert_eq!(rt;
             dropped.as_slice(),
             [Dropped { line: 1, reason }].as_slice()
         );
     }
-    assert_eq!(rt; search.num_pattern_lists(), 4);
-    assert!(rt; collection.iter().next().is_none());
+    assert_eq!(rt; lists.search.num_pattern_lists(), 4);
+    assert!(rt; lists.collection.iter().next().is_none());
     Ok(())
 }
 
 #[test]
-fn macros_that_are_not_allowed_are_skipped(rt: HostRuntime) -> Result<(), Fail> {
-    let mut search = Search::new(rt.alloc());
-    let mut collection = MetadataCollection::new(rt.alloc());
-    let source = String::from_str(rt.alloc(), "s")?;
+fn macros_that_are_not_allowed_are_skipped(rt: HostRuntime) -> Result<(), AllocError> {
+    let mut lists = Registered::new(rt.alloc());
     let buffer = b"[attr]m x\n* m\n";
-    let dropped = search.add_patterns_buffer(
-        rt.alloc(),
-        buffer,
-        source,
-        None,
-        &mut collection,
-        false,
-    )?;
-    assert!(rt; dropped.is_empty());
-    let text = known(rt.alloc(), &collection)?;
-    assert_eq!(rt; text.as_str(), "m:\n");
+    assert!(rt; dropped(rt.alloc(), &mut lists, buffer, false)?.is_empty());
+    assert_eq!(rt; lists.known(rt.alloc())?.as_str(), "m:\n");
     Ok(())
 }
 
-/// What is known before and after the second list is removed, and whether the collection held the search all along.
-fn popped(
-    alloc: Global,
-    first: &[u8],
-    second: &[u8],
-) -> Result<(String, String, bool), AllocError> {
-    let mut lists = with_list(alloc, first)?;
-    lists.add(alloc, second)?;
-    let before = lists.known(alloc)?;
-    let list = lists.pop();
-    let is_held = list.is_some() && lists.is_held();
-    Ok((before, lists.known(alloc)?, is_held))
-}
-
 #[test]
-fn popping_restores_the_bodies_before(rt: HostRuntime) -> Result<(), Fail> {
-    for (first, second, before, after) in [
+fn popping_restores_the_bodies_before(rt: HostRuntime) -> Result<(), AllocError> {
+    for (first, second, answer) in [
         (
-            b"[attr]m x\n* m\n".as_slice(),
-            b"[attr]m y\n".as_slice(),
-            "m: y\nx:\ny:\n",
-            "m: x\nx:\ny:\n",
+            "[attr]m x\n* m\n",
+            "[attr]m y\n",
+            "m: y\nx:\ny:\nremoved\ntrue\nm: x\nx:\ny:\n",
+        ),
+        ("* m\n", "[attr]m x\n", "m: x\nx:\nremoved\ntrue\nm:\nx:\n"),
+        (
+            "[attr]m x\n* m\n",
+            "[attr]m y\n[attr]m z\n",
+            "m: z\nx:\ny:\nz:\nremoved\ntrue\nm: x\nx:\ny:\nz:\n",
         ),
         (
-            b"* m\n".as_slice(),
-            b"[attr]m x\n".as_slice(),
-            "m: x\nx:\n",
-            "m:\nx:\n",
-        ),
-        (
-            b"[attr]m x\n* m\n".as_slice(),
-            b"[attr]m y\n[attr]m z\n".as_slice(),
-            "m: z\nx:\ny:\nz:\n",
-            "m: x\nx:\ny:\nz:\n",
-        ),
-        (
-            b"[attr]m x\n* m\n".as_slice(),
-            b"[attr]m\n".as_slice(),
-            "m:\nx:\n",
-            "m: x\nx:\n",
+            "[attr]m x\n* m\n",
+            "[attr]m\n",
+            "m:\nx:\nremoved\ntrue\nm: x\nx:\n",
         ),
     ] {
-        let (was, is, is_held) = popped(rt.alloc(), first, second)?;
-        assert!(rt; is_held);
-        assert_eq!(rt; was.as_str(), before);
-        assert_eq!(rt; is.as_str(), after);
+        let steps = [
+            Add(TOP, first),
+            Add(TOP, second),
+            Names,
+            Removed,
+            Held,
+            Names,
+        ];
+        expect(&rt, rt.alloc(), &steps, answer)?;
     }
     Ok(())
 }
 
 #[test]
-fn a_search_of_other_macros_is_not_held(rt: HostRuntime) -> Result<(), Fail> {
-    let one = with_list(rt.alloc(), b"[attr]m x\n")?;
-    let other = with_list(rt.alloc(), b"[attr]n x\n")?;
-    assert!(rt; one.is_held() && other.is_held());
-    assert!(rt; !one.collection.holds(&other.search) && !other.collection.holds(&one.search));
-    Ok(())
+fn a_search_of_other_macros_is_not_held(rt: HostRuntime) -> Result<(), AllocError> {
+    let steps = [
+        Add(TOP, "[attr]m x\n"),
+        Held,
+        Turn,
+        TurnCollections,
+        Add(TOP, "[attr]n x\n"),
+        Held,
+        Turn,
+        Held,
+        Turn,
+        TurnCollections,
+        Held,
+    ];
+    expect(&rt, rt.alloc(), &steps, "true\ntrue\nfalse\nfalse\n")
 }
 
 #[test]
-fn popping_takes_no_other_search_s_definitions(rt: HostRuntime) -> Result<(), Fail> {
-    let mut collection = MetadataCollection::new(rt.alloc());
-    let mut first = Search::new(rt.alloc());
-    let mut second = Search::new(rt.alloc());
-    add(rt.alloc(), &mut first, &mut collection, b"[attr]m x\n")?;
-    add(rt.alloc(), &mut second, &mut collection, b"[attr]m y\n")?;
-    assert!(rt; collection.holds(&first) && collection.holds(&second));
-    assert!(rt; pop(&mut first, &mut collection).is_some());
-    assert_eq!(rt; known(rt.alloc(), &collection)?.as_str(), "m: y\nx:\ny:\n");
-    assert!(rt; pop(&mut second, &mut collection).is_some());
-    assert_eq!(rt; known(rt.alloc(), &collection)?.as_str(), "m:\nx:\ny:\n");
-    assert!(rt; pop(&mut second, &mut collection).is_none());
-    Ok(())
-}
-
-#[test]
-fn a_search_is_held_by_names(rt: HostRuntime) -> Result<(), Fail> {
-    let mut one = with_list(rt.alloc(), b"[attr]m\n")?;
-    let mut other = with_list(rt.alloc(), b"* z\n[attr]m\n")?;
-    assert!(rt; other.collection.holds(&one.search) && one.collection.holds(&other.search));
-    // The macro has the number 0 in the search, and 1 in the collection.
-    assert!(rt; pop(&mut one.search, &mut other.collection).is_some());
-    assert!(rt; !other.is_held() && other.collection.holds(&one.search));
-    let mut third = Search::new(rt.alloc());
-    add(
+fn popping_takes_no_other_search_s_definitions(rt: HostRuntime) -> Result<(), AllocError> {
+    let steps = [
+        Add(TOP, "[attr]m x\n"),
+        Turn,
+        Add(TOP, "[attr]m y\n"),
+        Held,
+        Turn,
+        Held,
+        Removed,
+        Names,
+        Turn,
+        Removed,
+        Names,
+        Removed,
+    ];
+    expect(
+        &rt,
         rt.alloc(),
-        &mut third,
-        &mut other.collection,
-        b"[attr]m x\n",
-    )?;
-    assert!(rt; other.collection.holds(&third));
-    assert_eq!(rt; other.known(rt.alloc())?.as_str(), "z:\nm: x\nx:\n");
-    Ok(())
+        &steps,
+        "true\ntrue\nremoved\nm: y\nx:\ny:\nremoved\nm:\nx:\ny:\nno list\n",
+    )
 }
 
+// The macro has the number 0 in its search, and 1 in the other collection.
 #[test]
-fn a_body_of_other_numbers_is_not_held(rt: HostRuntime) -> Result<(), Fail> {
-    let one = with_list(rt.alloc(), b"[attr]m x\n")?;
-    let other = with_list(rt.alloc(), b"* z\n[attr]m x\n")?;
-    assert!(rt; !one.collection.holds(&other.search) && !other.collection.holds(&one.search));
-    Ok(())
-}
-
-#[test]
-fn lists_of_two_searches_go_in_any_order(rt: HostRuntime) -> Result<(), Fail> {
-    for first_goes_first in [true, false] {
-        let mut collection = MetadataCollection::new(rt.alloc());
-        let mut first = Search::new(rt.alloc());
-        let mut second = Search::new(rt.alloc());
-        add(rt.alloc(), &mut first, &mut collection, b"[attr]m x\n")?;
-        add(rt.alloc(), &mut second, &mut collection, b"[attr]m y\n")?;
-        let (one, other, left) = if first_goes_first {
-            (&mut first, &mut second, "m: y\nx:\ny:\n")
-        } else {
-            (&mut second, &mut first, "m: x\nx:\ny:\n")
-        };
-        assert!(rt; pop(one, &mut collection).is_some() && collection.holds(other));
-        assert_eq!(rt; known(rt.alloc(), &collection)?.as_str(), left);
-        assert!(rt; pop(other, &mut collection).is_some());
-        assert_eq!(rt; known(rt.alloc(), &collection)?.as_str(), "m:\nx:\ny:\n");
-    }
-    Ok(())
-}
-
-#[test]
-fn copies_are_equal(rt: HostRuntime) -> Result<(), Fail> {
-    let mut lists = with_list(rt.alloc(), b"[attr]m x=1\n*.c m\n")?;
-    add_from(
+fn a_search_is_held_by_names(rt: HostRuntime) -> Result<(), AllocError> {
+    let steps = [
+        Add(TOP, "[attr]m\n"),
+        Turn,
+        TurnCollections,
+        Add(TOP, "* z\n[attr]m\n"),
+        TurnCollections,
+        Held,
+        Turn,
+        TurnCollections,
+        Held,
+        Removed,
+        Held,
+        Turn,
+        Held,
+        Turn,
+        Add(TOP, "[attr]m x\n"),
+        Held,
+        Names,
+    ];
+    expect(
+        &rt,
         rt.alloc(),
-        &mut lists.search,
-        &mut lists.collection,
-        "a/.gitattributes",
-        b"/b -x\n",
-    )?;
-    let copy = lists.clone(rt.alloc())?;
-    assert!(rt; copy.search == lists.search);
-    assert!(rt; copy.is_held());
-    let text = copy.known(rt.alloc())?;
-    assert_eq!(rt; text.as_str(), "m: x=1\nx:\n");
-    Ok(())
+        &steps,
+        "true\ntrue\nremoved\ntrue\nfalse\ntrue\nz:\nm: x\nx:\n",
+    )
 }
 
 #[test]
-fn a_list_of_no_search_is_numbered(rt: HostRuntime) -> Result<(), Fail> {
-    let mut collection = MetadataCollection::new(rt.alloc());
-    let mut lists = with_list(rt.alloc(), b"* y\n[attr]m x y\n")?;
-    let Some(mut list) = lists.pop() else {
+fn a_body_of_other_numbers_is_not_held(rt: HostRuntime) -> Result<(), AllocError> {
+    let steps = [
+        Add(TOP, "[attr]m x\n"),
+        Turn,
+        TurnCollections,
+        Add(TOP, "* z\n[attr]m x\n"),
+        Turn,
+        Held,
+        Turn,
+        TurnCollections,
+        Held,
+    ];
+    expect(&rt, rt.alloc(), &steps, "false\nfalse\n")
+}
+
+#[test]
+fn the_list_of_the_first_search_goes_first(rt: HostRuntime) -> Result<(), AllocError> {
+    let steps = [
+        Add(TOP, "[attr]m x\n"),
+        Turn,
+        Add(TOP, "[attr]m y\n"),
+        Turn,
+        Removed,
+        Turn,
+        Held,
+        Names,
+        Removed,
+        Names,
+    ];
+    expect(
+        &rt,
+        rt.alloc(),
+        &steps,
+        "removed\ntrue\nm: y\nx:\ny:\nremoved\nm:\nx:\ny:\n",
+    )
+}
+
+#[test]
+fn the_list_of_the_second_search_goes_first(rt: HostRuntime) -> Result<(), AllocError> {
+    let steps = [
+        Add(TOP, "[attr]m x\n"),
+        Turn,
+        Add(TOP, "[attr]m y\n"),
+        Removed,
+        Turn,
+        Held,
+        Names,
+        Removed,
+        Names,
+    ];
+    expect(
+        &rt,
+        rt.alloc(),
+        &steps,
+        "removed\ntrue\nm: x\nx:\ny:\nremoved\nm:\nx:\ny:\n",
+    )
+}
+
+#[test]
+fn copies_are_equal(rt: HostRuntime) -> Result<(), AllocError> {
+    let steps = [
+        Add(TOP, "[attr]m x=1\n*.c m\n"),
+        Add("a/.gitattributes", "/b -x\n"),
+        CloneLists,
+        Held,
+        Names,
+    ];
+    expect(&rt, rt.alloc(), &steps, "true\nm: x=1\nx:\n")
+}
+
+// The names of a new collection with the list alone.
+fn numbered(
+    rt: &impl Abort,
+    alloc: Global,
+    list: &mut List<Attributes>,
+) -> Result<String, AllocError> {
+    let mut collection = MetadataCollection::new(alloc);
+    assert!(rt; MetadataCollection::macros_valid(list));
+    collection.update_from_list(alloc, list)?;
+    known(alloc, &collection)
+}
+
+#[test]
+fn a_list_of_no_search_is_numbered(rt: HostRuntime) -> Result<(), AllocError> {
+    let Some(mut list) = popped(rt.alloc(), b"* y\n[attr]m x y\n")? else {
         panic!(rt; "there is one list");
     };
-    assert!(rt; MetadataCollection::macros_valid(&list));
-    collection.update_from_list(rt.alloc(), &mut list)?;
-    let text = known(rt.alloc(), &collection)?;
+    let text = numbered(&rt, rt.alloc(), &mut list)?;
     assert_eq!(rt; text.as_str(), "y:\nm: x y\nx:\n");
     Ok(())
 }
 
-#[test]
-fn a_list_that_comes_and_goes_leaves_nothing(rt: HostRuntime) -> Result<(), Fail> {
-    let mut lists = with_list(rt.alloc(), b"[attr]m x\n")?;
+fn come_and_go(rt: &impl Abort, alloc: Global, lists: &mut Registered) -> Result<(), AllocError> {
     for _ in 0..10_000 {
-        lists.add(rt.alloc(), b"[attr]m y\n* m\n")?;
+        lists.add(alloc, b"[attr]m y\n* m\n")?;
         assert!(rt; lists.pop().is_some());
     }
+    Ok(())
+}
+
+#[test]
+fn a_list_that_comes_and_goes_leaves_nothing(rt: HostRuntime) -> Result<(), AllocError> {
+    let mut lists = with_list(rt.alloc(), b"[attr]m x\n")?;
+    come_and_go(&rt, rt.alloc(), &mut lists)?;
     assert_eq!(rt; lists.known(rt.alloc())?.as_str(), "m: x\nx:\ny:\n");
     Ok(())
 }

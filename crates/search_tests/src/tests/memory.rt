@@ -2,10 +2,10 @@
 //!
 //! `tests/refused_memory.sh` refuses one request of a test in turn. The repeated call gets its memory.
 use super::added_files::{added_report, globals_report, two_files};
-use super::lists::Registered;
+use super::lists::popped;
 use super::scene::Step::{
-    Add, AddWithoutMacros, Begin, Clone, Copy, Count, Find, Fit, Numbers, Places, Pop, Reset, Rows,
-    Select, Show, Turn, TurnOutcomes,
+    Add, AddWithoutMacros, Begin, Clone, CloneLists, Copy, Count, Find, Fit, Held, Names, Numbers,
+    Places, Pop, Reset, Rows, Select, Show, Turn, TurnOutcomes,
 };
 use super::scene::{TOP, count_of_names, expect_again, report_again};
 use gix_attributes::files::{Files, Memory, ReadError};
@@ -115,26 +115,11 @@ fn without_memory_outcomes_are_copied_again(rt: HostRuntime) -> Result<(), Alloc
     expect_again(&rt, rt.alloc(), &steps, answer)
 }
 
-// Whether the copy of a search is equal to it, and the copy of its collection holds it.
-fn is_copied(alloc: Global, text: &[u8]) -> Result<bool, AllocError> {
-    let mut lists = Registered::new(alloc);
-    lists.add(alloc, text)?;
-    let copy = lists.clone(alloc)?;
-    Ok(copy.search == lists.search && copy.is_held())
-}
-
+// The copy of a search is equal to it, and the copy of its collection holds it.
 #[test]
 fn without_memory_searches_are_copied_again(rt: HostRuntime) -> Result<(), AllocError> {
-    let (alloc, text) = (rt.alloc(), b"[attr]m x=1\n*.c m\n");
-    assert!(rt; is_copied(alloc, text).or_else(|_| is_copied(alloc, text))?);
-    Ok(())
-}
-
-// A list that was added and removed.
-fn popped(alloc: Global, text: &[u8]) -> Result<Option<List<Attributes>>, AllocError> {
-    let mut lists = Registered::new(alloc);
-    lists.add(alloc, text)?;
-    Ok(lists.pop())
+    let steps = [Add(TOP, "[attr]m x=1\n*.c m\n"), CloneLists, Held, Names];
+    expect_again(&rt, rt.alloc(), &steps, "true\nm: x=1\nx:\n")
 }
 
 // Whether a new collection numbers a list, which it does not know after a refusal.

@@ -25,6 +25,18 @@ pub(super) enum Step<'a> {
     Globals,
     /// Removes the last list.
     Pop,
+    /// Removes the last list, and reports whether there was one.
+    Removed,
+    /// Reports whether the collection holds the search.
+    Held,
+    /// Reports the names by number, each with its body.
+    Names,
+    /// Reports the number of lists.
+    Lists,
+    /// Changes to clones of the collection and of the search, which have to be equal.
+    CloneLists,
+    /// Changes to the other collection.
+    TurnCollections,
     /// Changes to the other search over the same collection.
     Turn,
     /// Changes to a new collection, with new searches. The outcomes stay.
@@ -97,10 +109,11 @@ fn answers(alloc: Global, outcome: &Outcome) -> Result<String, AllocError> {
     format!(in alloc; "{outcome:?} {taken} {tested}")
 }
 
-/// A collection with two searches, and two outcomes, of which steps use one each.
+/// Two collections, two searches and two outcomes, of which steps use one each.
 #[derive(Drop)]
 struct Scene {
     collection: MetadataCollection,
+    other_collection: MetadataCollection,
     search: Search,
     other_search: Search,
     outcome: Outcome,
@@ -126,7 +139,15 @@ pub(super) fn report(
     steps: &[Step<'_>],
 ) -> Result<String, AllocError> {
     let mut out = String::new(alloc);
-    take_all(rt, alloc, steps, &mut out)?;
+    take_all(
+        rt,
+        alloc,
+        Steps {
+            steps,
+            again: false,
+        },
+        &mut out,
+    )?;
     Ok(out)
 }
 
@@ -149,16 +170,22 @@ pub(super) fn report_again(
     steps: &[Step<'_>],
 ) -> Result<String, AllocError> {
     let mut out = String::new(alloc);
-    let mut scene = Scene::new(alloc);
-    scene.take_all_again(rt, alloc, steps, &mut out)?;
+    take_all(rt, alloc, Steps { steps, again: true }, &mut out)?;
     Ok(out)
+}
+
+// What a scene does, and whether a step that finds no memory is taken once more.
+#[derive(Clone, Copy)]
+struct Steps<'a> {
+    steps: &'a [Step<'a>],
+    again: bool,
 }
 
 // Nothing else owns a scene, which takes long to drop in a proof.
 fn take_all(
     rt: &impl Abort,
     alloc: Global,
-    steps: &[Step<'_>],
+    steps: Steps<'_>,
     out: &mut String,
 ) -> Result<(), AllocError> {
     let mut scene = Scene::new(alloc);
@@ -169,6 +196,7 @@ impl Scene {
     fn new(alloc: Global) -> Scene {
         Scene {
             collection: MetadataCollection::new(alloc),
+            other_collection: MetadataCollection::new(alloc),
             search: Search::new(alloc),
             other_search: Search::new(alloc),
             outcome: Outcome::new(alloc),
@@ -180,24 +208,15 @@ impl Scene {
         &mut self,
         rt: &impl Abort,
         alloc: Global,
-        steps: &[Step<'_>],
+        steps: Steps<'_>,
         out: &mut String,
     ) -> Result<(), AllocError> {
-        for step in steps {
-            self.take(rt, alloc, *step, out)?;
-        }
-        Ok(())
-    }
-
-    fn take_all_again(
-        &mut self,
-        rt: &impl Abort,
-        alloc: Global,
-        steps: &[Step<'_>],
-        out: &mut String,
-    ) -> Result<(), AllocError> {
-        for step in steps {
-            self.take_again(rt, alloc, *step, out)?;
+        for step in steps.steps {
+            if steps.again {
+                self.take_again(rt, alloc, *step, out)?;
+            } else {
+                self.take(rt, alloc, *step, out)?;
+            }
         }
         Ok(())
     }
@@ -251,6 +270,12 @@ impl Scene {
             Step::AddWithoutMacros(text) => self.add(alloc, TOP, text, false),
             Step::Globals => self.read_globals(alloc),
             Step::Pop => self.pop(rt),
+            Step::Removed => self.remove(out),
+            Step::Held => self.push_held(alloc, out),
+            Step::Names => self.push_names(alloc, out),
+            Step::Lists => self.push_count(alloc, out),
+            Step::CloneLists => self.clone_lists(rt, alloc),
+            Step::TurnCollections => self.turn_collections(),
             Step::Turn => self.turn(),
             Step::Renew => self.renew(alloc),
             Step::Select(names) => self.select(alloc, names),
@@ -299,6 +324,47 @@ impl Scene {
     fn pop(&mut self, rt: &impl Abort) -> Result<(), AllocError> {
         assert!(rt; self.collection.holds(&self.search));
         let _ = self.search.pop_pattern_list(&mut self.collection);
+        Ok(())
+    }
+
+    // Nothing is removed if the collection does not hold the search.
+    fn remove(&mut self, out: &mut String) -> Result<(), AllocError> {
+        out.reserve(9)?;
+        if !self.collection.holds(&self.search) {
+            return out.push_str("not held\n");
+        }
+        match self.search.pop_pattern_list(&mut self.collection) {
+            Some(_) => out.push_str("removed\n"),
+            None => out.push_str("no list\n"),
+        }
+    }
+
+    fn push_held(&self, alloc: Global, out: &mut String) -> Result<(), AllocError> {
+        let is_held = self.collection.holds(&self.search);
+        out.push_str(format!(in alloc; "{is_held}\n")?.as_str())
+    }
+
+    fn push_names(&self, alloc: Global, out: &mut String) -> Result<(), AllocError> {
+        let names = known(alloc, &self.collection)?;
+        out.push_str(names.as_str())
+    }
+
+    fn push_count(&self, alloc: Global, out: &mut String) -> Result<(), AllocError> {
+        let count = self.search.num_pattern_lists();
+        out.push_str(format!(in alloc; "{count}\n")?.as_str())
+    }
+
+    fn clone_lists(&mut self, rt: &impl Abort, alloc: Global) -> Result<(), AllocError> {
+        let collection = self.collection.clone(alloc)?;
+        let search = self.search.clone(alloc)?;
+        assert!(rt; search == self.search);
+        self.collection = collection;
+        self.search = search;
+        Ok(())
+    }
+
+    fn turn_collections(&mut self) -> Result<(), AllocError> {
+        mem::swap(&mut self.collection, &mut self.other_collection);
         Ok(())
     }
 
