@@ -1,6 +1,6 @@
 //! Rows, which are indexes of keys, in the order of the keys' codes.
 
-ghost use Rattle.std.specs.Prelude.{◌≡◌, ◌==◌, ◌&&◌, ◌||◌, ℕ, OnOk, false, true, nat_eq, slice_index};
+ghost use Rattle.std.specs.Prelude.{◌≡◌, ◌==◌, ◌&&◌, ◌||◌, ◌++◌, ℕ, OnOk, false, true, nat_eq, slice_index};
 ghost use Rattle.std.specs.Bool.{OnTrue};
 ghost use Rattle.std.specs.List.{filter, starts_with};
 ghost use Rattle.std.specs.List.Sorted.{IsNonDecreasingBy};
@@ -64,11 +64,31 @@ pub fn append_found(
         if left.len() <= FEW {
             return append_had(keys, left, text, found);
         }
-        found.extend_from_slice(narrowed(keys, left, place, 0))?;
+        append_ended(keys, left, place, found)?;
         left = narrowed(keys, left, place, code(text, true, place));
     }
-    found.extend_from_slice(narrowed(keys, left, text.len() + 1, 0))?;
-    Ok(())
+    append_ended(keys, left, text.len() + 1, found)
+}
+
+// Appends the numbers of the keys that end at a place, if the codes there don't fall. Most often the first key goes on,
+// and so do the others.
+fn append_ended(
+    keys: &[Key],
+    rows: &[usize],
+    place: usize,
+    found: &mut Vec<usize>,
+) -> Result<(), AllocError>
+    requires { IsNonDecreasingBy (λ row. slice_index (row_codes keys.now row) place) rows.now }
+    ensures { OnOk result (found.new.items ≡ found.old.items
+        ++ filter (λ row. slice_index (row_codes keys.now row) place == 0) rows.now) }
+{
+    let Some(first) = rows.first() else {
+        return Ok(());
+    };
+    if row_code(keys, *first, place) > 0 {
+        return Ok(());
+    }
+    found.extend_from_slice(narrowed(keys, rows, place, 0))
 }
 
 // Appends the numbers of the keys that the text has, each of which is compared.

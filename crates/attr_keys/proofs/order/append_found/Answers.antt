@@ -1,4 +1,5 @@
-use Rattle.std.proofs.Common.{◌≡◌, ◌+◌, ◌||◌, ◌&&◌, false, true, length, ap, ◌∙◌, arith}
+use Rattle.std.proofs.Common.{◌≡◌, ◌+◌, ◌||◌, ◌&&◌, false, true, length, slice_index, eqb, ap, ◌∙◌, arith, refl}
+use Rattle.std.specs.List.{filter}
 use Rattle.std.proofs.lemmas.Result.{on_ok_weaker}
 use Rattle.attr_keys.specs.inner.Codes.{codes_of, row_codes}
 use Rattle.attr_keys.specs.inner.Rows.{has_row}
@@ -21,8 +22,8 @@ returns-then-left-le-FEW c =
     c.append_had.new.found.items c.loop-place.place row c.loop-place.invariant.left (c.loop-place.invariant.found row) (has row))
     c.append_had.ensures
 
-pub narrowed-requires : goal.narrowed-requires
-narrowed-requires c =
+pub append_ended-requires : goal.append_ended-requires
+append_ended-requires c =
     let codes = row_codes c.args.keys.now in
     let text = codes_of false c.args.text.now true in
     let len = length-codes false c.args.text.now in
@@ -51,13 +52,13 @@ loop-place-preserved c =
           (codes_positive false c.args.text.now true)
           c.loop-place.invariant.left c.code.ensures c.narrowed-left.ensures;
       found = λ row.
-          found_next codes text rows left c.args.found.now.items c.loop-place.found.items c.extend_from_slice.new.self.items c.narrowed.result.now
-          place row (omega arith) (row_positive c.args.keys.now) c.loop-place.invariant.left c.narrowed.ensures
-          c.in_ok-extend_from_slice.ensures.items (c.loop-place.invariant.found row);
+          found_next codes text rows left c.args.found.now.items c.loop-place.found.items c.append_ended.new.found.items
+          (filter (λ r. eqb (slice_index (codes r) place) 0) left) place row (omega arith) (row_positive c.args.keys.now)
+          c.loop-place.invariant.left refl c.in_ok-append_ended.ensures (c.loop-place.invariant.found row);
     }
 
-pub narrowed-requires-2 : goal.narrowed-requires-2
-narrowed-requires-2 c =
+pub append_ended-requires-2 : goal.append_ended-requires-2
+append_ended-requires-2 c =
     let codes = row_codes c.args.keys.now in
     let text = codes_of false c.args.text.now true in
     let len = length-codes false c.args.text.now in
@@ -67,7 +68,7 @@ narrowed-requires-2 c =
     (left_rises codes text (length c.args.text.now + 1) c.args.rows.now (omega arith) c.requires)
 
 pub returns : goal.returns
-returns c = λ row.
+returns c =
     let codes = row_codes c.args.keys.now in
     let text = codes_of false c.args.text.now true in
     let rows = c.args.rows.now in
@@ -75,10 +76,11 @@ returns c = λ row.
     let place = length c.args.text.now + 1 in
     let len = length-codes false c.args.text.now in
     let over : c.loop-place.place ≡ place = omega arith in
-    let found = c.loop-place.invariant.found row
+    on_ok_weaker c.append_ended-2.result
+    (λ more row. let found = c.loop-place.invariant.found row
     ∙ ap (λ n. has_row c.args.found.now.items row || (has_row rows row && is_found text n (codes row))) over in
-    found_next codes text rows left c.args.found.now.items c.loop-place.found.items _ c.narrowed-2.result.now
+    found_next codes text rows left c.args.found.now.items c.loop-place.found.items _ (filter (λ r. eqb (slice_index (codes r) place) 0) left)
     place row (omega arith) (row_positive c.args.keys.now)
-    (c.loop-place.invariant.left ∙ ap (λ n. begun codes text n rows) over) c.narrowed-2.ensures
-    c.in_ok-extend_from_slice-2.ensures.items found
-    ∙ ap (λ b. has_row c.args.found.now.items row || (has_row rows row && b)) (found_all text (codes row) (place + 1) (omega arith))
+    (c.loop-place.invariant.left ∙ ap (λ n. begun codes text n rows) over) refl more found
+    ∙ ap (λ b. has_row c.args.found.now.items row || (has_row rows row && b)) (found_all text (codes row) (place + 1) (omega arith)))
+    c.append_ended-2.ensures
