@@ -1,9 +1,12 @@
 -- The first place at which a stretch fits between two stars is the best one: the later star takes what others would take.
-use Rattle.std.proofs.Common.{◌≡◌, ◌≤◌, ℕ, zero, suc, arith, Bool, true, false, not, ◌&&◌, ◌||◌, ◌==◌, List, [], ◌∷◌, ◌++◌, length, drop, take}
-use Rattle.std.proofs.Common.{get_or, ◌<◌, Some, None}
+use Rattle.std.proofs.Common.{◌≡◌, ◌≢◌, ◌≤◌, ℕ, zero, suc, arith, Bool, true, false, not, ◌&&◌, ◌||◌, ◌==◌, List, [], ◌∷◌, ◌++◌, length, drop, take}
+use Rattle.std.proofs.Common.{get_or, ◌<◌, ◌+◌, Some, None}
 use Rattle.std.proofs.Common.{refl, sym, ap, ◌∙◌}
-use Rattle.std.specs.List.{list_any}
+use Rattle.std.specs.List.{list_any, position, position_from}
+use Rattle.std.proofs.lemmas.Iterator.Adapters.{position_from-zero}
+use Rattle.std.proofs.lemmas.List.Quantifiers.{position-Some}
 use Rattle.attr_glob.specs.declared.pattern.Case.{Case}
+use Rattle.attr_glob.specs.declared.pattern.Case.TheVariants.{Sensitive, Fold}
 use Rattle.attr_glob.specs.Bytes.{slash}
 use Rattle.attr_glob.specs.declared.token.Token as written
 use Rattle.attr_glob.specs.TokenList.{token_of, tokens_of}
@@ -176,3 +179,29 @@ pub fits-few : (case : Case) (p : List Token) (v : List ℕ) → fits case p v �
 fits-few case [] v h = omega arith
 fits-few case (t ∷ p) [] h = absurd cc
 fits-few case (t ∷ p) (b ∷ bs) h = let few = fits-few case p bs (and_second (takes_byte case t b) (fits case p bs) h) in omega (arith, few)
+
+skipped-to : (c : ℕ) (p : List Token) (v : List ℕ) (k : ℕ) → k < length v → (get_or v k 0 == c) ≡ true →
+    ((i : ℕ) → i < k → (get_or v i 0 == c) ≡ false) → after_first Sensitive (lit c ∷ p) v ≡ after_first Sensitive (lit c ∷ p) (drop k v)
+skipped-to c p [] k inside here before = absurd (omega (arith, inside))
+skipped-to c p (b ∷ bs) zero inside here before = refl
+skipped-to c p (b ∷ bs) (suc k) inside here before =
+    rw (before 0 (omega arith)) (skipped-to c p bs k (omega (arith, inside)) here (λ i l. before (suc i) (omega (arith, l))))
+
+never-fits : (c : ℕ) (p : List Token) (i : ℕ) (v : List ℕ) → position_from (λ b. b == c) i v ≡ None →
+    after_first Sensitive (lit c ∷ p) v ≡ None
+never-fits c p i [] h = refl
+never-fits c p i (b ∷ bs) h =
+    by_test (b == c) (λ t. absurd (let e = rw t at h in cc)) (λ t. rw t (never-fits c p (i + 1) bs (rw t at h)))
+
+-- a stretch that begins with a byte whose case matters fits nowhere before the first such byte
+pub skips-to : (case : Case) (ts : List Token) (c : ℕ) (p : List Token) (v : List ℕ) (k : ℕ) → case ≢ Fold → ts ≡ lit c ∷ p →
+    position (λ b. b == c) v ≡ Some k → after_first case ts v ≡ after_first case ts (drop k v)
+skips-to Sensitive ts c p v k f e h =
+    let found = position-Some (λ b. b == c) v k 0 h in rw e (skipped-to c p v k found.0 found.1 found.2)
+skips-to Fold ts c p v k f e h = absurd (f refl)
+
+-- and nowhere if there is none
+pub skips-all : (case : Case) (ts : List Token) (c : ℕ) (p : List Token) (v : List ℕ) → case ≢ Fold → ts ≡ lit c ∷ p →
+    position (λ b. b == c) v ≡ None → after_first case ts v ≡ None
+skips-all Sensitive ts c p v f e h = rw e (never-fits c p 0 v (sym (position_from-zero (λ b. b == c) v) ∙ h))
+skips-all Fold ts c p v f e h = absurd (f refl)

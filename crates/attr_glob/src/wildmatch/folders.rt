@@ -113,13 +113,13 @@ pub(crate) fn match_early(
     if let Some(answer) = answer_alone(tokens, value) {
         return answer;
     }
+    if let [Token::Dirs, others @ ..] = tokens {
+        return match_folders(tokens, others, value, case, rows);
+    }
     if !pattern::has_slash(value) {
         if let Some(answer) = match_stretches(tokens, value, case) {
             return answer;
         }
     }
-    match tokens {
-        [Token::Dirs, others @ ..] => match_folders(tokens, others, value, case, rows),
-        _ => run(tokens, value, case, &mut rows.row, &mut rows.next).0,
-    }
+    run(tokens, value, case, &mut rows.row, &mut rows.next).0
 }

@@ -1,10 +1,10 @@
 //! Matching of stars with stretches of tokens of one byte between them: in a value without a slash, each stretch is looked
 //! for from the left to the right, and no row is moved.
 
-ghost use Rattle.std.specs.Prelude.{◌≡◌, ◌∷◌, ◌++◌, ◌≤◌, ◌<◌, IfSome, IsTrue, true, false, length, option_map};
+ghost use Rattle.std.specs.Prelude.{◌≡◌, ◌∷◌, ◌++◌, ◌≤◌, ◌<◌, IfSome, IfNone, IsTrue, None, ◌==◌, true, false, length, option_map, position};
 ghost use Rattle.std.specs.List.{list_any};
 ghost use Rattle.attr_glob.specs.Patterns.{is_slash};
-ghost use Rattle.attr_glob.specs.Tokens.{star};
+ghost use Rattle.attr_glob.specs.Tokens.{lit, star};
 ghost use Rattle.attr_glob.specs.TokenList.{tokens_of};
 ghost use Rattle.attr_glob.specs.Deciding.{matches};
 ghost use Rattle.attr_glob.specs.inner.Stretches.{after_first, fits, is_stretch};
@@ -32,6 +32,42 @@ fn fits(stretch: &[Token], value: &[u8], case: Case) -> bool
     true
 }
 
+// The byte that the first token stands for, if it is a byte, and the tokens after it.
+fn first_literal(tokens: &[Token]) -> Option<(u8, &[Token])>
+    ensures { IfSome result (λ first.
+        tokens_of tokens.now ≡ lit first.0 ∷ tokens_of first.1.now) }
+{
+    match tokens {
+        [Token::Lit(byte), others @ ..] => Some((*byte, others)),
+        _ => None,
+    }
+}
+
+// The value from the first byte on with which the tokens may fit. They begin with that byte, if they begin with a byte
+// whose case matters. None if the value has no such byte.
+fn from_literal<'v>(stretch: &[Token], value: &'v [u8], case: Case) -> Option<&'v [u8]>
+    ensures found { IfSome result (λ rest. after_first case (tokens_of stretch.now) value.now
+        ≡ after_first case (tokens_of stretch.now) rest.now) }
+    ensures none { IfNone result (after_first case (tokens_of stretch.now) value.now ≡ None) }
+    ensures shorter { IfSome result (λ rest. length rest.now ≤ length value.now) }
+{
+    if let Case::Fold = case {
+        return Some(value);
+    }
+    let Some((byte, _)) = first_literal(stretch) else {
+        return Some(value);
+    };
+    let place = place_of(value, byte)?;
+    Some(&value[place..])
+}
+
+// The place of the first byte that is equal to this one.
+fn place_of(value: &[u8], byte: u8) -> Option<usize>
+    ensures { result ≡ position (λ b. b == byte) value.now }
+{
+    value.iter().position(|other| *other == byte)
+}
+
 // What follows the first bytes of the value that the tokens take, one each.
 fn after_first<'v>(stretch: &[Token], value: &'v [u8], case: Case) -> Option<&'v [u8]>
     ensures { option_map (λ after. after.now) result
@@ -39,6 +75,7 @@ fn after_first<'v>(stretch: &[Token], value: &'v [u8], case: Case) -> Option<&'v
 {
     let mut rest = value;
     loop {
+        rest = from_literal(stretch, rest, case)?;
         if fits(stretch, rest, case) {
             return Some(&rest[stretch.len()..]);
         }

@@ -2,6 +2,6 @@ use Rattle.attr_glob.specs.TokenList.{tokens_of}
 use Rattle.attr_glob.proofs.Ends.{exact_answer}
 use Rattle.attr_glob.proofs.wildmatch.folders.match_early.Goals as goal
 
-pub returns-in_default-tokens-clause-matched : goal.returns-in_default-tokens-clause-matched
-returns-in_default-tokens-clause-matched c = exact_answer c.args.case (tokens_of c.args.tokens.now) c.args.value.now c.run.result.0
+pub returns-clause-matched : goal.returns-clause-matched
+returns-clause-matched c = exact_answer c.args.case (tokens_of c.args.tokens.now) c.args.value.now c.run.result.0
     c.run.ensures.matched.0 c.run.ensures.matched.1

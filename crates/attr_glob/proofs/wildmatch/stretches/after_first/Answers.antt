@@ -17,4 +17,5 @@ left case p value v f e =
 
 pub returns-then-fits : goal.returns-then-fits
 returns-then-fits c =
-    left c.args.case c.args.stretch.now c.args.value.now c.loop-case.rest.now (sym c.fits.ensures.fits ∙ c.if-fits.true) c.loop-case.invariant
+    left c.args.case c.args.stretch.now c.args.value.now c.in_ok-rest.rest.now (sym c.fits.ensures.fits ∙ c.if-fits.true)
+    (c.loop-rest.invariant ∙ c.in_ok-rest.ensures.found)
