@@ -4,7 +4,7 @@ use Rattle.std.proofs.Common.{None, refl, sym, ap, ◌∙◌, arith}
 use mir.Val.{bool_byte}
 use Rattle.std.proofs.lemmas.List.{length-set}
 use Rattle.std.proofs.lemmas.List.Sums.{sum_by-cons, sum_by-set}
-use Rattle.std.proofs.Common.{◌≢◌, ◌||◌, ⊎_elim, Less, Greater}
+use Rattle.std.proofs.Common.{◌≢◌, ◌%◌, ◌||◌, BTreeSet, ⊎_elim, Less, Greater}
 use Rattle.std.specs.BTreeMap.{is_at}
 use Rattle.std.specs.BTreeSet.{contains}
 use Rattle.std.specs.Cmp.{nat_cmp_is}
@@ -14,7 +14,7 @@ use Rattle.std.proofs.lemmas.Bool.{cases_eq, cases_lt}
 use Rattle.std.proofs.lemmas.List.{get_or-replicate, get_or-set_other, get_or-set_same, length-replicate}
 use Rattle.std.proofs.lemmas.List.FromFn.{fill_by_all, get_or-map-range_with_len, length-map-range_with_len}
 use Rattle.attr_search.specs.inner.SlotContents.{count_wanted, count_remaining}
-use Rattle.attr_search.specs.inner.WantedView.{is_flag_set, wanted_flags_view}
+use Rattle.attr_search.specs.inner.WantedView.{AreSoundFlags, is_flag_set, wanted_flags_view}
 use Rattle.attr_search.specs.declared.wanted.WantedFlags.TheInside.{Inside}
 
 abbrev one : Bool → ℕ
@@ -109,6 +109,30 @@ flags_more w v number lt len all here others =
     (λ (apart : k ≢ number). get_or-set_other flags number k true false apart ∙ flag_at w k (omega (arith, below, len))
     ∙ sym (ap (λ b. b || contains nat_cmp v.numbers k) all ∙ ap (λ b. w.all || b) (others k (at_other number k apart))))
     (cases_eq k number)))
+
+-- an empty set has no number
+pub none_has : (number : ℕ) (numbers : BTreeSet ℕ) → contains nat_cmp numbers number ≡ true → numbers.keys ≡ [] → ⊥
+none_has number numbers has none = let e = sym (ap (list_any (is_at (nat_cmp number))) none) ∙ has in cc
+
+if_true : (a b : Bool) → (a ≡ true → b ≡ true) → b ≡ false → a ≡ false
+if_true true b h out = absurd (let e = sym (h refl) ∙ out in cc)
+if_true false b h out = refl
+
+-- a number whose remainder is not noted is not set
+pub not_noted : (w : Inside) (k : ℕ) → AreSoundFlags w → get_or w.noted (k % 64) false ≡ false → contains nat_cmp w.numbers k ≡ false
+not_noted w k sound out = if_true (contains nat_cmp w.numbers k) (get_or w.noted (k % 64) false) (sound.noted k) out
+
+-- the remainder of one more number is noted
+pub more_noted : (w : Inside) (numbers : BTreeSet ℕ) (number k : ℕ) → AreSoundFlags w → length w.noted ≡ 64 →
+    ((k : ℕ) → is_at (nat_cmp number) k ≡ false → contains nat_cmp numbers k ≡ contains nat_cmp w.numbers k) →
+    contains nat_cmp numbers k ≡ true → get_or (set w.noted (number % 64) true) (k % 64) false ≡ true
+more_noted w numbers number k sound len others has =
+    ⊎_elim
+    (λ (same : k % 64 ≡ number % 64). ap (λ i. get_or (set w.noted (number % 64) true) i false) same
+    ∙ get_or-set_same w.noted (number % 64) true false (omega (arith, len)))
+    (λ (apart : k % 64 ≢ number % 64). get_or-set_other w.noted (number % 64) (k % 64) true false apart
+    ∙ sound.noted k (sym (others k (at_other number k (λ e. apart (ap (λ n. n % 64) e)))) ∙ has))
+    (cases_eq (k % 64) (number % 64))
 
 -- where all slots are free, each wanted one is left
 pub count_empty : {Y : Type 0} (X : Type 0) (flags : List Bool) (xs : List Y) → length flags ≡ length xs →

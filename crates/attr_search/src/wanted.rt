@@ -7,6 +7,9 @@ use std::alloc::{AllocError, Global};
 use std::collections::BTreeSet;
 use std::marker::Model;
 
+// Of so many remainders of numbers it is noted whether a number that is set has them.
+const REMAINDERS: usize = 64;
+
 /// For each number below a count whether it is wanted, and how many are. What it costs grows with those that were set one by one.
 #[derive(Drop)]
 pub struct WantedFlags {
@@ -14,6 +17,8 @@ pub struct WantedFlags {
     // Whether all flags are set. If not, those of these numbers are.
     all: bool,
     numbers: BTreeSet<usize>,
+    // Whether any of these numbers has the remainder, which tells of most others that they are not set.
+    noted: [bool; REMAINDERS],
     // How many flags are set.
     count: usize,
 }
@@ -23,11 +28,11 @@ impl Model for WantedFlags {
 
     ghost Value = { List Bool };
 
-    ghost use Rattle.attr_search.specs.inner.WantedView.{IsCounted, wanted_flags_view};
+    ghost use Rattle.attr_search.specs.inner.WantedView.{AreSoundFlags, wanted_flags_view};
 
     ghost view = { wanted_flags_view };
 
-    ghost invariant = { IsCounted };
+    ghost invariant = { AreSoundFlags };
 }
 
 impl WantedFlags {
@@ -46,6 +51,7 @@ impl WantedFlags {
             len,
             all,
             numbers: BTreeSet::new(alloc),
+            noted: [false; REMAINDERS],
             count: if all { len } else { 0 },
         }
     }
@@ -62,6 +68,7 @@ impl WantedFlags {
             len: self.len,
             all: self.all,
             numbers: self.numbers.clone()?,
+            noted: self.noted,
             count: self.count,
         })
     }
@@ -85,7 +92,7 @@ impl WantedFlags {
         requires { number < length self.now }
         ensures { result ≡ slice_index_or self.now number false }
     {
-        self.all || self.numbers.contains(&number)
+        self.all || (self.noted[number % REMAINDERS] && self.numbers.contains(&number))
     }
 
     /// Sets the flag of a number.
@@ -102,6 +109,7 @@ impl WantedFlags {
             return Ok(());
         }
         self.numbers.insert(number)?;
+        self.noted[number % REMAINDERS] = true;
         self.count += 1;
         Ok(())
     }

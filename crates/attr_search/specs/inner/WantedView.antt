@@ -1,5 +1,5 @@
--- The flags of wanted numbers, and that the set ones are counted (own).
-use Rattle.std.specs.Prelude.{◌≡◌, ℕ, Bool, List, map, ◌||◌}
+-- The flags of wanted numbers, and what is kept of the set ones (own).
+use Rattle.std.specs.Prelude.{◌≡◌, ℕ, ◌%◌, Bool, true, false, List, map, ◌||◌, slice_index_or}
 use Rattle.std.specs.BTreeSet.{contains}
 use Rattle.std.specs.List.{range_with_len}
 use Rattle.std.specs.Ordering.{nat_cmp}
@@ -13,5 +13,7 @@ is_flag_set w number = w.all || contains nat_cmp w.numbers number
 abbrev pub wanted_flags_view : Inside → List Bool
 wanted_flags_view w = map (is_flag_set w) (range_with_len 0 w.len)
 
-abbrev pub IsCounted : Inside → Type 0
-IsCounted w = w.count ≡ count_wanted (wanted_flags_view w)
+-- the set ones are counted, and their remainders are noted
+pub record AreSoundFlags (w : Inside) : Type 0 where
+  pub counted : w.count ≡ count_wanted (wanted_flags_view w)
+  pub noted : (number : ℕ) → contains nat_cmp w.numbers number ≡ true → slice_index_or w.noted (number % 64) false ≡ true
