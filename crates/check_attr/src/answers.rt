@@ -1,6 +1,6 @@
 //! The text of the answers for a path, in the form of its question. It is written in pieces.
 
-ghost use Rattle.std.specs.Prelude.{◌≡◌, ◌++◌, OnOk, [], Some, slice_index_or, unwrap_or};
+ghost use Rattle.std.specs.Prelude.{◌≡◌, ◌++◌, OnOk, [], Some, codes, slice_index_or, unwrap_or};
 ghost use Rattle.std.specs.List.{flat_map};
 ghost use Rattle.gix_attributes.specs.TextViews.{state_view};
 ghost use Rattle.gix_attributes.specs.Matches.{match_view, cause_of};
@@ -52,10 +52,7 @@ fn push_entry(
         ≡ out.old.items ++ match_entry question.entry engine.now (match_view one.entry)) }
 {
     match question.form {
-        Form::Line => {
-            push_answer(out, question.path, ": ", one.assignment)?;
-            push_text(out, "\n")
-        }
+        Form::Line => push_line(out, question.path, one.assignment),
         Form::Zero => {
             push_answer(out, question.path, "\0", one.assignment)?;
             push_text(out, "\0")
@@ -67,6 +64,36 @@ fn push_entry(
             push_text(out, "\n")
         }
     }
+}
+
+// The path, the name and the state as a line. What follows the name is appended at once if it is one of few texts.
+fn push_line(
+    out: &mut Vec<u8>,
+    path: &[u8],
+    assignment: AssignmentRef<'_>,
+) -> Result<(), AllocError>
+    ensures { OnOk result (out.new.items
+        ≡ out.old.items ++ answer_text path.now (codes ": ") assignment.entry.name.text.now
+        (table_state (state_view assignment.entry.state)) ++ codes "\n") }
+{
+    push_bytes(out, path)?;
+    push_text(out, ": ")?;
+    push_text(out, assignment.name.as_str())?;
+    match assignment.state {
+        StateRef::Set => push_text(out, ": set\n"),
+        StateRef::Unset => push_text(out, ": unset\n"),
+        StateRef::Unspecified => push_text(out, ": unspecified\n"),
+        StateRef::Value(value) => push_value(out, value.as_bstr().as_bytes()),
+    }
+}
+
+fn push_value(out: &mut Vec<u8>, value: &[u8]) -> Result<(), AllocError>
+    ensures { OnOk result (out.new.items
+        ≡ out.old.items ++ codes ": " ++ value.now ++ codes "\n") }
+{
+    push_text(out, ": ")?;
+    push_bytes(out, value)?;
+    push_text(out, "\n")
 }
 
 // The path, the name and the state.
