@@ -186,10 +186,13 @@ fn macro_pattern(alloc: Global, name: &str) -> Result<attr_glob::Pattern, AllocE
     })
 }
 
+// The bits of the five flags.
+const ALL_BITS: u32 = 0b1_1111;
+
 fn macro_mode() -> Mode
     ensures { mode_bits result ≡ macro_mode }
 {
-    Mode::all()
+    Mode::from_bits_retain(ALL_BITS)
 }
 
 /// The mappings that define no macro, in their order. It takes no memory.

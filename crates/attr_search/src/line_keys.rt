@@ -55,9 +55,12 @@ fn shape_of(pattern: &Pattern) -> Shape<'_>
     }
 }
 
+// The bits of the five flags.
+const ALL_BITS: u32 = 0b1_1111;
+
 // All five flags, as in the pattern of a line that defines a macro.
 fn all_flags() -> Mode
     ensures { mode_bits result ≡ all_flags }
 {
-    Mode::all()
+    Mode::from_bits_retain(ALL_BITS)
 }

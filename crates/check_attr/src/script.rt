@@ -147,11 +147,11 @@ fn add_header(bytes: &[u8]) -> Option<(AddHeader, &[u8])>
 fn macro_flag(bytes: &[u8]) -> Option<(bool, &[u8])>
     ensures { option_map (with_rest (λ b. b)) result ≡ choice_of macro_flags bytes.now }
 {
-    if bytes.starts_with(b"m ") {
-        return Some((true, &bytes[2..]));
+    if let Some(rest) = strip_prefix(b"m ", bytes) {
+        return Some((true, rest));
     }
-    if bytes.starts_with(b"- ") {
-        return Some((false, &bytes[2..]));
+    if let Some(rest) = strip_prefix(b"- ", bytes) {
+        return Some((false, rest));
     }
     None
 }
@@ -235,14 +235,14 @@ fn ask_header(bytes: &[u8]) -> Option<(AskHeader, &[u8])>
 fn form_of(bytes: &[u8]) -> Option<(Form, &[u8])>
     ensures { option_map (with_rest (λ f. f)) result ≡ choice_of forms bytes.now }
 {
-    if bytes.starts_with(b"l ") {
-        return Some((Form::Line, &bytes[2..]));
+    if let Some(rest) = strip_prefix(b"l ", bytes) {
+        return Some((Form::Line, rest));
     }
-    if bytes.starts_with(b"z ") {
-        return Some((Form::Zero, &bytes[2..]));
+    if let Some(rest) = strip_prefix(b"z ", bytes) {
+        return Some((Form::Zero, rest));
     }
-    if bytes.starts_with(b"o ") {
-        return Some((Form::Origin, &bytes[2..]));
+    if let Some(rest) = strip_prefix(b"o ", bytes) {
+        return Some((Form::Origin, rest));
     }
     None
 }
@@ -250,11 +250,11 @@ fn form_of(bytes: &[u8]) -> Option<(Form, &[u8])>
 fn case_of(bytes: &[u8]) -> Option<(Case, &[u8])>
     ensures { option_map (with_rest (λ c. c)) result ≡ choice_of cases bytes.now }
 {
-    if bytes.starts_with(b"s ") {
-        return Some((Case::Sensitive, &bytes[2..]));
+    if let Some(rest) = strip_prefix(b"s ", bytes) {
+        return Some((Case::Sensitive, rest));
     }
-    if bytes.starts_with(b"i ") {
-        return Some((Case::Fold, &bytes[2..]));
+    if let Some(rest) = strip_prefix(b"i ", bytes) {
+        return Some((Case::Fold, rest));
     }
     None
 }
@@ -262,14 +262,14 @@ fn case_of(bytes: &[u8]) -> Option<(Case, &[u8])>
 fn folder_flag(bytes: &[u8]) -> Option<(Option<bool>, &[u8])>
     ensures { option_map (with_rest (λ d. d)) result ≡ choice_of folder_flags bytes.now }
 {
-    if bytes.starts_with(b"d ") {
-        return Some((Some(true), &bytes[2..]));
+    if let Some(rest) = strip_prefix(b"d ", bytes) {
+        return Some((Some(true), rest));
     }
-    if bytes.starts_with(b"f ") {
-        return Some((Some(false), &bytes[2..]));
+    if let Some(rest) = strip_prefix(b"f ", bytes) {
+        return Some((Some(false), rest));
     }
-    if bytes.starts_with(b"u ") {
-        return Some((None, &bytes[2..]));
+    if let Some(rest) = strip_prefix(b"u ", bytes) {
+        return Some((None, rest));
     }
     None
 }

@@ -57,9 +57,11 @@ impl SelectedName {
             rc_str_bytes selected.name ≡ rc_str_bytes self.now.name) }
         ensures number { IfOk result (λ selected. selected.number ≡ number) }
     {
+        let reported = self.reported.clone(alloc)?;
+        let name = self.name.clone()?;
         Ok(SelectedName {
-            name: self.name.clone()?,
-            reported: self.reported.clone(alloc)?,
+            name,
+            reported,
             number,
         })
     }
