@@ -125,11 +125,16 @@ pub const START: Place = Place {
 fn items(alloc: Global) -> Result<Items, AllocError> {
     let mut items = Vec::new(alloc);
     for attribute in 0..COUNT {
-        for state in [State::Set, State::Unset] {
-            items.push(Item { attribute, state })?;
-        }
+        push_states(&mut items, attribute)?;
     }
     Ok(items)
+}
+
+fn push_states(items: &mut Items, attribute: usize) -> Result<(), AllocError> {
+    for state in [State::Set, State::Unset] {
+        items.push(Item { attribute, state })?;
+    }
+    Ok(())
 }
 
 /// Every list of at most two items: 43 lists.

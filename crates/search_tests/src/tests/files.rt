@@ -1,8 +1,10 @@
 //! Reads of real files, and of files in memory.
 use gix_attributes::files::{Disk, Files, Memory, ReadError};
-use std::alloc::AllocError;
+use std::alloc::{AllocError, Global};
 use std::io::ErrorKind;
 use std::os::unix::fs::symlink;
+use std::path::Path;
+use std::rt::Files as HostFiles;
 use std::test::Fail;
 use std::{env, fs, io, process};
 
@@ -10,29 +12,57 @@ fn is_device(answer: &Result<bool, ReadError>) -> bool {
     matches!(answer, Err(ReadError::Device(_)))
 }
 
+// A file and a link to it.
+fn write_files<R: HostFiles>(rt: &R, alloc: Global, folder: Path<'_>) -> Result<(), Fail> {
+    fs::create_dir_all(rt, folder)?;
+    let file = folder.join(alloc, "plain")?;
+    fs::write(rt, file.as_path(), "* text\n")?;
+    let link = folder.join(alloc, "link")?;
+    Ok(symlink(rt, file.as_path(), link.as_path())?)
+}
+
+// Reads a file of the folder into a buffer that isn't empty, and reports whether there is one, and what is in the buffer then.
+fn push_read<R: HostFiles>(
+    alloc: Global,
+    folder: Path<'_>,
+    name: &str,
+    disk: &mut Disk<'_, R>,
+    out: &mut Vec<u8>,
+) -> Result<(), Fail> {
+    let path = folder.join(alloc, name)?;
+    let mut buf = b"before".to_vec(alloc)?;
+    let answer = if disk.read_into(path.as_str(), &mut buf)? {
+        "read "
+    } else {
+        "missing "
+    };
+    out.extend_from_slice(answer.as_bytes())?;
+    Ok(out.extend_from_slice(&buf)?)
+}
+
+fn push_reads<R: HostFiles>(
+    alloc: Global,
+    folder: Path<'_>,
+    disk: &mut Disk<'_, R>,
+    out: &mut Vec<u8>,
+) -> Result<(), Fail> {
+    for name in ["plain", "link", "missing", "plain/below", "."] {
+        push_read(alloc, folder, name, disk, out)?;
+    }
+    Ok(())
+}
+
 #[test]
 fn reads_real_files(rt: HostRuntime) -> Result<(), Fail> {
     let name = format!(in rt.alloc(); "gix_attributes-files-{}", process::id(rt.process()))?;
     let folder = env::temp_dir(&rt)?.join(rt.alloc(), name.as_str())?;
-    let file = folder.join(rt.alloc(), "plain")?;
-    let missing = folder.join(rt.alloc(), "missing")?;
-    let link = folder.join(rt.alloc(), "link")?;
-    let below = file.join(rt.alloc(), "below")?;
-    fs::create_dir_all(&rt, folder.as_path())?;
-    fs::write(&rt, file.as_path(), "* text\n")?;
-    symlink(&rt, file.as_path(), link.as_path())?;
-
+    write_files(&rt, rt.alloc(), folder.as_path())?;
     let mut disk = Disk::new(&rt);
-    let mut buf = b"before".to_vec(rt.alloc())?;
-    for path in [file.as_str(), link.as_str()] {
-        assert!(rt; disk.read_into(path, &mut buf)?, "{path}");
-        assert_eq!(rt; buf.as_slice(), b"* text\n".as_slice());
-    }
-    for path in [missing.as_str(), below.as_str(), folder.as_str()] {
-        buf.extend_from_slice(b"before")?;
-        assert!(rt; !disk.read_into(path, &mut buf)?, "{path}");
-        assert!(rt; buf.is_empty(), "{path}");
-    }
+    let mut report = Vec::new(rt.alloc());
+    push_reads(rt.alloc(), folder.as_path(), &mut disk, &mut report)?;
+    assert!(rt;
+        report.as_slice() == b"read * text\nread * text\nmissing missing missing ".as_slice()
+    );
     assert_eq!(rt; (disk.files_read(), disk.failures()), (2, 0));
     Ok(fs::remove_dir_all(&rt, folder.as_path())?)
 }
@@ -51,23 +81,39 @@ fn counts_what_the_disk_fails(rt: HostRuntime) -> Result<(), Fail> {
     Ok(())
 }
 
+// What a read answers, and what is in the buffer then.
+fn push_answer(files: &mut Memory, name: &str, out: &mut Vec<u8>) -> Result<(), AllocError> {
+    let mut buf = b"before".to_vec(*out.allocator())?;
+    let answer = match files.read_into(name, &mut buf) {
+        Ok(true) => "read ",
+        Ok(false) => "missing ",
+        Err(ReadError::Device(_)) => return out.extend_from_slice(b"failed "),
+        Err(ReadError::OutOfMemory) => return Err(AllocError),
+    };
+    out.extend_from_slice(answer.as_bytes())?;
+    out.extend_from_slice(&buf)
+}
+
+fn push_answers(files: &mut Memory, names: &[&str], out: &mut Vec<u8>) -> Result<(), AllocError> {
+    for name in names {
+        push_answer(files, name, out)?;
+    }
+    Ok(())
+}
+
 #[test]
-fn reads_files_in_memory(rt: HostRuntime) -> Result<(), Fail> {
+fn reads_files_in_memory(rt: HostRuntime) -> Result<(), AllocError> {
     let mut files = Memory::new(rt.alloc());
     files.insert("g1", b"* gone\n")?;
     files.insert("g1", b"* a\n!b c\n")?;
     files.insert("g3", b"* d\n")?;
-    let mut buf = Vec::new(rt.alloc());
-    assert!(rt; !files.read_into("g2", &mut buf)?);
-    files.fail_read(2);
-    assert!(rt; files.read_into("g1", &mut buf)?);
-    assert_eq!(rt; buf.as_slice(), b"* a\n!b c\n".as_slice());
-    assert!(rt; is_device(&files.read_into("g3", &mut buf)));
+    files.fail_read(3);
+    let mut report = Vec::new(rt.alloc());
+    push_answers(&mut files, &["g2", "g1", "g3", "g3", "g2"], &mut report)?;
+    assert!(rt;
+        report.as_slice() == b"missing read * a\n!b c\nfailed read * d\nmissing ".as_slice()
+    );
     assert_eq!(rt; files.failures(), 1);
-    assert!(rt; files.read_into("g3", &mut buf)?);
-    assert_eq!(rt; buf.as_slice(), b"* d\n".as_slice());
-    assert!(rt; !files.read_into("g2", &mut buf)?);
-    assert!(rt; buf.is_empty());
     Ok(())
 }
 

@@ -113,11 +113,17 @@ fn answers(alloc: Global, outcome: &Outcome) -> Result<String, AllocError> {
 #[derive(Drop)]
 struct Scene {
     collection: MetadataCollection,
-    other_collection: MetadataCollection,
     search: Search,
-    other_search: Search,
     outcome: Outcome,
-    other_outcome: Outcome,
+    others: Others,
+}
+
+/// Those that steps may change to.
+#[derive(Drop)]
+struct Others {
+    collection: MetadataCollection,
+    search: Search,
+    outcome: Outcome,
 }
 
 /// Expects this report of a scene that takes these steps.
@@ -192,15 +198,23 @@ fn take_all(
     scene.take_all(rt, alloc, steps, out)
 }
 
+impl Others {
+    fn new(alloc: Global) -> Others {
+        Others {
+            collection: MetadataCollection::new(alloc),
+            search: Search::new(alloc),
+            outcome: Outcome::new(alloc),
+        }
+    }
+}
+
 impl Scene {
     fn new(alloc: Global) -> Scene {
         Scene {
             collection: MetadataCollection::new(alloc),
-            other_collection: MetadataCollection::new(alloc),
             search: Search::new(alloc),
-            other_search: Search::new(alloc),
             outcome: Outcome::new(alloc),
-            other_outcome: Outcome::new(alloc),
+            others: Others::new(alloc),
         }
     }
 
@@ -249,12 +263,12 @@ impl Scene {
     }
 
     fn state(&self, alloc: Global) -> Result<State, AllocError> {
-        let (search, other_search) = (&self.search, &self.other_search);
+        let (search, other_search) = (&self.search, &self.others.search);
         Ok(State {
             lists: format!(in alloc; "{search:?} {other_search:?}")?,
             names: known(alloc, &self.collection)?,
             answers: answers(alloc, &self.outcome)?,
-            other_answers: answers(alloc, &self.other_outcome)?,
+            other_answers: answers(alloc, &self.others.outcome)?,
         })
     }
 
@@ -364,19 +378,19 @@ impl Scene {
     }
 
     fn turn_collections(&mut self) -> Result<(), AllocError> {
-        mem::swap(&mut self.collection, &mut self.other_collection);
+        mem::swap(&mut self.collection, &mut self.others.collection);
         Ok(())
     }
 
     fn turn(&mut self) -> Result<(), AllocError> {
-        mem::swap(&mut self.search, &mut self.other_search);
+        mem::swap(&mut self.search, &mut self.others.search);
         Ok(())
     }
 
     fn renew(&mut self, alloc: Global) -> Result<(), AllocError> {
         self.collection = MetadataCollection::new(alloc);
         self.search = Search::new(alloc);
-        self.other_search = Search::new(alloc);
+        self.others.search = Search::new(alloc);
         Ok(())
     }
 
@@ -396,7 +410,8 @@ impl Scene {
         alloc: Global,
         names: &[&str],
     ) -> Result<(), AllocError> {
-        self.other_outcome
+        self.others
+            .outcome
             .initialize_with_selection(alloc, &self.collection, names)?;
         self.copy(rt, alloc)
     }
@@ -404,19 +419,19 @@ impl Scene {
     fn copy(&mut self, rt: &impl Abort, alloc: Global) -> Result<(), AllocError> {
         assert!(rt; self.outcome.is_initialized());
         assert!(rt; self.outcome.is_current(&self.collection));
-        let copy = &mut self.other_outcome;
+        let copy = &mut self.others.outcome;
         self.outcome.copy_into(alloc, &self.collection, copy)?;
         self.turn_outcomes()
     }
 
     fn clone_outcome(&mut self, alloc: Global) -> Result<(), AllocError> {
-        self.other_outcome = self.outcome.clone(alloc)?;
+        self.others.outcome = self.outcome.clone(alloc)?;
         self.outcome.reset();
         self.turn_outcomes()
     }
 
     fn turn_outcomes(&mut self) -> Result<(), AllocError> {
-        mem::swap(&mut self.outcome, &mut self.other_outcome);
+        mem::swap(&mut self.outcome, &mut self.others.outcome);
         Ok(())
     }
 
