@@ -11,5 +11,6 @@ pub mod NameTableLaws
 pub mod NameTableSteps
 pub mod NamedDefinitions
 pub mod NumberLemmas
+pub mod RegisteredLemmas
 pub mod SameItems
 pub mod ForCallers

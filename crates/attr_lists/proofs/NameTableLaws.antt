@@ -322,21 +322,23 @@ is_active_still active list_id other h s =
     (cases_lt list_id (length active)))
     (cases_eq other list_id)
 
--- lines without macros define nothing
-nothing_defined : (names : List (List ℕ)) (number : ℕ) (entries : List Entry) → list_all defines_no_macro entries ≡ true
-    → bodies_defined number (numbered_lines names entries) ≡ []
-nothing_defined names number [] h = refl
-nothing_defined names number (entry ∷ entries) h =
-    let both = and_parts (defines_no_macro entry) (list_all defines_no_macro entries) h in
-    bodies_defined-cons number (numbered names entry) (numbered_lines names entries)
-    ∙ ap (λ bs. bs ++ bodies_defined number (numbered_lines names entries))
-    (bodies_defined-none number (numbered names entry) (none entry.macro both.0))
-    ∙ nothing_defined names number entries both.1
-  where
-    none : (m : Option AttributeId) → is_none m ≡ true
-        → unwrap_or (option_map (λ (id : AttributeId). eqb id.0 number) (option_map (λ _. id_of names entry.pattern.text) m)) false ≡ false
-    none None h = refl
-    none (Some id) h = absurd (true≢false (sym h))
+-- another list id is active if it was
+pub is_active_other : (active : List Bool) (list_id other : ℕ) → list_id ≤ length active → other ≢ list_id
+    → is_active (with_active list_id active) other ≡ is_active active other
+is_active_other active list_id other h apart =
+    ⊎_elim
+    (λ (lt : list_id < length active).
+    ap (λ l. is_active l other) (cond-true (ltb list_id (length active)) (set active list_id true) (active ++ true ∷ [])
+    (lt-ltb list_id (length active) lt)) ∙ get_or-set_other active list_id other true false apart)
+    (λ (past : length active ≤ list_id).
+    ap (λ l. is_active l other) (cond-false (ltb list_id (length active)) (set active list_id true) (active ++ true ∷ [])
+    (le-ltb list_id (length active) past))
+    ∙ ⊎_elim (λ (below : other < length active). get_or_append_left active (true ∷ []) false other below)
+    (λ (above : length active ≤ other).
+    get_or_past (active ++ true ∷ []) other false (omega (arith, length-append active (true ∷ []), above, past, h, apart))
+    ∙ sym (get_or_past active other false above))
+    (cases_lt other (length active)))
+    (cases_lt list_id (length active))
 
 -- ---- a list is added
 
@@ -471,23 +473,30 @@ module _ (old : Collection) (entries : List Entry) (sound : IsSoundCollection ol
             ∙ (append-nil (bodies_of_list other (definitions_for old name)) ∙ h.bodies name)));
       }
 
-  -- a list without macros has no definition, and those of others stay
-  pub added_macro_free : (other number : ℕ) → (other ≡ list_id → list_all defines_no_macro entries ≡ true)
-      → (other ≢ list_id → bodies_of_list other (definitions_of old number) ≡ []) → bodies_of_list other (definitions_of new number) ≡ []
-  added_macro_free other number own others =
-      at_number (λ ds. bodies_of_list other ds ≡ []) number
-      (λ lt. bodies_of_list-append other (definitions_of old number) (map (definition_of list_id) (bodies_defined number lines))
-      ∙ ⊎_elim
-      (λ same.
-      ap (λ bs. bodies_of_list other (definitions_of old number) ++ bodies_of_list other (map (definition_of list_id) bs))
-      (nothing_defined names number entries (own same))
-      ∙ append-nil (bodies_of_list other (definitions_of old number))
-      ∙ bodies_of_list-free old.active other (definitions_of old number) (ap (is_active old.active) same ∙ free) (sound.active number))
-      (λ apart.
-      ap (λ l. l ++ bodies_of_list other (map (definition_of list_id) (bodies_defined number lines))) (others apart)
-      ∙ bodies_of_list-other other list_id (bodies_defined number lines) apart)
-      (cases_eq other list_id))
-      refl
+  -- the bodies of the list are those of its lines, by number
+  pub added_own : (number : ℕ) → bodies_of_list list_id (definitions_of new number) ≡ bodies_defined number lines
+  added_own number =
+      ⊎_elim
+      (λ (lt : number < length names). ap (bodies_of_list list_id) (at_name number lt)
+      ∙ bodies_of_list-append list_id (definitions_of old number) (map (definition_of list_id) (bodies_defined number lines))
+      ∙ ap (λ l. l ++ bodies_of_list list_id (map (definition_of list_id) (bodies_defined number lines)))
+      (bodies_of_list-free old.active list_id (definitions_of old number) free (sound.active number))
+      ∙ bodies_of_list-own list_id (bodies_defined number lines))
+      (λ (past : length names ≤ number). ap (bodies_of_list list_id) (past_names number past)
+      ∙ sym (bodies_past names lines number past (list_numbered old.names entries)))
+      (cases_lt number (length names))
+
+  -- and those of other lists stay
+  pub added_other : (other number : ℕ) → other ≢ list_id
+      → bodies_of_list other (definitions_of new number) ≡ bodies_of_list other (definitions_of old number)
+  added_other other number apart =
+      ⊎_elim
+      (λ (lt : number < length names). ap (bodies_of_list other) (at_name number lt)
+      ∙ bodies_of_list-append other (definitions_of old number) (map (definition_of list_id) (bodies_defined number lines))
+      ∙ ap (λ l. bodies_of_list other (definitions_of old number) ++ l) (bodies_of_list-other other list_id (bodies_defined number lines) apart)
+      ∙ append-nil (bodies_of_list other (definitions_of old number)))
+      (λ (past : length names ≤ number). ap (bodies_of_list other) (past_names number past ∙ sym (past_old number past)))
+      (cases_lt number (length names))
 
 -- no definition belongs to a list that is not registered
 pub free_of : (table : Collection) (list_id number : ℕ) → IsSoundCollection table → is_active table.active list_id ≡ false → of_other_lists list_id
@@ -537,16 +546,11 @@ module _ (old : Collection) (gone : ℕ) where
         (not_gone (definitions_of old number) (sound.active number));
   }
 
-  -- a list without definitions has none after that
-  pub removed_macro_free : (other number : ℕ) → bodies_of_list other (definitions_of old number) ≡ []
-      → bodies_of_list other (definitions_of (without_list gone old) number) ≡ []
-  removed_macro_free other number none =
-      ap (bodies_of_list other) (at_all number)
-      ∙ ⊎_elim
-      (λ same. ap (bodies_of_list other) (ap (λ k. of_other_lists k (definitions_of old number)) (sym same)
-      ∙ of_other_lists-free other (definitions_of old number) none) ∙ none)
-      (λ apart. bodies_of_list-of_other_lists other gone (definitions_of old number) apart ∙ none)
-      (cases_eq other gone)
+  -- the bodies of the other lists stay
+  pub removed_other : (other number : ℕ) → other ≢ gone
+      → bodies_of_list other (definitions_of (without_list gone old) number) ≡ bodies_of_list other (definitions_of old number)
+  removed_other other number apart =
+      ap (bodies_of_list other) (at_all number) ∙ bodies_of_list-of_other_lists other gone (definitions_of old number) apart
 
   -- the other lists stay registered
   pub removed_keeps : (other : ℕ) (es : List Entry) → other ≢ gone → HoldsList old other es → HoldsList (without_list gone old) other es

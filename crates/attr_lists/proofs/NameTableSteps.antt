@@ -1,12 +1,11 @@
 -- What the steps of an addition and of a removal do to a name table.
 use Rattle.std.proofs.Common.{◌≡◌, ℕ, ◌+◌, ◌<◌, ◌≤◌, Bool, true, false, List, [], ◌∷◌, ◌++◌, length, get_or, set, take, map, All, refl, sym, ap}
-use Rattle.std.proofs.Common.{subst, ◌∙◌}
+use Rattle.std.proofs.Common.{subst, ◌∙◌, true≢false}
 use Rattle.std.proofs.Common.{⊎_elim, arith, bytes_eq, Option, unwrap_or, option_map}
 use Rattle.std.specs.List.{IsDistinct, list_all}
-use Rattle.attr_lists.specs.KeptLists.{defines_no_macro}
 use Rattle.std.proofs.lemmas.List.{length-map, length-take, get_or-take, get_or_past, get_or-set_same, get_or-set_other, ext_get_or, take_at}
 use Rattle.std.proofs.lemmas.List.FromFn.{fill_by_all}
-use Rattle.std.proofs.lemmas.Bool.{cases_lt}
+use Rattle.std.proofs.lemmas.Bool.{cases_eq, cases_lt}
 use Rattle.attr_lists.specs.declared.name_table.entry.NameEntry.{NameEntry}
 use Rattle.attr_lists.specs.Definitions.{bodies_defined, bodies_named, bodies_of_list, definition_of, of_other_lists, by_number, is_active}
 use Rattle.attr_lists.specs.Definitions.{free_id, with_list}
@@ -14,7 +13,10 @@ use Rattle.attr_lists.specs.Definitions.{definitions_of, without_list, HoldsList
 use Rattle.attr_lists.specs.inner.Keeping.{StayRegistered, IsNumbered}
 use Rattle.attr_lists.specs.inner.EntrySteps.{HasBodies, KeepsOtherDefinitions, RemovesAsMany}
 use Rattle.attr_lists.specs.inner.EntryViews.{definitions_view, all_definitions, definitions_at, definitions_by, IsEntry, AreEntries, AreValid}
-use Rattle.attr_lists.specs.inner.NameTableView.{rolled_back, AreMacroFree, IsPartlyAdded}
+use Rattle.attr_lists.specs.inner.Registered.{bodies_of_number, registered_at, AreRegistered}
+use Rattle.std.specs.Prelude.{◌≢◌, Vec}
+use Rattle.attr_lists.specs.declared.types.Metadata.{Metadata}
+use Rattle.attr_lists.specs.inner.NameTableView.{rolled_back, IsPartlyAdded}
 use Rattle.attr_lists.specs.ListViews.{Entry}
 use Rattle.attr_lists.specs.Collections.{MacroDefinition, Collection}
 use Rattle.attr_lists.specs.Numbers.{AppendsNames, names_in, with_names, numbered_lines}
@@ -22,7 +24,7 @@ use Rattle.attr_lists.proofs.ListLemmas.{get_or-map}
 use Rattle.attr_lists.proofs.NameLemmas.{with_names-extends}
 use Rattle.attr_lists.proofs.NamedDefinitions.{number_at}
 use Rattle.attr_lists.proofs.NameTableLaws.{of_other_lists-free, free_of, free_is, added_sound, added_holds, added_keeps}
-use Rattle.attr_lists.proofs.NameTableLaws.{added_macro_free, list_numbered}
+use Rattle.attr_lists.proofs.NameTableLaws.{active_below, removed_other, added_other, added_own, free_within, is_active_other, list_numbered}
 
 -- the table of these parts
 abbrev pub table_of : List (List ℕ) → List NameEntry → List Bool → Collection
@@ -174,16 +176,38 @@ module _ (old now new : Collection) (list_id : ℕ) (entries lines : List Entry)
       (subst (λ m. HoldsList (with_list (free_id old.active) entries old) m lines) (sym id_is)
       (subst (HoldsList (with_list (free_id old.active) entries old) (free_id old.active)) lines_are (added_holds old entries sound)))
 
-  pub are_macro_free : (marks before : List Bool) (is_free : Bool) → is_free ≡ list_all defines_no_macro entries → list_id < length marks
-      → ((other : ℕ) → get_or marks other false ≡ true → get_or before other false ≡ true) → AreMacroFree before old
-      → AreMacroFree (set marks list_id is_free) new
-  are_macro_free marks before is_free is_all within kept known other number h =
-      subst (λ v. bodies_of_list other (definitions_of v number) ≡ []) exact
-      (added_macro_free old entries sound other number
-      (λ same. sym is_all ∙ (sym (get_or-set_same marks list_id is_free false within) ∙ ap (λ k. get_or (set marks list_id is_free) k false)
-      (id_is ∙ sym same) ∙ h))
-      (λ apart. known other number (kept other (sym (get_or-set_other marks list_id other is_free false (λ e. apart (e ∙ id_is))) ∙ h))))
+  pub are_registered : {A : Type 0} (before after : List (Vec Metadata A)) → AreRegistered before old
+      → ((number : ℕ) → bodies_of_number number (registered_at after list_id) ≡ bodies_defined number (numbered_lines new.names entries))
+      → ((other : ℕ) → other ≢ list_id → registered_at after other ≡ registered_at before other) → AreRegistered after new
+  are_registered before after known own others other number =
+      subst (λ (v : Collection). is_active v.active other ≡ true → bodies_of_list other (definitions_of v number)
+      ≡ bodies_of_number number (registered_at after other)) exact
+      (λ on. ⊎_elim
+      (λ (same : other ≡ list_id).
+      ap (λ k. bodies_of_list k (definitions_of (with_list (free_id old.active) entries old) number)) (same ∙ id_is)
+      ∙ added_own old entries sound number
+      ∙ ap (bodies_defined number) (lines_are ∙ numbered_is)
+      ∙ sym (own number) ∙ ap (λ k. bodies_of_number number (registered_at after k)) (sym same))
+      (λ (apart : other ≢ list_id).
+      let new_id : other ≢ free_id old.active = λ e. apart (e ∙ sym id_is) in
+      added_other old entries sound other number new_id
+      ∙ known other number (sym (is_active_other old.active (free_id old.active) other (free_within old.active) new_id) ∙ on)
+      ∙ ap (bodies_of_number number) (sym (others other apart)))
+      (cases_eq other list_id))
 
   pub are_held : StayRegistered now new
   are_held other es h =
       subst (λ v. HoldsList v other es) exact (added_keeps old entries sound other es (subst (λ v. HoldsList v other es) (sym is) h))
+
+-- the lists that are registered after one is removed
+pub left_registered : {A : Type 0} (before after : List (Vec Metadata A)) (old : Collection) (gone : ℕ) → is_active old.active gone ≡ true
+    → AreRegistered before old → ((other : ℕ) → other ≢ gone → registered_at after other ≡ registered_at before other)
+    → AreRegistered after (without_list gone old)
+left_registered before after old gone own known others other number on =
+    ⊎_elim
+    (λ (same : other ≡ gone). absurd (true≢false (sym on ∙ ap (is_active (set old.active gone false)) same
+    ∙ get_or-set_same old.active gone false false (active_below old.active gone own))))
+    (λ (apart : other ≢ gone). removed_other old gone other number apart
+    ∙ known other number (sym (get_or-set_other old.active gone other false false apart) ∙ on)
+    ∙ ap (bodies_of_number number) (sym (others other apart)))
+    (cases_eq other gone)

@@ -97,7 +97,7 @@ bodies entries = map (λ entry. entry.items) entries
 
 module _ (names : List (List ℕ)) (distinct : IsDistinct bytes_eq names) where
   -- a line defines a number where it defines its name
-  defines_same : (name : List ℕ) (n : ℕ) → number_of names name ≡ Some n → (text : List ℕ) (m : Option AttributeId)
+  pub defines_same : (name : List ℕ) (n : ℕ) → number_of names name ≡ Some n → (text : List ℕ) (m : Option AttributeId)
       → IfSome m (IsNumberOf names text) → unwrap_or (option_map (λ (id : AttributeId). eqb id.0 n) m) false ≡ (is_some m && bytes_eq name text)
   defines_same name n e text None h = refl
   defines_same name n e text (Some id) h =
@@ -130,7 +130,7 @@ module _ (names : List (List ℕ)) (distinct : IsDistinct bytes_eq names) where
       (defined_by_name name n e lines (All-tail (HasMacroNumber names) line lines h))
 
   -- no line defines a name that is not among the names
-  defines_none : (name : List ℕ) → number_of names name ≡ None → (text : List ℕ) (m : Option AttributeId) → IfSome m (IsNumberOf names text)
+  pub defines_none : (name : List ℕ) → number_of names name ≡ None → (text : List ℕ) (m : Option AttributeId) → IfSome m (IsNumberOf names text)
       → (is_some m && bytes_eq name text) ≡ false
   defines_none name e text None h = refl
   defines_none name e text (Some id) h =

@@ -6,4 +6,5 @@ pub mod Keeping
 pub mod MacroNumbers
 pub mod NameSteps
 pub mod NameTableView
+pub mod Registered
 pub mod LineSteps

@@ -18,8 +18,9 @@ mod entry;
 mod macros;
 mod numbers;
 mod parts;
+mod registered;
 
-use crate::name_table::parts::{Parts, free_id, is_set, unset};
+use crate::name_table::parts::{Parts, free_id, is_set};
 use crate::types::{Metadata, Value};
 use attr_glob::search::pattern::Mapping;
 use std::alloc::{AllocError, Global};
@@ -56,7 +57,7 @@ impl NameTable {
                 entries: Vec::new(alloc),
                 active: Vec::new(alloc),
                 free_from: 0,
-                macro_free: Vec::new(alloc),
+                registered: Vec::new(alloc),
                 macros: BTreeSet::new(alloc),
             },
         }
@@ -153,11 +154,9 @@ impl NameTable {
     {
         let count = self.parts.entries.len();
         let list_id = free_id(&self.parts.active, self.parts.free_from);
-        unset(&mut self.parts.macro_free, list_id)?;
         match self.parts.insert(alloc, list_id, mappings) {
             Ok(()) => {
                 self.parts.free_from = list_id;
-                self.parts.macro_free[list_id] = entry::define_no_macro(mappings);
                 numbers::number_list(&self.parts.names, mappings);
                 Ok(list_id)
             }
@@ -186,8 +185,8 @@ impl NameTable {
     }
 
     /// Whether the list is registered under the list id: for each name, the definitions under the list id are, in their order,
-    /// those of the list. It takes no memory. A list that defines no macro is gone through once. For another, it goes through
-    /// all names, and through the list once for each macro.
+    /// those of the list. It takes no memory. A list that is registered as it is takes a step a line. Another one may take a
+    /// step for each name, and one a line for each macro that the registered list defines.
     pub fn holds(&self, list_id: usize, mappings: &[Mapping<Value>]) -> bool
         ensures { IsTrue result ↔ HoldsList self.now list_id (entries_view mappings.now) }
     {
@@ -206,7 +205,7 @@ impl NameTable {
         let names = numbers::clone_names(alloc, &self.parts.names)?;
         let entries = entry::clone_entries(alloc, &self.parts.entries)?;
         let active = Vec::from_slice(alloc, &self.parts.active)?;
-        let macro_free = Vec::from_slice(alloc, &self.parts.macro_free)?;
+        let registered = registered::clone_registered(alloc, &self.parts.registered)?;
         let macros = self.parts.macros.clone()?;
         Ok(NameTable {
             parts: Parts {
@@ -214,7 +213,7 @@ impl NameTable {
                 entries,
                 active,
                 free_from: self.parts.free_from,
-                macro_free,
+                registered,
                 macros,
             },
         })

@@ -1,12 +1,13 @@
 -- The view of a name table (own).
-use Rattle.std.specs.Prelude.{◌≡◌, ℕ, ◌≤◌, Bool, true, false, List, [], length, map, slice_index_or, take}
+use Rattle.std.specs.Prelude.{◌≡◌, ℕ, ◌≤◌, length, map, take}
 use Rattle.attr_lists.specs.declared.name_table.NameTable.TheInside.{Inside}
 use Rattle.attr_lists.specs.declared.name_table.parts.Parts.{Parts}
 use Rattle.attr_lists.specs.Collections.{Collection}
-use Rattle.attr_lists.specs.Definitions.{bodies_of_list, definitions_of, free_id, of_other_lists, IsSoundCollection}
+use Rattle.attr_lists.specs.Definitions.{definitions_of, free_id, of_other_lists, IsSoundCollection}
 use Rattle.attr_lists.specs.inner.EntryViews.{name_texts, all_definitions, AreEntries}
 use Rattle.attr_lists.specs.Numbers.{AppendsNames}
 use Rattle.attr_lists.specs.inner.MacroNumbers.{ListsMacros}
+use Rattle.attr_lists.specs.inner.Registered.{AreRegistered}
 
 abbrev pub parts_view : Parts → Collection
 parts_view p = record { names = name_texts p.names; definitions = all_definitions p.entries.items; active = p.active.items }
@@ -14,16 +15,11 @@ parts_view p = record { names = name_texts p.names; definitions = all_definition
 abbrev pub name_table_view : Inside → Collection
 name_table_view table = parts_view table.parts
 
--- no list whose mark is set has a definition
-abbrev pub AreMacroFree : List Bool → Collection → Type 0
-AreMacroFree marks table =
-    (list_id number : ℕ) → slice_index_or marks list_id false ≡ true → bodies_of_list list_id (definitions_of table number) ≡ []
-
 pub record IsNameTable (table : Inside) : Type 0 where
   pub sound : IsSoundCollection (parts_view table.parts)
   pub entries : AreEntries table.parts.entries.items
   pub from : table.parts.free_from ≤ free_id table.parts.active.items
-  pub macro_free : AreMacroFree table.parts.macro_free.items (parts_view table.parts)
+  pub registered : AreRegistered table.parts.registered.items (parts_view table.parts)
   pub macros : ListsMacros table.parts.macros (parts_view table.parts)
 
 -- what is left of an addition that ran out of memory: some of the list's names and definitions

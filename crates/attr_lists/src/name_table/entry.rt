@@ -4,13 +4,12 @@ ghost use Rattle.std.specs.Bool.{OnFalse};
 ghost use Rattle.std.specs.List.{IsDistinct, list_any, list_all};
 ghost use Rattle.std.specs.Option.{option_to_list};
 ghost use Rattle.attr_lists.specs.Definitions.{bodies_named, bodies_of_list, definition_of, is_of_list, of_other_lists, last_body};
-ghost use Rattle.attr_lists.specs.KeptLists.{defines_no_macro, macro_valid, macros_valid};
+ghost use Rattle.attr_lists.specs.KeptLists.{macro_valid, macros_valid};
 ghost use Rattle.attr_lists.specs.inner.EntrySteps.{AddsDefinitions, KeepsOtherDefinitions, RemovesAsMany, PopsOwn, HasBodies, AgreesOn};
 ghost use Rattle.attr_lists.specs.inner.EntryViews.{numbered_view, definition_view, definitions_view, is_defined_in, all_definitions, definitions_at, definitions_by, name_texts, AreValid, IsEntry, AreEntries};
 ghost use Rattle.attr_lists.specs.ListViews.{entry_view, entries_view};
 
 use crate::name_table::numbers::{NameSet, id_of, macro_name, number_of_text, numbered_copy};
-use crate::parser::defines_no_macro;
 use crate::types::{Assignments, AttributeId, Metadata, TrackedAssignment, Value};
 use attr_glob::search::pattern::Mapping;
 use std::alloc::{AllocError, Global};
@@ -172,7 +171,8 @@ fn is_any_of(definitions: &[Definition], list_id: usize) -> bool
         .any(|definition| definition.list_id == list_id)
 }
 
-fn is_same(x: &[TrackedAssignment], y: &[TrackedAssignment]) -> bool
+/// Whether the items are the same.
+pub(super) fn is_same(x: &[TrackedAssignment], y: &[TrackedAssignment]) -> bool
     ensures { IsTrue result ↔ (x.now ≡ y.now) }
 {
     x == y
@@ -208,7 +208,8 @@ fn body_of<'a>(name: &str, mapping: &'a Mapping<Value>) -> Option<&'a Assignment
     }
 }
 
-fn has_text(text: &[u8], name: &str) -> bool
+/// Whether the text is this name.
+pub(super) fn has_text(text: &[u8], name: &str) -> bool
     ensures { result ≡ bytes_eq name.now text.now }
 {
     name.as_bytes() == text
@@ -315,13 +316,6 @@ pub(super) fn remove_definitions(entries: &mut [NameEntry], list_id: usize)
     }
 }
 
-/// Whether no line defines a macro.
-pub(super) fn define_no_macro(mappings: &[Mapping<Value>]) -> bool
-    ensures { result ≡ list_all (λ m. defines_no_macro (entry_view m)) mappings.now }
-{
-    mappings.iter().all(|mapping| defines_no_macro(mapping))
-}
-
 /// Removes the definitions of a registered list. If no later list defines one of its names, this takes a step for each line;
 /// else all names are looked at once.
 pub(super) fn remove_list(
@@ -389,26 +383,21 @@ fn remove_line(
     entries[number].remove_latest(list_id)
 }
 
-/// Whether, for each name, the definitions under the list id are those of the lines. If the list is known to be free of macros,
-/// no name is looked at.
+/// Whether, for each name, the definitions under the list id are those of the lines.
 pub(super) fn has_definitions(
     names: &NameSet,
     entries: &[NameEntry],
     list_id: usize,
     mappings: &[Mapping<Value>],
-    is_macro_free: bool,
 ) -> bool
     requires valid { AreValid (name_texts names.now) }
     requires distinct { IsDistinct bytes_eq (name_texts names.now) }
     requires counted { length entries.now ≡ length (name_texts names.now) }
-    requires macro_free { is_macro_free ≡ true → (number : ℕ) →
-        bodies_of_list list_id (definitions_at entries.now number) ≡ [] }
     ensures { IsTrue result ↔ ((name : List ℕ) →
         HasBodies list_id name (entries_view mappings.now)
         (definitions_by (name_texts names.now) entries.now name)) }
 {
-    are_defined(names, entries, list_id, mappings)
-        && (is_macro_free || all_agree(names, entries, list_id, mappings))
+    are_defined(names, entries, list_id, mappings) && all_agree(names, entries, list_id, mappings)
 }
 
 // Whether the list has a definition of each macro that the lines define.

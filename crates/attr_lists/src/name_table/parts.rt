@@ -1,17 +1,18 @@
 //! The parts of a name table, and the steps that add a list to them.
-ghost use Rattle.std.specs.Prelude.{◌≡◌, true, false, ◌↔◌, ◌≤◌, ◌<◌, slice_index_or, ℕ, List, length, OnOk, OnErr, IsTrue};
-ghost use Rattle.attr_lists.specs.Definitions.{IsSoundCollection, definitions_for, free_id, with_active, with_list};
+ghost use Rattle.std.specs.Prelude.{◌≡◌, ◌≢◌, true, false, ◌↔◌, ◌≤◌, slice_index_or, ℕ, List, length, OnOk, OnErr, IsTrue};
+ghost use Rattle.attr_lists.specs.Definitions.{IsSoundCollection, bodies_defined, definitions_for, free_id, is_active, with_active, with_list};
 ghost use Rattle.attr_lists.specs.KeptLists.{macros_valid};
 ghost use Rattle.attr_lists.specs.ListViews.{entries_view};
 ghost use Rattle.attr_lists.specs.inner.EntrySteps.{HasBodies};
 ghost use Rattle.attr_lists.specs.inner.EntryViews.{name_texts, numbered_view, AreEntries, AreValid};
 ghost use Rattle.attr_lists.specs.inner.MacroNumbers.{KeepsNumbers, ListsDefined};
-ghost use Rattle.attr_lists.specs.inner.NameTableView.{parts_view, rolled_back, AreMacroFree, IsPartlyAdded};
+ghost use Rattle.attr_lists.specs.inner.Registered.{bodies_of_number, registered_at, AreRegistered};
+ghost use Rattle.attr_lists.specs.inner.NameTableView.{parts_view, rolled_back, IsPartlyAdded};
 
 use crate::name_table::entry::NameEntry;
 use crate::name_table::numbers::NameSet;
-use crate::name_table::{entry, macros, numbers};
-use crate::types::Value;
+use crate::name_table::{entry, macros, numbers, registered};
+use crate::types::{Metadata, Value};
 use attr_glob::search::pattern::Mapping;
 use std::alloc::{AllocError, Global};
 use std::collections::BTreeSet;
@@ -27,8 +28,9 @@ pub(super) struct Parts {
     pub(super) active: Vec<bool>,
     /// A list id below which none is free, where the search for a free one starts.
     pub(super) free_from: usize,
-    /// Whether the list under this list id is known to define no macro. Those past the end are not.
-    pub(super) macro_free: Vec<bool>,
+    /// For each list id, the macros that the list registered under it defines, line by line. Those of a list that was removed
+    /// stay until the list id is used again.
+    pub(super) registered: Vec<Vec<Metadata>>,
     /// The numbers of the names that have definitions.
     pub(super) macros: BTreeSet<usize>,
 }
@@ -55,7 +57,12 @@ impl Parts {
         ensures err { OnErr result
             (IsPartlyAdded list_id (parts_view self.old) (parts_view self.new)) }
         ensures from { self.new.free_from ≡ self.old.free_from }
-        ensures macro_free { self.new.macro_free ≡ self.old.macro_free }
+        ensures registered { OnOk result ((number : ℕ) →
+            bodies_of_number number (registered_at self.new.registered.items list_id)
+            ≡ bodies_defined number (numbered_view self.new.names mappings.now)) }
+        ensures others { (other : ℕ) → other ≢ list_id →
+            registered_at self.new.registered.items other
+            ≡ registered_at self.old.registered.items other }
         ensures kept { KeepsNumbers self.old.macros self.new.macros }
         ensures listed { OnOk result (ListsDefined
             self.new.macros (numbered_view self.new.names mappings.now)) }
@@ -63,6 +70,8 @@ impl Parts {
         numbers::insert_names(alloc, &mut self.names, mappings)?;
         macros::insert_macros(&self.names, &mut self.macros, mappings)?;
         entry::extend(alloc, &mut self.entries, self.names.len())?;
+        let list = registered::numbered_macros(alloc, &self.names, mappings)?;
+        registered::register(alloc, &mut self.registered, list_id, list)?;
         entry::define_list(alloc, &self.names, &mut self.entries, list_id, mappings)?;
         mark_active(&mut self.active, list_id)?;
         Ok(())
@@ -72,7 +81,7 @@ impl Parts {
     pub(super) fn roll_back(&mut self, count: usize, list_id: usize)
         ensures table { parts_view self.new ≡ rolled_back count list_id (parts_view self.old) }
         ensures from { self.new.free_from ≡ self.old.free_from }
-        ensures macro_free { self.new.macro_free ≡ self.old.macro_free }
+        ensures registered { self.new.registered ≡ self.old.registered }
         ensures macros { self.new.macros ≡ self.old.macros }
         ensures entries { AreEntries self.old.entries.items → AreEntries self.new.entries.items }
     {
@@ -84,14 +93,15 @@ impl Parts {
     /// Whether, for each name, the definitions under the list id are those of the list.
     pub(super) fn has_list(&self, list_id: usize, mappings: &[Mapping<Value>]) -> bool
         requires sound { IsSoundCollection (parts_view self.now) }
-        requires macro_free { AreMacroFree self.now.macro_free.items (parts_view self.now) }
+        requires registered { AreRegistered self.now.registered.items (parts_view self.now) }
+        requires active { is_active self.now.active.items list_id ≡ true }
         ensures { IsTrue result ↔ ((name : List ℕ) →
             HasBodies list_id name (entries_view mappings.now)
             (definitions_for (parts_view self.now) name)) }
     {
-        let is_macro_free = is_set(&self.macro_free, list_id);
         let (names, entries) = (&self.names, &self.entries);
-        entry::has_definitions(names, entries, list_id, mappings, is_macro_free)
+        registered::is_as_registered(names, &self.registered, list_id, mappings)
+            || entry::has_definitions(names, entries, list_id, mappings)
     }
 }
 
@@ -104,23 +114,6 @@ pub(super) fn is_set(marks: &[bool], list_id: usize) -> bool
     } else {
         false
     }
-}
-
-/// Makes room for the mark of the list id, and takes the mark away.
-///
-/// # Errors
-///
-/// If memory runs out.
-pub(super) fn unset(marks: &mut Vec<bool>, list_id: usize) -> Result<(), AllocError>
-    ensures room { OnOk result (list_id < length marks.new.items) }
-    ensures marks { (other : ℕ) → slice_index_or marks.new.items other false ≡ true →
-        slice_index_or marks.old.items other false ≡ true }
-{
-    while marks.len() <= list_id {
-        marks.push(false)?;
-    }
-    marks[list_id] = false;
-    Ok(())
 }
 
 /// The least list id under which no list is registered, if none below `from` is free.

@@ -245,7 +245,7 @@ fn a_new_table_is_empty(rt: HostRuntime) -> Result<(), Fail> {
     let text = format!(in rt.alloc(); "{:?}", NameTable::new(rt.alloc()))?;
     assert_eq!(rt;
         text.as_str(),
-        "NameTable { parts: Parts { names: {}, entries: [], active: [], free_from: 0, macro_free: [], macros: {} } }"
+        "NameTable { parts: Parts { names: {}, entries: [], active: [], free_from: 0, registered: [], macros: {} } }"
     );
     Ok(())
 }

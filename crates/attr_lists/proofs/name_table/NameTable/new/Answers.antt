@@ -21,6 +21,6 @@ invariant_of-result c = record {
   }) nothing_sound;
   entries = subst AreEntries (sym c.new.ensures.items) (λ number d lt. absurd (omega arith));
   from = omega arith;
-  macro_free = λ other number set. absurd (true≢false (sym set ∙ ap (λ l. get_or l other false) c.new-3.ensures.items));
+  registered = λ other number on. absurd (true≢false (sym on ∙ ap (λ l. get_or l other false) c.new-2.ensures.items));
   macros = λ number none. ap (λ l. get_or (all_definitions l) number []) c.new.ensures.items;
 }

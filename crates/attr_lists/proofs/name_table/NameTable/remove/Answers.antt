@@ -1,14 +1,15 @@
-use Rattle.std.proofs.Common.{◌≡◌, [], length, ap, sym, ◌∙◌, subst, arith}
+use Rattle.std.proofs.Common.{◌≡◌, refl, length, ap, sym, ◌∙◌, subst, arith}
 use Rattle.std.proofs.lemmas.List.{length-map, with_items_is}
 use Rattle.attr_lists.specs.Definitions.{bodies_of_list, definitions_of, without_list, HoldsList, IsSoundCollection}
 use Rattle.attr_lists.specs.inner.EntrySteps.{HasBodies}
 use Rattle.attr_lists.specs.inner.EntryViews.{name_texts, definitions_at, definitions_by, definitions_view, AreEntries}
 use Rattle.attr_lists.specs.ListViews.{entries_view}
+use Rattle.attr_lists.specs.inner.Registered.{AreRegistered}
 use Rattle.attr_lists.specs.inner.MacroNumbers.{ListsMacros}
 use Rattle.attr_lists.proofs.FreeIdLemmas.{free_after_removing}
 use Rattle.attr_lists.proofs.MacroLemmas.{removed_listed}
-use Rattle.attr_lists.proofs.NameTableLaws.{removed_sound, removed_keeps, removed_macro_free}
-use Rattle.attr_lists.proofs.NameTableSteps.{removed_is}
+use Rattle.attr_lists.proofs.NameTableLaws.{removed_sound, removed_keeps}
+use Rattle.attr_lists.proofs.NameTableSteps.{left_registered, removed_is}
 use Rattle.attr_lists.proofs.name_table.NameTable.remove.Goals as goal
 
 pub returns-clause-removed : goal.returns-clause-removed
@@ -48,9 +49,9 @@ invariant_of-self c =
           (c.remove_list.ensures.entries (subst AreEntries (sym c.deref_mut.ensures.value) c.self.invariant.entries));
       from = free_after_removing c.self.inside.parts.active.items c.args.list_id c.self.inside.parts.free_from c.min-self-inside.result
           c.self.invariant.from (omega (arith, c.min-self-inside.ensures)) (omega (arith, c.min-self-inside.ensures));
-      macro_free = λ other number set. subst (λ v. bodies_of_list other (definitions_of v number) ≡ []) (sym (returns-clause-removed c))
-          (removed_macro_free c.args.self.now c.args.list_id other number
-          (subst (λ v. bodies_of_list other (definitions_of v number) ≡ []) c.self.view_is (c.self.invariant.macro_free other number set)));
+      registered = subst (AreRegistered c.self.inside.parts.registered.items) (sym (returns-clause-removed c))
+          (left_registered c.self.inside.parts.registered.items c.self.inside.parts.registered.items c.args.self.now c.args.list_id c.requires.active
+          (subst (AreRegistered c.self.inside.parts.registered.items) c.self.view_is c.self.invariant.registered) (λ other apart. refl));
       macros = subst (ListsMacros c.remove_macros.new.macros) (sym (returns-clause-removed c))
           (removed_listed c.args.self.now c.args.list_id c.deref.result.now c.self.inside.parts.macros c.remove_macros.new.macros
           (subst (ListsMacros c.self.inside.parts.macros) c.self.view_is c.self.invariant.macros) c.remove_macros.ensures

@@ -3,6 +3,7 @@ use Rattle.std.specs.Rc.{rc_str_bytes}
 use Rattle.std.proofs.lemmas.List.{length-map, with_items_is}
 use Rattle.attr_lists.specs.Definitions.{bodies_defined, definition_of, of_other_lists}
 use Rattle.attr_lists.specs.inner.EntryViews.{name_texts, all_definitions, definitions_at}
+use Rattle.attr_lists.specs.inner.Registered.{bodies_of_number}
 use Rattle.attr_lists.specs.ListViews.{entries_view}
 use Rattle.attr_lists.specs.Numbers.{names_in, with_names, numbered_lines}
 use Rattle.attr_lists.proofs.ListLemmas.{on_err}
@@ -35,6 +36,22 @@ pub returns-in_err-extend-clause-err : goal.returns-in_err-extend-clause-err
 returns-in_err-extend-clause-err c =
     let more = with_names-extends (name_texts c.args.self.now.names) (names_in (entries_view c.args.mappings.now)) in
     on_err c.from_residual-in_err-extend.result _ (partly_added (name_texts c.args.self.now.names) (name_texts c.insert_names.new.names)
+    c.args.self.now.active.items c.args.self.now.active.items c.args.self.now.entries.items c.extend.new.entries.items c.extend.new.entries.items
+    c.args.list_id (more.0, c.in_ok-insert_names.ensures.ok ∙ more.1) c.extend.ensures.more
+    (λ n. ap (of_other_lists c.args.list_id) (c.extend.ensures.definitions n)) refl refl)
+
+pub returns-in_err-list-clause-err : goal.returns-in_err-list-clause-err
+returns-in_err-list-clause-err c =
+    let more = with_names-extends (name_texts c.args.self.now.names) (names_in (entries_view c.args.mappings.now)) in
+    on_err c.from_residual-in_err-list.result _ (partly_added (name_texts c.args.self.now.names) (name_texts c.insert_names.new.names)
+    c.args.self.now.active.items c.args.self.now.active.items c.args.self.now.entries.items c.extend.new.entries.items c.extend.new.entries.items
+    c.args.list_id (more.0, c.in_ok-insert_names.ensures.ok ∙ more.1) c.extend.ensures.more
+    (λ n. ap (of_other_lists c.args.list_id) (c.extend.ensures.definitions n)) refl refl)
+
+pub returns-in_err-register-clause-err : goal.returns-in_err-register-clause-err
+returns-in_err-register-clause-err c =
+    let more = with_names-extends (name_texts c.args.self.now.names) (names_in (entries_view c.args.mappings.now)) in
+    on_err c.from_residual-in_err-register.result _ (partly_added (name_texts c.args.self.now.names) (name_texts c.insert_names.new.names)
     c.args.self.now.active.items c.args.self.now.active.items c.args.self.now.entries.items c.extend.new.entries.items c.extend.new.entries.items
     c.args.list_id (more.0, c.in_ok-insert_names.ensures.ok ∙ more.1) c.extend.ensures.more
     (λ n. ap (of_other_lists c.args.list_id) (c.extend.ensures.definitions n)) refl refl)
@@ -86,3 +103,6 @@ returns-clause-added c =
     (bodies_defined n (numbered_lines t (entries_view c.args.mappings.now)))) c.in_ok-insert_names.ensures.ok)
     (λ n. ap (λ l. definitions_at l n) c.deref_mut.ensures.value ∙ c.extend.ensures.definitions n) in
     λ j. record { names = c.in_ok-insert_names.ensures.ok j; definitions = definitions j; active = c.in_ok-mark_active.ensures.ok j }
+
+pub returns-clause-registered : goal.returns-clause-registered
+returns-clause-registered c = λ number. ap (bodies_of_number number) c.in_ok-register.ensures.own ∙ c.in_ok-list.ensures number

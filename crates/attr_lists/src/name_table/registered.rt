@@ -1,0 +1,191 @@
+//! The macros that each list defines, line by line, as it was registered.
+ghost use Rattle.std.specs.Prelude.{◌≡◌, ◌≢◌, true, [], ◌∷◌, ◌++◌, ◌<◌, ℕ, List, length, map, slice_get, option_copied, Some, OnOk, IfOk, IsTrue, bytes_eq};
+ghost use Rattle.std.specs.List.{IsDistinct};
+ghost use Rattle.attr_lists.specs.Definitions.{bodies_defined, bodies_named};
+ghost use Rattle.attr_lists.specs.KeptLists.{macro_valid, macros_valid};
+ghost use Rattle.attr_lists.specs.ListViews.{entry_view, entries_view};
+ghost use Rattle.attr_lists.specs.inner.EntryViews.{name_texts, numbered_view};
+ghost use Rattle.attr_lists.specs.inner.Registered.{bodies_of_name, bodies_of_number, numbered_body, registered_at};
+
+use crate::name_table::entry::{has_text, is_same};
+use crate::name_table::numbers::{NameSet, id_of, macro_name, numbered_copy};
+use crate::types::{Metadata, TrackedAssignment, Value};
+use attr_glob::search::pattern::Mapping;
+use std::alloc::{AllocError, Global};
+
+/// The macros that lines define, with the numbers of their names.
+///
+/// # Errors
+///
+/// If memory runs out.
+pub(super) fn numbered_macros(
+    alloc: Global,
+    names: &NameSet,
+    mappings: &[Mapping<Value>],
+) -> Result<Vec<Metadata>, AllocError>
+    requires { macros_valid (entries_view mappings.now) ≡ true }
+    ensures { IfOk result (λ list. (number : ℕ) →
+        bodies_of_number number (map numbered_body list.items)
+        ≡ bodies_defined number (numbered_view names.now mappings.now)) }
+{
+    let mut list = Vec::new(alloc);
+    for mapping in mappings {
+        push_macro(alloc, names, &mut list, mapping)?;
+    }
+    Ok(list)
+}
+
+fn push_macro(
+    alloc: Global,
+    names: &NameSet,
+    list: &mut Vec<Metadata>,
+    mapping: &Mapping<Value>,
+) -> Result<(), AllocError>
+    requires { macro_valid (entry_view mapping.now) ≡ true }
+    ensures { OnOk result ((number : ℕ) →
+        bodies_of_number number (map numbered_body list.new.items)
+        ≡ bodies_of_number number (map numbered_body list.old.items)
+        ++ bodies_defined number (numbered_view names.now (mapping.now ∷ []))) }
+{
+    if let Value::MacroAssignments { assignments, .. } = &mapping.value {
+        list.push(Metadata {
+            id: id_of(names, macro_name(&mapping.pattern)),
+            macro_attributes: numbered_copy(alloc, names, assignments)?,
+        })?;
+    }
+    Ok(())
+}
+
+/// Puts the macros of a list under its list id.
+///
+/// # Errors
+///
+/// If memory runs out.
+pub(super) fn register(
+    alloc: Global,
+    registered: &mut Vec<Vec<Metadata>>,
+    list_id: usize,
+    list: Vec<Metadata>,
+) -> Result<(), AllocError>
+    ensures own { OnOk result
+        (registered_at registered.new.items list_id ≡ map numbered_body list.items) }
+    ensures others { (other : ℕ) → other ≢ list_id →
+        registered_at registered.new.items other ≡ registered_at registered.old.items other }
+{
+    make_room(alloc, registered, list_id)?;
+    registered[list_id] = list;
+    Ok(())
+}
+
+// Makes room for the macros of the list with this list id.
+fn make_room(
+    alloc: Global,
+    registered: &mut Vec<Vec<Metadata>>,
+    list_id: usize,
+) -> Result<(), AllocError>
+    ensures room { OnOk result (list_id < length registered.new.items) }
+    ensures same { (other : ℕ) →
+        registered_at registered.new.items other ≡ registered_at registered.old.items other }
+{
+    while registered.len() <= list_id {
+        registered.push(Vec::new(alloc))?;
+    }
+    Ok(())
+}
+
+/// Whether the lines define the macros that are registered under the list id, in their order and with their bodies. This takes
+/// a step for each line.
+pub(super) fn is_as_registered(
+    names: &NameSet,
+    registered: &[Vec<Metadata>],
+    list_id: usize,
+    mappings: &[Mapping<Value>],
+) -> bool
+    requires distinct { IsDistinct bytes_eq (name_texts names.now) }
+    ensures { IsTrue result → (name : List ℕ) →
+        bodies_of_name (name_texts names.now) (registered_at registered.now list_id) name
+        ≡ bodies_named name (entries_view mappings.now) }
+{
+    match registered.get(list_id) {
+        Some(list) => are_lines_of(names, list, mappings),
+        None => are_lines_of(names, &[], mappings),
+    }
+}
+
+fn are_lines_of(names: &NameSet, list: &[Metadata], mappings: &[Mapping<Value>]) -> bool
+    requires distinct { IsDistinct bytes_eq (name_texts names.now) }
+    ensures { IsTrue result → (name : List ℕ) →
+        bodies_of_name (name_texts names.now) (map numbered_body list.now) name
+        ≡ bodies_named name (entries_view mappings.now) }
+{
+    let mut rest = list;
+    for mapping in mappings {
+        match &mapping.value {
+            Value::MacroAssignments { assignments, .. } => {
+                let Some((first, others)) = rest.split_first() else {
+                    return false;
+                };
+                if !is_definition(names, first, &mapping.pattern.text, assignments) {
+                    return false;
+                }
+                rest = others;
+            }
+            Value::Assignments(_) => {}
+        }
+    }
+    rest.is_empty()
+}
+
+// Whether the macro has this name and this body.
+fn is_definition(names: &NameSet, known: &Metadata, name: &[u8], body: &[TrackedAssignment]) -> bool
+    ensures { IsTrue result →
+        (slice_get (name_texts names.now) known.now.id.0 ≡ Some name.now)
+        × (known.now.macro_attributes.items ≡ body.now) }
+{
+    has_name(names, known.id.0, name) && is_same(&known.macro_attributes, body)
+}
+
+// Whether the name with this number is the text.
+fn has_name(names: &NameSet, number: usize, text: &[u8]) -> bool
+    ensures { IsTrue result → slice_get (name_texts names.now) number ≡ Some text.now }
+{
+    match name_at(names, number) {
+        Some(name) => has_text(text, name),
+        None => false,
+    }
+}
+
+fn name_at(names: &NameSet, number: usize) -> Option<&str>
+    ensures { option_copied result ≡ slice_get (name_texts names.now) number }
+{
+    Some(names.get_index(number)?.as_str())
+}
+
+/// A copy of the macros of each list.
+///
+/// # Errors
+///
+/// If memory runs out.
+pub(super) fn clone_registered(
+    alloc: Global,
+    registered: &[Vec<Metadata>],
+) -> Result<Vec<Vec<Metadata>>, AllocError>
+    ensures { IfOk result (λ copy. (list_id : ℕ) →
+        registered_at copy.items list_id ≡ registered_at registered.now list_id) }
+{
+    let mut copy = Vec::new(alloc);
+    for list in registered {
+        copy.push(clone_list(alloc, list)?)?;
+    }
+    Ok(copy)
+}
+
+fn clone_list(alloc: Global, list: &[Metadata]) -> Result<Vec<Metadata>, AllocError>
+    ensures { IfOk result (λ copy. map numbered_body copy.items ≡ map numbered_body list.now) }
+{
+    let mut copy = Vec::new(alloc);
+    for known in list {
+        copy.push(known.clone(alloc)?)?;
+    }
+    Ok(copy)
+}
