@@ -15,11 +15,16 @@ fn repeated(
     back: &[u8],
 ) -> Result<Vec<u8>, AllocError> {
     let mut out = front.to_vec(alloc)?;
+    push_times(part, count, &mut out)?;
+    out.extend_from_slice(back)?;
+    Ok(out)
+}
+
+fn push_times(part: &[u8], count: usize, out: &mut Vec<u8>) -> Result<(), AllocError> {
     for _ in 0..count {
         out.extend_from_slice(part)?;
     }
-    out.extend_from_slice(back)?;
-    Ok(out)
+    Ok(())
 }
 
 // The number of each line up to `count`, and the text after it.
