@@ -1,5 +1,5 @@
 -- The macros of lists, line by line, against the lines.
-use Rattle.std.proofs.Common.{◌≡◌, ℕ, ◌<◌, ◌+◌, Bool, true, false, cond, eqb, List, [], ◌∷◌, ◌++◌, length, get_or, drop, take, map, filter, slice_get}
+use Rattle.std.proofs.Common.{◌≡◌, ℕ, ◌<◌, ◌+◌, true, cond, eqb, List, [], ◌∷◌, ◌++◌, length, get_or, drop, map, filter, slice_get}
 use Rattle.std.proofs.Common.{bytes_eq, Option, Some, None, unwrap_or, option_map, refl, sym, ap, ◌∙◌, ⊎_elim}
 use Rattle.std.specs.Prelude.{is_some, ◌&&◌, Vec}
 use Rattle.std.specs.List.{IsDistinct}
@@ -10,7 +10,7 @@ use Rattle.attr_lists.specs.Definitions.{bodies_named, bodies_of_list, defines_n
 use Rattle.attr_lists.specs.Collections.{Collection}
 use Rattle.attr_lists.specs.ListViews.{Entry, entry_view, entries_view}
 use Rattle.attr_lists.specs.Numbers.{number_of}
-use Rattle.attr_lists.specs.inner.Registered.{NumberedBody, bodies_of_name, bodies_of_number, numbered_body, registered_at, AreRegistered}
+use Rattle.attr_lists.specs.inner.Registered.{NumberedBody, bodies_of_name, bodies_of_number, registered_at, AreRegistered}
 use Rattle.attr_lists.specs.declared.types.AttributeId.{AttributeId}
 use Rattle.attr_lists.specs.declared.types.Metadata.{Metadata}
 use Rattle.attr_lists.specs.declared.types.TrackedAssignment.{TrackedAssignment}

@@ -1,6 +1,6 @@
 use Rattle.std.proofs.Common.{◌≡◌, refl, length, ap, sym, ◌∙◌, subst, arith}
 use Rattle.std.proofs.lemmas.List.{length-map, with_items_is}
-use Rattle.attr_lists.specs.Definitions.{bodies_of_list, definitions_of, without_list, HoldsList, IsSoundCollection}
+use Rattle.attr_lists.specs.Definitions.{definitions_of, without_list, HoldsList, IsSoundCollection}
 use Rattle.attr_lists.specs.inner.EntrySteps.{HasBodies}
 use Rattle.attr_lists.specs.inner.EntryViews.{name_texts, definitions_at, definitions_by, definitions_view, AreEntries}
 use Rattle.attr_lists.specs.ListViews.{entries_view}

@@ -1,4 +1,4 @@
-use Rattle.std.proofs.Common.{◌∙◌, [], ap, arith, get_or, length, map}
+use Rattle.std.proofs.Common.{◌∙◌, [], ap, arith, get_or, map}
 use Rattle.std.proofs.lemmas.List.{length-map, map-set, get_or-set_other, get_or-set_same}
 use Rattle.attr_lists.specs.inner.Registered.{all_registered, numbered_body}
 use Rattle.attr_lists.proofs.name_table.registered.register.Goals as goal
