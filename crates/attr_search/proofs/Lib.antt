@@ -3,7 +3,6 @@ pub mod FolderLemmas
 pub mod KeyedLemmas
 pub mod RefLemmas
 pub mod SlotLemmas
-pub mod RefCopies
 pub mod FillingLemmas
 pub mod LineLemmas
 pub mod CandidateLemmas

@@ -1,10 +1,9 @@
--- What was stored keeps its place, and what is found is what was looked for.
-use Rattle.std.proofs.Common.{rules, ◌≡◌, ℕ, ◌<◌, ◌≤◌, Bool, true, List, [], ◌∷◌, ◌++◌, length, get_or, map, Option, Some, None, option_map}
-use Rattle.std.proofs.Common.{MatchOption, slice_get, position, string_bytes, String, Global, refl, sym, ap, ◌∙◌, arith, length-append, append_assoc}
-use Rattle.std.specs.Bool.{⊤}
+-- What was stored keeps its place, and what is found equal is what was looked for.
+use Rattle.std.proofs.Common.{rules, ◌≡◌, ℕ, ◌<◌, ◌≤◌, Bool, true, false, List, [], ◌∷◌, ◌++◌, length, get_or, map, Option, Some, None, option_map}
+use Rattle.std.proofs.Common.{MatchOption, slice_get, string_bytes, String, Global, refl, sym, ap, ◌∙◌, arith, length-append, append_assoc}
+use Rattle.std.specs.Bool.{⊤, OnTrue}
 use Rattle.std.proofs.lemmas.List.{append-nil, map-append, get_or_append_left}
-use Rattle.std.proofs.lemmas.List.Quantifiers.{position-Some}
-use Rattle.std.proofs.lemmas.Option.{slice_get-get_or, slice_get-map, slice_get_within, get_or_from_slice_get, same_Some}
+use Rattle.std.proofs.lemmas.Option.{slice_get-map, slice_get_read, slice_get_within, get_or_from_slice_get, same_Some}
 use Rattle.attr_text.specs.declared.assignment.Assignment.{Assignment}
 use Rattle.attr_text.specs.contracts.assignment.AssignmentPartialEq.TheImpl as assignment
 use Rattle.attr_glob.specs.declared.pattern.Pattern.{Pattern}
@@ -15,28 +14,22 @@ use Rattle.attr_search.specs.declared.refmap.OriginRef.{OriginRef}
 use Rattle.attr_table.specs.Setting.{Origin}
 use Rattle.attr_glob.specs.Patterns.{Reading}
 
--- what is found at a place is seen as what was looked for
-pub found_at : {T V : Type 0} (test : T → Bool) (view : T → V) (v : V) (ks : List T) (i : ℕ) → position test ks ≡ Some i →
-    ((k : T) → test k ≡ true → view k ≡ v) → option_map view (slice_get ks i) ≡ Some v
-found_at test view v [] i e same = absurd cc
-found_at test view v (k ∷ ks) i e same =
-    let p = position-Some test (k ∷ ks) i k e in
-    ap (option_map view) (slice_get-get_or (k ∷ ks) i k p.0) ∙ ap Some (same (get_or (k ∷ ks) i k) p.1)
+-- what is found equal at a place is seen as what was looked for
+pub same_at : {T V : Type 0} (test : T → Bool) (view : T → V) (v : V) (ks : List T) (i : ℕ) (k : T) (b : Bool) → i < length ks → k ≡ get_or ks i k →
+    b ≡ test k → ((k : T) → test k ≡ true → view k ≡ v) → OnTrue b (option_map view (slice_get ks i) ≡ Some v)
+same_at test view v ks i k false within at told same = tt
+same_at test view v ks i k true within at told same =
+    ap (option_map view) (slice_get_read ks (length ks) i k refl within at) ∙ ap Some (same k (sym told))
+
+-- the same, where what is equal is one
+pub one_at : {T : Type 0} (test : T → Bool) (x : T) (ks : List T) (i : ℕ) (k : T) (b : Bool) → i < length ks → k ≡ get_or ks i k → b ≡ test k →
+    ((k : T) → test k ≡ true → k ≡ x) → OnTrue b (slice_get ks i ≡ Some x)
+one_at test x ks i k false within at told same = tt
+one_at test x ks i k true within at told same = slice_get_read ks (length ks) i k refl within at ∙ ap Some (same k (sym told))
 
 -- equal assignments are one
 pub assignment_same : (x y : Assignment) → assignment.ghosts.eq x y ≡ true → x ≡ y
 assignment_same x y e = search (rules, e)
-
-pub same_assignment : (x y : Assignment) → x ≡ y → assignment.ghosts.eq x y ≡ true
-same_assignment x y e = search (rules, e)
-
--- what is found at a place is what was looked for, where equal keys are one
-pub found_key : {T : Type 0} (test : T → Bool) (x : T) (ks : List T) (i : ℕ) → position test ks ≡ Some i → ((k : T) → test k ≡ true → k ≡ x) →
-    slice_get ks i ≡ Some x
-found_key test x [] i e same = absurd cc
-found_key test x (k ∷ ks) i e same =
-    let p = position-Some test (k ∷ ks) i k e in
-    slice_get-get_or (k ∷ ks) i k p.0 ∙ ap Some (same (get_or (k ∷ ks) i k) p.1)
 
 -- a list that stays grows by nothing
 pub grows_same : {X : Type 0} (xs : List X) → Grows xs xs

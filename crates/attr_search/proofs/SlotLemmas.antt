@@ -199,12 +199,13 @@ pub empty_seen : {X : Type 0} (store : RefMapParts) (slots : List (Option MatchR
     slots ≡ map (λ x. None) xs
 empty_seen store slots xs e = ap (matches_by_ref store) e ∙ map_map (λ o. option_map (match_by_ref store) o) (λ x. None) xs
 
--- emptied slots are seen as such
-pub emptied_seen : (store : RefMapParts) (slots slots' : List (Option MatchRef)) (held : List (Option Matched)) → matches_by_ref store slots ≡ held →
+-- emptied slots are seen as such, whatever is stored then
+pub emptied_seen : (store store' : RefMapParts) (slots slots' : List (Option MatchRef)) (held : List (Option Matched)) →
+    matches_by_ref store slots ≡ held →
     slots' ≡ map (λ o. None) slots →
-    matches_by_ref store slots' ≡ map (λ o. None) held
-emptied_seen store slots slots' held is e =
-    empty_seen store slots' slots e ∙ sym (map_map (λ (m : Option Matched). None) (λ o. option_map (match_by_ref store) o) slots) ∙ ap
+    matches_by_ref store' slots' ≡ map (λ o. None) held
+emptied_seen store store' slots slots' held is e =
+    empty_seen store' slots' slots e ∙ sym (map_map (λ (m : Option Matched). None) (λ o. option_map (match_by_ref store) o) slots) ∙ ap
     (map (λ o. None)) is
 
 byte_is : (b : Bool) → bool_byte b ≡ cond b 1 0

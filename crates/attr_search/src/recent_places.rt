@@ -5,7 +5,7 @@ ghost use Rattle.std.specs.Prelude.{◌≡◌, ◌%◌, [], OnErr, OnOk, Some, s
 use std::alloc::{AllocError, Global};
 
 /// How many places are kept.
-pub const KEPT: usize = 256;
+pub const KEPT: usize = 1024;
 
 /// For each remainder of numbers the place that was noted last. What is stored there has to be compared: it may have
 /// been noted for another number.
@@ -27,7 +27,7 @@ impl RecentPlaces {
 
     /// The place that was noted last for the number's remainder, and 0 before.
     pub fn get(&self, number: usize) -> usize
-        ensures { result ≡ slice_index_or self.now.places.items (number % 256) 0 }
+        ensures { result ≡ slice_index_or self.now.places.items (number % 1024) 0 }
     {
         match self.places.get(number % KEPT) {
             Some(place) => *place,
@@ -42,7 +42,7 @@ impl RecentPlaces {
     /// If memory runs out. Nothing is noted then.
     pub fn note(&mut self, number: usize, place: usize) -> Result<(), AllocError>
         ensures noted { OnOk result
-            (slice_get self.new.places.items (number % 256) ≡ Some place) }
+            (slice_get self.new.places.items (number % 1024) ≡ Some place) }
         ensures refused { OnErr result (self.new.places.items ≡ self.old.places.items) }
     {
         if self.places.len() < KEPT {

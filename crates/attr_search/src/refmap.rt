@@ -1,6 +1,6 @@
-//! The parts of matches: patterns, assignments and sources. Each is stored once, and has a place: its index, from 0.
+//! The parts of matches: patterns, assignments and sources. What is stored has a place: its index among those of its kind, from 0.
 
-ghost use Rattle.std.specs.Prelude.{◌≡◌, ◌<◌, ⊤, [], Some, IfOk, MatchOption, length, map, option_map, slice_get, slice_index_or, string_bytes};
+ghost use Rattle.std.specs.Prelude.{◌≡◌, ◌<◌, ◌||◌, [], Some, IfOk, length, map, nat_lt, option_map, slice_get, slice_index_or, string_bytes};
 ghost use Rattle.std.specs.Bool.{OnTrue};
 ghost use Rattle.attr_glob.specs.Views.{pattern_view};
 ghost use Rattle.attr_search.specs.inner.Pending.{line_origin};
@@ -14,7 +14,6 @@ use attr_glob::Pattern;
 use attr_glob::search::pattern::Mapping;
 use attr_lists::types::{Match, MatchKind, MatchLocation, TrackedAssignment, Value};
 use attr_text::{Assignment, State};
-use indexmap::IndexSet;
 use std::alloc::{AllocError, Global};
 use std::marker::Model;
 
@@ -40,16 +39,39 @@ pub struct MatchRef {
     pub kind: MatchKind,
 }
 
-/// The patterns, assignments and sources of matches, each stored once.
+// So many parts of a kind are kept for later matches, and no more.
+const MOST: usize = 4096;
+
+/// The patterns, assignments and sources of matches. A part that was stored of late is found again; another one is stored
+/// once more.
 #[derive(Drop)]
 pub struct RefMap {
-    patterns: IndexSet<Pattern>,
-    assignments: IndexSet<Assignment>,
-    sources: IndexSet<String>,
-    // Where lines and items were stored of late, which is tried before they are looked up.
-    recent_patterns: RecentPlaces,
-    recent_assignments: RecentPlaces,
-    recent_source: usize,
+    patterns: PatternStore,
+    assignments: AssignmentStore,
+    sources: SourceStore,
+}
+
+#[derive(Drop)]
+struct PatternStore {
+    stored: Vec<Pattern>,
+    // Where the patterns of lines were stored of late.
+    recent: RecentPlaces,
+}
+
+#[derive(Drop)]
+struct AssignmentStore {
+    stored: Vec<Assignment>,
+    // Where the assignments of items were stored of late.
+    recent: RecentPlaces,
+}
+
+#[derive(Drop)]
+struct SourceStore {
+    stored: Vec<String>,
+    // Where the sources of lines were stored of late.
+    recent: RecentPlaces,
+    // The place that was looked up last: the next line is often of the same list.
+    last: usize,
 }
 
 impl Model for RefMap {
@@ -67,13 +89,35 @@ impl RefMap {
     pub fn new(alloc: Global) -> RefMap
         ensures { result ≡ record { patterns = []; assignments = []; sources = [] } }
     {
+        RefMap::of(alloc, Vec::new(alloc), Vec::new(alloc), Vec::new(alloc))
+    }
+
+    fn of(
+        alloc: Global,
+        patterns: Vec<Pattern>,
+        assignments: Vec<Assignment>,
+        sources: Vec<String>,
+    ) -> RefMap
+        ensures { result ≡ record {
+          patterns = map pattern_view patterns.items;
+          assignments = assignments.items;
+          sources = map string_bytes sources.items;
+        } }
+    {
         RefMap {
-            patterns: IndexSet::new(alloc),
-            assignments: IndexSet::new(alloc),
-            sources: IndexSet::new(alloc),
-            recent_patterns: RecentPlaces::new(alloc),
-            recent_assignments: RecentPlaces::new(alloc),
-            recent_source: 0,
+            patterns: PatternStore {
+                stored: patterns,
+                recent: RecentPlaces::new(alloc),
+            },
+            assignments: AssignmentStore {
+                stored: assignments,
+                recent: RecentPlaces::new(alloc),
+            },
+            sources: SourceStore {
+                stored: sources,
+                recent: RecentPlaces::new(alloc),
+                last: 0,
+            },
         }
     }
 
@@ -81,12 +125,22 @@ impl RefMap {
     pub fn clear(&mut self)
         ensures { self.new ≡ record { patterns = []; assignments = []; sources = [] } }
     {
-        self.patterns.clear();
-        self.assignments.clear();
-        self.sources.clear();
+        self.patterns.stored.clear();
+        self.assignments.stored.clear();
+        self.sources.stored.clear();
     }
 
-    /// Stores a line's pattern and source if they are new, and returns their places. What was stored keeps its place.
+    /// Whether so much is stored that it is to be forgotten, once no match refers to it.
+    pub fn is_large(&self) -> bool
+        ensures { result ≡ (nat_lt 4096 (length self.now.patterns)
+            || nat_lt 4096 (length self.now.assignments) || nat_lt 4096 (length self.now.sources)) }
+    {
+        self.patterns.stored.len() > MOST
+            || self.assignments.stored.len() > MOST
+            || self.sources.stored.len() > MOST
+    }
+
+    /// Finds or stores a line's pattern and source, and returns their places. What was stored keeps its place.
     ///
     /// # Errors
     ///
@@ -95,10 +149,9 @@ impl RefMap {
         ensures line { IfOk result (λ l. RefersTo self.new l (line_origin line.entry)) }
         ensures extends { KeepsRefs self.old self.new }
     {
-        let recent = &mut self.recent_patterns;
-        let pattern = pattern_place(&mut self.patterns, recent, alloc, line.mapping)?;
-        let recent = &mut self.recent_source;
-        let source = optional_source_place(&mut self.sources, recent, alloc, line.source)?;
+        let number = line_number(line.mapping);
+        let pattern = self.patterns.place(alloc, number, &line.mapping.pattern)?;
+        let source = self.sources.optional_place(alloc, number, line.source)?;
         Ok(OriginRef {
             pattern,
             source,
@@ -106,7 +159,7 @@ impl RefMap {
         })
     }
 
-    /// Stores an item's assignment if it is new, and returns its place. What was stored keeps its place.
+    /// Finds or stores an item's assignment, and returns its place. What was stored keeps its place.
     ///
     /// # Errors
     ///
@@ -120,8 +173,7 @@ impl RefMap {
             slice_get self.new.assignments place ≡ Some item.now.inner) }
         ensures extends { KeepsRefs self.old self.new }
     {
-        let recent = &mut self.recent_assignments;
-        assignment_place(&mut self.assignments, recent, alloc, item)
+        self.assignments.place(alloc, item)
     }
 
     /// A copy. Each part has the same place in it.
@@ -132,14 +184,10 @@ impl RefMap {
     pub fn clone(&self, alloc: Global) -> Result<RefMap, AllocError>
         ensures { IfOk result (λ copy. copy ≡ self.now) }
     {
-        Ok(RefMap {
-            patterns: copy_of_patterns(alloc, &self.patterns)?,
-            assignments: copy_of_assignments(alloc, &self.assignments)?,
-            sources: copy_of_sources(alloc, &self.sources)?,
-            recent_patterns: RecentPlaces::new(alloc),
-            recent_assignments: RecentPlaces::new(alloc),
-            recent_source: 0,
-        })
+        let patterns = copy_of_patterns(alloc, &self.patterns.stored)?;
+        let assignments = copy_of_assignments(alloc, &self.assignments.stored)?;
+        let sources = copy_of_sources(alloc, &self.sources.stored)?;
+        Ok(RefMap::of(alloc, patterns, assignments, sources))
     }
 
     /// The match with these parts, which have to be stored.
@@ -167,62 +215,63 @@ impl RefMap {
         requires { place < length self.now.patterns }
         ensures { pattern_view result.now ≡ slice_index_or self.now.patterns place no_pattern }
     {
-        match self.patterns.get_index(place) {
-            Some(pattern) => pattern,
-            None => unreachable!(),
-        }
+        &self.patterns.stored[place]
     }
 
     fn assignment_at(&self, place: usize) -> &Assignment
         requires { place < length self.now.assignments }
         ensures { result.now ≡ slice_index_or self.now.assignments place no_assignment }
     {
-        match self.assignments.get_index(place) {
-            Some(assignment) => assignment,
-            None => unreachable!(),
-        }
+        &self.assignments.stored[place]
     }
 
     fn source_at(&self, place: usize) -> &str
         requires { place < length self.now.sources }
         ensures { result.now ≡ slice_index_or self.now.sources place [] }
     {
-        match self.sources.get_index(place) {
-            Some(source) => source.as_str(),
-            None => unreachable!(),
+        self.sources.stored[place].as_str()
+    }
+}
+
+impl PatternStore {
+    // The place of the pattern of a line with this number. It is stored if it is not where such a line's was stored last.
+    fn place(
+        &mut self,
+        alloc: Global,
+        number: usize,
+        pattern: &Pattern,
+    ) -> Result<usize, AllocError>
+        ensures place { IfOk result (λ place. option_map pattern_view
+            (slice_get self.new.stored.items place) ≡ Some (pattern_view pattern.now)) }
+        ensures grows { Grows self.old.stored.items self.new.stored.items }
+    {
+        let place = self.recent.get(number);
+        if has_pattern(&self.stored, place, pattern) {
+            return Ok(place);
         }
+        let place = self.stored.len();
+        self.stored.push(pattern.clone(alloc)?)?;
+        self.recent.note(number, place)?;
+        Ok(place)
     }
 }
 
-// The place of a line's pattern. The place that was noted last for such a line is tried first.
-fn pattern_place(
-    patterns: &mut IndexSet<Pattern>,
-    recent: &mut RecentPlaces,
-    alloc: Global,
-    line: &Mapping<Value>,
-) -> Result<usize, AllocError>
-    ensures place { IfOk result (λ place. option_map pattern_view
-        (slice_get patterns.new.keys place) ≡ Some (pattern_view line.now.pattern)) }
-    ensures grows { Grows patterns.old.keys patterns.new.keys }
+// Whether the pattern has this place.
+fn has_pattern(patterns: &[Pattern], place: usize, pattern: &Pattern) -> bool
+    ensures { OnTrue result (option_map pattern_view (slice_get patterns.now place)
+        ≡ Some (pattern_view pattern.now)) }
 {
-    let number = line_number(line);
-    let place = recent.get(number);
-    if has_pattern(patterns, place, &line.pattern) {
-        return Ok(place);
-    }
-    let place = found_pattern(patterns, alloc, &line.pattern)?;
-    recent.note(number, place)?;
-    Ok(place)
+    place < patterns.len() && *pattern == patterns[place]
 }
 
-// A number for a line by which its pattern is noted.
+// A number for a line by which its pattern and source are noted.
 fn line_number(line: &Mapping<Value>) -> usize {
     line.sequence_number % KEPT + text_number(&line.pattern.text)
 }
 
 // A number for a text, by its length and its last byte.
 fn text_number(text: &[u8]) -> usize
-    ensures { result < 2304 }
+    ensures { result < 8448 }
 {
     match text.last() {
         Some(byte) => text.len() % KEPT * 8 + usize::from(*byte),
@@ -230,53 +279,30 @@ fn text_number(text: &[u8]) -> usize
     }
 }
 
-// Whether the pattern has this place.
-fn has_pattern(patterns: &IndexSet<Pattern>, place: usize, pattern: &Pattern) -> bool
-    ensures { OnTrue result (option_map pattern_view (slice_get patterns.now.keys place)
-        ≡ Some (pattern_view pattern.now)) }
-{
-    match patterns.get_index(place) {
-        Some(stored) => *pattern == *stored,
-        None => false,
+impl AssignmentStore {
+    // The place of an item's assignment. It is stored if it is not where such an item's was stored last.
+    fn place(&mut self, alloc: Global, item: &TrackedAssignment) -> Result<usize, AllocError>
+        ensures place { IfOk result (λ place.
+            slice_get self.new.stored.items place ≡ Some item.now.inner) }
+        ensures grows { Grows self.old.stored.items self.new.stored.items }
+    {
+        let number = item_number(item);
+        let place = self.recent.get(number);
+        if has_assignment(&self.stored, place, &item.inner) {
+            return Ok(place);
+        }
+        let place = self.stored.len();
+        self.stored.push(item.inner.clone(alloc)?)?;
+        self.recent.note(number, place)?;
+        Ok(place)
     }
 }
 
-// The place of a pattern by its hash. It is stored if it is new.
-fn found_pattern(
-    patterns: &mut IndexSet<Pattern>,
-    alloc: Global,
-    pattern: &Pattern,
-) -> Result<usize, AllocError>
-    ensures place { IfOk result (λ place. option_map pattern_view
-        (slice_get patterns.new.keys place) ≡ Some (pattern_view pattern.now)) }
-    ensures grows { Grows patterns.old.keys patterns.new.keys }
+// Whether the assignment has this place.
+fn has_assignment(assignments: &[Assignment], place: usize, assignment: &Assignment) -> bool
+    ensures { OnTrue result (slice_get assignments.now place ≡ Some assignment.now) }
 {
-    if let Some(place) = patterns.get_index_of(pattern) {
-        return Ok(place);
-    }
-    let (place, _) = patterns.insert_full(pattern.clone(alloc)?)?;
-    Ok(place)
-}
-
-// The place of an item's assignment. The place that was noted last for such an item is tried first.
-fn assignment_place(
-    assignments: &mut IndexSet<Assignment>,
-    recent: &mut RecentPlaces,
-    alloc: Global,
-    item: &TrackedAssignment,
-) -> Result<usize, AllocError>
-    ensures place { IfOk result (λ place.
-        slice_get assignments.new.keys place ≡ Some item.now.inner) }
-    ensures grows { Grows assignments.old.keys assignments.new.keys }
-{
-    let number = item_number(item);
-    let place = recent.get(number);
-    if has_assignment(assignments, place, &item.inner) {
-        return Ok(place);
-    }
-    let place = found_assignment(assignments, alloc, &item.inner)?;
-    recent.note(number, place)?;
-    Ok(place)
+    place < assignments.len() && *assignment == assignments[place]
 }
 
 // A number for an item by which its assignment is noted. Items that set different attributes seldom share one.
@@ -290,133 +316,98 @@ fn item_number(item: &TrackedAssignment) -> usize {
     item.id.0 % KEPT + state
 }
 
-// Whether the assignment has this place.
-fn has_assignment(assignments: &IndexSet<Assignment>, place: usize, assignment: &Assignment) -> bool
-    ensures { OnTrue result (slice_get assignments.now.keys place ≡ Some assignment.now) }
-{
-    match assignments.get_index(place) {
-        Some(stored) => *assignment == *stored,
-        None => false,
+impl SourceStore {
+    fn optional_place(
+        &mut self,
+        alloc: Global,
+        number: usize,
+        source: &Option<String>,
+    ) -> Result<Option<usize>, AllocError>
+        ensures place { IfOk result (λ place.
+            option_map (λ s. option_map string_bytes (slice_get self.new.stored.items s)) place
+            ≡ option_map (λ s. Some (string_bytes s)) source.now) }
+        ensures grows { Grows self.old.stored.items self.new.stored.items }
+    {
+        match source {
+            Some(source) => Ok(Some(self.place(alloc, number, source.as_str())?)),
+            None => Ok(None),
+        }
     }
-}
 
-// The place of an assignment by its hash. It is stored if it is new.
-fn found_assignment(
-    assignments: &mut IndexSet<Assignment>,
-    alloc: Global,
-    assignment: &Assignment,
-) -> Result<usize, AllocError>
-    ensures place { IfOk result (λ place.
-        slice_get assignments.new.keys place ≡ Some assignment.now) }
-    ensures grows { Grows assignments.old.keys assignments.new.keys }
-{
-    if let Some(place) = assignments.get_index_of(assignment) {
-        return Ok(place);
+    // The place of the source of a line with this number. The place that was looked up last is tried first, and then where
+    // such a line's was stored last.
+    fn place(&mut self, alloc: Global, number: usize, source: &str) -> Result<usize, AllocError>
+        ensures place { IfOk result (λ place.
+            option_map string_bytes (slice_get self.new.stored.items place) ≡ Some source.now) }
+        ensures grows { Grows self.old.stored.items self.new.stored.items }
+    {
+        if has_source(&self.stored, self.last, source) {
+            return Ok(self.last);
+        }
+        let place = self.other_place(alloc, number, source)?;
+        self.last = place;
+        Ok(place)
     }
-    let (place, _) = assignments.insert_full(assignment.clone(alloc)?)?;
-    Ok(place)
-}
 
-fn optional_source_place(
-    sources: &mut IndexSet<String>,
-    recent: &mut usize,
-    alloc: Global,
-    source: &Option<String>,
-) -> Result<Option<usize>, AllocError>
-    ensures place { IfOk result (λ place.
-        option_map (λ s. option_map string_bytes (slice_get sources.new.keys s)) place
-        ≡ option_map (λ s. Some (string_bytes s)) source.now) }
-    ensures grows { Grows sources.old.keys sources.new.keys }
-{
-    match source {
-        Some(source) => Ok(Some(source_place(sources, recent, alloc, source.as_str())?)),
-        None => Ok(None),
+    fn other_place(
+        &mut self,
+        alloc: Global,
+        number: usize,
+        source: &str,
+    ) -> Result<usize, AllocError>
+        ensures place { IfOk result (λ place.
+            option_map string_bytes (slice_get self.new.stored.items place) ≡ Some source.now) }
+        ensures grows { Grows self.old.stored.items self.new.stored.items }
+    {
+        let place = self.recent.get(number);
+        if has_source(&self.stored, place, source) {
+            return Ok(place);
+        }
+        let place = self.stored.len();
+        self.stored.push(String::from_str(alloc, source)?)?;
+        self.recent.note(number, place)?;
+        Ok(place)
     }
-}
-
-// The place of a source. The place that was found last is tried first.
-fn source_place(
-    sources: &mut IndexSet<String>,
-    recent: &mut usize,
-    alloc: Global,
-    source: &str,
-) -> Result<usize, AllocError>
-    ensures place { IfOk result (λ place.
-        option_map string_bytes (slice_get sources.new.keys place) ≡ Some source.now) }
-    ensures grows { Grows sources.old.keys sources.new.keys }
-{
-    if has_source(sources, *recent, source) {
-        return Ok(*recent);
-    }
-    let place = found_source(sources, alloc, source)?;
-    *recent = place;
-    Ok(place)
 }
 
 // Whether the source has this place.
-fn has_source(sources: &IndexSet<String>, place: usize, source: &str) -> bool
+fn has_source(sources: &[String], place: usize, source: &str) -> bool
     ensures { OnTrue result
-        (option_map string_bytes (slice_get sources.now.keys place) ≡ Some source.now) }
+        (option_map string_bytes (slice_get sources.now place) ≡ Some source.now) }
 {
-    match sources.get_index(place) {
-        Some(stored) => source == stored.as_str(),
-        None => false,
-    }
+    place < sources.len() && source == sources[place].as_str()
 }
 
-// The place of a source by its hash. It is stored if it is new.
-fn found_source(
-    sources: &mut IndexSet<String>,
-    alloc: Global,
-    source: &str,
-) -> Result<usize, AllocError>
-    ensures place { IfOk result (λ place.
-        option_map string_bytes (slice_get sources.new.keys place) ≡ Some source.now) }
-    ensures grows { Grows sources.old.keys sources.new.keys }
-{
-    if let Some(place) = sources.get_index_of(source) {
-        return Ok(place);
-    }
-    let (place, _) = sources.insert_full(String::from_str(alloc, source)?)?;
-    Ok(place)
-}
-
-fn copy_of_patterns(
-    alloc: Global,
-    patterns: &IndexSet<Pattern>,
-) -> Result<IndexSet<Pattern>, AllocError>
+fn copy_of_patterns(alloc: Global, patterns: &[Pattern]) -> Result<Vec<Pattern>, AllocError>
     ensures { IfOk result (λ copy.
-        map pattern_view copy.keys ≡ map pattern_view patterns.now.keys) }
+        map pattern_view copy.items ≡ map pattern_view patterns.now) }
 {
-    let mut copy = IndexSet::new(alloc);
-    for pattern in patterns.as_slice() {
-        copy.insert(pattern.clone(alloc)?)?;
+    let mut copy = Vec::with_capacity(alloc, patterns.len())?;
+    for pattern in patterns {
+        copy.push(pattern.clone(alloc)?)?;
     }
     Ok(copy)
 }
 
 fn copy_of_assignments(
     alloc: Global,
-    assignments: &IndexSet<Assignment>,
-) -> Result<IndexSet<Assignment>, AllocError>
-    ensures { IfOk result (λ copy. copy.keys ≡ assignments.now.keys) }
+    assignments: &[Assignment],
+) -> Result<Vec<Assignment>, AllocError>
+    ensures { IfOk result (λ copy. copy.items ≡ assignments.now) }
 {
-    let mut copy = IndexSet::new(alloc);
-    for assignment in assignments.as_slice() {
-        copy.insert(assignment.clone(alloc)?)?;
+    let mut copy = Vec::with_capacity(alloc, assignments.len())?;
+    for assignment in assignments {
+        copy.push(assignment.clone(alloc)?)?;
     }
     Ok(copy)
 }
 
-fn copy_of_sources(
-    alloc: Global,
-    sources: &IndexSet<String>,
-) -> Result<IndexSet<String>, AllocError>
-    ensures { IfOk result (λ copy. map string_bytes copy.keys ≡ map string_bytes sources.now.keys) }
+fn copy_of_sources(alloc: Global, sources: &[String]) -> Result<Vec<String>, AllocError>
+    ensures { IfOk result (λ copy. map string_bytes copy.items ≡ map string_bytes sources.now) }
 {
-    let mut copy = IndexSet::new(alloc);
-    for source in sources.as_slice() {
-        copy.insert(String::from_str(alloc, source.as_str())?)?;
+    let mut copy = Vec::with_capacity(alloc, sources.len())?;
+    for source in sources {
+        copy.push(String::from_str(alloc, source.as_str())?)?;
     }
     Ok(copy)
 }

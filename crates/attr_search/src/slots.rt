@@ -229,7 +229,7 @@ impl AnswerSlots {
         }
     }
 
-    /// Empties the slots, which costs what was filled. Patterns, sources and assignments stay stored for later matches.
+    /// Empties the slots, which costs what was filled. Patterns, sources and assignments stay stored for later matches, unless they are many.
     pub fn reset(&mut self)
         ensures { self.new ≡ record self.old
             { answers = map (λ a. None) self.old.answers; line = None } }
@@ -238,7 +238,7 @@ impl AnswerSlots {
         self.filled.clear();
         self.is_ordered = true;
         self.remaining = self.wanted.count();
-        self.matches.line = None;
+        self.matches.release();
     }
 
     /// The answer for the attribute with this number. None if its slot is free, or if there is no such slot.
@@ -258,6 +258,16 @@ impl MatchStore {
         ensures line { result.line ≡ None }
     {
         MatchStore { refs, line: None }
+    }
+
+    // Forgets the line and, if much is stored, what is stored. No match refers to it any more.
+    fn release(&mut self)
+        ensures { self.new.line ≡ None }
+    {
+        self.line = None;
+        if self.refs.is_large() {
+            self.refs.clear();
+        }
     }
 
     // Forgets what is stored.

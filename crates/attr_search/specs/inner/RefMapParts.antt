@@ -1,4 +1,4 @@
--- What an outcome stores: each pattern, assignment and source of its matches once, by place (own).
+-- What an outcome stores of its matches: patterns, assignments and sources, by place (own).
 use Rattle.std.specs.Prelude.{◌≡◌, ℕ, List, [], ◌++◌, None}
 use Rattle.attr_glob.specs.Patterns.{Reading}
 use Rattle.attr_text.specs.declared.assignment.Assignment.{Assignment}

@@ -1,9 +1,10 @@
-use Rattle.std.proofs.Common.{List, Option, None, ap, refl, ◌∙◌, sym}
+use Rattle.std.proofs.Common.{List, Option, None, option_map, ap, refl, ◌∙◌, sym}
 use Rattle.attr_search.specs.inner.SlotContents.{SlotContents, count_remaining}
-use Rattle.attr_search.specs.inner.Refs.{matches_by_ref}
+use Rattle.attr_search.specs.inner.Refs.{matches_by_ref, origin_by_ref}
 use Rattle.attr_search.specs.Slots.{Matched}
 use Rattle.attr_search.proofs.SlotLemmas.{emptied_seen, empty_listed, empty_within}
 use Rattle.attr_search.specs.declared.refmap.MatchRef.{MatchRef}
+use Rattle.attr_search.specs.declared.refmap.OriginRef.{OriginRef}
 use Rattle.attr_search.proofs.WantedLemmas.{count_empty}
 use Rattle.attr_search.proofs.ListedLemmas.{rising_nothing}
 use Rattle.attr_search.proofs.slots.AnswerSlots.reset.Goals as goal
@@ -14,8 +15,8 @@ invariant_of-self c =
     let same = c.self.invariant.same_length in
     record {
       same_length = same ∙ sym c.empty.ensures.len;
-      within = empty_within b.matches.refs c.empty.new.slots.items b.slots.items c.empty.ensures.items;
-      line = tt;
+      within = empty_within c.release.new.self.refs c.empty.new.slots.items b.slots.items c.empty.ensures.items;
+      line = rw c.release.ensures tt;
       counted = c.count-self-inside.ensures ∙ sym (count_empty MatchRef b.wanted b.slots.items same)
           ∙ ap (count_remaining b.wanted) (sym c.empty.ensures.items);
       listed = rw c.clear.ensures.items (empty_listed c.empty.new.slots.items b.slots.items c.empty.ensures.items);
@@ -25,7 +26,10 @@ invariant_of-self c =
 pub returns : goal.returns
 returns c =
     let b = c.self.inside in
+    let store = c.release.new.self.refs in
+    let seen = matches_by_ref store c.empty.new.slots.items in
+    let Seen : Option OriginRef → SlotContents = λ line. record { answers = seen; wanted = b.wanted; line = option_map (origin_by_ref store) line } in
     let Emptied : List (Option Matched) → SlotContents = λ answers. record { answers = answers; wanted = b.wanted; line = None } in
-    rw (← c.self.view_is) (ap Emptied (emptied_seen b.matches.refs b.slots.items c.empty.new.slots.items (matches_by_ref b.matches.refs b.slots.items)
-    refl
+    rw (← c.self.view_is) (ap Seen c.release.ensures ∙ ap Emptied (emptied_seen b.matches.refs store b.slots.items c.empty.new.slots.items
+    (matches_by_ref b.matches.refs b.slots.items) refl
     c.empty.ensures.items))
