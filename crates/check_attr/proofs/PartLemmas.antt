@@ -1,13 +1,14 @@
 -- The parts of a record are read exactly if they are spelled.
 use Rattle.std.proofs.Common.{◌≡◌, ℕ, ◌+◌, ◌-◌, ◌*◌, ◌^◌, ◌<◌, Bool, true, false, not, ◌&&◌, ◌||◌, List, [], ◌∷◌, ◌++◌}
-use Rattle.std.proofs.Common.{length, take, drop, get_or, fold, Option, Some, None, option_map, refl, sym, ap, ◌∙◌, subst, arith}
+use Rattle.std.proofs.Common.{length, take, drop, get_or, fold, Option, Some, None, cond, option_map, refl, sym, ap, ◌∙◌, subst, arith}
 use Rattle.std.proofs.Common.{append_assoc}
-use Rattle.std.proofs.Common.{rules, ltb, ltb-false, lt-ltb, ltb-true, le-leb, leb-true, eq-eqb, ne_eqb, eqb-true, length-append, length-take-le}
+use Rattle.std.proofs.Common.{rules, ltb, ltb-false, lt-ltb, le-ltb, ltb-true, le-leb, leb-true, eq-eqb, ne_eqb, eqb-true, length-append, length-take-le}
 use Rattle.std.proofs.Common.{take-append-drop, true≢false}
 use Rattle.std.proofs.Math.Seq.{take-append_seam, take_at, drop_at}
 use Rattle.std.specs.Prelude.{⊤, nat_eq, nat_le, decimal, if◌then◌else◌, ◌==◌}
 use Rattle.std.specs.Char.{is_ascii_digit}
-use Rattle.std.specs.List.{list_all, starts_with, position_from}
+use Rattle.std.specs.List.{list_all, starts_with, position, position_from}
+use Rattle.std.proofs.lemmas.List.Sums.{position_or_len_is}
 use Rattle.std.specs.Str.{IsUtf8, is_utf8}
 use Rattle.std.proofs.lemmas.Fmt.{decimal_nonempty, length-decimal-le, first_decimal, decimal_digit, digits_decimal, digits_value-decimal}
 use Rattle.std.proofs.lemmas.Fmt.{decimal-digits_value}
@@ -183,6 +184,21 @@ split_once-only stop bytes word rest e =
     sym (at_end stop found.0 found.1) ∙ (ap (λ xs. at_place xs (length found.0)) (sym found.3.1)
     ∙ (ap (at_place bytes) (omega (arith, found.2)) ∙ at.2)) in
     subst (λ (p : List ℕ × List ℕ). Parted stop bytes p.0 p.1) same found.3
+
+-- the first byte that is the separator
+pub position_at : (stop : ℕ) (bytes : List ℕ) (i : ℕ) → i < length bytes → ((k : ℕ) → k < i → (get_or bytes k 0 == stop) ≡ false)
+    → (get_or bytes i 0 == stop) ≡ true → Some i ≡ position (λ b. b == stop) bytes
+position_at stop bytes i within before here =
+    let at = position_or_len_is (λ b. b == stop) bytes i 0 (omega (arith, within)) before (λ lt. here) in
+    sym (ap (λ n. cond (ltb n (length bytes)) (Some n) None) at ∙ ap (λ b. cond b (Some i) None) (lt-ltb i (length bytes) within))
+
+-- no byte is the separator
+pub no_position : (stop : ℕ) (bytes : List ℕ) → ((k : ℕ) → k < length bytes → (get_or bytes k 0 == stop) ≡ false)
+    → None ≡ position (λ b. b == stop) bytes
+no_position stop bytes others =
+    let at = position_or_len_is (λ b. b == stop) bytes (length bytes) 0 (omega arith) others (λ lt. absurd (omega (arith, lt))) in
+    sym (ap (λ n. cond (ltb n (length bytes)) (Some n) None) at
+    ∙ ap (λ b. cond b (Some (length bytes)) None) (le-ltb (length bytes) (length bytes) (omega arith)))
 
 -- ---- a number before a separator
 

@@ -512,12 +512,15 @@ reads_names bytes read add_is pop_is names_is e =
     first_record bytes read (e ∙ sym (if-else (starts_with nat_eq bytes (codes "add ")) _ _ add_is
     ∙ (if-else (starts_with nat_eq bytes (codes "pop\n")) _ _ pop_is ∙ if-then (starts_with nat_eq bytes (codes "names ")) _ _ names_is)))
 
-pub reads_ask : (bytes : List ℕ) (read : Option (Record × List ℕ)) → starts_with nat_eq bytes (codes "add ") ≡ false
-    → starts_with nat_eq bytes (codes "pop\n") ≡ false → starts_with nat_eq bytes (codes "names ") ≡ false
-    → starts_with nat_eq bytes (codes "ask ") ≡ true → read ≡ ask_record (drop 4 bytes) → IsFirstRecord bytes read
-reads_ask bytes read add_is pop_is names_is ask_is e =
-    first_record bytes read (e ∙ sym (if-else (starts_with nat_eq bytes (codes "add ")) _ _ add_is
-    ∙ (if-else (starts_with nat_eq bytes (codes "pop\n")) _ _ pop_is ∙ (if-else (starts_with nat_eq bytes (codes "names ")) _ _ names_is
+pub reads_ask : (bytes : List ℕ) (read : Option (Record × List ℕ)) → starts_with nat_eq bytes (codes "ask ") ≡ true
+    → read ≡ ask_record (drop 4 bytes) → IsFirstRecord bytes read
+reads_ask bytes read ask_is e =
+    let only = starts_with-only bytes (codes "ask ") ask_is in
+    let is_no : (word : List ℕ) → starts_with nat_eq (codes "ask " ++ drop 4 bytes) word ≡ false → starts_with nat_eq bytes word ≡ false =
+    λ word no. ap (λ b. starts_with nat_eq b word) only ∙ no in
+    first_record bytes read (e ∙ sym (if-else (starts_with nat_eq bytes (codes "add ")) _ _ (is_no (codes "add ") refl)
+    ∙ (if-else (starts_with nat_eq bytes (codes "pop\n")) _ _ (is_no (codes "pop\n") refl)
+    ∙ (if-else (starts_with nat_eq bytes (codes "names ")) _ _ (is_no (codes "names ") refl)
     ∙ if-then (starts_with nat_eq bytes (codes "ask ")) _ _ ask_is))))
 
 pub if_ok : {X E : Type 0} (r : Result X E) (P Q : X → Type 0) → ((x : X) → P x → Q x) → IfOk r P → IfOk r Q

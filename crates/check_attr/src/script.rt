@@ -84,6 +84,9 @@ pub fn record_of(alloc: Global, bytes: &[u8]) -> Result<Option<(Record<'_>, &[u8
     ensures { IfOk result (λ read.
         IsFirstRecord bytes.now (option_map (with_rest record_view) read)) }
 {
+    if bytes.starts_with(b"ask ") {
+        return Ok(ask_record(&bytes[4..]));
+    }
     if bytes.starts_with(b"add ") {
         return Ok(add_record(&bytes[4..]));
     }
@@ -92,9 +95,6 @@ pub fn record_of(alloc: Global, bytes: &[u8]) -> Result<Option<(Record<'_>, &[u8
     }
     if bytes.starts_with(b"names ") {
         return names_record(alloc, &bytes[6..]);
-    }
-    if bytes.starts_with(b"ask ") {
-        return Ok(ask_record(&bytes[4..]));
     }
     Ok(None)
 }
@@ -235,43 +235,33 @@ fn ask_header(bytes: &[u8]) -> Option<(AskHeader, &[u8])>
 fn form_of(bytes: &[u8]) -> Option<(Form, &[u8])>
     ensures { option_map (with_rest (λ f. f)) result ≡ choice_of forms bytes.now }
 {
-    if let Some(rest) = strip_prefix(b"l ", bytes) {
-        return Some((Form::Line, rest));
+    match bytes {
+        [b'l', b' ', rest @ ..] => Some((Form::Line, rest)),
+        [b'z', b' ', rest @ ..] => Some((Form::Zero, rest)),
+        [b'o', b' ', rest @ ..] => Some((Form::Origin, rest)),
+        _ => None,
     }
-    if let Some(rest) = strip_prefix(b"z ", bytes) {
-        return Some((Form::Zero, rest));
-    }
-    if let Some(rest) = strip_prefix(b"o ", bytes) {
-        return Some((Form::Origin, rest));
-    }
-    None
 }
 
 fn case_of(bytes: &[u8]) -> Option<(Case, &[u8])>
     ensures { option_map (with_rest (λ c. c)) result ≡ choice_of cases bytes.now }
 {
-    if let Some(rest) = strip_prefix(b"s ", bytes) {
-        return Some((Case::Sensitive, rest));
+    match bytes {
+        [b's', b' ', rest @ ..] => Some((Case::Sensitive, rest)),
+        [b'i', b' ', rest @ ..] => Some((Case::Fold, rest)),
+        _ => None,
     }
-    if let Some(rest) = strip_prefix(b"i ", bytes) {
-        return Some((Case::Fold, rest));
-    }
-    None
 }
 
 fn folder_flag(bytes: &[u8]) -> Option<(Option<bool>, &[u8])>
     ensures { option_map (with_rest (λ d. d)) result ≡ choice_of folder_flags bytes.now }
 {
-    if let Some(rest) = strip_prefix(b"d ", bytes) {
-        return Some((Some(true), rest));
+    match bytes {
+        [b'd', b' ', rest @ ..] => Some((Some(true), rest)),
+        [b'f', b' ', rest @ ..] => Some((Some(false), rest)),
+        [b'u', b' ', rest @ ..] => Some((None, rest)),
+        _ => None,
     }
-    if let Some(rest) = strip_prefix(b"f ", bytes) {
-        return Some((Some(false), rest));
-    }
-    if let Some(rest) = strip_prefix(b"u ", bytes) {
-        return Some((None, rest));
-    }
-    None
 }
 
 fn question_of(header: AskHeader, bytes: &[u8]) -> Option<(Question<'_>, &[u8])>
@@ -280,7 +270,9 @@ fn question_of(header: AskHeader, bytes: &[u8]) -> Option<(Question<'_>, &[u8])>
 {
     let (count, rest) = number_before(b'\n', bytes)?;
     let (path, rest) = split_at(count, rest)?;
-    let rest = strip_prefix(b"\n", rest)?;
+    let [b'\n', rest @ ..] = rest else {
+        return None;
+    };
     let question = Question {
         form: header.form,
         case: header.case,
@@ -307,7 +299,12 @@ fn split_once(separator: u8, bytes: &[u8]) -> Option<(&[u8], &[u8])>
 fn position_of(separator: u8, bytes: &[u8]) -> Option<usize>
     ensures { result ≡ position (λ b. b == separator) bytes.now }
 {
-    bytes.iter().position(|b| *b == separator)
+    for (place, byte) in bytes.iter().enumerate() {
+        if *byte == separator {
+            return Some(place);
+        }
+    }
+    None
 }
 
 fn split_at(count: usize, bytes: &[u8]) -> Option<(&[u8], &[u8])>
