@@ -347,13 +347,13 @@ def long_base_name(n):
 @case(2 ** 19)
 def long_value(n):
     """a value of n bytes that decides and isn't shown, and 2,000 paths"""
-    return add(b"* a=" + b"v" * n + b"\n") + select(["b"]) + ask("c") * 2000
+    return add(b"* b\n* a=" + b"v" * n + b"\n") + select(["b"]) + ask("c") * 2000
 
 
 @case(2 ** 19)
 def long_pattern(n):
     """a pattern of n bytes that decides and isn't shown, and 2,000 paths"""
-    return add(b"[" + b"ab" * (n // 2) + b"c] a\n") + select(["b"]) + ask("c") * 2000
+    return add(b"* b\n[" + b"ab" * (n // 2) + b"c] a\n") + select(["b"]) + ask("c") * 2000
 
 
 # What is written.

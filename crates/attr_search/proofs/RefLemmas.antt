@@ -1,11 +1,10 @@
 -- What was stored keeps its place, and what is found equal is what was looked for.
-use Rattle.std.proofs.Common.{rules, ◌≡◌, ℕ, ◌<◌, ◌≤◌, Bool, true, false, List, [], ◌∷◌, ◌++◌, length, get_or, map, Option, Some, None, option_map}
+use Rattle.std.proofs.Common.{◌≡◌, ℕ, ◌<◌, ◌≤◌, Bool, true, false, List, [], ◌++◌, length, get_or, map, Option, Some, None, option_map}
 use Rattle.std.proofs.Common.{MatchOption, slice_get, string_bytes, String, Global, refl, sym, ap, ◌∙◌, arith, length-append, append_assoc}
 use Rattle.std.specs.Bool.{⊤, OnTrue}
 use Rattle.std.proofs.lemmas.List.{append-nil, map-append, get_or_append_left}
 use Rattle.std.proofs.lemmas.Option.{slice_get-map, slice_get_read, slice_get_within, get_or_from_slice_get, same_Some}
 use Rattle.attr_text.specs.declared.assignment.Assignment.{Assignment}
-use Rattle.attr_text.specs.contracts.assignment.AssignmentPartialEq.TheImpl as assignment
 use Rattle.attr_glob.specs.declared.pattern.Pattern.{Pattern}
 use Rattle.attr_glob.specs.Views.{pattern_view}
 use Rattle.attr_search.specs.inner.RefMapParts.{RefMapParts, Grows, KeepsRefs, no_pattern}
@@ -20,16 +19,6 @@ pub same_at : {T V : Type 0} (test : T → Bool) (view : T → V) (v : V) (ks : 
 same_at test view v ks i k false within at told same = tt
 same_at test view v ks i k true within at told same =
     ap (option_map view) (slice_get_read ks (length ks) i k refl within at) ∙ ap Some (same k (sym told))
-
--- the same, where what is equal is one
-pub one_at : {T : Type 0} (test : T → Bool) (x : T) (ks : List T) (i : ℕ) (k : T) (b : Bool) → i < length ks → k ≡ get_or ks i k → b ≡ test k →
-    ((k : T) → test k ≡ true → k ≡ x) → OnTrue b (slice_get ks i ≡ Some x)
-one_at test x ks i k false within at told same = tt
-one_at test x ks i k true within at told same = slice_get_read ks (length ks) i k refl within at ∙ ap Some (same k (sym told))
-
--- equal assignments are one
-pub assignment_same : (x y : Assignment) → assignment.ghosts.eq x y ≡ true → x ≡ y
-assignment_same x y e = search (rules, e)
 
 -- a list that stays grows by nothing
 pub grows_same : {X : Type 0} (xs : List X) → Grows xs xs

@@ -1,6 +1,6 @@
 //! The parts of matches: patterns, assignments and sources. What is stored has a place: its index among those of its kind, from 0.
 
-ghost use Rattle.std.specs.Prelude.{◌≡◌, ◌<◌, ◌||◌, [], Some, IfOk, length, map, nat_lt, option_map, slice_get, slice_index_or, string_bytes};
+ghost use Rattle.std.specs.Prelude.{◌≡◌, ◌<◌, [], Some, IfOk, length, map, option_map, slice_get, slice_index_or, string_bytes};
 ghost use Rattle.std.specs.Bool.{OnTrue};
 ghost use Rattle.attr_glob.specs.Views.{pattern_view};
 ghost use Rattle.attr_search.specs.inner.Pending.{line_origin};
@@ -13,7 +13,7 @@ use crate::recent_places::{KEPT, RecentPlaces};
 use attr_glob::Pattern;
 use attr_glob::search::pattern::Mapping;
 use attr_lists::types::{Match, MatchKind, MatchLocation, TrackedAssignment, Value};
-use attr_text::{Assignment, State};
+use attr_text::Assignment;
 use std::alloc::{AllocError, Global};
 use std::marker::Model;
 
@@ -39,15 +39,15 @@ pub struct MatchRef {
     pub kind: MatchKind,
 }
 
-// So many parts of a kind are kept for later matches, and no more.
+// So many patterns, and so many sources, are kept for later matches, and no more.
 const MOST: usize = 4096;
 
-/// The patterns, assignments and sources of matches. A part that was stored of late is found again; another one is stored
-/// once more.
+/// The patterns, assignments and sources of matches. A pattern or source that was stored of late is found again; another one is
+/// stored once more. An assignment shares its texts with the item that it is of, so each match stores its own.
 #[derive(Drop)]
 pub struct RefMap {
     patterns: PatternStore,
-    assignments: AssignmentStore,
+    assignments: Vec<Assignment>,
     sources: SourceStore,
 }
 
@@ -55,13 +55,6 @@ pub struct RefMap {
 struct PatternStore {
     stored: Vec<Pattern>,
     // Where the patterns of lines were stored of late.
-    recent: RecentPlaces,
-}
-
-#[derive(Drop)]
-struct AssignmentStore {
-    stored: Vec<Assignment>,
-    // Where the assignments of items were stored of late.
     recent: RecentPlaces,
 }
 
@@ -109,10 +102,7 @@ impl RefMap {
                 stored: patterns,
                 recent: RecentPlaces::new(alloc),
             },
-            assignments: AssignmentStore {
-                stored: assignments,
-                recent: RecentPlaces::new(alloc),
-            },
+            assignments,
             sources: SourceStore {
                 stored: sources,
                 recent: RecentPlaces::new(alloc),
@@ -126,18 +116,19 @@ impl RefMap {
         ensures { self.new ≡ record { patterns = []; assignments = []; sources = [] } }
     {
         self.patterns.stored.clear();
-        self.assignments.stored.clear();
+        self.assignments.clear();
         self.sources.stored.clear();
     }
 
-    /// Whether so much is stored that it is to be forgotten, once no match refers to it.
-    pub fn is_large(&self) -> bool
-        ensures { result ≡ (nat_lt 4096 (length self.now.patterns)
-            || nat_lt 4096 (length self.now.assignments) || nat_lt 4096 (length self.now.sources)) }
+    /// Forgets the assignments, and if the patterns or sources are many, these too. No match refers to them any more.
+    pub fn release(&mut self)
+        ensures { self.new.assignments ≡ [] }
     {
-        self.patterns.stored.len() > MOST
-            || self.assignments.stored.len() > MOST
-            || self.sources.stored.len() > MOST
+        self.assignments.clear();
+        if self.patterns.stored.len() > MOST || self.sources.stored.len() > MOST {
+            self.patterns.stored.clear();
+            self.sources.stored.clear();
+        }
     }
 
     /// Finds or stores a line's pattern and source, and returns their places. What was stored keeps its place.
@@ -159,7 +150,7 @@ impl RefMap {
         })
     }
 
-    /// Finds or stores an item's assignment, and returns its place. What was stored keeps its place.
+    /// Stores an item's assignment, and returns its place. What was stored keeps its place.
     ///
     /// # Errors
     ///
@@ -173,7 +164,9 @@ impl RefMap {
             slice_get self.new.assignments place ≡ Some item.now.inner) }
         ensures extends { KeepsRefs self.old self.new }
     {
-        self.assignments.place(alloc, item)
+        let place = self.assignments.len();
+        self.assignments.push(item.inner.clone(alloc)?)?;
+        Ok(place)
     }
 
     /// A copy. Each part has the same place in it.
@@ -185,7 +178,7 @@ impl RefMap {
         ensures { IfOk result (λ copy. copy ≡ self.now) }
     {
         let patterns = copy_of_patterns(alloc, &self.patterns.stored)?;
-        let assignments = copy_of_assignments(alloc, &self.assignments.stored)?;
+        let assignments = copy_of_assignments(alloc, &self.assignments)?;
         let sources = copy_of_sources(alloc, &self.sources.stored)?;
         Ok(RefMap::of(alloc, patterns, assignments, sources))
     }
@@ -222,7 +215,7 @@ impl RefMap {
         requires { place < length self.now.assignments }
         ensures { result.now ≡ slice_index_or self.now.assignments place no_assignment }
     {
-        &self.assignments.stored[place]
+        &self.assignments[place]
     }
 
     fn source_at(&self, place: usize) -> &str
@@ -277,43 +270,6 @@ fn text_number(text: &[u8]) -> usize
         Some(byte) => text.len() % KEPT * 8 + usize::from(*byte),
         None => 0,
     }
-}
-
-impl AssignmentStore {
-    // The place of an item's assignment. It is stored if it is not where such an item's was stored last.
-    fn place(&mut self, alloc: Global, item: &TrackedAssignment) -> Result<usize, AllocError>
-        ensures place { IfOk result (λ place.
-            slice_get self.new.stored.items place ≡ Some item.now.inner) }
-        ensures grows { Grows self.old.stored.items self.new.stored.items }
-    {
-        let number = item_number(item);
-        let place = self.recent.get(number);
-        if has_assignment(&self.stored, place, &item.inner) {
-            return Ok(place);
-        }
-        let place = self.stored.len();
-        self.stored.push(item.inner.clone(alloc)?)?;
-        self.recent.note(number, place)?;
-        Ok(place)
-    }
-}
-
-// Whether the assignment has this place.
-fn has_assignment(assignments: &[Assignment], place: usize, assignment: &Assignment) -> bool
-    ensures { OnTrue result (slice_get assignments.now place ≡ Some assignment.now) }
-{
-    place < assignments.len() && *assignment == assignments[place]
-}
-
-// A number for an item by which its assignment is noted. Items that set different attributes seldom share one.
-fn item_number(item: &TrackedAssignment) -> usize {
-    let state = match &item.inner.state {
-        State::Set => 0,
-        State::Unset => 64,
-        State::Unspecified => 128,
-        State::Value(value) => text_number(value.as_ref().as_bstr().as_bytes()),
-    };
-    item.id.0 % KEPT + state
 }
 
 impl SourceStore {

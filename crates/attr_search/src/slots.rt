@@ -229,7 +229,8 @@ impl AnswerSlots {
         }
     }
 
-    /// Empties the slots, which costs what was filled. Patterns, sources and assignments stay stored for later matches, unless they are many.
+    /// Empties the slots, which costs what was filled. Patterns and sources stay stored for later matches,
+    /// unless they are many.
     pub fn reset(&mut self)
         ensures { self.new ≡ record self.old
             { answers = map (λ a. None) self.old.answers; line = None } }
@@ -260,14 +261,13 @@ impl MatchStore {
         MatchStore { refs, line: None }
     }
 
-    // Forgets the line and, if much is stored, what is stored. No match refers to it any more.
+    // Forgets the line, and what is stored of matches alone. No slot has a match any more.
     fn release(&mut self)
-        ensures { self.new.line ≡ None }
+        ensures line { self.new.line ≡ None }
+        ensures assignments { self.new.refs.assignments ≡ [] }
     {
         self.line = None;
-        if self.refs.is_large() {
-            self.refs.clear();
-        }
+        self.refs.release();
     }
 
     // Forgets what is stored.

@@ -6,4 +6,4 @@ use Rattle.attr_search.specs.declared.refmap.RefMap.TheInside.{Inside}
 
 abbrev pub ref_map_view : Inside → RefMapParts
 ref_map_view s =
-    record { patterns = map pattern_view s.patterns.stored.items; assignments = s.assignments.stored.items; sources = map string_bytes s.sources.stored.items }
+    record { patterns = map pattern_view s.patterns.stored.items; assignments = s.assignments.items; sources = map string_bytes s.sources.stored.items }

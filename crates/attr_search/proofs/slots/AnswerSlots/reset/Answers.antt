@@ -16,7 +16,7 @@ invariant_of-self c =
     record {
       same_length = same ∙ sym c.empty.ensures.len;
       within = empty_within c.release.new.self.refs c.empty.new.slots.items b.slots.items c.empty.ensures.items;
-      line = rw c.release.ensures tt;
+      line = rw c.release.ensures.line tt;
       counted = c.count-self-inside.ensures ∙ sym (count_empty MatchRef b.wanted b.slots.items same)
           ∙ ap (count_remaining b.wanted) (sym c.empty.ensures.items);
       listed = rw c.clear.ensures.items (empty_listed c.empty.new.slots.items b.slots.items c.empty.ensures.items);
@@ -30,6 +30,6 @@ returns c =
     let seen = matches_by_ref store c.empty.new.slots.items in
     let Seen : Option OriginRef → SlotContents = λ line. record { answers = seen; wanted = b.wanted; line = option_map (origin_by_ref store) line } in
     let Emptied : List (Option Matched) → SlotContents = λ answers. record { answers = answers; wanted = b.wanted; line = None } in
-    rw (← c.self.view_is) (ap Seen c.release.ensures ∙ ap Emptied (emptied_seen b.matches.refs store b.slots.items c.empty.new.slots.items
+    rw (← c.self.view_is) (ap Seen c.release.ensures.line ∙ ap Emptied (emptied_seen b.matches.refs store b.slots.items c.empty.new.slots.items
     (matches_by_ref b.matches.refs b.slots.items) refl
     c.empty.ensures.items))
