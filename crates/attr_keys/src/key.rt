@@ -104,7 +104,26 @@ pub fn has_row_key(keys: &[Key], row: usize, text: &[u8]) -> bool
     if is_whole && front.len() != text.len() {
         return false;
     }
-    text.starts_with(front)
+    begins_with(text, front)
+}
+
+// Whether a text begins with these bytes. Most keys differ at one of their first bytes, so bytes are compared one by one.
+fn begins_with(text: &[u8], front: &[u8]) -> bool
+    ensures { result ≡ starts_with nat_eq text.now front.now }
+{
+    let mut rest = text;
+    let mut left = front;
+    while let Some((byte, bytes)) = left.split_first() {
+        let Some((first, others)) = rest.split_first() else {
+            return false;
+        };
+        if first != byte {
+            return false;
+        }
+        left = bytes;
+        rest = others;
+    }
+    true
 }
 
 /// Whether a text, reversed, has the key with this number.

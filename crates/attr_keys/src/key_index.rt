@@ -1,6 +1,6 @@
 //! The index of lines by their keys: it finds the lines that a path may match.
 
-ghost use Rattle.std.specs.Prelude.{◌≡◌, ◌&&◌, ◌||◌, ◌++◌, ℕ, All, IfOk, OnOk, Some, map, reverse, false, true, slice_get};
+ghost use Rattle.std.specs.Prelude.{◌≡◌, ◌&&◌, ◌||◌, ◌++◌, ℕ, All, IfOk, IfSome, OnOk, Some, map, reverse, false, true, slice_get};
 ghost use Rattle.std.specs.Bool.{OnFalse, OnTrue};
 ghost use Rattle.attr_keys.specs.inner.Extensions.{is_front};
 ghost use Rattle.attr_keys.specs.inner.Hashes.{IsHashOfKey};
@@ -11,7 +11,7 @@ ghost use Rattle.attr_keys.specs.inner.Rows.{AreInOrder, IsFalling, has_row};
 use crate::extension::{append_extension, extension_rows, is_extension_key};
 use crate::hashed::HashedRows;
 use crate::key::{Key, Subject, is_kind, is_same};
-use crate::order::{append_found, fall, put_in_order};
+use crate::order::{FEW, append_found, append_turned, fall, put_in_order};
 use crate::whole::{append_whole, whole_rows};
 use std::alloc::{AllocError, Global};
 use std::marker::Model;
@@ -149,10 +149,7 @@ fn gather(
         return gather_folded(sorted, texts, buffer, found);
     }
     append_name(sorted, texts.name, found)?;
-    if !is_empty(&sorted.ends) {
-        write_turned(texts.name, buffer)?;
-        append_rows(&sorted.keys, &sorted.ends, buffer, found)?;
-    }
+    append_ends(&sorted.keys, &sorted.ends, texts.name, buffer, found)?;
     append_subject(&sorted.keys, &sorted.paths, texts.path, found)
 }
 
@@ -194,6 +191,40 @@ fn append_name(sorted: &SortedKeys, name: &[u8], found: &mut Vec<usize>) -> Resu
         return Ok(());
     }
     append_extension(&sorted.keys, &sorted.extensions, name, found)
+}
+
+// Appends the numbers of the ends that the base name has. If they are few, the name is not turned round.
+fn append_ends(
+    keys: &[Key],
+    rows: &SubjectRows,
+    name: &[u8],
+    buffer: &mut Vec<u8>,
+    found: &mut Vec<usize>,
+) -> Result<(), AllocError>
+    requires fronts { AreInOrder keys.now rows.now.fronts.items }
+    requires wholes { All (IsHashOfKey keys.now) rows.now.wholes }
+    ensures { OnOk result ((row : ℕ) → has_row found.new.items row
+        ≡ (has_row found.old.items row
+        || (has_subject_row rows.now row
+        && text_has (reverse name.now) (slice_get keys.now row)))) }
+{
+    if let Some(few) = few_fronts(rows) {
+        return append_turned(keys, few, name, found);
+    }
+    write_turned(name, buffer)?;
+    append_rows(keys, rows, buffer, found)
+}
+
+// All rows, if none is whole and they are few.
+fn few_fronts(rows: &SubjectRows) -> Option<&[usize]>
+    ensures { IfSome result (λ few. (row : ℕ) →
+        has_subject_row rows.now row ≡ has_row few.now row) }
+{
+    if rows.wholes.all().is_empty() && rows.fronts.len() <= FEW {
+        Some(&rows.fronts)
+    } else {
+        None
+    }
 }
 
 // Appends numbers to others.

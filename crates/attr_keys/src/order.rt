@@ -1,17 +1,20 @@
 //! Rows, which are indexes of keys, in the order of the keys' codes.
 
-ghost use Rattle.std.specs.Prelude.{◌≡◌, ◌==◌, ◌&&◌, ◌||◌, ◌++◌, ℕ, OnOk, false, true, nat_eq, slice_index};
+ghost use Rattle.std.specs.Prelude.{◌≡◌, ◌==◌, ◌&&◌, ◌||◌, ◌++◌, ℕ, OnOk, false, true, nat_eq, reverse, slice_index};
 ghost use Rattle.std.specs.Bool.{OnTrue};
 ghost use Rattle.std.specs.List.{filter, starts_with};
 ghost use Rattle.std.specs.List.Sorted.{IsNonDecreasingBy};
 ghost use Rattle.attr_keys.specs.inner.Codes.{codes_of, row_codes};
 ghost use Rattle.attr_keys.specs.inner.Rows.{AreInOrder, IsFalling, has_row};
 
-use crate::key::{Key, code, has_row_key, row_code, row_order};
+use crate::key::{Key, code, has_row_key, has_turned_row_key, row_code, row_order};
 use std::alloc::AllocError;
 
-// So few keys are compared one by one.
-const FEW: usize = 8;
+/// So few keys are compared one by one.
+pub const FEW: usize = 16;
+
+// So few keys that begin alike are compared one by one, which takes longer than if they differ at once.
+const FEW_ALIKE: usize = 8;
 
 /// Puts the numbers of keys into the order of the keys' codes.
 pub fn put_in_order(keys: &[Key], rows: &mut Vec<usize>)
@@ -59,9 +62,12 @@ pub fn append_found(
         ≡ (has_row found.old.items row || (has_row rows.now row
         && starts_with nat_eq (codes_of false text.now true) (row_codes keys.now row)))) }
 {
+    if rows.len() <= FEW {
+        return append_had(keys, rows, text, found);
+    }
     let mut left = rows;
     for place in 0..text.len() + 1 {
-        if left.len() <= FEW {
+        if left.len() <= FEW_ALIKE {
             return append_had(keys, left, text, found);
         }
         append_ended(keys, left, place, found)?;
@@ -104,6 +110,29 @@ fn append_had(
 {
     for row in rows {
         if has_row_key(keys, *row, text) {
+            found.push(*row)?;
+        }
+    }
+    Ok(())
+}
+
+/// Appends the rows of the keys that the text, reversed, has, each of which is compared from its end on.
+///
+/// # Errors
+///
+/// If memory runs out. Some of the rows may have been appended then.
+pub fn append_turned(
+    keys: &[Key],
+    rows: &[usize],
+    text: &[u8],
+    found: &mut Vec<usize>,
+) -> Result<(), AllocError>
+    ensures { OnOk result ((row : ℕ) → has_row found.new.items row
+        ≡ (has_row found.old.items row || (has_row rows.now row
+        && starts_with nat_eq (codes_of false (reverse text.now) true) (row_codes keys.now row)))) }
+{
+    for row in rows {
+        if has_turned_row_key(keys, *row, text) {
             found.push(*row)?;
         }
     }

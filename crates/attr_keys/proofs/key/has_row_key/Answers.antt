@@ -10,4 +10,4 @@ returns-then-front-text c =
 pub returns : goal.returns
 returns c =
     let key = c.parts-is_whole.result in
-    c.starts_with.ensures.value ∙ has_if_long c.args.text.now key.0.now _ key.1 c.parts-is_whole.ensures c.else-is_whole.either
+    c.begins_with.ensures ∙ has_if_long c.args.text.now key.0.now _ key.1 c.parts-is_whole.ensures c.else-is_whole.either
