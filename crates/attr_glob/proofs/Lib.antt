@@ -26,6 +26,7 @@ pub mod KeptLemmas
 pub mod PathLemmas
 pub mod Ends
 pub mod Folders
+pub mod FirstBytes
 pub mod KeyTexts
 pub mod CandidateKeys
 pub mod FallingPlaces

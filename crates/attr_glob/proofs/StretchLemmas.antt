@@ -1,21 +1,40 @@
 -- The first place at which a stretch fits between two stars is the best one: the later star takes what others would take.
-use Rattle.std.proofs.Common.{◌≡◌, ◌≢◌, ◌≤◌, ℕ, zero, suc, arith, Bool, true, false, not, ◌&&◌, ◌||◌, ◌==◌, List, [], ◌∷◌, ◌++◌, length, drop, take}
-use Rattle.std.proofs.Common.{get_or, ◌<◌, ◌+◌, Some, None}
-use Rattle.std.proofs.Common.{refl, sym, ap, ◌∙◌}
-use Rattle.std.specs.List.{list_any, position, position_from}
-use Rattle.std.proofs.lemmas.Iterator.Adapters.{position_from-zero}
-use Rattle.std.proofs.lemmas.List.Quantifiers.{position-Some}
+use Rattle.std.proofs.Common.{◌≡◌, ℕ, zero, suc, Bool, true, false, not, ◌&&◌, ◌||◌, ◌==◌, List, [], ◌∷◌, ◌++◌, length, drop}
+use Rattle.std.proofs.Common.{Option, Some, None, option_map, if◌then◌else◌, refl, sym, ap, ◌∙◌}
+use Rattle.std.specs.List.{list_any}
 use Rattle.attr_glob.specs.declared.pattern.Case.{Case}
-use Rattle.attr_glob.specs.declared.pattern.Case.TheVariants.{Sensitive, Fold}
 use Rattle.attr_glob.specs.Bytes.{slash}
-use Rattle.attr_glob.specs.declared.token.Token as written
-use Rattle.attr_glob.specs.TokenList.{token_of, tokens_of}
 use Rattle.attr_glob.specs.Patterns.{is_slash}
 use Rattle.attr_glob.specs.Tokens.{Token, lit, one, set, star, dirs, rest}
 use Rattle.attr_glob.specs.Deciding.{matches, star_then, takes_byte}
 use Rattle.attr_glob.specs.inner.RowPlaces.{may_be_nothing}
-use Rattle.attr_glob.specs.inner.Stretches.{after_first, fits, is_stretch}
+use Rattle.attr_glob.specs.inner.Stretches.{first_left, front_left, or_else}
 use Rattle.attr_glob.proofs.Basics.{by_test}
+
+-- each token takes one byte
+abbrev pub is_stretch : List Token → Bool
+is_stretch [] = true
+is_stretch (t ∷ ts) = not (may_be_nothing t) && is_stretch ts
+
+-- the value begins with bytes that the tokens take, one each
+abbrev pub fits : Case → List Token → List ℕ → Bool
+fits case [] value = true
+fits case (t ∷ ts) [] = false
+fits case (t ∷ ts) (b ∷ bs) = takes_byte case t b && fits case ts bs
+
+-- what follows the first bytes of the value that the tokens take, one each
+abbrev pub after_first : Case → List Token → List ℕ → Option (List ℕ)
+after_first case ts [] = if fits case ts [] then Some [] else None
+after_first case ts (b ∷ bs) = if fits case ts (b ∷ bs) then Some (drop (length ts) (b ∷ bs)) else after_first case ts bs
+
+-- the tokens before the first one that takes any number of bytes, and the others
+abbrev pub stretch_of : List Token → List Token
+stretch_of [] = []
+stretch_of (t ∷ ts) = if may_be_nothing t then [] else t ∷ stretch_of ts
+
+abbrev pub after_stretch : List Token → List Token
+after_stretch [] = []
+after_stretch (t ∷ ts) = if may_be_nothing t then t ∷ ts else after_stretch ts
 
 -- no byte is a slash
 abbrev pub Plain : List ℕ → Type 0
@@ -129,19 +148,23 @@ first_fit case p ts (b ∷ bs) after s h e =
     (stretch_then case p (star ∷ ts) (b ∷ bs) s ∙ ap (λ x. x && matches case (star ∷ ts) (drop (length p) (b ∷ bs))) t)
     ∙ first_fit case p ts bs after s (plain-tail b bs h) (rw t at e)))
 
-pub no_fit : (case : Case) (p ts : List Token) (v : List ℕ) → is_stretch p ≡ true → Plain v → after_first case p v ≡ None →
-    matches case (star ∷ p ++ star ∷ ts) v ≡ false
-no_fit case p ts [] s h e =
+and_none : (a : Bool) → (a && false) ≡ false
+and_none true = refl
+and_none false = refl
+
+-- what begins with a stretch that is found nowhere matches nowhere
+pub no_fit : (case : Case) (p ts : List Token) (v : List ℕ) → is_stretch p ≡ true → after_first case p v ≡ None →
+    star_then (matches case (p ++ ts)) v ≡ false
+no_fit case p ts [] s e =
     by_test (fits case p [])
     (λ t. absurd (let f = rw t at e in cc))
-    (λ t. stretch_then case p (star ∷ ts) [] s ∙ ap (λ x. x && matches case (star ∷ ts) (drop (length p) [])) t)
-no_fit case p ts (b ∷ bs) s h e =
+    (λ t. stretch_then case p ts [] s ∙ ap (λ x. x && matches case ts (drop (length p) [])) t)
+no_fit case p ts (b ∷ bs) s e =
     by_test (fits case p (b ∷ bs))
     (λ t. absurd (let f = rw t at e in cc))
-    (λ t. star-step (matches case (p ++ star ∷ ts)) b bs h
-    ∙ (ap (λ x. x || star_then (matches case (p ++ star ∷ ts)) bs)
-    (stretch_then case p (star ∷ ts) (b ∷ bs) s ∙ ap (λ x. x && matches case (star ∷ ts) (drop (length p) (b ∷ bs))) t)
-    ∙ no_fit case p ts bs s (plain-tail b bs h) (rw t at e)))
+    (λ t. ap (λ x. x || (not (b == slash) && star_then (matches case (p ++ ts)) bs))
+    (stretch_then case p ts (b ∷ bs) s ∙ ap (λ x. x && matches case ts (drop (length p) (b ∷ bs))) t)
+    ∙ (ap (λ x. not (b == slash) && x) (no_fit case p ts bs s (rw t at e)) ∙ and_none (not (b == slash))))
 
 -- what follows the first fit has no slash either
 pub plain-after : (case : Case) (p : List Token) (v after : List ℕ) → Plain v → after_first case p v ≡ Some after → Plain after
@@ -156,52 +179,67 @@ plain-after case p (b ∷ bs) after h e =
     ap (list_any is_slash) (sym same) ∙ plain-drop (length p) (b ∷ bs) h)
     (λ t. plain-after case p bs after (plain-tail b bs h) (rw t at e))
 
-pub stretch-longer : (ts : List written.Token) (n : ℕ) (t : written.Token) → n < length ts → t ≡ get_or ts n t →
-    may_be_nothing (token_of t) ≡ false → is_stretch (tokens_of (take n ts)) ≡ true → is_stretch (tokens_of (take (suc n) ts)) ≡ true
-stretch-longer [] n t lt at single h = absurd (omega (arith, lt))
-stretch-longer (u ∷ ts) zero t lt at single h =
-    let one_byte : may_be_nothing (token_of u) ≡ false = ap (λ x. may_be_nothing (token_of x)) (sym at) ∙ single in ap (λ x. not x && true) one_byte
-stretch-longer (u ∷ ts) (suc n) t lt at single h = by_test (may_be_nothing (token_of u))
-    (λ m. absurd (let e = rw m at h in cc))
-    (λ m. let e = rw m at h in rw m (stretch-longer ts n t (omega (arith, lt)) at single e))
+-- Tokens of one byte at the front.
 
-pub tokens_split : (n : ℕ) (ts : List written.Token) → tokens_of ts ≡ tokens_of (take n ts) ++ tokens_of (drop n ts)
-tokens_split zero ts = refl
-tokens_split (suc n) [] = refl
-tokens_split (suc n) (t ∷ ts) = ap (λ l. token_of t ∷ l) (tokens_split n ts)
+stretch_parts : (ts : List Token) → ts ≡ stretch_of ts ++ after_stretch ts
+stretch_parts [] = refl
+stretch_parts (t ∷ ts) = by_test (may_be_nothing t) (λ m. rw m refl) (λ m. rw m (ap (λ l. t ∷ l) (stretch_parts ts)))
 
--- the bytes after the first fit, if the tokens fit at once
-pub fits-found : (case : Case) (p : List Token) (v : List ℕ) → fits case p v ≡ true → after_first case p v ≡ Some (drop (length p) v)
-fits-found case p [] h = rw h (ap Some (sym (drop-nil (length p))))
-fits-found case p (b ∷ bs) h = rw h
+stretch_single : (ts : List Token) → is_stretch (stretch_of ts) ≡ true
+stretch_single [] = refl
+stretch_single (t ∷ ts) = by_test (may_be_nothing t) (λ m. rw m refl) (λ m. rw (m, m) (stretch_single ts))
 
-pub fits-few : (case : Case) (p : List Token) (v : List ℕ) → fits case p v ≡ true → length p ≤ length v
-fits-few case [] v h = omega arith
-fits-few case (t ∷ p) [] h = absurd cc
-fits-few case (t ∷ p) (b ∷ bs) h = let few = fits-few case p bs (and_second (takes_byte case t b) (fits case p bs) h) in omega (arith, few)
+front_by_fit : (case : Case) (ts : List Token) (v : List ℕ) → front_left case ts v
+    ≡ (if fits case (stretch_of ts) v then Some (after_stretch ts, drop (length (stretch_of ts)) v) else None)
+front_by_fit case [] v = refl
+front_by_fit case (t ∷ ts) [] = by_test (may_be_nothing t) (λ m. rw m refl) (λ m. rw m refl)
+front_by_fit case (t ∷ ts) (b ∷ bs) =
+    by_test (may_be_nothing t) (λ m. rw m refl)
+    (λ m. rw m (by_test (takes_byte case t b) (λ y. rw y (front_by_fit case ts bs)) (λ y. rw y refl)))
 
-skipped-to : (c : ℕ) (p : List Token) (v : List ℕ) (k : ℕ) → k < length v → (get_or v k 0 == c) ≡ true →
-    ((i : ℕ) → i < k → (get_or v i 0 == c) ≡ false) → after_first Sensitive (lit c ∷ p) v ≡ after_first Sensitive (lit c ∷ p) (drop k v)
-skipped-to c p [] k inside here before = absurd (omega (arith, inside))
-skipped-to c p (b ∷ bs) zero inside here before = refl
-skipped-to c p (b ∷ bs) (suc k) inside here before =
-    rw (before 0 (omega arith)) (skipped-to c p bs k (omega (arith, inside)) here (λ i l. before (suc i) (omega (arith, l))))
+first_by_fit : (case : Case) (ts : List Token) (v : List ℕ) →
+    first_left case ts v ≡ option_map {U = List Token × List ℕ} (λ w. (after_stretch ts, w)) (after_first case (stretch_of ts) v)
+first_by_fit case ts [] =
+    front_by_fit case ts []
+    ∙ by_test (fits case (stretch_of ts) [])
+    (λ t. rw t (ap (λ l. Some (after_stretch ts, l)) (drop-nil (length (stretch_of ts))))) (λ t. rw t refl)
+first_by_fit case ts (b ∷ bs) =
+    ap (λ l. or_else l (first_left case ts bs)) (front_by_fit case ts (b ∷ bs))
+    ∙ by_test (fits case (stretch_of ts) (b ∷ bs)) (λ t. rw t refl) (λ t. rw t (first_by_fit case ts bs))
 
-never-fits : (c : ℕ) (p : List Token) (i : ℕ) (v : List ℕ) → position_from (λ b. b == c) i v ≡ None →
-    after_first Sensitive (lit c ∷ p) v ≡ None
-never-fits c p i [] h = refl
-never-fits c p i (b ∷ bs) h =
-    by_test (b == c) (λ t. absurd (let e = rw t at h in cc)) (λ t. rw t (never-fits c p (i + 1) bs (rw t at h)))
+map_none : (x : List Token) (o : Option (List ℕ)) → option_map {U = List Token × List ℕ} (λ w. (x, w)) o ≡ None → o ≡ None
+map_none x None h = refl
+map_none x (Some w) h = absurd cc
 
--- a stretch that begins with a byte whose case matters fits nowhere before the first such byte
-pub skips-to : (case : Case) (ts : List Token) (c : ℕ) (p : List Token) (v : List ℕ) (k : ℕ) → case ≢ Fold → ts ≡ lit c ∷ p →
-    position (λ b. b == c) v ≡ Some k → after_first case ts v ≡ after_first case ts (drop k v)
-skips-to Sensitive ts c p v k f e h =
-    let found = position-Some (λ b. b == c) v k 0 h in rw e (skipped-to c p v k found.0 found.1 found.2)
-skips-to Fold ts c p v k f e h = absurd (f refl)
+map_some : (x next : List Token) (o : Option (List ℕ)) (after : List ℕ) →
+    option_map {U = List Token × List ℕ} (λ w. (x, w)) o ≡ Some (next, after) → (x ≡ next) × (o ≡ Some after)
+map_some x next None after h = absurd cc
+map_some x next (Some w) after h =
+    let p : ◌≡◌ {A = List Token × List ℕ} (x, w) (next, after) = cc in (ap (λ q. q.0) p, ap (λ q. Some q.1) p)
 
--- and nowhere if there is none
-pub skips-all : (case : Case) (ts : List Token) (c : ℕ) (p : List Token) (v : List ℕ) → case ≢ Fold → ts ≡ lit c ∷ p →
-    position (λ b. b == c) v ≡ None → after_first case ts v ≡ None
-skips-all Sensitive ts c p v f e h = rw e (never-fits c p 0 v (sym (position_from-zero (λ b. b == c) v) ∙ h))
-skips-all Fold ts c p v f e h = absurd (f refl)
+-- a star takes no bytes up to where the tokens after it match, if those of one byte take none
+pub star_missed : (case : Case) (ts : List Token) (v : List ℕ) → first_left case ts v ≡ None → matches case (star ∷ ts) v ≡ false
+star_missed case ts v e =
+    ap (λ l. star_then (matches case l) v) (stretch_parts ts)
+    ∙ no_fit case (stretch_of ts) (after_stretch ts) v (stretch_single ts) (map_none (after_stretch ts) _ (sym (first_by_fit case ts v) ∙ e))
+
+-- and the first bytes that they take are the best ones, if a star follows
+pub star_found : (case : Case) (ts next us : List Token) (v after : List ℕ) → Plain v → first_left case ts v ≡ Some (next, after) →
+    next ≡ star ∷ us → (matches case (star ∷ ts) v ≡ matches case next after) × Plain after
+star_found case ts next us v after plain e second =
+    let both = map_some (after_stretch ts) next _ after (sym (first_by_fit case ts v) ∙ e) in
+    let parts : ts ≡ stretch_of ts ++ star ∷ us = stretch_parts ts ∙ ap (λ l. stretch_of ts ++ l) (both.0 ∙ second) in (
+      ap (λ l. matches case (star ∷ l) v) parts
+          ∙ (first_fit case (stretch_of ts) us v after (stretch_single ts) plain both.1 ∙ ap (λ l. matches case l after) (sym second)),
+      plain-after case (stretch_of ts) v after plain both.1,
+    )
+
+-- what the tokens at the front take at once is the first that they take
+pub first_here : (case : Case) (ts : List Token) (v : List ℕ) (left : List Token × List ℕ) → Some left ≡ front_left case ts v →
+    first_left case ts v ≡ Some left
+first_here case ts [] left h = sym h
+first_here case ts (b ∷ bs) left h = ap (λ l. or_else l (first_left case ts bs)) (sym h)
+
+pub front_more : (case : Case) (t : Token) (ts : List Token) (b : ℕ) (bs : List ℕ) → may_be_nothing t ≡ false →
+    takes_byte case t b ≡ true → front_left case (t ∷ ts) (b ∷ bs) ≡ front_left case ts bs
+front_more case t ts b bs m y = rw (m, y) refl

@@ -3,6 +3,7 @@
 pub mod Bordered
 pub mod ByteSets
 pub mod Closing
+pub mod FirstBytes
 pub mod IndexInvariant
 pub mod Left
 pub mod LineShapes

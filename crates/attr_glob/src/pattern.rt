@@ -243,7 +243,7 @@ impl Pattern {
         let Some(place) = self.first_wildcard_pos else {
             return Some(same_text(case, text, value));
         };
-        if !starts_with(value, &text[..place.min(text.len())], case) {
+        if place > 0 && !starts_with(value, &text[..place.min(text.len())], case) {
             return Some(false);
         }
         if self.mode.contains(Mode::ENDS_WITH) {
@@ -342,7 +342,12 @@ pub(crate) fn without_end(text: &[u8]) -> &[u8]
 pub(crate) fn has_slash(text: &[u8]) -> bool
     ensures { result ≡ list_any is_slash text.now }
 {
-    text.iter().any(|byte| *byte == b'/')
+    for byte in text {
+        if *byte == b'/' {
+            return true;
+        }
+    }
+    false
 }
 
 fn is_suffix(text: &[u8]) -> bool

@@ -12,6 +12,7 @@ ghost use Rattle.attr_glob.specs.Spelling.{AreTokens};
 ghost use Rattle.attr_glob.specs.Matching.{Match, ReachedAtMost, TextMatches};
 ghost use Rattle.attr_glob.specs.Deciding.{matches, text_matches};
 ghost use Rattle.attr_glob.specs.inner.Left.{IsLeft};
+ghost use Rattle.attr_glob.specs.inner.Stretches.{front_left};
 ghost use Rattle.attr_glob.specs.inner.RowPlaces.{may_skip, is_folder, stays_on, advances_on, token_before, places_below, IsGrowing, IsStep, IsRow, IsUnderway, NoneAlive, HasStayed, HasRoom, IsExtended, KeepsCapacity};
 
 use crate::pattern::Case;
@@ -252,6 +253,8 @@ fn skip_front<'t, 'v>(
     ensures left { IfSome result (λ r.
         IsLeft case (tokens_of tokens.now) value.now (tokens_of r.0.now) r.1.now) }
     ensures missed { IfNone result (matches case (tokens_of tokens.now) value.now ≡ false) }
+    ensures value { option_map (λ r. (tokens_of r.0.now, r.1.now)) result
+        ≡ front_left case (tokens_of tokens.now) value.now }
     ensures shorter { IfSome result (λ r. length r.0.now ≤ length tokens.now) }
 {
     let mut left = tokens;
@@ -335,6 +338,9 @@ impl MatchBuffers {
         // Takes no memory if there is room already.
         ensures succeeds { places ≤ self.old → IsOk result }
     {
+        if places <= self.row.capacity() && places <= self.next.capacity() {
+            return Ok(());
+        }
         self.row.clear();
         self.next.clear();
         self.row.reserve(places)?;
@@ -409,5 +415,6 @@ pub fn tests_tell_match(case: Case, text: &[u8], value: &[u8])
         ↔ TextMatches case text.now value.now }
 {}
 
+mod first_bytes;
 mod folders;
 mod stretches;

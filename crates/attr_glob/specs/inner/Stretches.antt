@@ -1,22 +1,24 @@
 -- Stretches of tokens between stars, each token of which takes one byte (own).
-use Rattle.std.specs.Prelude.{ℕ, Bool, true, false, not, ◌&&◌, List, [], ◌∷◌, length, drop, Option, Some, None, if◌then◌else◌}
+use Rattle.std.specs.Prelude.{ℕ, List, [], ◌∷◌, Option, Some, None, if◌then◌else◌}
 use Rattle.attr_glob.specs.declared.pattern.Case.{Case}
 use Rattle.attr_glob.specs.Deciding.{takes_byte}
 use Rattle.attr_glob.specs.Tokens.{Token}
 use Rattle.attr_glob.specs.inner.RowPlaces.{may_be_nothing}
 
--- each token takes one byte
-abbrev pub is_stretch : List Token → Bool
-is_stretch [] = true
-is_stretch (t ∷ ts) = not (may_be_nothing t) && is_stretch ts
+-- What is left of tokens and of a value once the tokens of one byte at the front are taken off with their bytes. None if one
+-- takes no byte.
+abbrev pub front_left : Case → List Token → List ℕ → Option (List Token × List ℕ)
+front_left case [] value = Some ([], value)
+front_left case (t ∷ ts) [] = if may_be_nothing t then Some (t ∷ ts, []) else None
+front_left case (t ∷ ts) (b ∷ bs) =
+    if may_be_nothing t then Some (t ∷ ts, b ∷ bs) else if takes_byte case t b then front_left case ts bs else None
 
--- the value begins with bytes that the tokens take, one each
-abbrev pub fits : Case → List Token → List ℕ → Bool
-fits case [] value = true
-fits case (t ∷ ts) [] = false
-fits case (t ∷ ts) (b ∷ bs) = takes_byte case t b && fits case ts bs
+-- one of two, the first if there is one
+abbrev pub or_else : Option (List Token × List ℕ) → Option (List Token × List ℕ) → Option (List Token × List ℕ)
+or_else (Some left) other = Some left
+or_else None other = other
 
--- what follows the first bytes of the value that the tokens take, one each
-abbrev pub after_first : Case → List Token → List ℕ → Option (List ℕ)
-after_first case ts [] = if fits case ts [] then Some [] else None
-after_first case ts (b ∷ bs) = if fits case ts (b ∷ bs) then Some (drop (length ts) (b ∷ bs)) else after_first case ts bs
+-- the same, where these tokens first take bytes of the value
+abbrev pub first_left : Case → List Token → List ℕ → Option (List Token × List ℕ)
+first_left case ts [] = front_left case ts []
+first_left case ts (b ∷ bs) = or_else (front_left case ts (b ∷ bs)) (first_left case ts bs)

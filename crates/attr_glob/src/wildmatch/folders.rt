@@ -9,6 +9,7 @@ ghost use Rattle.attr_glob.specs.Deciding.{slash_then, matches};
 
 use crate::pattern::{self, Case};
 use crate::token::Token;
+use crate::wildmatch::first_bytes::{first_byte, folder_with};
 use crate::wildmatch::stretches::match_stretches;
 use crate::wildmatch::{MatchBuffers, run, skip_front};
 
@@ -67,6 +68,20 @@ fn after_slash(value: &[u8]) -> Option<&[u8]>
     Some(&value[place + 1..])
 }
 
+// The next folder in which the tokens may match: if they begin with a byte whose case matters, one that begins with it.
+fn next_folder<'v>(tokens: &[Token], value: &'v [u8], case: Case) -> Option<&'v [u8]>
+    ensures next { IfSome result (λ next. let f = matches case (tokens_of tokens.now) in
+        slash_then f value.now ≡ (f next.now || slash_then f next.now)) }
+    ensures none { IfNone result (
+        slash_then (matches case (tokens_of tokens.now)) value.now ≡ false) }
+    ensures shorter { IfSome result (λ next. length next.now < length value.now) }
+{
+    let Some(byte) = first_byte(tokens, case) else {
+        return after_slash(value);
+    };
+    folder_with(value, byte)
+}
+
 // Whether a folder star and the tokens after it match the value. It goes on to the next folder while those tokens
 // are found not to match in one; if that isn't decided, the row decides from that folder on.
 fn match_folders(
@@ -90,7 +105,7 @@ fn match_folders(
             Some(false) => {}
             None => return run(tokens, rest, case, &mut rows.row, &mut rows.next).0,
         }
-        let Some(below) = after_slash(rest) else {
+        let Some(below) = next_folder(others, rest, case) else {
             return false;
         };
         rest = below;
@@ -116,10 +131,8 @@ pub(crate) fn match_early(
     if let [Token::Dirs, others @ ..] = tokens {
         return match_folders(tokens, others, value, case, rows);
     }
-    if !pattern::has_slash(value) {
-        if let Some(answer) = match_stretches(tokens, value, case) {
-            return answer;
-        }
+    if let Some(answer) = match_stretches(tokens, value, case) {
+        return answer;
     }
     run(tokens, value, case, &mut rows.row, &mut rows.next).0
 }

@@ -1,6 +1,8 @@
 use Rattle.std.proofs.Common.{◌≡◌, true, ◌∷◌, sym, ap, subst, ◌∙◌, arith}
 use Rattle.attr_glob.specs.TokenList.{token_of, tokens_of}
 use Rattle.attr_glob.specs.inner.Bordered.{is_bordered}
+use Rattle.attr_glob.specs.inner.Stretches.{front_left}
+use Rattle.attr_glob.proofs.StretchLemmas.{front_more}
 use Rattle.attr_glob.proofs.Ends.{front_step, bordered-tail}
 use Rattle.attr_glob.proofs.wildmatch.skip_front.Goals as goal
 
@@ -14,5 +16,9 @@ loop-token-preserved c =
       front_step c.args.case (tokens_of c.args.tokens.now) (tokens_of c.loop-token.left.now) (tokens_of c.in-Some.tail.now)
           c.args.value.now c.loop-token.rest.now c.in_ok-byte.others.now t c.in_ok-byte.byte.now
           (sym c.may_be_empty.ensures ∙ c.if-may_be_empty.false) left bytes.0 (sym c.takes.ensures ∙ c.if-not-takes.false) c.loop-token.invariant.1,
-      (λ h. bordered-tail t (tokens_of c.in-Some.tail.now) (subst (λ x. is_bordered true x ≡ true) left (c.loop-token.invariant.2 h))),
+      c.loop-token.invariant.2 ∙ (ap (λ l. front_left c.args.case l c.loop-token.rest.now) left
+          ∙ (ap (front_left c.args.case (t ∷ tokens_of c.in-Some.tail.now)) bytes.0
+          ∙ front_more c.args.case t (tokens_of c.in-Some.tail.now) c.in_ok-byte.byte.now c.in_ok-byte.others.now
+          (sym c.may_be_empty.ensures ∙ c.if-may_be_empty.false) (sym c.takes.ensures ∙ c.if-not-takes.false))),
+      (λ h. bordered-tail t (tokens_of c.in-Some.tail.now) (subst (λ x. is_bordered true x ≡ true) left (c.loop-token.invariant.3 h))),
     )

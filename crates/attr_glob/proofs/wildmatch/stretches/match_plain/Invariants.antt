@@ -2,7 +2,7 @@ use Rattle.std.proofs.Common.{◌≡◌, length}
 use Rattle.attr_glob.specs.Deciding.{matches}
 use Rattle.attr_glob.specs.TokenList.{tokens_of}
 use Rattle.attr_glob.proofs.StretchLemmas.{Plain}
-use Rattle.attr_glob.proofs.wildmatch.stretches.match_stretches.Given as goal
+use Rattle.attr_glob.proofs.wildmatch.stretches.match_plain.Given as goal
 
 abbrev pub invariant-loop-others : goal.invariant-loop-others
 invariant-loop-others l = (matches l.case (tokens_of l.tokens) l.value ≡ matches l.case (tokens_of l.left) l.rest) × Plain l.rest
