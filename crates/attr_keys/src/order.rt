@@ -62,14 +62,13 @@ pub fn append_found(
         ≡ (has_row found.old.items row || (has_row rows.now row
         && starts_with nat_eq (codes_of false text.now true) (row_codes keys.now row)))) }
 {
-    if rows.len() <= FEW {
-        return append_had(keys, rows, text, found);
-    }
     let mut left = rows;
+    let mut few = FEW;
     for place in 0..text.len() + 1 {
-        if left.len() <= FEW_ALIKE {
+        if left.len() <= few {
             return append_had(keys, left, text, found);
         }
+        few = FEW_ALIKE;
         append_ended(keys, left, place, found)?;
         left = narrowed(keys, left, place, code(text, true, place));
     }

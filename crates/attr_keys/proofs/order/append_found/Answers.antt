@@ -13,15 +13,15 @@ loop-place-init c =
     let text = codes_of false c.args.text.now true in
     record { left = left_begun codes text c.args.rows.now; found = λ row. found_none codes text c.args.rows.now c.args.found.now.items row }
 
-pub returns-then-left-le-FEW_ALIKE : goal.returns-then-left-le-FEW_ALIKE
-returns-then-left-le-FEW_ALIKE c =
+pub returns-then-left-few : goal.returns-then-left-few
+returns-then-left-few c =
     let codes = row_codes c.args.keys.now in
     let text = codes_of false c.args.text.now true in
-    on_ok_weaker c.append_had-then-left-le-FEW_ALIKE.result
+    on_ok_weaker c.append_had.result
     (λ has row. found_few codes text c.args.rows.now c.loop-place.left.now c.args.found.now.items c.loop-place.found.items
-    c.append_had-then-left-le-FEW_ALIKE.new.found.items c.loop-place.place row c.loop-place.invariant.left
+    c.append_had.new.found.items c.loop-place.place row c.loop-place.invariant.left
     (c.loop-place.invariant.found row) (has row))
-    c.append_had-then-left-le-FEW_ALIKE.ensures
+    c.append_had.ensures
 
 pub append_ended-requires : goal.append_ended-requires
 append_ended-requires c =
