@@ -3,7 +3,7 @@
 ghost use Rattle.std.specs.Prelude.{◌≡◌, ◌==◌, ◌-◌, ◌/◌, ◌<◌, ◌≤◌, IfOk, drop, length, take};
 ghost use Rattle.std.specs.List.{AllWithin, filter};
 ghost use Rattle.std.specs.List.Sorted.{IsNonDecreasingBy, IsPermutation};
-ghost use Rattle.attr_keys.specs.inner.Hashes.{IsBucketStart, text_hash};
+ghost use Rattle.attr_keys.specs.inner.Hashes.{IsBucketStart, packed, text_hash};
 
 use std::alloc::{AllocError, Global};
 use std::hash::{DefaultHasher, Hasher};
@@ -45,13 +45,35 @@ impl Model for HashedRows {
     ghost invariant = { AreBuckets };
 }
 
+// Texts of so few bytes are hashed by these, which a number has. So no more than two of them share a hash.
+const SHORT: usize = 8;
+
+// An odd number, so that numbers that differ give different hashes, and that each byte changes the first bits.
+const SPREAD: u64 = 0x9e37_79b9_7f4a_7c15;
+
 /// The hash of a text. Its keys are known, so that each look-up finds the same.
 pub fn text_hash(text: &[u8]) -> u64
     ensures { result ≡ text_hash text.now }
 {
+    if text.len() <= SHORT {
+        return packed(text).wrapping_mul(SPREAD);
+    }
     let mut state = DefaultHasher::new();
     state.write(text);
     state.finish()
+}
+
+// The bytes of a short text, after a one by which shorter texts of different lengths differ.
+fn packed(text: &[u8]) -> u64
+    ensures { result ≡ packed 1 text.now }
+{
+    let mut number: u64 = 1;
+    let mut rest = text;
+    while let Some((byte, others)) = rest.split_first() {
+        number = number.wrapping_mul(256).wrapping_add(u64::from(*byte));
+        rest = others;
+    }
+    number
 }
 
 impl HashedRows {

@@ -1,5 +1,5 @@
 -- Numbers of keys by hashes (own).
-use Rattle.std.specs.Prelude.{◌≡◌, ℕ, ◌+◌, ◌-◌, ◌<◌, ◌≤◌, ◌/◌, ◌^◌, true, false, List, length, map, nat_eq, slice_index, Some, option_map}
+use Rattle.std.specs.Prelude.{◌≡◌, ℕ, ◌+◌, ◌-◌, ◌*◌, ◌<◌, ◌≤◌, ◌/◌, ◌%◌, ◌^◌, true, false, if◌then◌else◌, List, [], ◌∷◌, length, map, nat_eq, slice_index, nat_le, Some, option_map}
 use Rattle.std.specs.Hash.DefaultHasher as sip
 use Rattle.std.specs.Prelude.{reverse}
 use Rattle.std.specs.List.{starts_with}
@@ -10,8 +10,17 @@ use Rattle.attr_keys.specs.declared.key.Key.{Key}
 use Rattle.attr_keys.specs.inner.Codes.{codes_of, row_codes}
 use Rattle.attr_keys.specs.inner.Extensions.{extension}
 
+-- the bytes of a text after a number, in 64 bits
+abbrev pub packed : ℕ → List ℕ → ℕ
+packed number [] = number
+packed number (b ∷ bs) = packed ((number * 256 % 2 ^ 64 + b) % 2 ^ 64) bs
+
+abbrev pub spread : ℕ
+spread = 11400714819323198485
+
+-- the hash of a text: of a short one by its bytes
 abbrev pub text_hash : List ℕ → ℕ
-text_hash text = sip.finish (sip.write sip.initial text)
+text_hash text = if nat_le (length text) 8 then packed 1 text * spread % 2 ^ 64 else sip.finish (sip.write sip.initial text)
 
 abbrev pub hashed_rows : List HashedRow → List ℕ
 hashed_rows hashed = map (λ h. h.row) hashed
