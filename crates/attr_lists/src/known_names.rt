@@ -3,18 +3,17 @@
 ghost use Rattle.std.specs.Prelude.{◌≡◌, IfOk};
 ghost use Rattle.attr_text.specs.TextViews.{name_text};
 
+use crate::name_place::name_place;
 use attr_text::{Name, NameRef};
 use std::alloc::{AllocError, Global};
+use std::default::MadeWith;
 
-// Files have few names, most of them in many lines. So few are compared one by one.
-const MOST: usize = 16;
-
-/// The last names that were read and were not known then.
+/// For each place of names, the name that was read there last. Files have few names, most of them in many lines, so most items
+/// find theirs.
 #[derive(Drop)]
 pub(crate) struct KnownNames {
+    // Blank names stand where none was read. The places past the end have none.
     names: Vec<Name>,
-    // The place of the name that the next new one replaces, if there is no room for more.
-    oldest: usize,
 }
 
 impl KnownNames {
@@ -22,11 +21,11 @@ impl KnownNames {
     pub(crate) fn new(alloc: Global) -> KnownNames {
         KnownNames {
             names: Vec::new(alloc),
-            oldest: 0,
         }
     }
 
-    /// The name, which shares its text with a known name if that is the same.
+    /// The name, which shares its text with a known name if that is the same. Only the name at its place is compared, so that it
+    /// takes no longer if a file has many names.
     ///
     /// # Errors
     ///
@@ -34,26 +33,23 @@ impl KnownNames {
     pub(crate) fn own(&mut self, alloc: Global, name: NameRef<'_>) -> Result<Name, AllocError>
         ensures { IfOk result (λ own. own ≡ name_text name.entry) }
     {
-        for known in &self.names {
+        let place = name_place(name.as_str());
+        if let Some(known) = self.names.get(place) {
             if known.as_str() == name.as_str() {
                 return known.clone(alloc);
             }
         }
         let own = name.to_owned(alloc)?;
-        self.keep(own.clone(alloc)?)?;
+        self.keep(alloc, place, own.clone(alloc)?)?;
         Ok(own)
     }
 
-    // Keeps a name, in place of the oldest one if there are enough.
-    fn keep(&mut self, name: Name) -> Result<(), AllocError> {
-        if self.names.len() < MOST {
-            self.names.push(name)?;
-            return Ok(());
+    // Keeps a name at its place.
+    fn keep(&mut self, alloc: Global, place: usize, name: Name) -> Result<(), AllocError> {
+        while self.names.len() <= place {
+            self.names.push(Name::made_with(alloc))?;
         }
-        if let Some(oldest) = self.names.get_mut(self.oldest) {
-            *oldest = name;
-        }
-        self.oldest = self.oldest.wrapping_add(1) % MOST;
+        self.names[place] = name;
         Ok(())
     }
 }

@@ -3,6 +3,7 @@
 
 mod known_names;
 pub mod laws;
+mod name_place;
 pub mod name_table;
 pub mod parser;
 pub mod types;
