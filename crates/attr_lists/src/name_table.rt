@@ -18,6 +18,7 @@ mod entry;
 mod macros;
 mod numbers;
 mod parts;
+mod recent_numbers;
 mod registered;
 
 use crate::name_table::parts::{Parts, free_id, is_set};

@@ -9,6 +9,7 @@ ghost use Rattle.attr_lists.specs.inner.NameSteps.{InsertsNames};
 ghost use Rattle.attr_lists.specs.ListViews.{entry_view, entries_view, macro_id, items_in};
 ghost use Rattle.attr_lists.specs.Numbers.{AppendsNames, macro_names, names_of, names_in, number_of, id_of, numbered_item, numbered};
 
+use crate::name_table::recent_numbers::RecentNumbers;
 use crate::types::{Assignments, AttributeId, TrackedAssignment, Value};
 use attr_glob::Pattern;
 use attr_glob::search::pattern::Mapping;
@@ -43,8 +44,9 @@ pub(super) fn insert_names(
         AreValid (name_texts names.new)) }
     ensures err { OnErr result (AppendsNames (name_texts names.old) (name_texts names.new)) }
 {
+    let mut recent = RecentNumbers::new();
     for mapping in mappings {
-        insert_line(alloc, names, mapping)?;
+        insert_line(alloc, names, &mut recent, mapping)?;
     }
     Ok(())
 }
@@ -52,6 +54,7 @@ pub(super) fn insert_names(
 fn insert_line(
     alloc: Global,
     names: &mut NameSet,
+    recent: &mut RecentNumbers,
     mapping: &Mapping<Value>,
 ) -> Result<(), AllocError>
     requires { macro_valid (entry_view mapping.now) ≡ true }
@@ -61,14 +64,15 @@ fn insert_line(
         AreValid (name_texts names.new)) }
     ensures err { OnErr result (AppendsNames (name_texts names.old) (name_texts names.new)) }
 {
-    insert_macro(alloc, names, mapping)?;
-    insert_items(alloc, names, items_in(&mapping.value))?;
+    insert_macro(alloc, names, recent, mapping)?;
+    insert_items(alloc, names, recent, items_in(&mapping.value))?;
     Ok(())
 }
 
 fn insert_macro(
     alloc: Global,
     names: &mut NameSet,
+    recent: &mut RecentNumbers,
     mapping: &Mapping<Value>,
 ) -> Result<(), AllocError>
     requires { macro_valid (entry_view mapping.now) ≡ true }
@@ -79,7 +83,7 @@ fn insert_macro(
     ensures err { OnErr result (name_texts names.new ≡ name_texts names.old) }
 {
     if let Value::MacroAssignments { .. } = &mapping.value {
-        insert_name(alloc, names, macro_name(&mapping.pattern))?;
+        insert_name(alloc, names, recent, macro_name(&mapping.pattern))?;
     }
     Ok(())
 }
@@ -96,6 +100,7 @@ fn items_in(value: &Value) -> &[TrackedAssignment]
 fn insert_items(
     alloc: Global,
     names: &mut NameSet,
+    recent: &mut RecentNumbers,
     items: &[TrackedAssignment],
 ) -> Result<(), AllocError>
     ensures ok { OnOk result
@@ -105,19 +110,24 @@ fn insert_items(
     ensures err { OnErr result (AppendsNames (name_texts names.old) (name_texts names.new)) }
 {
     for item in items {
-        insert_name(alloc, names, item.inner.name.as_str())?;
+        insert_name(alloc, names, recent, item.inner.name.as_str())?;
     }
     Ok(())
 }
 
-fn insert_name(alloc: Global, names: &mut NameSet, name: &str) -> Result<(), AllocError>
+fn insert_name(
+    alloc: Global,
+    names: &mut NameSet,
+    recent: &mut RecentNumbers,
+    name: &str,
+) -> Result<(), AllocError>
     requires { IsTrue (is_valid_name name.now) }
     ensures ok { OnOk result (InsertsNames (name.now ∷ []) names.old names.new) }
     ensures valid { OnOk result (AreValid (name_texts names.old) →
         AreValid (name_texts names.new)) }
     ensures err { OnErr result (name_texts names.new ≡ name_texts names.old) }
 {
-    if names.contains(name) {
+    if recent.number_of(names, name).is_some() {
         return Ok(());
     }
     names.insert(RcStr::from_str(alloc, name)?)?;
@@ -187,20 +197,21 @@ pub(super) fn number_list(names: &NameSet, mappings: &mut [Mapping<Value>])
     requires { macros_valid (entries_view mappings.old) ≡ true }
     ensures { entries_view mappings.new ≡ numbered_view names.now mappings.old }
 {
+    let mut recent = RecentNumbers::new();
     for mapping in mappings.iter_mut() {
-        number_line(names, mapping);
+        number_line(names, &mut recent, mapping);
     }
 }
 
-fn number_line(names: &NameSet, mapping: &mut Mapping<Value>)
+fn number_line(names: &NameSet, recent: &mut RecentNumbers, mapping: &mut Mapping<Value>)
     requires { macro_valid (entry_view mapping.old) ≡ true }
     ensures { entry_view mapping.new ≡ numbered (name_texts names.now) (entry_view mapping.old) }
 {
-    number_macro(names, mapping);
-    number_assignments(names, &mut mapping.value);
+    number_macro(names, recent, mapping);
+    number_assignments(names, recent, &mut mapping.value);
 }
 
-fn number_macro(names: &NameSet, mapping: &mut Mapping<Value>)
+fn number_macro(names: &NameSet, recent: &mut RecentNumbers, mapping: &mut Mapping<Value>)
     requires { macro_valid (entry_view mapping.old) ≡ true }
     ensures pattern { mapping.new.pattern ≡ mapping.old.pattern }
     ensures defined { macro_id mapping.new.value
@@ -210,26 +221,26 @@ fn number_macro(names: &NameSet, mapping: &mut Mapping<Value>)
     ensures line { mapping.new.sequence_number ≡ mapping.old.sequence_number }
 {
     if let Value::MacroAssignments { id, .. } = &mut mapping.value {
-        *id = id_of(names, macro_name(&mapping.pattern));
+        *id = recent.id_of(names, macro_name(&mapping.pattern));
     }
 }
 
-fn number_assignments(names: &NameSet, value: &mut Value)
+fn number_assignments(names: &NameSet, recent: &mut RecentNumbers, value: &mut Value)
     ensures defined { macro_id value.new ≡ macro_id value.old }
     ensures items { items_in value.new
         ≡ map (numbered_item (name_texts names.now)) (items_in value.old) }
 {
     match value {
-        Value::MacroAssignments { assignments, .. } => number_items(names, assignments),
-        Value::Assignments(assignments) => number_items(names, assignments),
+        Value::MacroAssignments { assignments, .. } => number_items(names, recent, assignments),
+        Value::Assignments(assignments) => number_items(names, recent, assignments),
     }
 }
 
-fn number_items(names: &NameSet, items: &mut [TrackedAssignment])
+fn number_items(names: &NameSet, recent: &mut RecentNumbers, items: &mut [TrackedAssignment])
     ensures { items.new ≡ map (numbered_item (name_texts names.now)) items.old }
 {
     for item in items.iter_mut() {
-        item.id = id_of(names, item.inner.name.as_str());
+        item.id = recent.id_of(names, item.inner.name.as_str());
     }
 }
 

@@ -1,0 +1,59 @@
+//! Numbers of names that were found of late, with which a look-up begins.
+
+ghost use Rattle.std.specs.Prelude.{◌≡◌, IsTrue, Some};
+ghost use Rattle.attr_lists.specs.inner.EntryViews.{name_texts};
+ghost use Rattle.attr_lists.specs.Numbers.{id_of, number_of};
+
+use crate::name_place::{PLACES, name_place};
+use crate::name_table::numbers::{self, NameSet};
+use crate::types::AttributeId;
+
+/// For each place of names, the number that was found there last, and 0 before. A look-up compares the name that has this
+/// number, and only if it is another one the names are asked by a hash.
+#[derive(Drop)]
+pub(super) struct RecentNumbers {
+    numbers: [usize; PLACES],
+}
+
+impl RecentNumbers {
+    /// Numbers before the first look-up.
+    pub(super) fn new() -> RecentNumbers {
+        RecentNumbers {
+            numbers: [0; PLACES],
+        }
+    }
+
+    /// The id of a name, which is `AttributeId::default()` if the name is not among them.
+    pub(super) fn id_of(&mut self, names: &NameSet, name: &str) -> AttributeId
+        ensures { result ≡ id_of (name_texts names.now) name.now }
+    {
+        match self.number_of(names, name) {
+            Some(number) => AttributeId(number),
+            None => AttributeId::default(),
+        }
+    }
+
+    /// The number of a name, which is its index.
+    pub(super) fn number_of(&mut self, names: &NameSet, name: &str) -> Option<usize>
+        ensures { result ≡ number_of (name_texts names.now) name.now }
+    {
+        let place = name_place(name);
+        let recent = self.numbers[place];
+        if is_number_of(names, recent, name) {
+            return Some(recent);
+        }
+        let number = numbers::number_of(names, name)?;
+        self.numbers[place] = number;
+        Some(number)
+    }
+}
+
+// Whether the name has this number. It has no other one then, since the names of a set differ.
+fn is_number_of(names: &NameSet, number: usize, name: &str) -> bool
+    ensures { IsTrue result → number_of (name_texts names.now) name.now ≡ Some number }
+{
+    match names.as_slice().get(number) {
+        Some(known) => known.as_str() == name,
+        None => false,
+    }
+}
