@@ -64,7 +64,7 @@ impl Model for Name {
 fn is_name_byte(b: u8) -> bool
     ensures { result ≡ is_name_byte b }
 {
-    b.is_ascii_alphanumeric() || b == b'-' || b == b'.' || b == b'_'
+    b.is_ascii_lowercase() || b.is_ascii_alphanumeric() || b == b'-' || b == b'.' || b == b'_'
 }
 
 fn is_all_name_bytes(bytes: &[u8]) -> bool
@@ -132,10 +132,9 @@ impl<'a> TryFrom<BStr<'a>> for NameRef<'a> {
         if !is_valid(bytes) {
             return Err(Error::InvalidName(attr));
         }
-        match bytes.to_str() {
-            Ok(text) => Ok(NameRef { text }),
-            Err(_) => unreachable!(),
-        }
+        // The bytes of a name are ASCII, so no second pass has to tell that they are text.
+        let text = unsafe { str::from_utf8_unchecked(bytes) };
+        Ok(NameRef { text })
     }
 }
 
