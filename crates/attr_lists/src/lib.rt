@@ -1,9 +1,9 @@
 //! Lists of attributes: the mappings of an attributes file, the numbers of attribute names, and the definitions of macros.
 #![tactic(auto)]
 
-mod known_names;
+mod known_texts;
 pub mod laws;
-mod name_place;
 pub mod name_table;
 pub mod parser;
+mod text_place;
 pub mod types;

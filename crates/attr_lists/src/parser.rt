@@ -10,7 +10,7 @@ ghost use Rattle.attr_lists.specs.inner.LineSteps.{given_by, IsLineRead, kept_li
 ghost use Rattle.attr_lists.specs.ListViews.{entry_view, entries_view};
 ghost use Rattle.attr_lists.specs.KeptLists.{tracked, reason_of, items_read, macro_mode, macro_pattern, entry_for, line_read, defines_no_macro, macro_valid, macros_valid};
 
-use crate::known_names::KnownNames;
+use crate::known_texts::KnownTexts;
 use crate::types::{Assignments, AttributeId, DropReason, Dropped, TrackedAssignment, Value};
 use attr_glob::pattern::Mode;
 use attr_glob::search;
@@ -44,9 +44,9 @@ impl search::Pattern for Attributes {
     ) -> Result<(Vec<Mapping<Value>>, Vec<Dropped>), AllocError> {
         let mut mappings = Vec::new(alloc);
         let mut dropped = Vec::new(alloc);
-        let mut names = KnownNames::new(alloc);
+        let mut known = KnownTexts::new(alloc);
         for line in parse(alloc, bytes) {
-            let read = read_line(alloc, &mut names, line)?;
+            let read = read_line(alloc, &mut known, line)?;
             push_line(&mut mappings, &mut dropped, read)?;
         }
         Ok((mappings, dropped))
@@ -74,13 +74,13 @@ fn push_line(
 // The mapping of a line, or the line as a dropped one.
 fn read_line(
     alloc: Global,
-    names: &mut KnownNames,
+    known: &mut KnownTexts,
     line: Result<(Kind, Iter<'_>, usize), Error>,
 ) -> Result<Result<Mapping<Value>, Dropped>, AllocError>
     ensures { IfOk result (λ read. IsLineRead (line_view line.entry) (kept_line_view read)) }
 {
     match line {
-        Ok((kind, items, number)) => read_given(alloc, names, kind, items, number),
+        Ok((kind, items, number)) => read_given(alloc, known, kind, items, number),
         Err(Error::MacroName { line, .. }) => Ok(Err(Dropped {
             line,
             reason: DropReason::MacroName,
@@ -95,7 +95,7 @@ fn read_line(
 
 fn read_given(
     alloc: Global,
-    names: &mut KnownNames,
+    known: &mut KnownTexts,
     kind: Kind,
     items: Iter<'_>,
     line: usize,
@@ -103,7 +103,7 @@ fn read_given(
     ensures { IfOk result (λ read. kept_line_view read
         ≡ line_read (Ok (given_by kind items.entry line))) }
 {
-    match read_items(alloc, names, items)? {
+    match read_items(alloc, known, items)? {
         Ok(assignments) => Ok(Ok(mapping_of(alloc, kind, line, assignments)?)),
         Err(reason) => Ok(Err(Dropped { line, reason })),
     }
@@ -112,7 +112,7 @@ fn read_given(
 // The assignments of a line, or why one of its items is refused.
 fn read_items(
     alloc: Global,
-    names: &mut KnownNames,
+    known: &mut KnownTexts,
     items: Iter<'_>,
 ) -> Result<Result<Assignments, DropReason>, AllocError>
     ensures { IfOk result (λ read. result_map_both (λ a. a.items) (λ reason. reason) read
@@ -120,7 +120,7 @@ fn read_items(
 {
     let mut assignments = SmallVec::new(alloc);
     for item in items {
-        match read_item(alloc, names, item)? {
+        match read_item(alloc, known, item)? {
             Ok(assignment) => assignments.push(assignment)?,
             Err(reason) => return Ok(Err(reason)),
         }
@@ -130,7 +130,7 @@ fn read_items(
 
 fn read_item(
     alloc: Global,
-    names: &mut KnownNames,
+    known: &mut KnownTexts,
     item: Result<AssignmentRef<'_>, AttrError<'_>>,
 ) -> Result<Result<TrackedAssignment, DropReason>, AllocError>
     ensures { IfOk result (λ read. read
@@ -140,8 +140,8 @@ fn read_item(
         Ok(assignment) => Ok(Ok(TrackedAssignment {
             id: AttributeId::default(),
             inner: Assignment {
-                name: names.own(alloc, assignment.name)?,
-                state: assignment.state.to_owned(alloc)?,
+                name: known.name(alloc, assignment.name)?,
+                state: known.state(alloc, assignment.state)?,
             },
         })),
         Err(AttrError::InvalidName(_)) => Ok(Err(DropReason::InvalidName)),

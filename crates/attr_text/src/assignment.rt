@@ -55,11 +55,11 @@ impl Assignment {
         }
     }
 
-    /// A copy, which shares the text of the name and has a value of its own.
+    /// A copy, which shares the text of the name and the bytes of the value.
     ///
     /// # Errors
     ///
-    /// If memory runs out.
+    /// If there are `usize::MAX` copies of the name or of the value already.
     pub fn clone(&self, alloc: Global) -> Result<Assignment, AllocError>
         ensures { IfOk result (λ copy. copy ≡ self.now) }
     {

@@ -15,11 +15,13 @@ use std::default::MadeWith;
 use std::fmt;
 use std::hash::{Hash, Hasher};
 use std::marker::Model;
+use std::rc::RcSlice;
 
-/// The bytes of a value, which need not be UTF-8.
+/// The bytes of a value, which need not be UTF-8. Copies share them.
 #[derive(Drop)]
 pub struct Value {
-    bytes: Vec<u8>,
+    // A value without bytes takes no memory.
+    bytes: Option<RcSlice<u8>>,
 }
 
 /// A reference to the bytes of a value, which need not be UTF-8.
@@ -57,11 +59,12 @@ pub enum State {
 }
 
 impl Model for Value {
-    ghost use Rattle.std.specs.Prelude.{ℕ, List};
+    ghost use Rattle.std.specs.Prelude.{ℕ, List, [], option_map, unwrap_or};
+    ghost use Rattle.std.specs.Rc.{rc_slice_items};
 
     ghost Value = { List ℕ };
 
-    ghost view = { λ v. v.bytes.items };
+    ghost view = { λ v. unwrap_or (option_map rc_slice_items v.bytes) [] };
 }
 
 impl<'a> ValueRef<'a> {
@@ -89,8 +92,11 @@ impl<'a> ValueRef<'a> {
     pub fn to_owned(self, alloc: Global) -> Result<Value, AllocError>
         ensures { IfOk result (λ value. value ≡ value_bytes self.entry) }
     {
+        if self.bytes.is_empty() {
+            return Ok(Value { bytes: None });
+        }
         Ok(Value {
-            bytes: self.bytes.to_vec(alloc)?,
+            bytes: Some(RcSlice::from_slice(alloc, self.bytes)?),
         })
     }
 }
@@ -124,9 +130,7 @@ impl Value {
     pub fn from_str_in(alloc: Global, text: &str) -> Result<Value, AllocError>
         ensures { IfOk result (λ value. value ≡ text.now) }
     {
-        Ok(Value {
-            bytes: text.as_bytes().to_vec(alloc)?,
-        })
+        ValueRef::from(text).to_owned(alloc)
     }
 
     /// A reference to the value.
@@ -134,29 +138,36 @@ impl Value {
         ensures { value_bytes result ≡ self.now }
     {
         ValueRef {
-            bytes: self.bytes.as_slice(),
+            bytes: self.as_slice(),
         }
     }
 
-    /// A copy with bytes of its own.
+    /// A copy that shares the bytes.
     ///
     /// # Errors
     ///
-    /// If memory runs out.
-    pub fn clone(&self, alloc: Global) -> Result<Value, AllocError>
+    /// If there are `usize::MAX` copies already.
+    pub fn clone(&self, _alloc: Global) -> Result<Value, AllocError>
         ensures { IfOk result (λ copy. copy ≡ self.now) }
     {
-        self.as_ref().to_owned(alloc)
+        Clone::clone(self)
+    }
+
+    fn as_slice(&self) -> &[u8]
+        ensures { result.now ≡ self.now }
+    {
+        match &self.bytes {
+            Some(bytes) => bytes.as_slice(),
+            None => &[],
+        }
     }
 }
 
 impl MadeWith<Global> for Value {
     ghost is_made_with = { λ value. value ≡ [] };
 
-    fn made_with(alloc: Global) -> Value {
-        Value {
-            bytes: Vec::new(alloc),
-        }
+    fn made_with(_alloc: Global) -> Value {
+        Value { bytes: None }
     }
 }
 
@@ -164,9 +175,12 @@ impl Clone for Value {
     ghost is_clone = { λ s copy. copy ≡ s };
 
     fn clone(&self) -> Result<Value, AllocError> {
-        Ok(Value {
-            bytes: self.bytes.clone()?,
-        })
+        match &self.bytes {
+            Some(bytes) => Ok(Value {
+                bytes: Some(bytes.clone()?),
+            }),
+            None => Ok(Value { bytes: None }),
+        }
     }
 }
 
@@ -176,7 +190,7 @@ impl PartialEq for Value {
     ghost laws = { partial_equiv_from_equiv nat_list_eq_equiv };
 
     fn eq(&self, other: &Value) -> bool {
-        self.bytes.as_slice() == other.bytes.as_slice()
+        self.as_slice() == other.as_slice()
     }
 }
 
@@ -204,7 +218,7 @@ impl Ord for Value {
     ghost matches_eq = { λ x y. texts_ties x y };
 
     fn cmp(&self, other: &Value) -> Ordering {
-        self.bytes.as_slice().cmp(other.bytes.as_slice())
+        self.as_slice().cmp(other.as_slice())
     }
 }
 
@@ -214,7 +228,7 @@ impl Hash for Value {
     ghost respects_eq = { Prim.search (hashing, rules) };
 
     fn hash<H: Hasher>(&self, state: &mut H) {
-        self.bytes.as_slice().hash(state);
+        self.as_slice().hash(state);
     }
 }
 
@@ -301,15 +315,15 @@ impl State {
         }
     }
 
-    /// A copy with a value of its own.
+    /// A copy, which shares the bytes of the value.
     ///
     /// # Errors
     ///
-    /// If memory runs out.
-    pub fn clone(&self, alloc: Global) -> Result<State, AllocError>
+    /// If there are `usize::MAX` copies of the value already.
+    pub fn clone(&self, _alloc: Global) -> Result<State, AllocError>
         ensures { IfOk result (λ copy. copy ≡ self.now) }
     {
-        self.as_ref().to_owned(alloc)
+        Clone::clone(self)
     }
 }
 

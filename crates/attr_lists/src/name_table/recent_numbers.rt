@@ -4,11 +4,11 @@ ghost use Rattle.std.specs.Prelude.{◌≡◌, IsTrue, Some};
 ghost use Rattle.attr_lists.specs.inner.EntryViews.{name_texts};
 ghost use Rattle.attr_lists.specs.Numbers.{id_of, number_of};
 
-use crate::name_place::{PLACES, name_place};
 use crate::name_table::numbers::{self, NameSet};
+use crate::text_place::{PLACES, text_place};
 use crate::types::AttributeId;
 
-/// For each place of names, the number that was found there last, and 0 before. A look-up compares the name that has this
+/// For each place of texts, the number that was found there last, and 0 before. A look-up compares the name that has this
 /// number, and only if it is another one the names are asked by a hash.
 #[derive(Drop)]
 pub(super) struct RecentNumbers {
@@ -37,7 +37,7 @@ impl RecentNumbers {
     pub(super) fn number_of(&mut self, names: &NameSet, name: &str) -> Option<usize>
         ensures { result ≡ number_of (name_texts names.now) name.now }
     {
-        let place = name_place(name);
+        let place = text_place(name.as_bytes());
         let recent = self.numbers[place];
         if is_number_of(names, recent, name) {
             return Some(recent);

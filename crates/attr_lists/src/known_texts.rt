@@ -1,0 +1,97 @@
+//! Names and values that were read lately, so that the items of a file share the texts of their names and values.
+
+ghost use Rattle.std.specs.Prelude.{◌≡◌, IfOk};
+ghost use Rattle.attr_text.specs.TextViews.{name_text, state_view, value_bytes};
+
+use crate::text_place::text_place;
+use attr_text::state::{Value, ValueRef};
+use attr_text::{Name, NameRef, State, StateRef};
+use std::alloc::{AllocError, Global};
+use std::default::MadeWith;
+
+/// For each place of texts, the name and the value that were read there last. Files have few names and values, most of them in
+/// many lines, so most items find theirs. Only what is at the place is compared, so that an item takes no longer if a file has
+/// many names and values.
+#[derive(Drop)]
+pub(crate) struct KnownTexts {
+    // Blank names, and values without bytes, stand where none was read. The places past the end have none.
+    names: Vec<Name>,
+    values: Vec<Value>,
+}
+
+impl KnownTexts {
+    /// No names and values. It takes no memory.
+    pub(crate) fn new(alloc: Global) -> KnownTexts {
+        KnownTexts {
+            names: Vec::new(alloc),
+            values: Vec::new(alloc),
+        }
+    }
+
+    /// The name, which shares its text with a known name if that is the same.
+    ///
+    /// # Errors
+    ///
+    /// If memory runs out, or if there are `usize::MAX` copies of the known name.
+    pub(crate) fn name(&mut self, alloc: Global, name: NameRef<'_>) -> Result<Name, AllocError>
+        ensures { IfOk result (λ own. own ≡ name_text name.entry) }
+    {
+        let place = text_place(name.as_str().as_bytes());
+        if let Some(known) = self.names.get(place) {
+            if known.as_str() == name.as_str() {
+                return known.clone(alloc);
+            }
+        }
+        let own = name.to_owned(alloc)?;
+        self.keep_name(alloc, place, own.clone(alloc)?)?;
+        Ok(own)
+    }
+
+    /// The state, whose value shares its bytes with a known value if that is the same.
+    ///
+    /// # Errors
+    ///
+    /// If memory runs out, or if there are `usize::MAX` copies of the known value.
+    pub(crate) fn state(&mut self, alloc: Global, state: StateRef<'_>) -> Result<State, AllocError>
+        ensures { IfOk result (λ own. own ≡ state_view state.entry) }
+    {
+        match state {
+            StateRef::Value(value) => Ok(State::Value(self.value(alloc, value)?)),
+            StateRef::Set => Ok(State::Set),
+            StateRef::Unset => Ok(State::Unset),
+            StateRef::Unspecified => Ok(State::Unspecified),
+        }
+    }
+
+    fn value(&mut self, alloc: Global, value: ValueRef<'_>) -> Result<Value, AllocError>
+        ensures { IfOk result (λ own. own ≡ value_bytes value.entry) }
+    {
+        let place = text_place(value.as_bstr().as_bytes());
+        if let Some(known) = self.values.get(place) {
+            if known.as_ref() == value {
+                return known.clone(alloc);
+            }
+        }
+        let own = value.to_owned(alloc)?;
+        self.keep_value(alloc, place, own.clone(alloc)?)?;
+        Ok(own)
+    }
+
+    // Keeps a name at its place.
+    fn keep_name(&mut self, alloc: Global, place: usize, name: Name) -> Result<(), AllocError> {
+        while self.names.len() <= place {
+            self.names.push(Name::made_with(alloc))?;
+        }
+        self.names[place] = name;
+        Ok(())
+    }
+
+    // Keeps a value at its place.
+    fn keep_value(&mut self, alloc: Global, place: usize, value: Value) -> Result<(), AllocError> {
+        while self.values.len() <= place {
+            self.values.push(Value::made_with(alloc))?;
+        }
+        self.values[place] = value;
+        Ok(())
+    }
+}
