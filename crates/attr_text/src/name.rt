@@ -85,11 +85,12 @@ fn is_valid(bytes: &[u8]) -> bool
     is_all_name_bytes(bytes)
 }
 
-/// Whether the name is reserved for built-in attributes: it begins with `builtin_` (gitattributes).
+/// Whether the name is reserved for built-in attributes: it begins with `builtin_` (gitattributes). Most names are told apart by
+/// their first byte, without a comparison of slices.
 pub(crate) fn is_reserved(name: &[u8]) -> bool
     ensures { result ≡ is_reserved_name name.now }
 {
-    name.starts_with(b"builtin_")
+    !name.is_empty() && name[0] == b'b' && name.starts_with(b"builtin_")
 }
 
 impl<'a> NameRef<'a> {

@@ -421,10 +421,13 @@ fn split_text<'a>(alloc: Global, text: &'a [u8]) -> Result<(CowSlice<'a, u8>, &'
 
 const MACRO_PREFIX: &[u8] = b"[attr]";
 
+// Whether the pattern text defines a macro. Most texts are told apart by their first byte, without a comparison of slices.
 fn is_macro(pattern_text: &[u8]) -> bool
     ensures { result ≡ is_macro_definition pattern_text.now }
 {
-    pattern_text.starts_with(MACRO_PREFIX) && pattern_text.len() > MACRO_PREFIX.len()
+    pattern_text.len() > MACRO_PREFIX.len()
+        && pattern_text[0] == b'['
+        && pattern_text.starts_with(MACRO_PREFIX)
 }
 
 // The target of a line with this pattern text, none if the text is no pattern.
