@@ -1,12 +1,14 @@
 -- The words of a text are its first word, and the words of the text after it.
-use Rattle.std.proofs.Common.{◌≡◌, ℕ, suc, ◌+◌, ◌<◌, ◌≤◌, ◌⊎◌, Bool, true, false, not, List, [], ◌∷◌, length, take, drop, get_or, filter, position}
-use Rattle.std.proofs.Common.{unwrap_or, refl, sym, ap, ◌∙◌, add-one, drop-cons, arith, ⊎_elim, inl, inr, subst}
+use Rattle.std.proofs.Common.{◌≡◌, ℕ, suc, ◌+◌, ◌-◌, ◌<◌, ◌≤◌, ◌⊎◌, Bool, true, false, not, List, [], ◌∷◌, length, length-drop, take, drop, get_or}
+use Rattle.std.proofs.Common.{filter, position, cond, ltb, ◌||◌, Some, None}
+use Rattle.std.proofs.Common.{unwrap_or, refl, sym, ap, ◌∙◌, add-one, zero-add, drop-cons, arith, ⊎_elim, inl, inr, subst}
 use Rattle.std.specs.List.{position_or_len, slice_split, after_first, prefix_len}
+use Rattle.std.proofs.lemmas.List.Folds.{length-prefix_len}
 use Rattle.std.proofs.lemmas.List.Splits.{slice_split-cons_yes, slice_split_first, slice_split_none}
 use Rattle.std.proofs.lemmas.List.Sums.{prefix_len-le-length, fails_before_first, passes_at_first}
 use Rattle.std.proofs.lemmas.List.{drop_all, take_all, nil_from_length}
 use Rattle.std.proofs.lemmas.Bool.{cases_Bool, cases_lt, lt-ltb, le-ltb}
-use Rattle.attr_text.specs.Items.{is_blank, is_some_text, words, after_blanks, before_blank, from_blank}
+use Rattle.attr_text.specs.Items.{is_blank, is_equals, is_some_text, words, after_blanks, before_blank, from_blank}
 
 -- the index that `position` finds, or the length, is the place that the words name
 pub place_of_first : {X : Type 0} (p : X → Bool) (xs : List X) → unwrap_or (position p xs) (length xs) ≡ position_or_len p xs
@@ -104,3 +106,77 @@ words-step text rest e some = ⊎_elim
 
 pub words-end : (text rest : List ℕ) → rest ≡ after_blanks text → length rest ≡ 0 → words text ≡ []
 words-end text rest e none = sym (words-after_blanks text) ∙ ap words (sym e ∙ nil_from_length rest none)
+
+-- the bytes at which the name of an item ends
+abbrev stops : ℕ → Bool
+stops b = is_blank b || is_equals b
+
+place-here : (p : ℕ → Bool) (b : ℕ) (bs : List ℕ) → p b ≡ true → position_or_len p (b ∷ bs) ≡ 0
+place-here p b bs e = rw e refl
+
+place-later : (p : ℕ → Bool) (b : ℕ) (bs : List ℕ) → p b ≡ false → position_or_len p (b ∷ bs) ≡ 1 + position_or_len p bs
+place-later p b bs e = rw e refl
+
+from : List ℕ → ℕ → ℕ
+from text n = n + position_or_len is_blank (drop n text)
+
+-- the first blank is the first blank from the first byte on that is a blank or a `=`
+blank-from_stop : (text : List ℕ) → position_or_len is_blank text
+    ≡ position_or_len (λ b. is_blank b || is_equals b) text
+    + position_or_len is_blank (drop (position_or_len (λ b. is_blank b || is_equals b) text) text)
+unfolding from
+blank-from_stop [] = refl
+blank-from_stop (b ∷ bs) =
+    let here : stops b ≡ true → position_or_len is_blank (b ∷ bs) ≡ from (b ∷ bs) (position_or_len stops (b ∷ bs)) =
+    λ e. sym (zero-add (position_or_len is_blank (b ∷ bs))) ∙ ap (from (b ∷ bs)) (sym (place-here stops b bs e)) in
+    ⊎_elim
+    (λ (e : is_blank b ≡ true). here (rw e refl))
+    (λ (e : is_blank b ≡ false). ⊎_elim
+    (λ (f : is_equals b ≡ true). here (rw (e, f) refl))
+    (λ (f : is_equals b ≡ false).
+    let stop = position_or_len stops bs in
+    let rest = blank-from_stop bs in
+    let one : 1 + position_or_len is_blank bs ≡ (1 + stop) + position_or_len is_blank (drop stop bs) = omega (arith, rest) in
+    place-later is_blank b bs e ∙ one ∙ ap (λ l. (1 + stop) + position_or_len is_blank l) (sym (drop-one_more stop b bs))
+    ∙ ap (from (b ∷ bs)) (sym (place-later stops b bs (rw (e, f) refl))))
+    (cases_Bool (is_equals b)))
+    (cases_Bool (is_blank b))
+
+-- the same for a slice from the stop on
+pub blank-from_slice : (text : List ℕ) (stop : ℕ) → stop ≡ position_or_len (λ b. is_blank b || is_equals b) text
+    → stop + position_or_len is_blank (take (length text - stop) (drop stop text)) ≡ position_or_len is_blank text
+unfolding from
+blank-from_slice text stop e =
+    let whole = take_all (length text - stop) (drop stop text) (omega (arith, length-drop stop text)) in
+    ap (λ l. stop + position_or_len is_blank l) whole ∙ ap (from text) e ∙ sym (blank-from_stop text)
+
+equals-at_stop : (text : List ℕ) → position_or_len is_equals (take (position_or_len is_blank text) text) ≡ position_or_len stops text
+equals-at_stop [] = refl
+equals-at_stop (b ∷ bs) = ⊎_elim
+    (λ (e : is_blank b ≡ true). rw e refl)
+    (λ (e : is_blank b ≡ false).
+    let more = take-one_more (position_or_len is_blank bs) b bs in
+    ⊎_elim
+    (λ (f : is_equals b ≡ true). rw (e, more, f) refl)
+    (λ (f : is_equals b ≡ false). rw (e, more, f) (ap (λ n. 1 + n) (equals-at_stop bs)))
+    (cases_Bool (is_equals b)))
+    (cases_Bool (is_blank b))
+
+module _ (text : List ℕ) (stop end : ℕ) (first : stop ≡ position_or_len (λ b. is_blank b || is_equals b) text)
+    (blank : end ≡ position_or_len is_blank text) where
+  place : position_or_len is_equals (take end text) ≡ stop
+  place = ap (λ n. position_or_len is_equals (take n text)) blank ∙ equals-at_stop text ∙ sym first
+
+  long : length (take end text) ≡ end
+  long = ap (λ n. length (take n text)) blank ∙ length-prefix_len (λ b. not (is_blank b)) text ∙ sym blank
+
+  found : position is_equals (take end text) ≡ cond (ltb stop end) (Some stop) None
+  found = ap (λ n. cond (ltb n (length (take end text))) (Some n) None) place ∙ ap (λ n. cond (ltb stop n) (Some stop) None) long
+
+  -- a `=` before the first blank is the first one of the word
+  pub equals-before_blank : stop < end → position is_equals (take end text) ≡ Some stop
+  equals-before_blank lt = found ∙ ap (λ t. cond t (Some stop) None) (lt-ltb stop end lt)
+
+  -- and if the blank comes first, the word has none
+  pub no_equals : end ≤ stop → position is_equals (take end text) ≡ None
+  no_equals le = found ∙ ap (λ t. cond t (Some stop) None) (le-ltb stop end le)

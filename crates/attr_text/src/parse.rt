@@ -1,5 +1,5 @@
 //! The lines of an attributes file, and the assignments in a line.
-ghost use Rattle.std.specs.Prelude.{◌≡◌, ℕ, ◌<◌, ◌≤◌, List, [], ◌∷◌, Option, Some, MatchOption, OnSome, IfNone, IfSome, is_none, IfOk, not, length, nat_eq, position, option_map};
+ghost use Rattle.std.specs.Prelude.{◌≡◌, ℕ, ◌<◌, ◌≤◌, List, [], ◌∷◌, Option, Some, MatchOption, OnSome, IfNone, IfSome, is_none, IfOk, not, ◌||◌, length, take, nat_eq, position, option_map};
 ghost use Rattle.std.specs.Iterator.{YieldsFirstBy, item_count, at_most};
 ghost use Rattle.std.specs.Cow.{cow_slice_items};
 ghost use Rattle.std.specs.List.{position_or_len, starts_with};
@@ -140,25 +140,59 @@ impl<'a> Iterator for Iter<'a> {
                 self.text = b"";
                 None
             }
-            Some((word, rest)) => {
+            Some((word, equals, rest)) => {
                 self.text = rest;
-                Some(parse_attr(word))
+                Some(parse_attr(word, equals))
             }
         }
     }
 }
 
-// The first word of a text, and the text after it.
-fn first_word<'a>(text: &'a [u8]) -> Option<(&'a [u8], &'a [u8])>
-    ensures { MatchOption result (words text.now ≡ []) (λ p. words text.now
-        ≡ p.0.now ∷ words p.1.now) }
+// The first word of a text, the place of the first `=` in the word, and the text after it.
+fn first_word<'a>(text: &'a [u8]) -> Option<(&'a [u8], Option<usize>, &'a [u8])>
+    ensures word { MatchOption result (words text.now ≡ []) (λ p. words text.now
+        ≡ p.0.now ∷ words p.2.now) }
+    ensures equals { IfSome result (λ p. p.1 ≡ position is_equals p.0.now) }
+    ensures inside { IfSome result (λ p. ForSome p.1 (λ i. i < length p.0.now)) }
 {
     let text = after_blanks(text);
     if text.is_empty() {
         return None;
     }
-    let (word, rest) = text.split_at(first_blank(text));
-    Some((word, rest))
+    let (end, equals) = first_end(text);
+    let (word, rest) = text.split_at(end);
+    Some((word, equals, rest))
+}
+
+// The place of the first blank, and that of the first `=` before it. Each byte is looked at once.
+fn first_end(text: &[u8]) -> (usize, Option<usize>)
+    ensures end { result.0 ≡ position_or_len is_blank text.now }
+    ensures equals { result.1 ≡ position is_equals (take result.0 text.now) }
+    ensures inside { result.0 ≤ length text.now }
+    ensures before { ForSome result.1 (λ i. i < result.0) }
+{
+    let stop = first_stop(text);
+    let end = stop + first_blank(&text[stop..]);
+    if stop < end {
+        (end, Some(stop))
+    } else {
+        (end, None)
+    }
+}
+
+// The place of the first byte at which a name ends: a blank, or the `=` before a value.
+fn position_of_stop(text: &[u8]) -> Option<usize>
+    ensures { result ≡ position (λ b. is_blank b || is_equals b) text.now }
+{
+    text.iter().position(|b| is_blank(*b) || *b == b'=')
+}
+
+#[tactic(auto, using(crate::proofs::WordLemmas::place_of_first, crate::proofs::WordLemmas::place_in_text))]
+fn first_stop(text: &[u8]) -> usize
+    ensures place { result ≡ position_or_len (λ b. is_blank b || is_equals b) text.now }
+    ensures inside { result ≤ length text.now }
+{
+    position_of_stop(text).unwrap_or(text.len())
 }
 
 // Whether the byte separates the items of a line.
@@ -202,18 +236,12 @@ fn after_blanks(text: &[u8]) -> &[u8]
     &text[first_not_blank(text)..]
 }
 
-fn first_equals(word: &[u8]) -> Option<usize>
-    ensures place { result ≡ position is_equals word.now }
-    ensures inside { ForSome result (λ i. i < length word.now) }
-{
-    word.iter().position(|b| *b == b'=')
-}
-
-// The assignment of a word, or why it is none.
-fn parse_attr<'a>(word: &'a [u8]) -> Result<AssignmentRef<'a>, AttrError<'a>>
+// The assignment of a word whose first `=` has this place, or why it is none.
+fn parse_attr<'a>(word: &'a [u8], equals: Option<usize>) -> Result<AssignmentRef<'a>, AttrError<'a>>
+    requires place { equals ≡ position is_equals word.now }
+    requires inside { ForSome equals (λ i. i < length word.now) }
     ensures { item_view result ≡ item_of word.now }
 {
-    let equals = first_equals(word);
     let name = &word[..equals.unwrap_or(word.len())];
     match name.first() {
         Some(b'-') => assign(&name[1..], StateRef::Unset),
