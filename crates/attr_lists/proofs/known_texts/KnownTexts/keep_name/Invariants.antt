@@ -1,4 +1,4 @@
-use Rattle.std.proofs.Common.{ℕ, length, ◌+◌, ◌-◌}
+use Rattle.std.proofs.Common.{length, ◌+◌, ◌-◌}
 use Rattle.attr_lists.proofs.known_texts.KnownTexts.keep_name.Given as goal
 
 abbrev pub decreases-loop-alloc : goal.decreases-loop-alloc
