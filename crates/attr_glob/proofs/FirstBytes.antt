@@ -1,6 +1,6 @@
 -- Folders that begin with a byte, and where tokens that begin with it may match.
 use Rattle.std.proofs.Common.{◌≡◌, ◌≤◌, ◌<◌, ◌+◌, ◌-◌, ℕ, zero, suc, Bool, true, false, ◌&&◌, ◌||◌, ◌==◌, List, [], ◌∷◌, length, drop, take, get_or}
-use Rattle.std.proofs.Common.{Option, Some, None, IfNone, refl, sym, ap, ◌∙◌, arith}
+use Rattle.std.proofs.Common.{Option, Some, None, IfNone, refl, ap, ◌∙◌, arith}
 use Rattle.std.proofs.lemmas.List.{take_all, length-drop}
 use Rattle.attr_glob.specs.declared.pattern.Case.{Case}
 use Rattle.attr_glob.specs.declared.pattern.Case.TheVariants.{Sensitive}
@@ -35,26 +35,26 @@ pub fewer : (n : ℕ) (v : List ℕ) → length (take (length v - n) (drop n v))
 fewer n v = ap length (take_all (length v - n) (drop n v) (omega (arith, length-drop n v))) ∙ length-drop n v
 
 -- no folder begins with the byte after any of eight places
-pub eight_places : (c : ℕ) (v : List ℕ) (s t u w x y z o : Bool) → 9 ≤ length v →
-    s ≡ starts_at c v 0 → t ≡ starts_at c v 1 → u ≡ starts_at c v 2 → w ≡ starts_at c v 3 → x ≡ starts_at c v 4 → y ≡ starts_at c v 5 →
-    z ≡ starts_at c v 6 → o ≡ starts_at c v 7 → (((((((s || t) || u) || w) || x) || y) || z) || o) ≡ false →
+pub eight_places : (c : ℕ) (v : List ℕ) → 9 ≤ length v →
+    (((((((starts_at c v 0 || starts_at c v 1) || starts_at c v 2) || starts_at c v 3) || starts_at c v 4) || starts_at c v 5)
+    || starts_at c v 6) || starts_at c v 7) ≡ false →
     folder_with c (take (length v - 8) (drop 8 v)) ≡ folder_with c v
-eight_places c v s t u w x y z o l hs ht hu hw hx hy hz ho h =
-    let h7 = first_false _ o h in
-    let h6 = first_false _ z h7 in
-    let h5 = first_false _ y h6 in
-    let h4 = first_false _ x h5 in
-    let h3 = first_false _ w h4 in
-    let h2 = first_false _ u h3 in
+eight_places c v l h =
+    let h7 = first_false _ (starts_at c v 7) h in
+    let h6 = first_false _ (starts_at c v 6) h7 in
+    let h5 = first_false _ (starts_at c v 5) h6 in
+    let h4 = first_false _ (starts_at c v 4) h5 in
+    let h3 = first_false _ (starts_at c v 3) h4 in
+    let h2 = first_false _ (starts_at c v 2) h3 in
     ap (folder_with c) (take_all (length v - 8) (drop 8 v) (omega (arith, length-drop 8 v)))
-    ∙ (step c 7 v (omega (arith, l)) (sym ho ∙ second_false _ o h)
-    ∙ (step c 6 v (omega (arith, l)) (sym hz ∙ second_false _ z h7)
-    ∙ (step c 5 v (omega (arith, l)) (sym hy ∙ second_false _ y h6)
-    ∙ (step c 4 v (omega (arith, l)) (sym hx ∙ second_false _ x h5)
-    ∙ (step c 3 v (omega (arith, l)) (sym hw ∙ second_false _ w h4)
-    ∙ (step c 2 v (omega (arith, l)) (sym hu ∙ second_false _ u h3)
-    ∙ (step c 1 v (omega (arith, l)) (sym ht ∙ second_false s t h2)
-    ∙ step c 0 v (omega (arith, l)) (sym hs ∙ first_false s t h2))))))))
+    ∙ (step c 7 v (omega (arith, l)) (second_false _ (starts_at c v 7) h)
+    ∙ (step c 6 v (omega (arith, l)) (second_false _ (starts_at c v 6) h7)
+    ∙ (step c 5 v (omega (arith, l)) (second_false _ (starts_at c v 5) h6)
+    ∙ (step c 4 v (omega (arith, l)) (second_false _ (starts_at c v 4) h5)
+    ∙ (step c 3 v (omega (arith, l)) (second_false _ (starts_at c v 3) h4)
+    ∙ (step c 2 v (omega (arith, l)) (second_false _ (starts_at c v 2) h3)
+    ∙ (step c 1 v (omega (arith, l)) (second_false (starts_at c v 0) (starts_at c v 1) h2)
+    ∙ step c 0 v (omega (arith, l)) (first_false (starts_at c v 0) (starts_at c v 1) h2))))))))
 
 -- fewer than two bytes hold no slash with a byte after it
 pub too_few : (c : ℕ) (v : List ℕ) → length v < 2 → folder_with c v ≡ None

@@ -70,13 +70,6 @@ pub(crate) fn from_byte(value: &[u8], byte: u8) -> Option<&[u8]>
     None
 }
 
-// Whether a slash and a byte that a folder begins with are these bytes.
-fn is_start(slash: u8, next: u8, first: u8) -> bool
-    ensures { result ≡ (is_slash slash && next == first) }
-{
-    (slash == b'/') & (next == first)
-}
-
 // The value from a byte on before which no folder begins with this byte: eight places are looked at together.
 fn skip_places(value: &[u8], first: u8) -> &[u8]
     ensures same { folder_with first result.now ≡ folder_with first value.now }
@@ -84,14 +77,14 @@ fn skip_places(value: &[u8], first: u8) -> &[u8]
 {
     let mut rest = value;
     while let [a, b, c, d, e, f, g, h, i, ..] = rest {
-        if is_start(*a, *b, first)
-            | is_start(*b, *c, first)
-            | is_start(*c, *d, first)
-            | is_start(*d, *e, first)
-            | is_start(*e, *f, first)
-            | is_start(*f, *g, first)
-            | is_start(*g, *h, first)
-            | is_start(*h, *i, first)
+        if (*a == b'/') & (*b == first)
+            | (*b == b'/') & (*c == first)
+            | (*c == b'/') & (*d == first)
+            | (*d == b'/') & (*e == first)
+            | (*e == b'/') & (*f == first)
+            | (*f == b'/') & (*g == first)
+            | (*g == b'/') & (*h == first)
+            | (*h == b'/') & (*i == first)
         {
             break;
         }
@@ -108,7 +101,7 @@ pub(crate) fn folder_with(value: &[u8], first: u8) -> Option<&[u8]>
 {
     let mut rest = skip_places(value, first);
     while let [slash, next, ..] = rest {
-        if is_start(*slash, *next, first) {
+        if *slash == b'/' && *next == first {
             return Some(&rest[1..]);
         }
         rest = &rest[1..];
