@@ -78,7 +78,8 @@ and_first false b h = h
 skip_start : (c : ℕ) (ts : List Token) (b : ℕ) (bs : List ℕ) → (is_slash b && begins c bs) ≡ false →
     slash_then (matches Sensitive (lit c ∷ ts)) (b ∷ bs) ≡ slash_then (matches Sensitive (lit c ∷ ts)) bs
 skip_start c ts b [] h = by_test (is_slash b) (λ t. rw t refl) (λ t. rw t refl)
-skip_start c ts b (d ∷ ds) h = passed (b == slash) (matches Sensitive (lit c ∷ ts) (d ∷ ds)) _ (not_both (b == slash) (d == c) (matches Sensitive ts ds) h)
+skip_start c ts b (d ∷ ds) h =
+    passed (b == slash) (matches Sensitive (lit c ∷ ts) (d ∷ ds)) _ (not_both (b == slash) (d == c) (matches Sensitive ts ds) h)
 
 pub next_start : (c : ℕ) (ts : List Token) (v next : List ℕ) → folder_with c v ≡ Some next →
     slash_then (matches Sensitive (lit c ∷ ts)) v

@@ -1,7 +1,6 @@
 //! Where tokens that begin with a byte may match: eight places are looked at together.
 
-ghost use Rattle.std.specs.Prelude.{◌≡◌, ◌≤◌, ◌<◌, ◌&&◌, ◌==◌, ◌∷◌, IfNone, IfSome, None, Some, length};
-ghost use Rattle.attr_glob.specs.Patterns.{is_slash};
+ghost use Rattle.std.specs.Prelude.{◌≡◌, ◌≤◌, ◌<◌, ◌∷◌, IfNone, IfSome, None, Some, length};
 ghost use Rattle.attr_glob.specs.Tokens.{lit};
 ghost use Rattle.attr_glob.specs.TokenList.{tokens_of};
 ghost use Rattle.attr_glob.specs.inner.FirstBytes.{BeginWith, folder_with, from_first};
