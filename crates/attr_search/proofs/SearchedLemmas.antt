@@ -6,6 +6,8 @@ use Rattle.std.specs.List.Sorted.{IsNonDecreasing}
 use Rattle.std.proofs.lemmas.Option.{get_or_from_slice_get, slice_get_cases}
 use Rattle.bstr.specs.BStr.{bstr_bytes}
 use Rattle.attr_glob.specs.Bases.{rest_below}
+use Rattle.std.specs.List.{list_all}
+use Rattle.attr_glob.specs.Candidates.{has_macro_mode}
 use Rattle.attr_glob.specs.Views.{patterns_of}
 use Rattle.attr_lists.specs.declared.types.TrackedAssignment.{TrackedAssignment}
 use Rattle.attr_table.specs.Cut.{is_done}
@@ -29,6 +31,7 @@ use Rattle.attr_search.proofs.LineLemmas.{places_more, places_stopped}
 use Rattle.attr_search.proofs.KeyedLemmas.{below_or}
 use Rattle.attr_search.proofs.ListLemmas.{count_more, lists_begun, lists_more, lists_over, lists_stopped}
 use Rattle.attr_search.proofs.CandidateLemmas.{list_passed, list_walked}
+use Rattle.attr_search.proofs.TryingLemmas.{idle_tried}
 use Rattle.attr_search.proofs.RoundLemmas.{all_begun, all_more, all_over, all_stopped, list_round, list_unasked, one_round, rounds_more}
 use Rattle.attr_search.proofs.RoundLemmas.{rounds_stopped}
 
@@ -132,6 +135,15 @@ list_by_candidates query rest list found before after below case dir are p =
           (bstr_bytes rest.path) (listed_view list) list.list.patterns.items found (state_slots before) (state_slots after) before.tested
           after.tested refl below case dir are list.read p.rounds;
     }
+
+-- a list whose lines define macros
+pub list_idle : (query rest : PathQuery) (list : IndexedList) (state : SearchContents) →
+    Some (bstr_bytes rest.path) ≡ rest_below (listed_view list).base query.case (bstr_bytes query.path) →
+    rest.case ≡ query.case → rest.is_dir ≡ query.is_dir →
+    list_all has_macro_mode (patterns_of list.list.patterns.items) ≡ true → SearchedList query (listed_view list) state state
+list_idle query rest list state below case dir all =
+    list_by_candidates query rest list [] state state below case dir
+    (idle_tried rest.case (bstr_bytes rest.path) (patterns_of list.list.patterns.items) all) (no_places rest (listed_view list) state)
 
 -- lists from a number on, of which the last is searched first
 abbrev pub SearchedFrom : PathQuery → List IndexedList → ℕ → SearchContents → SearchContents → Type 0

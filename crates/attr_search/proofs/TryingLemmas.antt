@@ -1,9 +1,9 @@
 -- The keys of lines decide between the lines that match a path and the candidates for it.
 use Rattle.std.proofs.Common.{◌≡◌, ℕ, zero, suc, ◌==◌, Bool, true, false, not, ◌||◌, List, [], ◌∷◌, take, map, position, Option, Some, None, refl}
-use Rattle.std.proofs.Common.{sym, ap, ◌∙◌}
+use Rattle.std.proofs.Common.{sym, ap, ◌∙◌, arith}
 use Rattle.std.proofs.Common.{cond, Result, Ok, Err, OnOk}
 use Rattle.std.specs.Prelude.{is_none, slice_get}
-use Rattle.std.specs.List.{starts_with}
+use Rattle.std.specs.List.{list_all, starts_with}
 use Rattle.attr_keys.specs.declared.key.Subject.TheVariants.{Name, Path}
 use Rattle.attr_keys.specs.inner.LineKeys.{front_of}
 use Rattle.attr_keys.specs.KeyContents.{KeyContent}
@@ -99,6 +99,19 @@ found_tried case path lines keys found is down has =
       candidate = tried_is_candidate case path;
       matching = λ text line is_dir read plain m. matching_is_tried case path text line is_dir read plain m;
     }
+
+-- of lines that define macros none is tried
+none_passes : (case : Case) (path : List ℕ) (lines : List Reading) (row : ℕ) → list_all has_macro_mode lines ≡ true →
+    passes (is_tried case path) (slice_get lines row) ≡ false
+none_passes case path [] row all = refl
+none_passes case path (line ∷ lines) zero all = rw (and_parts (has_macro_mode line) (list_all has_macro_mode lines) all).0 refl
+none_passes case path (line ∷ lines) (suc row) all =
+    none_passes case path lines row (and_parts (has_macro_mode line) (list_all has_macro_mode lines) all).1
+
+pub idle_tried : (case : Case) (path : List ℕ) (lines : List Reading) → list_all has_macro_mode lines ≡ true → AreTried case path lines []
+idle_tried case path lines all =
+    found_tried case path lines (map key_of_line lines) [] refl (λ k lt. absurd (omega (arith, lt)))
+    (λ row. sym (met_at case path lines row ∙ none_passes case path lines row all))
 
 pub both_ok : {T E P Q R : Type 0} (r : Result T E) → (P → Q → R) → OnOk r P → OnOk r Q → OnOk r R
 both_ok (Ok x) f p q = f p q

@@ -3,6 +3,8 @@
 ghost use Rattle.std.specs.Prelude.{◌≡◌, ◌<◌, None, length, true, false, IfOk, OnOk, OnErr, map};
 ghost use Rattle.std.specs.Option.{option_copied};
 ghost use Rattle.bstr.specs.BStr.{bstr_bytes};
+ghost use Rattle.std.specs.List.{list_all};
+ghost use Rattle.attr_glob.specs.Candidates.{has_macro_mode};
 ghost use Rattle.attr_glob.specs.KeptTokens.{kept_tokens};
 ghost use Rattle.attr_glob.specs.Paths.{path_matches};
 ghost use Rattle.attr_search.specs.inner.Lines.{entry_at};
@@ -18,7 +20,7 @@ ghost use Rattle.attr_search.specs.inner.LineTokens.{unboxed};
 ghost use Rattle.attr_lists.specs.inner.Keeping.{StayRegistered};
 
 use crate::folder_keys::base_key;
-use crate::line_keys::{folds, line_keys};
+use crate::line_keys::{are_macros, folds, line_keys};
 use crate::path_query::PathQuery;
 use attr_glob::pattern::base_name;
 use attr_glob::search::pattern::{List, Mapping};
@@ -47,9 +49,13 @@ pub struct IndexedList {
     /// The key of the base.
     #[derive_where(skip)]
     pub base_key: u64,
+    /// Whether each line defines a macro, so that none matches a path.
+    #[derive_where(skip)]
+    pub is_idle: bool,
     ghost keyed: { keys ≡ map key_of_line (patterns_of list.patterns.items) },
     ghost kept: { map unboxed tokens.items ≡ map kept_tokens (patterns_of list.patterns.items) },
     ghost based: { base_key ≡ key_of_base (base_bytes list.base) },
+    ghost idle: { is_idle ≡ list_all has_macro_mode (patterns_of list.patterns.items) },
     ghost read: { ∥ AreRead (entries_view list.patterns.items) ∥₁ },
 }
 
@@ -86,6 +92,7 @@ impl IndexedList {
         let keys = line_keys(alloc, &list.patterns)?;
         let tokens = kept_tokens(alloc, &list.patterns)?;
         let base_key = base_key(alloc, &list.base)?;
+        let is_idle = are_macros(&list.patterns);
         let list_id = names.add(alloc, &mut list.patterns)?;
         Ok(IndexedList {
             list,
@@ -93,6 +100,7 @@ impl IndexedList {
             tokens,
             list_id,
             base_key,
+            is_idle,
         })
     }
 
@@ -160,12 +168,14 @@ impl IndexedList {
         let keys = line_keys(alloc, &list.patterns)?;
         let tokens = kept_tokens(alloc, &list.patterns)?;
         let base_key = base_key(alloc, &list.base)?;
+        let is_idle = are_macros(&list.patterns);
         Ok(IndexedList {
             list,
             keys,
             tokens,
             list_id: self.list_id,
             base_key,
+            is_idle,
         })
     }
 }

@@ -1,6 +1,8 @@
 //! The keys of a list's lines.
 
 ghost use Rattle.std.specs.Prelude.{◌≡◌, IfOk, map};
+ghost use Rattle.std.specs.List.{list_all};
+ghost use Rattle.attr_glob.specs.Candidates.{has_macro_mode};
 ghost use Rattle.attr_glob.specs.Patterns.{all_flags};
 ghost use Rattle.attr_glob.specs.Views.{mode_bits, pattern_view, patterns_of};
 ghost use Rattle.attr_glob.specs.inner.LineShapes.{folds, shape_reading};
@@ -31,6 +33,19 @@ pub fn line_keys(alloc: Global, mappings: &[Mapping<Value>]) -> Result<KeyIndex,
     KeyIndex::of(alloc, keys)
 }
 
+/// Whether each line defines a macro, so that none matches a path.
+pub fn are_macros(mappings: &[Mapping<Value>]) -> bool
+    ensures { result ≡ list_all has_macro_mode (patterns_of mappings.now) }
+{
+    mappings.iter().all(|mapping| is_macro(&mapping.pattern))
+}
+
+fn is_macro(pattern: &Pattern) -> bool
+    ensures { result ≡ has_macro_mode (pattern_view pattern.now) }
+{
+    pattern.mode.contains(all_flags())
+}
+
 /// Whether ASCII letters match regardless of case.
 pub fn folds(case: Case) -> bool
     ensures { result ≡ folds case }
@@ -49,7 +64,7 @@ fn shape_of(pattern: &Pattern) -> Shape<'_>
     Shape {
         text: &pattern.text,
         wildcard: pattern.first_wildcard_pos,
-        is_macro: mode.contains(all_flags()),
+        is_macro: is_macro(pattern),
         asks_name: mode.contains(Mode::NO_SUB_DIR) && !mode.contains(Mode::ABSOLUTE),
         is_end: mode.contains(Mode::ENDS_WITH),
     }

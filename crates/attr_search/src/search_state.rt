@@ -437,6 +437,9 @@ impl SearchState {
         let Some(rest) = query.below(&list.list) else {
             return Ok(());
         };
+        if list.is_idle {
+            return Ok(());
+        }
         let places = self.find_candidates(alloc, list, rest)?;
         let searched = self.search_places(alloc, list, &places, rest);
         self.keep_buffer(places);

@@ -1,5 +1,7 @@
 use Rattle.std.proofs.Common.{◌≡◌, ◌∙◌, sym, ap, subst, map}
 use Rattle.std.proofs.Math.Logic.{∥∥₁_map}
+use Rattle.std.specs.List.{list_all}
+use Rattle.attr_glob.specs.Candidates.{has_macro_mode}
 use Rattle.attr_glob.specs.KeptTokens.{kept_tokens}
 use Rattle.attr_glob.specs.Views.{patterns_of}
 use Rattle.attr_lists.specs.ListViews.{entries_view}
@@ -17,6 +19,7 @@ invariant_of-result c =
       keyed = c.in_ok-keys.ensures ∙ ap (λ ms. map key_of_line (patterns_of ms)) c.deref.ensures.value;
       kept = c.in_ok-tokens.ensures ∙ ap (λ ms. map kept_tokens (patterns_of ms)) c.deref-2.ensures.value;
       based = c.in_ok-base_key.ensures;
+      idle = c.are_macros-is_idle.ensures ∙ ap (λ ms. list_all has_macro_mode (patterns_of ms)) c.deref-3.ensures.value;
       read = ∥∥₁_map c.args.self.now.read (subst AreRead (sym lines));
     }
 

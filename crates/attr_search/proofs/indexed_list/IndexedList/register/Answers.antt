@@ -1,4 +1,6 @@
 use Rattle.std.proofs.Common.{◌≡◌, ◌∙◌, sym, ap, subst, length, map}
+use Rattle.std.specs.List.{list_all}
+use Rattle.attr_glob.specs.Candidates.{has_macro_mode}
 use Rattle.attr_glob.specs.KeptTokens.{kept_tokens}
 use Rattle.attr_glob.specs.Views.{patterns_of}
 use Rattle.attr_lists.specs.ListViews.{entries_view}
@@ -22,6 +24,8 @@ invariant_of-result c =
       keyed = c.in_ok-keys.ensures ∙ ap (λ ms. map key_of_line (patterns_of ms)) c.deref.ensures.value ∙ sym (ap (map key_of_line) same);
       kept = c.in_ok-tokens.ensures ∙ ap (λ ms. map kept_tokens (patterns_of ms)) c.deref-2.ensures.value ∙ sym (ap (map kept_tokens) same);
       based = c.in_ok-base_key.ensures;
+      idle = c.are_macros-is_idle.ensures ∙ ap (λ ms. list_all has_macro_mode (patterns_of ms)) c.deref-3.ensures.value
+          ∙ sym (ap (list_all has_macro_mode) same);
       read = ∣ subst AreRead (sym (ap entries_view whole ∙ numbered)) (numbered_read names (entries_view before) c.requires.read) ∣₁;
     }
 

@@ -1,9 +1,9 @@
-use Rattle.std.proofs.Common.{refl}
+use Rattle.std.proofs.Common.{refl, sym, ◌∙◌}
 use Rattle.std.proofs.lemmas.Result.{on_ok_weaker}
 use Rattle.bstr.specs.BStr.{bstr_bytes}
 use Rattle.attr_search.specs.IndexedLists.{listed_view}
 use Rattle.attr_search.proofs.CandidateLemmas.{tried_fit, tested_most}
-use Rattle.attr_search.proofs.SearchedLemmas.{list_apart, list_by_candidates, state_kept}
+use Rattle.attr_search.proofs.SearchedLemmas.{list_apart, list_by_candidates, list_idle, state_kept}
 use Rattle.attr_search.proofs.search_state.SearchState.search_list.Goals as goal
 
 pub returns-in_default-clause-kept : goal.returns-in_default-clause-kept
@@ -11,6 +11,14 @@ returns-in_default-clause-kept c = state_kept c.args.self.now
 
 pub returns-in_default-clause-searched : goal.returns-in_default-clause-searched
 returns-in_default-clause-searched c = list_apart c.args.query (listed_view c.args.list.now) c.args.self.now c.in_default.ensures.path
+
+pub returns-then-list-clause-kept : goal.returns-then-list-clause-kept
+returns-then-list-clause-kept c = state_kept c.args.self.now
+
+pub returns-then-list-clause-searched : goal.returns-then-list-clause-searched
+returns-then-list-clause-searched c =
+    list_idle c.args.query c.in-Some.rest c.args.list.now c.args.self.now c.in-Some.ensures.path c.in-Some.ensures.case c.in-Some.ensures.is_dir
+    (sym c.args.list.now.idle ∙ c.if-list.true)
 
 pub returns-in_err-places-clause-kept : goal.returns-in_err-places-clause-kept
 returns-in_err-places-clause-kept c = rw c.find_candidates.ensures.unchanged (state_kept c.args.self.now)
