@@ -2,7 +2,8 @@
 use Rattle.std.proofs.Common.{◌≡◌, ℕ, ◌+◌, ◌-◌, ◌*◌, ◌^◌, ◌<◌, Bool, true, false, not, ◌&&◌, ◌||◌, List, [], ◌∷◌, ◌++◌}
 use Rattle.std.proofs.Common.{length, take, drop, get_or, fold, Option, Some, None, cond, option_map, refl, sym, ap, ◌∙◌, subst, arith}
 use Rattle.std.proofs.Common.{append_assoc}
-use Rattle.std.proofs.Common.{rules, ltb, ltb-false, lt-ltb, le-ltb, ltb-true, le-leb, leb-true, eq-eqb, ne_eqb, eqb-true, length-append, length-take-le}
+use Rattle.std.proofs.Common.{rules, ltb, ltb-false, lt-ltb, le-ltb, ltb-true, le-leb, leb-true, eq-eqb, ne_eqb, eqb-true}
+use Rattle.std.proofs.Common.{length-append, length-take-le}
 use Rattle.std.proofs.Common.{take-append-drop, true≢false}
 use Rattle.std.proofs.Math.Seq.{take-append_seam, take_at, drop_at}
 use Rattle.std.specs.Prelude.{⊤, nat_eq, nat_le, decimal, if◌then◌else◌, ◌==◌}

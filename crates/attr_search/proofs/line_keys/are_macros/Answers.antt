@@ -8,6 +8,7 @@ use Rattle.attr_search.proofs.line_keys.are_macros.Goals as goal
 
 pub returns : goal.returns
 returns c =
-    all_from_yields_List (λ m. has_macro_mode (pattern_view m.pattern)) _ _ c.all.result c.all.ensures.ran (YieldsList-from_slice c.args.mappings.now cc)
+    all_from_yields_List (λ m. has_macro_mode (pattern_view m.pattern)) _ _ c.all.result c.all.ensures.ran
+    (YieldsList-from_slice c.args.mappings.now cc)
     (λ x b q k. search rules)
     ∙ sym (list_all-map has_macro_mode (λ m. pattern_view m.pattern) c.args.mappings.now)
