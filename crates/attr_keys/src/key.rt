@@ -107,23 +107,17 @@ pub fn has_row_key(keys: &[Key], row: usize, text: &[u8]) -> bool
     begins_with(text, front)
 }
 
-// Whether a text begins with these bytes. Most keys differ at one of their first bytes, so bytes are compared one by one.
+// Whether a text begins with these bytes. Most keys differ at their first byte, which is compared alone.
 fn begins_with(text: &[u8], front: &[u8]) -> bool
     ensures { result ≡ starts_with nat_eq text.now front.now }
 {
-    let mut rest = text;
-    let mut left = front;
-    while let Some((byte, bytes)) = left.split_first() {
-        let Some((first, others)) = rest.split_first() else {
-            return false;
-        };
-        if first != byte {
-            return false;
-        }
-        left = bytes;
-        rest = others;
+    if text.len() < front.len() {
+        return false;
     }
-    true
+    if !front.is_empty() && front[0] != text[0] {
+        return false;
+    }
+    front == &text[..front.len()]
 }
 
 /// Whether a text, reversed, has the key with this number.
