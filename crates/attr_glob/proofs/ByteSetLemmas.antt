@@ -1,5 +1,5 @@
 -- A byte that is put into a set, and the bytes that the members of a bracket put in.
-use Rattle.std.proofs.Common.{◌≡◌, ℕ, ◌+◌, ◌*◌, ◌/◌, ◌%◌, ◌^◌, ◌<◌, Bool, true, false, ◌||◌, ◌==◌, nat_lt, ◌&&◌, ◌≢◌, [], ◌∷◌, ◌++◌, take, bit_or}
+use Rattle.std.proofs.Common.{◌≡◌, ℕ, ◌+◌, ◌*◌, ◌/◌, ◌%◌, ◌^◌, ◌<◌, Bool, true, false, ◌||◌, ◌==◌, nat_lt, ◌&&◌, [], ◌∷◌, ◌++◌, take, bit_or}
 use Rattle.std.proofs.Common.{List, length, get_or, set, refl, sym, ◌∙◌, ap, inl, inr, arith, get_or-set_same, get_or-set_other, eq-eqb, ne_eqb, w64}
 use Rattle.std.proofs.lemmas.Bool.{cases_eq}
 use Rattle.std.proofs.lemmas.Bool.Decides.{nat_tests}
@@ -10,7 +10,6 @@ use Rattle.std.specs.Int.{bit_at}
 use Rattle.attr_glob.specs.declared.bracket.Member.{Member}
 use Rattle.attr_glob.specs.Brackets.{member_holds, members_hold}
 use Rattle.attr_glob.specs.inner.ByteSets.{is_marked}
-use Rattle.attr_glob.proofs.Basics.{unequal}
 
 or_true : (a b : Bool) → b ≡ true → true ≡ (a || b)
 or_true true b h = refl
@@ -55,19 +54,30 @@ marked words n k within =
 
 -- Of a member's bytes below n, one more is put in, or the member doesn't have it.
 
-pub put_in : (old held : Bool) (b n : ℕ) → (b ≡ n → held ≡ true) →
-    ((old || (held && nat_lt b n)) || b == n) ≡ (old || (held && nat_lt b (n + 1)))
-put_in true held b n h = refl
-put_in false true b n h = grind (arith, nat_tests)
-put_in false false b n h = unequal b n (λ e. let clash : false ≡ true = h e in cc)
+and_false : (a : Bool) → (a && false) ≡ false
+and_false true = refl
+and_false false = refl
 
-pub left_out : (old held : Bool) (b n : ℕ) → (b ≡ n → held ≡ false) →
-    (old || (held && nat_lt b n)) ≡ (old || (held && nat_lt b (n + 1)))
-left_out true held b n h = refl
-left_out false true b n h =
-    let other : b ≢ n = λ e. (let clash : true ≡ false = h e in cc) in
-    grind (arith, nat_tests)
-left_out false false b n h = refl
+-- the byte n comes beside those below it
+pub next_held : (old held : Bool) (b n : ℕ) →
+    ((old || (held && nat_lt b n)) || (held && b == n)) ≡ (old || (held && nat_lt b (n + 1)))
+next_held true held b n = refl
+next_held false true b n = grind (arith, nat_tests)
+next_held false false b n = refl
+
+pub one_held : (old : Bool) (held : ℕ → Bool) (b n : ℕ) → held n ≡ true → (old || b == n) ≡ (old || (held b && b == n))
+one_held true held b n h = refl
+one_held false held b n h = elim (cases_eq b n) [
+  | inl same ↦ ap (λ x. x && b == n) (sym (ap held same ∙ h))
+  | inr other ↦ ne_eqb b n other ∙ sym (ap (λ x. held b && x) (ne_eqb b n other) ∙ and_false (held b))
+]
+
+pub none_held : (old : Bool) (held : ℕ → Bool) (b n : ℕ) → held n ≡ false → old ≡ (old || (held b && b == n))
+none_held true held b n h = refl
+none_held false held b n h = elim (cases_eq b n) [
+  | inl same ↦ sym (ap (λ x. x && b == n) (ap held same ∙ h))
+  | inr other ↦ sym (ap (λ x. held b && x) (ne_eqb b n other) ∙ and_false (held b))
+]
 
 pub all_below : (held : Bool) (b n : ℕ) → (held ≡ true → b < n) → (held && nat_lt b n) ≡ held
 all_below true b n h = let l : b < n = h refl in grind (arith, nat_tests)

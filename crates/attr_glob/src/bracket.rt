@@ -112,9 +112,16 @@ fn insert_member(set: &mut ByteSet, member: Member)
 {
     let (low, high) = bounds(member);
     for byte in low..=high {
-        if member.contains(byte) {
-            set.insert(byte);
-        }
+        insert_held(set, member, byte);
+    }
+}
+
+// Adds the byte to the set if the member holds it.
+fn insert_held(set: &mut ByteSet, member: Member, byte: u8)
+    ensures { (b : ℕ) → has set.new b ≡ (has set.old b || (member_holds member b && b == byte)) }
+{
+    if member.contains(byte) {
+        set.insert(byte);
     }
 }
 

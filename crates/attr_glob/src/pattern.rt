@@ -15,7 +15,7 @@ ghost use Rattle.attr_glob.specs.inner.StarEnds.{ends_after_star};
 
 use crate::wildmatch;
 use bitflags::{Flag, Flags};
-use bstr::BStr;
+use bstr::{BStr, ByteSlice};
 use std::alloc::{AllocError, Global};
 
 /// The flags of a pattern: what its pattern text gives beside the text to match (gitignore page).
@@ -425,14 +425,10 @@ fn is_star_then(value: &[u8], end: &[u8], case: Case) -> bool
 pub fn base_name_place(path: &[u8]) -> Option<usize>
     ensures { result ≡ base_name_place path.now }
 {
-    let mut place = path.len();
-    while place > 0 {
-        if path[place - 1] == b'/' {
-            return Some(place);
-        }
-        place -= 1;
+    match path.rfind_byte(b'/') {
+        Some(slash) => Some(slash + 1),
+        None => None,
     }
-    None
 }
 
 /// The base name of a path: what follows its last slash, and all of a path without one. `basename_pos` is the path's

@@ -1,13 +1,18 @@
-use Rattle.std.proofs.Common.{arith}
-use Rattle.attr_glob.specs.Bytes.{slash}
-use Rattle.attr_glob.proofs.Basics.{equal_so}
+use Rattle.std.proofs.Common.{◌≡◌, ◌+◌, ◌-◌, arith, Bool, true, false, refl, ap, ◌∙◌, get_or}
+use Rattle.attr_glob.specs.Patterns.{is_slash}
 use Rattle.attr_glob.proofs.PathLemmas.{base_name_place-found, base_name_place-none}
 use Rattle.attr_glob.proofs.pattern.base_name_place.Goals as goal
 
-pub returns-then-path-place-eq47 : goal.returns-then-path-place-eq47
-returns-then-path-place-eq47 c =
-    base_name_place-found c.args.path.now c.loop-place.place (omega arith) c.loop-place.invariant.0
-    (equal_so _ slash c.if-path-place-eq47.true) c.loop-place.invariant.1
+not_true : (b : Bool) → ¬ (b ≡ true) → b ≡ false
+not_true true h = absurd (h refl)
+not_true false h = refl
 
-pub returns : goal.returns
-returns c = base_name_place-none c.args.path.now (λ k l. c.loop-place.invariant.1 k (omega arith) l)
+pub returns-in-Some : goal.returns-in-Some
+returns-in-Some c =
+    let last = c.in-Some.ensures in
+    let before : c.in-Some.slash + 1 - 1 ≡ c.in-Some.slash = omega arith in
+    base_name_place-found c.args.path.now (c.in-Some.slash + 1) (omega arith) (omega (arith, last.0.high))
+    (ap (λ n. is_slash (get_or c.args.path.now n 0)) before ∙ last.1) (λ k l m. not_true _ (last.0.after k l m))
+
+pub returns-in-None : goal.returns-in-None
+returns-in-None c = base_name_place-none c.args.path.now (λ k l. not_true _ (c.in-None.ensures k (omega arith) l))
