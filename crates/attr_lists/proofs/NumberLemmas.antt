@@ -10,22 +10,19 @@ use Rattle.std.proofs.lemmas.List.{length-map, map-set}
 use Rattle.std.proofs.lemmas.List.Folds.{list_any_at}
 use Rattle.std.proofs.lemmas.List.Quantifiers.{position-Some}
 use Rattle.attr_glob.specs.declared.search.pattern.Mapping.{Mapping}
-use Rattle.attr_lists.specs.declared.types.AttributeId.{AttributeId}
 use Rattle.attr_lists.specs.declared.types.TrackedAssignment.{TrackedAssignment}
 use Rattle.attr_lists.specs.declared.types.Value.{Value}
 use Rattle.attr_lists.specs.KeptLists.{macro_valid, macros_valid}
 use Rattle.attr_lists.specs.ListViews.{entry_view, entries_view}
-use Rattle.attr_lists.specs.Numbers.{id_of, number_of, with_name, numbered_item, numbered}
+use Rattle.attr_lists.specs.Numbers.{number_of, with_name, numbered_item, numbered}
 use Rattle.attr_lists.proofs.NameLemmas.{with_name-known}
 use Rattle.attr_lists.proofs.ListLemmas.{front, front-at, front-more, get_or-map, list_all-within}
 
 -- one more item gets its number
-pub number_items_step : (names : List (List ℕ)) (start items : List TrackedAssignment) (i : ℕ) (d : TrackedAssignment) (id : AttributeId) → i < length
-    start → id ≡ id_of names (get_or items i d).inner.name → items ≡ front (numbered_item names) i start → set items i
-    (record { id = id; inner = (get_or items i d).inner }) ≡ front (numbered_item names) (i + 1) start
-number_items_step names start items i d id lt is e =
-    let item : AttributeId → TrackedAssignment = λ n. record { id = n; inner = (get_or items i d).inner } in
-    front-more (numbered_item names) i start items (item id) d lt (ap item is) e
+pub number_items_step : (names : List (List ℕ)) (start items : List TrackedAssignment) (i : ℕ) (d item : TrackedAssignment) →
+    i < length start → item ≡ numbered_item names (get_or items i d) → items ≡ front (numbered_item names) i start →
+    set items i item ≡ front (numbered_item names) (i + 1) start
+number_items_step names start items i d item lt is e = front-more (numbered_item names) i start items item d lt is e
 
 -- the next line is as it was
 at_front : (names : List (List ℕ)) (start lines : List (Mapping Value)) (i : ℕ) (d : Mapping Value) → entries_view lines ≡ front (numbered names) i

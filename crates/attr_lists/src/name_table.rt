@@ -22,6 +22,7 @@ mod recent_numbers;
 mod registered;
 
 use crate::name_table::parts::{Parts, free_id, is_set};
+use crate::name_table::recent_numbers::RecentNumbers;
 use crate::types::{Metadata, Value};
 use attr_glob::search::pattern::Mapping;
 use std::alloc::{AllocError, Global};
@@ -155,10 +156,11 @@ impl NameTable {
     {
         let count = self.parts.entries.len();
         let list_id = free_id(&self.parts.active, self.parts.free_from);
-        match self.parts.insert(alloc, list_id, mappings) {
+        let mut recent = RecentNumbers::new();
+        match self.parts.insert(alloc, &mut recent, list_id, mappings) {
             Ok(()) => {
                 self.parts.free_from = list_id;
-                numbers::number_list(&self.parts.names, mappings);
+                numbers::number_list(&self.parts.names, &mut recent, mappings);
                 Ok(list_id)
             }
             Err(error) => {

@@ -168,6 +168,20 @@ impl Name {
         }
     }
 
+    /// Holds this text in place of its own if both are the same, so that there is one text and not two. Its own stays if there
+    /// are `usize::MAX` copies of the other one.
+    pub fn share(&mut self, text: &RcStr)
+        ensures { self.new ≡ self.old }
+    {
+        if text.as_str() == self.as_str()
+            && let Ok(shared) = text.clone()
+        {
+            *self = Name {
+                text: Text::Shared(shared),
+            };
+        }
+    }
+
     /// A copy that shares the text.
     ///
     /// # Errors

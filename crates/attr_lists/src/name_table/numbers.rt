@@ -35,6 +35,7 @@ pub(super) fn no_names(alloc: Global) -> NameSet
 pub(super) fn insert_names(
     alloc: Global,
     names: &mut NameSet,
+    recent: &mut RecentNumbers,
     mappings: &[Mapping<Value>],
 ) -> Result<(), AllocError>
     requires { macros_valid (entries_view mappings.now) ≡ true }
@@ -44,9 +45,8 @@ pub(super) fn insert_names(
         AreValid (name_texts names.new)) }
     ensures err { OnErr result (AppendsNames (name_texts names.old) (name_texts names.new)) }
 {
-    let mut recent = RecentNumbers::new();
     for mapping in mappings {
-        insert_line(alloc, names, &mut recent, mapping)?;
+        insert_line(alloc, names, recent, mapping)?;
     }
     Ok(())
 }
@@ -130,7 +130,9 @@ fn insert_name(
     if recent.number_of(names, name).is_some() {
         return Ok(());
     }
+    let number = names.len();
     names.insert(RcStr::from_str(alloc, name)?)?;
+    recent.note(name, number);
     Ok(())
 }
 
@@ -193,13 +195,16 @@ pub(super) fn numbered_copy(
 }
 
 /// Sets the numbers of a list: those of its items, and those of the macros that it defines.
-pub(super) fn number_list(names: &NameSet, mappings: &mut [Mapping<Value>])
+pub(super) fn number_list(
+    names: &NameSet,
+    recent: &mut RecentNumbers,
+    mappings: &mut [Mapping<Value>],
+)
     requires { macros_valid (entries_view mappings.old) ≡ true }
     ensures { entries_view mappings.new ≡ numbered_view names.now mappings.old }
 {
-    let mut recent = RecentNumbers::new();
     for mapping in mappings.iter_mut() {
-        number_line(names, &mut recent, mapping);
+        number_line(names, recent, mapping);
     }
 }
 
@@ -240,7 +245,18 @@ fn number_items(names: &NameSet, recent: &mut RecentNumbers, items: &mut [Tracke
     ensures { items.new ≡ map (numbered_item (name_texts names.now)) items.old }
 {
     for item in items.iter_mut() {
-        item.id = recent.id_of(names, item.inner.name.as_str());
+        number_item(names, recent, item);
+    }
+}
+
+fn number_item(names: &NameSet, recent: &mut RecentNumbers, item: &mut TrackedAssignment)
+    ensures { item.new ≡ numbered_item (name_texts names.now) item.old }
+{
+    item.id = recent.id_of(names, item.inner.name.as_str());
+
+    // The names of all lists share the texts of the table.
+    if let Some(text) = names.get_index(item.id.0) {
+        item.inner.name.share(text);
     }
 }
 

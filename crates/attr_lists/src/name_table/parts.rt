@@ -11,6 +11,7 @@ ghost use Rattle.attr_lists.specs.inner.NameTableView.{parts_view, rolled_back, 
 
 use crate::name_table::entry::NameEntry;
 use crate::name_table::numbers::NameSet;
+use crate::name_table::recent_numbers::RecentNumbers;
 use crate::name_table::{entry, macros, numbers, registered};
 use crate::types::{Metadata, Value};
 use attr_glob::search::pattern::Mapping;
@@ -36,7 +37,7 @@ pub(super) struct Parts {
 }
 
 impl Parts {
-    /// Adds the names and the definitions of a list under a free list id.
+    /// Adds the names and the definitions of a list under a free list id. `recent` has the numbers of its names then.
     ///
     /// # Errors
     ///
@@ -44,6 +45,7 @@ impl Parts {
     pub(super) fn insert(
         &mut self,
         alloc: Global,
+        recent: &mut RecentNumbers,
         list_id: usize,
         mappings: &[Mapping<Value>],
     ) -> Result<(), AllocError>
@@ -67,7 +69,7 @@ impl Parts {
         ensures listed { OnOk result (ListsDefined
             self.new.macros (numbered_view self.new.names mappings.now)) }
     {
-        numbers::insert_names(alloc, &mut self.names, mappings)?;
+        numbers::insert_names(alloc, &mut self.names, recent, mappings)?;
         macros::insert_macros(&self.names, &mut self.macros, mappings)?;
         entry::extend(alloc, &mut self.entries, self.names.len())?;
         let list = registered::numbered_macros(alloc, &self.names, mappings)?;

@@ -46,6 +46,11 @@ impl RecentNumbers {
         self.numbers[place] = number;
         Some(number)
     }
+
+    /// Notes the number of a name.
+    pub(super) fn note(&mut self, name: &str, number: usize) {
+        self.numbers[text_place(name.as_bytes())] = number;
+    }
 }
 
 // Whether the name has this number. It has no other one then, since the names of a set differ.

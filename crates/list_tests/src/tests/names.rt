@@ -3,6 +3,7 @@ use attr_text::state::{Value, ValueRef};
 use attr_text::{AssignmentRef, NameRef, StateRef, name};
 use bstr::BStr;
 use std::alloc::AllocError;
+use std::rc::RcStr;
 use std::test::Fail;
 
 #[test]
@@ -40,6 +41,16 @@ fn names_are_copied(rt: HostRuntime) -> Result<(), Fail> {
     assert!(rt; owned.clone(rt.alloc())? == owned);
     let text = format!(in rt.alloc(); "{borrowed:?} {owned:?}")?;
     assert_eq!(rt; text.as_str(), "NameRef(\"diff\") Name(\"diff\")");
+    Ok(())
+}
+
+#[test]
+fn a_name_shares_only_the_same_text(rt: HostRuntime) -> Result<(), Fail> {
+    let mut name = NameRef::try_from(BStr::from("diff"))?.to_owned(rt.alloc())?;
+    name.share(&RcStr::from_str(rt.alloc(), "text")?);
+    assert_eq!(rt; name.as_str(), "diff");
+    name.share(&RcStr::from_str(rt.alloc(), "diff")?);
+    assert_eq!(rt; name.as_str(), "diff");
     Ok(())
 }
 
