@@ -42,8 +42,7 @@ pub fn fold_into(text: &[u8], folded: &mut Vec<u8>) -> Result<(), AllocError>
     ensures { OnOk result (folded.new.items ≡ small_letters text.now) }
 {
     folded.clear();
-    for byte in text {
-        folded.push(byte.to_ascii_lowercase())?;
-    }
+    folded.extend_from_slice(text)?;
+    folded.make_ascii_lowercase();
     Ok(())
 }

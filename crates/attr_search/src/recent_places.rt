@@ -1,11 +1,13 @@
 //! Places that were found of late, with which a look-up begins.
 
-ghost use Rattle.std.specs.Prelude.{◌≡◌, ◌%◌, [], OnErr, OnOk, Some, slice_get, slice_index_or};
+ghost use Rattle.std.specs.Prelude.{◌≡◌, ◌%◌, [], OnErr, OnOk, Some, length, slice_get, slice_index_or};
 
 use std::alloc::{AllocError, Global};
 
-/// How many places are kept.
-pub const KEPT: usize = 1024;
+// How many places there are at first, and once a place is noted that is not below them.
+const FEW: usize = 1024;
+
+const MANY: usize = 16384;
 
 /// For each remainder of numbers the place that was noted last. What is stored there has to be compared: it may have
 /// been noted for another number.
@@ -27,12 +29,13 @@ impl RecentPlaces {
 
     /// The place that was noted last for the number's remainder, and 0 before.
     pub fn get(&self, number: usize) -> usize
-        ensures { result ≡ slice_index_or self.now.places.items (number % 1024) 0 }
+        ensures { result ≡ slice_index_or self.now.places.items
+            (number % length self.now.places.items) 0 }
     {
-        match self.places.get(number % KEPT) {
-            Some(place) => *place,
-            None => 0,
+        if self.places.is_empty() {
+            return 0;
         }
+        self.places[number % self.places.len()]
     }
 
     /// Notes a place for the number's remainder.
@@ -41,14 +44,16 @@ impl RecentPlaces {
     ///
     /// If memory runs out. Nothing is noted then.
     pub fn note(&mut self, number: usize, place: usize) -> Result<(), AllocError>
-        ensures noted { OnOk result
-            (slice_get self.new.places.items (number % 1024) ≡ Some place) }
+        ensures noted { OnOk result (slice_get self.new.places.items
+            (number % length self.new.places.items) ≡ Some place) }
         ensures refused { OnErr result (self.new.places.items ≡ self.old.places.items) }
     {
-        if self.places.len() < KEPT {
-            self.places.resize(KEPT, 0)?;
+        let wanted = if place < FEW { FEW } else { MANY };
+        if self.places.len() < wanted {
+            self.places.resize(wanted, 0)?;
         }
-        self.places[number % KEPT] = place;
+        let remainder = number % self.places.len();
+        self.places[remainder] = place;
         Ok(())
     }
 }

@@ -9,7 +9,7 @@ ghost use Rattle.attr_search.specs.Matches.{match_view};
 ghost use Rattle.attr_search.specs.inner.Refs.{RefersTo, IsMatchRef, match_by_ref};
 
 use crate::matching_line::MatchingLine;
-use crate::recent_places::{KEPT, RecentPlaces};
+use crate::recent_places::RecentPlaces;
 use attr_glob::Pattern;
 use attr_glob::search::pattern::Mapping;
 use attr_lists::types::{Match, MatchKind, MatchLocation, TrackedAssignment, Value};
@@ -39,8 +39,11 @@ pub struct MatchRef {
     pub kind: MatchKind,
 }
 
-// So many patterns, and so many sources, are kept for later matches, and no more.
-const MOST: usize = 4096;
+// So many bytes of patterns, and so many of sources, are kept for later matches, and no more.
+const MOST: usize = 1 << 22;
+
+// How many bytes a stored text takes beside its own.
+const BESIDE: usize = 64;
 
 /// The patterns, assignments and sources of matches. A pattern or source that was stored of late is found again; another one is
 /// stored once more. An assignment shares its texts with the item that it is of, so each match stores its own.
@@ -56,6 +59,8 @@ struct PatternStore {
     stored: Vec<Pattern>,
     // Where the patterns of lines were stored of late.
     recent: RecentPlaces,
+    // How many bytes were stored since the store was empty, or was copied.
+    bytes: usize,
 }
 
 #[derive(Drop)]
@@ -65,6 +70,8 @@ struct SourceStore {
     recent: RecentPlaces,
     // The place that was looked up last: the next line is often of the same list.
     last: usize,
+    // How many bytes were stored since the store was empty, or was copied.
+    bytes: usize,
 }
 
 impl Model for RefMap {
@@ -101,12 +108,14 @@ impl RefMap {
             patterns: PatternStore {
                 stored: patterns,
                 recent: RecentPlaces::new(alloc),
+                bytes: 0,
             },
             assignments,
             sources: SourceStore {
                 stored: sources,
                 recent: RecentPlaces::new(alloc),
                 last: 0,
+                bytes: 0,
             },
         }
     }
@@ -115,19 +124,19 @@ impl RefMap {
     pub fn clear(&mut self)
         ensures { self.new ≡ record { patterns = []; assignments = []; sources = [] } }
     {
-        self.patterns.stored.clear();
+        self.patterns.clear();
         self.assignments.clear();
-        self.sources.stored.clear();
+        self.sources.clear();
     }
 
-    /// Forgets the assignments, and if the patterns or sources are many, these too. No match refers to them any more.
+    /// Forgets the assignments, and if the patterns or sources are many or long, these too. No match refers to them any more.
     pub fn release(&mut self)
         ensures { self.new.assignments ≡ [] }
     {
         self.assignments.clear();
-        if self.patterns.stored.len() > MOST || self.sources.stored.len() > MOST {
-            self.patterns.stored.clear();
-            self.sources.stored.clear();
+        if self.patterns.bytes > MOST || self.sources.bytes > MOST {
+            self.patterns.clear();
+            self.sources.clear();
         }
     }
 
@@ -227,6 +236,13 @@ impl RefMap {
 }
 
 impl PatternStore {
+    fn clear(&mut self)
+        ensures { self.new.stored.items ≡ [] }
+    {
+        self.stored.clear();
+        self.bytes = 0;
+    }
+
     // The place of the pattern of a line with this number. It is stored if it is not where such a line's was stored last.
     fn place(
         &mut self,
@@ -244,6 +260,10 @@ impl PatternStore {
         }
         let place = self.stored.len();
         self.stored.push(pattern.clone(alloc)?)?;
+        self.bytes = self
+            .bytes
+            .saturating_add(pattern.text.len())
+            .saturating_add(BESIDE);
         self.recent.note(number, place)?;
         Ok(place)
     }
@@ -257,9 +277,14 @@ fn has_pattern(patterns: &[Pattern], place: usize, pattern: &Pattern) -> bool
     place < patterns.len() && *pattern == patterns[place]
 }
 
+// Numbers of lines, and lengths of texts, differ by their remainders.
+const LINES: usize = 1 << 20;
+
+const LENGTHS: usize = 1024;
+
 // A number for a line by which its pattern and source are noted.
 fn line_number(line: &Mapping<Value>) -> usize {
-    line.sequence_number % KEPT + text_number(&line.pattern.text)
+    line.sequence_number % LINES + text_number(&line.pattern.text)
 }
 
 // A number for a text, by its length and its last byte.
@@ -267,12 +292,19 @@ fn text_number(text: &[u8]) -> usize
     ensures { result < 8448 }
 {
     match text.last() {
-        Some(byte) => text.len() % KEPT * 8 + usize::from(*byte),
+        Some(byte) => text.len() % LENGTHS * 8 + usize::from(*byte),
         None => 0,
     }
 }
 
 impl SourceStore {
+    fn clear(&mut self)
+        ensures { self.new.stored.items ≡ [] }
+    {
+        self.stored.clear();
+        self.bytes = 0;
+    }
+
     fn optional_place(
         &mut self,
         alloc: Global,
@@ -321,6 +353,10 @@ impl SourceStore {
         }
         let place = self.stored.len();
         self.stored.push(String::from_str(alloc, source)?)?;
+        self.bytes = self
+            .bytes
+            .saturating_add(source.len())
+            .saturating_add(BESIDE);
         self.recent.note(number, place)?;
         Ok(place)
     }

@@ -140,22 +140,6 @@ impl SearchState {
         Ok(())
     }
 
-    fn replace(&mut self, slots: AnswerSlots, bodies: Vec<Vec<TrackedAssignment>>)
-        requires { BodiesFit (length slots.answers) bodies.items }
-        ensures { self.new ≡ record {
-          answers = slots.answers;
-          wanted = slots.wanted;
-          bodies = bodies_view bodies.items;
-          taken = 0;
-          tested = 0;
-        } }
-    {
-        self.filler.slots = slots;
-        self.filler.bodies = bodies;
-        self.filler.taken = 0;
-        self.tested = 0;
-    }
-
     /// Empties the slots, which costs what was filled, and sets the counts to 0. It takes no memory.
     pub fn reset(&mut self)
         ensures { self.new ≡ record self.old
@@ -200,7 +184,9 @@ impl SearchState {
     {
         let slots = other.filler.slots.copy(alloc, wanted)?;
         let bodies = bodies::copy_of_bodies(alloc, &other.filler.bodies)?;
-        self.replace(slots, bodies);
+        let mut copy = SearchState::of(alloc, slots, bodies);
+        mem::swap(&mut self.buffers, &mut copy.buffers);
+        *self = copy;
         Ok(())
     }
 
