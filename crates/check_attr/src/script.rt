@@ -327,7 +327,9 @@ fn as_text(bytes: &[u8]) -> Option<&str>
     str::from_utf8(bytes).ok()
 }
 
-// A number, and the bytes after the separator that ends it.
+// A number, and the bytes after the separator that ends it. It stays a call, since its loops take twice the instructions inside
+// a function that has many results to set.
+#[inline(never)]
 #[tactic(auto, using(crate::proofs::SpellingLemmas::number_spelled))]
 fn number_before(separator: u8, bytes: &[u8]) -> Option<(usize, &[u8])>
     ensures value { option_map (with_rest (λ n. n)) result ≡ number_before separator bytes.now }
