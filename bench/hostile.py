@@ -356,6 +356,14 @@ def long_pattern(n):
     return add(b"* b\n[" + b"ab" * (n // 2) + b"c] a\n") + select(["b"]) + ask("c") * 2000
 
 
+@case(2 ** 18)
+def long_patterns_in_turn(n):
+    """two patterns of n bytes, 1,024 lines apart, that decide in turn and aren't shown, and 2,000 paths"""
+    front = b"[" + b"ab" * (n // 2)
+    lines = b"* b\n" + front + b"c] a\n" + b"\n" * 1_023 + front + b"d] a\n"
+    return add(lines) + select(["b"]) + (ask("c") + ask("d")) * 1_000
+
+
 # What is written.
 
 @case(1_250)
