@@ -2,7 +2,7 @@
 use Rattle.std.proofs.Common.{◌≡◌, ℕ, ◌+◌, ◌<◌, true, false, List, [], ◌∷◌, length, get_or, set, map, nat_eq, bytes_eq, Option, Some, None}
 use Rattle.std.proofs.Common.{refl, sym, ap, ◌∙◌, true≢false, arith}
 use Rattle.std.specs.Prelude.{is_some}
-use Rattle.std.specs.Cmp.Lexicographic.{pointwise}
+use Rattle.std.specs.Cmp.Lexicographic.{bytes_decides, pointwise}
 use Rattle.std.specs.List.{AllByRecursion, IsDistinct}
 use Rattle.std.specs.Rc.{rc_str_bytes}
 use Rattle.std.specs.declared.rc.RcStr.{RcStr}
@@ -57,6 +57,15 @@ pub distinct_by_text : {Z : Type 0} (names : List (RcStr Z)) → IsDistinct (λ 
 unfolding IsDistinct
 distinct_by_text [] distinct = tt
 distinct_by_text (name ∷ names) distinct = (apart_by_text (rc_str_bytes name) names distinct.0, distinct_by_text names distinct.1)
+
+-- the number of a name is its place
+pub name_at_number : (names : List (List ℕ)) (name : List ℕ) (number : ℕ) → number_of names name ≡ Some number →
+    (number < length names) × (get_or names number [] ≡ name)
+name_at_number names name number is =
+    let here = position-Some (bytes_eq name) names number [] is in (
+      here.0,
+      sym ((bytes_decides name (get_or names number [])).0 here.1),
+    )
 
 -- a name that has a number is not taken again
 pub numbered_known : (names : List (List ℕ)) (name : List ℕ) → is_some (number_of names name) ≡ true → names ≡ with_name names name

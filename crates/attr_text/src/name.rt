@@ -6,6 +6,7 @@ ghost use Rattle.std.specs.Hash as fed;
 ghost use Rattle.std.specs.Cmp.Lexicographic.{pointwise, slice_cmp, nat_list_eq_equiv, nat_list_cmp_total, texts_ties, texts_po};
 ghost use Rattle.std.specs.Cmp.{partial_equiv_from_equiv};
 ghost use Rattle.std.specs.Cmp.Rules.{hashing};
+ghost use Rattle.std.specs.Rc.{rc_str_bytes};
 ghost use Rattle.std.proofs.Common.{rules};
 ghost use Rattle.bstr.specs.BStr.{bstr_bytes};
 ghost use Rattle.attr_text.specs.Names.{is_name_byte, is_valid_name, is_reserved_name};
@@ -111,10 +112,7 @@ impl<'a> NameRef<'a> {
     pub fn to_owned(self, alloc: Global) -> Result<Name, AllocError>
         ensures { IfOk result (λ name. name ≡ name_text self.entry) }
     {
-        let text = RcStr::from_str(alloc, self.text)?;
-        Ok(Name {
-            text: Text::Shared(text),
-        })
+        Ok(Name::of(RcStr::from_str(alloc, self.text)?))
     }
 }
 
@@ -148,6 +146,16 @@ impl<'a> fmt::Debug for NameRef<'a> {
 impl Name {
     ghost use Rattle.attr_text.specs.TextViews.{name_text};
 
+    /// The name that is this text, of which no copy is made.
+    pub fn of(text: RcStr) -> Name
+        requires { IsTrue (is_valid_name (rc_str_bytes text)) }
+        ensures { result ≡ rc_str_bytes text }
+    {
+        Name {
+            text: Text::Shared(text),
+        }
+    }
+
     /// A reference to the name.
     pub fn as_ref(&self) -> NameRef<'_>
         ensures { name_text result ≡ self.now }
@@ -165,20 +173,6 @@ impl Name {
         match &self.text {
             Text::Shared(text) => text.as_str(),
             Text::Blank => "_",
-        }
-    }
-
-    /// Holds this text in place of its own if both are the same, so that there is one text and not two. Its own stays if there
-    /// are `usize::MAX` copies of the other one.
-    pub fn share(&mut self, text: &RcStr)
-        ensures { self.new ≡ self.old }
-    {
-        if text.as_str() == self.as_str()
-            && let Ok(shared) = text.clone()
-        {
-            *self = Name {
-                text: Text::Shared(shared),
-            };
         }
     }
 

@@ -13,6 +13,7 @@ use crate::name_table::recent_numbers::RecentNumbers;
 use crate::types::{Assignments, AttributeId, TrackedAssignment, Value};
 use attr_glob::Pattern;
 use attr_glob::search::pattern::Mapping;
+use attr_text::Name;
 use bstr::ByteSlice;
 use indexmap::IndexSet;
 use smallvec::SmallVec;
@@ -186,11 +187,21 @@ pub(super) fn numbered_copy(
 {
     let mut copy = SmallVec::new(alloc);
     for item in items {
-        copy.push(TrackedAssignment {
-            id: id_of(names, item.inner.name.as_str()),
-            inner: item.inner.clone(alloc)?,
-        })?;
+        copy.push(numbered_item(alloc, names, item)?)?;
     }
+    Ok(copy)
+}
+
+fn numbered_item(
+    alloc: Global,
+    names: &NameSet,
+    item: &TrackedAssignment,
+) -> Result<TrackedAssignment, AllocError>
+    ensures { IfOk result (λ copy. copy ≡ numbered_item (name_texts names.now) item.now) }
+{
+    let number = number_of(names, item.inner.name.as_str());
+    let mut copy = item.clone(alloc)?;
+    set_number(names, number, &mut copy);
     Ok(copy)
 }
 
@@ -252,11 +263,23 @@ fn number_items(names: &NameSet, recent: &mut RecentNumbers, items: &mut [Tracke
 fn number_item(names: &NameSet, recent: &mut RecentNumbers, item: &mut TrackedAssignment)
     ensures { item.new ≡ numbered_item (name_texts names.now) item.old }
 {
-    item.id = recent.id_of(names, item.inner.name.as_str());
+    let number = recent.number_of(names, item.inner.name.as_str());
+    set_number(names, number, item);
+}
 
-    // The names of all lists share the texts of the table.
-    if let Some(text) = names.get_index(item.id.0) {
-        item.inner.name.share(text);
+// Sets an item's number, which its name has. Its name takes the text that the names have of it, so that all lists share one.
+fn set_number(names: &NameSet, number: Option<usize>, item: &mut TrackedAssignment)
+    requires number { number ≡ number_of (name_texts names.now) item.old.inner.name }
+    requires valid { IsTrue (is_valid_name item.old.inner.name) }
+    ensures { item.new ≡ numbered_item (name_texts names.now) item.old }
+{
+    let Some(number) = number else {
+        item.id = AttributeId::default();
+        return;
+    };
+    item.id = AttributeId(number);
+    if let Ok(text) = names.as_slice()[number].clone() {
+        item.inner.name = Name::of(text);
     }
 }
 

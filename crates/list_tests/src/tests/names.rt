@@ -1,6 +1,6 @@
 //! Names, states and assignments: conversions, comparisons and printed forms.
 use attr_text::state::{Value, ValueRef};
-use attr_text::{AssignmentRef, NameRef, StateRef, name};
+use attr_text::{AssignmentRef, Name, NameRef, StateRef, name};
 use bstr::BStr;
 use std::alloc::AllocError;
 use std::rc::RcStr;
@@ -45,12 +45,12 @@ fn names_are_copied(rt: HostRuntime) -> Result<(), Fail> {
 }
 
 #[test]
-fn a_name_shares_only_the_same_text(rt: HostRuntime) -> Result<(), Fail> {
-    let mut name = NameRef::try_from(BStr::from("diff"))?.to_owned(rt.alloc())?;
-    name.share(&RcStr::from_str(rt.alloc(), "text")?);
-    assert_eq!(rt; name.as_str(), "diff");
-    name.share(&RcStr::from_str(rt.alloc(), "diff")?);
-    assert_eq!(rt; name.as_str(), "diff");
+fn a_name_is_made_of_a_shared_text(rt: HostRuntime) -> Result<(), Fail> {
+    let borrowed = NameRef::try_from(BStr::from("diff"))?;
+    let text = RcStr::from_str(rt.alloc(), borrowed.as_str())?;
+    let name = Name::of(text.clone()?);
+    assert!(rt; name.as_ref() == borrowed);
+    assert_eq!(rt; name.as_str(), text.as_str());
     Ok(())
 }
 

@@ -1,6 +1,6 @@
-use Rattle.std.proofs.Common.{◌≡◌, ◌∙◌, ℕ, ◌<◌, ◌≤◌, List, [], length, get_or, map, sym, ap, subst, arith, ⊎_elim}
+use Rattle.std.proofs.Common.{◌≡◌, ◌∙◌, ℕ, ◌<◌, ◌≤◌, List, [], length, get_or, sym, ap, subst, arith, ⊎_elim}
 use Rattle.std.proofs.lemmas.Bool.{cases_lt}
-use Rattle.std.proofs.lemmas.List.{length-map, get_or_default}
+use Rattle.std.proofs.lemmas.List.{length-map}
 use Rattle.std.specs.Rc.{rc_str_bytes}
 use Rattle.attr_lists.specs.declared.name_table.entry.NameEntry.{NameEntry}
 use Rattle.attr_lists.specs.Collections.{MacroDefinition}
@@ -8,14 +8,8 @@ use Rattle.attr_lists.specs.inner.EntrySteps.{AgreesOn}
 use Rattle.attr_lists.specs.inner.EntryViews.{definitions_at, definitions_view, name_texts}
 use Rattle.attr_lists.specs.ListViews.{entries_view}
 use Rattle.attr_lists.proofs.EntryLemmas.{definitions_at-within}
-use Rattle.attr_lists.proofs.ListLemmas.{get_or-map}
+use Rattle.attr_lists.proofs.ListLemmas.{name_at}
 use Rattle.attr_lists.proofs.name_table.entry.all_agree.Goals as goal
-
-name_at : {X : Type 0} (f : X → List ℕ) (keys seen : List X) (n : ℕ) (item : X) (text : List ℕ) → text ≡ f item → item ≡ get_or seen n item
-    → seen ≡ keys → n < length seen → text ≡ get_or (map f keys) n []
-name_at f keys seen n item text read at same lt =
-    read ∙ (ap f (at ∙ ap (λ l. get_or l n item) same)
-    ∙ (sym (get_or-map f keys n item) ∙ get_or_default (map f keys) n (f item) [] (omega (arith, lt, length-map keys f, ap length same))))
 
 definitions_are : (entries : List NameEntry) (n : ℕ) (item : NameEntry) → item ≡ get_or entries n item → n < length entries
     → definitions_view item ≡ definitions_at entries n
