@@ -1,6 +1,6 @@
 //! Which patterns of a list a path has to be matched against.
 
-ghost use Rattle.std.specs.Prelude.{◌≡◌, ◌↔◌, ◌++◌, IfOk, OnOk, OnErr, IsTrue, map};
+ghost use Rattle.std.specs.Prelude.{◌≡◌, ◌↔◌, ◌++◌, [], IfOk, OnOk, OnErr, IsTrue, map};
 ghost use Rattle.bstr.specs.BStr.{bstr_bytes};
 ghost use Rattle.attr_glob.specs.BaseNames.{base_name, base_name_place};
 ghost use Rattle.attr_glob.specs.Candidates.{candidates, AppendsPlaces};
@@ -49,7 +49,10 @@ pub struct IndexBuffers {
 
 impl IndexBuffers {
     /// Empty buffers. It takes no memory.
-    pub fn new(alloc: Global) -> IndexBuffers {
+    pub fn new(alloc: Global) -> IndexBuffers
+        ensures turned { result.turned.items ≡ [] }
+        ensures found { result.found.items ≡ [] }
+    {
         IndexBuffers {
             turned: Vec::new(alloc),
             found: Vec::new(alloc),
