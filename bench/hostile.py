@@ -153,6 +153,28 @@ def colliding_names(n):
     return add(b"* " + " ".join("%s%08d%s" % (front, place, "A" * 16) for place in range(n)).encode() + b"\n")
 
 
+def crowd(n):
+    """n names of 16 bytes that share a hash of one multiplication for eight bytes: the second eight cancel what the first give."""
+    chance = random.Random("crowd")
+    goal = chance.getrandbits(64)
+    names = set()
+    while len(names) < n:
+        front = "".join(chance.choices(LETTERS, k=8)).encode()
+        product = int.from_bytes(front, "little") * MULTIPLIER & LOW
+        rest = ((product << 32 & LOW | product >> 32) ^ goal).to_bytes(8, "little")
+        if not set(rest) & set(b'\0\t\n\r "*/?[\\'):
+            names.add(front + rest)
+    return sorted(names)
+
+
+@case(30_000)
+def crowded_names(n):
+    """n plain names that share the hash by which they are looked up, and 2,000 paths"""
+    names = crowd(n)
+    asks = (b"ask l s f %d\n%s\n" % (len(name), name) for name in names[:2_000])
+    return add(b"".join(name + b" a\n" for name in names)) + b"".join(asks)
+
+
 @case(10_500)
 def long_names(n):
     """a line of n other names of 48 bytes"""

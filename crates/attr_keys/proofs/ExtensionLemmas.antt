@@ -1,15 +1,15 @@
 -- Names and ends that are their extensions.
-use Rattle.std.proofs.Common.{◌≡◌, ℕ, zero, suc, ◌+◌, ◌<◌, ◌≤◌, ◌-◌, Bool, true, false, not, ◌&&◌, List, [], ◌∷◌, ◌++◌, length}
+use Rattle.std.proofs.Common.{◌≡◌, ℕ, zero, suc, ◌<◌, ◌≤◌, ◌-◌, Bool, true, false, not, ◌&&◌, List, [], ◌∷◌, ◌++◌, length}
 use Rattle.std.proofs.Common.{take, drop, get_or, reverse}
-use Rattle.std.proofs.Common.{◌≢◌, Option, Some, None, refl, sym, ap, ◌∙◌, arith, eqb, nat_eq, option_map, unwrap_or, add-one}
+use Rattle.std.proofs.Common.{Option, Some, None, refl, sym, ap, ◌∙◌, arith, eqb, nat_eq, option_map, unwrap_or}
 use Rattle.std.specs.List.{starts_with}
 use Rattle.std.specs.Prelude.{slice_get}
 use Rattle.std.proofs.Math.Seq.{drop-cons}
 use Rattle.std.proofs.lemmas.Bool.{eqb-true}
 use Rattle.std.proofs.lemmas.Bool.Decides.{nat_tests}
-use Rattle.std.proofs.lemmas.List.{get_or-reverse, length-drop, length-reverse, reverse-append, reverse-reverse}
+use Rattle.std.proofs.lemmas.List.{length-drop, reverse-append, reverse-reverse}
 use Rattle.attr_keys.specs.declared.hashed.HashedRow.{HashedRow}
-use Rattle.attr_keys.specs.declared.key.Key.{Key}
+use Rattle.attr_keys.specs.KeyContents.{KeyContent}
 use Rattle.attr_keys.specs.declared.key.Subject.TheVariants.{End}
 use Rattle.attr_keys.specs.inner.Codes.{codes_of, key_codes, row_codes}
 use Rattle.attr_keys.specs.inner.Extensions.{dot_byte, extension, is_extension_key, is_turned_extension, or_from_dot}
@@ -95,17 +95,17 @@ turned_extension (k ∷ ks) (b ∷ bs) is has =
     nothing (c ∷ cs) t = absurd (omega (arith, eqb-true (suc (length cs)) 0 t))
 
 -- the hash of an extension is that of each name that has it
-pub hash_of_extension : (keys : List Key) (h : HashedRow) (key : Key) → slice_get keys h.row ≡ Some key →
-    is_extension_key (Some key) ≡ true → h.hash ≡ text_hash (reverse key.text.items) → IsHashOfExtension keys h
+pub hash_of_extension : (keys : List KeyContent) (h : HashedRow) (key : KeyContent) → slice_get keys h.row ≡ Some key →
+    is_extension_key (Some key) ≡ true → h.hash ≡ text_hash (reverse key.text) → IsHashOfExtension keys h
 hash_of_extension keys h key at is hashed name has =
-    let whole = parts (same_subject End key.subject) key.is_whole (is_turned_extension key.text.items) is in
-    let same : row_codes keys h.row ≡ codes_of false key.text.items false =
-    ap key_codes at ∙ ap (codes_of false key.text.items) whole.0 in
-    let begins : starts_with nat_eq (reverse name) key.text.items ≡ true =
-    first (starts_with nat_eq (reverse name) key.text.items) _
-    (sym (codes_begin (reverse name) key.text.items false) ∙ (sym (ap (starts_with nat_eq (codes_of false (reverse name) true)) same) ∙ has)) in
+    let whole = parts (same_subject End key.subject) key.is_whole (is_turned_extension key.text) is in
+    let same : row_codes keys h.row ≡ codes_of false key.text false =
+    ap key_codes at ∙ ap (codes_of false key.text) whole.0 in
+    let begins : starts_with nat_eq (reverse name) key.text ≡ true =
+    first (starts_with nat_eq (reverse name) key.text) _
+    (sym (codes_begin (reverse name) key.text false) ∙ (sym (ap (starts_with nat_eq (codes_of false (reverse name) true)) same) ∙ has)) in
     ap (λ l. option_map text_hash (extension l)) (sym (reverse-reverse name))
-    ∙ (ap (option_map text_hash) (turned_extension key.text.items (reverse name) whole.1 begins) ∙ ap Some (sym hashed))
+    ∙ (ap (option_map text_hash) (turned_extension key.text (reverse name) whole.1 begins) ∙ ap Some (sym hashed))
   where
     first : (a b : Bool) → a && b ≡ true → a ≡ true
     first true b h = refl
@@ -115,13 +115,6 @@ hash_of_extension keys h key at is hashed name has =
     parts true false e h = (refl, h)
     parts true true e h = absurd cc
     parts false w e h = absurd cc
-
--- a name's end and a key's text, a byte further
-pub front_step : (text front : List ℕ) (i : ℕ) → i < length text → i < length front → starts_with nat_eq (drop i text) (drop i front)
-    ≡ nat_eq (get_or front i 0) (get_or text i 0) && starts_with nat_eq (drop (suc i) text) (drop (suc i) front)
-front_step text front i lt lt' =
-    ap (λ l. starts_with nat_eq l (drop i front)) (drop-cons text i 0 lt)
-    ∙ ap (starts_with nat_eq (get_or text i 0 ∷ drop (suc i) text)) (drop-cons front i 0 lt')
 
 -- the first dot, a byte further
 pub turned_step : (text : List ℕ) (i : ℕ) → i < length text → eqb (get_or text i 0) dot_byte ≡ false →
@@ -143,33 +136,6 @@ turned_at_dot text i lt is =
 
     last : (n i : ℕ) → i < n → eqb (n - suc i) 0 ≡ eqb i (n - 1)
     last n i lt = grind (arith, nat_tests)
-
--- a byte from the end is not the key's
-pub turned_apart : (text front : List ℕ) (i : ℕ) → i < length text → i < length front → get_or text (length text - 1 - i) 0 ≢ get_or front i 0 →
-    starts_with nat_eq (drop i (reverse text)) (drop i front) ≡ false
-turned_apart text front i lt lt' other =
-    let at = get_or-reverse text i 0 lt in
-    let long = length-reverse text in
-    front_step (reverse text) front i (omega arith) lt'
-    ∙ ap (λ b. b && starts_with nat_eq (drop (suc i) (reverse text)) (drop (suc i) front))
-    (ap (nat_eq (get_or front i 0)) at ∙ apart (get_or front i 0) (get_or text (length text - 1 - i) 0) other)
-  where
-    apart : (a b : ℕ) → b ≢ a → nat_eq a b ≡ false
-    apart a b ne = grind (arith, nat_tests)
-
--- a byte from the end is the key's
-pub turned_alike : (text front : List ℕ) (i : ℕ) → i < length text → i < length front → get_or text (length text - 1 - i) 0 ≡ get_or front i 0 →
-    starts_with nat_eq (drop i (reverse text)) (drop i front) ≡ starts_with nat_eq (drop (i + 1) (reverse text)) (drop (i + 1) front)
-turned_alike text front i lt lt' same =
-    let at = get_or-reverse text i 0 lt in
-    let long = length-reverse text in
-    front_step (reverse text) front i (omega arith) lt'
-    ∙ (ap (λ b. b && starts_with nat_eq (drop (suc i) (reverse text)) (drop (suc i) front))
-    (ap (nat_eq (get_or front i 0)) at ∙ alike (get_or front i 0) (get_or text (length text - 1 - i) 0) same)
-    ∙ ap (λ n. starts_with nat_eq (drop n (reverse text)) (drop n front)) (sym (add-one i)))
-  where
-    alike : (a b : ℕ) → b ≡ a → nat_eq a b ≡ true
-    alike a b e = grind (arith, nat_tests)
 
 -- the dot before a place from which on there is none
 pub extension_from_dot_at : (name : List ℕ) (place : ℕ) → 0 < place → place ≤ length name → get_or name (place - 1) 0 ≡ dot_byte →

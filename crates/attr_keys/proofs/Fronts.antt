@@ -7,7 +7,7 @@ use Rattle.std.specs.List.{starts_with, slice_get}
 use Rattle.std.specs.Ordering.{nat_cmp, is_lt}
 use Rattle.std.proofs.lemmas.Bool.{eqb-true}
 use Rattle.std.proofs.lemmas.Bool.Decides.{nat_tests}
-use Rattle.attr_keys.specs.declared.key.Key.{Key}
+use Rattle.attr_keys.specs.KeyContents.{KeyContent}
 use Rattle.attr_keys.specs.inner.Codes.{byte_code, codes_of, key_codes, row_codes}
 use Rattle.attr_keys.proofs.RowLemmas.{by_test}
 
@@ -134,12 +134,12 @@ codes_positive fold (b ∷ bs) is_whole zero lt = coded fold
     coded false = omega arith
 codes_positive fold (b ∷ bs) is_whole (suc i) lt = codes_positive fold bs is_whole i (omega arith)
 
-pub row_positive : (keys : List Key) (row : ℕ) → IsPositive (row_codes keys row)
+pub row_positive : (keys : List KeyContent) (row : ℕ) → IsPositive (row_codes keys row)
 row_positive keys row = positive (slice_get keys row)
   where
-    positive : (key : Option Key) → IsPositive (key_codes key)
+    positive : (key : Option KeyContent) → IsPositive (key_codes key)
     positive None i lt = absurd (omega arith)
-    positive (Some key) i lt = codes_positive false key.text.items key.is_whole i lt
+    positive (Some key) i lt = codes_positive false key.text key.is_whole i lt
 
 pub length-codes : (fold : Bool) (text : List ℕ) → length (codes_of fold text true) ≡ length text + 1
 length-codes fold [] = refl

@@ -1,14 +1,16 @@
 -- Whole keys, by the hashes of their texts.
-use Rattle.std.proofs.Common.{◌≡◌, ℕ, suc, ◌<◌, Bool, true, false, ◌&&◌, ◌||◌, List, [], ◌∷◌, ◌++◌, length, get_or, Some, refl, sym, ap, ◌∙◌, arith}
-use Rattle.std.proofs.Common.{eqb, nat_eq}
+use Rattle.std.proofs.Common.{◌≡◌, ℕ, suc, ◌<◌, Bool, true, false, ◌&&◌, ◌||◌, List, [], ◌∷◌, ◌++◌, length, get_or, Some, refl, sym, ap, subst}
+use Rattle.std.proofs.Common.{◌∙◌, arith, eqb, nat_eq}
 use Rattle.std.specs.Prelude.{All, filter, slice_get}
 use Rattle.std.specs.List.{starts_with}
+use Rattle.std.specs.List.Sorted.{IsPermutation}
+use Rattle.std.proofs.lemmas.List.Sorted.{IsPermutation-map, list_any-IsPermutation}
 use Rattle.std.proofs.lemmas.Bool.{eqb-true}
 use Rattle.std.proofs.lemmas.Bool.Decides.{nat_tests}
-use Rattle.attr_keys.specs.declared.key.Key.{Key}
+use Rattle.attr_keys.specs.KeyContents.{KeyContent}
 use Rattle.attr_keys.specs.declared.hashed.HashedRow.{HashedRow}
 use Rattle.attr_keys.specs.inner.Codes.{codes_of, key_codes, row_codes}
-use Rattle.attr_keys.specs.inner.Hashes.{IsHashOfKey, hashed_rows, text_hash}
+use Rattle.attr_keys.specs.inner.Hashes.{AreAmong, IsHashOfKey, hashed_rows, quick_hash}
 use Rattle.attr_keys.specs.declared.key.Subject.{Subject}
 use Rattle.attr_keys.specs.inner.Meeting.{is_kind, same_subject}
 use Rattle.attr_keys.specs.inner.Rows.{has_row}
@@ -26,12 +28,12 @@ whole_same (b ∷ bs) (k ∷ ks) h =
     (λ t. ap (λ x. x ∷ ks) (eqb-true k b t) ∙ ap (λ l. b ∷ l) (whole_same bs ks (rw (shifted k b, t) at h)))
     (λ f. let no : false ≡ true = rw (shifted k b, f) at h in absurd cc)
 
-pub hash_of_whole : (keys : List Key) (h : HashedRow) (key : Key) → slice_get keys h.row ≡ Some key → key.is_whole ≡ true →
-    h.hash ≡ text_hash key.text.items → IsHashOfKey keys h
+pub hash_of_whole : (keys : List KeyContent) (h : HashedRow) (key : KeyContent) → slice_get keys h.row ≡ Some key → key.is_whole ≡ true →
+    h.hash ≡ quick_hash 0 key.text → IsHashOfKey keys h
 hash_of_whole keys h key at whole hashed text has =
-    let same : row_codes keys h.row ≡ codes_of false key.text.items true =
-    ap key_codes at ∙ ap (codes_of false key.text.items) whole in
-    hashed ∙ ap text_hash (whole_same text key.text.items (sym (ap (starts_with nat_eq (codes_of false text true)) same) ∙ has))
+    let same : row_codes keys h.row ≡ codes_of false key.text true =
+    ap key_codes at ∙ ap (codes_of false key.text) whole in
+    hashed ∙ ap (quick_hash 0) (whole_same text key.text (sym (ap (starts_with nat_eq (codes_of false text true)) same) ∙ has))
 
 -- rows of a number are kept
 kept_rows : (row : ℕ) (test : HashedRow → Bool) (rows : List HashedRow) → ((k : ℕ) (d : HashedRow) → k < length rows →
@@ -77,9 +79,21 @@ pub rows_push : (hashed : List HashedRow) (h : HashedRow) → hashed_rows (hashe
 rows_push [] h = refl
 rows_push (g ∷ gs) h = ap (λ l. g.row ∷ l) (rows_push gs h)
 
-pub whole_kind : (subject : Subject) (key : Key) → is_kind subject true (Some key) ≡ true → key.is_whole ≡ true
+pub whole_kind : (subject : Subject) (key : KeyContent) → is_kind subject true (Some key) ≡ true → key.is_whole ≡ true
 whole_kind subject key h = both (same_subject subject key.subject) key.is_whole h
   where
     both : (a w : Bool) → a && w ≡ true → w ≡ true
     both true w h = h
     both false w h = let no : false ≡ true = h in absurd cc
+
+-- in another order there are the same numbers
+pub rows_moved : (rows moved : List HashedRow) → IsPermutation rows moved → (row : ℕ) →
+    has_row (hashed_rows moved) row ≡ has_row (hashed_rows rows) row
+rows_moved rows moved p row =
+    sym (list_any-IsPermutation (λ r. eqb r row) _ _ (IsPermutation-map (λ (h : HashedRow). h.row) _ _ p))
+
+-- what is true of each row is true of some
+pub all_among : (P : HashedRow → Type 0) (some all : List HashedRow) → AreAmong some all → All P all → All P some
+all_among P some all among holds k d lt =
+    let one = among k d lt in
+    subst P (sym one.2) (holds one.0 d one.1)

@@ -1,7 +1,9 @@
 pub mod Narrowing
 pub mod RowLemmas
 pub mod Fronts
+pub mod Cases
 pub mod Searching
+pub mod FirstCodes
 pub mod Ordering
 pub mod Meetings
 pub mod Parts

@@ -10,7 +10,7 @@ use Rattle.std.specs.Ordering.{nat_cmp, is_lt}
 use Rattle.std.specs.declared.cmp.Ordering.{Ordering}
 use Rattle.std.proofs.lemmas.Fn.{always_returns_same}
 use Rattle.std.proofs.lemmas.List.Sorted.{list_any-IsPermutation, ranks_by}
-use Rattle.attr_keys.specs.declared.key.Key.{Key}
+use Rattle.attr_keys.specs.KeyContents.{KeyContent}
 use Rattle.attr_keys.specs.inner.Codes.{row_codes}
 use Rattle.attr_keys.specs.inner.Rows.{has_row, AreInOrder}
 
@@ -18,7 +18,7 @@ pub same_rows : (before after : List ℕ) (row : ℕ) → IsPermutation before a
 same_rows before after row moved = sym (list_any-IsPermutation (λ r. eqb r row) before after moved)
 
 -- a sort by a closure that compares codes
-pub sorted_by_codes : (keys : List Key) {F : Type 0} {g : Mut F (Bor ℕ × (Bor ℕ × Unit {0})) Ordering} {f : F} (rows : List ℕ) →
+pub sorted_by_codes : (keys : List KeyContent) {F : Type 0} {g : Mut F (Bor ℕ × (Bor ℕ × Unit {0})) Ordering} {f : F} (rows : List ℕ) →
     ((lt : ℕ → ℕ → Bool) → IsStrictWeakOrder lt → ComparesAs g lt f → IsSortedBy lt rows) →
     ((a : Bor ℕ × (Bor ℕ × Unit {0})) (r : Ordering) (f' : F) → Called g f a r f' →
     (r ≡ slice_cmp nat_cmp (row_codes keys a.0.now) (row_codes keys a.1.0.now)) × (f' ≡ f)) → AreInOrder keys rows

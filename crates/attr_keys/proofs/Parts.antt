@@ -8,7 +8,9 @@ use Rattle.std.specs.declared.cmp.Ordering.{Ordering}
 use Rattle.std.specs.declared.cmp.Ordering.TheVariants.{Less, Equal, Greater}
 use Rattle.std.proofs.lemmas.Bool.Decides.{nat_tests}
 use Rattle.std.proofs.lemmas.List.{length-reverse}
+use Rattle.attr_keys.specs.inner.Cases.{in_case}
 use Rattle.attr_keys.specs.inner.Codes.{codes_of}
+use Rattle.attr_keys.proofs.Cases.{codes_in_case, length-in_case}
 
 end_below : (b : ℕ) → nat_cmp 1 (b + 2) ≡ Less
 end_below b = grind (arith, nat_tests)
@@ -72,14 +74,22 @@ codes_begin (b ∷ bs) (c ∷ cs) w =
     ∙ (and_assoc (nat_eq c b) (starts_with nat_eq bs cs) (not w || eqb (length cs) (length bs))
     ∙ ap (λ t. (nat_eq c b && starts_with nat_eq bs cs) && (not w || t)) (sym (both_longer (length cs) (length bs)))))
 
+-- the same of a front in its case
+begin_in_case : (fold : Bool) (text front : List ℕ) (w : Bool) → starts_with nat_eq (codes_of false text true) (codes_of fold front w)
+    ≡ starts_with nat_eq text (in_case fold front) && (not w || eqb (length front) (length text))
+begin_in_case fold text front w =
+    ap (starts_with nat_eq (codes_of false text true)) (sym (codes_in_case fold front w))
+    ∙ (codes_begin text (in_case fold front) w
+    ∙ ap (λ n. starts_with nat_eq text (in_case fold front) && (not w || eqb n (length text))) (length-in_case fold front))
+
 -- a whole key is as long as the text, or another one is asked for
-pub has_if_long : (text front codes : List ℕ) (w : Bool) → codes_of false front w ≡ codes →
+pub has_if_long : (fold : Bool) (text front codes : List ℕ) (w : Bool) → codes_of fold front w ≡ codes →
     ((w ≡ true) × (length front ≡ length text)) ⊎ (w ≡ false) →
-    starts_with nat_eq text front ≡ starts_with nat_eq (codes_of false text true) codes
-has_if_long text front codes w is long =
+    starts_with nat_eq text (in_case fold front) ≡ starts_with nat_eq (codes_of false text true) codes
+has_if_long fold text front codes w is long =
     sym (ap (starts_with nat_eq (codes_of false text true)) (sym is)
-    ∙ (codes_begin text front w
-    ∙ (ap (λ b. starts_with nat_eq text front && b) (fits long) ∙ and_all (starts_with nat_eq text front))))
+    ∙ (begin_in_case fold text front w
+    ∙ (ap (λ b. starts_with nat_eq text (in_case fold front) && b) (fits long) ∙ and_all (starts_with nat_eq text (in_case fold front)))))
   where
     and_all : (a : Bool) → a && true ≡ a
     and_all true = refl
@@ -97,14 +107,17 @@ has_if_long text front codes w is long =
     fits (inr e) = ap (λ b. not b || eqb (length front) (length text)) e
 
 -- a whole key of another length
-pub lacks_if_other : (text front codes : List ℕ) (w : Bool) → codes_of false front w ≡ codes → w ≡ true → length front ≢ length text →
+pub lacks_if_other : (fold : Bool) (text front codes : List ℕ) (w : Bool) → codes_of fold front w ≡ codes → w ≡ true → length front ≢ length text →
     false ≡ starts_with nat_eq (codes_of false text true) codes
-lacks_if_other text front codes w is whole other =
+lacks_if_other fold text front codes w is whole other =
     sym (ap (starts_with nat_eq (codes_of false text true)) (sym is)
-    ∙ (codes_begin text front w
-    ∙ (ap (λ b. starts_with nat_eq text front && (not b || eqb (length front) (length text))) whole
-    ∙ (ap (λ b. starts_with nat_eq text front && b) (apart (length front) (length text) other) ∙ and_none (starts_with nat_eq text front)))))
+    ∙ (begin_in_case fold text front w
+    ∙ (ap (λ b. begins && (not b || eqb (length front) (length text))) whole
+    ∙ (ap (λ b. begins && b) (apart (length front) (length text) other) ∙ and_none begins))))
   where
+    begins : Bool
+    begins = starts_with nat_eq text (in_case fold front)
+
     apart : (a b : ℕ) → a ≢ b → eqb a b ≡ false
     apart a b ne = grind (arith, nat_tests)
 
@@ -112,10 +125,10 @@ lacks_if_other text front codes w is whole other =
     and_none true = refl
     and_none false = refl
 
-pub has_if_long_turned : (text front codes : List ℕ) (w : Bool) → codes_of false front w ≡ codes →
+pub has_if_long_turned : (fold : Bool) (text front codes : List ℕ) (w : Bool) → codes_of fold front w ≡ codes →
     ((w ≡ true) × (length text ≡ length front)) ⊎ (w ≡ false) →
-    starts_with nat_eq (reverse text) front ≡ starts_with nat_eq (codes_of false (reverse text) true) codes
-has_if_long_turned text front codes w is long = has_if_long (reverse text) front codes w is (turned long)
+    starts_with nat_eq (reverse text) (in_case fold front) ≡ starts_with nat_eq (codes_of false (reverse text) true) codes
+has_if_long_turned fold text front codes w is long = has_if_long fold (reverse text) front codes w is (turned long)
   where
     turned : ((w ≡ true) × (length text ≡ length front)) ⊎ (w ≡ false) → ((w ≡ true) × (length front ≡ length (reverse text))) ⊎ (w ≡ false)
     turned (inl e) = inl (e.0, sym e.1 ∙ sym (length-reverse text))

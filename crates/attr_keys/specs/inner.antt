@@ -2,6 +2,7 @@
 pub mod Codes
 pub mod Rows
 pub mod Meeting
+pub mod Cases
 pub mod Extensions
 pub mod Hashes
 pub mod Orders

@@ -1,19 +1,19 @@
 //! Ends that are extensions, a dot and bytes without a dot: numbers of their keys by the hashes of the extensions.
 
-ghost use Rattle.std.specs.Prelude.{◌≡◌, ◌&&◌, ◌||◌, ℕ, All, IfOk, IfSome, OnOk, Some, None, false, true, nat_eq, option_map, reverse, slice_get};
-ghost use Rattle.std.specs.List.{starts_with};
-ghost use Rattle.attr_keys.specs.inner.Codes.{codes_of, row_codes};
+ghost use Rattle.std.specs.Prelude.{◌≡◌, ◌&&◌, ◌||◌, ℕ, All, IfOk, IfSome, OnOk, Some, None, option_map, reverse, slice_get};
+ghost use Rattle.attr_keys.specs.inner.Cases.{key_contents, keys_in_case};
 ghost use Rattle.attr_keys.specs.inner.Extensions.{extension, is_extension_key, is_turned_extension};
 ghost use Rattle.attr_keys.specs.inner.Hashes.{IsHashOfExtension, hashed_rows, text_hash};
+ghost use Rattle.attr_keys.specs.inner.Meeting.{key_content, text_has};
 ghost use Rattle.attr_keys.specs.inner.Rows.{has_row};
 
 use crate::hashed::{FEW, HashedRow, HashedRows, text_hash};
-use crate::key::{Key, Subject, has_turned_row_key, is_kind};
+use crate::key::{Key, Keys, Subject, has_turned_row_key, is_kind};
 use std::alloc::{AllocError, Global};
 
 /// Whether a base name has the key exactly if its extension is the key's text, reversed.
 pub fn is_extension_key(key: &Key) -> bool
-    ensures { result ≡ is_extension_key (Some key.now) }
+    ensures { result ≡ is_extension_key (Some (key_content key.now)) }
 {
     is_kind(Subject::End, false, key) && is_turned_extension(&key.text)
 }
@@ -52,8 +52,8 @@ fn extension(name: &[u8]) -> Option<&[u8]>
 /// If memory runs out.
 pub fn extension_rows(alloc: Global, keys: &[Key]) -> Result<HashedRows, AllocError>
     ensures rows { IfOk result (λ hashed. (row : ℕ) → has_row (hashed_rows hashed) row
-        ≡ is_extension_key (slice_get keys.now row)) }
-    ensures hashes { IfOk result (All (IsHashOfExtension keys.now)) }
+        ≡ is_extension_key (slice_get (key_contents keys.now) row)) }
+    ensures hashes { IfOk result (All (IsHashOfExtension (key_contents keys.now))) }
 {
     let mut hashed = Vec::new(alloc);
     let mut buffer = Vec::new(alloc);
@@ -82,15 +82,15 @@ fn turned_hash(text: &[u8], buffer: &mut Vec<u8>) -> Result<u64, AllocError>
 ///
 /// If memory runs out. Some of the numbers may have been appended then.
 pub fn append_extension(
-    keys: &[Key],
+    keys: Keys<'_>,
     rows: &HashedRows,
     name: &[u8],
     found: &mut Vec<usize>,
 ) -> Result<(), AllocError>
-    requires { All (IsHashOfExtension keys.now) rows.now }
+    requires { All (IsHashOfExtension (keys_in_case keys)) rows.now }
     ensures { OnOk result ((row : ℕ) → has_row found.new.items row
         ≡ (has_row found.old.items row || (has_row (hashed_rows rows.now) row
-        && starts_with nat_eq (codes_of false (reverse name.now) true) (row_codes keys.now row)))) }
+        && text_has (reverse name.now) (slice_get (keys_in_case keys.entry) row)))) }
 {
     if rows.all().len() <= FEW {
         return append_each(keys, rows.all(), name, found);
@@ -103,14 +103,14 @@ pub fn append_extension(
 
 // Appends the numbers of the keys that the base name, reversed, has, each of which is compared.
 fn append_each(
-    keys: &[Key],
+    keys: Keys<'_>,
     rows: &[HashedRow],
     name: &[u8],
     found: &mut Vec<usize>,
 ) -> Result<(), AllocError>
     ensures { OnOk result ((row : ℕ) → has_row found.new.items row
         ≡ (has_row found.old.items row || (has_row (hashed_rows rows.now) row
-        && starts_with nat_eq (codes_of false (reverse name.now) true) (row_codes keys.now row)))) }
+        && text_has (reverse name.now) (slice_get (keys_in_case keys.entry) row)))) }
 {
     for hashed in rows {
         if has_turned_row_key(keys, hashed.row, name) {

@@ -3,7 +3,7 @@
 ghost use Rattle.std.specs.Prelude.{◌≡◌, ◌==◌, ◌-◌, ◌/◌, ◌<◌, ◌≤◌, IfOk, drop, length, take};
 ghost use Rattle.std.specs.List.{AllWithin, filter};
 ghost use Rattle.std.specs.List.Sorted.{IsNonDecreasingBy, IsPermutation};
-ghost use Rattle.attr_keys.specs.inner.Hashes.{IsBucketStart, packed, text_hash};
+ghost use Rattle.attr_keys.specs.inner.Hashes.{IsBucketStart, mixed, packed, quick_hash, text_hash};
 
 use std::alloc::{AllocError, Global};
 use std::hash::{DefaultHasher, Hasher};
@@ -74,6 +74,26 @@ fn packed(text: &[u8]) -> u64
         rest = others;
     }
     number
+}
+
+/// A hash of a text in few steps, which texts can be made to share: a step for eight bytes.
+pub fn quick_hash(text: &[u8]) -> u64
+    ensures { result ≡ quick_hash 0 text.now }
+{
+    let mut hash: u64 = 0;
+    let mut rest = text;
+    while let Some((eight, others)) = rest.split_first_chunk::<8>() {
+        hash = mixed(hash, u64::from_le_bytes(*eight));
+        rest = others;
+    }
+    mixed(hash, packed(rest))
+}
+
+// A number that both numbers change.
+fn mixed(hash: u64, number: u64) -> u64
+    ensures { result ≡ mixed hash number }
+{
+    (hash.rotate_left(32) ^ number).wrapping_mul(SPREAD)
 }
 
 impl HashedRows {

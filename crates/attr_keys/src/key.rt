@@ -1,12 +1,13 @@
 //! Keys, and the codes by which they are sorted: 0 past the end of a text, 1 at the end of a whole text, and else the
 //! value of a byte plus 2.
 
-ghost use Rattle.std.specs.Prelude.{◌≡◌, Some, false, true, nat_eq, reverse, slice_index};
+ghost use Rattle.std.specs.Prelude.{◌≡◌, Bool, Some, map, true, nat_eq, reverse, slice_get, slice_index};
 ghost use Rattle.std.specs.Cmp.Lexicographic.{slice_cmp};
 ghost use Rattle.std.specs.List.{starts_with};
 ghost use Rattle.std.specs.Ordering.{nat_cmp};
+ghost use Rattle.attr_keys.specs.inner.Cases.{byte_in_case, content_in_case, in_case, key_contents, keys_in_case};
 ghost use Rattle.attr_keys.specs.inner.Codes.{codes_of, row_codes};
-ghost use Rattle.attr_keys.specs.inner.Meeting.{is_kind, same_subject};
+ghost use Rattle.attr_keys.specs.inner.Meeting.{is_kind, key_content, same_subject, text_has};
 
 use std::cmp::Ordering;
 
@@ -37,6 +38,15 @@ pub struct Key {
     pub is_whole: bool,
 }
 
+/// The keys of lines as they are looked up: as they are, or in lower case.
+#[derive(Clone, Copy)]
+pub struct Keys<'a> {
+    /// The keys, as they are.
+    pub all: &'a [Key],
+    /// Whether they are looked up in lower case.
+    pub fold: bool,
+}
+
 /// Whether the subjects are the same.
 pub fn is_same(subject: Subject, other: Subject) -> bool
     ensures { result ≡ same_subject subject other }
@@ -53,14 +63,15 @@ pub fn is_same(subject: Subject, other: Subject) -> bool
 
 /// Whether the key is of this subject, and whole or not.
 pub fn is_kind(subject: Subject, is_whole: bool, key: &Key) -> bool
-    ensures { result ≡ is_kind subject is_whole (Some key.now) }
+    ensures { result ≡ is_kind subject is_whole (Some (key_content key.now)) }
 {
     is_same(subject, key.subject) && key.is_whole == is_whole
 }
 
-// The text of the key with this number, and whether it is whole. Without such a key there is no text.
+// The text of the key with this number, as it is, and whether it is whole. Without such a key there is no text.
 fn parts(keys: &[Key], row: usize) -> (&[u8], bool)
-    ensures { codes_of false result.0.now result.1 ≡ row_codes keys.now row }
+    ensures { (fold : Bool) → codes_of fold result.0.now result.1
+        ≡ row_codes (map (content_in_case fold) (key_contents keys.now)) row }
 {
     match keys.get(row) {
         Some(key) => (&key.text, key.is_whole),
@@ -68,28 +79,41 @@ fn parts(keys: &[Key], row: usize) -> (&[u8], bool)
     }
 }
 
+// A byte, in lower case if `fold` is set.
+fn in_case(fold: bool, byte: u8) -> u8
+    ensures { result ≡ byte_in_case fold byte }
+{
+    if fold {
+        byte.to_ascii_lowercase()
+    } else {
+        byte
+    }
+}
+
 /// The code of a text at a place, counted from 0, and 0 past its last code. A whole text has one more code than bytes.
-pub fn code(text: &[u8], is_whole: bool, place: usize) -> u16
-    ensures { result ≡ slice_index (codes_of false text.now is_whole) place }
+/// The text is in lower case if `fold` is set.
+pub fn code(fold: bool, text: &[u8], is_whole: bool, place: usize) -> u16
+    ensures { result ≡ slice_index (codes_of fold text.now is_whole) place }
 {
     match text.get(place) {
-        Some(byte) => u16::from(*byte) + 2,
+        Some(byte) => u16::from(in_case(fold, *byte)) + 2,
         None if is_whole && place == text.len() => 1,
         None => 0,
     }
 }
 
 /// The code at a place of the key with the index `row`, and 0 if there is no such key.
-pub fn row_code(keys: &[Key], row: usize, place: usize) -> u16
-    ensures { result ≡ slice_index (row_codes keys.now row) place }
+pub fn row_code(keys: Keys<'_>, row: usize, place: usize) -> u16
+    ensures { result ≡ slice_index (row_codes (keys_in_case keys.entry) row) place }
 {
-    let (text, is_whole) = parts(keys, row);
-    code(text, is_whole, place)
+    let (text, is_whole) = parts(keys.all, row);
+    code(keys.fold, text, is_whole, place)
 }
 
 /// How the codes of two keys are ordered.
 pub fn row_order(keys: &[Key], row: usize, other: usize) -> Ordering
-    ensures { result ≡ slice_cmp nat_cmp (row_codes keys.now row) (row_codes keys.now other) }
+    ensures { result ≡ slice_cmp nat_cmp (row_codes (key_contents keys.now) row)
+        (row_codes (key_contents keys.now) other) }
 {
     let (text, is_whole) = parts(keys, row);
     let (other_text, other_is_whole) = parts(keys, other);
@@ -97,14 +121,18 @@ pub fn row_order(keys: &[Key], row: usize, other: usize) -> Ordering
 }
 
 /// Whether a text has the key with this number.
-pub fn has_row_key(keys: &[Key], row: usize, text: &[u8]) -> bool
-    ensures { result ≡ starts_with nat_eq (codes_of false text.now true) (row_codes keys.now row) }
+pub fn has_row_key(keys: Keys<'_>, row: usize, text: &[u8]) -> bool
+    ensures { result ≡ text_has text.now (slice_get (keys_in_case keys.entry) row) }
 {
-    let (front, is_whole) = parts(keys, row);
+    let (front, is_whole) = parts(keys.all, row);
     if is_whole && front.len() != text.len() {
         return false;
     }
-    begins_with(text, front)
+    if keys.fold {
+        begins_with_lower(text, front)
+    } else {
+        begins_with(text, front)
+    }
 }
 
 // Whether a text begins with these bytes. Most keys differ at their first byte, which is compared alone.
@@ -120,27 +148,42 @@ fn begins_with(text: &[u8], front: &[u8]) -> bool
     front == &text[..front.len()]
 }
 
-/// Whether a text, reversed, has the key with this number.
-pub fn has_turned_row_key(keys: &[Key], row: usize, text: &[u8]) -> bool
-    ensures { result
-        ≡ starts_with nat_eq (codes_of false (reverse text.now) true) (row_codes keys.now row) }
+// Whether a text begins with these bytes in lower case.
+fn begins_with_lower(text: &[u8], front: &[u8]) -> bool
+    ensures { result ≡ starts_with nat_eq text.now (in_case true front.now) }
 {
-    let (front, is_whole) = parts(keys, row);
+    if text.len() < front.len() {
+        return false;
+    }
+    for (place, byte) in front.iter().enumerate() {
+        if text[place] != byte.to_ascii_lowercase() {
+            return false;
+        }
+    }
+    true
+}
+
+/// Whether a text, reversed, has the key with this number.
+pub fn has_turned_row_key(keys: Keys<'_>, row: usize, text: &[u8]) -> bool
+    ensures { result ≡ text_has (reverse text.now)
+        (slice_get (keys_in_case keys.entry) row) }
+{
+    let (front, is_whole) = parts(keys.all, row);
     if is_whole && text.len() != front.len() {
         return false;
     }
-    ends_with_turned(text, front)
+    ends_with_turned(keys.fold, text, front)
 }
 
-// Whether a text, reversed, begins with these bytes.
-fn ends_with_turned(text: &[u8], front: &[u8]) -> bool
-    ensures { result ≡ starts_with nat_eq (reverse text.now) front.now }
+// Whether a text, reversed, begins with these bytes, which are in lower case if `fold` is set.
+fn ends_with_turned(fold: bool, text: &[u8], front: &[u8]) -> bool
+    ensures { result ≡ starts_with nat_eq (reverse text.now) (in_case fold front.now) }
 {
     if front.len() > text.len() {
         return false;
     }
     for (place, byte) in front.iter().enumerate() {
-        if text[text.len() - 1 - place] != *byte {
+        if text[text.len() - 1 - place] != in_case(fold, *byte) {
             return false;
         }
     }

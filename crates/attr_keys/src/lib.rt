@@ -6,6 +6,7 @@
 #![tactic(auto)]
 
 mod extension;
+mod few;
 mod hashed;
 pub mod key;
 pub mod key_index;

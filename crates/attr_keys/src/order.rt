@@ -1,34 +1,35 @@
 //! Rows, which are indexes of keys, in the order of the keys' codes.
 
-ghost use Rattle.std.specs.Prelude.{◌≡◌, ◌==◌, ◌&&◌, ◌||◌, ◌++◌, ℕ, OnOk, false, true, nat_eq, reverse, slice_index};
+ghost use Rattle.std.specs.Prelude.{◌≡◌, ◌==◌, ◌&&◌, ◌||◌, ◌++◌, ℕ, OnOk, slice_get, slice_index};
 ghost use Rattle.std.specs.Bool.{OnTrue};
-ghost use Rattle.std.specs.List.{filter, starts_with};
+ghost use Rattle.std.specs.List.{filter};
 ghost use Rattle.std.specs.List.Sorted.{IsNonDecreasingBy};
-ghost use Rattle.attr_keys.specs.inner.Codes.{codes_of, row_codes};
+ghost use Rattle.attr_keys.specs.inner.Cases.{key_contents, keys_in_case};
+ghost use Rattle.attr_keys.specs.inner.Codes.{row_codes};
+ghost use Rattle.attr_keys.specs.inner.Meeting.{text_has};
 ghost use Rattle.attr_keys.specs.inner.Rows.{AreInOrder, IsFalling, has_row};
 
-use crate::key::{Key, code, has_row_key, has_turned_row_key, row_code, row_order};
+use crate::key::{Key, Keys, code, has_row_key, row_code, row_order};
 use std::alloc::AllocError;
 
-/// So few keys are compared one by one.
-pub const FEW: usize = 16;
-
-// So few keys that begin alike are compared one by one, which takes longer than if they differ at once.
+// So few keys that begin alike are compared one by one.
 const FEW_ALIKE: usize = 8;
 
 /// Puts the numbers of keys into the order of the keys' codes.
 pub fn put_in_order(keys: &[Key], rows: &mut Vec<usize>)
     ensures rows { (row : ℕ) → has_row rows.new.items row ≡ has_row rows.old.items row }
-    ensures order { AreInOrder keys.now rows.new.items }
+    ensures order { AreInOrder (key_contents keys.now) rows.new.items }
 {
     rows.sort_unstable_by(|row, other| row_order(keys, *row, *other));
 }
 
 // The numbers of keys that have this code at a place, if the codes there don't fall.
-fn narrowed<'a>(keys: &[Key], rows: &'a [usize], place: usize, code: u16) -> &'a [usize]
-    requires { IsNonDecreasingBy (λ row. slice_index (row_codes keys.now row) place) rows.now }
+fn narrowed<'a>(keys: Keys<'_>, rows: &'a [usize], place: usize, code: u16) -> &'a [usize]
+    requires { IsNonDecreasingBy (λ row.
+        slice_index (row_codes (keys_in_case keys) row) place) rows.now }
     ensures { result.now
-        ≡ filter (λ row. slice_index (row_codes keys.now row) place == code) rows.now }
+        ≡ filter (λ row.
+        slice_index (row_codes (keys_in_case keys.entry) row) place == code) rows.now }
 {
     let (Some(first), Some(last)) = (rows.first(), rows.last()) else {
         return rows;
@@ -46,31 +47,29 @@ fn narrowed<'a>(keys: &[Key], rows: &'a [usize], place: usize, code: u16) -> &'a
     &rest[..len]
 }
 
-/// Appends the rows of the keys that the text has. `rows` are sorted, as `in_order` returns them.
+/// Appends the rows of the keys that the text has. `rows` are in the order of `put_in_order`.
 ///
 /// # Errors
 ///
 /// If memory runs out. Some of the rows may have been appended then.
 pub fn append_found(
-    keys: &[Key],
+    keys: Keys<'_>,
     rows: &[usize],
     text: &[u8],
     found: &mut Vec<usize>,
 ) -> Result<(), AllocError>
-    requires { AreInOrder keys.now rows.now }
+    requires { AreInOrder (keys_in_case keys) rows.now }
     ensures { OnOk result ((row : ℕ) → has_row found.new.items row
         ≡ (has_row found.old.items row || (has_row rows.now row
-        && starts_with nat_eq (codes_of false text.now true) (row_codes keys.now row)))) }
+        && text_has text.now (slice_get (keys_in_case keys.entry) row)))) }
 {
     let mut left = rows;
-    let mut few = FEW;
     for place in 0..text.len() + 1 {
-        if left.len() <= few {
+        if left.len() <= FEW_ALIKE {
             return append_had(keys, left, text, found);
         }
-        few = FEW_ALIKE;
         append_ended(keys, left, place, found)?;
-        left = narrowed(keys, left, place, code(text, true, place));
+        left = narrowed(keys, left, place, code(false, text, true, place));
     }
     append_ended(keys, left, text.len() + 1, found)
 }
@@ -78,14 +77,16 @@ pub fn append_found(
 // Appends the numbers of the keys that end at a place, if the codes there don't fall. Most often the first key goes on,
 // and so do the others.
 fn append_ended(
-    keys: &[Key],
+    keys: Keys<'_>,
     rows: &[usize],
     place: usize,
     found: &mut Vec<usize>,
 ) -> Result<(), AllocError>
-    requires { IsNonDecreasingBy (λ row. slice_index (row_codes keys.now row) place) rows.now }
+    requires { IsNonDecreasingBy (λ row.
+        slice_index (row_codes (keys_in_case keys) row) place) rows.now }
     ensures { OnOk result (found.new.items ≡ found.old.items
-        ++ filter (λ row. slice_index (row_codes keys.now row) place == 0) rows.now) }
+        ++ filter (λ row.
+        slice_index (row_codes (keys_in_case keys.entry) row) place == 0) rows.now) }
 {
     let Some(first) = rows.first() else {
         return Ok(());
@@ -98,40 +99,17 @@ fn append_ended(
 
 // Appends the numbers of the keys that the text has, each of which is compared.
 fn append_had(
-    keys: &[Key],
+    keys: Keys<'_>,
     rows: &[usize],
     text: &[u8],
     found: &mut Vec<usize>,
 ) -> Result<(), AllocError>
     ensures { OnOk result ((row : ℕ) → has_row found.new.items row
         ≡ (has_row found.old.items row || (has_row rows.now row
-        && starts_with nat_eq (codes_of false text.now true) (row_codes keys.now row)))) }
+        && text_has text.now (slice_get (keys_in_case keys.entry) row)))) }
 {
     for row in rows {
         if has_row_key(keys, *row, text) {
-            found.push(*row)?;
-        }
-    }
-    Ok(())
-}
-
-/// Appends the rows of the keys that the text, reversed, has, each of which is compared from its end on.
-///
-/// # Errors
-///
-/// If memory runs out. Some of the rows may have been appended then.
-pub fn append_turned(
-    keys: &[Key],
-    rows: &[usize],
-    text: &[u8],
-    found: &mut Vec<usize>,
-) -> Result<(), AllocError>
-    ensures { OnOk result ((row : ℕ) → has_row found.new.items row
-        ≡ (has_row found.old.items row || (has_row rows.now row
-        && starts_with nat_eq (codes_of false (reverse text.now) true) (row_codes keys.now row)))) }
-{
-    for row in rows {
-        if has_turned_row_key(keys, *row, text) {
             found.push(*row)?;
         }
     }

@@ -1,6 +1,6 @@
 -- Extensions of names (own): a last dot and what follows it.
 use Rattle.std.specs.Prelude.{ℕ, Bool, false, not, ◌&&◌, ◌==◌, List, [], ◌∷◌, length, Option, Some, None, if◌then◌else◌}
-use Rattle.attr_keys.specs.declared.key.Key.{Key}
+use Rattle.attr_keys.specs.KeyContents.{KeyContent}
 use Rattle.attr_keys.specs.declared.key.Subject.{Subject}
 use Rattle.attr_keys.specs.declared.key.Subject.TheVariants.{End}
 use Rattle.attr_keys.specs.inner.Meeting.{is_kind}
@@ -24,10 +24,10 @@ is_turned_extension [] = false
 is_turned_extension (b ∷ bs) = if b == dot_byte then length bs == 0 else is_turned_extension bs
 
 -- there is a key, which names with one extension have
-abbrev pub is_extension_key : Option Key → Bool
+abbrev pub is_extension_key : Option KeyContent → Bool
 is_extension_key None = false
-is_extension_key (Some key) = is_kind End false (Some key) && is_turned_extension key.text.items
+is_extension_key (Some key) = is_kind End false (Some key) && is_turned_extension key.text
 
 -- there is a key of this subject, neither whole nor an extension
-abbrev pub is_front : Subject → Option Key → Bool
+abbrev pub is_front : Subject → Option KeyContent → Bool
 is_front subject key = is_kind subject false key && not (is_extension_key key)

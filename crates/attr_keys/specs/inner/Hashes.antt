@@ -1,12 +1,14 @@
 -- Numbers of keys by hashes (own).
-use Rattle.std.specs.Prelude.{◌≡◌, ℕ, ◌+◌, ◌-◌, ◌*◌, ◌<◌, ◌≤◌, ◌/◌, ◌%◌, ◌^◌, true, false, if◌then◌else◌, List, [], ◌∷◌, length, map, nat_eq, slice_index, nat_le, Some, option_map}
+use Rattle.std.specs.Prelude.{◌≡◌, ℕ, ◌+◌, ◌-◌, ◌*◌, ◌<◌, ◌≤◌, ◌/◌, ◌%◌, ◌^◌, true, false, if◌then◌else◌, List, [], ◌∷◌, length, map, nat_eq, slice_index, slice_index_or, nat_le, Some, option_map}
 use Rattle.std.specs.Hash.DefaultHasher as sip
+use Rattle.std.specs.Int.{from_le_bytes, rotate_left, w64}
+use Rattle.std.specs.Prelude.{bit_xor}
 use Rattle.std.specs.Prelude.{reverse}
 use Rattle.std.specs.List.{starts_with}
 use Rattle.std.specs.List.Sorted.{IsNonDecreasingBy, IsPartitionPoint}
 use Rattle.attr_keys.specs.declared.hashed.HashedRow.{HashedRow}
 use Rattle.attr_keys.specs.declared.hashed.HashedRows.TheInside.{Inside}
-use Rattle.attr_keys.specs.declared.key.Key.{Key}
+use Rattle.attr_keys.specs.KeyContents.{KeyContent}
 use Rattle.attr_keys.specs.inner.Codes.{codes_of, row_codes}
 use Rattle.attr_keys.specs.inner.Extensions.{extension}
 
@@ -22,8 +24,23 @@ spread = 11400714819323198485
 abbrev pub text_hash : List ℕ → ℕ
 text_hash text = if nat_le (length text) 8 then packed 1 text * spread % 2 ^ 64 else sip.finish (sip.write sip.initial text)
 
+-- a number that both numbers change
+abbrev pub mixed : ℕ → ℕ → ℕ
+mixed hash number = bit_xor (rotate_left w64 hash 32) number * spread % 2 ^ 64
+
+-- a hash of a text after another one: eight bytes at once, and the last ones packed
+abbrev pub quick_hash : ℕ → List ℕ → ℕ
+quick_hash hash (a ∷ b ∷ c ∷ d ∷ e ∷ f ∷ g ∷ h ∷ rest) =
+    quick_hash (mixed hash (from_le_bytes w64 (a ∷ b ∷ c ∷ d ∷ e ∷ f ∷ g ∷ h ∷ []))) rest
+quick_hash hash text = mixed hash (packed 1 text)
+
 abbrev pub hashed_rows : List HashedRow → List ℕ
 hashed_rows hashed = map (λ h. h.row) hashed
+
+-- each of the first rows is one of the others
+abbrev pub AreAmong : List HashedRow → List HashedRow → Type 0
+AreAmong some all =
+    (k : ℕ) (d : HashedRow) → k < length some → (j : ℕ) × (j < length all) × (slice_index_or some k d ≡ slice_index_or all j d)
 
 abbrev pub hashed_view : Inside → List HashedRow
 hashed_view table = table.rows.items
@@ -42,12 +59,12 @@ pub record AreBuckets (table : Inside) : Type 0 where
       IsBucketStart table.width table.rows.items bucket (slice_index table.starts.items bucket)
 
 -- each text that has the key has its hash
-abbrev pub IsHashOfKey : List Key → HashedRow → Type 0
+abbrev pub IsHashOfKey : List KeyContent → HashedRow → Type 0
 IsHashOfKey keys h =
-    (text : List ℕ) → starts_with nat_eq (codes_of false text true) (row_codes keys h.row) ≡ true → h.hash ≡ text_hash text
+    (text : List ℕ) → starts_with nat_eq (codes_of false text true) (row_codes keys h.row) ≡ true → h.hash ≡ quick_hash 0 text
 
 -- each name that, reversed, has the key has an extension of its hash
-abbrev pub IsHashOfExtension : List Key → HashedRow → Type 0
+abbrev pub IsHashOfExtension : List KeyContent → HashedRow → Type 0
 IsHashOfExtension keys h =
     (name : List ℕ) → starts_with nat_eq (codes_of false (reverse name) true) (row_codes keys h.row) ≡ true →
     option_map text_hash (extension name) ≡ Some h.hash

@@ -16,31 +16,18 @@ same_subject Nothing Nothing = true
 same_subject _ _ = false
 
 -- there is a key, of this subject
-abbrev pub is_about : Subject → Option Key → Bool
+abbrev pub is_about : Subject → Option KeyContent → Bool
 is_about subject None = false
 is_about subject (Some key) = same_subject subject key.subject
 
 -- there is a key, of this subject, which is whole or isn't
-abbrev pub is_kind : Subject → Bool → Option Key → Bool
+abbrev pub is_kind : Subject → Bool → Option KeyContent → Bool
 is_kind subject whole None = false
 is_kind subject whole (Some key) = same_subject subject key.subject && (if whole then key.is_whole else not key.is_whole)
 
 -- the text has the key
-abbrev pub text_has : List ℕ → Option Key → Bool
+abbrev pub text_has : List ℕ → Option KeyContent → Bool
 text_has text key = starts_with nat_eq (codes_of false text true) (key_codes key)
-
--- what a base name and a path have of a subject's keys
-abbrev pub meets_about : List ℕ → List ℕ → Subject → Option Key → Bool
-meets_about name path Name key = text_has name key
-meets_about name path End key = text_has (reverse name) key
-meets_about name path Path key = text_has path key
-meets_about name path Anything key = true
-meets_about name path Nothing key = false
-
--- there is a key, and its subject has it
-abbrev pub meets : List ℕ → List ℕ → Option Key → Bool
-meets name path None = false
-meets name path (Some key) = meets_about name path key.subject (Some key)
 
 -- the content of a key
 abbrev pub key_content : Key → KeyContent

@@ -239,3 +239,65 @@ fn fronts_of_fronts_are_found(rt: HostRuntime) -> Result<(), AllocError> {
     let index = fronts(rt.alloc())?;
     expect(&rt, rt.alloc(), &index, &lookups)
 }
+
+// Names for which a hash by multiplications, of eight bytes at once, is the same.
+const CROWD: [&[u8; 16]; 20] = [
+    b"2fGiYJ6G\x19\xEE3w\xE2\xF2\x924",
+    b"7x7eMHbM\x1E@y\xB4{\xE8\xF0\x90",
+    b"GlocQ0fu\xC7f\x85\xC5+-A\x02",
+    b"HR5lCx2O\xE0\xEFi}\x10\xF7W\x91",
+    b"JJFk05sC@\x0B!\xCA\xEA\x98~\xAC",
+    b"JVbo1Cj1b\x95\x93q\xEA\x84\x1D\xC8",
+    b"Jwg2a5Rq&\xD9\xDD\xB2\xEA\xC9\xF5\xD5",
+    b"KPndrhn1&dOm\xDF\x82\xC3\xB2",
+    b"L74yoTDj\x99\xEE\x10B\xC41TH",
+    b"MwKAB3EAag\x99G\xA9}a<",
+    b"Okw6Y8Yk^\xE5t\xF9\x83y\xC1!",
+    b"SBYiHsRBr<f\xBD7\xCC-\x9D",
+    b"WZ98zx55Sa\xD0F\xDB\xE5\xC1\x0E",
+    b"dM6m38lJ\xAChn\xE1\xCC\xA1\x85\x99",
+    b"hcCw7ygf\x91\xE5p~p\xEF\xE0d",
+    b"isD1D15s\xB5\x1D\xE9\x01e;\x83\x01",
+    b"nqONhPzL\xE2q\xBE>\xFE\xFE\x1C\xE7",
+    b"p4qUW8Xw\xEC\xCD\xCD\x10\xC8\xE5R4",
+    b"qL0KmkDf8H\xC7\xF7\xBDi\xFA\x13",
+    b"tHieMgf1y\xE1C\xC8|I\x1Ej",
+];
+
+fn crowded(alloc: Global) -> Result<KeyIndex, AllocError> {
+    let mut keys = Vec::new(alloc);
+    for name in CROWD {
+        push_keys(alloc, &[named(name, None)], &mut keys)?;
+    }
+    KeyIndex::of(alloc, keys)
+}
+
+fn lines_of(alloc: Global, keys: &KeyIndex, name: &[u8]) -> Result<Vec<usize>, AllocError> {
+    let lookup = LookUp {
+        name,
+        path: name,
+        fold: false,
+        lines: &[],
+    };
+    found(alloc, keys, lookup)
+}
+
+#[test]
+fn names_that_share_a_hash_are_told_apart(rt: HostRuntime) -> Result<(), AllocError> {
+    let keys = crowded(rt.alloc())?;
+    for (line, name) in CROWD.iter().enumerate() {
+        let lines = lines_of(rt.alloc(), &keys, *name)?;
+        assert_eq!(rt; lines.as_slice(), [line].as_slice());
+    }
+    Ok(())
+}
+
+#[test]
+fn a_name_of_many_lines(rt: HostRuntime) -> Result<(), AllocError> {
+    let keys = index_of(rt.alloc(), &[named(b"same", None); 20])?;
+    let lines = lines_of(rt.alloc(), &keys, b"same")?;
+    assert_eq!(rt; lines.len(), 20);
+    assert_eq!(rt; lines.first().copied(), Some(19));
+    assert_eq!(rt; lines.last().copied(), Some(0));
+    Ok(())
+}

@@ -1,5 +1,5 @@
 use Rattle.std.proofs.Common.{◌≡◌, true, take}
-use Rattle.attr_keys.specs.inner.Orders.{in_case}
+use Rattle.attr_keys.specs.inner.Cases.{in_case}
 use Rattle.attr_keys.proofs.key_index.has_capital.Given as goal
 
 abbrev pub invariant-loop-byte : goal.invariant-loop-byte

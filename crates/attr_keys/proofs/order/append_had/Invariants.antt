@@ -1,10 +1,11 @@
-use Rattle.std.proofs.Common.{◌≡◌, ◌&&◌, ◌||◌, ℕ, false, true, nat_eq, take}
-use Rattle.std.specs.List.{starts_with}
-use Rattle.attr_keys.specs.inner.Codes.{codes_of, row_codes}
+use Rattle.std.proofs.Common.{◌≡◌, ◌&&◌, ◌||◌, ℕ, take}
+use Rattle.std.specs.Prelude.{slice_get}
+use Rattle.attr_keys.specs.inner.Meeting.{text_has}
+use Rattle.attr_keys.specs.inner.Cases.{keys_in_case}
 use Rattle.attr_keys.specs.inner.Rows.{has_row}
 use Rattle.attr_keys.proofs.order.append_had.Given as goal
 
 abbrev pub invariant-loop-row : goal.invariant-loop-row
 invariant-loop-row l = (row : ℕ) → has_row l.found.items row
     ≡ has_row l.initial.found.items row
-    || (has_row (take l.row-index l.rows) row && starts_with nat_eq (codes_of false l.text true) (row_codes l.keys row))
+    || (has_row (take l.row-index l.rows) row && text_has l.text (slice_get (keys_in_case l.keys) row))

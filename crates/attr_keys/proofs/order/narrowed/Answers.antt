@@ -1,20 +1,21 @@
 use Rattle.std.proofs.Common.{ℕ, ltb, leb, slice_index, ◌-◌, take, drop, length, sym, ap, subst, arith, rules}
 use Rattle.std.specs.List.Sorted.{IsNonDecreasingBy}
 use Rattle.std.proofs.lemmas.List.Sorted.{IsPartitionPoint-from_clause, IsPartitionedBy-leb, IsPartitionedBy-ltb, IsNonDecreasingBy-drop}
+use Rattle.attr_keys.specs.inner.Cases.{keys_in_case}
 use Rattle.attr_keys.specs.inner.Codes.{row_codes}
 use Rattle.attr_keys.proofs.Narrowing.{none_above, all_between, between_points, rest_is}
 use Rattle.attr_keys.proofs.order.narrowed.Goals as goal
 
 pub returns-then-first-code : goal.returns-then-first-code
 returns-then-first-code c =
-    let n : ℕ → ℕ = λ row. slice_index (row_codes c.args.keys.now row) c.args.place in
+    let n : ℕ → ℕ = λ row. slice_index (row_codes (keys_in_case c.args.keys) row) c.args.place in
     let at = c.in-Some-Some.ensures.item.3 in
     none_above n c.args.rows.now c.args.code c.requires at.0
     (omega (arith, c.row_code-first.ensures, ap n (at.1 0), c.if-first-code.true))
 
 pub returns-then-row_code-code : goal.returns-then-row_code-code
 returns-then-row_code-code c =
-    let n : ℕ → ℕ = λ row. slice_index (row_codes c.args.keys.now row) c.args.place in
+    let n : ℕ → ℕ = λ row. slice_index (row_codes (keys_in_case c.args.keys) row) c.args.place in
     let first = c.in-Some-Some.ensures.item.3 in
     let last = c.in-Some-Some.ensures'.item.3 in
     all_between n c.args.rows.now c.args.code c.requires
@@ -23,7 +24,7 @@ returns-then-row_code-code c =
 
 pub returns : goal.returns
 returns c =
-    let n : ℕ → ℕ = λ row. slice_index (row_codes c.args.keys.now row) c.args.place in
+    let n : ℕ → ℕ = λ row. slice_index (row_codes (keys_in_case c.args.keys) row) c.args.place in
     let rows = c.args.rows.now in
     let start = c.partition_point-start.result in
     let is = rest_is rows start c.partition_point-start.ensures.bound in

@@ -1,4 +1,5 @@
 use Rattle.std.proofs.Common.{rules}
+use Rattle.attr_keys.specs.inner.Cases.{key_contents}
 use Rattle.attr_keys.proofs.Ordering.{same_rows, sorted_by_codes}
 use Rattle.attr_keys.proofs.order.put_in_order.Goals as goal
 
@@ -7,4 +8,4 @@ returns-clause-rows c = λ row. same_rows c.args.rows.now.items c.sort_unstable_
 
 pub returns-clause-order : goal.returns-clause-order
 returns-clause-order c =
-    sorted_by_codes c.args.keys.now c.sort_unstable_by.new.self.items c.sort_unstable_by.ensures.sorted (λ a r q k. search rules)
+    sorted_by_codes (key_contents c.args.keys.now) c.sort_unstable_by.new.self.items c.sort_unstable_by.ensures.sorted (λ a r q k. search rules)

@@ -1,63 +1,30 @@
-use Rattle.std.proofs.Common.{◌≡◌, true, Some, refl, sym, ap, subst, ◌∙◌, arith, eqb}
-use Rattle.std.specs.Prelude.{All, slice_get}
-use Rattle.std.proofs.lemmas.List.{take_all}
-use Rattle.std.proofs.lemmas.List.Elements.{All-push}
-use Rattle.std.proofs.lemmas.List.Sorted.{All-permutation, IsPermutation-map, list_any-IsPermutation}
-use Rattle.std.proofs.lemmas.Result.{IfOk-weaker}
-use Rattle.std.proofs.lemmas.Option.{slice_get-get_or}
-use Rattle.attr_keys.specs.declared.hashed.HashedRow.{HashedRow}
-use Rattle.attr_keys.specs.inner.Hashes.{IsHashOfKey, hashed_rows, text_hash}
-use Rattle.attr_keys.specs.inner.Meeting.{is_kind}
+use Rattle.std.proofs.Common.{◌||◌, sym, ap, subst, ◌∙◌}
+use Rattle.std.specs.Prelude.{All}
+use Rattle.std.proofs.lemmas.List.Sorted.{All-permutation}
+use Rattle.attr_keys.specs.inner.Cases.{key_contents}
+use Rattle.attr_keys.specs.inner.Hashes.{IsHashOfKey, hashed_rows}
 use Rattle.attr_keys.specs.inner.Rows.{has_row}
-use Rattle.attr_keys.proofs.Hashing.{hash_of_whole, rows_push, whole_kind}
-use Rattle.attr_keys.proofs.Meetings.{about_more, about_less}
+use Rattle.attr_keys.proofs.Hashing.{all_among, rows_moved}
 use Rattle.attr_keys.proofs.whole.whole_rows.Goals as goal
-use Rattle.attr_keys.proofs.whole.whole_rows.Goals.{then-is_kind+in_ok-push, else-is_kind}
 
-pub loop-row-preserved : goal.loop-row-preserved
-loop-row-preserved c =
-    let keys = c.args.keys.now in
-    let key = c.index-keys-row.result in
-    let row = c.loop-row.row in
-    let hashed = c.loop-row.hashed.items in
-    let test = is_kind c.args.subject true in
-    elim c.if-is_kind.branch [
-      | then-is_kind+in_ok-push w ↦
-          let more : HashedRow = record { hash = w.text_hash-hash.result; row = row } in
-          let passes : test (Some key) ≡ true = sym c.is_kind.ensures ∙ w.if-is_kind.true in
-          let here : slice_get keys row ≡ Some key = slice_get-get_or keys row key c.loop-row-test.true ∙ ap Some (sym c.index-keys-row.is) in
-          let is = ap (λ v. v.items) w.hashed-is ∙ w.in_ok-push.ensures.items in
-          record {
-            rows = λ r.
-                ap (λ l. has_row (hashed_rows l) r) is
-                ∙ (ap (λ l. has_row l r) (rows_push hashed more)
-                ∙ about_more test keys (hashed_rows hashed) row key c.loop-row-test.true c.index-keys-row.is passes c.loop-row.invariant.rows r);
-            hashes =
-                subst (All (IsHashOfKey keys)) (sym is)
-                (All-push (IsHashOfKey keys) hashed more
-                c.loop-row.invariant.hashes
-                (hash_of_whole keys more key here (whole_kind c.args.subject key passes)
-                (w.text_hash-hash.ensures ∙ ap text_hash w.deref.ensures.value)));
-          }
-      | else-is_kind w ↦
-          record {
-            rows = λ r.
-                ap (λ v. has_row (hashed_rows v.items) r) w.hashed-is
-                ∙ about_less test keys (hashed_rows hashed) row key c.loop-row-test.true c.index-keys-row.is refl
-                (sym c.is_kind.ensures ∙ w.if-is_kind.false) c.loop-row.invariant.rows r;
-            hashes = subst (λ v. All (IsHashOfKey keys) v.items) (sym w.hashed-is) c.loop-row.invariant.hashes;
-          }
-    ]
+pub returns-then-not-has_crowds-clause-rows : goal.returns-then-not-has_crowds-clause-rows
+returns-then-not-has_crowds-clause-rows c = λ row.
+    ap (λ l. has_row l row || has_row (hashed_rows c.in_ok-hashed.hashed) row) c.new-crowded.ensures.items
+    ∙ (rows_moved _ _ c.in_ok-hashed.ensures row ∙ c.in_ok-rows.ensures.rows row)
+
+pub returns-then-not-has_crowds-clause-hashes : goal.returns-then-not-has_crowds-clause-hashes
+returns-then-not-has_crowds-clause-hashes c =
+    All-permutation (IsHashOfKey (key_contents c.args.keys.now)) _ _ c.in_ok-hashed.ensures c.in_ok-rows.ensures.hashes
 
 pub returns-clause-rows : goal.returns-clause-rows
-returns-clause-rows c =
-    let whole = take_all c.loop-row.row c.args.keys.now (omega arith) in
-    IfOk-weaker c.of.result _ _
-    (λ hashed moved row.
-    sym (list_any-IsPermutation (λ r. eqb r row) _ _ (IsPermutation-map (λ (h : HashedRow). h.row) _ _ moved))
-    ∙ (c.loop-row.invariant.rows row ∙ ap (λ l. is_kind c.args.subject true (slice_get l row)) whole))
-    c.of.ensures
+returns-clause-rows c = λ row.
+    ap (λ b. has_row c.split_crowds.new.crowded.items row || b) (rows_moved _ _ c.in_ok-hashed-2.ensures row)
+    ∙ (c.in_ok-split_crowds.ensures.rows row
+    ∙ (ap (λ l. has_row l row || has_row (hashed_rows c.deref-2.result.now) row) c.new-crowded.ensures.items
+    ∙ (ap (λ l. has_row (hashed_rows l) row) c.deref-2.ensures.value ∙ c.in_ok-rows.ensures.rows row)))
 
 pub returns-clause-hashes : goal.returns-clause-hashes
 returns-clause-hashes c =
-    IfOk-weaker c.of.result _ _ (λ hashed moved. All-permutation (IsHashOfKey c.args.keys.now) _ _ moved c.loop-row.invariant.hashes) c.of.ensures
+    let P = IsHashOfKey (key_contents c.args.keys.now) in
+    All-permutation P _ _ c.in_ok-hashed-2.ensures
+    (all_among P _ _ c.in_ok-split_crowds.ensures.kept (subst (All P) (sym c.deref-2.ensures.value) c.in_ok-rows.ensures.hashes))

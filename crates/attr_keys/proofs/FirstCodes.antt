@@ -1,0 +1,79 @@
+-- Keys whose first codes are compared before their texts.
+use Rattle.std.proofs.Common.{◌≡◌, ℕ, ◌+◌, ◌<◌, Bool, true, false, ◌&&◌, ◌||◌, List, [], ◌∷◌, ◌++◌, length, take, get_or, map}
+use Rattle.std.proofs.Common.{refl, sym, ap, ◌∙◌, arith, eqb, nat_eq}
+use Rattle.std.specs.List.{starts_with}
+use Rattle.std.proofs.lemmas.Bool.{eqb-true}
+use Rattle.std.proofs.lemmas.List.{get_or-map, length-map, take_more}
+use Rattle.std.proofs.lemmas.List.Folds.{list_any-append}
+use Rattle.attr_keys.specs.inner.Rows.{has_row}
+use Rattle.attr_keys.proofs.Fronts.{or_none}
+use Rattle.attr_keys.proofs.RowLemmas.{by_test}
+
+-- each first code has its number
+pub first_within : (codes : ℕ → List ℕ) (rows firsts : List ℕ) (i : ℕ) → firsts ≡ map (λ row. get_or (codes row) 0 0) rows → i < length firsts →
+    i < length rows
+first_within codes rows firsts i are lt =
+    let len : length firsts ≡ length rows = ap length are ∙ length-map rows (λ row. get_or (codes row) 0 0) in
+    omega arith
+
+-- a key of another first code isn't had
+pub first_apart : (codes : ℕ → List ℕ) (rows firsts text : List ℕ) (i : ℕ) → firsts ≡ map (λ row. get_or (codes row) 0 0) rows →
+    i < length firsts → eqb (get_or firsts i 0) 0 || eqb (get_or firsts i 0) (get_or text 0 0) ≡ false →
+    starts_with nat_eq text (codes (get_or rows i 0)) ≡ false
+first_apart codes rows firsts text i are lt other =
+    let here : get_or firsts i 0 ≡ get_or (codes (get_or rows i 0)) 0 0 =
+    ap (λ l. get_or l i 0) are ∙ get_or-map (λ row. get_or (codes row) 0 0) rows i 0 0 (first_within codes rows firsts i are lt) in
+    apart text (codes (get_or rows i 0)) (ap (λ n. eqb n 0 || eqb n (get_or text 0 0)) (sym here) ∙ other)
+  where
+    unequal : (c t : ℕ) → eqb c 0 || eqb c t ≡ false → nat_eq c t ≡ false
+    unequal c t f = by_test (eqb c 0)
+        (λ e. let no : true ≡ false = rw e at f in absurd cc)
+        (λ e. rw e at f)
+
+    apart : (text key : List ℕ) → eqb (get_or key 0 0) 0 || eqb (get_or key 0 0) (get_or text 0 0) ≡ false → starts_with nat_eq text key ≡ false
+    apart text [] f = absurd cc
+    apart [] (c ∷ cs) f = refl
+    apart (t ∷ ts) (c ∷ cs) f = ap (λ b. b && starts_with nat_eq ts cs) (unequal c t f)
+
+taken : (rows : List ℕ) (i row : ℕ) → i < length rows → has_row (take (i + 1) rows) row ≡ has_row (take i rows) row || eqb (get_or rows i 0) row
+taken rows i row lt =
+    ap (λ l. has_row l row) (take_more rows i 0 lt)
+    ∙ (list_any-append (λ r. eqb r row) (take i rows) (get_or rows i 0 ∷ [])
+    ∙ ap (λ b. has_row (take i rows) row || b) (or_none (eqb (get_or rows i 0) row)))
+
+-- one more key is had
+pub had_more : (has : ℕ → Bool) (old found rows : List ℕ) (i row : ℕ) → i < length rows → has (get_or rows i 0) ≡ true →
+    has_row found row ≡ has_row old row || (has_row (take i rows) row && has row) →
+    has_row (found ++ get_or rows i 0 ∷ []) row ≡ has_row old row || (has_row (take (i + 1) rows) row && has row)
+had_more has old found rows i row lt passes known =
+    list_any-append (λ r. eqb r row) found (get_or rows i 0 ∷ [])
+    ∙ (ap (λ b. has_row found row || b) (or_none (eqb (get_or rows i 0) row))
+    ∙ (ap (λ b. b || eqb (get_or rows i 0) row) known
+    ∙ (merge (has_row old row) (has_row (take i rows) row) (eqb (get_or rows i 0) row) (has row)
+    (λ e. ap has (sym (eqb-true (get_or rows i 0) row e)) ∙ passes)
+    ∙ ap (λ b. has_row old row || (b && has row)) (sym (taken rows i row lt)))))
+  where
+    merge : (a b c d : Bool) → (c ≡ true → d ≡ true) → (a || (b && d)) || c ≡ a || ((b || c) && d)
+    merge true b c d h = refl
+    merge false true true true h = refl
+    merge false true false true h = refl
+    merge false true false false h = refl
+    merge false false false d h = refl
+    merge false true true false h = let no : false ≡ true = h refl in absurd cc
+    merge false false true d h = sym (h refl)
+
+-- one more key isn't
+pub had_less : (has : ℕ → Bool) (old found rows : List ℕ) (i row : ℕ) → i < length rows → has (get_or rows i 0) ≡ false →
+    has_row found row ≡ has_row old row || (has_row (take i rows) row && has row) →
+    has_row found row ≡ has_row old row || (has_row (take (i + 1) rows) row && has row)
+had_less has old found rows i row lt fails known =
+    known
+    ∙ (merge (has_row old row) (has_row (take i rows) row) (eqb (get_or rows i 0) row) (has row)
+    (λ e. ap has (sym (eqb-true (get_or rows i 0) row e)) ∙ fails)
+    ∙ ap (λ b. has_row old row || (b && has row)) (sym (taken rows i row lt)))
+  where
+    merge : (a b c d : Bool) → (c ≡ true → d ≡ false) → a || (b && d) ≡ a || ((b || c) && d)
+    merge true b c d h = refl
+    merge false true c d h = refl
+    merge false false false d h = refl
+    merge false false true d h = sym (h refl)

@@ -1,0 +1,10 @@
+use Rattle.std.proofs.Common.{◌≡◌, ◌&&◌, ◌||◌, ℕ, take}
+use Rattle.std.specs.Prelude.{slice_get}
+use Rattle.attr_keys.specs.inner.Cases.{keys_in_case}
+use Rattle.attr_keys.specs.inner.Meeting.{text_has}
+use Rattle.attr_keys.specs.inner.Rows.{has_row}
+use Rattle.attr_keys.proofs.few.append_few.Given as goal
+
+abbrev pub invariant-loop-place : goal.invariant-loop-place
+invariant-loop-place l = (row : ℕ) → has_row l.found.items row
+    ≡ has_row l.initial.found.items row || (has_row (take l.place l.fronts.rows.now) row && text_has l.text (slice_get (keys_in_case l.keys) row))
