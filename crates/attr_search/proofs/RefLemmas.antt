@@ -1,13 +1,13 @@
 -- What was stored keeps its place, and what is found equal is what was looked for.
-use Rattle.std.proofs.Common.{◌≡◌, ℕ, ◌<◌, ◌≤◌, Bool, true, false, List, [], ◌++◌, length, get_or, map, Option, Some, None, option_map}
-use Rattle.std.proofs.Common.{MatchOption, slice_get, string_bytes, String, Global, refl, sym, ap, ◌∙◌, arith, length-append, append_assoc}
+use Rattle.std.proofs.Common.{◌≡◌, ℕ, ◌<◌, ◌≤◌, Bool, true, false, List, [], ◌∷◌, ◌++◌, length, get_or, map, Option, Some, None, option_map}
+use Rattle.std.proofs.Common.{MatchOption, slice_get, string_bytes, String, Global, refl, sym, ap, ◌∙◌, arith, length-append}
 use Rattle.std.specs.Bool.{⊤, OnTrue}
 use Rattle.std.proofs.lemmas.List.{append-nil, map-append, get_or_append_left}
-use Rattle.std.proofs.lemmas.Option.{slice_get-map, slice_get_read, slice_get_within, get_or_from_slice_get, same_Some}
-use Rattle.attr_text.specs.declared.assignment.Assignment.{Assignment}
+use Rattle.std.proofs.Math.Seq.{get_or-append_seam}
+use Rattle.std.proofs.lemmas.Option.{slice_get-get_or, slice_get-map, slice_get_read, slice_get_within, get_or_from_slice_get, same_Some}
 use Rattle.attr_glob.specs.declared.pattern.Pattern.{Pattern}
 use Rattle.attr_glob.specs.Views.{pattern_view}
-use Rattle.attr_search.specs.inner.RefMapParts.{RefMapParts, Grows, KeepsRefs, no_pattern}
+use Rattle.attr_search.specs.inner.RefMapParts.{RefMapParts, Grows, no_pattern}
 use Rattle.attr_search.specs.inner.Refs.{RefersTo}
 use Rattle.attr_search.specs.declared.refmap.OriginRef.{OriginRef}
 use Rattle.attr_table.specs.Setting.{Origin}
@@ -15,20 +15,24 @@ use Rattle.attr_glob.specs.Patterns.{Reading}
 
 -- what is found equal at a place is seen as what was looked for
 pub same_at : {T V : Type 0} (test : T → Bool) (view : T → V) (v : V) (ks : List T) (i : ℕ) (k : T) (b : Bool) → i < length ks → k ≡ get_or ks i k →
-    b ≡ test k → ((k : T) → test k ≡ true → view k ≡ v) → OnTrue b (option_map view (slice_get ks i) ≡ Some v)
+    b ≡ test k → ((k : T) → test k ≡ true → view k ≡ v) → OnTrue b (slice_get (map view ks) i ≡ Some v)
 same_at test view v ks i k false within at told same = tt
 same_at test view v ks i k true within at told same =
-    ap (option_map view) (slice_get_read ks (length ks) i k refl within at) ∙ ap Some (same k (sym told))
+    slice_get-map view ks i ∙ ap (option_map view) (slice_get_read ks (length ks) i k refl within at) ∙ ap Some (same k (sym told))
 
 -- a list that stays grows by nothing
 pub grows_same : {X : Type 0} (xs : List X) → Grows xs xs
 grows_same xs = ([], sym (append-nil xs))
 
-pub grows_map : {X Y : Type 0} (f : X → Y) (xs ys : List X) → Grows xs ys → Grows (map f xs) (map f ys)
-grows_map f xs ys g = (map f g.0, ap (map f) g.1 ∙ map-append f xs g.0)
+-- what was pushed is seen after what was there
+pub grows_pushed : {T V : Type 0} (view : T → V) (xs ys : List T) (y : T) → ys ≡ xs ++ y ∷ [] → Grows (map view xs) (map view ys)
+grows_pushed view xs ys y e = (view y ∷ [], ap (map view) e ∙ map-append view xs (y ∷ []))
 
-pub grows_twice : {X : Type 0} (xs ys zs : List X) → Grows xs ys → Grows ys zs → Grows xs zs
-grows_twice xs ys zs g h = (g.0 ++ h.0, h.1 ∙ ap (λ l. l ++ h.0) g.1 ∙ append_assoc xs g.0 h.0)
+pub found_pushed : {T V : Type 0} (view : T → V) (xs ys : List T) (y : T) (place : ℕ) → place ≡ length xs → ys ≡ xs ++ y ∷ [] →
+    slice_get (map view ys) place ≡ Some (view y)
+found_pushed view xs ys y place at e =
+    rw (at, e) (slice_get-map view (xs ++ y ∷ []) (length xs) ∙ ap (option_map view)
+    (slice_get-get_or (xs ++ y ∷ []) (length xs) y (omega (arith, length-append xs (y ∷ []))) ∙ ap Some (get_or-append_seam xs y [] y)))
 
 pub grows_length : {X : Type 0} (xs ys : List X) → Grows xs ys → length xs ≤ length ys
 grows_length xs ys g = omega (arith, ap length g.1, length-append xs g.0)
@@ -37,27 +41,16 @@ grows_length xs ys g = omega (arith, ap length g.1, length-append xs g.0)
 pub grows_at : {X : Type 0} (xs ys : List X) (i : ℕ) (d : X) → Grows xs ys → i < length xs → get_or ys i d ≡ get_or xs i d
 grows_at xs ys i d g lt = ap (λ l. get_or l i d) g.1 ∙ get_or_append_left xs g.0 d i lt
 
--- sets that grew are stored as a store that extends the old one
-pub extends_by : (old : RefMapParts) (ps ps' : List Pattern) (assigned assigned' : List Assignment) (ss ss' : List (String Global)) →
-    record { patterns = map pattern_view ps; assignments = assigned; sources = map string_bytes ss } ≡ old → Grows ps ps' → Grows assigned assigned' →
-    Grows ss ss' →
-    KeepsRefs old (record { patterns = map pattern_view ps'; assignments = assigned'; sources = map string_bytes ss' })
-extends_by old ps ps' assigned assigned' ss ss' is p a s = rw (← is) (record
-    { patterns = grows_map pattern_view ps ps' p; assignments = a; sources = grows_map string_bytes ss ss' s })
-
-source_found : (sources : List (String Global)) (place : Option ℕ) (source : Option (String Global)) →
-    option_map (λ s. option_map string_bytes (slice_get sources s)) place ≡ option_map (λ s. Some (string_bytes s)) source →
-    MatchOption place ⊤ (λ s. s < length (map string_bytes sources)) ×
-    (option_map (λ s. get_or (map string_bytes sources) s []) place ≡ option_map string_bytes source)
+source_found : (sources : List (List ℕ)) (place : Option ℕ) (source : Option (String Global)) →
+    option_map (slice_get sources) place ≡ option_map (λ s. Some (string_bytes s)) source →
+    MatchOption place ⊤ (λ s. s < length sources) ×
+    (option_map (λ s. get_or sources s []) place ≡ option_map string_bytes source)
 source_found sources None None e = (tt, refl)
 source_found sources None (Some x) e = absurd cc
 source_found sources (Some s) None e = absurd cc
 source_found sources (Some s) (Some x) e =
-    let at : slice_get (map string_bytes sources) s ≡ Some (string_bytes x) = slice_get-map string_bytes sources s ∙ same_Some _ _ e in (
-      slice_get_within (map string_bytes sources) s (string_bytes x) at,
-      ap Some
-          (get_or_from_slice_get (map string_bytes sources) s (string_bytes x) [] at),
-    )
+    let at : slice_get sources s ≡ Some (string_bytes x) = same_Some _ _ e in
+    (slice_get_within sources s (string_bytes x) at, ap Some (get_or_from_slice_get sources s (string_bytes x) [] at))
 
 origin_same : (r r' : Reading) (source source' : Option (List ℕ)) (n : ℕ) → r ≡ r' → source ≡ source' →
     (let Made : Reading → Option (List ℕ) → Origin = λ r s. record { text = r.text; mode = r.mode; wildcard = r.wildcard; source = s; line = n } in
@@ -67,11 +60,10 @@ origin_same r r' source source' n e f =
     ap (λ x. Made x source) e ∙ ap (Made r') f
 
 -- a line is stored as itself once its pattern and its source are
-pub line_stored : (patterns : List Pattern) (assignments : List Assignment) (sources : List (String Global)) (l : OriginRef) (p : Pattern)
-    (source : Option (String Global)) →
-    option_map pattern_view (slice_get patterns l.pattern) ≡ Some (pattern_view p) →
-    option_map (λ s. option_map string_bytes (slice_get sources s)) l.source ≡ option_map (λ s. Some (string_bytes s)) source →
-    RefersTo (record { patterns = map pattern_view patterns; assignments = assignments; sources = map string_bytes sources }) l
+pub line_stored : (store : RefMapParts) (l : OriginRef) (p : Pattern) (source : Option (String Global)) →
+    slice_get store.patterns l.pattern ≡ Some (pattern_view p) →
+    option_map (slice_get store.sources) l.source ≡ option_map (λ s. Some (string_bytes s)) source →
+    RefersTo store l
     (record {
       text = (pattern_view p).text;
       mode = (pattern_view p).mode;
@@ -80,12 +72,11 @@ pub line_stored : (patterns : List Pattern) (assignments : List Assignment) (sou
           source;
       line = l.number;
     })
-line_stored patterns assignments sources l p source e f =
-    let at : slice_get (map pattern_view patterns) l.pattern ≡ Some (pattern_view p) = slice_get-map pattern_view patterns l.pattern ∙ e in
-    let read = get_or_from_slice_get (map pattern_view patterns) l.pattern (pattern_view p) no_pattern at in
-    let found = source_found sources l.source source f in
+line_stored store l p source at e =
+    let read = get_or_from_slice_get store.patterns l.pattern (pattern_view p) no_pattern at in
+    let found = source_found store.sources l.source source e in
     record {
-      within = record { pattern = slice_get_within (map pattern_view patterns) l.pattern (pattern_view p) at; source = found.0 };
-      same = origin_same (get_or (map pattern_view patterns) l.pattern no_pattern) (pattern_view p)
-          (option_map (λ s. get_or (map string_bytes sources) s []) l.source) (option_map string_bytes source) l.number read found.1;
+      within = record { pattern = slice_get_within store.patterns l.pattern (pattern_view p) at; source = found.0 };
+      same = origin_same (get_or store.patterns l.pattern no_pattern) (pattern_view p)
+          (option_map (λ s. get_or store.sources s []) l.source) (option_map string_bytes source) l.number read found.1;
     }

@@ -12,6 +12,7 @@ pub mod Lines
 pub mod NumbersView
 pub mod Pending
 pub mod ReadLines
+pub mod RecentSizes
 pub mod RefMapParts
 pub mod RefMapView
 pub mod Refs
@@ -21,5 +22,6 @@ pub mod Searched
 pub mod SlotContents
 pub mod SlotsView
 pub mod Slotted
+pub mod StoresView
 pub mod Trying
 pub mod WantedView

@@ -1,10 +1,12 @@
 //! Places that were found of late, with which a look-up begins.
 
-ghost use Rattle.std.specs.Prelude.{◌≡◌, ◌%◌, [], OnErr, OnOk, Some, length, slice_get, slice_index_or};
+ghost use Rattle.std.specs.Prelude.{◌≡◌, ◌<◌, ◌%◌, [], OnErr, OnOk, Some, length, slice_get, slice_index_or};
+ghost use Rattle.attr_search.specs.inner.RecentSizes.{IsSized};
 
 use std::alloc::{AllocError, Global};
 
-// How many places there are at first, and once a place is noted that is not below them.
+// How many places there are at first, and once a place is noted that is not below them. A remainder by a constant takes
+// no division.
 const FEW: usize = 1024;
 
 const MANY: usize = 16384;
@@ -15,6 +17,7 @@ const MANY: usize = 16384;
 pub struct RecentPlaces {
     /// The places, by remainder. There are none until one is noted.
     pub places: Vec<usize>,
+    ghost sized: { IsSized (length places.items) },
 }
 
 impl RecentPlaces {
@@ -35,7 +38,19 @@ impl RecentPlaces {
         if self.places.is_empty() {
             return 0;
         }
-        self.places[number % self.places.len()]
+        self.places[self.remainder(number)]
+    }
+
+    // The number's remainder by how many places there are.
+    fn remainder(&self, number: usize) -> usize
+        requires { 0 < length self.now.places.items }
+        ensures { result ≡ number % length self.now.places.items }
+    {
+        if self.places.len() == FEW {
+            number % FEW
+        } else {
+            number % MANY
+        }
     }
 
     /// Notes a place for the number's remainder.
@@ -52,7 +67,7 @@ impl RecentPlaces {
         if self.places.len() < wanted {
             self.places.resize(wanted, 0)?;
         }
-        let remainder = number % self.places.len();
+        let remainder = self.remainder(number);
         self.places[remainder] = place;
         Ok(())
     }

@@ -1,10 +1,10 @@
 //! The parts of matches: patterns, assignments and sources. What is stored has a place: its index among those of its kind, from 0.
 
-ghost use Rattle.std.specs.Prelude.{◌≡◌, ◌<◌, [], Some, IfOk, length, map, option_map, slice_get, slice_index_or, string_bytes};
+ghost use Rattle.std.specs.Prelude.{◌≡◌, ◌<◌, ◌≤◌, ◌+◌, ◌-◌, ◌^◌, [], Some, IfOk, length, map, min, option_map, slice_get, slice_index_or, string_bytes};
 ghost use Rattle.std.specs.Bool.{OnTrue};
 ghost use Rattle.attr_glob.specs.Views.{pattern_view};
 ghost use Rattle.attr_search.specs.inner.Pending.{line_origin};
-ghost use Rattle.attr_search.specs.inner.RefMapParts.{KeepsRefs, Grows, no_assignment, no_pattern};
+ghost use Rattle.attr_search.specs.inner.RefMapParts.{KeepsRefs, Grows, IsSmall, no_assignment, no_pattern, pattern_bytes, source_bytes};
 ghost use Rattle.attr_search.specs.Matches.{match_view};
 ghost use Rattle.attr_search.specs.inner.Refs.{RefersTo, IsMatchRef, match_by_ref};
 
@@ -42,7 +42,7 @@ pub struct MatchRef {
 // So many bytes of patterns, and so many of sources, are kept for later matches, and no more.
 const MOST: usize = 1 << 22;
 
-// How many bytes a stored text takes beside its own.
+// How many bytes are counted for a stored text beside its own.
 const BESIDE: usize = 64;
 
 /// The patterns, assignments and sources of matches. A pattern or source that was stored of late is found again; another one is
@@ -59,7 +59,7 @@ struct PatternStore {
     stored: Vec<Pattern>,
     // Where the patterns of lines were stored of late.
     recent: RecentPlaces,
-    // How many bytes were stored since the store was empty, or was copied.
+    // How many bytes are stored, with those beside each text. It stops at `usize::MAX`.
     bytes: usize,
 }
 
@@ -70,8 +70,33 @@ struct SourceStore {
     recent: RecentPlaces,
     // The place that was looked up last: the next line is often of the same list.
     last: usize,
-    // How many bytes were stored since the store was empty, or was copied.
+    // How many bytes are stored, with those beside each text. It stops at `usize::MAX`.
     bytes: usize,
+}
+
+impl Model for PatternStore {
+    ghost use Rattle.std.specs.Prelude.{List};
+    ghost use Rattle.attr_glob.specs.Patterns.{Reading};
+
+    ghost Value = { List Reading };
+
+    ghost use Rattle.attr_search.specs.inner.StoresView.{ArePatternsCounted, patterns_view};
+
+    ghost view = { patterns_view };
+
+    ghost invariant = { ArePatternsCounted };
+}
+
+impl Model for SourceStore {
+    ghost use Rattle.std.specs.Prelude.{List, ℕ};
+
+    ghost Value = { List (List ℕ) };
+
+    ghost use Rattle.attr_search.specs.inner.StoresView.{AreSourcesCounted, sources_view};
+
+    ghost view = { sources_view };
+
+    ghost invariant = { AreSourcesCounted };
 }
 
 impl Model for RefMap {
@@ -89,34 +114,10 @@ impl RefMap {
     pub fn new(alloc: Global) -> RefMap
         ensures { result ≡ record { patterns = []; assignments = []; sources = [] } }
     {
-        RefMap::of(alloc, Vec::new(alloc), Vec::new(alloc), Vec::new(alloc))
-    }
-
-    fn of(
-        alloc: Global,
-        patterns: Vec<Pattern>,
-        assignments: Vec<Assignment>,
-        sources: Vec<String>,
-    ) -> RefMap
-        ensures { result ≡ record {
-          patterns = map pattern_view patterns.items;
-          assignments = assignments.items;
-          sources = map string_bytes sources.items;
-        } }
-    {
         RefMap {
-            patterns: PatternStore {
-                stored: patterns,
-                recent: RecentPlaces::new(alloc),
-                bytes: 0,
-            },
-            assignments,
-            sources: SourceStore {
-                stored: sources,
-                recent: RecentPlaces::new(alloc),
-                last: 0,
-                bytes: 0,
-            },
+            patterns: PatternStore::new(alloc),
+            assignments: Vec::new(alloc),
+            sources: SourceStore::new(alloc),
         }
     }
 
@@ -129,15 +130,15 @@ impl RefMap {
         self.sources.clear();
     }
 
-    /// Forgets the assignments, and if the patterns or sources are many or long, these too. No match refers to them any more.
+    /// Forgets the assignments, and the patterns or the sources too if they take more than 4 MB. No match refers to them any
+    /// more.
     pub fn release(&mut self)
-        ensures { self.new.assignments ≡ [] }
+        ensures assignments { self.new.assignments ≡ [] }
+        ensures small { IsSmall self.new }
     {
         self.assignments.clear();
-        if self.patterns.bytes > MOST || self.sources.bytes > MOST {
-            self.patterns.clear();
-            self.sources.clear();
-        }
+        self.patterns.release();
+        self.sources.release();
     }
 
     /// Finds or stores a line's pattern and source, and returns their places. What was stored keeps its place.
@@ -186,10 +187,11 @@ impl RefMap {
     pub fn clone(&self, alloc: Global) -> Result<RefMap, AllocError>
         ensures { IfOk result (λ copy. copy ≡ self.now) }
     {
-        let patterns = copy_of_patterns(alloc, &self.patterns.stored)?;
-        let assignments = copy_of_assignments(alloc, &self.assignments)?;
-        let sources = copy_of_sources(alloc, &self.sources.stored)?;
-        Ok(RefMap::of(alloc, patterns, assignments, sources))
+        Ok(RefMap {
+            patterns: self.patterns.clone(alloc)?,
+            assignments: copy_of_assignments(alloc, &self.assignments)?,
+            sources: self.sources.clone(alloc)?,
+        })
     }
 
     /// The match with these parts, which have to be stored.
@@ -199,11 +201,11 @@ impl RefMap {
     {
         let line = found.line;
         let source = match line.source {
-            Some(place) => Some(self.source_at(place)),
+            Some(place) => Some(self.sources.get(place)),
             None => None,
         };
         Match {
-            pattern: self.pattern_at(line.pattern),
+            pattern: self.patterns.get(line.pattern),
             assignment: self.assignment_at(found.assignment).as_ref(),
             kind: found.kind,
             location: MatchLocation {
@@ -213,34 +215,56 @@ impl RefMap {
         }
     }
 
-    fn pattern_at(&self, place: usize) -> &Pattern
-        requires { place < length self.now.patterns }
-        ensures { pattern_view result.now ≡ slice_index_or self.now.patterns place no_pattern }
-    {
-        &self.patterns.stored[place]
-    }
-
     fn assignment_at(&self, place: usize) -> &Assignment
         requires { place < length self.now.assignments }
         ensures { result.now ≡ slice_index_or self.now.assignments place no_assignment }
     {
         &self.assignments[place]
     }
-
-    fn source_at(&self, place: usize) -> &str
-        requires { place < length self.now.sources }
-        ensures { result.now ≡ slice_index_or self.now.sources place [] }
-    {
-        self.sources.stored[place].as_str()
-    }
 }
 
 impl PatternStore {
+    fn new(alloc: Global) -> PatternStore
+        ensures { result ≡ [] }
+    {
+        PatternStore {
+            stored: Vec::new(alloc),
+            recent: RecentPlaces::new(alloc),
+            bytes: 0,
+        }
+    }
+
     fn clear(&mut self)
-        ensures { self.new.stored.items ≡ [] }
+        ensures { self.new ≡ [] }
     {
         self.stored.clear();
         self.bytes = 0;
+    }
+
+    // Forgets the patterns if they take more than `MOST` bytes.
+    fn release(&mut self)
+        ensures { pattern_bytes self.new ≤ 4194304 }
+    {
+        if self.bytes > MOST {
+            self.clear();
+        }
+    }
+
+    fn clone(&self, alloc: Global) -> Result<PatternStore, AllocError>
+        ensures { IfOk result (λ copy. copy ≡ self.now) }
+    {
+        Ok(PatternStore {
+            stored: copy_of_patterns(alloc, &self.stored)?,
+            recent: RecentPlaces::new(alloc),
+            bytes: self.bytes,
+        })
+    }
+
+    fn get(&self, place: usize) -> &Pattern
+        requires { place < length self.now }
+        ensures { pattern_view result.now ≡ slice_index_or self.now place no_pattern }
+    {
+        &self.stored[place]
     }
 
     // The place of the pattern of a line with this number. It is stored if it is not where such a line's was stored last.
@@ -250,9 +274,9 @@ impl PatternStore {
         number: usize,
         pattern: &Pattern,
     ) -> Result<usize, AllocError>
-        ensures place { IfOk result (λ place. option_map pattern_view
-            (slice_get self.new.stored.items place) ≡ Some (pattern_view pattern.now)) }
-        ensures grows { Grows self.old.stored.items self.new.stored.items }
+        ensures place { IfOk result (λ place.
+            slice_get self.new place ≡ Some (pattern_view pattern.now)) }
+        ensures grows { Grows self.old self.new }
     {
         let place = self.recent.get(number);
         if has_pattern(&self.stored, place, pattern) {
@@ -260,18 +284,22 @@ impl PatternStore {
         }
         let place = self.stored.len();
         self.stored.push(pattern.clone(alloc)?)?;
-        self.bytes = self
-            .bytes
-            .saturating_add(pattern.text.len())
-            .saturating_add(BESIDE);
+        self.bytes = counted(self.bytes, pattern.text.len());
         self.recent.note(number, place)?;
         Ok(place)
     }
 }
 
+// How many bytes are stored, once one more text of this length is. It stops at `usize::MAX`.
+fn counted(bytes: usize, len: usize) -> usize
+    ensures { result ≡ min (bytes + (len + 64)) (2 ^ 64 - 1) }
+{
+    bytes.saturating_add(len).saturating_add(BESIDE)
+}
+
 // Whether the pattern has this place.
 fn has_pattern(patterns: &[Pattern], place: usize, pattern: &Pattern) -> bool
-    ensures { OnTrue result (option_map pattern_view (slice_get patterns.now place)
+    ensures { OnTrue result (slice_get (map pattern_view patterns.now) place
         ≡ Some (pattern_view pattern.now)) }
 {
     place < patterns.len() && *pattern == patterns[place]
@@ -298,11 +326,49 @@ fn text_number(text: &[u8]) -> usize
 }
 
 impl SourceStore {
+    fn new(alloc: Global) -> SourceStore
+        ensures { result ≡ [] }
+    {
+        SourceStore {
+            stored: Vec::new(alloc),
+            recent: RecentPlaces::new(alloc),
+            last: 0,
+            bytes: 0,
+        }
+    }
+
     fn clear(&mut self)
-        ensures { self.new.stored.items ≡ [] }
+        ensures { self.new ≡ [] }
     {
         self.stored.clear();
         self.bytes = 0;
+    }
+
+    // Forgets the sources if they take more than `MOST` bytes.
+    fn release(&mut self)
+        ensures { source_bytes self.new ≤ 4194304 }
+    {
+        if self.bytes > MOST {
+            self.clear();
+        }
+    }
+
+    fn clone(&self, alloc: Global) -> Result<SourceStore, AllocError>
+        ensures { IfOk result (λ copy. copy ≡ self.now) }
+    {
+        Ok(SourceStore {
+            stored: copy_of_sources(alloc, &self.stored)?,
+            recent: RecentPlaces::new(alloc),
+            last: self.last,
+            bytes: self.bytes,
+        })
+    }
+
+    fn get(&self, place: usize) -> &str
+        requires { place < length self.now }
+        ensures { result.now ≡ slice_index_or self.now place [] }
+    {
+        self.stored[place].as_str()
     }
 
     fn optional_place(
@@ -312,9 +378,9 @@ impl SourceStore {
         source: &Option<String>,
     ) -> Result<Option<usize>, AllocError>
         ensures place { IfOk result (λ place.
-            option_map (λ s. option_map string_bytes (slice_get self.new.stored.items s)) place
+            option_map (slice_get self.new) place
             ≡ option_map (λ s. Some (string_bytes s)) source.now) }
-        ensures grows { Grows self.old.stored.items self.new.stored.items }
+        ensures grows { Grows self.old self.new }
     {
         match source {
             Some(source) => Ok(Some(self.place(alloc, number, source.as_str())?)),
@@ -325,9 +391,8 @@ impl SourceStore {
     // The place of the source of a line with this number. The place that was looked up last is tried first, and then where
     // such a line's was stored last.
     fn place(&mut self, alloc: Global, number: usize, source: &str) -> Result<usize, AllocError>
-        ensures place { IfOk result (λ place.
-            option_map string_bytes (slice_get self.new.stored.items place) ≡ Some source.now) }
-        ensures grows { Grows self.old.stored.items self.new.stored.items }
+        ensures place { IfOk result (λ place. slice_get self.new place ≡ Some source.now) }
+        ensures grows { Grows self.old self.new }
     {
         if has_source(&self.stored, self.last, source) {
             return Ok(self.last);
@@ -343,9 +408,8 @@ impl SourceStore {
         number: usize,
         source: &str,
     ) -> Result<usize, AllocError>
-        ensures place { IfOk result (λ place.
-            option_map string_bytes (slice_get self.new.stored.items place) ≡ Some source.now) }
-        ensures grows { Grows self.old.stored.items self.new.stored.items }
+        ensures place { IfOk result (λ place. slice_get self.new place ≡ Some source.now) }
+        ensures grows { Grows self.old self.new }
     {
         let place = self.recent.get(number);
         if has_source(&self.stored, place, source) {
@@ -353,10 +417,7 @@ impl SourceStore {
         }
         let place = self.stored.len();
         self.stored.push(String::from_str(alloc, source)?)?;
-        self.bytes = self
-            .bytes
-            .saturating_add(source.len())
-            .saturating_add(BESIDE);
+        self.bytes = counted(self.bytes, source.len());
         self.recent.note(number, place)?;
         Ok(place)
     }
@@ -364,8 +425,7 @@ impl SourceStore {
 
 // Whether the source has this place.
 fn has_source(sources: &[String], place: usize, source: &str) -> bool
-    ensures { OnTrue result
-        (option_map string_bytes (slice_get sources.now place) ≡ Some source.now) }
+    ensures { OnTrue result (slice_get (map string_bytes sources.now) place ≡ Some source.now) }
 {
     place < sources.len() && source == sources[place].as_str()
 }

@@ -9,7 +9,7 @@ ghost use Rattle.attr_search.specs.Settings.{HaveSlots};
 ghost use Rattle.std.specs.List.Sorted.{IsNonDecreasing};
 ghost use Rattle.attr_search.specs.Slots.{AreFreeFrom, IsNextFilled, slots_of};
 ghost use Rattle.attr_search.specs.inner.Pending.{item_match, line_origin};
-ghost use Rattle.attr_search.specs.inner.RefMapParts.{KeepsRefs};
+ghost use Rattle.attr_search.specs.inner.RefMapParts.{IsSmall, KeepsRefs};
 ghost use Rattle.attr_search.specs.inner.Refs.{AreMatchRefs, RefersTo, IsMatchRef, match_by_ref, matches_by_ref};
 ghost use Rattle.attr_search.specs.inner.SlotContents.{AreListed, SlotContents, count_remaining, empty_slots, wanted_numbers};
 
@@ -265,6 +265,7 @@ impl MatchStore {
     fn release(&mut self)
         ensures line { self.new.line ≡ None }
         ensures assignments { self.new.refs.assignments ≡ [] }
+        ensures small { IsSmall self.new.refs }
     {
         self.line = None;
         self.refs.release();
