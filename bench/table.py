@@ -37,6 +37,7 @@ class Workload:
     """Attributes files by folder, names, and paths; and how many of the paths are asked under callgrind."""
 
     unit = "path"
+    few = FEW
 
     def __init__(self, title, files, names, paths, counted):
         self.title, self.files, self.names, self.paths = title, files, names, paths
@@ -53,7 +54,7 @@ class Workload:
         blocks = max(1, self.counted // 20)
         apart = len(self.paths) / blocks
         many = [path for block in range(blocks) for path in self.paths[int(block * apart):][:20]][:self.counted]
-        return (self.files, many[:FEW]), (self.files, many), len(many) - FEW
+        return (self.files, many[:self.few]), (self.files, many), len(many) - self.few
 
 
 class Reading(Workload):
@@ -133,7 +134,10 @@ def of_reading(quick):
 def of_standing(lists, quick):
     files, paths = inputs.standing(lists, timed(lists, quick))
     title = f"{lists:,} standing lists, a path below two"
-    return Workload(title, files, inputs.THREE_NAMES, paths, counted(lists, quick))
+    made = Workload(title, files, inputs.THREE_NAMES, paths, max(1_000, counted(lists, quick)))
+    # By then the tables of an outcome that is asked in many folders have grown, too.
+    made.few = 500
+    return made
 
 
 def monorepo_title(steps):
