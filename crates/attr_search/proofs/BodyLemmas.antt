@@ -8,8 +8,7 @@ use Rattle.std.proofs.lemmas.List.Elements.{All-same, All-tail, All-weaker}
 use Rattle.attr_lists.specs.declared.types.TrackedAssignment.{TrackedAssignment}
 use Rattle.attr_search.specs.declared.bodies.BodyChange.{BodyChange}
 use Rattle.attr_search.specs.inner.BodyChanges.{changed_bodies, sized_bodies}
-use Rattle.attr_search.specs.inner.Filling.{BodiesFit}
-use Rattle.attr_search.specs.inner.Slotted.{BodiesHaveSlots, bodies_view}
+use Rattle.attr_search.specs.inner.Slotted.{bodies_view}
 
 -- one more empty body
 pub grown_more : (old now after : List (Vec TrackedAssignment Global)) (body : Vec TrackedAssignment Global) (n : ℕ) → body.items ≡ [] →
@@ -85,11 +84,3 @@ pub all_below : (changes : List BodyChange) (cut : List (Vec TrackedAssignment G
 all_below changes cut bodies n same below =
     let len : length cut ≡ n = sym (length-map cut (λ b. b.items)) ∙ ap length same ∙ length_sized n bodies in
     All-weaker (λ c. c.number < n) (λ c. c.number < length cut) (λ c lt. omega arith) changes below
-
--- bodies that are seen as others fit as these do
-pub seen_fit : (n m : ℕ) (bodies : List (Vec TrackedAssignment Global)) (seen : List (List TrackedAssignment)) → n ≡ m → bodies_view bodies ≡ seen →
-    length seen ≡ m → BodiesHaveSlots m seen → BodiesFit n bodies
-seen_fit n m bodies seen same is counted within = record {
-  same_length = sym (length-map bodies (λ b. b.items)) ∙ ap length is ∙ counted ∙ sym same;
-  in_bodies = rw (is, same) within;
-}

@@ -4,7 +4,7 @@ use Rattle.std.proofs.Common.{subst, ◌∙◌, ⊎_elim, arith, Bool, true, fal
 use Rattle.std.specs.Prelude.{is_some, option_map, not, ◌==◌, All, slice_get, slice_index_or}
 use Rattle.std.proofs.Math.ListN
 use Rattle.std.proofs.lemmas.Bool.{cases_eq, eq-eqb, ne_eqb, cases_lt}
-use Rattle.std.proofs.lemmas.List.{length-map, map-append, take_more, append-nil, length-append, get_or_past, get_or-set_same, get_or-set_other}
+use Rattle.std.proofs.lemmas.List.{map-append, take_more, append-nil, length-append, get_or_past, get_or-set_same, get_or-set_other}
 use Rattle.std.proofs.lemmas.List.{get_or_default}
 use Rattle.std.proofs.lemmas.List.Elements.{All-push}
 use mathlib.Core.Path.{fun_ext}
@@ -23,14 +23,11 @@ use Rattle.attr_search.specs.inner.SlotContents.{SlotContents, wanted_numbers}
 use Rattle.attr_search.specs.Settings.{HaveSlots, BodiesAreNamed, HeldAreNamed}
 use Rattle.attr_search.specs.inner.Slotted.{BodiesHaveSlots}
 use Rattle.attr_lists.specs.Numbers.{AreNamed}
-use Rattle.std.specs.Prelude.{Vec}
-use Rattle.std.specs.Global.{Global}
 use Rattle.attr_search.specs.declared.matching_line.MatchingLine.{MatchingLine}
 use Rattle.attr_search.specs.declared.slot_filler.SlotFiller.{SlotFiller}
 use Rattle.attr_lists.specs.declared.types.MatchKind.{MatchKind}
 use Rattle.attr_search.specs.Matches.{is_macro_kind, cause_of}
 use Rattle.attr_search.specs.inner.Filling.{AtLine, BodiesFit, KeepsFiller}
-use Rattle.attr_search.specs.inner.Slotted.{bodies_view}
 use Rattle.std.specs.Prelude.{MatchOption, ⊤}
 use Rattle.attr_search.specs.inner.Pending.{item_match, line_origin, items_beside, pending_item, IsPlaced, task_of, pending_tasks, no_item}
 
@@ -117,6 +114,14 @@ pub item_filled : (line : MatchingLine) (bs : List (List TrackedAssignment)) (bo
 item_filled line bs body top item kind empty held new is lt bodied e k d written =
     fill_is bs (line_origin line) line.items.now body top item empty held new is lt bodied e
     (written ∙ ap (λ m. set held item.id.0 (Some m)) (match_made (item_match line item kind) (not empty) top.cause k d))
+
+-- the slot of the item that waited was filled, and so that of the item which it is
+pub filled_as : (line : MatchingLine) (bs : List (List TrackedAssignment)) (w : PendingItem) (item : TrackedAssignment) (kind : MatchKind)
+    (held new : List (Option Matched)) → item ≡ pending_item line.items.now bs w →
+    new ≡ set held (pending_item line.items.now bs w).id.0 (Some (item_match line (pending_item line.items.now bs w) kind)) →
+    new ≡ set held item.id.0 (Some (item_match line item kind))
+filled_as line bs w item kind held new is written =
+    written ∙ ap (λ (i : TrackedAssignment). set held i.id.0 (Some (item_match line i kind))) (sym is)
 
 -- the items among which one waits have the names of their numbers
 named_source : (names : List (List ℕ)) (line : List TrackedAssignment) (bs : List (List TrackedAssignment)) (cause : Option ℕ) →
@@ -319,26 +324,17 @@ line_walked bs origin items old fresh after stack laid a b begun empty is p =
     (slots_of f.answers) after a b) begun q
 
 -- bodies fit slots that are as many as before
-pub still_fit : (before after : SlotFiller) → KeepsFiller before after → BodiesFit (length before.slots.answers) before.bodies.items →
-    BodiesFit (length after.slots.answers) after.bodies.items
+pub still_fit : (before after : SlotFiller) → KeepsFiller before after → BodiesFit (length before.slots.answers) before.slots.bodies →
+    BodiesFit (length after.slots.answers) after.slots.bodies
 still_fit before after kept fit = rw (kept.len, kept.bodies) fit
 
 -- a line that is filled in stays the line
 pub still_at_line : (line : MatchingLine) (before after : SlotFiller) → KeepsFiller before after → AtLine line before →
-    All (IsPlaced line.items.now (bodies_view before.bodies.items)) after.stack.items →
+    All (IsPlaced line.items.now before.slots.bodies) after.stack.items →
     MatchOption after.slots.line ⊤ (λ o. o ≡ line_origin line) → AtLine line after
 still_at_line line before after kept here placed origin =
     record {
       can_fill = record { bodies = still_fit before after kept here.can_fill.bodies; in_line = rw kept.len here.can_fill.in_line };
       placed = rw kept.bodies placed;
       origin = origin;
-    }
-
--- copies of bodies fit copies of slots
-pub copies_fit : (slots slots' : ℕ) (bodies copies : List (Vec TrackedAssignment Global)) → slots' ≡ slots →
-    bodies_view copies ≡ bodies_view bodies → BodiesFit slots bodies → BodiesFit slots' copies
-copies_fit slots slots' bodies copies same e fit =
-    record {
-      same_length = sym (length-map copies (λ b. b.items)) ∙ ap length e ∙ length-map bodies (λ b. b.items) ∙ fit.same_length ∙ sym same;
-      in_bodies = rw (e, same) fit.in_bodies;
     }

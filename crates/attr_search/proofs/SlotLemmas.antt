@@ -16,9 +16,17 @@ use Rattle.std.proofs.lemmas.List.Folds.{list_any-append}
 use Rattle.attr_table.specs.Cut.{is_done}
 use Rattle.attr_table.specs.Setting.{Origin}
 use Rattle.attr_search.specs.inner.SlotContents.{AreListed, count_remaining, remaining_at, wanted_numbers}
-use Rattle.attr_search.specs.inner.Refs.{IsOriginRef, RefersTo, IsMatchRef, AreMatchRefs, origin_by_ref, match_by_ref, matches_by_ref}
+use Rattle.attr_search.specs.Matches.{cause_of}
+use Rattle.attr_search.specs.inner.Refs.{HasAssignment, IsOriginRef, RefersTo, IsMatchRef, AreMatchRefs, assignment_at, origin_by_ref, match_by_ref}
+use Rattle.attr_search.specs.inner.Refs.{matches_by_ref}
 use Rattle.attr_search.specs.Slots.{Matched, slots_of, table_answer}
 use Rattle.attr_search.specs.inner.RefMapParts.{RefMapParts, KeepsRefs, Grows, no_pattern, no_assignment}
+use Rattle.std.specs.Prelude.{Vec}
+use Rattle.std.specs.Global.{Global}
+use Rattle.attr_lists.specs.declared.types.TrackedAssignment.{TrackedAssignment}
+use Rattle.attr_search.specs.declared.matching_line.PendingItem.{PendingItem}
+use Rattle.attr_search.specs.inner.Pending.{pending_item}
+use Rattle.attr_search.specs.inner.Slotted.{bodies_view}
 use Rattle.attr_search.specs.declared.refmap.OriginRef.{OriginRef}
 use Rattle.attr_search.specs.declared.refmap.MatchRef.{MatchRef}
 use Rattle.attr_search.proofs.RefLemmas.{grows_at, grows_length}
@@ -138,14 +146,22 @@ line_stays old new l extends within =
       same = cc (pattern, source.1);
     }
 
+assignment_stays : (old new : RefMapParts) (cause : Option ℕ) (place : ℕ) → KeepsRefs old new → HasAssignment old cause place →
+    HasAssignment new cause place × (assignment_at new cause place ≡ assignment_at old cause place)
+assignment_stays old new None place extends within = (
+  omega (arith, grows_length old.assignments new.assignments extends.assignments, within),
+  grows_at old.assignments new.assignments place no_assignment extends.assignments within,
+)
+assignment_stays old new (Some cause) place extends within = (rw extends.bodies within, rw extends.bodies refl)
+
 -- and a stored match
 pub match_stays : (old new : RefMapParts) (m : MatchRef) → KeepsRefs old new → IsMatchRef old m → IsMatchRef new m ×
     (match_by_ref new m ≡ match_by_ref old m)
 match_stays old new m extends within =
     let line = line_stays old new m.line extends within.line in
-    let assignment = grows_at old.assignments new.assignments m.assignment no_assignment extends.assignments within.assignment in (
-      record { line = line.within; assignment = omega (arith, grows_length old.assignments new.assignments extends.assignments, within.assignment) },
-      cc (line.same, assignment),
+    let assignment = assignment_stays old new (cause_of m.kind) m.assignment extends within.assignment in (
+      record { line = line.within; assignment = assignment.0 },
+      cc (line.same, assignment.1),
     )
 
 slot_stays : (old new : RefMapParts) (o : Option MatchRef) → KeepsRefs old new → MatchOption o ⊤ (IsMatchRef old) →
@@ -222,10 +238,24 @@ fill_counts flags slots i x w left taken same lt free counted read byte =
     let one : taken ≡ cond (get_or flags i false) 1 0 = byte ∙ byte_is w ∙ ap (λ b. cond b 1 0) read in
     (omega arith, omega arith)
 
+-- the item that waits, by bodies that are seen as others
+pub item_is : (line : List TrackedAssignment) (top : PendingItem) (item : TrackedAssignment) (given : List (Vec TrackedAssignment Global))
+    (bodies seen : List (List TrackedAssignment)) → item ≡ pending_item line (bodies_view given) top → bodies_view given ≡ bodies → bodies ≡ seen →
+    item ≡ pending_item line seen top
+item_is line top item given bodies seen is same e = is ∙ ap (λ bs. pending_item line bs top) (same ∙ e)
+
 pub line_kept : (store : RefMapParts) (origin : Origin) (l : Option OriginRef) → MatchOption l ⊤ (λ s. RefersTo store s origin) → MatchOption l ⊤
     (IsOriginRef store)
 line_kept store origin None h = tt
 line_kept store origin (Some l) h = h.within
+
+-- and still refers to its origin once more is stored
+pub line_still : (old new : RefMapParts) (origin : Origin) (l : Option OriginRef) → KeepsRefs old new →
+    MatchOption l ⊤ (λ s. RefersTo old s origin) → MatchOption l ⊤ (λ s. RefersTo new s origin)
+line_still old new origin None extends h = tt
+line_still old new origin (Some l) extends h =
+    let stays = line_stays old new l extends h.within in
+    record { within = stays.within; same = stays.same ∙ h.same }
 
 -- answers that are seen are as many as the slots that hold them
 remaining_at-seen : (store : RefMapParts) (w : Bool) (slot : Option MatchRef) → remaining_at w slot ≡ remaining_at w

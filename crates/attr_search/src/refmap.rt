@@ -1,14 +1,17 @@
 //! The parts of matches: patterns, assignments and sources. What is stored has a place: its index among those of its kind, from 0.
 
-ghost use Rattle.std.specs.Prelude.{◌≡◌, ◌<◌, ◌≤◌, ◌+◌, ◌-◌, ◌^◌, [], Some, IfOk, length, map, min, option_map, slice_get, slice_index_or, string_bytes};
+ghost use Rattle.std.specs.Prelude.{◌≡◌, ◌<◌, ◌≤◌, ◌+◌, ◌-◌, ◌^◌, [], All, Some, IfOk, OnErr, OnOk, length, map, min, option_map, slice_get, slice_index_or, string_bytes};
 ghost use Rattle.std.specs.Bool.{OnTrue};
 ghost use Rattle.attr_glob.specs.Views.{pattern_view};
-ghost use Rattle.attr_search.specs.inner.Pending.{line_origin};
-ghost use Rattle.attr_search.specs.inner.RefMapParts.{KeepsRefs, Grows, IsSmall, no_assignment, no_pattern, pattern_bytes, source_bytes};
-ghost use Rattle.attr_search.specs.Matches.{match_view};
-ghost use Rattle.attr_search.specs.inner.Refs.{RefersTo, IsMatchRef, match_by_ref};
+ghost use Rattle.attr_search.specs.inner.BodyChanges.{changed_bodies, sized_bodies};
+ghost use Rattle.attr_search.specs.inner.Pending.{IsPlaced, line_origin, pending_item};
+ghost use Rattle.attr_search.specs.inner.RefMapParts.{KeepsRefs, Grows, IsSmall, no_pattern, pattern_bytes, source_bytes};
+ghost use Rattle.attr_search.specs.inner.Slotted.{bodies_view};
+ghost use Rattle.attr_search.specs.Matches.{match_view, cause_of};
+ghost use Rattle.attr_search.specs.inner.Refs.{HasAssignment, RefersTo, IsMatchRef, assignment_at, match_by_ref};
 
-use crate::matching_line::MatchingLine;
+use crate::bodies::{self, BodyChange};
+use crate::matching_line::{MatchingLine, PendingItem, body_of};
 use crate::recent_places::RecentPlaces;
 use attr_glob::Pattern;
 use attr_glob::search::pattern::Mapping;
@@ -33,7 +36,7 @@ pub struct OriginRef {
 pub struct MatchRef {
     /// The places of the line's parts.
     pub line: OriginRef,
-    /// The place of the assignment.
+    /// The place of the assignment: among those that are stored, or in the body of the macro that expanded to it.
     pub assignment: usize,
     /// Whether the attribute is a macro, and which macro expanded to it.
     pub kind: MatchKind,
@@ -45,13 +48,16 @@ const MOST: usize = 1 << 22;
 // How many bytes are counted for a stored text beside its own.
 const BESIDE: usize = 64;
 
-/// The patterns, assignments and sources of matches. A pattern or source that was stored of late is found again; another one is
-/// stored once more. An assignment shares its texts with the item that it is of, so each match stores its own.
+/// The patterns, assignments and sources of matches, and the bodies of macros. A pattern or source that was stored of late is
+/// found again; another one is stored once more. An item of a body is there already, so a match by it stores no assignment. A
+/// match by an item of a line stores its own, which shares its texts with the item.
 #[derive(Drop)]
 pub struct RefMap {
     patterns: PatternStore,
     assignments: Vec<Assignment>,
     sources: SourceStore,
+    // The body of each attribute, by number: empty if it is no macro.
+    bodies: Vec<Vec<TrackedAssignment>>,
 }
 
 #[derive(Drop)]
@@ -110,30 +116,60 @@ impl Model for RefMap {
 }
 
 impl RefMap {
-    /// A map without parts. It takes no memory.
+    /// A map without parts and bodies. It takes no memory.
     pub fn new(alloc: Global) -> RefMap
-        ensures { result ≡ record { patterns = []; assignments = []; sources = [] } }
+        ensures { result ≡ record { patterns = []; assignments = []; sources = []; bodies = [] } }
     {
         RefMap {
             patterns: PatternStore::new(alloc),
             assignments: Vec::new(alloc),
             sources: SourceStore::new(alloc),
+            bodies: Vec::new(alloc),
         }
     }
 
-    /// Forgets what is stored, and keeps the room for it.
-    pub fn clear(&mut self)
-        ensures { self.new ≡ record { patterns = []; assignments = []; sources = [] } }
+    /// Keeps or makes a body for each number below a count, and changes some of these. Forgets what is stored, and keeps the
+    /// room for it.
+    ///
+    /// # Errors
+    ///
+    /// If memory runs out. Nothing changes then.
+    pub fn set_up(
+        &mut self,
+        alloc: Global,
+        count: usize,
+        changes: Vec<BodyChange>,
+    ) -> Result<(), AllocError>
+        requires { All (λ change. change.number < count) changes.items }
+        ensures ok { OnOk result (self.new ≡ record {
+          patterns = [];
+          assignments = [];
+          sources = [];
+          bodies = changed_bodies changes.items (sized_bodies count self.old.bodies);
+        }) }
+        ensures refused { OnErr result (self.new ≡ self.old) }
     {
+        bodies::grow(alloc, &mut self.bodies, count)?;
+        self.bodies.truncate(count);
+        bodies::change(&mut self.bodies, changes);
         self.patterns.clear();
         self.assignments.clear();
         self.sources.clear();
+        Ok(())
+    }
+
+    /// The body of each attribute, by number: empty if it is no macro.
+    pub fn bodies(&self) -> &[Vec<TrackedAssignment>]
+        ensures { bodies_view result.now ≡ self.now.bodies }
+    {
+        &self.bodies
     }
 
     /// Forgets the assignments, and the patterns or the sources too if they take more than 4 MB. No match refers to them any
     /// more.
     pub fn release(&mut self)
         ensures assignments { self.new.assignments ≡ [] }
+        ensures bodies { self.new.bodies ≡ self.old.bodies }
         ensures small { IsSmall self.new }
     {
         self.assignments.clear();
@@ -160,7 +196,8 @@ impl RefMap {
         })
     }
 
-    /// Stores an item's assignment, and returns its place. What was stored keeps its place.
+    /// Returns the place of an item's assignment: in its body, or where this stores it if the line itself has the item. What
+    /// was stored keeps its place.
     ///
     /// # Errors
     ///
@@ -168,14 +205,21 @@ impl RefMap {
     pub fn assignment(
         &mut self,
         alloc: Global,
-        item: &TrackedAssignment,
+        items: &[TrackedAssignment],
+        item: PendingItem,
     ) -> Result<usize, AllocError>
-        ensures place { IfOk result (λ place.
-            slice_get self.new.assignments place ≡ Some item.now.inner) }
+        requires { IsPlaced items.now self.old.bodies item }
+        ensures within { IfOk result (HasAssignment self.new item.cause) }
+        ensures place { IfOk result (λ place. assignment_at self.new item.cause place
+            ≡ (pending_item items.now self.old.bodies item).inner) }
         ensures extends { KeepsRefs self.old self.new }
     {
+        if item.cause.is_some() {
+            return Ok(item.place);
+        }
         let place = self.assignments.len();
-        self.assignments.push(item.inner.clone(alloc)?)?;
+        self.assignments
+            .push(items[item.place].inner.clone(alloc)?)?;
         Ok(place)
     }
 
@@ -191,6 +235,7 @@ impl RefMap {
             patterns: self.patterns.clone(alloc)?,
             assignments: copy_of_assignments(alloc, &self.assignments)?,
             sources: self.sources.clone(alloc)?,
+            bodies: bodies::copy_of_bodies(alloc, &self.bodies)?,
         })
     }
 
@@ -206,7 +251,7 @@ impl RefMap {
         };
         Match {
             pattern: self.patterns.get(line.pattern),
-            assignment: self.assignment_at(found.assignment).as_ref(),
+            assignment: self.assignment_at(found.kind, found.assignment).as_ref(),
             kind: found.kind,
             location: MatchLocation {
                 source,
@@ -215,11 +260,14 @@ impl RefMap {
         }
     }
 
-    fn assignment_at(&self, place: usize) -> &Assignment
-        requires { place < length self.now.assignments }
-        ensures { result.now ≡ slice_index_or self.now.assignments place no_assignment }
+    fn assignment_at(&self, kind: MatchKind, place: usize) -> &Assignment
+        requires { HasAssignment self.now (cause_of kind) place }
+        ensures { result.now ≡ assignment_at self.now (cause_of kind) place }
     {
-        &self.assignments[place]
+        match kind.source_id() {
+            None => &self.assignments[place],
+            Some(id) => &body_of(&self.bodies, id.0)[place].inner,
+        }
     }
 }
 

@@ -21,7 +21,7 @@ ghost use Rattle.attr_search.specs.inner.Searched.{KeepsState, ListKeepsNamed, L
 ghost use Rattle.attr_search.specs.inner.SlotContents.{count_remaining};
 ghost use Rattle.attr_search.specs.inner.Trying.{AreTried};
 
-use crate::bodies::{self, BodyChange};
+use crate::bodies::BodyChange;
 use crate::indexed_list::IndexedList;
 use crate::indexed_lists::IndexedLists;
 use crate::matching_line::MatchingLine;
@@ -73,15 +73,15 @@ impl SearchState {
         ensures { result ≡ record
             { answers = []; wanted = []; bodies = []; taken = 0; tested = 0 } }
     {
-        SearchState::of(alloc, AnswerSlots::new(alloc), Vec::new(alloc))
+        SearchState::of(alloc, AnswerSlots::new(alloc))
     }
 
-    fn of(alloc: Global, slots: AnswerSlots, bodies: Vec<Vec<TrackedAssignment>>) -> SearchState
-        requires { BodiesFit (length slots.answers) bodies.items }
+    fn of(alloc: Global, slots: AnswerSlots) -> SearchState
+        requires { BodiesFit (length slots.answers) slots.bodies }
         ensures { result ≡ record {
           answers = slots.answers;
           wanted = slots.wanted;
-          bodies = bodies_view bodies.items;
+          bodies = slots.bodies;
           taken = 0;
           tested = 0;
         } }
@@ -89,7 +89,6 @@ impl SearchState {
         SearchState {
             filler: SlotFiller {
                 slots,
-                bodies,
                 stack: Vec::new(alloc),
                 taken: 0,
             },
@@ -127,14 +126,7 @@ impl SearchState {
         }) }
         ensures refused { OnErr result (self.new ≡ self.old) }
     {
-        let (before, count) = (self.filler.bodies.len(), wanted.len());
-        bodies::grow(alloc, &mut self.filler.bodies, count)?;
-        if self.filler.slots.set_up(wanted).is_err() {
-            self.filler.bodies.truncate(before);
-            return Err(AllocError);
-        }
-        self.filler.bodies.truncate(count);
-        bodies::change(&mut self.filler.bodies, changes);
+        self.filler.slots.set_up(alloc, wanted, changes)?;
         self.filler.taken = 0;
         self.tested = 0;
         Ok(())
@@ -158,9 +150,7 @@ impl SearchState {
     pub fn clone(&self, alloc: Global) -> Result<SearchState, AllocError>
         ensures { IfOk result (λ copy. copy ≡ self.now) }
     {
-        let slots = self.filler.slots.clone(alloc)?;
-        let bodies = bodies::copy_of_bodies(alloc, &self.filler.bodies)?;
-        let mut copy = SearchState::of(alloc, slots, bodies);
+        let mut copy = SearchState::of(alloc, self.filler.slots.clone(alloc)?);
         copy.filler.taken = self.filler.taken;
         copy.tested = self.tested;
         Ok(copy)
@@ -182,9 +172,7 @@ impl SearchState {
             { wanted = wanted; taken = 0; tested = 0 }) }
         ensures refused { OnErr result (self.new ≡ self.old) }
     {
-        let slots = other.filler.slots.copy(alloc, wanted)?;
-        let bodies = bodies::copy_of_bodies(alloc, &other.filler.bodies)?;
-        let mut copy = SearchState::of(alloc, slots, bodies);
+        let mut copy = SearchState::of(alloc, other.filler.slots.copy(alloc, wanted)?);
         mem::swap(&mut self.buffers, &mut copy.buffers);
         *self = copy;
         Ok(())
@@ -231,7 +219,7 @@ impl SearchState {
         ensures bodies { bodies_view result.now ≡ self.now.bodies }
         ensures len { length result.now ≡ length self.now.answers }
     {
-        &self.filler.bodies
+        self.filler.slots.bodies()
     }
 
     /// How many items the last search took off its stack.

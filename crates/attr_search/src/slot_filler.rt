@@ -5,7 +5,6 @@ ghost use Rattle.attr_table.specs.inner.Walk;
 ghost use Rattle.attr_table.specs.inner.Walk.{tasks_in};
 ghost use Rattle.attr_search.specs.Settings.{HaveSlots};
 ghost use Rattle.attr_search.specs.Slots.{slots_of, table_items, table_state};
-ghost use Rattle.attr_search.specs.inner.Slotted.{bodies_view};
 ghost use Rattle.attr_search.specs.inner.Filling.{AtLine, CanFill, Fills, FillsNamed, KeepsFiller, Processes, most_left, stack_tasks};
 ghost use Rattle.attr_search.specs.inner.Pending.{IsPlaced, PushesFree, PushesPlaced, line_origin};
 
@@ -15,13 +14,11 @@ use attr_lists::types::TrackedAssignment;
 use attr_text::State;
 use std::alloc::{AllocError, Global};
 
-/// The slots, the bodies of macros by number, and the stack that fills the slots.
+/// The slots, with the bodies of macros, and the stack that fills the slots.
 #[derive(Drop)]
 pub struct SlotFiller {
-    /// The slots of the attributes, by number.
+    /// The slots and the bodies of the attributes, by number.
     pub slots: AnswerSlots,
-    /// The body of each attribute, by number: empty if it is no macro.
-    pub bodies: Vec<Vec<TrackedAssignment>>,
     /// The items that are still to be processed.
     pub stack: Vec<PendingItem>,
     /// How many items the last search popped from the stack. It stops at `u128::MAX`.
@@ -61,7 +58,7 @@ impl SlotFiller {
         ensures kept { KeepsFiller self.old self.new }
         ensures named { OnOk result (FillsNamed line.entry.items.now self.old self.new) }
         ensures filled { OnOk result (Fills
-            (stack_tasks line.entry self.old.bodies.items self.old.stack.items) self.old self.new) }
+            (stack_tasks line.entry self.old.slots.bodies self.old.stack.items) self.old self.new) }
     {
         while !self.slots.is_done() {
             let Some(top) = self.stack.pop() else {
@@ -82,24 +79,25 @@ impl SlotFiller {
         line: MatchingLine<'_>,
     ) -> Result<(), AllocError>
         requires at_line { AtLine line self.old }
-        requires placed { IsPlaced line.items.now (bodies_view self.old.bodies.items) top }
+        requires placed { IsPlaced line.items.now self.old.slots.bodies top }
         ensures at_line { OnOk result (AtLine line.entry self.new) }
         ensures kept { KeepsFiller self.old self.new }
         ensures named { OnOk result (FillsNamed line.entry.items.now self.old self.new) }
         ensures less { OnOk result (most_left self.new ≤ most_left self.old) }
         ensures processed { OnOk result (Processes line.entry top self.old self.new) }
     {
-        let item = top.item(line.items, &self.bodies);
+        let item = top.item(line.items, self.slots.bodies());
         let attribute = item.id.0;
         if !self.slots.is_free(attribute) {
             return Ok(());
         }
-        let body = body_of(&self.bodies, attribute);
-        let kind = top.kind(!body.is_empty());
-        self.slots.fill(alloc, line, item, kind)?;
-        if !is_set(&item.inner.state) {
+        let is_macro = !body_of(self.slots.bodies(), attribute).is_empty();
+        let is_expanded = is_set(&item.inner.state);
+        self.slots.fill(alloc, line, top, top.kind(is_macro))?;
+        if !is_expanded {
             return Ok(());
         }
+        let body = body_of(self.slots.bodies(), attribute);
         push_free(&mut self.stack, body, Some(attribute), &self.slots)
     }
 }

@@ -1,26 +1,29 @@
 //! What a search fills: a slot for each attribute. A slot has the answer for its attribute, or is free. The wanted
 //! slots are those that a search looks for.
 
-ghost use Rattle.std.specs.Prelude.{◌≡◌, ◌<◌, ◌-◌, ◌++◌, ◌&&◌, ⊤, false, None, Some, [], IfOk, OnErr, OnOk, MatchOption, is_none, is_some, length, map, not, option_map, replicate, set, slice_index_or};
+ghost use Rattle.std.specs.Prelude.{◌≡◌, ◌<◌, ◌-◌, ◌++◌, ◌&&◌, ⊤, All, false, None, Some, [], IfOk, OnErr, OnOk, MatchOption, is_none, is_some, length, map, not, option_map, replicate, set, slice_index_or};
 ghost use Rattle.std.specs.List.{list_any};
 ghost use Rattle.attr_table.specs.Cut.{is_done};
-ghost use Rattle.attr_search.specs.Matches.{match_view};
+ghost use Rattle.attr_search.specs.Matches.{cause_of, match_view};
 ghost use Rattle.attr_search.specs.Settings.{HaveSlots};
 ghost use Rattle.std.specs.List.Sorted.{IsNonDecreasing};
 ghost use Rattle.attr_search.specs.Slots.{AreFreeFrom, IsNextFilled, slots_of};
-ghost use Rattle.attr_search.specs.inner.Pending.{item_match, line_origin};
+ghost use Rattle.attr_search.specs.inner.BodyChanges.{changed_bodies, sized_bodies};
+ghost use Rattle.attr_search.specs.inner.Pending.{IsPlaced, item_match, line_origin, pending_item};
 ghost use Rattle.attr_search.specs.inner.RefMapParts.{IsSmall, KeepsRefs};
 ghost use Rattle.attr_search.specs.inner.Refs.{AreMatchRefs, RefersTo, IsMatchRef, match_by_ref, matches_by_ref};
+ghost use Rattle.attr_search.specs.inner.Slotted.{bodies_view};
 ghost use Rattle.attr_search.specs.inner.SlotContents.{AreListed, SlotContents, count_remaining, empty_slots, wanted_numbers};
 
-use crate::matching_line::MatchingLine;
+use crate::bodies::BodyChange;
+use crate::matching_line::{MatchingLine, PendingItem};
 use crate::refmap::{MatchRef, OriginRef, RefMap};
 use crate::wanted::WantedFlags;
 use attr_lists::types::{Match, MatchKind, TrackedAssignment};
 use std::alloc::{AllocError, Global};
 use std::marker::Model;
 
-/// A slot for each attribute, and which of them are wanted.
+/// A slot and a body for each attribute, and which of them are wanted.
 #[derive(Drop)]
 pub struct AnswerSlots {
     slots: Vec<Option<MatchRef>>,
@@ -57,7 +60,7 @@ impl Model for AnswerSlots {
 impl AnswerSlots {
     /// No slots.
     pub fn new(alloc: Global) -> AnswerSlots
-        ensures { result ≡ record { answers = []; wanted = []; line = None } }
+        ensures { result ≡ record { answers = []; wanted = []; line = None; bodies = [] } }
     {
         AnswerSlots {
             slots: Vec::new(alloc),
@@ -69,26 +72,43 @@ impl AnswerSlots {
         }
     }
 
-    /// Makes an empty slot for each flag, in place of its own. What was stored is forgotten. It costs what was filled,
-    /// and takes memory for more slots only.
+    /// Makes an empty slot for each flag in place of its own, keeps or makes a body for each, and changes some of these. What
+    /// was stored is forgotten. It costs what was filled and what is changed, and takes memory for more slots only.
     ///
     /// # Errors
     ///
     /// If memory runs out. Nothing changes then.
-    pub fn set_up(&mut self, wanted: WantedFlags) -> Result<(), AllocError>
-        ensures ok { OnOk result (self.new ≡ empty_slots wanted) }
+    pub fn set_up(
+        &mut self,
+        alloc: Global,
+        wanted: WantedFlags,
+        changes: Vec<BodyChange>,
+    ) -> Result<(), AllocError>
+        requires { All (λ change. change.number < length wanted) changes.items }
+        ensures ok { OnOk result (self.new ≡ empty_slots wanted
+            (changed_bodies changes.items (sized_bodies (length wanted) self.old.bodies))) }
         ensures refused { OnErr result (self.new ≡ self.old) }
     {
-        let count = wanted.len();
+        let (before, count) = (self.slots.len(), wanted.len());
         grow(&mut self.slots, count)?;
+        if self.matches.set_up(alloc, count, changes).is_err() {
+            self.slots.truncate(before);
+            return Err(AllocError);
+        }
         empty(&mut self.slots, &self.filled);
         self.filled.clear();
         self.is_ordered = true;
         self.slots.truncate(count);
         self.remaining = wanted.count();
         self.wanted = wanted;
-        self.matches.clear();
         Ok(())
+    }
+
+    /// The body of each attribute, by number: empty if it is no macro.
+    pub fn bodies(&self) -> &[Vec<TrackedAssignment>]
+        ensures { bodies_view result.now ≡ self.now.bodies }
+    {
+        self.matches.refs.bodies()
     }
 
     /// How many wanted slots are free.
@@ -98,15 +118,14 @@ impl AnswerSlots {
         self.remaining
     }
 
-    /// A copy of the slots, with other slots wanted.
+    /// A copy of the slots and the bodies, with other slots wanted.
     ///
     /// # Errors
     ///
     /// If memory runs out.
     pub fn copy(&self, alloc: Global, wanted: WantedFlags) -> Result<AnswerSlots, AllocError>
         requires { length wanted ≡ length self.now.answers }
-        ensures { IfOk result (λ slots. slots ≡ record
-            { answers = self.now.answers; wanted = wanted; line = None }) }
+        ensures { IfOk result (λ slots. slots ≡ record self.now { wanted = wanted; line = None }) }
     {
         let slots = Vec::from_slice(alloc, &self.slots)?;
         let filled = Vec::from_slice(alloc, &self.filled)?;
@@ -122,7 +141,7 @@ impl AnswerSlots {
         })
     }
 
-    /// A copy of the slots, of which the same are wanted.
+    /// A copy of the slots, of which the same are wanted, and of the bodies.
     ///
     /// # Errors
     ///
@@ -186,22 +205,29 @@ impl AnswerSlots {
         &mut self,
         alloc: Global,
         line: MatchingLine<'_>,
-        item: &TrackedAssignment,
+        top: PendingItem,
         kind: MatchKind,
     ) -> Result<(), AllocError>
-        requires within { item.now.id.0 < length self.old.answers }
-        requires free { is_some (slots_of self.old.answers item.now.id.0) ≡ false }
+        requires placed { IsPlaced line.items.now self.old.bodies top }
+        requires cause { cause_of kind ≡ top.cause }
+        requires within { (pending_item line.items.now self.old.bodies top).id.0
+            < length self.old.answers }
+        requires free { is_some (slots_of self.old.answers
+            (pending_item line.items.now self.old.bodies top).id.0) ≡ false }
         requires line { MatchOption self.old.line ⊤ (λ o. o ≡ line_origin line) }
-        ensures answers { OnOk result (self.new.answers
-            ≡ set self.old.answers item.now.id.0 (Some (item_match line.entry item.now kind))) }
+        ensures answers { OnOk result (
+            let item = pending_item line.entry.items.now self.old.bodies top in
+            self.new.answers
+            ≡ set self.old.answers item.id.0 (Some (item_match line.entry item kind))) }
         ensures refused { OnErr result (self.new.answers ≡ self.old.answers) }
         ensures wanted { self.new.wanted ≡ self.old.wanted }
+        ensures bodies { self.new.bodies ≡ self.old.bodies }
         ensures line { MatchOption self.new.line ⊤ (λ o. o ≡ line_origin line.entry) }
     {
-        let attribute = item.id.0;
+        let attribute = top.item(line.items, self.matches.refs.bodies()).id.0;
         self.is_ordered = false;
         self.filled.push(attribute)?;
-        let found = self.matches.store(alloc, line, item, kind)?;
+        let found = self.matches.store(alloc, line, top, kind)?;
         self.remaining -= usize::from(self.wanted.has(attribute));
         self.slots[attribute] = Some(found);
         Ok(())
@@ -264,6 +290,7 @@ impl MatchStore {
     // Forgets the line, and what is stored of matches alone. No slot has a match any more.
     fn release(&mut self)
         ensures line { self.new.line ≡ None }
+        ensures bodies { self.new.refs.bodies ≡ self.old.refs.bodies }
         ensures assignments { self.new.refs.assignments ≡ [] }
         ensures small { IsSmall self.new.refs }
     {
@@ -271,34 +298,45 @@ impl MatchStore {
         self.refs.release();
     }
 
-    // Forgets what is stored.
-    fn clear(&mut self)
-        ensures refs { self.new.refs ≡ record { patterns = []; assignments = []; sources = [] } }
-        ensures line { self.new.line ≡ None }
+    // Forgets what is stored, and keeps or makes a body for each number below a count, of which some are changed.
+    fn set_up(
+        &mut self,
+        alloc: Global,
+        count: usize,
+        changes: Vec<BodyChange>,
+    ) -> Result<(), AllocError>
+        requires { All (λ change. change.number < count) changes.items }
+        ensures bodies { OnOk result (self.new.refs.bodies
+            ≡ changed_bodies changes.items (sized_bodies count self.old.refs.bodies)) }
+        ensures line { OnOk result (self.new.line ≡ None) }
+        ensures refused { OnErr result (self.new ≡ self.old) }
     {
-        self.refs.clear();
+        self.refs.set_up(alloc, count, changes)?;
         self.line = None;
+        Ok(())
     }
 
-    // Stores an item, and the current line if it is not stored yet.
+    // Stores an item that is not of a body, and the current line if it is not stored yet.
     fn store(
         &mut self,
         alloc: Global,
         line: MatchingLine<'_>,
-        item: &TrackedAssignment,
+        top: PendingItem,
         kind: MatchKind,
     ) -> Result<MatchRef, AllocError>
-        requires { MatchOption self.old.line ⊤
+        requires placed { IsPlaced line.items.now self.old.refs.bodies top }
+        requires cause { cause_of kind ≡ top.cause }
+        requires line { MatchOption self.old.line ⊤
             (λ l. RefersTo self.old.refs l (line_origin line)) }
         ensures extends { KeepsRefs self.old.refs self.new.refs }
         ensures line { MatchOption self.new.line ⊤
             (λ l. RefersTo self.new.refs l (line_origin line.entry)) }
         ensures within { IfOk result (IsMatchRef self.new.refs) }
-        ensures found { IfOk result (λ m.
-            match_by_ref self.new.refs m ≡ item_match line.entry item.now kind) }
+        ensures found { IfOk result (λ m. match_by_ref self.new.refs m ≡ item_match line.entry
+            (pending_item line.entry.items.now self.old.refs.bodies top) kind) }
     {
         let origin = self.store_line(alloc, line)?;
-        let assignment = self.refs.assignment(alloc, item)?;
+        let assignment = self.refs.assignment(alloc, line.items, top)?;
         Ok(MatchRef {
             line: origin,
             assignment,

@@ -1,6 +1,5 @@
 -- What contracts of functions name that fill slots by the items of a line (own). Nothing here has to be believed.
-use Rattle.std.specs.Prelude.{◌≡◌, ℕ, ◌+◌, ◌-◌, ◌^◌, min, false, List, ◌∷◌, length, All, MatchOption, ⊤, Vec}
-use Rattle.std.specs.Global.{Global}
+use Rattle.std.specs.Prelude.{◌≡◌, ℕ, ◌+◌, ◌-◌, ◌^◌, min, false, List, ◌∷◌, length, All, MatchOption, ⊤}
 use Rattle.attr_lists.specs.declared.types.TrackedAssignment.{TrackedAssignment}
 use Rattle.attr_table.specs.Table.{Slots}
 use Rattle.attr_table.specs.Cut.{is_done}
@@ -12,44 +11,43 @@ use Rattle.attr_search.specs.Settings.{BodiesAreNamed, HaveSlots, HeldAreNamed}
 use Rattle.attr_lists.specs.Numbers.{AreNamed}
 use Rattle.attr_search.specs.inner.Slotted.{BodiesHaveSlots}
 use Rattle.attr_search.specs.Slots.{slots_of}
-use Rattle.attr_search.specs.inner.Slotted.{bodies_view}
 use Rattle.attr_search.specs.inner.Pending.{IsPlaced, line_origin, pending_tasks, table_bodies, task_of}
 use Rattle.attr_search.specs.inner.SlotContents.{wanted_numbers}
 
 -- there is a body for each slot, and each item of a body has a slot
-pub record BodiesFit (slots : ℕ) (bodies : List (Vec TrackedAssignment Global)) : Type 0 where
+pub record BodiesFit (slots : ℕ) (bodies : List (List TrackedAssignment)) : Type 0 where
   pub same_length : length bodies ≡ slots
-  pub in_bodies : BodiesHaveSlots slots (bodies_view bodies)
+  pub in_bodies : BodiesHaveSlots slots bodies
 
 -- and so has each item of a line
 pub record CanFill (filler : SlotFiller) (items : List TrackedAssignment) : Type 0 where
-  pub bodies : BodiesFit (length filler.slots.answers) filler.bodies.items
+  pub bodies : BodiesFit (length filler.slots.answers) filler.slots.bodies
   pub in_line : HaveSlots (length filler.slots.answers) items
 
 -- the items of a line are being filled in: what waits is an item, and what was stored last is this line
 pub record AtLine (line : MatchingLine) (filler : SlotFiller) : Type 0 where
   pub can_fill : CanFill filler line.items.now
-  pub placed : All (IsPlaced line.items.now (bodies_view filler.bodies.items)) filler.stack.items
+  pub placed : All (IsPlaced line.items.now filler.slots.bodies) filler.stack.items
   pub origin : MatchOption filler.slots.line ⊤ (λ o. o ≡ line_origin line)
 
 -- what filling leaves as it is
 pub record KeepsFiller (before after : SlotFiller) : Type 0 where
   pub wanted : after.slots.wanted ≡ before.slots.wanted
   pub len : length after.slots.answers ≡ length before.slots.answers
-  pub bodies : after.bodies ≡ before.bodies
+  pub bodies : after.slots.bodies ≡ before.slots.bodies
 
 -- answers have the names of their numbers, if the items and the answers before have them
 abbrev pub FillsNamed : List TrackedAssignment → SlotFiller → SlotFiller → Type 0
 FillsNamed items before after =
-    (names : List (List ℕ)) → AreNamed names items → BodiesAreNamed names (bodies_view before.bodies.items) →
+    (names : List (List ℕ)) → AreNamed names items → BodiesAreNamed names before.slots.bodies →
     HeldAreNamed names before.slots.answers → HeldAreNamed names after.slots.answers
 
 -- the tasks of what waits, and the task of one item
-abbrev pub stack_tasks : MatchingLine → List (Vec TrackedAssignment Global) → List PendingItem → List Task
-stack_tasks line bodies stack = pending_tasks (line_origin line) line.items.now (bodies_view bodies) stack
+abbrev pub stack_tasks : MatchingLine → List (List TrackedAssignment) → List PendingItem → List Task
+stack_tasks line bodies stack = pending_tasks (line_origin line) line.items.now bodies stack
 
-abbrev pub item_task : MatchingLine → List (Vec TrackedAssignment Global) → PendingItem → Task
-item_task line bodies w = task_of (line_origin line) line.items.now (bodies_view bodies) w
+abbrev pub item_task : MatchingLine → List (List TrackedAssignment) → PendingItem → Task
+item_task line bodies w = task_of (line_origin line) line.items.now bodies w
 
 abbrev pub filler_slots : SlotFiller → Slots
 filler_slots filler = slots_of filler.slots.answers
@@ -57,18 +55,18 @@ filler_slots filler = slots_of filler.slots.answers
 -- some tasks were gone through
 abbrev pub Fills : List Task → SlotFiller → SlotFiller → Type 0
 Fills tasks before after =
-    Searches (table_bodies before.bodies.items) (wanted_numbers before.slots.wanted) tasks
+    Searches (table_bodies before.slots.bodies) (wanted_numbers before.slots.wanted) tasks
     (filler_slots before) (filler_slots after) before.taken after.taken
 
 -- how many items may still be taken
 abbrev pub most_left : SlotFiller → ℕ
-most_left filler = length filler.stack.items + left_in (table_bodies filler.bodies.items) (filler_slots filler)
+most_left filler = length filler.stack.items + left_in (table_bodies filler.slots.bodies) (filler_slots filler)
 
 -- what waits is gone through
 abbrev pub FillsTo : MatchingLine → SlotFiller → Slots → ℕ → Type 0
 FillsTo line filler final later =
-    Searches (table_bodies filler.bodies.items) (wanted_numbers filler.slots.wanted)
-    (stack_tasks line filler.bodies.items filler.stack.items) (filler_slots filler) final filler.taken later
+    Searches (table_bodies filler.slots.bodies) (wanted_numbers filler.slots.wanted)
+    (stack_tasks line filler.slots.bodies filler.stack.items) (filler_slots filler) final filler.taken later
 
 -- what is gone through from the slots after on is gone through from those before on
 abbrev pub LeadsTo : MatchingLine → SlotFiller → SlotFiller → Type 0
@@ -79,6 +77,6 @@ abbrev pub Processes : MatchingLine → PendingItem → SlotFiller → SlotFille
 Processes line top before after =
     is_done (wanted_numbers before.slots.wanted) (filler_slots before) ≡ false →
     (final : Slots) (earlier later : ℕ) → before.taken ≡ min (earlier + 1) (2 ^ 128 - 1) → FillsTo line after final later →
-    Searches (table_bodies before.bodies.items) (wanted_numbers before.slots.wanted)
-    (item_task line before.bodies.items top ∷ stack_tasks line before.bodies.items before.stack.items)
+    Searches (table_bodies before.slots.bodies) (wanted_numbers before.slots.wanted)
+    (item_task line before.slots.bodies top ∷ stack_tasks line before.slots.bodies before.stack.items)
     (filler_slots before) final earlier later

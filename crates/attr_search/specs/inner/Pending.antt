@@ -1,6 +1,5 @@
 -- What waits on the stack of a search (own). Nothing here has to be believed.
-use Rattle.std.specs.Prelude.{◌≡◌, ℕ, ◌<◌, List, [], ◌∷◌, ◌++◌, map, length, All, Option, Some, None, slice_index_or, option_map, string_bytes, Vec}
-use Rattle.std.specs.Global.{Global}
+use Rattle.std.specs.Prelude.{◌≡◌, ℕ, ◌<◌, List, [], ◌∷◌, ◌++◌, map, length, All, Option, Some, None, slice_index_or, option_map, string_bytes}
 use Rattle.attr_text.specs.declared.state.State.TheVariants.{Unspecified}
 use Rattle.attr_lists.specs.declared.types.MatchKind.{MatchKind}
 use Rattle.attr_lists.specs.declared.types.TrackedAssignment.{TrackedAssignment}
@@ -11,7 +10,7 @@ use Rattle.attr_search.specs.declared.matching_line.PendingItem.{PendingItem}
 use Rattle.attr_search.specs.declared.matching_line.MatchingLine.{MatchingLine}
 use Rattle.attr_search.specs.Matches.{is_macro_kind, cause_of}
 use Rattle.attr_search.specs.Slots.{Matched, table_item, table_items}
-use Rattle.attr_search.specs.inner.Slotted.{origin_of, bodies_view}
+use Rattle.attr_search.specs.inner.Slotted.{origin_of}
 
 -- the line that a match refers to
 abbrev pub line_origin : MatchingLine → Origin
@@ -23,8 +22,8 @@ item_match line item kind =
     record { origin = line_origin line; assignment = item.inner; is_macro = is_macro_kind kind; cause = cause_of kind }
 
 -- the bodies, as the table knows them
-abbrev pub table_bodies : List (Vec TrackedAssignment Global) → List (List Item)
-table_bodies bodies = map table_items (bodies_view bodies)
+abbrev pub table_bodies : List (List TrackedAssignment) → List (List Item)
+table_bodies bodies = map table_items bodies
 
 -- the items of the line, or of its cause's body
 abbrev pub items_beside : List TrackedAssignment → List (List TrackedAssignment) → Option ℕ → List TrackedAssignment

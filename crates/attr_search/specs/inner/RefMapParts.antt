@@ -1,24 +1,27 @@
--- What an outcome stores of its matches: patterns, assignments and sources, by place (own).
+-- What an outcome stores for its matches: patterns, assignments and sources, by place, and the bodies of macros (own).
 use Rattle.std.specs.Prelude.{◌≡◌, ◌≤◌, ℕ, ◌+◌, List, [], ◌++◌, None, length, sum_by}
 use Rattle.attr_glob.specs.Patterns.{Reading}
 use Rattle.attr_text.specs.declared.assignment.Assignment.{Assignment}
 use Rattle.attr_text.specs.declared.state.State.TheVariants.{Unspecified}
+use Rattle.attr_lists.specs.declared.types.TrackedAssignment.{TrackedAssignment}
 
--- patterns, assignments and sources, by place
+-- patterns, assignments and sources, by place, and bodies by number
 pub record RefMapParts : Type 0 where
   pub patterns : List Reading
   pub assignments : List Assignment
   pub sources : List (List ℕ)
+  pub bodies : List (List TrackedAssignment)
 
 -- a list may have more after what it had
 abbrev pub Grows : {X : Type 0} → List X → List X → Type 0
 Grows {X} old new = (more : List X) × (new ≡ old ++ more)
 
--- what was stored keeps its place
+-- what was stored keeps its place, and bodies stay
 pub record KeepsRefs (old new : RefMapParts) : Type 0 where
   pub patterns : Grows old.patterns new.patterns
   pub assignments : Grows old.assignments new.assignments
   pub sources : Grows old.sources new.sources
+  pub bodies : new.bodies ≡ old.bodies
 
 -- how many bytes patterns take, and sources: each has its text and 64 more
 abbrev pub pattern_bytes : List Reading → ℕ

@@ -1,8 +1,10 @@
 -- Matches by the places of their parts in what is stored (own).
-use Rattle.std.specs.Prelude.{◌≡◌, ⊤, ◌<◌, length, List, [], map, All, Option, MatchOption, option_map, slice_index_or}
+use Rattle.std.specs.Prelude.{◌≡◌, ℕ, ⊤, ◌<◌, length, List, [], map, All, Option, None, Some, MatchOption, option_map, slice_index_or}
+use Rattle.attr_text.specs.declared.assignment.Assignment.{Assignment}
 use Rattle.attr_table.specs.Setting.{Origin}
 use Rattle.attr_search.specs.Slots.{Matched}
 use Rattle.attr_search.specs.Matches.{is_macro_kind, cause_of}
+use Rattle.attr_search.specs.inner.Pending.{no_item}
 use Rattle.attr_search.specs.inner.RefMapParts.{RefMapParts, no_pattern, no_assignment}
 use Rattle.attr_search.specs.declared.refmap.OriginRef.{OriginRef}
 use Rattle.attr_search.specs.declared.refmap.MatchRef.{MatchRef}
@@ -19,12 +21,22 @@ origin_by_ref store l =
       line = l.number;
     }
 
+-- the assignment at a place: a stored one, or that of an item in the body of the macro that expanded to it
+abbrev pub assignment_at : RefMapParts → Option ℕ → ℕ → Assignment
+assignment_at store None place = slice_index_or store.assignments place no_assignment
+assignment_at store (Some cause) place = (slice_index_or (slice_index_or store.bodies cause []) place no_item).inner
+
+-- there is one
+abbrev pub HasAssignment : RefMapParts → Option ℕ → ℕ → Type 0
+HasAssignment store None place = place < length store.assignments
+HasAssignment store (Some cause) place = place < length (slice_index_or store.bodies cause [])
+
 -- what is stored of a match
 abbrev pub match_by_ref : RefMapParts → MatchRef → Matched
 match_by_ref store m =
     record {
       origin = origin_by_ref store m.line;
-      assignment = slice_index_or store.assignments m.assignment no_assignment;
+      assignment = assignment_at store (cause_of m.kind) m.assignment;
       is_macro = is_macro_kind m.kind;
       cause = cause_of m.kind;
     }
@@ -37,7 +49,7 @@ pub record IsOriginRef (store : RefMapParts) (l : OriginRef) : Type 0 where
 -- the places of a match are in use
 pub record IsMatchRef (store : RefMapParts) (m : MatchRef) : Type 0 where
   pub line : IsOriginRef store m.line
-  pub assignment : m.assignment < length store.assignments
+  pub assignment : HasAssignment store (cause_of m.kind) m.assignment
 
 -- a line is stored as this one
 pub record RefersTo (store : RefMapParts) (l : OriginRef) (origin : Origin) : Type 0 where

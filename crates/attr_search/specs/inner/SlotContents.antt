@@ -1,18 +1,20 @@
 -- What a search fills (own).
 use Rattle.std.specs.Prelude.{◌≡◌, ℕ, suc, ◌+◌, ◌<◌, nat_eq, Bool, false, cond, List, [], ◌∷◌, length, map, sum_by, slice_index_or, All, Option, None, is_none, ◌&&◌}
 use Rattle.std.specs.List.{list_any}
+use Rattle.attr_lists.specs.declared.types.TrackedAssignment.{TrackedAssignment}
 use Rattle.attr_table.specs.Setting.{Origin}
 use Rattle.attr_search.specs.Slots.{Matched}
 
--- the answers by number, which numbers are wanted, and the line whose pattern and source were looked up last
+-- the answers by number, which numbers are wanted, the line whose pattern and source were looked up last, and the bodies by number
 pub record SlotContents : Type 0 where
   pub answers : List (Option Matched)
   pub wanted : List Bool
   pub line : Option Origin
+  pub bodies : List (List TrackedAssignment)
 
--- empty slots, of which some are wanted
-abbrev pub empty_slots : List Bool → SlotContents
-empty_slots wanted = record { answers = map (λ w. None) wanted; wanted = wanted; line = None }
+-- empty slots, of which some are wanted, with bodies
+abbrev pub empty_slots : List Bool → List (List TrackedAssignment) → SlotContents
+empty_slots wanted bodies = record { answers = map (λ w. None) wanted; wanted = wanted; line = None; bodies = bodies }
 
 -- the numbers that are wanted
 abbrev pub wanted_numbers : List Bool → List ℕ

@@ -1,4 +1,4 @@
--- The answers in slots, that the places they refer to are in use, and that the numbers of filled slots are listed (own).
+-- The answers in slots and the bodies, that the places they refer to are in use, and that the numbers of filled slots are listed (own).
 use Rattle.std.specs.Prelude.{◌≡◌, ⊤, length, MatchOption, option_map}
 use Rattle.std.specs.Prelude.{true}
 use Rattle.std.specs.List.Sorted.{IsNonDecreasing}
@@ -12,6 +12,7 @@ slots_view b =
       answers = matches_by_ref b.matches.refs b.slots.items;
       wanted = b.wanted;
       line = option_map (origin_by_ref b.matches.refs) b.matches.line;
+      bodies = b.matches.refs.bodies;
     }
 
 pub record AreSoundSlots (b : Inside) : Type 0 where

@@ -1,7 +1,6 @@
 use Rattle.std.proofs.Common.{◌∙◌, ap, length, refl}
 use Rattle.std.proofs.lemmas.List.Elements.{All-nil}
 use Rattle.std.proofs.lemmas.Result.{on_ok_weaker}
-use Rattle.attr_search.specs.inner.Slotted.{bodies_view}
 use Rattle.attr_search.specs.inner.Filling.{filler_slots}
 use Rattle.attr_search.specs.inner.Pending.{IsPlaced, line_origin}
 use Rattle.attr_search.proofs.FillingLemmas.{line_walked}
@@ -14,12 +13,12 @@ pub returns-in_err-push_free-clause-kept : goal.returns-in_err-push_free-clause-
 returns-in_err-push_free-clause-kept c = record {
   wanted = ap (λ s. s.wanted) c.begin_line.ensures;
   len = ap (λ s. length s.answers) c.begin_line.ensures;
-  bodies = refl;
+  bodies = ap (λ s. s.bodies) c.begin_line.ensures;
 }
 
 pub run_stack-requires : goal.run_stack-requires
 run_stack-requires c =
-    let bodies = bodies_view c.args.self.now.bodies.items in
+    let bodies = c.begin_line.new.self.bodies in
     record {
       at_line =
           record {
@@ -38,13 +37,13 @@ pub returns-clause-kept : goal.returns-clause-kept
 returns-clause-kept c = record {
   wanted = c.run_stack.ensures.kept.wanted ∙ ap (λ s. s.wanted) c.begin_line.ensures;
   len = c.run_stack.ensures.kept.len ∙ ap (λ s. length s.answers) c.begin_line.ensures;
-  bodies = c.run_stack.ensures.kept.bodies;
+  bodies = c.run_stack.ensures.kept.bodies ∙ ap (λ s. s.bodies) c.begin_line.ensures;
 }
 
 pub returns-clause-named : goal.returns-clause-named
 returns-clause-named c =
     on_ok_weaker c.run_stack.result
-    (λ filled names line bodies held. filled names line bodies (rw c.begin_line.ensures held))
+    (λ filled names line bodies held. filled names line (rw c.begin_line.ensures bodies) (rw c.begin_line.ensures held))
     c.run_stack.ensures.named
 
 pub returns-clause-filled : goal.returns-clause-filled
@@ -52,9 +51,9 @@ returns-clause-filled c =
     let line = c.args.line in
     let before = c.args.self.now in
     on_ok_weaker c.run_stack.result
-    (λ filled. line_walked (bodies_view before.bodies.items) (line_origin line) line.items.now before.slots c.begin_line.new.self
+    (λ filled. line_walked before.slots.bodies (line_origin line) line.items.now before.slots c.begin_line.new.self
     (filler_slots c.run_stack.new.self) c.clear.new.self.items c.push_free.new.stack.items before.taken c.run_stack.new.self.taken
     c.begin_line.ensures c.clear.ensures.items
-    (c.in_ok-push_free.ensures.pushed (line_origin line) line.items.now (bodies_view before.bodies.items) refl)
-    filled)
+    (c.in_ok-push_free.ensures.pushed (line_origin line) line.items.now before.slots.bodies refl)
+    (rw (ap (λ s. s.bodies) c.begin_line.ensures) at filled))
     c.run_stack.ensures.filled

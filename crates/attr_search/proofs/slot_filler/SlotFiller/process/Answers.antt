@@ -3,19 +3,18 @@ use Rattle.std.proofs.Math.ListN.{length-set}
 use Rattle.std.specs.Prelude.{slice_index_or}
 use Rattle.std.proofs.lemmas.Result.{on_ok_weaker}
 use Rattle.attr_search.specs.Slots.{slots_of}
-use Rattle.attr_search.specs.inner.Slotted.{bodies_view}
 use Rattle.attr_search.specs.inner.Pending.{line_origin, pending_item, table_bodies}
 use Rattle.attr_search.specs.inner.Filling.{stack_tasks}
-use Rattle.attr_search.proofs.FillingLemmas.{has_slot, item_filled, less_closed, less_open, named_fill, step_closed, step_open, step_skip}
+use Rattle.attr_search.proofs.FillingLemmas.{filled_as, has_slot, item_filled, less_closed, less_open, named_fill, step_closed, step_open, step_skip}
 use Rattle.attr_search.proofs.slot_filler.SlotFiller.process.Goals as goal
 
 pub is_free-requires : goal.is_free-requires
 is_free-requires c =
     let before = c.args.self.now in
     let can = c.requires.at_line.can_fill in
-    has_slot (length before.slots.answers) c.args.line.items.now (bodies_view before.bodies.items) c.args.top _ can.in_line
+    has_slot (length before.slots.answers) c.args.line.items.now before.slots.bodies c.args.top _ can.in_line
     can.bodies.in_bodies c.requires.placed
-    (c.item-item.ensures ∙ ap (λ bs. pending_item c.args.line.items.now (bodies_view bs) c.args.top) c.deref.ensures.value)
+    (c.item-item.ensures ∙ ap (λ bs. pending_item c.args.line.items.now bs c.args.top) c.bodies.ensures)
 
 pub returns-then-not-is_free-clause-kept : goal.returns-then-not-is_free-clause-kept
 returns-then-not-is_free-clause-kept c = record { wanted = refl; len = refl; bodies = refl }
@@ -23,72 +22,72 @@ returns-then-not-is_free-clause-kept c = record { wanted = refl; len = refl; bod
 pub returns-then-not-is_free-clause-processed : goal.returns-then-not-is_free-clause-processed
 returns-then-not-is_free-clause-processed c = λ undone final earlier later counted p.
     let before = c.args.self.now in
-    step_skip (table_bodies before.bodies.items) (bodies_view before.bodies.items) _ (line_origin c.args.line)
+    step_skip (table_bodies before.slots.bodies) before.slots.bodies _ (line_origin c.args.line)
     c.args.line.items.now c.args.top _ _ (slots_of before.slots.answers) final earlier before.taken later
-    (c.item-item.ensures ∙ ap (λ bs. pending_item c.args.line.items.now (bodies_view bs) c.args.top) c.deref.ensures.value)
+    (c.item-item.ensures ∙ ap (λ bs. pending_item c.args.line.items.now bs c.args.top) c.bodies.ensures)
     c.if-not-is_free.ensures counted p
 
 pub returns-in_err-fill-clause-kept : goal.returns-in_err-fill-clause-kept
 returns-in_err-fill-clause-kept c =
-    record { wanted = c.fill.ensures.wanted; len = ap length c.in_err-fill.ensures.refused; bodies = refl }
+    record { wanted = c.fill.ensures.wanted; len = ap length c.in_err-fill.ensures.refused; bodies = c.fill.ensures.bodies }
 
-pub returns-then-not-is_set-clause-kept : goal.returns-then-not-is_set-clause-kept
-returns-then-not-is_set-clause-kept c = record {
+pub returns-then-not-is_expanded-clause-kept : goal.returns-then-not-is_expanded-clause-kept
+returns-then-not-is_expanded-clause-kept c = record {
   wanted = c.fill.ensures.wanted;
   len = ap length c.in_ok-fill.ensures.answers ∙ length-set c.args.self.now.slots.answers _ _;
-  bodies = refl;
+  bodies = c.fill.ensures.bodies;
 }
 
-pub returns-then-not-is_set-clause-named : goal.returns-then-not-is_set-clause-named
-returns-then-not-is_set-clause-named c = λ names line bodies.
+pub returns-then-not-is_expanded-clause-named : goal.returns-then-not-is_expanded-clause-named
+returns-then-not-is_expanded-clause-named c = λ names line bodies.
     let before = c.args.self.now in
     let can = c.requires.at_line.can_fill in
-    let is = c.item-item.ensures ∙ ap (λ bs. pending_item c.args.line.items.now (bodies_view bs) c.args.top) c.deref.ensures.value in
-    named_fill names c.args.line.items.now (bodies_view before.bodies.items) c.args.top _ _ before.slots.answers c.fill.new.self.answers is
+    named_fill names c.args.line.items.now before.slots.bodies c.args.top _ _ before.slots.answers c.fill.new.self.answers refl
     c.requires.placed
-    (has_slot (length before.slots.answers) c.args.line.items.now (bodies_view before.bodies.items) c.args.top _ can.in_line
-    can.bodies.in_bodies c.requires.placed is)
+    (has_slot (length before.slots.answers) c.args.line.items.now before.slots.bodies c.args.top _ can.in_line
+    can.bodies.in_bodies c.requires.placed refl)
     refl c.in_ok-fill.ensures.answers line bodies
 
-pub returns-then-not-is_set-clause-less : goal.returns-then-not-is_set-clause-less
-returns-then-not-is_set-clause-less c =
+pub returns-then-not-is_expanded-clause-less : goal.returns-then-not-is_expanded-clause-less
+returns-then-not-is_expanded-clause-less c =
     let before = c.args.self.now in
     let can = c.requires.at_line.can_fill in
-    let is = c.item-item.ensures ∙ ap (λ bs. pending_item c.args.line.items.now (bodies_view bs) c.args.top) c.deref.ensures.value in
-    less_closed (bodies_view before.bodies.items) (line_origin c.args.line) c.args.line.items.now c.args.top _
+    let is = c.item-item.ensures ∙ ap (λ bs. pending_item c.args.line.items.now bs c.args.top) c.bodies.ensures in
+    rw c.fill.ensures.bodies (less_closed before.slots.bodies (line_origin c.args.line) c.args.line.items.now c.args.top _
     (slots_of before.slots.answers) (slots_of c.fill.new.self.answers) (length before.stack.items) is c.if-not-is_free.ensures
-    (item_filled c.args.line (bodies_view before.bodies.items) _ c.args.top _ _ _ before.slots.answers c.fill.new.self.answers is
-    (has_slot (length before.slots.answers) c.args.line.items.now (bodies_view before.bodies.items) c.args.top _ can.in_line
+    (item_filled c.args.line before.slots.bodies _ c.args.top _ _ _ before.slots.answers c.fill.new.self.answers is
+    (has_slot (length before.slots.answers) c.args.line.items.now before.slots.bodies c.args.top _ can.in_line
     can.bodies.in_bodies c.requires.placed is)
-    (c.body_of-body.ensures ∙ ap (λ bs. slice_index_or (bodies_view bs) c.item-item.result.now.id.0 []) c.deref-2.ensures.value)
-    c.is_empty.ensures c.kind-kind.ensures.kind c.kind-kind.ensures.cause c.in_ok-fill.ensures.answers)
+    (c.body_of.ensures ∙ ap (λ bs. slice_index_or bs c.item-item.result.now.id.0 []) c.bodies-2.ensures)
+    c.is_empty-is_macro.ensures c.kind.ensures.kind c.kind.ensures.cause
+    (filled_as c.args.line before.slots.bodies c.args.top _ _ before.slots.answers c.fill.new.self.answers is c.in_ok-fill.ensures.answers)))
 
-pub returns-then-not-is_set-clause-processed : goal.returns-then-not-is_set-clause-processed
-returns-then-not-is_set-clause-processed c = λ undone final earlier later counted p.
+pub returns-then-not-is_expanded-clause-processed : goal.returns-then-not-is_expanded-clause-processed
+returns-then-not-is_expanded-clause-processed c = λ undone final earlier later counted p.
     let before = c.args.self.now in
     let can = c.requires.at_line.can_fill in
-    let is = c.item-item.ensures ∙ ap (λ bs. pending_item c.args.line.items.now (bodies_view bs) c.args.top) c.deref.ensures.value in
-    step_closed (bodies_view before.bodies.items) _ (line_origin c.args.line) c.args.line.items.now c.args.top _
-    (stack_tasks c.args.line before.bodies.items before.stack.items)
+    let is = c.item-item.ensures ∙ ap (λ bs. pending_item c.args.line.items.now bs c.args.top) c.bodies.ensures in
+    step_closed before.slots.bodies _ (line_origin c.args.line) c.args.line.items.now c.args.top _
+    (stack_tasks c.args.line before.slots.bodies before.stack.items)
     (slots_of before.slots.answers) (slots_of c.fill.new.self.answers) final earlier before.taken later
-    is c.if-not-is_free.ensures c.if-not-is_set.ensures
-    (item_filled c.args.line (bodies_view before.bodies.items) _ c.args.top _ _ _ before.slots.answers c.fill.new.self.answers is
-    (has_slot (length before.slots.answers) c.args.line.items.now (bodies_view before.bodies.items) c.args.top _ can.in_line
+    is c.if-not-is_free.ensures c.if-not-is_expanded.ensures
+    (item_filled c.args.line before.slots.bodies _ c.args.top _ _ _ before.slots.answers c.fill.new.self.answers is
+    (has_slot (length before.slots.answers) c.args.line.items.now before.slots.bodies c.args.top _ can.in_line
     can.bodies.in_bodies c.requires.placed is)
-    (c.body_of-body.ensures ∙ ap (λ bs. slice_index_or (bodies_view bs) c.item-item.result.now.id.0 []) c.deref-2.ensures.value)
-    c.is_empty.ensures c.kind-kind.ensures.kind c.kind-kind.ensures.cause c.in_ok-fill.ensures.answers)
-    undone counted (rw c.in_ok-fill.ensures.wanted at p)
+    (c.body_of.ensures ∙ ap (λ bs. slice_index_or bs c.item-item.result.now.id.0 []) c.bodies-2.ensures)
+    c.is_empty-is_macro.ensures c.kind.ensures.kind c.kind.ensures.cause
+    (filled_as c.args.line before.slots.bodies c.args.top _ _ before.slots.answers c.fill.new.self.answers is c.in_ok-fill.ensures.answers))
+    undone counted (rw (c.fill.ensures.bodies, c.in_ok-fill.ensures.wanted) at p)
 
 pub returns-clause-named : goal.returns-clause-named
 returns-clause-named c =
     on_ok_weaker c.push_free.result (λ pushed names line bodies.
     let before = c.args.self.now in
     let can = c.requires.at_line.can_fill in
-    let is = c.item-item.ensures ∙ ap (λ bs. pending_item c.args.line.items.now (bodies_view bs) c.args.top) c.deref.ensures.value in
-    named_fill names c.args.line.items.now (bodies_view before.bodies.items) c.args.top _ _ before.slots.answers c.fill.new.self.answers is
+    named_fill names c.args.line.items.now before.slots.bodies c.args.top _ _ before.slots.answers c.fill.new.self.answers refl
     c.requires.placed
-    (has_slot (length before.slots.answers) c.args.line.items.now (bodies_view before.bodies.items) c.args.top _ can.in_line
-    can.bodies.in_bodies c.requires.placed is)
+    (has_slot (length before.slots.answers) c.args.line.items.now before.slots.bodies c.args.top _ can.in_line
+    can.bodies.in_bodies c.requires.placed refl)
     refl c.in_ok-fill.ensures.answers line bodies)
     c.push_free.ensures.pushed
 
@@ -96,36 +95,40 @@ pub returns-clause-less : goal.returns-clause-less
 returns-clause-less c =
     let before = c.args.self.now in
     let can = c.requires.at_line.can_fill in
-    let is = c.item-item.ensures ∙ ap (λ bs. pending_item c.args.line.items.now (bodies_view bs) c.args.top) c.deref.ensures.value in
-    let body = c.body_of-body.ensures ∙ ap (λ bs. slice_index_or (bodies_view bs) c.item-item.result.now.id.0 []) c.deref-2.ensures.value in
-    on_ok_weaker c.push_free.result
-    (λ pushed. less_open (bodies_view before.bodies.items) (line_origin c.args.line) c.args.line.items.now _ c.args.top _
+    let is = c.item-item.ensures ∙ ap (λ bs. pending_item c.args.line.items.now bs c.args.top) c.bodies.ensures in
+    let body = c.body_of-body.ensures ∙ ap (λ bs. slice_index_or bs c.item-item.result.now.id.0 []) (c.bodies-3.ensures ∙ c.fill.ensures.bodies) in
+    let old = c.body_of.ensures ∙ ap (λ bs. slice_index_or bs c.item-item.result.now.id.0 []) c.bodies-2.ensures in
+    rw c.fill.ensures.bodies (on_ok_weaker c.push_free.result
+    (λ pushed. less_open before.slots.bodies (line_origin c.args.line) c.args.line.items.now _ c.args.top _
     (slots_of before.slots.answers) (slots_of c.fill.new.self.answers) before.stack.items c.push_free.new.stack.items _
     is c.if-not-is_free.ensures
-    (item_filled c.args.line (bodies_view before.bodies.items) _ c.args.top _ _ _ before.slots.answers c.fill.new.self.answers is
-    (has_slot (length before.slots.answers) c.args.line.items.now (bodies_view before.bodies.items) c.args.top _ can.in_line
+    (item_filled c.args.line before.slots.bodies _ c.args.top _ _ _ before.slots.answers c.fill.new.self.answers is
+    (has_slot (length before.slots.answers) c.args.line.items.now before.slots.bodies c.args.top _ can.in_line
     can.bodies.in_bodies c.requires.placed is)
-    body c.is_empty.ensures c.kind-kind.ensures.kind c.kind-kind.ensures.cause c.in_ok-fill.ensures.answers)
-    body (pushed (line_origin c.args.line) c.args.line.items.now (bodies_view before.bodies.items) (sym body)))
-    c.push_free.ensures.pushed
+    old c.is_empty-is_macro.ensures c.kind.ensures.kind c.kind.ensures.cause
+    (filled_as c.args.line before.slots.bodies c.args.top _ _ before.slots.answers c.fill.new.self.answers is c.in_ok-fill.ensures.answers))
+    body (pushed (line_origin c.args.line) c.args.line.items.now before.slots.bodies (sym body)))
+    c.push_free.ensures.pushed)
 
 pub returns-clause-processed : goal.returns-clause-processed
 returns-clause-processed c =
     let before = c.args.self.now in
     let can = c.requires.at_line.can_fill in
-    let is = c.item-item.ensures ∙ ap (λ bs. pending_item c.args.line.items.now (bodies_view bs) c.args.top) c.deref.ensures.value in
-    let body = c.body_of-body.ensures ∙ ap (λ bs. slice_index_or (bodies_view bs) c.item-item.result.now.id.0 []) c.deref-2.ensures.value in
+    let is = c.item-item.ensures ∙ ap (λ bs. pending_item c.args.line.items.now bs c.args.top) c.bodies.ensures in
+    let body = c.body_of-body.ensures ∙ ap (λ bs. slice_index_or bs c.item-item.result.now.id.0 []) (c.bodies-3.ensures ∙ c.fill.ensures.bodies) in
+    let old = c.body_of.ensures ∙ ap (λ bs. slice_index_or bs c.item-item.result.now.id.0 []) c.bodies-2.ensures in
     on_ok_weaker c.push_free.result
     (λ pushed undone final earlier later counted p.
-    step_open (bodies_view before.bodies.items) _ (line_origin c.args.line) c.args.line.items.now _ c.args.top _
-    (stack_tasks c.args.line before.bodies.items before.stack.items)
-    (stack_tasks c.args.line before.bodies.items c.push_free.new.stack.items)
+    step_open before.slots.bodies _ (line_origin c.args.line) c.args.line.items.now _ c.args.top _
+    (stack_tasks c.args.line before.slots.bodies before.stack.items)
+    (stack_tasks c.args.line before.slots.bodies c.push_free.new.stack.items)
     (slots_of before.slots.answers) (slots_of c.fill.new.self.answers) final earlier before.taken later
-    is c.if-not-is_free.ensures c.if-not-is_set.ensures
-    (item_filled c.args.line (bodies_view before.bodies.items) _ c.args.top _ _ _ before.slots.answers c.fill.new.self.answers is
-    (has_slot (length before.slots.answers) c.args.line.items.now (bodies_view before.bodies.items) c.args.top _ can.in_line
+    is c.if-not-is_free.ensures c.if-not-is_expanded.ensures
+    (item_filled c.args.line before.slots.bodies _ c.args.top _ _ _ before.slots.answers c.fill.new.self.answers is
+    (has_slot (length before.slots.answers) c.args.line.items.now before.slots.bodies c.args.top _ can.in_line
     can.bodies.in_bodies c.requires.placed is)
-    body c.is_empty.ensures c.kind-kind.ensures.kind c.kind-kind.ensures.cause c.in_ok-fill.ensures.answers)
-    body (pushed (line_origin c.args.line) c.args.line.items.now (bodies_view before.bodies.items) (sym body))
-    undone counted (rw c.in_ok-fill.ensures.wanted at p))
+    old c.is_empty-is_macro.ensures c.kind.ensures.kind c.kind.ensures.cause
+    (filled_as c.args.line before.slots.bodies c.args.top _ _ before.slots.answers c.fill.new.self.answers is c.in_ok-fill.ensures.answers))
+    body (pushed (line_origin c.args.line) c.args.line.items.now before.slots.bodies (sym body))
+    undone counted (rw (c.fill.ensures.bodies, c.in_ok-fill.ensures.wanted) at p))
     c.push_free.ensures.pushed

@@ -1,5 +1,4 @@
 use Rattle.std.proofs.Common.{◌∙◌, sym, refl, arith}
-use Rattle.attr_search.specs.inner.Slotted.{bodies_view}
 use Rattle.attr_search.specs.inner.Filling.{filler_slots, stack_tasks}
 use Rattle.attr_search.specs.inner.Pending.{line_origin, table_bodies}
 use Rattle.attr_search.specs.inner.SlotContents.{wanted_numbers}
@@ -19,10 +18,10 @@ pub returns-in_default-clause-filled : goal.returns-in_default-clause-filled
 returns-in_default-clause-filled c =
     let now = c.loop-alloc.self in
     let x = c.in_default.ensures.cases in
-    let none = pending_tasks-none (line_origin c.args.line) c.args.line.items.now (bodies_view now.bodies.items)
+    let none = pending_tasks-none (line_origin c.args.line) c.args.line.items.now now.slots.bodies
     now.stack.items (omega arith) in
     c.loop-alloc.invariant.filled (filler_slots now) now.taken
-    (rw none (nothing_taken (table_bodies now.bodies.items) (wanted_numbers now.slots.wanted) (filler_slots now) now.taken))
+    (rw none (nothing_taken (table_bodies now.slots.bodies) (wanted_numbers now.slots.wanted) (filler_slots now) now.taken))
 
 pub loop-alloc-preserved : goal.loop-alloc-preserved
 loop-alloc-preserved c = record {
@@ -37,7 +36,7 @@ loop-alloc-preserved c = record {
       (c.loop-alloc.invariant.named names line bodies held);
   filled = λ final later p.
       let now = c.loop-alloc.self in
-      let top = pending_tasks-top (line_origin c.args.line) c.args.line.items.now (bodies_view now.bodies.items)
+      let top = pending_tasks-top (line_origin c.args.line) c.args.line.items.now now.slots.bodies
       now.stack.items c.pop.new.self.items c.in-Some.top c.in-Some.ensures.items in
       c.loop-alloc.invariant.filled final later
       (rw top (c.in_ok-process.ensures.processed (sym c.loop-alloc-test.ensures) final now.taken later c.saturating_add-self.ensures p));
@@ -47,5 +46,5 @@ pub returns-clause-filled : goal.returns-clause-filled
 returns-clause-filled c =
     let now = c.loop-alloc.self in
     c.loop-alloc.invariant.filled (filler_slots now) now.taken
-    (done_taken (table_bodies now.bodies.items) (wanted_numbers now.slots.wanted)
-    (stack_tasks c.args.line now.bodies.items now.stack.items) (filler_slots now) now.taken (sym c.loop-alloc-test.ensures))
+    (done_taken (table_bodies now.slots.bodies) (wanted_numbers now.slots.wanted)
+    (stack_tasks c.args.line now.slots.bodies now.stack.items) (filler_slots now) now.taken (sym c.loop-alloc-test.ensures))

@@ -1,9 +1,10 @@
-use Rattle.std.proofs.Common.{◌≡◌, ◌<◌, ◌++◌, [], ◌∷◌, length, false, get_or, option_map, is_some, None, Some, sym, ap, ◌∙◌, arith}
+use Rattle.std.proofs.Common.{◌≡◌, ◌<◌, ◌++◌, [], ◌∷◌, length, false, get_or, option_map, is_some, None, Some, refl, set, sym, ap, ◌∙◌, arith}
 use Rattle.std.proofs.Math.ListN.{length-set, length-map}
-use Rattle.attr_search.specs.inner.Refs.{match_by_ref}
+use Rattle.attr_search.specs.inner.Pending.{pending_item}
+use Rattle.attr_search.specs.inner.Refs.{match_by_ref, matches_by_ref}
 use Rattle.attr_search.specs.Slots.{slots_of}
 use Rattle.attr_search.proofs.SlotLemmas.{listed_filled, listed_more, on_err, matches_stay, fill_counts, line_kept, slots_filled, matches_filled}
-use Rattle.attr_search.proofs.SlotLemmas.{seen_filled}
+use Rattle.attr_search.proofs.SlotLemmas.{item_is, seen_filled}
 use Rattle.std.proofs.lemmas.Bool.{false≢true}
 use Rattle.attr_search.proofs.slots.AnswerSlots.fill.Goals as goal
 
@@ -17,12 +18,15 @@ returns-in_err-found-clause-refused c =
 pub overflow_sub-self : goal.overflow_sub-self
 overflow_sub-self c =
     let b = c.self.inside in
-    let place = c.args.item.now.id.0 in
+    let place = c.item.result.now.id.0 in
+    let at = item_is c.args.line.items.now c.args.top c.item.result.now c.bodies.result.now b.matches.refs.bodies c.args.self.now.bodies
+    c.item.ensures c.bodies.ensures (ap (λ v. v.bodies) c.self.view_is) in
     let free : is_some (get_or b.slots.items place None) ≡ false = sym (seen_filled b.matches.refs b.slots.items place) ∙ ap
-    (λ v. is_some (slots_of v.answers place)) c.self.view_is ∙ c.requires.free in
+    (λ v. is_some (slots_of v.answers place)) c.self.view_is ∙ ap (λ i. is_some (slots_of c.args.self.now.answers i.id.0)) at ∙ c.requires.free in
     let within : place < length b.slots.items = omega (
       arith,
       c.requires.within,
+      ap (λ i. i.id.0) at,
       ap (λ v. length v.answers) c.self.view_is,
       length-map b.slots.items
           (λ o. option_map (match_by_ref b.matches.refs) o),
@@ -34,14 +38,17 @@ overflow_sub-self c =
 pub invariant_of-self-2 : goal.invariant_of-self-2
 invariant_of-self-2 c =
     let b = c.self.inside in
-    let place = c.args.item.now.id.0 in
+    let place = c.item.result.now.id.0 in
     let stored = c.store.new.self.refs in
     let pushed : c.push.new.self.items ≡ b.filled.items ++ place ∷ [] = c.in_ok-push.ensures.items in
+    let at = item_is c.args.line.items.now c.args.top c.item.result.now c.bodies.result.now b.matches.refs.bodies c.args.self.now.bodies
+    c.item.ensures c.bodies.ensures (ap (λ v. v.bodies) c.self.view_is) in
     let free : is_some (get_or b.slots.items place None) ≡ false = sym (seen_filled b.matches.refs b.slots.items place) ∙ ap
-    (λ v. is_some (slots_of v.answers place)) c.self.view_is ∙ c.requires.free in
+    (λ v. is_some (slots_of v.answers place)) c.self.view_is ∙ ap (λ i. is_some (slots_of c.args.self.now.answers i.id.0)) at ∙ c.requires.free in
     let within : place < length b.slots.items = omega (
       arith,
       c.requires.within,
+      ap (λ i. i.id.0) at,
       ap (λ v. length v.answers) c.self.view_is,
       length-map b.slots.items
           (λ o. option_map (match_by_ref b.matches.refs) o),
@@ -61,5 +68,9 @@ invariant_of-self-2 c =
 pub returns-clause-answers : goal.returns-clause-answers
 returns-clause-answers c =
     let b = c.self.inside in
-    rw (← c.self.view_is) (matches_filled b.matches.refs c.store.new.self.refs b.slots.items c.args.item.now.id.0 c.in_ok-found.found _
+    let item = pending_item c.args.line.items.now b.matches.refs.bodies c.args.top in
+    let at = item_is c.args.line.items.now c.args.top c.item.result.now c.bodies.result.now b.matches.refs.bodies b.matches.refs.bodies
+    c.item.ensures c.bodies.ensures refl in
+    rw (← c.self.view_is) (ap (λ i. matches_by_ref c.store.new.self.refs (set b.slots.items i.id.0 (Some c.in_ok-found.found))) at
+    ∙ matches_filled b.matches.refs c.store.new.self.refs b.slots.items item.id.0 c.in_ok-found.found _
     c.store.ensures.extends c.self.invariant.within c.in_ok-found.ensures.found)

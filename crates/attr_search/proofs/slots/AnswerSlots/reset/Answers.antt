@@ -1,4 +1,5 @@
 use Rattle.std.proofs.Common.{List, Option, None, option_map, ap, refl, ◌∙◌, sym}
+use Rattle.attr_lists.specs.declared.types.TrackedAssignment.{TrackedAssignment}
 use Rattle.attr_search.specs.inner.SlotContents.{SlotContents, count_remaining}
 use Rattle.attr_search.specs.inner.Refs.{matches_by_ref, origin_by_ref}
 use Rattle.attr_search.specs.Slots.{Matched}
@@ -28,8 +29,11 @@ returns c =
     let b = c.self.inside in
     let store = c.release.new.self.refs in
     let seen = matches_by_ref store c.empty.new.slots.items in
-    let Seen : Option OriginRef → SlotContents = λ line. record { answers = seen; wanted = b.wanted; line = option_map (origin_by_ref store) line } in
-    let Emptied : List (Option Matched) → SlotContents = λ answers. record { answers = answers; wanted = b.wanted; line = None } in
-    rw (← c.self.view_is) (ap Seen c.release.ensures.line ∙ ap Emptied (emptied_seen b.matches.refs store b.slots.items c.empty.new.slots.items
+    let Seen : Option OriginRef → List (List TrackedAssignment) → SlotContents = λ line bodies. record
+    { answers = seen; wanted = b.wanted; line = option_map (origin_by_ref store) line; bodies = bodies } in
+    let Emptied : List (Option Matched) → SlotContents = λ answers. record
+    { answers = answers; wanted = b.wanted; line = None; bodies = b.matches.refs.bodies } in
+    rw (← c.self.view_is) (ap (λ line. Seen line store.bodies) c.release.ensures.line ∙ ap (Seen None) c.release.ensures.bodies
+    ∙ ap Emptied (emptied_seen b.matches.refs store b.slots.items c.empty.new.slots.items
     (matches_by_ref b.matches.refs b.slots.items) refl
     c.empty.ensures.items))
