@@ -137,13 +137,24 @@ list_by_candidates query rest list found before after below case dir are p =
     }
 
 -- a list whose lines define macros
-pub list_idle : (query rest : PathQuery) (list : IndexedList) (state : SearchContents) →
-    Some (bstr_bytes rest.path) ≡ rest_below (listed_view list).base query.case (bstr_bytes query.path) →
-    rest.case ≡ query.case → rest.is_dir ≡ query.is_dir →
+pub list_idle : (query : PathQuery) (list : IndexedList) (state : SearchContents) →
     list_all has_macro_mode (patterns_of list.list.patterns.items) ≡ true → SearchedList query (listed_view list) state state
-list_idle query rest list state below case dir all =
-    list_by_candidates query rest list [] state state below case dir
-    (idle_tried rest.case (bstr_bytes rest.path) (patterns_of list.list.patterns.items) all) (no_places rest (listed_view list) state)
+list_idle query list state all = below (rest_below (listed_view list).base query.case (bstr_bytes query.path)) refl
+  where
+    below : (rest : Option (List ℕ)) → rest ≡ rest_below (listed_view list).base query.case (bstr_bytes query.path) →
+        SearchedList query (listed_view list) state state
+    below None is = list_apart query (listed_view list) state is
+    below (Some rest) is =
+        let nothing = no_places query (listed_view list) state in
+        let tried = idle_tried query.case rest (patterns_of list.list.patterns.items) all in
+        record {
+          searches = list_walked (state_bodies state) (state_wanted state) query.case query.case query.is_dir query.is_dir (bstr_bytes query.path)
+              rest (listed_view list) list.list.patterns.items [] (state_slots state) (state_slots state) state.taken state.taken refl is refl refl
+              tried list.read nothing.searches;
+          rounds = list_round (state_bodies state) (state_wanted state) query.case query.case query.is_dir query.is_dir (bstr_bytes query.path)
+              rest (listed_view list) list.list.patterns.items [] (state_slots state) (state_slots state) state.tested state.tested refl is refl refl
+              tried list.read nothing.rounds;
+        }
 
 -- lists from a number on, of which the last is searched first
 abbrev pub SearchedFrom : PathQuery → List IndexedList → ℕ → SearchContents → SearchContents → Type 0

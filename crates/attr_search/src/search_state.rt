@@ -408,12 +408,12 @@ impl SearchState {
         ensures searched { OnOk result (SearchedList
             query.entry (listed_view list.now) self.old self.new) }
     {
-        let Some(rest) = query.below(&list.list) else {
-            return Ok(());
-        };
         if list.is_idle {
             return Ok(());
         }
+        let Some(rest) = query.below(&list.list) else {
+            return Ok(());
+        };
         let places = self.find_candidates(alloc, list, rest)?;
         let searched = self.search_places(alloc, list, &places, rest);
         self.keep_buffer(places);

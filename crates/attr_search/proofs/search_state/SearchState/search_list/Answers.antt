@@ -17,8 +17,7 @@ returns-then-list-clause-kept c = state_kept c.args.self.now
 
 pub returns-then-list-clause-searched : goal.returns-then-list-clause-searched
 returns-then-list-clause-searched c =
-    list_idle c.args.query c.in-Some.rest c.args.list.now c.args.self.now c.in-Some.ensures.path c.in-Some.ensures.case c.in-Some.ensures.is_dir
-    (sym c.args.list.now.idle ∙ c.if-list.true)
+    list_idle c.args.query c.args.list.now c.args.self.now (sym c.args.list.now.idle ∙ c.if-list.true)
 
 pub returns-in_err-places-clause-kept : goal.returns-in_err-places-clause-kept
 returns-in_err-places-clause-kept c = rw c.find_candidates.ensures.unchanged (state_kept c.args.self.now)
