@@ -7,6 +7,7 @@ pub mod Filling
 pub mod FolderKeys
 pub mod FoundLists
 pub mod KeyLinks
+pub mod LineIndexes
 pub mod LineTokens
 pub mod Lines
 pub mod NumbersView

@@ -16,6 +16,7 @@ ghost use Rattle.attr_lists.specs.KeptLists.{macros_valid};
 ghost use Rattle.attr_lists.specs.ListViews.{entries_view};
 ghost use Rattle.attr_lists.specs.Numbers.{numbered_lines};
 ghost use Rattle.attr_search.specs.inner.ReadLines.{AreRead};
+ghost use Rattle.attr_search.specs.inner.LineIndexes.{IsIndexOf};
 ghost use Rattle.attr_search.specs.inner.LineTokens.{unboxed};
 ghost use Rattle.attr_lists.specs.inner.Keeping.{StayRegistered};
 
@@ -59,6 +60,15 @@ pub struct IndexedList {
     ghost read: { ∥ AreRead (entries_view list.patterns.items) ∥₁ },
 }
 
+// What is made of a list's lines and base once, for its searches.
+#[derive(Drop)]
+struct LineIndex {
+    keys: KeyIndex,
+    tokens: Vec<Option<Box<Tokens>>>,
+    base_key: u64,
+    is_idle: bool,
+}
+
 impl IndexedList {
     ghost use Rattle.attr_search.specs.IndexedLists.{listed_view};
 
@@ -89,19 +99,9 @@ impl IndexedList {
         ensures sound { OnOk result (IsSoundCollection names.new) }
         ensures refused { OnErr result (names.new ≡ names.old) }
     {
-        let keys = line_keys(alloc, &list.patterns)?;
-        let tokens = kept_tokens(alloc, &list.patterns)?;
-        let base_key = base_key(alloc, &list.base)?;
-        let is_idle = are_macros(&list.patterns);
+        let index = LineIndex::of(alloc, &list)?;
         let list_id = names.add(alloc, &mut list.patterns)?;
-        Ok(IndexedList {
-            list,
-            keys,
-            tokens,
-            list_id,
-            base_key,
-            is_idle,
-        })
+        Ok(index.with(list, list_id))
     }
 
     /// Finds the places of the lines that may match what is left of a path, the greatest first. A place is the index
@@ -165,18 +165,48 @@ impl IndexedList {
         ensures list_id { IfOk result (λ copy. copy.list_id ≡ self.now.list_id) }
     {
         let list = self.list.clone(alloc)?;
+        let index = LineIndex::of(alloc, &list)?;
+        Ok(index.with(list, self.list_id))
+    }
+}
+
+impl LineIndex {
+    fn of(alloc: Global, list: &List<Attributes>) -> Result<LineIndex, AllocError>
+        ensures { IfOk result (IsIndexOf
+            (patterns_of list.now.patterns.items) (base_bytes list.now.base)) }
+    {
         let keys = line_keys(alloc, &list.patterns)?;
         let tokens = kept_tokens(alloc, &list.patterns)?;
         let base_key = base_key(alloc, &list.base)?;
-        let is_idle = are_macros(&list.patterns);
-        Ok(IndexedList {
+        Ok(LineIndex {
+            keys,
+            tokens,
+            base_key,
+            is_idle: are_macros(&list.patterns),
+        })
+    }
+
+    // The list with its index.
+    fn with(self, list: List<Attributes>, list_id: usize) -> IndexedList
+        requires index { IsIndexOf (patterns_of list.patterns.items) (base_bytes list.base) self }
+        requires read { ∥ AreRead (entries_view list.patterns.items) ∥₁ }
+        ensures list { result.list ≡ list }
+        ensures list_id { result.list_id ≡ list_id }
+    {
+        let LineIndex {
+            keys,
+            tokens,
+            base_key,
+            is_idle,
+        } = self;
+        IndexedList {
             list,
             keys,
             tokens,
-            list_id: self.list_id,
+            list_id,
             base_key,
             is_idle,
-        })
+        }
     }
 }
 
