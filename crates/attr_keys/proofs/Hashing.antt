@@ -10,7 +10,7 @@ use Rattle.std.proofs.lemmas.Bool.Decides.{nat_tests}
 use Rattle.attr_keys.specs.KeyContents.{KeyContent}
 use Rattle.attr_keys.specs.declared.hashed.HashedRow.{HashedRow}
 use Rattle.attr_keys.specs.inner.Codes.{codes_of, key_codes, row_codes}
-use Rattle.attr_keys.specs.inner.Hashes.{AreAmong, IsHashOfKey, hashed_rows, quick_hash}
+use Rattle.attr_keys.specs.inner.Hashes.{AreAmong, IsHashOfKey, hashed_rows, quick_hash, rows_of_hash}
 use Rattle.attr_keys.specs.declared.key.Subject.{Subject}
 use Rattle.attr_keys.specs.inner.Meeting.{is_kind, same_subject}
 use Rattle.attr_keys.specs.inner.Rows.{has_row}
@@ -29,11 +29,11 @@ whole_same (b ∷ bs) (k ∷ ks) h =
     (λ f. let no : false ≡ true = rw (shifted k b, f) at h in absurd cc)
 
 pub hash_of_whole : (keys : List KeyContent) (h : HashedRow) (key : KeyContent) → slice_get keys h.row ≡ Some key → key.is_whole ≡ true →
-    h.hash ≡ quick_hash 0 key.text → IsHashOfKey keys h
+    h.hash ≡ quick_hash key.text → IsHashOfKey keys h
 hash_of_whole keys h key at whole hashed text has =
     let same : row_codes keys h.row ≡ codes_of false key.text true =
     ap key_codes at ∙ ap (codes_of false key.text) whole in
-    hashed ∙ ap (quick_hash 0) (whole_same text key.text (sym (ap (starts_with nat_eq (codes_of false text true)) same) ∙ has))
+    hashed ∙ ap quick_hash (whole_same text key.text (sym (ap (starts_with nat_eq (codes_of false text true)) same) ∙ has))
 
 -- rows of a number are kept
 kept_rows : (row : ℕ) (test : HashedRow → Bool) (rows : List HashedRow) → ((k : ℕ) (d : HashedRow) → k < length rows →
@@ -48,10 +48,18 @@ kept_rows row test (h ∷ hs) kept =
     (λ e. let no : false ≡ true = sym f ∙ kept 0 h (omega arith) e in absurd cc)
     (λ e. rw (f, e) rest))
 
+-- the rows of a hash are all of that hash
+pub of_hash_again : (hash : ℕ) (rows : List HashedRow) → rows_of_hash hash (rows_of_hash hash rows) ≡ rows_of_hash hash rows
+of_hash_again hash [] = refl
+of_hash_again hash (h ∷ hs) =
+    by_test (eqb h.hash hash)
+    (λ t. rw (t, t) (ap (λ l. h ∷ l) (of_hash_again hash hs)))
+    (λ f. rw f (of_hash_again hash hs))
+
 -- no key of another hash is had
 pub alike_rows : (has : ℕ → Bool) (row : ℕ) (rows alike : List HashedRow) (hash : ℕ) →
-    All (λ h. has h.row ≡ true → h.hash ≡ hash) rows → alike ≡ filter (λ h. eqb h.hash hash) rows →
-    has_row (hashed_rows alike) row && has row ≡ has_row (hashed_rows rows) row && has row
+    All (λ h. has h.row ≡ true → h.hash ≡ hash) rows → rows_of_hash hash alike ≡ rows_of_hash hash rows →
+    has_row (hashed_rows (rows_of_hash hash alike)) row && has row ≡ has_row (hashed_rows rows) row && has row
 alike_rows has row rows alike hash hashes same =
     ap (λ l. has_row (hashed_rows l) row && has row) same
     ∙ by_test (has row)

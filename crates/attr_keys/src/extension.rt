@@ -3,7 +3,7 @@
 ghost use Rattle.std.specs.Prelude.{◌≡◌, ◌&&◌, ◌||◌, ℕ, All, IfOk, IfSome, OnOk, Some, None, option_map, reverse, slice_get};
 ghost use Rattle.attr_keys.specs.inner.Cases.{key_contents, keys_in_case};
 ghost use Rattle.attr_keys.specs.inner.Extensions.{extension, is_extension_key, is_turned_extension};
-ghost use Rattle.attr_keys.specs.inner.Hashes.{IsHashOfExtension, hashed_rows, text_hash};
+ghost use Rattle.attr_keys.specs.inner.Hashes.{IsHashOfExtension, hashed_rows, rows_of_hash, text_hash};
 ghost use Rattle.attr_keys.specs.inner.Meeting.{key_content, text_has};
 ghost use Rattle.attr_keys.specs.inner.Rows.{has_row};
 
@@ -96,12 +96,15 @@ pub fn append_extension(
         return append_each(keys, rows.all(), name, found);
     }
     match extension(name) {
-        Some(text) => append_each(keys, rows.of_hash(text_hash(text)), name, found),
+        Some(text) => {
+            let hash = text_hash(text);
+            append_hashed(keys, rows.of_hash(hash), hash, name, found)
+        }
         None => Ok(()),
     }
 }
 
-// Appends the numbers of the keys that the base name, reversed, has, each of which is compared.
+// Appends the numbers of the keys that the base name, reversed, has, each of which is compared: most by one byte.
 fn append_each(
     keys: Keys<'_>,
     rows: &[HashedRow],
@@ -114,6 +117,27 @@ fn append_each(
 {
     for hashed in rows {
         if has_turned_row_key(keys, hashed.row, name) {
+            found.push(hashed.row)?;
+        }
+    }
+    Ok(())
+}
+
+// Appends the numbers of the keys of this hash that the base name, reversed, has.
+fn append_hashed(
+    keys: Keys<'_>,
+    rows: &[HashedRow],
+    hash: u64,
+    name: &[u8],
+    found: &mut Vec<usize>,
+) -> Result<(), AllocError>
+    ensures { OnOk result ((row : ℕ) → has_row found.new.items row
+        ≡ (has_row found.old.items row
+        || (has_row (hashed_rows (rows_of_hash hash rows.now)) row
+        && text_has (reverse name.now) (slice_get (keys_in_case keys.entry) row)))) }
+{
+    for hashed in rows {
+        if hashed.hash == hash && has_turned_row_key(keys, hashed.row, name) {
             found.push(hashed.row)?;
         }
     }

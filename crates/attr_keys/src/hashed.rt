@@ -1,15 +1,15 @@
 //! Numbers of keys, found by hashes.
 
 ghost use Rattle.std.specs.Prelude.{◌≡◌, ◌==◌, ◌-◌, ◌/◌, ◌<◌, ◌≤◌, IfOk, drop, length, take};
-ghost use Rattle.std.specs.List.{AllWithin, filter};
+ghost use Rattle.std.specs.List.{AllWithin};
 ghost use Rattle.std.specs.List.Sorted.{IsNonDecreasingBy, IsPermutation};
-ghost use Rattle.attr_keys.specs.inner.Hashes.{IsBucketStart, mixed, packed, quick_hash, text_hash};
+ghost use Rattle.attr_keys.specs.inner.Hashes.{IsBucketStart, eights_hash, mixed, packed, quick_hash, rows_of_hash, text_hash};
 
 use std::alloc::{AllocError, Global};
 use std::hash::{DefaultHasher, Hasher};
 use std::marker::Model;
 
-/// So few keys are compared one by one.
+/// So few keys, or rows of a bucket, are compared one by one.
 pub const FEW: usize = 8;
 
 /// The number of a key, and a hash.
@@ -76,9 +76,19 @@ fn packed(text: &[u8]) -> u64
     number
 }
 
-/// A hash of a text in few steps, which texts can be made to share: a step for eight bytes.
+/// A hash of a text in few steps, which texts can be made to share: a step for eight bytes, and one for the last eight.
 pub fn quick_hash(text: &[u8]) -> u64
-    ensures { result ≡ quick_hash 0 text.now }
+    ensures { result ≡ quick_hash text.now }
+{
+    let Some(last) = text.last_chunk::<8>() else {
+        return mixed(0, packed(text));
+    };
+    mixed(eights_hash(text), u64::from_le_bytes(*last))
+}
+
+// A hash of a text but for the last bytes, fewer than eight.
+fn eights_hash(text: &[u8]) -> u64
+    ensures { result ≡ eights_hash 0 text.now }
 {
     let mut hash: u64 = 0;
     let mut rest = text;
@@ -86,7 +96,7 @@ pub fn quick_hash(text: &[u8]) -> u64
         hash = mixed(hash, u64::from_le_bytes(*eight));
         rest = others;
     }
-    mixed(hash, packed(rest))
+    hash
 }
 
 // A number that both numbers change.
@@ -128,12 +138,15 @@ impl HashedRows {
         &self.rows
     }
 
-    /// The rows of this hash. Those of its bucket are halved, so that many in one bucket cost little.
+    /// Rows with all of this hash among them: those of its bucket. Many in one bucket are halved, so that they cost little.
     pub fn of_hash(&self, hash: u64) -> &[HashedRow]
-        ensures { result.now ≡ filter (λ hashed. hashed.hash == hash) self.now }
+        ensures { rows_of_hash hash result.now ≡ rows_of_hash hash self.now }
     {
         let place = bucket(hash, self.width);
         let rows = between(&self.rows, self.starts[place], self.starts[place + 1]);
+        if rows.len() <= FEW {
+            return rows;
+        }
         halved(rows, hash)
     }
 }
@@ -180,7 +193,7 @@ fn between(rows: &[HashedRow], start: usize, end: usize) -> &[HashedRow]
 // Those of this hash, if the hashes don't fall.
 fn halved(rows: &[HashedRow], hash: u64) -> &[HashedRow]
     requires { IsNonDecreasingBy (λ hashed. hashed.hash) rows.now }
-    ensures { result.now ≡ filter (λ hashed. hashed.hash == hash) rows.now }
+    ensures { result.now ≡ rows_of_hash hash rows.now }
 {
     let start = rows.partition_point(|hashed| hashed.hash < hash);
     let rest = &rows[start..];

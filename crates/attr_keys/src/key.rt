@@ -1,7 +1,7 @@
 //! Keys, and the codes by which they are sorted: 0 past the end of a text, 1 at the end of a whole text, and else the
 //! value of a byte plus 2.
 
-ghost use Rattle.std.specs.Prelude.{◌≡◌, Bool, Some, map, true, nat_eq, reverse, slice_get, slice_index};
+ghost use Rattle.std.specs.Prelude.{◌≡◌, ◌≤◌, Bool, length, Some, map, true, nat_eq, reverse, slice_get, slice_index};
 ghost use Rattle.std.specs.Cmp.Lexicographic.{slice_cmp};
 ghost use Rattle.std.specs.List.{starts_with};
 ghost use Rattle.std.specs.Ordering.{nat_cmp};
@@ -69,6 +69,7 @@ pub fn is_kind(subject: Subject, is_whole: bool, key: &Key) -> bool
 }
 
 // The text of the key with this number, as it is, and whether it is whole. Without such a key there is no text.
+#[inline(always)]
 fn parts(keys: &[Key], row: usize) -> (&[u8], bool)
     ensures { (fold : Bool) → codes_of fold result.0.now result.1
         ≡ row_codes (map (content_in_case fold) (key_contents keys.now)) row }
@@ -121,6 +122,7 @@ pub fn row_order(keys: &[Key], row: usize, other: usize) -> Ordering
 }
 
 /// Whether a text has the key with this number.
+#[inline(always)]
 pub fn has_row_key(keys: Keys<'_>, row: usize, text: &[u8]) -> bool
     ensures { result ≡ text_has text.now (slice_get (keys_in_case keys.entry) row) }
 {
@@ -128,7 +130,15 @@ pub fn has_row_key(keys: Keys<'_>, row: usize, text: &[u8]) -> bool
     if is_whole && front.len() != text.len() {
         return false;
     }
-    if keys.fold {
+    begins_in_case(keys.fold, text, front)
+}
+
+// Whether a text begins with these bytes, which are in lower case if `fold` is set.
+#[inline(never)]
+fn begins_in_case(fold: bool, text: &[u8], front: &[u8]) -> bool
+    ensures { result ≡ starts_with nat_eq text.now (in_case fold front.now) }
+{
+    if fold {
         begins_with_lower(text, front)
     } else {
         begins_with(text, front)
@@ -164,6 +174,7 @@ fn begins_with_lower(text: &[u8], front: &[u8]) -> bool
 }
 
 /// Whether a text, reversed, has the key with this number.
+#[inline(always)]
 pub fn has_turned_row_key(keys: Keys<'_>, row: usize, text: &[u8]) -> bool
     ensures { result ≡ text_has (reverse text.now)
         (slice_get (keys_in_case keys.entry) row) }
@@ -172,16 +183,30 @@ pub fn has_turned_row_key(keys: Keys<'_>, row: usize, text: &[u8]) -> bool
     if is_whole && text.len() != front.len() {
         return false;
     }
-    ends_with_turned(keys.fold, text, front)
+    ends_in_case(keys.fold, text, front)
 }
 
-// Whether a text, reversed, begins with these bytes, which are in lower case if `fold` is set.
-fn ends_with_turned(fold: bool, text: &[u8], front: &[u8]) -> bool
+// Whether a text, reversed, begins with these bytes, which are in lower case if `fold` is set. Most keys differ from it at
+// its last byte, which is compared before the others are read.
+#[inline(always)]
+fn ends_in_case(fold: bool, text: &[u8], front: &[u8]) -> bool
     ensures { result ≡ starts_with nat_eq (reverse text.now) (in_case fold front.now) }
 {
     if front.len() > text.len() {
         return false;
     }
+    if !front.is_empty() && text[text.len() - 1] != in_case(fold, front[0]) {
+        return false;
+    }
+    ends_with_turned(fold, text, front)
+}
+
+// The same, byte by byte.
+#[inline(never)]
+fn ends_with_turned(fold: bool, text: &[u8], front: &[u8]) -> bool
+    requires { length front.now ≤ length text.now }
+    ensures { result ≡ starts_with nat_eq (reverse text.now) (in_case fold front.now) }
+{
     for (place, byte) in front.iter().enumerate() {
         if text[text.len() - 1 - place] != in_case(fold, *byte) {
             return false;

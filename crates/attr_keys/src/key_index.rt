@@ -233,6 +233,9 @@ fn append_ends(
         || (has_subject_row rows.now row
         && text_has (reverse name.now) (slice_get (keys_in_case keys.entry) row)))) }
 {
+    if is_empty(rows) {
+        return Ok(());
+    }
     match few_fronts(rows) {
         Some(few) if rows.wholes.all().is_empty() => append_turned(keys, few, name, found),
         _ => {
@@ -311,6 +314,9 @@ fn append_rows(
         && text_has text.now (slice_get (keys_in_case keys.entry) row)))) }
 {
     append_whole(keys, &rows.wholes, text, found)?;
+    if rows.fronts.is_empty() {
+        return Ok(());
+    }
     match few_fronts(rows) {
         Some(few) => append_few(keys, few, text, found),
         None => append_found(keys, &rows.fronts, text, found),

@@ -2,7 +2,7 @@
 
 ghost use Rattle.std.specs.Prelude.{◌≡◌, ◌<◌, ◌&&◌, ◌||◌, ℕ, All, IfOk, OnOk, length, true, slice_get};
 ghost use Rattle.attr_keys.specs.inner.Cases.{key_contents, keys_in_case};
-ghost use Rattle.attr_keys.specs.inner.Hashes.{AreAmong, IsHashOfKey, hashed_rows};
+ghost use Rattle.attr_keys.specs.inner.Hashes.{AreAmong, IsHashOfKey, hashed_rows, rows_of_hash};
 ghost use Rattle.attr_keys.specs.inner.Meeting.{is_kind, text_has};
 ghost use Rattle.attr_keys.specs.inner.Rows.{has_row};
 
@@ -125,7 +125,8 @@ pub fn append_whole(
     if rows.all().len() <= FEW {
         return append_each(keys, rows.all(), text, found);
     }
-    append_each(keys, rows.of_hash(quick_hash(text)), text, found)
+    let hash = quick_hash(text);
+    append_hashed(keys, rows.of_hash(hash), hash, text, found)
 }
 
 // Appends the numbers of the keys that the text has, each of which is compared.
@@ -141,6 +142,26 @@ fn append_each(
 {
     for hashed in rows {
         if has_row_key(keys, hashed.row, text) {
+            found.push(hashed.row)?;
+        }
+    }
+    Ok(())
+}
+
+// Appends the numbers of the keys of this hash that the text has.
+fn append_hashed(
+    keys: Keys<'_>,
+    rows: &[HashedRow],
+    hash: u64,
+    text: &[u8],
+    found: &mut Vec<usize>,
+) -> Result<(), AllocError>
+    ensures { OnOk result ((row : ℕ) → has_row found.new.items row
+        ≡ (has_row found.old.items row || (has_row (hashed_rows (rows_of_hash hash rows.now)) row
+        && text_has text.now (slice_get (keys_in_case keys.entry) row)))) }
+{
+    for hashed in rows {
+        if hashed.hash == hash && has_row_key(keys, hashed.row, text) {
             found.push(hashed.row)?;
         }
     }

@@ -1,10 +1,10 @@
 -- Numbers of keys by hashes (own).
-use Rattle.std.specs.Prelude.{◌≡◌, ℕ, ◌+◌, ◌-◌, ◌*◌, ◌<◌, ◌≤◌, ◌/◌, ◌%◌, ◌^◌, true, false, if◌then◌else◌, List, [], ◌∷◌, length, map, nat_eq, slice_index, slice_index_or, nat_le, Some, option_map}
+use Rattle.std.specs.Prelude.{◌≡◌, ◌==◌, drop, ℕ, ◌+◌, ◌-◌, ◌*◌, ◌<◌, ◌≤◌, ◌/◌, ◌%◌, ◌^◌, true, false, if◌then◌else◌, List, [], ◌∷◌, length, map, nat_eq, slice_index, slice_index_or, nat_le, Some, option_map}
 use Rattle.std.specs.Hash.DefaultHasher as sip
 use Rattle.std.specs.Int.{from_le_bytes, rotate_left, w64}
 use Rattle.std.specs.Prelude.{bit_xor}
 use Rattle.std.specs.Prelude.{reverse}
-use Rattle.std.specs.List.{starts_with}
+use Rattle.std.specs.List.{filter, starts_with}
 use Rattle.std.specs.List.Sorted.{IsNonDecreasingBy, IsPartitionPoint}
 use Rattle.attr_keys.specs.declared.hashed.HashedRow.{HashedRow}
 use Rattle.attr_keys.specs.declared.hashed.HashedRows.TheInside.{Inside}
@@ -28,14 +28,23 @@ text_hash text = if nat_le (length text) 8 then packed 1 text * spread % 2 ^ 64 
 abbrev pub mixed : ℕ → ℕ → ℕ
 mixed hash number = bit_xor (rotate_left w64 hash 32) number * spread % 2 ^ 64
 
--- a hash of a text after another one: eight bytes at once, and the last ones packed
-abbrev pub quick_hash : ℕ → List ℕ → ℕ
-quick_hash hash (a ∷ b ∷ c ∷ d ∷ e ∷ f ∷ g ∷ h ∷ rest) =
-    quick_hash (mixed hash (from_le_bytes w64 (a ∷ b ∷ c ∷ d ∷ e ∷ f ∷ g ∷ h ∷ []))) rest
-quick_hash hash text = mixed hash (packed 1 text)
+-- a hash of a text after another one: eight bytes at once, without the last ones
+abbrev pub eights_hash : ℕ → List ℕ → ℕ
+eights_hash hash (a ∷ b ∷ c ∷ d ∷ e ∷ f ∷ g ∷ h ∷ rest) =
+    eights_hash (mixed hash (from_le_bytes w64 (a ∷ b ∷ c ∷ d ∷ e ∷ f ∷ g ∷ h ∷ []))) rest
+eights_hash hash text = hash
+
+-- a hash of a text: of a short one by its bytes, and of another one by eight bytes at once and the last eight
+abbrev pub quick_hash : List ℕ → ℕ
+quick_hash text =
+    if nat_le 8 (length text) then mixed (eights_hash 0 text) (from_le_bytes w64 (drop (length text - 8) text)) else mixed 0 (packed 1 text)
 
 abbrev pub hashed_rows : List HashedRow → List ℕ
 hashed_rows hashed = map (λ h. h.row) hashed
+
+-- the rows of a hash
+abbrev pub rows_of_hash : ℕ → List HashedRow → List HashedRow
+rows_of_hash hash rows = filter (λ h. h.hash == hash) rows
 
 -- each of the first rows is one of the others
 abbrev pub AreAmong : List HashedRow → List HashedRow → Type 0
@@ -61,7 +70,7 @@ pub record AreBuckets (table : Inside) : Type 0 where
 -- each text that has the key has its hash
 abbrev pub IsHashOfKey : List KeyContent → HashedRow → Type 0
 IsHashOfKey keys h =
-    (text : List ℕ) → starts_with nat_eq (codes_of false text true) (row_codes keys h.row) ≡ true → h.hash ≡ quick_hash 0 text
+    (text : List ℕ) → starts_with nat_eq (codes_of false text true) (row_codes keys h.row) ≡ true → h.hash ≡ quick_hash text
 
 -- each name that, reversed, has the key has an extension of its hash
 abbrev pub IsHashOfExtension : List KeyContent → HashedRow → Type 0

@@ -11,15 +11,15 @@ use Rattle.attr_keys.proofs.extension.append_extension.Goals as goal
 
 pub returns-in-Some : goal.returns-in-Some
 returns-in-Some c =
-    on_ok_weaker c.append_each-in-Some.result
+    on_ok_weaker c.append_hashed.result
     (λ has row. has row
     ∙ ap (λ b. has_row c.args.found.now.items row || b)
     (alike_rows (λ r. starts_with nat_eq (codes_of false (reverse c.args.name.now) true) (row_codes (keys_in_case c.args.keys) r)) row c.args.rows.now
-    c.of_hash.result.now c.text_hash.result
+    c.of_hash.result.now c.text_hash-hash.result
     (λ k d lt t. hash_of_name c.args.name.now c.in-Some.text.now _ c.in-Some.ensures.some (c.requires k d lt c.args.name.now t)
-    ∙ sym c.text_hash.ensures)
+    ∙ sym c.text_hash-hash.ensures)
     c.of_hash.ensures))
-    c.append_each-in-Some.ensures
+    c.append_hashed.ensures
 
 pub returns-in-None : goal.returns-in-None
 returns-in-None c = λ row.

@@ -14,5 +14,5 @@ pub returns : goal.returns
 returns c =
     let fold = c.args.keys.fold in
     let key = c.parts-is_whole.result in
-    c.ends_with_turned.ensures
+    c.ends_in_case.ensures
     ∙ has_if_long_turned fold c.args.text.now key.0.now _ key.1 (c.parts-is_whole.ensures fold) c.else-is_whole.either

@@ -9,9 +9,9 @@ use Rattle.attr_keys.proofs.whole.append_whole.Goals as goal
 
 pub returns : goal.returns
 returns c =
-    on_ok_weaker c.append_each-2.result
+    on_ok_weaker c.append_hashed.result
     (λ has row. has row
     ∙ ap (λ b. has_row c.args.found.now.items row || b)
     (alike_rows (λ r. starts_with nat_eq (codes_of false c.args.text.now true) (row_codes (keys_in_case c.args.keys) r)) row c.args.rows.now
-    c.of_hash.result.now c.quick_hash.result (λ k d lt t. c.requires k d lt c.args.text.now t ∙ sym c.quick_hash.ensures) c.of_hash.ensures))
-    c.append_each-2.ensures
+    c.of_hash.result.now c.quick_hash-hash.result (λ k d lt t. c.requires k d lt c.args.text.now t ∙ sym c.quick_hash-hash.ensures) c.of_hash.ensures))
+    c.append_hashed.ensures

@@ -38,7 +38,7 @@ loop-row-preserved c =
                 (All-push (IsHashOfKey (key_contents keys)) hashed more
                 c.loop-row.invariant.hashes
                 (hash_of_whole (key_contents keys) more (key_content key) here (whole_kind c.args.subject (key_content key) passes)
-                (w.quick_hash-hash.ensures ∙ ap (quick_hash 0) w.deref.ensures.value)));
+                (w.quick_hash-hash.ensures ∙ ap quick_hash w.deref.ensures.value)));
           }
       | else-is_kind w ↦
           record {

@@ -4,6 +4,7 @@ use Rattle.std.specs.List.Sorted.{IsNonDecreasingBy}
 use Rattle.std.proofs.lemmas.List.Sorted.{IsNonDecreasingBy-drop, IsNonDecreasingBy-take}
 use Rattle.attr_keys.specs.declared.hashed.HashedRow.{HashedRow}
 use Rattle.attr_keys.proofs.Buckets.{between_starts}
+use Rattle.attr_keys.proofs.Hashing.{of_hash_again}
 use Rattle.attr_keys.proofs.hashed.HashedRows.of_hash.Goals as goal
 
 pub between-rows-requires-clause-start : goal.between-rows-requires-clause-start
@@ -28,12 +29,22 @@ halved-requires c =
     (sym (c.between-rows.ensures ∙ ap (λ l. take (end - start) (drop start l)) c.deref.ensures.value))
     (IsNonDecreasingBy-take n (end - start) (drop start rows) (IsNonDecreasingBy-drop n start rows c.self.invariant.order))
 
+pub returns-then-rows-le-FEW : goal.returns-then-rows-le-FEW
+returns-then-rows-le-FEW c =
+    let alike = filter (λ (h : HashedRow). eqb h.hash c.args.hash) in
+    let start = c.index.result.now in
+    let end = c.index-2.result.now in
+    ap alike (c.between-rows.ensures ∙ ap (λ l. take (end - start) (drop start l)) c.deref.ensures.value)
+    ∙ ((between_starts c.self.inside c.self.invariant c.args.hash c.bucket-place.result start end c.ranges.hash.fits c.bucket-place.ensures
+    c.index.ensures c.index-2.ensures).2 ∙ ap alike c.self.view_is)
+
 pub returns : goal.returns
 returns c =
     let alike = filter (λ (h : HashedRow). eqb h.hash c.args.hash) in
     let start = c.index.result.now in
     let end = c.index-2.result.now in
-    c.halved.ensures
+    ap alike c.halved.ensures
+    ∙ (of_hash_again c.args.hash c.between-rows.result.now
     ∙ (ap alike (c.between-rows.ensures ∙ ap (λ l. take (end - start) (drop start l)) c.deref.ensures.value)
     ∙ ((between_starts c.self.inside c.self.invariant c.args.hash c.bucket-place.result start end c.ranges.hash.fits c.bucket-place.ensures
-    c.index.ensures c.index-2.ensures).2 ∙ ap alike c.self.view_is))
+    c.index.ensures c.index-2.ensures).2 ∙ ap alike c.self.view_is)))

@@ -1,9 +1,9 @@
 use Rattle.std.proofs.Common.{◌≡◌, length}
-use Rattle.attr_keys.specs.inner.Hashes.{quick_hash}
-use Rattle.attr_keys.proofs.hashed.quick_hash.Given as goal
+use Rattle.attr_keys.specs.inner.Hashes.{eights_hash}
+use Rattle.attr_keys.proofs.hashed.eights_hash.Given as goal
 
 abbrev pub invariant-loop-eight : goal.invariant-loop-eight
-invariant-loop-eight l = quick_hash 0 l.text ≡ quick_hash l.hash l.rest
+invariant-loop-eight l = eights_hash 0 l.text ≡ eights_hash l.hash l.rest
 
 abbrev pub decreases-loop-eight : goal.decreases-loop-eight
 decreases-loop-eight l = length l.rest

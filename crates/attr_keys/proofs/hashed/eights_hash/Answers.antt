@@ -1,11 +1,11 @@
 use Rattle.std.proofs.Common.{◌≡◌, ℕ, ◌<◌, ◌≤◌, List, [], ◌∷◌, length, take, drop, refl, sym, ap, ◌∙◌, arith}
 use Rattle.std.specs.Int.{from_le_bytes, w64}
-use Rattle.attr_keys.specs.inner.Hashes.{mixed, packed, quick_hash}
-use Rattle.attr_keys.proofs.hashed.quick_hash.Goals as goal
+use Rattle.attr_keys.specs.inner.Hashes.{eights_hash, mixed}
+use Rattle.attr_keys.proofs.hashed.eights_hash.Goals as goal
 
 -- eight bytes and the others
 eight_more : (hash : ℕ) (rest : List ℕ) → 8 ≤ length rest →
-    quick_hash hash rest ≡ quick_hash (mixed hash (from_le_bytes w64 (take 8 rest))) (drop 8 rest)
+    eights_hash hash rest ≡ eights_hash (mixed hash (from_le_bytes w64 (take 8 rest))) (drop 8 rest)
 eight_more hash (a ∷ b ∷ c ∷ d ∷ e ∷ f ∷ g ∷ h ∷ rest) many = refl
 eight_more hash [] many = absurd (omega arith)
 eight_more hash (a ∷ []) many = absurd (omega arith)
@@ -16,8 +16,8 @@ eight_more hash (a ∷ b ∷ c ∷ d ∷ e ∷ []) many = absurd (omega arith)
 eight_more hash (a ∷ b ∷ c ∷ d ∷ e ∷ f ∷ []) many = absurd (omega arith)
 eight_more hash (a ∷ b ∷ c ∷ d ∷ e ∷ f ∷ g ∷ []) many = absurd (omega arith)
 
--- fewer are packed
-few_left : (hash : ℕ) (rest : List ℕ) → length rest < 8 → quick_hash hash rest ≡ mixed hash (packed 1 rest)
+-- fewer are left out
+few_left : (hash : ℕ) (rest : List ℕ) → length rest < 8 → eights_hash hash rest ≡ hash
 few_left hash [] few = refl
 few_left hash (a ∷ []) few = refl
 few_left hash (a ∷ b ∷ []) few = refl
@@ -36,9 +36,8 @@ loop-eight-preserved c =
     let next : c.mixed-hash.result ≡ mixed hash (from_le_bytes w64 (take 8 rest)) =
     c.mixed-hash.ensures ∙ ap (mixed hash) (c.from_le_bytes.ensures ∙ ap (from_le_bytes w64) parts.0) in
     c.loop-eight.invariant ∙ eight_more hash rest (omega (arith, parts.2))
-    ∙ sym (ap (λ h. quick_hash h (drop 8 rest)) next) ∙ sym (ap (quick_hash c.mixed-hash.result) parts.1)
+    ∙ sym (ap (λ h. eights_hash h (drop 8 rest)) next) ∙ sym (ap (eights_hash c.mixed-hash.result) parts.1)
 
 pub returns : goal.returns
 returns c =
-    c.mixed.ensures ∙ ap (mixed c.loop-eight.hash) c.packed.ensures
-    ∙ sym (few_left c.loop-eight.hash c.loop-eight.rest.now c.in_default.ensures.cases) ∙ sym c.loop-eight.invariant
+    sym (few_left c.loop-eight.hash c.loop-eight.rest.now c.in_default.ensures.cases) ∙ sym c.loop-eight.invariant
