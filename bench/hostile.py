@@ -154,7 +154,8 @@ def colliding_names(n):
 
 
 def crowd(n):
-    """n names of 16 bytes that share a hash of one multiplication for eight bytes: the second eight cancel what the first give."""
+    """n names of 24 bytes that share a hash of one multiplication for eight bytes: the second eight cancel what the first give, and
+    the last eight, which are hashed twice, are the same."""
     chance = random.Random("crowd")
     goal = chance.getrandbits(64)
     names = set()
@@ -163,11 +164,11 @@ def crowd(n):
         product = int.from_bytes(front, "little") * MULTIPLIER & LOW
         rest = ((product << 32 & LOW | product >> 32) ^ goal).to_bytes(8, "little")
         if not set(rest) & set(b'\0\t\n\r "*/?[\\'):
-            names.add(front + rest)
+            names.add(front + rest + b"A" * 8)
     return sorted(names)
 
 
-@case(30_000)
+@case(20_000)
 def crowded_names(n):
     """n plain names that share the hash by which they are looked up, and 2,000 paths"""
     names = crowd(n)

@@ -240,28 +240,28 @@ fn fronts_of_fronts_are_found(rt: HostRuntime) -> Result<(), AllocError> {
     expect(&rt, rt.alloc(), &index, &lookups)
 }
 
-// Names for which a hash by multiplications, of eight bytes at once, is the same.
-const CROWD: [&[u8; 16]; 20] = [
-    b"2fGiYJ6G\x19\xEE3w\xE2\xF2\x924",
-    b"7x7eMHbM\x1E@y\xB4{\xE8\xF0\x90",
-    b"GlocQ0fu\xC7f\x85\xC5+-A\x02",
-    b"HR5lCx2O\xE0\xEFi}\x10\xF7W\x91",
-    b"JJFk05sC@\x0B!\xCA\xEA\x98~\xAC",
-    b"JVbo1Cj1b\x95\x93q\xEA\x84\x1D\xC8",
-    b"Jwg2a5Rq&\xD9\xDD\xB2\xEA\xC9\xF5\xD5",
-    b"KPndrhn1&dOm\xDF\x82\xC3\xB2",
-    b"L74yoTDj\x99\xEE\x10B\xC41TH",
-    b"MwKAB3EAag\x99G\xA9}a<",
-    b"Okw6Y8Yk^\xE5t\xF9\x83y\xC1!",
-    b"SBYiHsRBr<f\xBD7\xCC-\x9D",
-    b"WZ98zx55Sa\xD0F\xDB\xE5\xC1\x0E",
-    b"dM6m38lJ\xAChn\xE1\xCC\xA1\x85\x99",
-    b"hcCw7ygf\x91\xE5p~p\xEF\xE0d",
-    b"isD1D15s\xB5\x1D\xE9\x01e;\x83\x01",
-    b"nqONhPzL\xE2q\xBE>\xFE\xFE\x1C\xE7",
-    b"p4qUW8Xw\xEC\xCD\xCD\x10\xC8\xE5R4",
-    b"qL0KmkDf8H\xC7\xF7\xBDi\xFA\x13",
-    b"tHieMgf1y\xE1C\xC8|I\x1Ej",
+// Names for which a hash by multiplications, of eight bytes at once and then of the last eight, is the same.
+const CROWD: [&[u8; 24]; 20] = [
+    b"2fGiYJ6G\x19\xEE3w\xE2\xF2\x924AAAAAAAA",
+    b"7x7eMHbM\x1E@y\xB4{\xE8\xF0\x90AAAAAAAA",
+    b"GlocQ0fu\xC7f\x85\xC5+-A\x02AAAAAAAA",
+    b"HR5lCx2O\xE0\xEFi}\x10\xF7W\x91AAAAAAAA",
+    b"JJFk05sC@\x0B!\xCA\xEA\x98~\xACAAAAAAAA",
+    b"JVbo1Cj1b\x95\x93q\xEA\x84\x1D\xC8AAAAAAAA",
+    b"Jwg2a5Rq&\xD9\xDD\xB2\xEA\xC9\xF5\xD5AAAAAAAA",
+    b"KPndrhn1&dOm\xDF\x82\xC3\xB2AAAAAAAA",
+    b"L74yoTDj\x99\xEE\x10B\xC41THAAAAAAAA",
+    b"MwKAB3EAag\x99G\xA9}a<AAAAAAAA",
+    b"Okw6Y8Yk^\xE5t\xF9\x83y\xC1!AAAAAAAA",
+    b"SBYiHsRBr<f\xBD7\xCC-\x9DAAAAAAAA",
+    b"WZ98zx55Sa\xD0F\xDB\xE5\xC1\x0EAAAAAAAA",
+    b"dM6m38lJ\xAChn\xE1\xCC\xA1\x85\x99AAAAAAAA",
+    b"hcCw7ygf\x91\xE5p~p\xEF\xE0dAAAAAAAA",
+    b"isD1D15s\xB5\x1D\xE9\x01e;\x83\x01AAAAAAAA",
+    b"nqONhPzL\xE2q\xBE>\xFE\xFE\x1C\xE7AAAAAAAA",
+    b"p4qUW8Xw\xEC\xCD\xCD\x10\xC8\xE5R4AAAAAAAA",
+    b"qL0KmkDf8H\xC7\xF7\xBDi\xFA\x13AAAAAAAA",
+    b"tHieMgf1y\xE1C\xC8|I\x1EjAAAAAAAA",
 ];
 
 fn crowded(alloc: Global) -> Result<KeyIndex, AllocError> {
