@@ -300,6 +300,33 @@ fn skip_end<'t, 'v>(
     Some((left, rest))
 }
 
+// Whether tokens that may take nothing stand at both ends, so that neither end has anything to take off.
+fn is_open(tokens: &[Token]) -> bool {
+    match tokens {
+        [first, .., last] => first.may_be_empty() && last.may_be_empty(),
+        _ => false,
+    }
+}
+
+// Takes tokens of one byte each off both ends, with the bytes that they take. None if one takes no byte. The end is
+// compared first: a literal front of a text was compared before its tokens.
+fn skip_ends<'t, 'v>(
+    tokens: &'t [Token],
+    value: &'v [u8],
+    case: Case,
+) -> Option<(&'t [Token], &'v [u8])>
+    ensures left { IfSome result (λ r.
+        IsLeft case (tokens_of tokens.now) value.now (tokens_of r.0.now) r.1.now) }
+    ensures missed { IfNone result (matches case (tokens_of tokens.now) value.now ≡ false) }
+    ensures shorter { IfSome result (λ r. length r.0.now ≤ length tokens.now) }
+{
+    if is_open(tokens) {
+        return Some((tokens, value));
+    }
+    let (left, rest) = skip_end(tokens, value, case)?;
+    skip_front(left, rest, case)
+}
+
 /// The two row buffers of a match, which any number of matches can share. They grow only by `reserve`.
 #[derive(Debug, Drop)]
 pub struct MatchBuffers {
@@ -370,10 +397,7 @@ impl Tokens {
         ensures matched { IsTrue result ↔ Match case self.now value.now }
         ensures room { rows.old ≤ rows.new }
     {
-        let Some((tokens, value)) = skip_front(self.as_slice(), value, case) else {
-            return false;
-        };
-        let Some((tokens, value)) = skip_end(tokens, value, case) else {
+        let Some((tokens, value)) = skip_ends(self.as_slice(), value, case) else {
             return false;
         };
         folders::match_early(tokens, value, case, rows)
