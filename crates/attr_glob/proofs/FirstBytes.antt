@@ -1,7 +1,7 @@
 -- Folders that begin with a byte, and where tokens that begin with it may match.
-use Rattle.std.proofs.Common.{◌≡◌, ◌≤◌, ◌<◌, ◌+◌, ◌-◌, ℕ, zero, suc, Bool, true, false, ◌&&◌, ◌||◌, ◌==◌, List, [], ◌∷◌, length, drop, take, get_or}
-use Rattle.std.proofs.Common.{Option, Some, None, IfNone, refl, ap, ◌∙◌, arith}
-use Rattle.std.proofs.lemmas.List.{take_all, length-drop}
+use Rattle.std.proofs.Common.{◌≡◌, ◌≤◌, ◌+◌, ◌-◌, ℕ, zero, suc, Bool, true, false, ◌&&◌, ◌||◌, ◌==◌, List, [], ◌∷◌, length, drop, take}
+use Rattle.std.proofs.Common.{Option, Some, None, IfNone, refl, sym, ap, ◌∙◌, arith}
+use Rattle.std.proofs.lemmas.List.{take_all, length-drop, drop-drop}
 use Rattle.attr_glob.specs.declared.pattern.Case.{Case}
 use Rattle.attr_glob.specs.declared.pattern.Case.TheVariants.{Sensitive}
 use Rattle.attr_glob.specs.Brackets.{begins}
@@ -9,58 +9,12 @@ use Rattle.attr_glob.specs.Bytes.{slash}
 use Rattle.attr_glob.specs.Patterns.{is_slash}
 use Rattle.attr_glob.specs.Tokens.{Token, lit}
 use Rattle.attr_glob.specs.Deciding.{matches, slash_then}
-use Rattle.attr_glob.specs.inner.FirstBytes.{BeginWith, folder_with, from_first}
-use Rattle.attr_glob.specs.inner.Stretches.{first_left}
+use Rattle.attr_glob.specs.inner.FirstBytes.{BeginWith, BeginWithPair, begins_with_pair, from_first}
+use Rattle.attr_glob.specs.inner.Stretches.{first_left, front_left, or_else}
 use Rattle.attr_glob.proofs.Basics.{by_test}
-
--- a slash at a place, which the byte follows
-abbrev pub starts_at : ℕ → List ℕ → ℕ → Bool
-starts_at c v k = is_slash (get_or v k 0) && (get_or v (suc k) 0 == c)
-
-step : (c k : ℕ) (v : List ℕ) → k + 1 < length v → starts_at c v k ≡ false → folder_with c (drop (suc k) v) ≡ folder_with c (drop k v)
-step c k [] l h = absurd (omega (arith, l))
-step c zero (a ∷ []) l h = absurd (omega (arith, l))
-step c zero (a ∷ b ∷ r) l h = rw h refl
-step c (suc k) (a ∷ r) l h = step c k r (omega (arith, l)) h
-
-first_false : (a b : Bool) → (a || b) ≡ false → a ≡ false
-first_false true b h = h
-first_false false b h = refl
-
-second_false : (a b : Bool) → (a || b) ≡ false → b ≡ false
-second_false true b h = absurd cc
-second_false false b h = h
 
 pub fewer : (n : ℕ) (v : List ℕ) → length (take (length v - n) (drop n v)) ≡ length v - n
 fewer n v = ap length (take_all (length v - n) (drop n v) (omega (arith, length-drop n v))) ∙ length-drop n v
-
--- no folder begins with the byte after any of eight places
-pub eight_places : (c : ℕ) (v : List ℕ) → 9 ≤ length v →
-    (((((((starts_at c v 0 || starts_at c v 1) || starts_at c v 2) || starts_at c v 3) || starts_at c v 4) || starts_at c v 5)
-    || starts_at c v 6) || starts_at c v 7) ≡ false →
-    folder_with c (take (length v - 8) (drop 8 v)) ≡ folder_with c v
-eight_places c v l h =
-    let h7 = first_false _ (starts_at c v 7) h in
-    let h6 = first_false _ (starts_at c v 6) h7 in
-    let h5 = first_false _ (starts_at c v 5) h6 in
-    let h4 = first_false _ (starts_at c v 4) h5 in
-    let h3 = first_false _ (starts_at c v 3) h4 in
-    let h2 = first_false _ (starts_at c v 2) h3 in
-    ap (folder_with c) (take_all (length v - 8) (drop 8 v) (omega (arith, length-drop 8 v)))
-    ∙ (step c 7 v (omega (arith, l)) (second_false _ (starts_at c v 7) h)
-    ∙ (step c 6 v (omega (arith, l)) (second_false _ (starts_at c v 6) h7)
-    ∙ (step c 5 v (omega (arith, l)) (second_false _ (starts_at c v 5) h6)
-    ∙ (step c 4 v (omega (arith, l)) (second_false _ (starts_at c v 4) h5)
-    ∙ (step c 3 v (omega (arith, l)) (second_false _ (starts_at c v 3) h4)
-    ∙ (step c 2 v (omega (arith, l)) (second_false _ (starts_at c v 2) h3)
-    ∙ (step c 1 v (omega (arith, l)) (second_false (starts_at c v 0) (starts_at c v 1) h2)
-    ∙ step c 0 v (omega (arith, l)) (first_false (starts_at c v 0) (starts_at c v 1) h2))))))))
-
--- fewer than two bytes hold no slash with a byte after it
-pub too_few : (c : ℕ) (v : List ℕ) → length v < 2 → folder_with c v ≡ None
-too_few c [] l = refl
-too_few c (a ∷ []) l = by_test (is_slash a) (λ t. rw t refl) (λ t. rw t refl)
-too_few c (a ∷ b ∷ r) l = absurd (omega (arith, l))
 
 passed : (b x y : Bool) → (b && x) ≡ false → ((b && x) || y) ≡ y
 passed b x y h = ap (λ e. e || y) h
@@ -81,80 +35,135 @@ skip_start c ts b [] h = by_test (is_slash b) (λ t. rw t refl) (λ t. rw t refl
 skip_start c ts b (d ∷ ds) h =
     passed (b == slash) (matches Sensitive (lit c ∷ ts) (d ∷ ds)) _ (not_both (b == slash) (d == c) (matches Sensitive ts ds) h)
 
-pub next_start : (c : ℕ) (ts : List Token) (v next : List ℕ) → folder_with c v ≡ Some next →
+pub next_start : (c : ℕ) (ts : List Token) (v next : List ℕ) (s : ℕ) → from_first (begins_with_pair slash c) v ≡ s ∷ next →
     slash_then (matches Sensitive (lit c ∷ ts)) v
     ≡ (matches Sensitive (lit c ∷ ts) next || slash_then (matches Sensitive (lit c ∷ ts)) next)
-next_start c ts [] next h = absurd cc
-next_start c ts (b ∷ bs) next h =
+next_start c ts [] next s h = absurd cc
+next_start c ts (b ∷ bs) next s h =
     by_test (is_slash b && begins c bs)
-    (λ t. let e : Some bs ≡ Some next = rw t at h in let same : bs ≡ next = cc in
-    let s : is_slash b ≡ true = and_first (is_slash b) _ t in
-    ap (λ x. (x && matches Sensitive (lit c ∷ ts) bs) || slash_then (matches Sensitive (lit c ∷ ts)) bs) s
+    (λ t. let e : b ∷ bs ≡ s ∷ next = rw t at h in let same : bs ≡ next = cc in
+    let here : is_slash b ≡ true = and_first (is_slash b) _ t in
+    ap (λ x. (x && matches Sensitive (lit c ∷ ts) bs) || slash_then (matches Sensitive (lit c ∷ ts)) bs) here
     ∙ ap (λ x. matches Sensitive (lit c ∷ ts) x || slash_then (matches Sensitive (lit c ∷ ts)) x) same)
-    (λ t. skip_start c ts b bs t ∙ next_start c ts bs next (rw t at h))
+    (λ t. skip_start c ts b bs t ∙ next_start c ts bs next s (rw t at h))
 
-pub no_next_start : (c : ℕ) (ts : List Token) (v : List ℕ) → folder_with c v ≡ None → slash_then (matches Sensitive (lit c ∷ ts)) v ≡ false
+pub no_next_start : (c : ℕ) (ts : List Token) (v : List ℕ) → from_first (begins_with_pair slash c) v ≡ [] →
+    slash_then (matches Sensitive (lit c ∷ ts)) v ≡ false
 no_next_start c ts [] h = refl
 no_next_start c ts (b ∷ bs) h =
     by_test (is_slash b && begins c bs)
     (λ t. absurd (let e = rw t at h in cc))
     (λ t. skip_start c ts b bs t ∙ no_next_start c ts bs (rw t at h))
 
--- tokens that begin with a byte whose case matters take nothing before the first such byte
-skip_byte : (c : ℕ) (ts : List Token) (b : ℕ) (bs : List ℕ) → (b == c) ≡ false →
-    first_left Sensitive (lit c ∷ ts) (b ∷ bs) ≡ first_left Sensitive (lit c ∷ ts) bs
-skip_byte c ts b bs h = rw h refl
+-- where the search finds nothing, it finds nothing further on
+none_later : (test : List ℕ → Bool) (k : ℕ) (v : List ℕ) → from_first test v ≡ [] → from_first test (drop k v) ≡ []
+none_later test zero v h = h
+none_later test (suc k) [] h = h
+none_later test (suc k) (b ∷ bs) h =
+    by_test (test (b ∷ bs)) (λ t. absurd (let e = rw t at h in cc)) (λ t. none_later test k bs (rw t at h))
 
-first_at : (c : ℕ) (ts : List Token) (v w : List ℕ) → from_first c v ≡ Some w →
-    first_left Sensitive (lit c ∷ ts) v ≡ first_left Sensitive (lit c ∷ ts) w
-first_at c ts [] w h = absurd cc
-first_at c ts (b ∷ bs) w h =
-    by_test (b == c)
-    (λ t. let e : Some (b ∷ bs) ≡ Some w = rw t at h in let same : b ∷ bs ≡ w = cc in ap (first_left Sensitive (lit c ∷ ts)) same)
-    (λ t. skip_byte c ts b bs t ∙ first_at c ts bs w (rw t at h))
+all_after : (n : ℕ) (v : List ℕ) → take (length v - n) (drop n v) ≡ drop n v
+all_after n v = take_all (length v - n) (drop n v) (omega (arith, length-drop n v))
 
-first_none : (c : ℕ) (ts : List Token) (v : List ℕ) → from_first c v ≡ None → first_left Sensitive (lit c ∷ ts) v ≡ None
-first_none c ts [] h = refl
-first_none c ts (b ∷ bs) h =
-    by_test (b == c) (λ t. absurd (let e = rw t at h in cc)) (λ t. skip_byte c ts b bs t ∙ first_none c ts bs (rw t at h))
+-- after eight more places what is left is still an end of the value
+pub left_after : (value v : List ℕ) → 8 ≤ length v → length v ≤ length value → v ≡ drop (length value - length v) value →
+    take (length v - 8) (drop 8 v) ≡ drop (length value - length (take (length v - 8) (drop 8 v))) value
+left_after value v enough within is =
+    let e : (length value - length v) + 8 ≡ length value - length (take (length v - 8) (drop 8 v)) = omega (arith, fewer 8 v, enough, within) in
+    all_after 8 v ∙ (ap (drop 8) is ∙ (drop-drop 8 (length value - length v) value ∙ ap (λ k. drop k value) e))
 
-pub found_first : (case : Case) (c : ℕ) (ts : List Token) (v w : List ℕ) → BeginWith case c ts → from_first c v ≡ Some w →
+-- the search goes on from what is left after eight places at which the test fails
+pub over_eight : (test : List ℕ → Bool) (value v : List ℕ) → from_first test (drop 8 v) ≡ from_first test v →
+    from_first test v ≡ from_first test value → from_first test (take (length v - 8) (drop 8 v)) ≡ from_first test value
+over_eight test value v passed same = ap (from_first test) (all_after 8 v) ∙ (passed ∙ same)
+
+-- the last bytes of a value, so many of them
+abbrev pub last_bytes : ℕ → List ℕ → List ℕ
+last_bytes size v = take (length v - (length v - size)) (drop (length v - size) v)
+
+-- the search finds nothing if it found nothing before what is left, and nothing in the last bytes, of which what is left is an end
+pub none_in_end : (test : List ℕ → Bool) (size : ℕ) (v rest : List ℕ) → ((w : List ℕ) → length w + 8 ≡ size → from_first test w ≡ []) →
+    length rest ≤ size → 8 ≤ size → size ≤ length v → rest ≡ drop (length v - length rest) v → from_first test rest ≡ from_first test v →
+    from_first test (drop 8 (last_bytes size v)) ≡ from_first test (last_bytes size v) → [] ≡ from_first test v
+none_in_end test size v rest short fewer' many within is same passed =
+    let all = all_after (length v - size) v in
+    let few : length (drop 8 (drop (length v - size) v)) + 8 ≡ size =
+    omega (arith, length-drop 8 (drop (length v - size) v), length-drop (length v - size) v, many, within) in
+    let none : from_first test (drop (length v - size) v) ≡ [] =
+    sym (ap (from_first test) all) ∙ (sym passed ∙ (ap (λ x. from_first test (drop 8 x)) all ∙ short (drop 8 (drop (length v - size) v)) few)) in
+    let e : (length v - size) + (size - length rest) ≡ length v - length rest = omega (arith, fewer', within) in
+    sym (sym same ∙ (ap (from_first test) (is ∙ (ap (λ n. drop n v) (sym e)
+    ∙ sym (drop-drop (size - length rest) (length v - size) v)))
+    ∙ none_later test (size - length rest) (drop (length v - size) v) none))
+
+-- too few bytes
+pub no_byte : (c : ℕ) (w : List ℕ) → length w + 8 ≡ 8 → from_first (begins c) w ≡ []
+no_byte c [] l = refl
+no_byte c (b ∷ bs) l = absurd (omega (arith, l))
+
+pub no_pair : (a c : ℕ) (w : List ℕ) → length w + 8 ≡ 9 → from_first (begins_with_pair a c) w ≡ []
+no_pair a c [] l = refl
+no_pair a c (b ∷ []) l = by_test (b == a) (λ t. rw t refl) (λ t. rw t refl)
+no_pair a c (b ∷ d ∷ r) l = absurd (omega (arith, l))
+
+-- tokens take nothing before the first place at which a test passes that they need
+over_others : (case : Case) (ts : List Token) (test : List ℕ → Bool) → ((w : List ℕ) → test w ≡ false → front_left case ts w ≡ None) →
+    (v : List ℕ) → first_left case ts v ≡ first_left case ts (from_first test v)
+over_others case ts test needed [] = refl
+over_others case ts test needed (b ∷ bs) =
+    by_test (test (b ∷ bs)) (λ t. rw t refl)
+    (λ t. rw t (ap (λ l. or_else l (first_left case ts bs)) (needed (b ∷ bs) t) ∙ over_others case ts test needed bs))
+
+byte_needed : (c : ℕ) (ts : List Token) (w : List ℕ) → begins c w ≡ false → front_left Sensitive (lit c ∷ ts) w ≡ None
+byte_needed c ts [] h = refl
+byte_needed c ts (b ∷ bs) h = rw h refl
+
+pair_needed : (a c : ℕ) (ts : List Token) (w : List ℕ) → begins_with_pair a c w ≡ false →
+    front_left Sensitive (lit a ∷ lit c ∷ ts) w ≡ None
+pair_needed a c ts [] h = refl
+pair_needed a c ts (x ∷ []) h = by_test (x == a) (λ t. rw t refl) (λ t. rw t refl)
+pair_needed a c ts (x ∷ y ∷ r) h = by_test (x == a) (λ t. rw t (let e = rw t at h in rw e refl)) (λ t. rw t refl)
+
+pub from_first_byte : (case : Case) (c : ℕ) (ts : List Token) (v w : List ℕ) → BeginWith case c ts → w ≡ from_first (begins c) v →
     first_left case ts v ≡ first_left case ts w
-found_first case c ts v w h e = rw (h.sensitive, h.tokens) (first_at c h.others v w e)
+from_first_byte case c ts v w h e = rw (h.sensitive, h.tokens, e) (over_others Sensitive (lit c ∷ h.others) (begins c) (byte_needed c h.others) v)
 
-pub found_none : (case : Case) (c : ℕ) (ts : List Token) (v : List ℕ) → BeginWith case c ts → from_first c v ≡ None →
+pub from_first_pair : (case : Case) (a c : ℕ) (ts : List Token) (v w : List ℕ) → BeginWithPair case a c ts →
+    w ≡ from_first (begins_with_pair a c) v → first_left case ts v ≡ first_left case ts w
+from_first_pair case a c ts v w h e =
+    rw (h.sensitive, h.tokens, e) (over_others Sensitive (lit a ∷ lit c ∷ h.others) (begins_with_pair a c) (pair_needed a c h.others) v)
+
+-- they are found nowhere where the search finds nothing
+pub no_first_byte : (case : Case) (c : ℕ) (ts : List Token) (v : List ℕ) → BeginWith case c ts → [] ≡ from_first (begins c) v →
     first_left case ts v ≡ None
-found_none case c ts v h e = rw (h.sensitive, h.tokens) (first_none c h.others v e)
+no_first_byte case c ts v h e = from_first_byte case c ts v [] h e ∙ rw (h.sensitive, h.tokens) refl
 
-pub found_start : (case : Case) (c : ℕ) (ts : List Token) (v next : List ℕ) → BeginWith case c ts → folder_with c v ≡ Some next →
+pub no_first_pair : (case : Case) (a c : ℕ) (ts : List Token) (v : List ℕ) → BeginWithPair case a c ts →
+    [] ≡ from_first (begins_with_pair a c) v → first_left case ts v ≡ None
+no_first_pair case a c ts v h e = from_first_pair case a c ts v [] h e ∙ rw (h.sensitive, h.tokens) refl
+
+pub found_start : (case : Case) (c : ℕ) (ts : List Token) (v next : List ℕ) (s : ℕ) → BeginWith case c ts →
+    from_first (begins_with_pair slash c) v ≡ s ∷ next →
     slash_then (matches case ts) v ≡ (matches case ts next || slash_then (matches case ts) next)
-found_start case c ts v next h e = rw (h.sensitive, h.tokens) (next_start c h.others v next e)
+found_start case c ts v next s h e = rw (h.sensitive, h.tokens) (next_start c h.others v next s e)
 
-pub no_start : (case : Case) (c : ℕ) (ts : List Token) (v : List ℕ) → BeginWith case c ts → folder_with c v ≡ None →
+pub no_start : (case : Case) (c : ℕ) (ts : List Token) (v : List ℕ) → BeginWith case c ts → from_first (begins_with_pair slash c) v ≡ [] →
     slash_then (matches case ts) v ≡ false
 no_start case c ts v h e = rw (h.sensitive, h.tokens) (no_next_start c h.others v e)
 
--- none of eight bytes is this one
-pub eight_others : (n a b c d e f g h : ℕ) (v : List ℕ) →
-    ((((((((a == n) || (b == n)) || (c == n)) || (d == n)) || (e == n)) || (f == n)) || (g == n)) || (h == n)) ≡ false →
-    from_first n v ≡ from_first n (a ∷ b ∷ c ∷ d ∷ e ∷ f ∷ g ∷ h ∷ v)
-eight_others n a b c d e f g h v o =
-    let o7 = first_false _ (h == n) o in
-    let o6 = first_false _ (g == n) o7 in
-    let o5 = first_false _ (f == n) o6 in
-    let o4 = first_false _ (e == n) o5 in
-    let o3 = first_false _ (d == n) o4 in
-    let o2 = first_false _ (c == n) o3 in
-    rw (
-      first_false _ (b == n) o2,
-      second_false _ (b == n) o2,
-      second_false _ (c == n) o3,
-      second_false _ (d == n) o4,
-      second_false _ (e == n) o5,
-      second_false _ (f == n) o6,
-      second_false _ (g == n) o7,
-      second_false _ (h == n) o,
-    ) refl
+pub no_bytes : (v : List ℕ) → length v ≡ 0 → v ≡ []
+no_bytes [] l = refl
+no_bytes (b ∷ bs) l = absurd (omega (arith, l))
+
+unlike_pair : (a c : ℕ) (ts : List Token) (v : List ℕ) → begins_with_pair a c v ≡ false → matches Sensitive (lit a ∷ lit c ∷ ts) v ≡ false
+unlike_pair a c ts [] h = refl
+unlike_pair a c ts (x ∷ []) h = by_test (x == a) (λ t. rw t refl) (λ t. rw t refl)
+unlike_pair a c ts (x ∷ y ∷ r) h = by_test (x == a) (λ t. rw t (let e = rw t at h in rw e refl)) (λ t. rw t refl)
+
+-- tokens that begin with two bytes whose case matters match no value that begins otherwise
+pub unlike_front : (case : Case) (a c : ℕ) (ts : List Token) (v : List ℕ) → BeginWithPair case a c ts → begins_with_pair a c v ≡ false →
+    matches case ts v ≡ false
+unlike_front case a c ts v h e = rw (h.sensitive, h.tokens) (unlike_pair a c h.others v e)
 
 pub none_then : {X : Type 0} (r : Option X) {P Q : Type 0} → IfNone r P → (P → Q) → IfNone r Q
 none_then None h f = f h

@@ -1,9 +1,8 @@
--- Where tokens that begin with a byte may match (own).
-use Rattle.std.specs.Prelude.{◌≡◌, ℕ, ◌&&◌, ◌==◌, List, [], ◌∷◌, Option, Some, None, if◌then◌else◌}
+-- Where tokens that begin with a byte or two may match (own).
+use Rattle.std.specs.Prelude.{◌≡◌, ℕ, Bool, ◌&&◌, List, [], ◌∷◌, drop, if◌then◌else◌}
 use Rattle.attr_glob.specs.declared.pattern.Case.{Case}
 use Rattle.attr_glob.specs.declared.pattern.Case.TheVariants.{Sensitive}
 use Rattle.attr_glob.specs.Brackets.{begins}
-use Rattle.attr_glob.specs.Patterns.{is_slash}
 use Rattle.attr_glob.specs.Tokens.{Token, lit}
 
 -- the tokens begin with this byte, whose case matters
@@ -12,12 +11,17 @@ pub record BeginWith (case : Case) (byte : ℕ) (ts : List Token) : Type 0 where
   pub others : List Token
   pub tokens : ts ≡ lit byte ∷ others
 
--- the value from the first such byte on
-abbrev pub from_first : ℕ → List ℕ → Option (List ℕ)
-from_first byte [] = None
-from_first byte (b ∷ bs) = if b == byte then Some (b ∷ bs) else from_first byte bs
+-- the tokens begin with these two bytes, whose case matters
+pub record BeginWithPair (case : Case) (first second : ℕ) (ts : List Token) : Type 0 where
+  pub sensitive : case ≡ Sensitive
+  pub others : List Token
+  pub tokens : ts ≡ lit first ∷ lit second ∷ others
 
--- what follows the first slash that this byte follows
-abbrev pub folder_with : ℕ → List ℕ → Option (List ℕ)
-folder_with first [] = None
-folder_with first (b ∷ bs) = if is_slash b && begins first bs then Some bs else folder_with first bs
+-- the value begins with these two bytes
+abbrev pub begins_with_pair : ℕ → ℕ → List ℕ → Bool
+begins_with_pair first second v = begins first v && begins second (drop 1 v)
+
+-- the value from the first place on from which it passes the test, and nothing if there is none
+abbrev pub from_first : (List ℕ → Bool) → List ℕ → List ℕ
+from_first test [] = []
+from_first test (b ∷ bs) = if test (b ∷ bs) then b ∷ bs else from_first test bs

@@ -1,9 +1,11 @@
-//! Where tokens that begin with a byte may match: eight places are looked at together.
+//! Where tokens that begin with a byte or two may match: eight places are looked at together.
 
-ghost use Rattle.std.specs.Prelude.{◌≡◌, ◌≤◌, ◌<◌, ◌∷◌, IfNone, IfSome, None, Some, length};
+ghost use Rattle.std.specs.Prelude.{◌≡◌, ◌≤◌, ◌∷◌, IfSome, IsFalse, false, drop, length};
+ghost use Rattle.attr_glob.specs.Brackets.{begins};
 ghost use Rattle.attr_glob.specs.Tokens.{lit};
 ghost use Rattle.attr_glob.specs.TokenList.{tokens_of};
-ghost use Rattle.attr_glob.specs.inner.FirstBytes.{BeginWith, folder_with, from_first};
+ghost use Rattle.attr_glob.specs.Deciding.{matches};
+ghost use Rattle.attr_glob.specs.inner.FirstBytes.{BeginWith, BeginWithPair, begins_with_pair, from_first};
 
 use crate::pattern::Case;
 use crate::token::Token;
@@ -30,80 +32,145 @@ pub(crate) fn first_byte(tokens: &[Token], case: Case) -> Option<u8>
     Some(byte)
 }
 
-// The value from a byte on before which none is this byte.
+// The two bytes that the tokens begin with, if their case matters.
+pub(crate) fn first_pair(tokens: &[Token], case: Case) -> Option<(u8, u8)>
+    ensures { IfSome result (λ pair.
+        BeginWithPair case pair.0 pair.1 (tokens_of tokens.now)) }
+{
+    let first = first_byte(tokens, case)?;
+    let (_, others) = first_literal(tokens)?;
+    let (second, _) = first_literal(others)?;
+    Some((first, second))
+}
+
+// Whether the byte may be one of the first eight: these are compared together. True for fewer bytes.
+fn may_hold_byte(value: &[u8], byte: u8) -> bool
+    ensures enough { IsFalse result → 8 ≤ length value.now }
+    ensures passed { IsFalse result →
+        from_first (begins byte) (drop 8 value.now) ≡ from_first (begins byte) value.now }
+{
+    match value {
+        [a, b, c, d, e, f, g, h, ..] => {
+            (*a == byte)
+                | (*b == byte)
+                | (*c == byte)
+                | (*d == byte)
+                | (*e == byte)
+                | (*f == byte)
+                | (*g == byte)
+                | (*h == byte)
+        }
+        _ => true,
+    }
+}
+
+// The value from a byte on before which none is this byte. The last eight bytes are compared together too, some of them
+// again, rather than one by one.
 fn skip_others(value: &[u8], byte: u8) -> &[u8]
-    ensures same { from_first byte result.now ≡ from_first byte value.now }
+    ensures same { from_first (begins byte) result.now ≡ from_first (begins byte) value.now }
     ensures shorter { length result.now ≤ length value.now }
 {
     let mut rest = value;
-    while let [a, b, c, d, e, f, g, h, others @ ..] = rest {
-        if (*a == byte)
-            | (*b == byte)
-            | (*c == byte)
-            | (*d == byte)
-            | (*e == byte)
-            | (*f == byte)
-            | (*g == byte)
-            | (*h == byte)
-        {
-            break;
-        }
-        rest = others;
+    while !may_hold_byte(rest, byte) {
+        rest = &rest[8..];
+    }
+    if rest.len() < 8 && value.len() >= 8 && !may_hold_byte(&value[value.len() - 8..], byte) {
+        return &[];
     }
     rest
 }
 
-// The value from the first such byte on.
-pub(crate) fn from_byte(value: &[u8], byte: u8) -> Option<&[u8]>
-    ensures found { IfSome result (λ rest. from_first byte value.now ≡ Some rest.now) }
-    ensures none { IfNone result (from_first byte value.now ≡ None) }
-    ensures shorter { IfSome result (λ rest. length rest.now ≤ length value.now) }
+// The value from the first such byte on, and nothing if it has none. It isn't inlined, so that its callers are small enough
+// to be.
+#[inline(never)]
+pub(crate) fn from_byte(value: &[u8], byte: u8) -> &[u8]
+    ensures found { result.now ≡ from_first (begins byte) value.now }
+    ensures shorter { length result.now ≤ length value.now }
 {
     let mut rest = skip_others(value, byte);
     while let Some((first, others)) = rest.split_first() {
         if *first == byte {
-            return Some(rest);
+            return rest;
         }
         rest = others;
-    }
-    None
-}
-
-// The value from a byte on before which no folder begins with this byte: eight places are looked at together.
-fn skip_places(value: &[u8], first: u8) -> &[u8]
-    ensures same { folder_with first result.now ≡ folder_with first value.now }
-    ensures shorter { length result.now ≤ length value.now }
-{
-    let mut rest = value;
-    while let [a, b, c, d, e, f, g, h, i, ..] = rest {
-        if (*a == b'/') & (*b == first)
-            | (*b == b'/') & (*c == first)
-            | (*c == b'/') & (*d == first)
-            | (*d == b'/') & (*e == first)
-            | (*e == b'/') & (*f == first)
-            | (*f == b'/') & (*g == first)
-            | (*g == b'/') & (*h == first)
-            | (*h == b'/') & (*i == first)
-        {
-            break;
-        }
-        rest = &rest[8..];
     }
     rest
 }
 
-// What follows the first slash that this byte follows.
-pub(crate) fn folder_with(value: &[u8], first: u8) -> Option<&[u8]>
-    ensures next { IfSome result (λ next. folder_with first value.now ≡ Some next.now) }
-    ensures none { IfNone result (folder_with first value.now ≡ None) }
-    ensures shorter { IfSome result (λ next. length next.now < length value.now) }
+// Whether the pair may stand at one of the first eight places: these are compared together. True for fewer bytes.
+fn may_hold_pair(value: &[u8], first: u8, second: u8) -> bool
+    ensures enough { IsFalse result → 9 ≤ length value.now }
+    ensures passed { let test = begins_with_pair first second in IsFalse result →
+        from_first test (drop 8 value.now) ≡ from_first test value.now }
 {
-    let mut rest = skip_places(value, first);
-    while let [slash, next, ..] = rest {
-        if *slash == b'/' && *next == first {
-            return Some(&rest[1..]);
+    match value {
+        [a, b, c, d, e, f, g, h, i, ..] => {
+            (*a == first) & (*b == second)
+                | (*b == first) & (*c == second)
+                | (*c == first) & (*d == second)
+                | (*d == first) & (*e == second)
+                | (*e == first) & (*f == second)
+                | (*f == first) & (*g == second)
+                | (*g == first) & (*h == second)
+                | (*h == first) & (*i == second)
         }
-        rest = &rest[1..];
+        _ => true,
     }
-    None
+}
+
+// The value from a place on before which the pair stands nowhere. The last eight places are compared together too, some
+// of them again, rather than one by one.
+fn skip_pairs(value: &[u8], first: u8, second: u8) -> &[u8]
+    ensures same { let test = begins_with_pair first second in
+        from_first test result.now ≡ from_first test value.now }
+    ensures shorter { length result.now ≤ length value.now }
+{
+    let mut rest = value;
+    while !may_hold_pair(rest, first, second) {
+        rest = &rest[8..];
+    }
+    if rest.len() < 9
+        && value.len() >= 9
+        && !may_hold_pair(&value[value.len() - 9..], first, second)
+    {
+        return &[];
+    }
+    rest
+}
+
+// Whether the value begins with these two bytes.
+fn begins_with_pair(value: &[u8], first: u8, second: u8) -> bool
+    ensures { result ≡ begins_with_pair first second value.now }
+{
+    match value {
+        [a, b, ..] => *a == first && *b == second,
+        _ => false,
+    }
+}
+
+// The value from the first place on where these two bytes stand together, and nothing if they do nowhere. It isn't inlined,
+// for the same reason.
+#[inline(never)]
+pub(crate) fn from_pair(value: &[u8], first: u8, second: u8) -> &[u8]
+    ensures found { result.now ≡ from_first (begins_with_pair first second) value.now }
+    ensures shorter { length result.now ≤ length value.now }
+{
+    let mut rest = skip_pairs(value, first, second);
+    while let Some((_, others)) = rest.split_first() {
+        if begins_with_pair(rest, first, second) {
+            return rest;
+        }
+        rest = others;
+    }
+    rest
+}
+
+// Whether the tokens may match the value: if they begin with two bytes whose case matters, it begins with these.
+pub(crate) fn may_begin(tokens: &[Token], value: &[u8], case: Case) -> bool
+    ensures { IsFalse result → matches case (tokens_of tokens.now) value.now ≡ false }
+{
+    match first_pair(tokens, case) {
+        Some((first, second)) => begins_with_pair(value, first, second),
+        None => true,
+    }
 }

@@ -9,7 +9,7 @@ ghost use Rattle.attr_glob.specs.Deciding.{slash_then, matches};
 
 use crate::pattern::{self, Case};
 use crate::token::Token;
-use crate::wildmatch::first_bytes::{first_byte, folder_with};
+use crate::wildmatch::first_bytes::{first_byte, from_pair, may_begin};
 use crate::wildmatch::stretches::match_stretches;
 use crate::wildmatch::{MatchBuffers, run, skip_front};
 
@@ -44,6 +44,9 @@ fn answer_alone(tokens: &[Token], value: &[u8]) -> Option<bool>
 fn answer_front(tokens: &[Token], value: &[u8], case: Case) -> Option<bool>
     ensures { IfSome result (λ answer. answer ≡ matches case (tokens_of tokens.now) value.now) }
 {
+    if !may_begin(tokens, value, case) {
+        return Some(false);
+    }
     let Some((tokens, value)) = skip_front(tokens, value, case) else {
         return Some(false);
     };
@@ -79,7 +82,8 @@ fn next_folder<'v>(tokens: &[Token], value: &'v [u8], case: Case) -> Option<&'v 
     let Some(byte) = first_byte(tokens, case) else {
         return after_slash(value);
     };
-    folder_with(value, byte)
+    let (_, next) = from_pair(value, b'/', byte).split_first()?;
+    Some(next)
 }
 
 // Whether a folder star and the tokens after it match the value. It goes on to the next folder while those tokens

@@ -1,7 +1,8 @@
+use Rattle.std.proofs.Common.{sym, ◌∙◌}
 use Rattle.std.proofs.lemmas.Option.{IfSome_then}
 use Rattle.attr_glob.specs.Deciding.{matches}
 use Rattle.attr_glob.specs.TokenList.{tokens_of}
-use Rattle.attr_glob.proofs.FirstBytes.{found_start, no_start, none_then}
+use Rattle.attr_glob.proofs.FirstBytes.{found_start, no_bytes, no_start, none_then}
 use Rattle.attr_glob.proofs.wildmatch.folders.next_folder.Goals as goal
 
 pub returns-in_default-clause-next : goal.returns-in_default-clause-next
@@ -14,10 +15,10 @@ returns-in_default-clause-none c =
 
 pub returns-clause-next : goal.returns-clause-next
 returns-clause-next c =
-    IfSome_then c.folder_with.result c.folder_with.ensures.next
-    (λ next at. found_start c.args.case c.in-Some.byte (tokens_of c.args.tokens.now) c.args.value.now next.now c.in-Some.ensures at)
+    found_start c.args.case c.in-Some.byte (tokens_of c.args.tokens.now) c.args.value.now c.in_ok-next.next.now _ c.in-Some.ensures
+    (sym c.from_pair.ensures.found ∙ c.in_ok-next.ensures.cases.0)
 
-pub returns-clause-none : goal.returns-clause-none
-returns-clause-none c =
-    none_then c.folder_with.result c.folder_with.ensures.none
-    (λ none. no_start c.args.case c.in-Some.byte (tokens_of c.args.tokens.now) c.args.value.now c.in-Some.ensures none)
+pub returns-in_err-next-clause-none : goal.returns-in_err-next-clause-none
+returns-in_err-next-clause-none c =
+    rw c.from_residual.ensures (no_start c.args.case c.in-Some.byte (tokens_of c.args.tokens.now) c.args.value.now c.in-Some.ensures
+    (sym c.from_pair.ensures.found ∙ no_bytes c.from_pair.result.now c.in_err-next.ensures.cases))
