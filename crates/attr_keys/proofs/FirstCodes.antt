@@ -1,13 +1,15 @@
 -- Keys whose first codes are compared before their texts.
-use Rattle.std.proofs.Common.{◌≡◌, ℕ, ◌+◌, ◌<◌, Bool, true, false, ◌&&◌, ◌||◌, List, [], ◌∷◌, ◌++◌, length, take, get_or, map}
+use Rattle.std.proofs.Common.{◌≡◌, ◌≢◌, Option, Some, None, ℕ, ◌+◌, ◌<◌, Bool, true, false, ◌&&◌, ◌||◌, List, [], ◌∷◌, ◌++◌, length, take, get_or, map}
 use Rattle.std.proofs.Common.{refl, sym, ap, ◌∙◌, arith, eqb, nat_eq}
 use Rattle.std.specs.List.{starts_with}
 use Rattle.std.proofs.lemmas.Bool.{eqb-true}
+use Rattle.std.proofs.lemmas.Bool.Decides.{nat_tests}
 use Rattle.std.proofs.lemmas.List.{get_or-map, length-map, take_more}
 use Rattle.std.proofs.lemmas.List.Folds.{list_any-append}
+use Rattle.attr_keys.specs.KeyContents.{KeyContent}
+use Rattle.attr_keys.specs.inner.Codes.{codes_of, key_codes}
 use Rattle.attr_keys.specs.inner.Rows.{has_row}
 use Rattle.attr_keys.proofs.Fronts.{or_none}
-use Rattle.attr_keys.proofs.RowLemmas.{by_test}
 
 -- each first code has its number
 pub first_within : (codes : ℕ → List ℕ) (rows firsts : List ℕ) (i : ℕ) → firsts ≡ map (λ row. get_or (codes row) 0 0) rows → i < length firsts →
@@ -16,24 +18,37 @@ first_within codes rows firsts i are lt =
     let len : length firsts ≡ length rows = ap length are ∙ length-map rows (λ row. get_or (codes row) 0 0) in
     omega arith
 
--- a key of another first code isn't had
-pub first_apart : (codes : ℕ → List ℕ) (rows firsts text : List ℕ) (i : ℕ) → firsts ≡ map (λ row. get_or (codes row) 0 0) rows →
-    i < length firsts → eqb (get_or firsts i 0) 0 || eqb (get_or firsts i 0) (get_or text 0 0) ≡ false →
-    starts_with nat_eq text (codes (get_or rows i 0)) ≡ false
-first_apart codes rows firsts text i are lt other =
-    let here : get_or firsts i 0 ≡ get_or (codes (get_or rows i 0)) 0 0 =
-    ap (λ l. get_or l i 0) are ∙ get_or-map (λ row. get_or (codes row) 0 0) rows i 0 0 (first_within codes rows firsts i are lt) in
-    apart text (codes (get_or rows i 0)) (ap (λ n. eqb n 0 || eqb n (get_or text 0 0)) (sym here) ∙ other)
-  where
-    unequal : (c t : ℕ) → eqb c 0 || eqb c t ≡ false → nat_eq c t ≡ false
-    unequal c t f = by_test (eqb c 0)
-        (λ e. let no : true ≡ false = rw e at f in absurd cc)
-        (λ e. rw e at f)
+-- the first code at a place is that of the key with the number there
+pub first_there : (codes : ℕ → List ℕ) (rows firsts : List ℕ) (i : ℕ) → firsts ≡ map (λ row. get_or (codes row) 0 0) rows →
+    i < length firsts → get_or firsts i 0 ≡ get_or (codes (get_or rows i 0)) 0 0
+first_there codes rows firsts i are lt =
+    ap (λ l. get_or l i 0) are ∙ get_or-map (λ row. get_or (codes row) 0 0) rows i 0 0 (first_within codes rows firsts i are lt)
 
-    apart : (text key : List ℕ) → eqb (get_or key 0 0) 0 || eqb (get_or key 0 0) (get_or text 0 0) ≡ false → starts_with nat_eq text key ≡ false
-    apart text [] f = absurd cc
-    apart [] (c ∷ cs) f = refl
-    apart (t ∷ ts) (c ∷ cs) f = ap (λ b. b && starts_with nat_eq ts cs) (unequal c t f)
+-- a key of another first code isn't had
+pub first_apart : (text key : List ℕ) → get_or key 0 0 ≢ 0 → get_or key 0 0 ≢ get_or text 0 0 → starts_with nat_eq text key ≡ false
+first_apart text [] some other = absurd (some refl)
+first_apart [] (c ∷ cs) some other = refl
+first_apart (t ∷ ts) (c ∷ cs) some other = ap (λ b. b && starts_with nat_eq ts cs) (unequal c t other)
+  where
+    unequal : (a b : ℕ) → a ≢ b → nat_eq a b ≡ false
+    unequal a b ne = grind (arith, nat_tests)
+
+-- only an empty key has no first code, and it is had
+pub first_none : (text : List ℕ) (key : Option KeyContent) → get_or (key_codes key) 0 0 ≡ 0 → starts_with nat_eq text (key_codes key) ≡ true
+first_none text key none = ap (starts_with nat_eq text) (no_codes key none) ∙ begins text
+  where
+    codes : (bytes : List ℕ) (whole : Bool) → get_or (codes_of false bytes whole) 0 0 ≡ 0 → codes_of false bytes whole ≡ []
+    codes [] false e = refl
+    codes [] true e = absurd (omega (arith, e))
+    codes (b ∷ bs) whole e = absurd (omega (arith, e))
+
+    no_codes : (k : Option KeyContent) → get_or (key_codes k) 0 0 ≡ 0 → key_codes k ≡ []
+    no_codes None e = refl
+    no_codes (Some k) e = codes k.text k.is_whole e
+
+    begins : (t : List ℕ) → starts_with nat_eq t [] ≡ true
+    begins [] = refl
+    begins (c ∷ cs) = refl
 
 taken : (rows : List ℕ) (i row : ℕ) → i < length rows → has_row (take (i + 1) rows) row ≡ has_row (take i rows) row || eqb (get_or rows i 0) row
 taken rows i row lt =

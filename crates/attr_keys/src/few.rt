@@ -1,8 +1,8 @@
 //! Few keys, compared one by one: by their first codes, and by their texts only if these may agree.
 
-ghost use Rattle.std.specs.Prelude.{◌≡◌, ◌==◌, ◌&&◌, ◌||◌, ℕ, IfOk, OnOk, false, true, reverse, slice_get, slice_index};
+ghost use Rattle.std.specs.Prelude.{◌≡◌, ◌&&◌, ◌||◌, ℕ, IfOk, OnOk, false, true, reverse, slice_get, slice_index};
 ghost use Rattle.attr_keys.specs.inner.Cases.{key_contents, keys_in_case};
-ghost use Rattle.attr_keys.specs.inner.Codes.{codes_of};
+ghost use Rattle.attr_keys.specs.inner.Codes.{codes_of, row_codes};
 ghost use Rattle.attr_keys.specs.inner.Meeting.{text_has};
 ghost use Rattle.attr_keys.specs.inner.Rows.{AreFirsts, has_row};
 
@@ -56,9 +56,8 @@ pub fn append_few(
         ≡ (has_row found.old.items row || (has_row fronts.entry.rows.now row
         && text_has text.now (slice_get (keys_in_case keys.entry) row)))) }
 {
-    let text_first = code(false, text, true, 0);
     for (place, first) in fronts.firsts.iter().enumerate() {
-        if may_begin(*first, text_first) && has_row_key(keys, fronts.rows[place], text) {
+        if has_front(keys, fronts.rows[place], *first, text) {
             found.push(fronts.rows[place])?;
         }
     }
@@ -81,20 +80,42 @@ pub fn append_turned(
         ≡ (has_row found.old.items row || (has_row fronts.entry.rows.now row
         && text_has (reverse text.now) (slice_get (keys_in_case keys.entry) row)))) }
 {
-    let text_first = last_code(text);
     for (place, first) in fronts.firsts.iter().enumerate() {
-        if may_begin(*first, text_first) && has_turned_row_key(keys, fronts.rows[place], text) {
+        if has_turned_front(keys, fronts.rows[place], *first, text) {
             found.push(fronts.rows[place])?;
         }
     }
     Ok(())
 }
 
-// Whether a text with this first code may have a key with that one, which is 0 if the key is empty.
-fn may_begin(first: u16, text_first: u16) -> bool
-    ensures { result ≡ (first == 0 || first == text_first) }
+// Whether the text has the key with this number and this first code, which is 0 if the key is empty: each text has that.
+#[inline(always)]
+fn has_front(keys: Keys<'_>, row: usize, first: u16, text: &[u8]) -> bool
+    requires { first ≡ slice_index (row_codes (keys_in_case keys) row) 0 }
+    ensures { result ≡ text_has text.now (slice_get (keys_in_case keys.entry) row) }
 {
-    first == 0 || first == text_first
+    if first == 0 {
+        return true;
+    }
+    if first != code(false, text, true, 0) {
+        return false;
+    }
+    has_row_key(keys, row, text)
+}
+
+// The same of the text, reversed.
+#[inline(always)]
+fn has_turned_front(keys: Keys<'_>, row: usize, first: u16, text: &[u8]) -> bool
+    requires { first ≡ slice_index (row_codes (keys_in_case keys) row) 0 }
+    ensures { result ≡ text_has (reverse text.now) (slice_get (keys_in_case keys.entry) row) }
+{
+    if first == 0 {
+        return true;
+    }
+    if first != last_code(text) {
+        return false;
+    }
+    has_turned_row_key(keys, row, text)
 }
 
 // The first code of a text, reversed.

@@ -1,0 +1,16 @@
+use Rattle.std.proofs.Common.{false, true, sym, ◌∙◌, reverse}
+use Rattle.std.specs.Prelude.{slice_get}
+use Rattle.attr_keys.specs.inner.Cases.{keys_in_case}
+use Rattle.attr_keys.specs.inner.Codes.{codes_of, row_codes}
+use Rattle.attr_keys.proofs.FirstCodes.{first_apart, first_none}
+use Rattle.attr_keys.proofs.few.has_turned_front.Goals as goal
+
+pub returns-then-first-eq0 : goal.returns-then-first-eq0
+returns-then-first-eq0 c =
+    sym (first_none (codes_of false (reverse c.args.text.now) true) (slice_get (keys_in_case c.args.keys) c.args.row) (sym c.requires ∙ c.if-first-eq0.true))
+
+pub returns-then-first-last_code : goal.returns-then-first-last_code
+returns-then-first-last_code c =
+    sym (first_apart (codes_of false (reverse c.args.text.now) true) (row_codes (keys_in_case c.args.keys) c.args.row)
+    (λ e. c.if-first-eq0.false (c.requires ∙ e))
+    (λ e. c.if-first-last_code.true (c.requires ∙ (e ∙ sym c.last_code.ensures))))
