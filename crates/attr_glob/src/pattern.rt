@@ -339,10 +339,26 @@ pub(crate) fn without_end(text: &[u8]) -> &[u8]
     }
 }
 
+// Whether a byte of the text is a slash: eight are compared together.
 pub(crate) fn has_slash(text: &[u8]) -> bool
     ensures { result ≡ list_any is_slash text.now }
 {
-    for byte in text {
+    let mut rest = text;
+    while let [a, b, c, d, e, f, g, h, others @ ..] = rest {
+        if (*a == b'/')
+            | (*b == b'/')
+            | (*c == b'/')
+            | (*d == b'/')
+            | (*e == b'/')
+            | (*f == b'/')
+            | (*g == b'/')
+            | (*h == b'/')
+        {
+            return true;
+        }
+        rest = others;
+    }
+    for byte in rest {
         if *byte == b'/' {
             return true;
         }
