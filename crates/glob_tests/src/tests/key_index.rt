@@ -43,13 +43,17 @@ fn push_keys(alloc: Global, shapes: &[Shape<'_>], keys: &mut Vec<Key>) -> Result
     Ok(())
 }
 
-fn index_of(alloc: Global, shapes: &[Shape<'_>]) -> Result<KeyIndex, AllocError> {
-    let mut keys = Vec::new(alloc);
-    push_keys(alloc, shapes, &mut keys)?;
-    KeyIndex::of(alloc, keys)
+// An index in a box: a proof drops the box by one call, and an index field by field, wherever it can end.
+fn boxed(alloc: Global, keys: Vec<Key>) -> Result<Box<KeyIndex>, AllocError> {
+    let index = KeyIndex::of(alloc, keys)?;
+    Ok(Box::new(alloc, index)?)
 }
 
-// The tables are functions of their own: a test that has both an index and a table takes long to prove.
+fn index_of(alloc: Global, shapes: &[Shape<'_>]) -> Result<Box<KeyIndex>, AllocError> {
+    let mut keys = Vec::new(alloc);
+    push_keys(alloc, shapes, &mut keys)?;
+    boxed(alloc, keys)
+}
 
 /// A look-up, and the lines that it finds.
 #[derive(Clone, Copy)]
@@ -104,7 +108,7 @@ fn folded(name: &'static [u8], path: &'static [u8], lines: &'static [usize]) -> 
 }
 
 // The keys of README, *.c, ext0_*, src/lib.rs, docs/**, *foo*, a macro, readme and README.
-fn keys(alloc: Global) -> Result<KeyIndex, AllocError> {
+fn keys(alloc: Global) -> Result<Box<KeyIndex>, AllocError> {
     let definition = Shape {
         text: b"README",
         wildcard: None,
@@ -157,7 +161,7 @@ fn ends_are_told_by_their_last_bytes(rt: HostRuntime) -> Result<(), AllocError> 
 }
 
 // The candidate keys of ext0_*, ext0 and src/lib.rs.
-fn candidates(alloc: Global) -> Result<KeyIndex, AllocError> {
+fn candidates(alloc: Global) -> Result<Box<KeyIndex>, AllocError> {
     let shapes = [
         named(b"ext0_*", Some(5)),
         named(b"ext0", None),
@@ -167,7 +171,7 @@ fn candidates(alloc: Global) -> Result<KeyIndex, AllocError> {
     for shape in shapes {
         keys.push(candidate_key(alloc, shape)?)?;
     }
-    KeyIndex::of(alloc, keys)
+    boxed(alloc, keys)
 }
 
 #[test]
@@ -190,12 +194,12 @@ fn push_letter(alloc: Global, letter: u8, keys: &mut Vec<Key>) -> Result<(), All
 }
 
 // For each of twelve letters the keys of the name xa, *.a, a/* and a/xa, and so on.
-fn many_keys(alloc: Global) -> Result<KeyIndex, AllocError> {
+fn many_keys(alloc: Global) -> Result<Box<KeyIndex>, AllocError> {
     let mut keys = Vec::new(alloc);
     for letter in b"abcdefghijkl" {
         push_letter(alloc, *letter, &mut keys)?;
     }
-    KeyIndex::of(alloc, keys)
+    boxed(alloc, keys)
 }
 
 fn letters() -> [LookUp<'static>; 5] {
@@ -216,13 +220,13 @@ fn many_keys_are_looked_up(rt: HostRuntime) -> Result<(), AllocError> {
 }
 
 // The keys of a*, aa* and so on, up to twelve letters.
-fn fronts(alloc: Global) -> Result<KeyIndex, AllocError> {
+fn fronts(alloc: Global) -> Result<Box<KeyIndex>, AllocError> {
     let text = b"aaaaaaaaaaaa*";
     let mut keys = Vec::new(alloc);
     for front in 1..13 {
         keys.push(line_key(alloc, named(&text[12 - front..], Some(front)))?)?;
     }
-    KeyIndex::of(alloc, keys)
+    boxed(alloc, keys)
 }
 
 fn fronts_of_fronts() -> [LookUp<'static>; 3] {
@@ -264,12 +268,12 @@ const CROWD: [&[u8; 24]; 20] = [
     b"tHieMgf1y\xE1C\xC8|I\x1EjAAAAAAAA",
 ];
 
-fn crowded(alloc: Global) -> Result<KeyIndex, AllocError> {
+fn crowded(alloc: Global) -> Result<Box<KeyIndex>, AllocError> {
     let mut keys = Vec::new(alloc);
     for name in CROWD {
         push_keys(alloc, &[named(name, None)], &mut keys)?;
     }
-    KeyIndex::of(alloc, keys)
+    boxed(alloc, keys)
 }
 
 fn lines_of(alloc: Global, keys: &KeyIndex, name: &[u8]) -> Result<Vec<usize>, AllocError> {

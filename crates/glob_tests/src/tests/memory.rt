@@ -1,11 +1,11 @@
 //! Calls that answer rightly when they are made again, whichever request for memory is refused.
 //!
 //! `tests/refused_memory.sh` refuses one request of a test in turn; what is called again then finds memory.
-use super::pattern_lists::{Lines, candidates, listed};
+use super::pattern_lists::{Lines, candidates, index_of, listed, read};
 use attr_glob::Pattern;
 use attr_glob::pattern::{Case, Mode, base_name, base_name_place};
 use attr_glob::quote::ansi_c::{UndoError, undo};
-use attr_glob::search::pattern::{Index, IndexBuffers, List};
+use attr_glob::search::pattern::{IndexBuffers, List};
 use attr_glob::token::Tokens;
 use attr_glob::wildmatch::{MatchBuffers, count};
 use bitflags::Flags;
@@ -137,9 +137,9 @@ fn without_memory_bytes_alone_decide(rt: HostRuntime) {
 }
 
 // A copy of the list that was read.
-fn copied(alloc: Global, text: &[u8]) -> Result<List<Lines>, AllocError> {
+fn copied(alloc: Global, text: &[u8]) -> Result<Box<List<Lines>>, AllocError> {
     let list = listed(alloc, text)?;
-    list.clone(alloc)
+    Ok(Box::new(alloc, list.clone(alloc)?)?)
 }
 
 #[test]
@@ -157,10 +157,9 @@ fn without_memory_candidates_are_found_again(rt: HostRuntime) -> Result<(), Allo
 }
 
 // The list of a file below a root.
-fn based(alloc: Global) -> Result<List<Lines>, AllocError> {
-    let source = String::from_str(alloc, "a/b/.gitattributes")?;
-    let (list, _) = List::from_bytes(alloc, b"x\n\ny", source, Some("a"), Lines)?;
-    list.clone(alloc)
+fn based(alloc: Global) -> Result<Box<List<Lines>>, AllocError> {
+    let (list, _) = read(alloc, b"x\n\ny", "a/b/.gitattributes", Some("a"))?;
+    Ok(Box::new(alloc, list.clone(alloc)?)?)
 }
 
 #[test]
@@ -219,7 +218,7 @@ fn without_memory_lists_are_copied_again(rt: HostRuntime) -> Result<(), AllocErr
 }
 
 fn expect_told_apart(rt: &impl Abort, alloc: Global, list: &List<Lines>, other: &List<Lines>) {
-    if let Ok(index) = Index::of(alloc, list) {
+    if let Ok(index) = index_of(alloc, list) {
         assert!(rt; index.is_of(list) && !index.is_of(other));
     }
 }

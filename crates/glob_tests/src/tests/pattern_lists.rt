@@ -104,16 +104,18 @@ fn below(source: &'static str, root: &'static str, base: Option<&'static str>) -
     }
 }
 
-// A test owns few values at a time, since each call that may fail has to drop them all in a proof.
+// A test owns few values at a time, since each call that may fail has to drop them all in a proof. A list and an index
+// are in boxes: a proof drops a box by one call, and what is in none field by field.
 
-fn read(
+pub(super) fn read(
     alloc: Global,
     text: &[u8],
     source: &str,
     root: Option<&str>,
-) -> Result<(List<Lines>, Vec<usize>), AllocError> {
+) -> Result<(Box<List<Lines>>, Vec<usize>), AllocError> {
     let source = String::from_str(alloc, source)?;
-    List::from_bytes(alloc, text, source, root, Lines)
+    let (list, dropped) = List::from_bytes(alloc, text, source, root, Lines)?;
+    Ok((Box::new(alloc, list)?, dropped))
 }
 
 fn expect_base(rt: &impl Abort, alloc: Global, row: Based) -> Result<(), AllocError> {
@@ -197,21 +199,29 @@ fn a_list_without_a_base_strips_nothing(rt: HostRuntime) -> Result<(), AllocErro
     Ok(())
 }
 
+fn is_copied(alloc: Global, list: &List<Lines>) -> Result<bool, AllocError> {
+    let copy = list.clone(alloc)?;
+    Ok(copy == *list)
+}
+
 #[test]
 fn copies_lists(rt: HostRuntime) -> Result<(), Fail> {
-    let source = String::from_str(rt.alloc(), "sub/.gitattributes")?;
-    let (list, _) = List::from_bytes(rt.alloc(), b"/x\na", source, Some(""), Lines)?;
-    let copy = list.clone(rt.alloc())?;
-    assert!(rt; copy == list);
+    let (list, _) = read(rt.alloc(), b"/x\na", "sub/.gitattributes", Some(""))?;
+    assert!(rt; is_copied(rt.alloc(), &list)?);
     for mapping in &list.patterns {
         assert!(rt; mapping.clone(rt.alloc())? == *mapping);
     }
     Ok(())
 }
 
-pub(super) fn listed(alloc: Global, text: &[u8]) -> Result<List<Lines>, AllocError> {
+pub(super) fn listed(alloc: Global, text: &[u8]) -> Result<Box<List<Lines>>, AllocError> {
     let (list, _) = List::from_bytes(alloc, text, String::new(alloc), None, Lines)?;
-    Ok(list)
+    Ok(Box::new(alloc, list)?)
+}
+
+pub(super) fn index_of(alloc: Global, list: &List<Lines>) -> Result<Box<Index>, AllocError> {
+    let index = Index::of(alloc, list)?;
+    Ok(Box::new(alloc, index)?)
 }
 
 // The places in the list that a path is to be tried with, last to first.
@@ -221,7 +231,7 @@ fn candidates_in(
     path: &[u8],
     case: Case,
 ) -> Result<Vec<usize>, AllocError> {
-    let index = Index::of(alloc, list)?;
+    let index = index_of(alloc, list)?;
     if !index.is_of(list) {
         return Ok(Vec::new(alloc));
     }
@@ -257,7 +267,7 @@ fn candidates_of_few_lines(rt: HostRuntime) -> Result<(), AllocError> {
 }
 
 fn is_of(alloc: Global, list: &List<Lines>, other: &List<Lines>) -> Result<bool, AllocError> {
-    let index = Index::of(alloc, list)?;
+    let index = index_of(alloc, list)?;
     Ok(index.is_of(other))
 }
 
@@ -278,7 +288,7 @@ fn append_twice(alloc: Global, index: &Index, places: &mut Vec<usize>) -> Result
 
 fn append_of(alloc: Global, text: &[u8], places: &mut Vec<usize>) -> Result<(), AllocError> {
     let list = listed(alloc, text)?;
-    let index = Index::of(alloc, &list)?;
+    let index = index_of(alloc, &list)?;
     append_twice(alloc, &index, places)
 }
 
