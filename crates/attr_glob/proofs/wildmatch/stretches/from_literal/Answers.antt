@@ -7,8 +7,8 @@ use Rattle.attr_glob.proofs.wildmatch.stretches.from_literal.Goals as goal
 pub returns-in-Some-clause-found : goal.returns-in-Some-clause-found
 returns-in-Some-clause-found c =
     IfSome_then c.unless_empty.result c.unless_empty.ensures.some
-    (λ rest is. from_first_pair c.args.case c.in-Some.first c.in-Some.second (tokens_of c.args.tokens.now) c.args.value.now rest.now c.in-Some.ensures
-    (is ∙ c.from_pair.ensures.found))
+    (λ rest is. from_first_pair c.args.case c.in-Some.first c.in-Some.second (tokens_of c.args.tokens.now) c.args.value.now rest.now
+    c.in-Some.ensures (is ∙ c.from_pair.ensures.found))
 
 pub returns-in-Some-clause-none : goal.returns-in-Some-clause-none
 returns-in-Some-clause-none c =
