@@ -56,9 +56,11 @@ pub fn append_few(
         ≡ (has_row found.old.items row || (has_row fronts.entry.rows.now row
         && text_has text.now (slice_get (keys_in_case keys.entry) row)))) }
 {
+    let text_first = code(false, text, true, 0);
     for (place, first) in fronts.firsts.iter().enumerate() {
-        if has_front(keys, fronts.rows[place], *first, text) {
-            found.push(fronts.rows[place])?;
+        let row = fronts.rows[place];
+        if has_front(keys, row, *first, text, text_first) {
+            found.push(row)?;
         }
     }
     Ok(())
@@ -80,9 +82,11 @@ pub fn append_turned(
         ≡ (has_row found.old.items row || (has_row fronts.entry.rows.now row
         && text_has (reverse text.now) (slice_get (keys_in_case keys.entry) row)))) }
 {
+    let text_first = last_code(text);
     for (place, first) in fronts.firsts.iter().enumerate() {
-        if has_turned_front(keys, fronts.rows[place], *first, text) {
-            found.push(fronts.rows[place])?;
+        let row = fronts.rows[place];
+        if has_turned_front(keys, row, *first, text, text_first) {
+            found.push(row)?;
         }
     }
     Ok(())
@@ -90,14 +94,15 @@ pub fn append_turned(
 
 // Whether the text has the key with this number and this first code, which is 0 if the key is empty: each text has that.
 #[inline(always)]
-fn has_front(keys: Keys<'_>, row: usize, first: u16, text: &[u8]) -> bool
-    requires { first ≡ slice_index (row_codes (keys_in_case keys) row) 0 }
+fn has_front(keys: Keys<'_>, row: usize, first: u16, text: &[u8], text_first: u16) -> bool
+    requires first { first ≡ slice_index (row_codes (keys_in_case keys) row) 0 }
+    requires text_first { text_first ≡ slice_index (codes_of false text.now true) 0 }
     ensures { result ≡ text_has text.now (slice_get (keys_in_case keys.entry) row) }
 {
     if first == 0 {
         return true;
     }
-    if first != code(false, text, true, 0) {
+    if first != text_first {
         return false;
     }
     has_row_key(keys, row, text)
@@ -105,14 +110,15 @@ fn has_front(keys: Keys<'_>, row: usize, first: u16, text: &[u8]) -> bool
 
 // The same of the text, reversed.
 #[inline(always)]
-fn has_turned_front(keys: Keys<'_>, row: usize, first: u16, text: &[u8]) -> bool
-    requires { first ≡ slice_index (row_codes (keys_in_case keys) row) 0 }
+fn has_turned_front(keys: Keys<'_>, row: usize, first: u16, text: &[u8], text_first: u16) -> bool
+    requires first { first ≡ slice_index (row_codes (keys_in_case keys) row) 0 }
+    requires text_first { text_first ≡ slice_index (codes_of false (reverse text.now) true) 0 }
     ensures { result ≡ text_has (reverse text.now) (slice_get (keys_in_case keys.entry) row) }
 {
     if first == 0 {
         return true;
     }
-    if first != last_code(text) {
+    if first != text_first {
         return false;
     }
     has_turned_row_key(keys, row, text)

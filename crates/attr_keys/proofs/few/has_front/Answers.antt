@@ -7,10 +7,10 @@ use Rattle.attr_keys.proofs.few.has_front.Goals as goal
 
 pub returns-then-first-eq0 : goal.returns-then-first-eq0
 returns-then-first-eq0 c =
-    sym (first_none (codes_of false c.args.text.now true) (slice_get (keys_in_case c.args.keys) c.args.row) (sym c.requires ∙ c.if-first-eq0.true))
+    sym (first_none (codes_of false c.args.text.now true) (slice_get (keys_in_case c.args.keys) c.args.row) (sym c.requires.first ∙ c.if-first-eq0.true))
 
-pub returns-then-first-code : goal.returns-then-first-code
-returns-then-first-code c =
+pub returns-then-first-text_first : goal.returns-then-first-text_first
+returns-then-first-text_first c =
     sym (first_apart (codes_of false c.args.text.now true) (row_codes (keys_in_case c.args.keys) c.args.row)
-    (λ e. c.if-first-eq0.false (c.requires ∙ e))
-    (λ e. c.if-first-code.true (c.requires ∙ (e ∙ sym c.code.ensures))))
+    (λ e. c.if-first-eq0.false (c.requires.first ∙ e))
+    (λ e. c.if-first-text_first.true (c.requires.first ∙ (e ∙ sym c.requires.text_first))))
