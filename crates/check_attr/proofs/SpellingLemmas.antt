@@ -488,17 +488,17 @@ if-else false x y e = refl
 number_in : List ℕ × List ℕ → Option (ℕ × List ℕ)
 number_in word = if is_number word.0 then Some (digits_value word.0, word.1) else None
 
-pub no_number : (stop : ℕ) (bytes word rest : List ℕ) → Some (word, rest) ≡ split_once stop bytes → is_number word ≡ false
-    → None ≡ number_before stop bytes
+-- a word before a separator is read as a number, or as none
+pub word_read : (stop : ℕ) (bytes word rest : List ℕ) (number : Option ℕ) → Some (word, rest) ≡ split_once stop bytes
+    → number ≡ (if is_number word then Some (digits_value word) else None) → option_map (λ n. (n, rest)) number ≡ number_before stop bytes
 unfolding number_in
-no_number stop bytes word rest cut other =
-    sym (ap (λ o. o then number_in) (sym cut) ∙ if-else (is_number word) (Some (digits_value word, rest)) None other)
-
-pub some_number : (stop : ℕ) (bytes word rest : List ℕ) → Some (word, rest) ≡ split_once stop bytes → is_number word ≡ true
-    → Some (digits_value word, rest) ≡ number_before stop bytes
-unfolding number_in
-some_number stop bytes word rest cut is =
-    sym (ap (λ o. o then number_in) (sym cut) ∙ if-then (is_number word) (Some (digits_value word, rest)) None is)
+word_read stop bytes word rest number cut is =
+    ap (option_map (λ n. (n, rest))) is ∙ (either (is_number word) ∙ ap (λ o. o then number_in) cut)
+  where
+    either : (b : Bool) → option_map (λ (n : ℕ). let p : ℕ × List ℕ = (n, rest) in p) (if b then Some (digits_value word) else None)
+        ≡ (if b then Some (digits_value word, rest) else None)
+    either true = refl
+    either false = refl
 
 pub reads_add : (bytes : List ℕ) (read : Option (Record × List ℕ)) → starts_with nat_eq bytes (codes "add ") ≡ true
     → read ≡ add_record (drop 4 bytes)

@@ -1,12 +1,12 @@
 //! The parser of scripts: the records `add`, `pop`, `names` and `ask`, one after the other.
 
-ghost use Rattle.std.specs.Prelude.{◌≡◌, ◌<◌, ◌==◌, ◌||◌, not, slice_index, ◌∷◌, [], true, false, Some, None, IfOk, length, position, option_map, map, codes, if◌then◌else◌};
+ghost use Rattle.std.specs.Prelude.{◌≡◌, ◌<◌, ◌≤◌, ◌==◌, ◌||◌, not, slice_index, ◌∷◌, [], true, false, Some, None, IfOk, length, position, option_map, map, codes, if◌then◌else◌};
 ghost use Rattle.std.specs.Char.{is_ascii_digit};
 ghost use Rattle.std.specs.List.{list_all};
 ghost use Rattle.std.specs.Option.{option_copied};
 ghost use Rattle.std.specs.Str.{is_utf8};
 ghost use Rattle.gix_attributes.specs.LinesJoined.{line_feed};
-ghost use Rattle.check_attr.specs.inner.ScriptParts.{IsFirstRecord, IsNumberBefore, strip_prefix, choice_of, cases, folder_flags, forms, macro_flags, split_once, split_at, if_text, is_number, digits_value, digit_zero, number_before, root_length, root_of, add_header, addition_of, add_record, names_record, ask_record, text_lines, ask_header, question_of, ◌then◌};
+ghost use Rattle.check_attr.specs.inner.ScriptParts.{IsFirstRecord, IsNumberBefore, strip_prefix, choice_of, cases, folder_flags, forms, macro_flags, split_once, split_at, if_text, is_number, digits_value, digit_zero, most_digits, number_before, root_length, root_of, add_header, addition_of, add_record, names_record, ask_record, text_lines, ask_header, question_of, ◌then◌};
 ghost use Rattle.attr_engine.specs.EngineView.{addition_view};
 ghost use Rattle.check_attr.specs.inner.ScriptViews.{add_header_view, ask_header_view, lines_view, part_view, question_view, record_view, with_rest};
 
@@ -337,25 +337,17 @@ fn number_before(separator: u8, bytes: &[u8]) -> Option<(usize, &[u8])>
         IsNumberBefore separator bytes.now (option_map (with_rest (λ n. n)) result) }
 {
     let (word, rest) = split_once(separator, bytes)?;
-    if !is_number(word) {
+    let number = number_of(word)?;
+    Some((number, rest))
+}
+
+fn number_of(word: &[u8]) -> Option<usize>
+    ensures { result ≡ if is_number word.now then Some (digits_value word.now) else None }
+{
+    if word.is_empty() || word.len() > MOST_DIGITS || !has_no_leading_zero(word) {
         return None;
     }
-    Some((digits_value(word), rest))
-}
-
-fn is_number(word: &[u8]) -> bool
-    ensures { result ≡ is_number word.now }
-{
-    if word.is_empty() || word.len() > MOST_DIGITS {
-        return false;
-    }
-    are_digits(word) && has_no_leading_zero(word)
-}
-
-fn are_digits(word: &[u8]) -> bool
-    ensures { result ≡ list_all is_ascii_digit word.now }
-{
-    word.iter().all(|b| b.is_ascii_digit())
+    digits_value(word)
 }
 
 fn has_no_leading_zero(word: &[u8]) -> bool
@@ -365,13 +357,17 @@ fn has_no_leading_zero(word: &[u8]) -> bool
     word.len() == 1 || word[0] != b'0'
 }
 
-fn digits_value(digits: &[u8]) -> usize
-    requires { is_number digits.now ≡ true }
-    ensures { result ≡ digits_value digits.now }
+fn digits_value(word: &[u8]) -> Option<usize>
+    requires { length word.now ≤ most_digits }
+    ensures { result
+        ≡ if list_all is_ascii_digit word.now then Some (digits_value word.now) else None }
 {
     let mut value = 0;
-    for digit in digits {
+    for digit in word {
+        if !digit.is_ascii_digit() {
+            return None;
+        }
         value = 10 * value + usize::from(*digit - b'0');
     }
-    value
+    Some(value)
 }
