@@ -1,6 +1,6 @@
 //! The text of the answers for a path, in the form of its question. It is written in pieces.
 
-ghost use Rattle.std.specs.Prelude.{◌≡◌, ◌++◌, OnOk, [], Some, codes, slice_index_or, unwrap_or};
+ghost use Rattle.std.specs.Prelude.{◌≡◌, ◌≢◌, ◌++◌, OnOk, [], Some, codes, slice_index_or, unwrap_or};
 ghost use Rattle.std.specs.List.{flat_map};
 ghost use Rattle.gix_attributes.specs.TextViews.{state_view};
 ghost use Rattle.gix_attributes.specs.Matches.{match_view, cause_of};
@@ -11,6 +11,7 @@ ghost use Rattle.check_attr.specs.ScriptText.{info, cause_text, origin_text, ans
 
 use crate::buffer::{push_bytes, push_number, push_text};
 use crate::fault::Fault;
+use crate::held::Held;
 use crate::pieces::write_full;
 use crate::script::{Form, Question};
 use crate::writing::Push;
@@ -27,12 +28,12 @@ use std::alloc::AllocError;
 /// may be written then.
 pub fn pass_answers<W: Push>(
     writer: &mut W,
-    held: &mut Vec<u8>,
+    held: &mut Held,
     question: Question<'_>,
     engine: &Engine,
 ) -> Result<(), Fault>
-    ensures { Passes W.contents W.failed W.stalled writer.old writer.new held.new.items
-        (held.old.items ++ flat_map (match_entry question.entry engine.now)
+    ensures { Passes W.contents W.failed W.stalled writer.old writer.new held.new
+        (held.old ++ flat_map (match_entry question.entry engine.now)
         (unwrap_or engine.now.answers [])) result }
 {
     for one in engine.answers() {
@@ -43,57 +44,68 @@ pub fn pass_answers<W: Push>(
 }
 
 fn push_entry(
+    held: &mut Held,
+    question: Question<'_>,
+    engine: &Engine,
+    one: Match<'_>,
+) -> Result<(), AllocError>
+    ensures { OnOk result (held.new
+        ≡ held.old ++ match_entry question.entry engine.now (match_view one.entry)) }
+{
+    if let Form::Line = question.form {
+        return push_line(held, question.path, one.assignment);
+    }
+    let mut out = held.take();
+    push_fields(&mut out, question, engine, one)?;
+    held.hold(out);
+    Ok(())
+}
+
+// An entry in one of the other forms.
+#[inline(never)]
+fn push_fields(
     out: &mut Vec<u8>,
     question: Question<'_>,
     engine: &Engine,
     one: Match<'_>,
 ) -> Result<(), AllocError>
+    requires { question.form ≢ Form.Line }
     ensures { OnOk result (out.new.items
         ≡ out.old.items ++ match_entry question.entry engine.now (match_view one.entry)) }
 {
-    match question.form {
-        Form::Line => push_line(out, question.path, one.assignment),
-        Form::Zero => {
-            push_answer(out, question.path, "\0", one.assignment)?;
-            push_text(out, "\0")
-        }
-        Form::Origin => {
-            push_answer(out, question.path, ": ", one.assignment)?;
-            push_text(out, "\t")?;
-            push_origin(out, engine, one)?;
-            push_text(out, "\n")
-        }
+    if let Form::Origin = question.form {
+        push_answer(out, question.path, ": ", one.assignment)?;
+        push_text(out, "\t")?;
+        push_origin(out, engine, one)?;
+        return push_text(out, "\n");
     }
+    push_answer(out, question.path, "\0", one.assignment)?;
+    push_text(out, "\0")
 }
 
 // The path, the name and the state as a line. What follows the name is appended at once if it is one of few texts.
-fn push_line(
-    out: &mut Vec<u8>,
-    path: &[u8],
-    assignment: AssignmentRef<'_>,
-) -> Result<(), AllocError>
-    ensures { OnOk result (out.new.items
-        ≡ out.old.items ++ answer_text path.now (codes ": ") assignment.entry.name.text.now
+fn push_line(held: &mut Held, path: &[u8], assignment: AssignmentRef<'_>) -> Result<(), AllocError>
+    ensures { OnOk result (held.new
+        ≡ held.old ++ answer_text path.now (codes ": ") assignment.entry.name.text.now
         (table_state (state_view assignment.entry.state)) ++ codes "\n") }
 {
-    push_bytes(out, path)?;
-    push_text(out, ": ")?;
-    push_text(out, assignment.name.as_str())?;
+    held.push(path)?;
+    held.push(b": ")?;
+    held.push(assignment.name.as_str().as_bytes())?;
     match assignment.state {
-        StateRef::Set => push_text(out, ": set\n"),
-        StateRef::Unset => push_text(out, ": unset\n"),
-        StateRef::Unspecified => push_text(out, ": unspecified\n"),
-        StateRef::Value(value) => push_value(out, value.as_bstr().as_bytes()),
+        StateRef::Set => held.push(b": set\n"),
+        StateRef::Unset => held.push(b": unset\n"),
+        StateRef::Unspecified => held.push(b": unspecified\n"),
+        StateRef::Value(value) => push_value(held, value.as_bstr().as_bytes()),
     }
 }
 
-fn push_value(out: &mut Vec<u8>, value: &[u8]) -> Result<(), AllocError>
-    ensures { OnOk result (out.new.items
-        ≡ out.old.items ++ codes ": " ++ value.now ++ codes "\n") }
+fn push_value(held: &mut Held, value: &[u8]) -> Result<(), AllocError>
+    ensures { OnOk result (held.new ≡ held.old ++ codes ": " ++ value.now ++ codes "\n") }
 {
-    push_text(out, ": ")?;
-    push_bytes(out, value)?;
-    push_text(out, "\n")
+    held.push(b": ")?;
+    held.push(value)?;
+    held.push(b"\n")
 }
 
 // The path, the name and the state.

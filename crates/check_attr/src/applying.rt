@@ -14,6 +14,7 @@ ghost use Rattle.check_attr.specs.ScriptStates.{next_state};
 use crate::answers::pass_answers;
 use crate::dropped_lines::pass_dropped;
 use crate::fault::Fault;
+use crate::held::Held;
 use crate::script::{Question, Record};
 use crate::writing::Push;
 use attr_engine::{Addition, Engine};
@@ -31,12 +32,12 @@ pub fn apply<W: Push>(
     alloc: Global,
     next: Record<'_>,
     writer: &mut W,
-    held: &mut Vec<u8>,
+    held: &mut Held,
 ) -> Result<(), Fault>
     ensures state { OnOk result (engine.new.state
         ≡ next_state (record_view next.entry) engine.old.state) }
     ensures text { PassesRecord W.contents W.failed W.stalled engine.old.state
-        (record_view next.entry) writer.old writer.new held.old.items held.new.items result }
+        (record_view next.entry) writer.old writer.new held.old held.new result }
 {
     match next {
         Record::Add(addition) => add(engine, alloc, addition, writer, held),
@@ -57,12 +58,12 @@ fn add<W: Push>(
     alloc: Global,
     addition: Addition<'_>,
     writer: &mut W,
-    held: &mut Vec<u8>,
+    held: &mut Held,
 ) -> Result<(), Fault>
     ensures state { OnOk result (engine.new.state
         ≡ state_with_list (addition_view addition.entry) engine.old.state) }
-    ensures text { Passes W.contents W.failed W.stalled writer.old writer.new held.new.items
-        (held.old.items ++ flat_map (dropped_text addition.entry.source.now)
+    ensures text { Passes W.contents W.failed W.stalled writer.old writer.new held.new
+        (held.old ++ flat_map (dropped_text addition.entry.source.now)
         (dropped_lines addition.entry.buffer.now)) result }
 {
     engine.add(alloc, addition)?;
@@ -74,12 +75,12 @@ fn ask<W: Push>(
     alloc: Global,
     question: Question<'_>,
     writer: &mut W,
-    held: &mut Vec<u8>,
+    held: &mut Held,
 ) -> Result<(), Fault>
     ensures state { OnOk result (engine.new.state ≡ engine.old.state) }
     ensures text { PassesAnswers W.contents W.failed W.stalled engine.old.state
         (question_view question.entry) writer.old writer.new
-        held.old.items held.new.items result }
+        held.old held.new result }
 {
     let asked = attr_engine::Question {
         path: BStr::from(question.path),

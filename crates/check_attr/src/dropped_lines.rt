@@ -7,6 +7,7 @@ ghost use Rattle.check_attr.specs.ScriptText.{dropped_text, reason_word};
 
 use crate::buffer::{push_number, push_text};
 use crate::fault::Fault;
+use crate::held::Held;
 use crate::pieces::write_full;
 use crate::writing::Push;
 use gix_attributes::search::{DropReason, Dropped};
@@ -36,17 +37,26 @@ pub fn push_dropped(out: &mut Vec<u8>, source: &str, dropped: &[Dropped]) -> Res
 /// may be written then.
 pub fn pass_dropped<W: Push>(
     writer: &mut W,
-    held: &mut Vec<u8>,
+    held: &mut Held,
     source: &str,
     dropped: &[Dropped],
 ) -> Result<(), Fault>
-    ensures { Passes W.contents W.failed W.stalled writer.old writer.new held.new.items
-        (held.old.items ++ flat_map (dropped_text source.now) dropped.now) result }
+    ensures { Passes W.contents W.failed W.stalled writer.old writer.new held.new
+        (held.old ++ flat_map (dropped_text source.now) dropped.now) result }
 {
     for line in dropped {
-        push_line(held, source, *line)?;
+        hold_line(held, source, *line)?;
         write_full(writer, held)?;
     }
+    Ok(())
+}
+
+fn hold_line(held: &mut Held, source: &str, dropped: Dropped) -> Result<(), AllocError>
+    ensures { OnOk result (held.new ≡ held.old ++ dropped_text source.now dropped) }
+{
+    let mut out = held.take();
+    push_line(&mut out, source, dropped)?;
+    held.hold(out);
     Ok(())
 }
 

@@ -10,6 +10,7 @@ mod dropped_lines;
 mod failure_count;
 mod fault;
 mod global_lists;
+mod held;
 pub mod laws;
 mod line_report;
 mod pieces;

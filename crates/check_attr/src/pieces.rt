@@ -3,6 +3,7 @@
 ghost use Rattle.check_attr.specs.inner.Pieces.{Passes};
 
 use crate::fault::Fault;
+use crate::held::Held;
 use crate::writing::{Push, write_bytes};
 
 // The length of a piece in bytes: so many are held before they are written.
@@ -13,14 +14,14 @@ const PIECE: usize = 1 << 16;
 /// # Errors
 ///
 /// `Write` if a write failed or took no byte.
-pub fn write_full<W: Push>(writer: &mut W, held: &mut Vec<u8>) -> Result<(), Fault>
+pub fn write_full<W: Push>(writer: &mut W, held: &mut Held) -> Result<(), Fault>
     ensures { Passes W.contents W.failed W.stalled writer.old writer.new
-        held.new.items held.old.items result }
+        held.new held.old result }
 {
-    if held.len() < PIECE {
+    if held.text().len() < PIECE {
         return Ok(());
     }
-    write_bytes(writer, held)?;
+    write_bytes(writer, held.text())?;
     held.clear();
     Ok(())
 }

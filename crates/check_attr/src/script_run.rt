@@ -9,6 +9,7 @@ ghost use Rattle.check_attr.specs.inner.PassedText.{PassesScript};
 use crate::applying::apply;
 use crate::fault::Fault;
 use crate::global_lists::Globals;
+use crate::held::Held;
 use crate::reading::{Pull, read_all};
 use crate::script::record_of;
 use crate::writing::{Push, write_all};
@@ -82,9 +83,9 @@ pub fn play<W: Push>(
     ensures writes { CountsWrites result (W.failed writer.old) (W.failed writer.new)
         (W.stalled writer.old) (W.stalled writer.new) }
 {
-    let mut held = Vec::new(alloc);
+    let mut held = Held::of(Vec::new(alloc));
     let malformed = answer(alloc, script, engine, writer, &mut held)?;
-    write_all(writer, &held)?;
+    write_all(writer, held.text())?;
     match malformed {
         None => Ok(()),
         Some(number) => Err(Fault::Record(number)),
@@ -98,11 +99,11 @@ fn answer<W: Push>(
     script: &[u8],
     mut engine: Engine,
     writer: &mut W,
-    held: &mut Vec<u8>,
+    held: &mut Held,
 ) -> Result<Option<usize>, Fault>
-    requires { held.old.items ≡ [] }
+    requires { held.old ≡ [] }
     ensures { PassesScript W.contents W.failed W.stalled engine.state script.now
-        writer.old writer.new held.new.items result }
+        writer.old writer.new held.new result }
 {
     let mut rest = script;
     let mut number = 1;

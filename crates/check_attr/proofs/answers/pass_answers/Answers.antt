@@ -12,7 +12,7 @@ loop-one-init g c =
     let same : c.into_iter-one-iterator.result ≡ unwrap_or c.args.engine.now.answers [] = search rules in
     subst
     (λ found. Holds g.W.Push.contents g.W.Push.failed g.W.Push.stalled c.args.writer.now c.args.writer.now
-    (c.args.held.now.items ++ flat_map text c.into_iter-one-iterator.result) (c.args.held.now.items ++ flat_map text found))
+    (c.args.held.now ++ flat_map text c.into_iter-one-iterator.result) (c.args.held.now ++ flat_map text found))
     same (holds_all g.W.Push.contents g.W.Push.failed g.W.Push.stalled _ _)
 
 pub loop-one-preserved : goal.loop-one-preserved
@@ -36,7 +36,7 @@ returns-in_err-write_full g c =
     (stops_then g.W.Push.contents g.W.Push.failed g.W.Push.stalled _ _ _ _ _ _ c.in_err-write_full.field-0.0
     (pushed g.W.Push.contents g.W.Push.failed g.W.Push.stalled text _ _ _ _ _ _ _ _ c.loop-one.invariant c.in-Some.ensures.steps
     c.in_ok-push_entry.ensures)
-    (stops_of g.W.Push.contents g.W.Push.failed g.W.Push.stalled ⊤ _ _ c.write_full.new.held.items _ c.in_err-write_full.field-0.0
+    (stops_of g.W.Push.contents g.W.Push.failed g.W.Push.stalled ⊤ _ _ c.write_full.new.held _ c.in_err-write_full.field-0.0
     c.in_err-write_full.ensures))
 
 pub returns : goal.returns

@@ -10,5 +10,5 @@ use Rattle.check_attr.proofs.answers.pass_answers.Given as goal
 abbrev pub invariant-loop-one : goal.invariant-loop-one
 invariant-loop-one g l =
     let text = matched_text (question_view l.question) l.engine.state.names in
-    Holds g.W.Push.contents g.W.Push.failed g.W.Push.stalled l.initial.writer l.writer (l.held.items ++ flat_map text l.one-iterator)
-    (l.initial.held.items ++ flat_map text (unwrap_or l.engine.answers []))
+    Holds g.W.Push.contents g.W.Push.failed g.W.Push.stalled l.initial.writer l.writer (l.held ++ flat_map text l.one-iterator)
+    (l.initial.held ++ flat_map text (unwrap_or l.engine.answers []))

@@ -5,7 +5,7 @@ use Rattle.gix_attributes.specs.KeptLists.{dropped_lines}
 use Rattle.attr_engine.specs.EngineView.{addition_view}
 use Rattle.check_attr.specs.ScriptText.{IsRecordText, dropped_text}
 use Rattle.check_attr.specs.inner.ScriptViews.{record_view}
-use Rattle.check_attr.proofs.PieceLemmas.{passes_nothing}
+use Rattle.check_attr.proofs.PieceLemmas.{passes_nothing, refused_at_once}
 use Rattle.check_attr.proofs.applying.apply.Goals as goal
 
 pub returns-in-Add-clause-text : goal.returns-in-Add-clause-text
@@ -21,12 +21,20 @@ pub returns-in-Pop-clause-text : goal.returns-in-Pop-clause-text
 returns-in-Pop-clause-text g c = (
   [],
   subst (λ r. IsRecordText c.args.engine.now.state (record_view r) []) (sym c.in-Pop.is) refl,
-  passes_nothing g.W.Push.contents g.W.Push.failed g.W.Push.stalled c.args.writer.now c.args.held.now.items,
+  passes_nothing g.W.Push.contents g.W.Push.failed g.W.Push.stalled c.args.writer.now c.args.held.now,
 )
 
 pub returns-in_ok-select-in-Names-clause-text : goal.returns-in_ok-select-in-Names-clause-text
 returns-in_ok-select-in-Names-clause-text g c = (
   [],
   subst (λ r. IsRecordText c.args.engine.now.state (record_view r) []) (sym c.in-Names.is) refl,
-  passes_nothing g.W.Push.contents g.W.Push.failed g.W.Push.stalled c.args.writer.now c.args.held.now.items,
+  passes_nothing g.W.Push.contents g.W.Push.failed g.W.Push.stalled c.args.writer.now c.args.held.now,
+)
+
+pub returns-in_err-select-in-Names-clause-text : goal.returns-in_err-select-in-Names-clause-text
+returns-in_err-select-in-Names-clause-text g c = (
+  [],
+  subst (λ r. IsRecordText c.args.engine.now.state (record_view r) []) (sym c.in-Names.is) refl,
+  refused_at_once g.W.Push.contents g.W.Push.failed g.W.Push.stalled c.args.writer.now c.args.held.now _ c.from_residual.result
+      c.from_residual.ensures.1,
 )

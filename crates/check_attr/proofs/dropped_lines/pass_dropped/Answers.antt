@@ -13,11 +13,11 @@ loop-line-preserved g c =
     passes_then g.W.Push.contents g.W.Push.failed g.W.Push.stalled _ _ _ _ _ _ _ (Ok c.in_ok-write_full.field-0)
     (pushed g.W.Push.contents g.W.Push.failed g.W.Push.stalled (dropped_text c.args.source.now) _ _ _ _ _ _ _ _ c.loop-line.invariant
     (item_left c.args.dropped.now c.loop-line.line-index _ c.loop-line-test.true (search rules))
-    c.in_ok-push_line.ensures)
+    c.in_ok-hold_line.ensures)
     c.in_ok-write_full.ensures
 
-pub returns-in_err-push_line : goal.returns-in_err-push_line
-returns-in_err-push_line g c =
+pub returns-in_err-hold_line : goal.returns-in_err-hold_line
+returns-in_err-hold_line g c =
     passes_refused g.W.Push.contents g.W.Push.failed g.W.Push.stalled _ _ _ _ _ c.from_residual.result c.from_residual.ensures.1
     c.loop-line.invariant
 
@@ -28,8 +28,8 @@ returns-in_err-write_full g c =
     (stops_then g.W.Push.contents g.W.Push.failed g.W.Push.stalled _ _ _ _ _ _ c.in_err-write_full.field-0.0
     (pushed g.W.Push.contents g.W.Push.failed g.W.Push.stalled (dropped_text c.args.source.now) _ _ _ _ _ _ _ _ c.loop-line.invariant
     (item_left c.args.dropped.now c.loop-line.line-index _ c.loop-line-test.true (search rules))
-    c.in_ok-push_line.ensures)
-    (stops_of g.W.Push.contents g.W.Push.failed g.W.Push.stalled ⊤ _ _ c.write_full.new.held.items _ c.in_err-write_full.field-0.0
+    c.in_ok-hold_line.ensures)
+    (stops_of g.W.Push.contents g.W.Push.failed g.W.Push.stalled ⊤ _ _ c.write_full.new.held _ c.in_err-write_full.field-0.0
     c.in_err-write_full.ensures))
 
 pub returns : goal.returns

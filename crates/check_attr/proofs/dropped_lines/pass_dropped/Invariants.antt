@@ -8,5 +8,5 @@ use Rattle.check_attr.proofs.dropped_lines.pass_dropped.Given as goal
 abbrev pub invariant-loop-line : goal.invariant-loop-line
 invariant-loop-line g l =
     Holds g.W.Push.contents g.W.Push.failed g.W.Push.stalled l.initial.writer l.writer
-    (l.held.items ++ flat_map (dropped_text l.source) (drop l.line-index l.dropped))
-    (l.initial.held.items ++ flat_map (dropped_text l.source) l.dropped)
+    (l.held ++ flat_map (dropped_text l.source) (drop l.line-index l.dropped))
+    (l.initial.held ++ flat_map (dropped_text l.source) l.dropped)

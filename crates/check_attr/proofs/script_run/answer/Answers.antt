@@ -15,8 +15,8 @@ pub loop-rest-init : goal.loop-rest-init
 loop-rest-init g c = record {
   counted = omega arith;
   passed = (
-    c.args.held.now.items,
-    holds_all g.W.Push.contents g.W.Push.failed g.W.Push.stalled c.args.writer.now c.args.held.now.items,
+    c.args.held.now,
+    holds_all g.W.Push.contents g.W.Push.failed g.W.Push.stalled c.args.writer.now c.args.held.now,
     λ malformed others left.
         subst (λ xs. Writes c.args.engine.state 1 c.args.script.now malformed (xs ++ others)) (sym c.requires) left,
   );
@@ -80,7 +80,7 @@ returns-in_err-apply g c =
           (stops_longer g.W.Push.contents g.W.Push.failed g.W.Push.stalled _ _ _ others.1 _
           (stops_on g.W.Push.contents g.W.Push.failed g.W.Push.stalled _ _ _ _ _ c.in_err-apply.field-0.0
           (holds_more g.W.Push.contents g.W.Push.failed g.W.Push.stalled _ _ _ _ applied.text.0 so_far.1)
-          (stops_of g.W.Push.contents g.W.Push.failed g.W.Push.stalled ⊤ _ _ c.apply.new.held.items _ c.in_err-apply.field-0.0 applied.text.2))),
+          (stops_of g.W.Push.contents g.W.Push.failed g.W.Push.stalled ⊤ _ _ c.apply.new.held _ c.in_err-apply.field-0.0 applied.text.2))),
     )
 
 pub returns-in_default : goal.returns-in_default

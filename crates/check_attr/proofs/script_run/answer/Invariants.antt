@@ -7,7 +7,7 @@ use Rattle.check_attr.proofs.script_run.answer.Given as goal
 abbrev pub invariant-loop-rest : goal.invariant-loop-rest
 invariant-loop-rest g l = record {
   counted : l.number + length l.rest ≤ 1 + length l.script;
-  passed : (text : List ℕ) × Holds g.W.Push.contents g.W.Push.failed g.W.Push.stalled l.initial.writer l.writer l.held.items text
+  passed : (text : List ℕ) × Holds g.W.Push.contents g.W.Push.failed g.W.Push.stalled l.initial.writer l.writer l.held text
       × ((malformed : Option ℕ) (others : List ℕ) → Writes l.engine.state l.number l.rest malformed others
       → Writes l.fn.engine.state 1 l.script malformed (text ++ others));
 }
