@@ -84,7 +84,7 @@ pub fn play<W: Push>(
         (W.stalled writer.old) (W.stalled writer.new) }
 {
     let mut held = Held::of(Vec::new(alloc));
-    let malformed = answer(alloc, script, engine, writer, &mut held)?;
+    let malformed = answer_by(alloc, script, engine, writer, &mut held)?;
     write_all(writer, held.text())?;
     match malformed {
         None => Ok(()),
@@ -92,9 +92,9 @@ pub fn play<W: Push>(
     }
 }
 
-// Writes the text of a script up to its first malformed record, in pieces. What is left of the text is in `held`.
-// Returns the number of the malformed record, from 1.
-fn answer<W: Push>(
+// Plays a script over an engine, which ends with it. A function that owns an engine drops all its parts wherever it can
+// return, so this one returns once.
+fn answer_by<W: Push>(
     alloc: Global,
     script: &[u8],
     mut engine: Engine,
@@ -105,13 +105,29 @@ fn answer<W: Push>(
     ensures { PassesScript W.contents W.failed W.stalled engine.state script.now
         writer.old writer.new held.new result }
 {
+    answer(alloc, script, &mut engine, writer, held)
+}
+
+// Writes the text of a script up to its first malformed record, in pieces. What is left of the text is in `held`.
+// Returns the number of the malformed record, from 1.
+fn answer<W: Push>(
+    alloc: Global,
+    script: &[u8],
+    engine: &mut Engine,
+    writer: &mut W,
+    held: &mut Held,
+) -> Result<Option<usize>, Fault>
+    requires { held.old ≡ [] }
+    ensures { PassesScript W.contents W.failed W.stalled engine.old.state script.now
+        writer.old writer.new held.new result }
+{
     let mut rest = script;
     let mut number = 1;
     while !rest.is_empty() {
         let Some((next, others)) = record_of(alloc, rest)? else {
             return Ok(Some(number));
         };
-        apply(&mut engine, alloc, next, writer, held)?;
+        apply(engine, alloc, next, writer, held)?;
         rest = others;
         number += 1;
     }

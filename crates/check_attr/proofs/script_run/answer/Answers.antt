@@ -18,7 +18,7 @@ loop-rest-init g c = record {
     c.args.held.now,
     holds_all g.W.Push.contents g.W.Push.failed g.W.Push.stalled c.args.writer.now c.args.held.now,
     λ malformed others left.
-        subst (λ xs. Writes c.args.engine.state 1 c.args.script.now malformed (xs ++ others)) (sym c.requires) left,
+        subst (λ xs. Writes c.args.engine.now.state 1 c.args.script.now malformed (xs ++ others)) (sym c.requires) left,
   );
 }
 
@@ -35,7 +35,7 @@ loop-rest-preserved g c =
         so_far.0 ++ applied.text.0,
         passes_on g.W.Push.contents g.W.Push.failed g.W.Push.stalled _ _ _ _ _ _ (Ok c.in_ok-apply.field-0)
             (holds_more g.W.Push.contents g.W.Push.failed g.W.Push.stalled _ _ _ _ applied.text.0 so_far.1) applied.text.2,
-        step c.args.engine.state c.loop-rest.engine.state c.apply.new.engine.state c.args.script.now
+        step c.args.engine.now.state c.loop-rest.engine.state c.apply.new.engine.state c.args.script.now
             c.loop-rest.rest.now c.in-Some.others.now
             c.loop-rest.number (record_view c.in-Some.next) applied.text.0 so_far.0 (so_far.0 ++ applied.text.0)
             so_far.2 read applied.text.1 applied.state refl,
@@ -71,7 +71,7 @@ returns-in_err-apply g c =
     let others = OneText-of next (c.loop-rest.number + 1) c.in-Some.others.now in (
       others.0,
       (so_far.0 ++ applied.text.0) ++ others.1,
-      step c.args.engine.state c.loop-rest.engine.state next c.args.script.now c.loop-rest.rest.now c.in-Some.others.now
+      step c.args.engine.now.state c.loop-rest.engine.state next c.args.script.now c.loop-rest.rest.now c.in-Some.others.now
           c.loop-rest.number (record_view c.in-Some.next) applied.text.0 so_far.0 (so_far.0 ++ applied.text.0)
           so_far.2 read applied.text.1 refl refl others.0 others.1 others.2,
       no_value c.from_residual-in_err-apply.result _ _ c.from_residual-in_err-apply.ensures.1,
@@ -88,7 +88,7 @@ returns-in_default g c =
     let so_far = c.loop-rest.invariant.passed in (
       Some c.loop-rest.number,
       so_far.0,
-      broken c.args.engine.state c.loop-rest.engine.state c.args.script.now c.loop-rest.rest.now c.loop-rest.number
+      broken c.args.engine.now.state c.loop-rest.engine.state c.args.script.now c.loop-rest.rest.now c.loop-rest.number
           so_far.0 so_far.2
           (some_bytes c.loop-rest.rest.now (λ e. clash c.is_empty.result (c.is_empty.ensures ∙ ap (λ n. n == 0) e) c.loop-rest-test.true))
           (subst (λ o. IsFirstRecord c.loop-rest.rest.now (option_map (with_rest record_view) o)) c.in_default.is c.in_ok-next.ensures),
@@ -101,7 +101,7 @@ returns g c =
     let so_far = c.loop-rest.invariant.passed in (
       None,
       so_far.0,
-      done c.args.engine.state c.loop-rest.engine.state c.args.script.now c.loop-rest.rest.now c.loop-rest.number
+      done c.args.engine.now.state c.loop-rest.engine.state c.args.script.now c.loop-rest.rest.now c.loop-rest.number
           so_far.0 so_far.2
           (no_bytes c.loop-rest.rest.now (eqb-true (length c.loop-rest.rest.now) 0 (sym c.is_empty.ensures ∙ c.loop-rest-test.false))),
       refl,

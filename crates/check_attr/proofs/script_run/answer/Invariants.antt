@@ -9,7 +9,7 @@ invariant-loop-rest g l = record {
   counted : l.number + length l.rest ≤ 1 + length l.script;
   passed : (text : List ℕ) × Holds g.W.Push.contents g.W.Push.failed g.W.Push.stalled l.initial.writer l.writer l.held text
       × ((malformed : Option ℕ) (others : List ℕ) → Writes l.engine.state l.number l.rest malformed others
-      → Writes l.fn.engine.state 1 l.script malformed (text ++ others));
+      → Writes l.initial.engine.state 1 l.script malformed (text ++ others));
 }
 
 abbrev pub decreases-loop-rest : goal.decreases-loop-rest

@@ -13,8 +13,8 @@ returns-in_err-malformed-clause-front g c = λ cause.
       answered.0,
       answered.1,
       answered.2,
-      stops_front g.W.Push.contents g.W.Push.failed g.W.Push.stalled c.args.writer.now c.answer.new.writer answered.1 fault
-          (stops_of g.W.Push.contents g.W.Push.failed g.W.Push.stalled (Option ℕ) _ _ c.answer.new.held _ fault answered.4),
+      stops_front g.W.Push.contents g.W.Push.failed g.W.Push.stalled c.args.writer.now c.answer_by.new.writer answered.1 fault
+          (stops_of g.W.Push.contents g.W.Push.failed g.W.Push.stalled (Option ℕ) _ _ c.answer_by.new.held _ fault answered.4),
     )
 
 pub returns-in_err-write_all-clause-front : goal.returns-in_err-write_all-clause-front
@@ -25,7 +25,7 @@ returns-in_err-write_all-clause-front g c = λ cause.
       answered.1,
       answered.2,
       front_on g.W.Push.contents g.W.Push.failed g.W.Push.stalled _ _ _ _ _ answered.4
-          (subst (λ held. AppendsFront (g.W.Push.contents c.answer.new.writer) new held) c.text.ensures c.in_err-write_all.ensures.front),
+          (subst (λ held. AppendsFront (g.W.Push.contents c.answer_by.new.writer) new held) c.text.ensures c.in_err-write_all.ensures.front),
     )
 
 pub returns-in-None-clause-ok : goal.returns-in-None-clause-ok
@@ -36,7 +36,7 @@ returns-in-None-clause-ok g c =
       answered.1,
       subst (λ m. Writes c.args.engine.state 1 c.args.script.now m answered.1) none answered.2,
       whole_on g.W.Push.contents g.W.Push.failed g.W.Push.stalled _ _ _ _ _ answered.4
-          (subst (λ held. Appends (g.W.Push.contents c.answer.new.writer) new held) c.text.ensures c.in_ok-write_all.ensures.ok),
+          (subst (λ held. Appends (g.W.Push.contents c.answer_by.new.writer) new held) c.text.ensures c.in_ok-write_all.ensures.ok),
     )
 
 pub returns-clause-malformed : goal.returns-clause-malformed
@@ -48,5 +48,5 @@ returns-clause-malformed g c = λ k same.
       answered.1,
       subst (λ m. Writes c.args.engine.state 1 c.args.script.now m answered.1) some answered.2,
       whole_on g.W.Push.contents g.W.Push.failed g.W.Push.stalled _ _ _ _ _ answered.4
-          (subst (λ held. Appends (g.W.Push.contents c.answer.new.writer) new held) c.text.ensures c.in_ok-write_all.ensures.ok),
+          (subst (λ held. Appends (g.W.Push.contents c.answer_by.new.writer) new held) c.text.ensures c.in_ok-write_all.ensures.ok),
     )
