@@ -1,4 +1,5 @@
 //! Files that are added, and global lists.
+use super::scene::{new_collection, new_search};
 use gix_attributes::Search;
 use gix_attributes::files::{Disk, Files, Memory};
 use gix_attributes::search::{AddError, Added, Dropped, MetadataCollection};
@@ -86,6 +87,7 @@ fn globals_or_error<F: Files>(
     let mut out = String::new(alloc);
     match Search::new_globals_from(alloc, files, names, buf, collection) {
         Ok((search, dropped)) => {
+            let search = Box::new(alloc, search)?;
             push_lists(alloc, &search, collection, &mut out)?;
             push_dropped(alloc, &dropped, &mut out)?;
         }
@@ -102,7 +104,7 @@ pub(super) fn globals_report<F: Files>(
     buf: &mut Vec<u8>,
 ) -> Result<String, AllocError> {
     let names = owned(alloc, names)?;
-    let mut collection = MetadataCollection::new(alloc);
+    let mut collection = new_collection(alloc)?;
     let mut out = globals_or_error(alloc, files, &names, buf, &mut collection)?;
     push_known(&collection, &mut out)?;
     Ok(out)
@@ -152,20 +154,20 @@ fn a_failing_read_ends_the_globals(rt: HostRuntime) -> Result<(), AllocError> {
 // Lists that are added from files, and the report of each.
 #[derive(Drop)]
 struct Addition {
-    search: Search,
-    collection: MetadataCollection,
+    search: Box<Search>,
+    collection: Box<MetadataCollection>,
     buf: Vec<u8>,
     out: String,
 }
 
 impl Addition {
-    fn new(alloc: Global) -> Addition {
-        Addition {
-            search: Search::new(alloc),
-            collection: MetadataCollection::new(alloc),
+    fn new(alloc: Global) -> Result<Addition, AllocError> {
+        Ok(Addition {
+            search: new_search(alloc)?,
+            collection: new_collection(alloc)?,
             buf: Vec::new(alloc),
             out: String::new(alloc),
-        }
+        })
     }
 
     fn add<F: Files>(
@@ -215,7 +217,7 @@ pub(super) fn added_report<F: Files>(
     files: &mut F,
     names: &[&str],
 ) -> Result<(String, Vec<u8>), AllocError> {
-    let mut addition = Addition::new(alloc);
+    let mut addition = Addition::new(alloc)?;
     addition.add_all(alloc, files, names)?;
     Ok((addition.out, addition.buf))
 }
@@ -270,7 +272,7 @@ fn push_file_of_disk<R: HostFiles>(
     collection: &mut MetadataCollection,
     out: &mut String,
 ) -> Result<(), AllocError> {
-    let mut search = Search::new(alloc);
+    let mut search = new_search(alloc)?;
     let source = String::from_str(alloc, name)?;
     let mut buf = Vec::new(alloc);
     match search.add_patterns_file(rt, alloc, source, None, &mut buf, collection, true) {
@@ -295,9 +297,8 @@ fn push_both_of_disk<R: HostFiles>(
     push_known(collection, out)
 }
 
-// It owns a collection, and does nothing else that can fail.
 fn disk_report<R: HostFiles>(rt: &R, alloc: Global, name: &str) -> Result<String, AllocError> {
-    let mut collection = MetadataCollection::new(alloc);
+    let mut collection = new_collection(alloc)?;
     let mut out = String::new(alloc);
     push_both_of_disk(rt, alloc, name, &mut collection, &mut out)?;
     Ok(out)

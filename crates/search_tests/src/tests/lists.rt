@@ -1,6 +1,6 @@
 //! Lists that are added and removed, and the names and bodies of the collection after that.
 use super::scene::Step::{Add, CloneLists, Held, Lists, Names, Removed, Turn, TurnCollections};
-use super::scene::{TOP, expect};
+use super::scene::{TOP, expect, new_collection, new_search};
 use gix_attributes::Search;
 use gix_attributes::glob::search::pattern::List;
 use gix_attributes::search::{AttributeId, Attributes, DropReason, Dropped, MetadataCollection};
@@ -10,16 +10,16 @@ use std::process::Abort;
 /// A search, and the collection in which its lists are registered.
 #[derive(Drop)]
 struct Registered {
-    search: Search,
-    collection: MetadataCollection,
+    search: Box<Search>,
+    collection: Box<MetadataCollection>,
 }
 
 impl Registered {
-    fn new(alloc: Global) -> Registered {
-        Registered {
-            search: Search::new(alloc),
-            collection: MetadataCollection::new(alloc),
-        }
+    fn new(alloc: Global) -> Result<Registered, AllocError> {
+        Ok(Registered {
+            search: new_search(alloc)?,
+            collection: new_collection(alloc)?,
+        })
     }
 
     /// Adds the list of a file in the top folder.
@@ -45,7 +45,7 @@ impl Registered {
 }
 
 fn with_list(alloc: Global, bytes: &[u8]) -> Result<Registered, AllocError> {
-    let mut lists = Registered::new(alloc);
+    let mut lists = Registered::new(alloc)?;
     lists.add(alloc, bytes)?;
     Ok(lists)
 }
@@ -118,7 +118,7 @@ fn built_in_macro_comes_first(rt: HostRuntime) -> Result<(), AllocError> {
 
 #[test]
 fn dropped_lines_are_returned(rt: HostRuntime) -> Result<(), AllocError> {
-    let mut lists = Registered::new(rt.alloc());
+    let mut lists = Registered::new(rt.alloc())?;
     for (buffer, reason) in [
         (b"!a b".as_slice(), DropReason::NegativePattern),
         (b"* a =x".as_slice(), DropReason::InvalidName),
@@ -138,7 +138,7 @@ fn dropped_lines_are_returned(rt: HostRuntime) -> Result<(), AllocError> {
 
 #[test]
 fn macros_that_are_not_allowed_are_skipped(rt: HostRuntime) -> Result<(), AllocError> {
-    let mut lists = Registered::new(rt.alloc());
+    let mut lists = Registered::new(rt.alloc())?;
     let buffer = b"[attr]m x\n* m\n";
     assert!(rt; dropped(rt.alloc(), &mut lists, buffer, false)?.is_empty());
     assert_eq!(rt; lists.known(rt.alloc())?.as_str(), "m:\n");
@@ -327,7 +327,7 @@ fn numbered(
     alloc: Global,
     list: &mut List<Attributes>,
 ) -> Result<String, AllocError> {
-    let mut collection = MetadataCollection::new(alloc);
+    let mut collection = new_collection(alloc)?;
     assert!(rt; MetadataCollection::macros_valid(list));
     collection.update_from_list(alloc, list)?;
     known(alloc, &collection)

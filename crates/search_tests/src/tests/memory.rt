@@ -7,7 +7,7 @@ use super::scene::Step::{
     Add, AddWithoutMacros, Begin, Clone, CloneLists, Copy, Count, Find, Fit, Held, Names, Numbers,
     Places, Pop, Reset, Rows, Select, Show, Turn, TurnOutcomes,
 };
-use super::scene::{TOP, count_of_names, expect_again, report_again};
+use super::scene::{TOP, count_of_names, expect_again, new_collection, report_again};
 use gix_attributes::files::{Files, Memory, ReadError};
 use gix_attributes::glob::pattern::Case::{Fold, Sensitive};
 use gix_attributes::glob::search::pattern::List;
@@ -124,7 +124,7 @@ fn without_memory_searches_are_copied_again(rt: HostRuntime) -> Result<(), Alloc
 
 // Whether a new collection numbers a list, which it does not know after a refusal.
 fn is_list_numbered(alloc: Global, list: &mut List<Attributes>) -> Result<bool, AllocError> {
-    let mut other = MetadataCollection::new(alloc);
+    let mut other = new_collection(alloc)?;
     if !MetadataCollection::macros_valid(list) {
         return Ok(false);
     }

@@ -109,21 +109,36 @@ fn answers(alloc: Global, outcome: &Outcome) -> Result<String, AllocError> {
     format!(in alloc; "{outcome:?} {taken} {tested}")
 }
 
-/// Two collections, two searches and two outcomes, of which steps use one each.
+/// Two collections, two searches and two outcomes, of which steps use one each. They are in boxes: a proof drops a box by one
+/// call, and what is in none field by field, wherever it may be dropped.
 #[derive(Drop)]
 struct Scene {
-    collection: MetadataCollection,
-    search: Search,
-    outcome: Outcome,
+    collection: Box<MetadataCollection>,
+    search: Box<Search>,
+    outcome: Box<Outcome>,
     others: Others,
 }
 
 /// Those that steps may change to.
 #[derive(Drop)]
 struct Others {
-    collection: MetadataCollection,
-    search: Search,
-    outcome: Outcome,
+    collection: Box<MetadataCollection>,
+    search: Box<Search>,
+    outcome: Box<Outcome>,
+}
+
+/// A collection in a box.
+pub(super) fn new_collection(alloc: Global) -> Result<Box<MetadataCollection>, AllocError> {
+    Ok(Box::new(alloc, MetadataCollection::new(alloc))?)
+}
+
+/// A search in a box.
+pub(super) fn new_search(alloc: Global) -> Result<Box<Search>, AllocError> {
+    Ok(Box::new(alloc, Search::new(alloc))?)
+}
+
+fn new_outcome(alloc: Global) -> Result<Box<Outcome>, AllocError> {
+    Ok(Box::new(alloc, Outcome::new(alloc))?)
 }
 
 /// Expects this report of a scene that takes these steps.
@@ -194,28 +209,28 @@ fn take_all(
     steps: Steps<'_>,
     out: &mut String,
 ) -> Result<(), AllocError> {
-    let mut scene = Scene::new(alloc);
+    let mut scene = Scene::new(alloc).or_else(|_| Scene::new(alloc))?;
     scene.take_all(rt, alloc, steps, out)
 }
 
 impl Others {
-    fn new(alloc: Global) -> Others {
-        Others {
-            collection: MetadataCollection::new(alloc),
-            search: Search::new(alloc),
-            outcome: Outcome::new(alloc),
-        }
+    fn new(alloc: Global) -> Result<Others, AllocError> {
+        Ok(Others {
+            collection: new_collection(alloc)?,
+            search: new_search(alloc)?,
+            outcome: new_outcome(alloc)?,
+        })
     }
 }
 
 impl Scene {
-    fn new(alloc: Global) -> Scene {
-        Scene {
-            collection: MetadataCollection::new(alloc),
-            search: Search::new(alloc),
-            outcome: Outcome::new(alloc),
-            others: Others::new(alloc),
-        }
+    fn new(alloc: Global) -> Result<Scene, AllocError> {
+        Ok(Scene {
+            collection: new_collection(alloc)?,
+            search: new_search(alloc)?,
+            outcome: new_outcome(alloc)?,
+            others: Others::new(alloc)?,
+        })
     }
 
     fn take_all(
@@ -329,7 +344,7 @@ impl Scene {
         let (mut files, mut buf) = (Memory::new(alloc), Vec::new(alloc));
         let collection = &mut self.collection;
         match Search::new_globals_from(alloc, &mut files, &[], &mut buf, collection) {
-            Ok((search, _)) => self.search = search,
+            Ok((search, _)) => self.search = Box::new(alloc, search)?,
             Err(_) => return Err(AllocError),
         }
         Ok(())
@@ -369,9 +384,9 @@ impl Scene {
     }
 
     fn clone_lists(&mut self, rt: &impl Abort, alloc: Global) -> Result<(), AllocError> {
-        let collection = self.collection.clone(alloc)?;
-        let search = self.search.clone(alloc)?;
-        assert!(rt; search == self.search);
+        let collection = Box::new(alloc, self.collection.clone(alloc)?)?;
+        let search = Box::new(alloc, self.search.clone(alloc)?)?;
+        assert!(rt; *search == *self.search);
         self.collection = collection;
         self.search = search;
         Ok(())
@@ -388,9 +403,9 @@ impl Scene {
     }
 
     fn renew(&mut self, alloc: Global) -> Result<(), AllocError> {
-        self.collection = MetadataCollection::new(alloc);
-        self.search = Search::new(alloc);
-        self.others.search = Search::new(alloc);
+        self.collection = new_collection(alloc)?;
+        self.search = new_search(alloc)?;
+        self.others.search = new_search(alloc)?;
         Ok(())
     }
 
@@ -425,7 +440,7 @@ impl Scene {
     }
 
     fn clone_outcome(&mut self, alloc: Global) -> Result<(), AllocError> {
-        self.others.outcome = self.outcome.clone(alloc)?;
+        self.others.outcome = Box::new(alloc, self.outcome.clone(alloc)?)?;
         self.outcome.reset();
         self.turn_outcomes()
     }
