@@ -2,7 +2,7 @@
 //!
 //! `tests/refused_memory.sh` refuses each request of a test in turn; the repeated call then has memory.
 use super::lines::lines_of;
-use super::numbers::{first_number, is_removed, push_names};
+use super::numbers::{copied as copied_table, first_number, is_removed, push_names, table};
 use attr_glob::search::Pattern as _;
 use attr_glob::search::pattern::Mapping;
 use attr_lists::name_table::NameTable;
@@ -141,9 +141,9 @@ fn without_memory_lists_have_the_text_in_quotes(rt: HostRuntime) -> Result<(), A
 // Adds a list to a table, and returns whether a copy of the table has the list.
 fn is_numbered(alloc: Global, text: &[u8]) -> Result<bool, AllocError> {
     let (mut list, _) = Attributes.bytes_to_patterns(alloc, text, "")?;
-    let mut table = NameTable::new(alloc);
+    let mut table = table(alloc)?;
     let list_id = table.add(alloc, &mut list)?;
-    let copy = table.clone(alloc)?;
+    let copy = copied_table(alloc, &table)?;
     Ok(copy.holds(list_id, &list) && copy.number_of("x") == Some(1))
 }
 
@@ -209,8 +209,8 @@ fn expect_added(
 #[test]
 fn without_memory_names_and_bodies_stay(rt: HostRuntime) -> Result<(), AllocError> {
     let alloc = rt.alloc();
-    let mut table = NameTable::new(alloc);
-    let (Ok(mut first), Ok(mut second)) = (
+    let (Ok(mut table), Ok(mut first), Ok(mut second)) = (
+        table(alloc),
         read(alloc, b"[attr]m x\n* m"),
         read(alloc, b"[attr]m y z\n[attr]n m"),
     ) else {
@@ -241,7 +241,7 @@ fn are_bodies_copied(alloc: Global, table: &NameTable) -> Result<bool, AllocErro
 
 fn are_copied(alloc: Global, text: &[u8]) -> Result<bool, AllocError> {
     let (mut list, _) = Attributes.bytes_to_patterns(alloc, text, "")?;
-    let mut table = NameTable::new(alloc);
+    let mut table = table(alloc)?;
     let _ = table.add(alloc, &mut list)?;
     Ok(are_lines_copied(alloc, &list)? && are_bodies_copied(alloc, &table)?)
 }
@@ -393,7 +393,9 @@ fn expect_removed(rt: &impl Abort, table: &mut NameTable, list_id: usize, list: 
 
 #[test]
 fn without_memory_lists_are_removed(rt: HostRuntime) {
-    let mut table = NameTable::new(rt.alloc());
+    let Ok(mut table) = table(rt.alloc()) else {
+        return;
+    };
     assert!(rt; table.len() == 0 && table.iter().next().is_none());
     let Ok(mut list) = read(rt.alloc(), b"[attr]m x\n* m") else {
         return;

@@ -62,7 +62,17 @@ fn push_list(out: &mut String, list: &[Mapping<Value>]) -> Result<(), AllocError
     Ok(())
 }
 
-// A test owns few values at a time, since each call that may fail has to drop them all in a proof.
+// A test owns few values at a time, since each call that may fail has to drop them all in a proof. A table is in a box: a
+// proof drops a box by one call, and what is in none field by field.
+
+pub(super) fn table(alloc: Global) -> Result<Box<NameTable>, AllocError> {
+    Ok(Box::new(alloc, NameTable::new(alloc))?)
+}
+
+pub(super) fn copied(alloc: Global, table: &NameTable) -> Result<Box<NameTable>, AllocError> {
+    let copy = table.clone(alloc)?;
+    Ok(Box::new(alloc, copy)?)
+}
 
 fn expect_names(
     rt: &impl Abort,
@@ -90,7 +100,7 @@ fn expect_numbers(
 
 #[test]
 fn names_get_numbers_in_the_order_of_the_lines(rt: HostRuntime) -> Result<(), AllocError> {
-    let mut table = NameTable::new(rt.alloc());
+    let mut table = table(rt.alloc())?;
     let (_, list) = add(rt.alloc(), &mut table, "[attr]m x y\n* z x\n[attr]y q")?;
     expect_names(&rt, rt.alloc(), &table, "m 1 2;x;y 4;z;q;")?;
     expect_numbers(&rt, rt.alloc(), &list, " 1 2; 3 1; 4;")
@@ -138,7 +148,7 @@ fn a_removal_restores_earlier_bodies(rt: HostRuntime) -> Result<(), AllocError> 
         ("[attr]m x\n* m", "[attr]m y\n[attr]m z", Some(3), Some(1)),
         ("[attr]m x\n* m", "[attr]m", None, Some(1)),
     ] {
-        let mut table = NameTable::new(rt.alloc());
+        let mut table = table(rt.alloc())?;
         let row = Removal {
             first,
             second,
@@ -169,7 +179,7 @@ fn expect_below_removed(
 // The first list goes while the second, which defines one of its macros too, stays.
 #[test]
 fn a_list_below_another_is_removed(rt: HostRuntime) -> Result<(), AllocError> {
-    let mut table = NameTable::new(rt.alloc());
+    let mut table = table(rt.alloc())?;
     let text = "[attr]m x\n[attr]m y\n[attr]n x";
     let (goes, below) = add(rt.alloc(), &mut table, text)?;
     expect_below_removed(&rt, rt.alloc(), &mut table, (goes, &below))
@@ -196,7 +206,7 @@ fn expect_gone(rt: &impl Abort, alloc: Global, table: &mut NameTable) -> Result<
 
 #[test]
 fn a_new_list_gets_the_least_free_id(rt: HostRuntime) -> Result<(), AllocError> {
-    let mut table = NameTable::new(rt.alloc());
+    let mut table = table(rt.alloc())?;
     expect_ids(&rt, rt.alloc(), &mut table, &[0, 1, 2, 3])?;
     expect_gone(&rt, rt.alloc(), &mut table)?;
     for list_id in [2usize, 1] {
@@ -207,7 +217,7 @@ fn a_new_list_gets_the_least_free_id(rt: HostRuntime) -> Result<(), AllocError> 
 
 #[test]
 fn a_number_has_a_name(rt: HostRuntime) -> Result<(), Fail> {
-    let mut table = NameTable::new(rt.alloc());
+    let mut table = table(rt.alloc())?;
     add(rt.alloc(), &mut table, "[attr]m x y\n* z x\n[attr]y q")?;
     assert!(rt; table.name(0) == Some("m"));
     assert!(rt; table.name(4) == Some("q"));
@@ -217,9 +227,9 @@ fn a_number_has_a_name(rt: HostRuntime) -> Result<(), Fail> {
 
 #[test]
 fn copies_have_the_registered_lists(rt: HostRuntime) -> Result<(), Fail> {
-    let mut table = NameTable::new(rt.alloc());
+    let mut table = table(rt.alloc())?;
     let (list_id, list) = add(rt.alloc(), &mut table, "[attr]m x\n* m")?;
-    let mut copy = table.clone(rt.alloc())?;
+    let mut copy = copied(rt.alloc(), &table)?;
     assert!(rt; is_removed(&mut copy, list_id, &list));
     assert!(rt; first_number(&copy, "m").is_none());
     assert!(rt; first_number(&table, "m") == Some(1));
@@ -232,7 +242,7 @@ fn a_thousand_macros(rt: HostRuntime) -> Result<(), Fail> {
     for n in 0..1000u32 {
         write!(text, "[attr]m{n} x{n}\n")?;
     }
-    let mut table = NameTable::new(rt.alloc());
+    let mut table = table(rt.alloc())?;
     let (list_id, list) = add(rt.alloc(), &mut table, text.as_str())?;
     assert!(rt; first_number(&table, "m999") == Some(1999));
     assert!(rt; is_removed(&mut table, list_id, &list));
@@ -242,7 +252,8 @@ fn a_thousand_macros(rt: HostRuntime) -> Result<(), Fail> {
 
 #[test]
 fn a_new_table_is_empty(rt: HostRuntime) -> Result<(), Fail> {
-    let text = format!(in rt.alloc(); "{:?}", NameTable::new(rt.alloc()))?;
+    let table = table(rt.alloc())?;
+    let text = format!(in rt.alloc(); "{table:?}")?;
     assert_eq!(rt;
         text.as_str(),
         "NameTable { parts: Parts { names: {}, entries: [], active: [], free_from: 0, registered: [], macros: {} } }"
