@@ -9,4 +9,5 @@ use Rattle.attr_keys.proofs.extension.append_hashed.Given as goal
 abbrev pub invariant-loop-hashed : goal.invariant-loop-hashed
 invariant-loop-hashed l = (row : ℕ) → has_row l.found.items row
     ≡ has_row l.initial.found.items row
-    || (has_row (hashed_rows (rows_of_hash l.hash (take l.hashed-index l.rows))) row && text_has (reverse l.name) (slice_get (keys_in_case l.keys) row))
+    || (has_row (hashed_rows (rows_of_hash l.hash (take l.hashed-index l.rows))) row
+    && text_has (reverse l.name) (slice_get (keys_in_case l.keys) row))

@@ -7,7 +7,8 @@ use Rattle.attr_keys.proofs.few.has_turned_front.Goals as goal
 
 pub returns-then-first-eq0 : goal.returns-then-first-eq0
 returns-then-first-eq0 c =
-    sym (first_none (codes_of false (reverse c.args.text.now) true) (slice_get (keys_in_case c.args.keys) c.args.row) (sym c.requires.first ∙ c.if-first-eq0.true))
+    sym (first_none (codes_of false (reverse c.args.text.now) true) (slice_get (keys_in_case c.args.keys) c.args.row)
+    (sym c.requires.first ∙ c.if-first-eq0.true))
 
 pub returns-then-first-text_first : goal.returns-then-first-text_first
 returns-then-first-text_first c =

@@ -13,5 +13,6 @@ returns c =
     (λ has row. has row
     ∙ ap (λ b. has_row c.args.found.now.items row || b)
     (alike_rows (λ r. starts_with nat_eq (codes_of false c.args.text.now true) (row_codes (keys_in_case c.args.keys) r)) row c.args.rows.now
-    c.of_hash.result.now c.quick_hash-hash.result (λ k d lt t. c.requires k d lt c.args.text.now t ∙ sym c.quick_hash-hash.ensures) c.of_hash.ensures))
+    c.of_hash.result.now c.quick_hash-hash.result (λ k d lt t. c.requires k d lt c.args.text.now t ∙ sym c.quick_hash-hash.ensures)
+    c.of_hash.ensures))
     c.append_hashed.ensures

@@ -9,11 +9,13 @@ returns-in_err-pattern-clause-extends c =
 
 pub returns-in_err-source-clause-extends : goal.returns-in_err-source-clause-extends
 returns-in_err-source-clause-extends c =
-    rw (← c.self.view_is) (record { patterns = c.place.ensures.grows; assignments = grows_same _; sources = c.optional_place.ensures.grows; bodies = refl })
+    rw (← c.self.view_is)
+    (record { patterns = c.place.ensures.grows; assignments = grows_same _; sources = c.optional_place.ensures.grows; bodies = refl })
 
 pub returns-clause-extends : goal.returns-clause-extends
 returns-clause-extends c =
-    rw (← c.self.view_is) (record { patterns = c.place.ensures.grows; assignments = grows_same _; sources = c.optional_place.ensures.grows; bodies = refl })
+    rw (← c.self.view_is)
+    (record { patterns = c.place.ensures.grows; assignments = grows_same _; sources = c.optional_place.ensures.grows; bodies = refl })
 
 pub returns-clause-line : goal.returns-clause-line
 returns-clause-line c =
