@@ -1,10 +1,10 @@
 -- The test of whether a list is all_have_bodies.
 use Rattle.std.proofs.Common.{◌≡◌, ℕ, ◌<◌, ◌⊎◌, Bool, true, false, List, [], ◌∷◌, ◌++◌, length, get_or, map, filter, bytes_eq, Option, Some, None}
 use Rattle.std.proofs.Common.{unwrap_or, option_map, refl, sym, ap, ◌∙◌, ⊎_elim, true≢false, arith}
-use Rattle.std.specs.Prelude.{is_some, ◌&&◌}
+use Rattle.std.specs.Prelude.{is_some, ◌&&◌, ◌||◌}
 use Rattle.std.specs.Cmp.Lexicographic.{bytes_decides}
 use Rattle.std.specs.List.{list_any, list_all, IsDistinct}
-use Rattle.std.proofs.lemmas.Bool.{cases_Bool, cond-false, and_parts, and_from, or_parts}
+use Rattle.std.proofs.lemmas.Bool.{cases_Bool, cond-true, cond-false, and_parts, and_from, or_parts}
 use Rattle.attr_glob.specs.declared.search.pattern.Mapping.{Mapping}
 use Rattle.attr_lists.specs.declared.name_table.entry.NameEntry.{NameEntry}
 use Rattle.attr_lists.specs.declared.types.AttributeId.{AttributeId}
@@ -24,6 +24,20 @@ none_kept list_id (d ∷ ds) h =
     let both = or_parts (is_of_list list_id d) (list_any (is_of_list list_id) ds) h in
     ap (map (λ (x : MacroDefinition). x.body)) (cond-false (is_of_list list_id d) (d ∷ filter (is_of_list list_id) ds)
     (filter (is_of_list list_id) ds) both.0) ∙ none_kept list_id ds both.1
+
+-- and without a body of it there is no definition
+pub none_defined : (list_id : ℕ) (ds : List MacroDefinition) → bodies_of_list list_id ds ≡ [] → list_any (is_of_list list_id) ds ≡ false
+none_defined list_id [] h = refl
+none_defined list_id (d ∷ ds) h =
+    let rest = filter (is_of_list list_id) ds in
+    ⊎_elim
+    (λ own. absurd (not_empty (sym (ap (map (λ (x : MacroDefinition). x.body)) (cond-true (is_of_list list_id d) (d ∷ rest) rest own)) ∙ h)))
+    (λ other. ap (λ b. b || list_any (is_of_list list_id) ds) other
+    ∙ none_defined list_id ds (sym (ap (map (λ (x : MacroDefinition). x.body)) (cond-false (is_of_list list_id d) (d ∷ rest) rest other)) ∙ h))
+    (cases_Bool (is_of_list list_id d))
+  where
+    not_empty : {X : Type 0} {x : X} {xs : List X} → x ∷ xs ≡ [] → ⊥
+    not_empty e = cc
 
 module _ (names : List (List ℕ)) (entries : List NameEntry) (list_id : ℕ) where
   abbrev has : List ℕ → Bool

@@ -1,16 +1,17 @@
 -- The macros of lists, line by line, against the lines.
-use Rattle.std.proofs.Common.{◌≡◌, ℕ, ◌<◌, ◌+◌, true, cond, eqb, List, [], ◌∷◌, ◌++◌, length, get_or, drop, map, filter, slice_get}
-use Rattle.std.proofs.Common.{bytes_eq, Option, Some, None, unwrap_or, option_map, refl, sym, ap, ◌∙◌, ⊎_elim}
+use Rattle.std.proofs.Common.{◌≡◌, ◌≢◌, ◌⊎◌, ℕ, ◌<◌, ◌+◌, true, cond, eqb, List, [], ◌∷◌, ◌++◌, length, get_or, drop, map, filter, slice_get}
+use Rattle.std.proofs.Common.{bytes_eq, Option, Some, None, unwrap_or, option_map, refl, sym, ap, subst, ◌∙◌, ⊎_elim, inl, inr, All, ne_eqb}
 use Rattle.std.specs.Prelude.{is_some, ◌&&◌, Vec}
 use Rattle.std.specs.List.{IsDistinct}
-use Rattle.std.proofs.lemmas.Bool.{cases_Bool}
+use Rattle.std.proofs.lemmas.Bool.{cases_Bool, cases_eq, cond-false}
+use Rattle.std.proofs.lemmas.List.Elements.{All-nil, All-cons, All-head, All-tail}
 use Rattle.std.proofs.lemmas.List.{at_drop_more}
 use Rattle.attr_glob.specs.declared.search.pattern.Mapping.{Mapping}
 use Rattle.attr_lists.specs.Definitions.{bodies_named, bodies_of_list, defines_name, definitions_for, definitions_of, is_active}
 use Rattle.attr_lists.specs.Collections.{Collection}
 use Rattle.attr_lists.specs.ListViews.{Entry, entry_view, entries_view}
 use Rattle.attr_lists.specs.Numbers.{number_of}
-use Rattle.attr_lists.specs.inner.Registered.{NumberedBody, bodies_of_name, bodies_of_number, registered_at, AreRegistered}
+use Rattle.attr_lists.specs.inner.Registered.{NumberedBody, numbered_body, bodies_of_name, bodies_of_number, registered_at, AreRegistered}
 use Rattle.attr_lists.specs.declared.types.AttributeId.{AttributeId}
 use Rattle.attr_lists.specs.declared.types.Metadata.{Metadata}
 use Rattle.attr_lists.specs.declared.types.TrackedAssignment.{TrackedAssignment}
@@ -58,6 +59,34 @@ lines_from lines i line name lt at =
     sym (bodies_named-cons name (entry_view line) (entries_view (drop (i + 1) lines)))
     ∙ ap (λ l. bodies_named name (entry_view l ∷ entries_view (drop (i + 1) lines))) at
     ∙ sym (at_drop_more (λ (l : List (Mapping Value)). bodies_named name (entries_view l)) lines i line lt)
+
+-- what is so at each number of the list is so at this one, or the list lacks it
+pub listed_or_none : (Q : ℕ → Type 0) (number : ℕ) (list : List Metadata) → All (λ known. Q known.id.0) list
+    → All (λ b. b.number ≢ number) (map numbered_body list) ⊎ Q number
+listed_or_none Q number [] h = inl (All-nil (λ (b : NumberedBody). b.number ≢ number))
+listed_or_none Q number (known ∷ list) h =
+    ⊎_elim
+    (λ (same : known.id.0 ≡ number). inr (subst Q same (All-head (λ (m : Metadata). Q m.id.0) known list h)))
+    (λ (apart : known.id.0 ≢ number).
+    ⊎_elim (λ none. inl (All-cons (λ (b : NumberedBody). b.number ≢ number) (numbered_body known) (map numbered_body list) apart none))
+    (λ here. inr here) (listed_or_none Q number list (All-tail (λ (m : Metadata). Q m.id.0) known list h)))
+    (cases_eq known.id.0 number)
+
+-- the list has no body of a number that it lacks
+pub bodies_none : (number : ℕ) (list : List NumberedBody) → All (λ b. b.number ≢ number) list → bodies_of_number number list ≡ []
+bodies_none number [] h = refl
+bodies_none number (b ∷ list) h =
+    let rest = filter (λ (b : NumberedBody). eqb b.number number) list in
+    ap (map (λ (b : NumberedBody). b.body)) (cond-false (eqb b.number number) (b ∷ rest) rest
+    (ne_eqb b.number number (All-head (λ (b : NumberedBody). b.number ≢ number) b list h)))
+    ∙ bodies_none number list (All-tail (λ (b : NumberedBody). b.number ≢ number) b list h)
+
+-- so a registered list has no definition of another name than the macros that were registered
+pub registered_names : {A : Type 0} (registered : List (Vec Metadata A)) (table : Collection) (list_id : ℕ) → AreRegistered registered table
+    → is_active table.active list_id ≡ true → (number : ℕ) → All (λ b. b.number ≢ number) (registered_at registered list_id)
+    → bodies_of_list list_id (definitions_of table number) ≡ []
+registered_names registered table list_id known active number none =
+    known list_id number active ∙ bodies_none number (registered_at registered list_id) none
 
 -- the bodies of a registered list by name
 pub registered_for : {A : Type 0} (registered : List (Vec Metadata A)) (table : Collection) (list_id : ℕ) → AreRegistered registered table

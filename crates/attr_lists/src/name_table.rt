@@ -188,8 +188,9 @@ impl NameTable {
     }
 
     /// Whether the list is registered under the list id: for each name, the definitions under the list id are, in their order,
-    /// those of the list. It takes no memory. A list that is registered as it is takes a step a line. Another one may take a
-    /// step for each name, and one a line for each macro that the registered list defines.
+    /// those of the list. It takes no memory. It takes a step for each line. A list that isn't as registered takes more: for each
+    /// line of it or of the registered list that defines a macro, a step for each definition of the macro and one for each line.
+    /// Other names are not looked at.
     pub fn holds(&self, list_id: usize, mappings: &[Mapping<Value>]) -> bool
         ensures { IsTrue result ↔ HoldsList self.now list_id (entries_view mappings.now) }
     {

@@ -1,10 +1,12 @@
 -- The macros that the registered lists define, line by line (own).
-use Rattle.std.specs.Prelude.{◌≡◌, ℕ, ◌==◌, true, List, [], map, filter, slice_index_or, unwrap_or, option_map, Vec}
+use Rattle.std.specs.Prelude.{◌≡◌, ◌≢◌, ℕ, ◌==◌, true, List, [], map, filter, slice_index_or, unwrap_or, option_map, Vec, All}
 use Rattle.attr_lists.specs.Collections.{Collection}
 use Rattle.attr_lists.specs.Definitions.{bodies_of_list, definitions_of, is_active}
 use Rattle.attr_lists.specs.Numbers.{number_of}
+use Rattle.attr_lists.specs.declared.name_table.entry.NameEntry.{NameEntry}
 use Rattle.attr_lists.specs.declared.types.Metadata.{Metadata}
 use Rattle.attr_lists.specs.declared.types.TrackedAssignment.{TrackedAssignment}
+use Rattle.attr_lists.specs.inner.EntryViews.{definitions_at}
 
 -- the body that a line defines for the name with a number
 pub record NumberedBody : Type 0 where
@@ -29,6 +31,11 @@ all_registered registered = map (λ list. map numbered_body list.items) register
 -- the bodies of the list with this list id
 abbrev pub registered_at : {A : Type 0} → List (Vec Metadata A) → ℕ → List NumberedBody
 registered_at registered list_id = slice_index_or (all_registered registered) list_id []
+
+-- the list has no definition of another name than these
+abbrev pub ListsNames : ℕ → List NumberedBody → List NameEntry → Type 0
+ListsNames list_id list entries =
+    (number : ℕ) → All (λ b. b.number ≢ number) list → bodies_of_list list_id (definitions_at entries number) ≡ []
 
 -- the definitions of each list that is registered are those that its lines had then
 abbrev pub AreRegistered : {A : Type 0} → List (Vec Metadata A) → Collection → Type 0

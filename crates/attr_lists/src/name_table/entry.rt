@@ -7,9 +7,12 @@ ghost use Rattle.attr_lists.specs.Definitions.{bodies_named, bodies_of_list, def
 ghost use Rattle.attr_lists.specs.KeptLists.{macro_valid, macros_valid};
 ghost use Rattle.attr_lists.specs.inner.EntrySteps.{AddsDefinitions, KeepsOtherDefinitions, RemovesAsMany, PopsOwn, HasBodies, AgreesOn};
 ghost use Rattle.attr_lists.specs.inner.EntryViews.{numbered_view, definition_view, definitions_view, is_defined_in, all_definitions, definitions_at, definitions_by, name_texts, AreValid, IsEntry, AreEntries};
+ghost use Rattle.attr_lists.specs.inner.Registered.{numbered_body, ListsNames};
 ghost use Rattle.attr_lists.specs.ListViews.{entry_view, entries_view};
 
-use crate::name_table::numbers::{NameSet, id_of, macro_name, number_of_text, numbered_copy};
+use crate::name_table::numbers::{
+    NameSet, id_of, macro_name, name_at, number_of_text, numbered_copy,
+};
 use crate::types::{Assignments, AttributeId, Metadata, TrackedAssignment, Value};
 use attr_glob::search::pattern::Mapping;
 use std::alloc::{AllocError, Global};
@@ -383,21 +386,26 @@ fn remove_line(
     entries[number].remove_latest(list_id)
 }
 
-/// Whether, for each name, the definitions under the list id are those of the lines.
+/// Whether, for each name, the definitions under the list id are those of the lines. `list` has the macros that are registered
+/// under it. For each line that defines a macro this takes a step for each definition of the macro, and for each macro of `list`
+/// one for each of its definitions and one for each line.
 pub(super) fn has_definitions(
     names: &NameSet,
     entries: &[NameEntry],
     list_id: usize,
+    list: &[Metadata],
     mappings: &[Mapping<Value>],
 ) -> bool
     requires valid { AreValid (name_texts names.now) }
     requires distinct { IsDistinct bytes_eq (name_texts names.now) }
     requires counted { length entries.now ≡ length (name_texts names.now) }
+    requires listed { ListsNames list_id (map numbered_body list.now) entries.now }
     ensures { IsTrue result ↔ ((name : List ℕ) →
         HasBodies list_id name (entries_view mappings.now)
         (definitions_by (name_texts names.now) entries.now name)) }
 {
-    are_defined(names, entries, list_id, mappings) && all_agree(names, entries, list_id, mappings)
+    are_defined(names, entries, list_id, mappings)
+        && all_agree(names, entries, list_id, list, mappings)
 }
 
 // Whether the list has a definition of each macro that the lines define.
@@ -447,24 +455,48 @@ fn has_definition(names: &NameSet, entries: &[NameEntry], list_id: usize, name: 
     }
 }
 
-// Whether each name that the list defines has the definitions of the lines.
+// Whether each name that the list defines has the definitions of the lines. The names are those of `list`, the macros that are
+// registered. A macro of the same name as the one before is passed over.
 fn all_agree(
     names: &NameSet,
     entries: &[NameEntry],
     list_id: usize,
+    list: &[Metadata],
     mappings: &[Mapping<Value>],
 ) -> bool
-    requires { length entries.now ≡ length (name_texts names.now) }
+    requires counted { length entries.now ≡ length (name_texts names.now) }
+    requires listed { ListsNames list_id (map numbered_body list.now) entries.now }
     ensures { IsTrue result ↔ ((number : ℕ) → number < length entries.now →
         AgreesOn list_id (slice_index_or (name_texts names.now) number [])
         (entries_view mappings.now) (definitions_at entries.now number)) }
 {
-    for (number, name) in names.as_slice().iter().enumerate() {
-        if !entries[number].agrees(list_id, name.as_str(), mappings) {
+    for (index, known) in list.iter().enumerate() {
+        let number = known.id.0;
+        let is_new = index == 0 || list[index - 1].id.0 != number;
+        if is_new && !agrees_at(names, entries, list_id, number, mappings) {
             return false;
         }
     }
     true
+}
+
+// Whether the name with this number has the definitions of the lines, if there is one that the list defines.
+fn agrees_at(
+    names: &NameSet,
+    entries: &[NameEntry],
+    list_id: usize,
+    number: usize,
+    mappings: &[Mapping<Value>],
+) -> bool
+    requires { length entries.now ≡ length (name_texts names.now) }
+    ensures { IsTrue result ↔ (number < length entries.now →
+        AgreesOn list_id (slice_index_or (name_texts names.now) number [])
+        (entries_view mappings.now) (definitions_at entries.now number)) }
+{
+    match name_at(names, number) {
+        Some(name) => entries[number].agrees(list_id, name, mappings),
+        None => true,
+    }
 }
 
 /// A copy of the entries.

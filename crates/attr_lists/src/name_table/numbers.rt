@@ -1,5 +1,5 @@
 //! Names by number, and the numbers in the lines of a list.
-ghost use Rattle.std.specs.Prelude.{◌≡◌, true, [], ◌∷◌, map, option_map, bytes_eq, IfOk, OnOk, OnErr, IsTrue};
+ghost use Rattle.std.specs.Prelude.{◌≡◌, true, [], ◌∷◌, map, option_map, option_copied, slice_get, bytes_eq, IfOk, OnOk, OnErr, IsTrue};
 ghost use Rattle.std.specs.List.{IsDistinct};
 ghost use Rattle.std.specs.Rc.{rc_str_bytes};
 ghost use Rattle.attr_text.specs.Names.{is_valid_name};
@@ -174,6 +174,13 @@ pub(super) fn number_of_text(names: &NameSet, text: &[u8]) -> Option<usize>
         Ok(name) => number_of(names, name),
         Err(_) => None,
     }
+}
+
+/// The name with this number, if there is one.
+pub(super) fn name_at(names: &NameSet, number: usize) -> Option<&str>
+    ensures { option_copied result ≡ slice_get (name_texts names.now) number }
+{
+    Some(names.get_index(number)?.as_str())
 }
 
 /// A copy of the items, with the numbers of their names.

@@ -92,7 +92,8 @@ impl Parts {
         entry::remove_definitions(&mut self.entries, list_id);
     }
 
-    /// Whether, for each name, the definitions under the list id are those of the list.
+    /// Whether, for each name, the definitions under the list id are those of the list. A list that is as registered takes a step
+    /// for each line.
     pub(super) fn has_list(&self, list_id: usize, mappings: &[Mapping<Value>]) -> bool
         requires sound { IsSoundCollection (parts_view self.now) }
         requires registered { AreRegistered self.now.registered.items (parts_view self.now) }
@@ -102,8 +103,9 @@ impl Parts {
             (definitions_for (parts_view self.now) name)) }
     {
         let (names, entries) = (&self.names, &self.entries);
-        registered::is_as_registered(names, &self.registered, list_id, mappings)
-            || entry::has_definitions(names, entries, list_id, mappings)
+        let list = registered::list_at(&self.registered, list_id);
+        registered::are_lines_of(names, list, mappings)
+            || entry::has_definitions(names, entries, list_id, list, mappings)
     }
 }
 

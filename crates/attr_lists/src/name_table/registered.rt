@@ -1,5 +1,5 @@
 //! The macros that each list defines, line by line, as it was registered.
-ghost use Rattle.std.specs.Prelude.{◌≡◌, ◌≢◌, true, [], ◌∷◌, ◌++◌, ◌<◌, ℕ, List, length, map, slice_get, option_copied, Some, OnOk, IfOk, IsTrue, bytes_eq};
+ghost use Rattle.std.specs.Prelude.{◌≡◌, ◌≢◌, true, [], ◌∷◌, ◌++◌, ◌<◌, ℕ, List, length, map, slice_get, Some, OnOk, IfOk, IsTrue, bytes_eq};
 ghost use Rattle.std.specs.List.{IsDistinct};
 ghost use Rattle.attr_lists.specs.Definitions.{bodies_defined, bodies_named};
 ghost use Rattle.attr_lists.specs.KeptLists.{macro_valid, macros_valid};
@@ -8,7 +8,7 @@ ghost use Rattle.attr_lists.specs.inner.EntryViews.{name_texts, numbered_view};
 ghost use Rattle.attr_lists.specs.inner.Registered.{bodies_of_name, bodies_of_number, numbered_body, registered_at};
 
 use crate::name_table::entry::{has_text, is_same};
-use crate::name_table::numbers::{NameSet, id_of, macro_name, numbered_copy};
+use crate::name_table::numbers::{NameSet, id_of, macro_name, name_at, numbered_copy};
 use crate::types::{Metadata, TrackedAssignment, Value};
 use attr_glob::search::pattern::Mapping;
 use std::alloc::{AllocError, Global};
@@ -93,26 +93,18 @@ fn make_room(
     Ok(())
 }
 
-/// Whether the lines define the macros that are registered under the list id, in their order and with their bodies. This takes
-/// a step for each line.
-pub(super) fn is_as_registered(
-    names: &NameSet,
-    registered: &[Vec<Metadata>],
-    list_id: usize,
-    mappings: &[Mapping<Value>],
-) -> bool
-    requires distinct { IsDistinct bytes_eq (name_texts names.now) }
-    ensures { IsTrue result → (name : List ℕ) →
-        bodies_of_name (name_texts names.now) (registered_at registered.now list_id) name
-        ≡ bodies_named name (entries_view mappings.now) }
+/// The macros that are registered under the list id.
+pub(super) fn list_at(registered: &[Vec<Metadata>], list_id: usize) -> &[Metadata]
+    ensures { map numbered_body result.now ≡ registered_at registered.now list_id }
 {
     match registered.get(list_id) {
-        Some(list) => are_lines_of(names, list, mappings),
-        None => are_lines_of(names, &[], mappings),
+        Some(list) => list,
+        None => &[],
     }
 }
 
-fn are_lines_of(names: &NameSet, list: &[Metadata], mappings: &[Mapping<Value>]) -> bool
+/// Whether the lines define these macros, in their order and with their bodies. This takes a step for each line.
+pub(super) fn are_lines_of(names: &NameSet, list: &[Metadata], mappings: &[Mapping<Value>]) -> bool
     requires distinct { IsDistinct bytes_eq (name_texts names.now) }
     ensures { IsTrue result → (name : List ℕ) →
         bodies_of_name (name_texts names.now) (map numbered_body list.now) name
@@ -153,12 +145,6 @@ fn has_name(names: &NameSet, number: usize, text: &[u8]) -> bool
         Some(name) => has_text(text, name),
         None => false,
     }
-}
-
-fn name_at(names: &NameSet, number: usize) -> Option<&str>
-    ensures { option_copied result ≡ slice_get (name_texts names.now) number }
-{
-    Some(names.get_index(number)?.as_str())
 }
 
 /// A copy of the macros of each list.

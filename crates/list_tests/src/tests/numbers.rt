@@ -185,6 +185,37 @@ fn a_list_below_another_is_removed(rt: HostRuntime) -> Result<(), AllocError> {
     expect_below_removed(&rt, rt.alloc(), &mut table, (goes, &below))
 }
 
+// Whether the list of a text is held, with the numbers that the table has for its names.
+fn is_held(
+    alloc: Global,
+    table: &NameTable,
+    list_id: usize,
+    text: &str,
+) -> Result<bool, AllocError> {
+    let mut copy = copied(alloc, table)?;
+    let (_, list) = add(alloc, &mut copy, text)?;
+    Ok(table.holds(list_id, &list))
+}
+
+// The definitions of each macro are in their order, and those of two macros in any order.
+#[test]
+fn a_list_is_held_in_another_order_of_its_macros(rt: HostRuntime) -> Result<(), AllocError> {
+    let mut table = table(rt.alloc())?;
+    let (list_id, _) = add(rt.alloc(), &mut table, "[attr]m x\n[attr]n y\n[attr]m z")?;
+    for (text, expected) in [
+        ("[attr]n y\n[attr]m x\n[attr]m z", true),
+        ("[attr]m x\n[attr]m z\n* a\n[attr]n y", true),
+        ("[attr]m z\n[attr]n y\n[attr]m x", false),
+        ("[attr]m x\n[attr]m z\n[attr]n x", false),
+        ("[attr]m x\n[attr]m z", false),
+        ("[attr]n y\n[attr]m x\n[attr]m z\n[attr]n y", false),
+        ("[attr]n y\n[attr]m x\n[attr]m z\n[attr]x y", false),
+    ] {
+        assert!(rt; is_held(rt.alloc(), &table, list_id, text)? == expected);
+    }
+    Ok(())
+}
+
 fn expect_ids(
     rt: &impl Abort,
     alloc: Global,

@@ -1,11 +1,11 @@
-use Rattle.std.proofs.Common.{◌≡◌, ◌<◌, ◌⊎◌, ℕ, false, get_or, []}
-use Rattle.std.specs.List.{list_any}
-use Rattle.attr_lists.specs.Definitions.{bodies_named, is_of_list, bodies_of_list}
+use Rattle.std.proofs.Common.{◌<◌, [], get_or, length}
+use Rattle.std.specs.List.{AllWithin}
+use Rattle.attr_lists.specs.inner.EntrySteps.{AgreesOn}
 use Rattle.attr_lists.specs.inner.EntryViews.{definitions_at, name_texts}
 use Rattle.attr_lists.specs.ListViews.{entries_view}
 use Rattle.attr_lists.proofs.name_table.entry.all_agree.Given as goal
 
-abbrev pub invariant-loop-number : goal.invariant-loop-number
-invariant-loop-number l = (n : ℕ) → n < l.number →
-    (list_any (is_of_list l.list_id) (definitions_at l.entries n) ≡ false) ⊎
-    (bodies_of_list l.list_id (definitions_at l.entries n) ≡ bodies_named (get_or (name_texts l.names) n []) (entries_view l.mappings))
+abbrev pub invariant-loop-index : goal.invariant-loop-index
+invariant-loop-index l = AllWithin (λ known. known.id.0 < length l.entries →
+    AgreesOn l.list_id (get_or (name_texts l.names) known.id.0 []) (entries_view l.mappings) (definitions_at l.entries known.id.0))
+    l.list 0 l.index
