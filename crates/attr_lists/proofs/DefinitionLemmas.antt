@@ -30,6 +30,16 @@ filter-same p q both (x ∷ xs) =
 pub of_other_lists-again : (list_id : ℕ) (ds : List MacroDefinition) → of_other_lists list_id (of_other_lists list_id ds) ≡ of_other_lists list_id ds
 of_other_lists-again list_id ds = filter-same (λ d. not (is_of_list list_id d)) (λ d. not (is_of_list list_id d)) (λ x h. h) ds
 
+-- and has no body of the list
+pub bodies_gone : (list_id : ℕ) (ds : List MacroDefinition) → bodies_of_list list_id (of_other_lists list_id ds) ≡ []
+bodies_gone list_id ds =
+    ap (map (λ (d : MacroDefinition). d.body))
+    (filter-none (λ d. not (is_of_list list_id d)) (is_of_list list_id) (λ d h. turned (is_of_list list_id d) h) ds)
+  where
+    turned : (b : Bool) → not b ≡ true → b ≡ false
+    turned false h = refl
+    turned true h = sym h
+
 pub of_other_lists-append : (list_id : ℕ) (xs ys : List MacroDefinition) → of_other_lists list_id (xs ++ ys) ≡ of_other_lists list_id xs ++
     of_other_lists
     list_id ys

@@ -22,9 +22,10 @@ use Rattle.attr_lists.specs.inner.EntryViews.{definition_view, definitions_view,
 use Rattle.attr_lists.specs.ListViews.{Entry, entry_view, entries_view, macro_id, items_in}
 use Rattle.attr_lists.specs.Collections.{MacroDefinition}
 use Rattle.attr_lists.specs.Numbers.{id_of, number_of, numbered_item, numbered, numbered_lines}
-use Rattle.attr_lists.proofs.DefinitionLemmas.{of_other_lists-append, of_other_lists-more, bodies_defined-cons, bodies_named-push}
+use Rattle.attr_lists.proofs.DefinitionLemmas.{of_other_lists-again, of_other_lists-append, of_other_lists-more, bodies_gone}
+use Rattle.attr_lists.proofs.DefinitionLemmas.{bodies_defined-cons, bodies_named-push}
 use Rattle.attr_lists.proofs.DefinitionLemmas.{bodies_defined-one, bodies_defined-none, bodies_named-none, bodies_named-one, bodies_of_list-append}
-use Rattle.attr_lists.specs.inner.EntrySteps.{KeepsOtherDefinitions, RemovesAsMany}
+use Rattle.attr_lists.specs.inner.EntrySteps.{KeepsOtherDefinitions, RemovesAsMany, StaysWithout}
 use Rattle.attr_lists.proofs.ListLemmas.{front, front-more, get_or-map}
 use Rattle.attr_lists.proofs.NamedDefinitions.{number_name}
 
@@ -204,6 +205,30 @@ definitions_at-cases P entries i n d x lt here there =
     subst P (sym at) (here (sym (definitions_at-within entries i d lt) ∙ ap (definitions_at entries) same) same))
     (λ other. subst P (sym (definitions_at-other entries i n x (λ e. other (sym e)))) (there other))
     (cases_eq i n)
+
+-- no name gets a definition of the list
+pub stays_without : (list_id i : ℕ) (entries : List NameEntry) (d x : NameEntry) → i < length entries
+    → (bodies_of_list list_id (definitions_view (get_or entries i d)) ≡ [] → bodies_of_list list_id (definitions_view x) ≡ [])
+    → StaysWithout list_id entries (set entries i x)
+stays_without list_id i entries d x lt keeps n none =
+    definitions_at-cases (λ ds. bodies_of_list list_id ds ≡ []) entries i n d x lt
+    (λ at same. keeps (ap (bodies_of_list list_id) at ∙ none)) (λ other. none)
+
+-- the definitions of the list are removed from a name
+module _ (list_id i : ℕ) (entries : List NameEntry) (d x : NameEntry) (lt : i < length entries)
+    (is : definitions_view x ≡ of_other_lists list_id (definitions_view (get_or entries i d))) where
+  pub gone_own : bodies_of_list list_id (definitions_view x) ≡ []
+  gone_own = ap (bodies_of_list list_id) is ∙ bodies_gone list_id (definitions_view (get_or entries i d))
+
+  pub gone_here : bodies_of_list list_id (definitions_at (set entries i x) i) ≡ []
+  gone_here = ap (bodies_of_list list_id) (definitions_at-same entries i x lt) ∙ gone_own
+
+  pub gone_others : KeepsOtherDefinitions list_id entries (set entries i x)
+  gone_others n =
+      definitions_at-cases (λ ds. of_other_lists list_id ds ≡ of_other_lists list_id (definitions_at entries n)) entries i n d x lt
+      (λ at same. ap (of_other_lists list_id) is ∙ of_other_lists-again list_id (definitions_view (get_or entries i d))
+      ∙ ap (of_other_lists list_id) at)
+      (λ other. refl)
 
 -- a line defines no other macro than its own
 no_body : (names : List (List ℕ)) (entry : Entry) (name : List ℕ) (n : ℕ) (own : Option ℕ) → number_of names name ≡ Some n

@@ -104,6 +104,16 @@ others_alike list_id old now len others =
     (λ n. get_or-map (of_other_lists list_id) (all_definitions now) n [] ∙ others n
     ∙ sym (get_or-map (of_other_lists list_id) (all_definitions old) n []))
 
+-- where no definition of the list is left, those of other lists are all
+pub all_gone : (list_id : ℕ) (old now : List NameEntry) → length now ≡ length old
+    → ((n : ℕ) → bodies_of_list list_id (definitions_at now n) ≡ []) → KeepsOtherDefinitions list_id old now
+    → all_definitions now ≡ map (of_other_lists list_id) (all_definitions old)
+all_gone list_id old now len gone others =
+    same_definitions (all_definitions now) (map (of_other_lists list_id) (all_definitions now))
+    (sym (length-map (all_definitions now) (of_other_lists list_id)))
+    (λ n. sym (of_other_lists-free list_id (definitions_at now n) (gone n)) ∙ sym (get_or-map (of_other_lists list_id) (all_definitions now) n []))
+    ∙ others_alike list_id old now len others
+
 no_more : {X : Type 0} (xs ys zs : List X) → length xs + length ys ≡ length zs → zs ≡ ys → xs ≡ []
 no_more [] ys zs h e = refl
 no_more (x ∷ xs) ys zs h e = absurd (omega (arith, h, ap length e))
@@ -115,22 +125,19 @@ pub all_removed : (names : List (List ℕ)) (old now : List NameEntry) (list_id 
     → RemovesAsMany list_id names lines old now → KeepsOtherDefinitions list_id old now
     → all_definitions now ≡ map (of_other_lists list_id) (all_definitions old)
 all_removed names old now list_id lines len count distinct bodies gone others =
-    same_definitions (all_definitions now) (map (of_other_lists list_id) (all_definitions now))
-    (sym (length-map (all_definitions now) (of_other_lists list_id)))
+    all_gone list_id old now len
     (λ n. ⊎_elim
     (λ (lt : n < length names).
     let name = get_or names n [] in
     let number = number_at names n distinct lt in
     let own : HasBodies list_id name lines (definitions_at old n) =
     subst (λ (o : Option ℕ). HasBodies list_id name lines (unwrap_or (option_map (definitions_at old) o) [])) number (bodies name) in
-    sym (of_other_lists-free list_id (definitions_at now n) (no_more (bodies_of_list list_id (definitions_at now n)) (bodies_named name lines)
-    (bodies_of_list list_id (definitions_at old n)) (gone name n number) own)))
+    no_more (bodies_of_list list_id (definitions_at now n)) (bodies_named name lines) (bodies_of_list list_id (definitions_at old n))
+    (gone name n number) own)
     (λ (past : length names ≤ n).
-    let none = get_or_past (all_definitions now) n [] (omega (arith, past, len, count, length-map now definitions_view)) in
-    none ∙ ap (of_other_lists list_id) (sym none))
-    (cases_lt n (length names))
-    ∙ sym (get_or-map (of_other_lists list_id) (all_definitions now) n []))
-    ∙ others_alike list_id old now len others
+    ap (bodies_of_list list_id) (get_or_past (all_definitions now) n [] (omega (arith, past, len, count, length-map now definitions_view))))
+    (cases_lt n (length names)))
+    others
 
 -- the table after a registered list is removed
 pub removed_is : (names : List (List ℕ)) (active : List Bool) (old borrowed now items : List NameEntry) (list_id : ℕ)

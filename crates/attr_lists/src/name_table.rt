@@ -171,8 +171,9 @@ impl NameTable {
     }
 
     /// Removes the list with this list id and its definitions. Each name then has the body of the last definition that is left,
-    /// and keeps its number. It takes no memory. It takes a step for each line, and looks at all names only if a list that was
-    /// added later defines one of the names too.
+    /// and keeps its number. It takes no memory. It takes a step for each line. If a list that was added later defines one of the
+    /// names too, it also sorts the list's macros, and takes a step for each definition of each of them. Other names are not
+    /// looked at.
     pub fn remove(&mut self, list_id: usize, mappings: &[Mapping<Value>])
         requires { HoldsList self.old list_id (entries_view mappings.now) }
         ensures removed { self.new ≡ without_list list_id self.old }
@@ -180,7 +181,8 @@ impl NameTable {
         ensures sound { IsSoundCollection self.new }
     {
         let (names, entries) = (&self.parts.names, &mut self.parts.entries);
-        entry::remove_list(names, entries, list_id, mappings);
+        let registered = &mut self.parts.registered;
+        entry::remove_list(names, entries, registered, list_id, mappings);
         let macros = &mut self.parts.macros;
         macros::remove_macros(names, &self.parts.entries, macros, mappings);
         self.parts.active[list_id] = false;

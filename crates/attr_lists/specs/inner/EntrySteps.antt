@@ -20,6 +20,11 @@ abbrev pub KeepsOtherDefinitions : ℕ → List NameEntry → List NameEntry →
 KeepsOtherDefinitions list_id old new =
     (number : ℕ) → of_other_lists list_id (definitions_at new number) ≡ of_other_lists list_id (definitions_at old number)
 
+-- a name without a definition of the list stays so
+abbrev pub StaysWithout : ℕ → List NameEntry → List NameEntry → Type 0
+StaysWithout list_id old new =
+    (number : ℕ) → bodies_of_list list_id (definitions_at old number) ≡ [] → bodies_of_list list_id (definitions_at new number) ≡ []
+
 -- the last of these definitions was removed, which is the list's
 abbrev pub PopsOwn : ℕ → List Definition → List Definition → Type 0
 PopsOwn list_id old new = (last : Definition) × (last.list_id ≡ list_id) × (old ≡ new ++ last ∷ [])

@@ -1,18 +1,19 @@
 //! The entries of names: their definitions as macros.
-ghost use Rattle.std.specs.Prelude.{◌≡◌, true, ◌≤◌, ◌<◌, ◌↔◌, ◌==◌, not, filter, ◌++◌, List, [], ◌∷◌, ℕ, length, map, bytes_eq, slice_index_or, option_map, MatchOption, IfOk, OnOk, OnErr, IsTrue, IsFalse, ◌+◌};
+ghost use Rattle.std.specs.Prelude.{◌≡◌, ◌≢◌, true, ◌≤◌, ◌<◌, ◌↔◌, ◌==◌, not, filter, ◌++◌, List, [], ◌∷◌, ℕ, length, map, bytes_eq, slice_index_or, option_map, MatchOption, IfOk, OnOk, OnErr, IsTrue, IsFalse, ◌+◌};
 ghost use Rattle.std.specs.Bool.{OnFalse};
 ghost use Rattle.std.specs.List.{IsDistinct, list_any, list_all};
 ghost use Rattle.std.specs.Option.{option_to_list};
 ghost use Rattle.attr_lists.specs.Definitions.{bodies_named, bodies_of_list, definition_of, is_of_list, of_other_lists, last_body};
 ghost use Rattle.attr_lists.specs.KeptLists.{macro_valid, macros_valid};
-ghost use Rattle.attr_lists.specs.inner.EntrySteps.{AddsDefinitions, KeepsOtherDefinitions, RemovesAsMany, PopsOwn, HasBodies, AgreesOn};
+ghost use Rattle.attr_lists.specs.inner.EntrySteps.{AddsDefinitions, KeepsOtherDefinitions, RemovesAsMany, StaysWithout, PopsOwn, HasBodies, AgreesOn};
 ghost use Rattle.attr_lists.specs.inner.EntryViews.{numbered_view, definition_view, definitions_view, is_defined_in, all_definitions, definitions_at, definitions_by, name_texts, AreValid, IsEntry, AreEntries};
-ghost use Rattle.attr_lists.specs.inner.Registered.{numbered_body, ListsNames};
+ghost use Rattle.attr_lists.specs.inner.Registered.{numbered_body, registered_at, ListsNames};
 ghost use Rattle.attr_lists.specs.ListViews.{entry_view, entries_view};
 
 use crate::name_table::numbers::{
     NameSet, id_of, macro_name, name_at, number_of_text, numbered_copy,
 };
+use crate::name_table::registered::{list_at, sort_by_number};
 use crate::types::{Assignments, AttributeId, Metadata, TrackedAssignment, Value};
 use attr_glob::search::pattern::Mapping;
 use std::alloc::{AllocError, Global};
@@ -92,6 +93,8 @@ impl NameEntry {
             ≡ length (bodies_of_list list_id (definitions_view self.old)) }
         ensures others { of_other_lists list_id (definitions_view self.new)
             ≡ of_other_lists list_id (definitions_view self.old) }
+        ensures without { bodies_of_list list_id (definitions_view self.old) ≡ [] →
+            bodies_of_list list_id (definitions_view self.new) ≡ [] }
         ensures entry { (number : ℕ) → IsEntry number self.old → IsEntry number self.new }
     {
         pop_of(&mut self.definitions, list_id)
@@ -308,7 +311,7 @@ fn define_line(
     Ok(())
 }
 
-/// Removes all definitions of a list.
+/// Removes all definitions of a list that is partly added. This looks at all names.
 pub(super) fn remove_definitions(entries: &mut [NameEntry], list_id: usize)
     ensures definitions { all_definitions entries.new
         ≡ map (of_other_lists list_id) (all_definitions entries.old) }
@@ -319,11 +322,12 @@ pub(super) fn remove_definitions(entries: &mut [NameEntry], list_id: usize)
     }
 }
 
-/// Removes the definitions of a registered list. If no later list defines one of its names, this takes a step for each line;
-/// else all names are looked at once.
+/// Removes the definitions of a registered list. This takes a step for each line. If a list that was added later defines one of
+/// the names too, it also sorts the list's macros in `registered`, and takes a step for each definition of each of them.
 pub(super) fn remove_list(
     names: &NameSet,
     entries: &mut [NameEntry],
+    registered: &mut [Vec<Metadata>],
     list_id: usize,
     mappings: &[Mapping<Value>],
 )
@@ -332,12 +336,44 @@ pub(super) fn remove_list(
     requires counted { length entries.old ≡ length (name_texts names.now) }
     requires held { (name : List ℕ) → HasBodies list_id name (entries_view mappings.now)
         (definitions_by (name_texts names.now) entries.old name) }
+    requires listed { ListsNames list_id (registered_at registered.old list_id) entries.old }
+    ensures definitions { all_definitions entries.new
+        ≡ map (of_other_lists list_id) (all_definitions entries.old) }
+    ensures entries { AreEntries entries.old → AreEntries entries.new }
+    ensures others { (other : ℕ) → other ≢ list_id →
+        registered_at registered.new other ≡ registered_at registered.old other }
+{
+    if !remove_latest(names, entries, list_id, mappings) {
+        sort_by_number(registered, list_id);
+        remove_registered(entries, list_id, list_at(registered, list_id));
+    }
+}
+
+// Removes all definitions of a list. They are of the names of `list`, the macros that are registered. A macro of the same name
+// as the one before is passed over.
+fn remove_registered(entries: &mut [NameEntry], list_id: usize, list: &[Metadata])
+    requires { ListsNames list_id (map numbered_body list.now) entries.old }
     ensures definitions { all_definitions entries.new
         ≡ map (of_other_lists list_id) (all_definitions entries.old) }
     ensures entries { AreEntries entries.old → AreEntries entries.new }
 {
-    if !remove_latest(names, entries, list_id, mappings) {
-        remove_definitions(entries, list_id);
+    for (index, known) in list.iter().enumerate() {
+        let number = known.id.0;
+        if index == 0 || list[index - 1].id.0 != number {
+            remove_at(entries, list_id, number);
+        }
+    }
+}
+
+// Removes the definitions that a list has of the name with this number, if there is one.
+fn remove_at(entries: &mut [NameEntry], list_id: usize, number: usize)
+    ensures gone { bodies_of_list list_id (definitions_at entries.new number) ≡ [] }
+    ensures without { StaysWithout list_id entries.old entries.new }
+    ensures others { KeepsOtherDefinitions list_id entries.old entries.new }
+    ensures entries { AreEntries entries.old → AreEntries entries.new }
+{
+    if number < entries.len() {
+        entries[number].remove(list_id);
     }
 }
 
@@ -352,6 +388,7 @@ fn remove_latest(
     ensures removed { IsTrue result → RemovesAsMany list_id (name_texts names.now)
         (entries_view mappings.now) entries.old entries.new }
     ensures others { KeepsOtherDefinitions list_id entries.old entries.new }
+    ensures without { StaysWithout list_id entries.old entries.new }
     ensures entries { AreEntries entries.old → AreEntries entries.new }
 {
     for mapping in mappings {
@@ -372,6 +409,7 @@ fn remove_line(
     ensures removed { IsTrue result → RemovesAsMany list_id (name_texts names.now)
         (entry_view mapping.now ∷ []) entries.old entries.new }
     ensures others { KeepsOtherDefinitions list_id entries.old entries.new }
+    ensures without { StaysWithout list_id entries.old entries.new }
     ensures entries { AreEntries entries.old → AreEntries entries.new }
 {
     let Value::MacroAssignments { .. } = &mapping.value else {

@@ -30,7 +30,7 @@ pub(super) struct Parts {
     /// A list id below which none is free, where the search for a free one starts.
     pub(super) free_from: usize,
     /// For each list id, the macros that the list registered under it defines, line by line. Those of a list that was removed
-    /// stay until the list id is used again.
+    /// stay, in any order, until the list id is used again.
     pub(super) registered: Vec<Vec<Metadata>>,
     /// The numbers of the names that have definitions.
     pub(super) macros: BTreeSet<usize>,

@@ -1,6 +1,7 @@
 //! The macros that each list defines, line by line, as it was registered.
 ghost use Rattle.std.specs.Prelude.{◌≡◌, ◌≢◌, true, [], ◌∷◌, ◌++◌, ◌<◌, ℕ, List, length, map, slice_get, Some, OnOk, IfOk, IsTrue, bytes_eq};
 ghost use Rattle.std.specs.List.{IsDistinct};
+ghost use Rattle.std.specs.List.Sorted.{IsPermutation};
 ghost use Rattle.attr_lists.specs.Definitions.{bodies_defined, bodies_named};
 ghost use Rattle.attr_lists.specs.KeptLists.{macro_valid, macros_valid};
 ghost use Rattle.attr_lists.specs.ListViews.{entry_view, entries_view};
@@ -100,6 +101,19 @@ pub(super) fn list_at(registered: &[Vec<Metadata>], list_id: usize) -> &[Metadat
     match registered.get(list_id) {
         Some(list) => list,
         None => &[],
+    }
+}
+
+/// Sorts the macros that are registered under the list id by their numbers. They are not line by line then, so this is for a
+/// list that is removed.
+pub(super) fn sort_by_number(registered: &mut [Vec<Metadata>], list_id: usize)
+    ensures own { IsPermutation (registered_at registered.old list_id)
+        (registered_at registered.new list_id) }
+    ensures others { (other : ℕ) → other ≢ list_id →
+        registered_at registered.new other ≡ registered_at registered.old other }
+{
+    if list_id < registered.len() {
+        registered[list_id].sort_unstable_by_key(|known| known.id.0);
     }
 }
 

@@ -165,11 +165,12 @@ fn expect_below_removed(
     alloc: Global,
     table: &mut NameTable,
     (goes, below): (usize, &[Mapping<Value>]),
+    (later, last): (&str, usize),
 ) -> Result<(), AllocError> {
-    let (stays, above) = add(alloc, table, "[attr]m z")?;
+    let (stays, above) = add(alloc, table, later)?;
     assert!(rt; first_number(table, "n") == Some(1));
     assert!(rt; is_removed(table, goes, below));
-    assert!(rt; first_number(table, "m") == Some(4));
+    assert!(rt; first_number(table, "m") == Some(last));
     assert!(rt; first_number(table, "n").is_none());
     assert!(rt; is_removed(table, stays, &above));
     assert!(rt; first_number(table, "m").is_none());
@@ -179,10 +180,17 @@ fn expect_below_removed(
 // The first list goes while the second, which defines one of its macros too, stays.
 #[test]
 fn a_list_below_another_is_removed(rt: HostRuntime) -> Result<(), AllocError> {
-    let mut table = table(rt.alloc())?;
-    let text = "[attr]m x\n[attr]m y\n[attr]n x";
-    let (goes, below) = add(rt.alloc(), &mut table, text)?;
-    expect_below_removed(&rt, rt.alloc(), &mut table, (goes, &below))
+    for (text, later, last) in [
+        ("[attr]m x\n[attr]m y\n[attr]n x", "[attr]m z", 4),
+        ("[attr]m x\n[attr]m y\n[attr]n x", "[attr]m w\n[attr]m z", 5),
+        ("[attr]n x\n[attr]m x\n[attr]m y", "[attr]m z", 4),
+        ("[attr]m x\n[attr]n x\n[attr]m y", "[attr]m w\n[attr]m z", 5),
+    ] {
+        let mut table = table(rt.alloc())?;
+        let (goes, below) = add(rt.alloc(), &mut table, text)?;
+        expect_below_removed(&rt, rt.alloc(), &mut table, (goes, &below), (later, last))?;
+    }
+    Ok(())
 }
 
 // Whether the list of a text is held, with the numbers that the table has for its names.

@@ -12,6 +12,7 @@ loop-mapping-preserved c = record {
       c.args.mappings.now c.loop-mapping.mapping-index c.mapping-item.result c.loop-mapping-test.true c.mapping-item.is
       (c.loop-mapping.invariant.removed name number e) (c.remove_line.ensures.removed c.if-not-remove_line.false name number e);
   others = λ n. c.remove_line.ensures.others n ∙ c.loop-mapping.invariant.others n;
+  without = λ n none. c.remove_line.ensures.without n (c.loop-mapping.invariant.without n none);
   entries = λ all. c.remove_line.ensures.entries (c.loop-mapping.invariant.entries all);
 }
 
