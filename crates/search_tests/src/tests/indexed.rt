@@ -1,7 +1,7 @@
 //! How many patterns are tested, and how many items are taken.
 use super::scene::Step::{Add, Count, Find, Numbers, Rows, Select, Show};
-use super::scene::{TOP, expect, report};
-use gix_attributes::glob::pattern::Case::{Fold, Sensitive};
+use super::scene::{Step, TOP, expect, report};
+use gix_attributes::glob::pattern::Case::{self, Fold, Sensitive};
 use std::alloc::{AllocError, Global};
 
 fn push(alloc: Global, out: &mut String, text: &str, number: usize) -> Result<(), AllocError> {
@@ -36,15 +36,16 @@ fn one_of_a_thousand_names_is_tested(rt: HostRuntime) -> Result<(), AllocError> 
 
 const KINDS: &str = "*.rs a\n*s b\n*.c c\nx.rs d\n/x.rs e\nd/x.rs g\n";
 
+const ONE_NAME: &[Step<'static>] = &[
+    Add(TOP, "f a\nf b\n"),
+    Select(&[]),
+    Find("f", Sensitive),
+    Count,
+];
+
 #[test]
 fn lines_of_other_names_are_not_tested(rt: HostRuntime) -> Result<(), AllocError> {
-    let steps = [
-        Add(TOP, "f a\nf b\n"),
-        Select(&[]),
-        Find("f", Sensitive),
-        Count,
-    ];
-    expect(&rt, rt.alloc(), &steps, "true\ndone 2 2\n")?;
+    expect(&rt, rt.alloc(), ONE_NAME, "true\ndone 2 2\n")?;
 
     // The line of the anchored name may be tested, since it has the path's last name.
     for (path, case) in [("d/x.rs", Sensitive), ("D/X.RS", Fold)] {
@@ -55,13 +56,15 @@ fn lines_of_other_names_are_not_tested(rt: HostRuntime) -> Result<(), AllocError
     Ok(())
 }
 
+const OF_KINDS: &[(&str, Case, &str)] = &[
+    ("d/x.rs", Sensitive, "true\nOutcome(a, b, d, g)\n"),
+    ("D/X.RS", Fold, "true\nOutcome(a, b, d, g)\n"),
+    ("D/X.RS", Sensitive, "false\nOutcome\n"),
+];
+
 #[test]
 fn lines_of_the_name_and_its_ends_are_found(rt: HostRuntime) -> Result<(), AllocError> {
-    for (path, case, answer) in [
-        ("d/x.rs", Sensitive, "true\nOutcome(a, b, d, g)\n"),
-        ("D/X.RS", Fold, "true\nOutcome(a, b, d, g)\n"),
-        ("D/X.RS", Sensitive, "false\nOutcome\n"),
-    ] {
+    for &(path, case, answer) in OF_KINDS {
         let steps = [Add(TOP, KINDS), Select(&[]), Find(path, case), Show];
         expect(&rt, rt.alloc(), &steps, answer)?;
     }

@@ -1,6 +1,6 @@
 //! Lists that are added and removed, and the names and bodies of the collection after that.
 use super::scene::Step::{Add, CloneLists, Held, Lists, Names, Removed, Turn, TurnCollections};
-use super::scene::{TOP, expect, new_collection, new_search};
+use super::scene::{Step, TOP, expect, new_collection, new_search};
 use gix_attributes::Search;
 use gix_attributes::glob::search::pattern::List;
 use gix_attributes::search::{AttributeId, Attributes, DropReason, Dropped, MetadataCollection};
@@ -91,40 +91,45 @@ fn names_are_numbered_when_they_are_first_seen(rt: HostRuntime) -> Result<(), Al
     expect(&rt, rt.alloc(), &steps, "m: x y\nx:\ny: q\nz:\nq:\n")
 }
 
+const NUMBERS: &[(usize, Option<&str>)] = &[(0, Some("m")), (3, Some("z")), (5, None)];
+
 #[test]
 fn a_number_has_its_name(rt: HostRuntime) -> Result<(), AllocError> {
     let lists = with_list(rt.alloc(), b"[attr]m x y\n* z x\n[attr]y q\n")?;
-    for (number, name) in [(0, Some("m")), (3, Some("z")), (5, None)] {
+    for &(number, name) in NUMBERS {
         assert!(rt; lists.collection.name_of(AttributeId(number)) == name);
     }
     Ok(())
 }
 
+const BUILT_IN: &[Step<'static>] = &[
+    Add(TOP, "[attr]binary -diff -merge -text"),
+    Add(TOP, "\n*.png binary\n"),
+    Names,
+    Lists,
+];
+
 #[test]
 fn built_in_macro_comes_first(rt: HostRuntime) -> Result<(), AllocError> {
-    let steps = [
-        Add(TOP, "[attr]binary -diff -merge -text"),
-        Add(TOP, "\n*.png binary\n"),
-        Names,
-        Lists,
-    ];
     expect(
         &rt,
         rt.alloc(),
-        &steps,
+        BUILT_IN,
         "binary: -diff -merge -text\ndiff:\nmerge:\ntext:\n2\n",
     )
 }
 
+const DROPPED: &[(&[u8], DropReason)] = &[
+    (b"!a b", DropReason::NegativePattern),
+    (b"* a =x", DropReason::InvalidName),
+    (b"* builtin_x", DropReason::Reserved),
+    (b"[attr]-x a", DropReason::MacroName),
+];
+
 #[test]
 fn dropped_lines_are_returned(rt: HostRuntime) -> Result<(), AllocError> {
     let mut lists = Registered::new(rt.alloc())?;
-    for (buffer, reason) in [
-        (b"!a b".as_slice(), DropReason::NegativePattern),
-        (b"* a =x".as_slice(), DropReason::InvalidName),
-        (b"* builtin_x".as_slice(), DropReason::Reserved),
-        (b"[attr]-x a".as_slice(), DropReason::MacroName),
-    ] {
+    for &(buffer, reason) in DROPPED {
         let dropped = dropped(rt.alloc(), &mut lists, buffer, true)?;
         assert_eq!(rt;
             dropped.as_slice(),
@@ -145,26 +150,28 @@ fn macros_that_are_not_allowed_are_skipped(rt: HostRuntime) -> Result<(), AllocE
     Ok(())
 }
 
+const RESTORED: &[(&str, &str, &str)] = &[
+    (
+        "[attr]m x\n* m\n",
+        "[attr]m y\n",
+        "m: y\nx:\ny:\nremoved\ntrue\nm: x\nx:\ny:\n",
+    ),
+    ("* m\n", "[attr]m x\n", "m: x\nx:\nremoved\ntrue\nm:\nx:\n"),
+    (
+        "[attr]m x\n* m\n",
+        "[attr]m y\n[attr]m z\n",
+        "m: z\nx:\ny:\nz:\nremoved\ntrue\nm: x\nx:\ny:\nz:\n",
+    ),
+    (
+        "[attr]m x\n* m\n",
+        "[attr]m\n",
+        "m:\nx:\nremoved\ntrue\nm: x\nx:\n",
+    ),
+];
+
 #[test]
 fn popping_restores_the_bodies_before(rt: HostRuntime) -> Result<(), AllocError> {
-    for (first, second, answer) in [
-        (
-            "[attr]m x\n* m\n",
-            "[attr]m y\n",
-            "m: y\nx:\ny:\nremoved\ntrue\nm: x\nx:\ny:\n",
-        ),
-        ("* m\n", "[attr]m x\n", "m: x\nx:\nremoved\ntrue\nm:\nx:\n"),
-        (
-            "[attr]m x\n* m\n",
-            "[attr]m y\n[attr]m z\n",
-            "m: z\nx:\ny:\nz:\nremoved\ntrue\nm: x\nx:\ny:\nz:\n",
-        ),
-        (
-            "[attr]m x\n* m\n",
-            "[attr]m\n",
-            "m:\nx:\nremoved\ntrue\nm: x\nx:\n",
-        ),
-    ] {
+    for &(first, second, answer) in RESTORED {
         let steps = [
             Add(TOP, first),
             Add(TOP, second),
@@ -178,147 +185,154 @@ fn popping_restores_the_bodies_before(rt: HostRuntime) -> Result<(), AllocError>
     Ok(())
 }
 
+const OTHER_MACROS: &[Step<'static>] = &[
+    Add(TOP, "[attr]m x\n"),
+    Held,
+    Turn,
+    TurnCollections,
+    Add(TOP, "[attr]n x\n"),
+    Held,
+    Turn,
+    Held,
+    Turn,
+    TurnCollections,
+    Held,
+];
+
 #[test]
 fn a_search_of_other_macros_is_not_held(rt: HostRuntime) -> Result<(), AllocError> {
-    let steps = [
-        Add(TOP, "[attr]m x\n"),
-        Held,
-        Turn,
-        TurnCollections,
-        Add(TOP, "[attr]n x\n"),
-        Held,
-        Turn,
-        Held,
-        Turn,
-        TurnCollections,
-        Held,
-    ];
-    expect(&rt, rt.alloc(), &steps, "true\ntrue\nfalse\nfalse\n")
+    expect(&rt, rt.alloc(), OTHER_MACROS, "true\ntrue\nfalse\nfalse\n")
 }
+
+const TWO_DEFINITIONS: &[Step<'static>] = &[
+    Add(TOP, "[attr]m x\n"),
+    Turn,
+    Add(TOP, "[attr]m y\n"),
+    Held,
+    Turn,
+    Held,
+    Removed,
+    Names,
+    Turn,
+    Removed,
+    Names,
+    Removed,
+];
 
 #[test]
 fn popping_takes_no_other_search_s_definitions(rt: HostRuntime) -> Result<(), AllocError> {
-    let steps = [
-        Add(TOP, "[attr]m x\n"),
-        Turn,
-        Add(TOP, "[attr]m y\n"),
-        Held,
-        Turn,
-        Held,
-        Removed,
-        Names,
-        Turn,
-        Removed,
-        Names,
-        Removed,
-    ];
     expect(
         &rt,
         rt.alloc(),
-        &steps,
+        TWO_DEFINITIONS,
         "true\ntrue\nremoved\nm: y\nx:\ny:\nremoved\nm:\nx:\ny:\nno list\n",
     )
 }
 
+const HELD_BY_NAMES: &[Step<'static>] = &[
+    Add(TOP, "[attr]m\n"),
+    Turn,
+    TurnCollections,
+    Add(TOP, "* z\n[attr]m\n"),
+    TurnCollections,
+    Held,
+    Turn,
+    TurnCollections,
+    Held,
+    Removed,
+    Held,
+    Turn,
+    Held,
+    Turn,
+    Add(TOP, "[attr]m x\n"),
+    Held,
+    Names,
+];
+
 // The macro has the number 0 in its search, and 1 in the other collection.
 #[test]
 fn a_search_is_held_by_names(rt: HostRuntime) -> Result<(), AllocError> {
-    let steps = [
-        Add(TOP, "[attr]m\n"),
-        Turn,
-        TurnCollections,
-        Add(TOP, "* z\n[attr]m\n"),
-        TurnCollections,
-        Held,
-        Turn,
-        TurnCollections,
-        Held,
-        Removed,
-        Held,
-        Turn,
-        Held,
-        Turn,
-        Add(TOP, "[attr]m x\n"),
-        Held,
-        Names,
-    ];
     expect(
         &rt,
         rt.alloc(),
-        &steps,
+        HELD_BY_NAMES,
         "true\ntrue\nremoved\ntrue\nfalse\ntrue\nz:\nm: x\nx:\n",
     )
 }
 
+const OTHER_NUMBERS: &[Step<'static>] = &[
+    Add(TOP, "[attr]m x\n"),
+    Turn,
+    TurnCollections,
+    Add(TOP, "* z\n[attr]m x\n"),
+    Turn,
+    Held,
+    Turn,
+    TurnCollections,
+    Held,
+];
+
 #[test]
 fn a_body_of_other_numbers_is_not_held(rt: HostRuntime) -> Result<(), AllocError> {
-    let steps = [
-        Add(TOP, "[attr]m x\n"),
-        Turn,
-        TurnCollections,
-        Add(TOP, "* z\n[attr]m x\n"),
-        Turn,
-        Held,
-        Turn,
-        TurnCollections,
-        Held,
-    ];
-    expect(&rt, rt.alloc(), &steps, "false\nfalse\n")
+    expect(&rt, rt.alloc(), OTHER_NUMBERS, "false\nfalse\n")
 }
+
+const FIRST_GOES: &[Step<'static>] = &[
+    Add(TOP, "[attr]m x\n"),
+    Turn,
+    Add(TOP, "[attr]m y\n"),
+    Turn,
+    Removed,
+    Turn,
+    Held,
+    Names,
+    Removed,
+    Names,
+];
 
 #[test]
 fn the_list_of_the_first_search_goes_first(rt: HostRuntime) -> Result<(), AllocError> {
-    let steps = [
-        Add(TOP, "[attr]m x\n"),
-        Turn,
-        Add(TOP, "[attr]m y\n"),
-        Turn,
-        Removed,
-        Turn,
-        Held,
-        Names,
-        Removed,
-        Names,
-    ];
     expect(
         &rt,
         rt.alloc(),
-        &steps,
+        FIRST_GOES,
         "removed\ntrue\nm: y\nx:\ny:\nremoved\nm:\nx:\ny:\n",
     )
 }
 
+const SECOND_GOES: &[Step<'static>] = &[
+    Add(TOP, "[attr]m x\n"),
+    Turn,
+    Add(TOP, "[attr]m y\n"),
+    Removed,
+    Turn,
+    Held,
+    Names,
+    Removed,
+    Names,
+];
+
 #[test]
 fn the_list_of_the_second_search_goes_first(rt: HostRuntime) -> Result<(), AllocError> {
-    let steps = [
-        Add(TOP, "[attr]m x\n"),
-        Turn,
-        Add(TOP, "[attr]m y\n"),
-        Removed,
-        Turn,
-        Held,
-        Names,
-        Removed,
-        Names,
-    ];
     expect(
         &rt,
         rt.alloc(),
-        &steps,
+        SECOND_GOES,
         "removed\ntrue\nm: x\nx:\ny:\nremoved\nm:\nx:\ny:\n",
     )
 }
 
+const COPIES: &[Step<'static>] = &[
+    Add(TOP, "[attr]m x=1\n*.c m\n"),
+    Add("a/.gitattributes", "/b -x\n"),
+    CloneLists,
+    Held,
+    Names,
+];
+
 #[test]
 fn copies_are_equal(rt: HostRuntime) -> Result<(), AllocError> {
-    let steps = [
-        Add(TOP, "[attr]m x=1\n*.c m\n"),
-        Add("a/.gitattributes", "/b -x\n"),
-        CloneLists,
-        Held,
-        Names,
-    ];
-    expect(&rt, rt.alloc(), &steps, "true\nm: x=1\nx:\n")
+    expect(&rt, rt.alloc(), COPIES, "true\nm: x=1\nx:\n")
 }
 
 // The names of a new collection with the list alone.

@@ -7,7 +7,7 @@ use super::scene::Step::{
     Add, AddWithoutMacros, Begin, Clone, CloneLists, Copy, Count, Find, Fit, Held, Names, Numbers,
     Places, Pop, Reset, Rows, Select, Show, Turn, TurnOutcomes,
 };
-use super::scene::{TOP, count_of_names, expect_again, new_collection, report_again};
+use super::scene::{Step, TOP, count_of_names, expect_again, new_collection, report_again};
 use gix_attributes::files::{Files, Memory, ReadError};
 use gix_attributes::glob::pattern::Case::{Fold, Sensitive};
 use gix_attributes::glob::search::pattern::List;
@@ -39,80 +39,84 @@ fn without_memory_macros_are_searched_again(rt: HostRuntime) -> Result<(), Alloc
     Ok(())
 }
 
+const SELECTED_NAMES: &[Step<'static>] = &[
+    Add(TOP, "* a=1"),
+    Add("sub/.gitattributes", "[attr]m x y\n/F.c -m a=2\n"),
+    AddWithoutMacros("[attr]n z\n*.o n"),
+    Select(&["y", "a", "none"]),
+    Find("SUB/f.C", Fold),
+    Show,
+    Places,
+    Numbers,
+    Fit,
+];
+
 #[test]
 fn without_memory_selected_names_are_reported_again(rt: HostRuntime) -> Result<(), AllocError> {
-    let steps = [
-        Add(TOP, "* a=1"),
-        Add("sub/.gitattributes", "[attr]m x y\n/F.c -m a=2\n"),
-        AddWithoutMacros("[attr]n z\n*.o n"),
-        Select(&["y", "a", "none"]),
-        Find("SUB/f.C", Fold),
-        Show,
-        Places,
-        Numbers,
-        Fit,
-    ];
     let answer =
         "true\nOutcome(!y, a=2, !none)\n-:0:\nsub/.gitattributes:2:/F.c\n-:0:\n0\n1\ntrue true\n";
-    expect_again(&rt, rt.alloc(), &steps, answer)
+    expect_again(&rt, rt.alloc(), SELECTED_NAMES, answer)
 }
+
+const TWO_SEARCHES: &[Step<'static>] = &[
+    Add(TOP, "* a=1 c"),
+    Turn,
+    Add(TOP, "* a=2"),
+    Select(&[]),
+    Find("f", Sensitive),
+    Turn,
+    Find("f", Sensitive),
+    Show,
+];
 
 // The second search fills what the first one left. If it was refused, its repetition begins with an empty outcome.
 #[test]
 fn without_memory_another_search_goes_on(rt: HostRuntime) -> Result<(), AllocError> {
-    let steps = [
-        Add(TOP, "* a=1 c"),
-        Turn,
-        Add(TOP, "* a=2"),
-        Select(&[]),
-        Find("f", Sensitive),
-        Turn,
-        Find("f", Sensitive),
-        Show,
-    ];
-    let report = report_again(&rt, rt.alloc(), &steps)?;
+    let report = report_again(&rt, rt.alloc(), TWO_SEARCHES)?;
     let is_kept = report.as_str() == "true\ntrue\nOutcome(a=2, c)\n";
     assert!(rt; is_kept || report.as_str() == "true\ntrue\nOutcome(a=1, c)\n");
     Ok(())
 }
 
+const POP_OF_A_BODY: &[Step<'static>] = &[
+    Add(TOP, "[attr]m x\n* m"),
+    Add(TOP, "[attr]m y"),
+    Select(&[]),
+    Find("f", Sensitive),
+    Show,
+    Pop,
+    Begin,
+    Find("f", Sensitive),
+    Show,
+];
+
 #[test]
 fn without_memory_pops_bring_bodies_back(rt: HostRuntime) -> Result<(), AllocError> {
-    let steps = [
-        Add(TOP, "[attr]m x\n* m"),
-        Add(TOP, "[attr]m y"),
-        Select(&[]),
-        Find("f", Sensitive),
-        Show,
-        Pop,
-        Begin,
-        Find("f", Sensitive),
-        Show,
-    ];
     let answer = "true\nOutcome(m, y)\ntrue\nOutcome(m, x)\n";
-    expect_again(&rt, rt.alloc(), &steps, answer)
+    expect_again(&rt, rt.alloc(), POP_OF_A_BODY, answer)
 }
+
+const COPIED_OUTCOMES: &[Step<'static>] = &[
+    Add(TOP, "* a b\ng c\nh -b\n"),
+    Select(&["b"]),
+    Find("h", Sensitive),
+    Show,
+    TurnOutcomes,
+    Select(&[]),
+    Find("f", Sensitive),
+    Copy,
+    Show,
+    Count,
+    Clone,
+    Show,
+    Reset,
+    Show,
+];
 
 #[test]
 fn without_memory_outcomes_are_copied_again(rt: HostRuntime) -> Result<(), AllocError> {
-    let steps = [
-        Add(TOP, "* a b\ng c\nh -b\n"),
-        Select(&["b"]),
-        Find("h", Sensitive),
-        Show,
-        TurnOutcomes,
-        Select(&[]),
-        Find("f", Sensitive),
-        Copy,
-        Show,
-        Count,
-        Clone,
-        Show,
-        Reset,
-        Show,
-    ];
     let answer = "true\nOutcome(-b)\ntrue\nOutcome(b)\ndone 0 0\nOutcome(b)\nOutcome(!b)\n";
-    expect_again(&rt, rt.alloc(), &steps, answer)
+    expect_again(&rt, rt.alloc(), COPIED_OUTCOMES, answer)
 }
 
 // The copy of a search is equal to it, and the copy of its collection holds it.

@@ -3,29 +3,31 @@ use super::scene::Step::{
     Add, Begin, Clone, CopyFor, Count, Find, Fit, Numbers, Places, Renew, Reset, Rows, Select,
     Show, Turn,
 };
-use super::scene::{TOP, expect};
+use super::scene::{Step, TOP, expect};
 use gix_attributes::glob::pattern::Case::Sensitive;
 use std::alloc::AllocError;
 
+const DONE: &[(&str, &[&str], &str)] = &[
+    (
+        "* a=1\n* c b\n",
+        &["b"],
+        "true\ndone 1 1\nfalse\ndone 1 1\nOutcome(b)\n",
+    ),
+    (
+        "* text",
+        &["text", "text"],
+        "true\ndone 1 1\nfalse\ndone 1 1\nOutcome(text, text)\n",
+    ),
+    (
+        "",
+        &["nope", "in valid"],
+        "false\ndone 0 0\nfalse\ndone 0 0\nOutcome(!nope, !invalid)\n",
+    ),
+];
+
 #[test]
 fn a_done_outcome_stays_as_it_is(rt: HostRuntime) -> Result<(), AllocError> {
-    for (text, names, answer) in [
-        (
-            "* a=1\n* c b\n",
-            ["b"].as_slice(),
-            "true\ndone 1 1\nfalse\ndone 1 1\nOutcome(b)\n",
-        ),
-        (
-            "* text",
-            ["text", "text"].as_slice(),
-            "true\ndone 1 1\nfalse\ndone 1 1\nOutcome(text, text)\n",
-        ),
-        (
-            "",
-            ["nope", "in valid"].as_slice(),
-            "false\ndone 0 0\nfalse\ndone 0 0\nOutcome(!nope, !invalid)\n",
-        ),
-    ] {
+    for &(text, names, answer) in DONE {
         let steps = [
             Add(TOP, text),
             Select(names),
@@ -40,96 +42,108 @@ fn a_done_outcome_stays_as_it_is(rt: HostRuntime) -> Result<(), AllocError> {
     Ok(())
 }
 
+const FILLED: &[(&str, &[&str], &str)] = &[
+    ("* a=1\n* c b\n", &["b"], "true\n2\n"),
+    ("[attr]m x y\n* m\n", &["y"], "true\n0\n2\n"),
+];
+
 #[test]
 fn only_filled_numbers_are_answered(rt: HostRuntime) -> Result<(), AllocError> {
-    for (text, names, answer) in [
-        ("* a=1\n* c b\n", ["b"].as_slice(), "true\n2\n"),
-        ("[attr]m x y\n* m\n", ["y"].as_slice(), "true\n0\n2\n"),
-    ] {
+    for &(text, names, answer) in FILLED {
         let steps = [Add(TOP, text), Select(names), Find("f", Sensitive), Numbers];
         expect(&rt, rt.alloc(), &steps, answer)?;
     }
     Ok(())
 }
 
+const UNSPECIFIED: &[Step<'static>] = &[
+    Add(TOP, "/f a\n"),
+    Select(&["a", "z"]),
+    Find("f", Sensitive),
+    Places,
+];
+
 #[test]
 fn an_unspecified_name_has_no_place(rt: HostRuntime) -> Result<(), AllocError> {
-    let steps = [
-        Add(TOP, "/f a\n"),
-        Select(&["a", "z"]),
-        Find("f", Sensitive),
-        Places,
-    ];
-    expect(&rt, rt.alloc(), &steps, "true\n.gitattributes:1:/f\n-:0:\n")
-}
-
-#[test]
-fn names_that_are_unknown_are_done_at_once(rt: HostRuntime) -> Result<(), AllocError> {
-    let steps = [Add(TOP, ""), Select(&["nope", "in valid"]), Count, Places];
-    expect(&rt, rt.alloc(), &steps, "done 0 0\n-:0:\n-:0:\n")
-}
-
-#[test]
-fn a_name_is_looked_up_again(rt: HostRuntime) -> Result<(), AllocError> {
-    let steps = [
-        Add(TOP, "* a"),
-        Select(&["z"]),
-        Count,
-        Add(TOP, "* z"),
-        Begin,
-        Count,
-        Find("f", Sensitive),
-        Show,
-    ];
     expect(
         &rt,
         rt.alloc(),
-        &steps,
+        UNSPECIFIED,
+        "true\n.gitattributes:1:/f\n-:0:\n",
+    )
+}
+
+const UNKNOWN: &[Step<'static>] = &[Add(TOP, ""), Select(&["nope", "in valid"]), Count, Places];
+
+#[test]
+fn names_that_are_unknown_are_done_at_once(rt: HostRuntime) -> Result<(), AllocError> {
+    expect(&rt, rt.alloc(), UNKNOWN, "done 0 0\n-:0:\n-:0:\n")
+}
+
+const NAME_ADDED: &[Step<'static>] = &[
+    Add(TOP, "* a"),
+    Select(&["z"]),
+    Count,
+    Add(TOP, "* z"),
+    Begin,
+    Count,
+    Find("f", Sensitive),
+    Show,
+];
+
+#[test]
+fn a_name_is_looked_up_again(rt: HostRuntime) -> Result<(), AllocError> {
+    expect(
+        &rt,
+        rt.alloc(),
+        NAME_ADDED,
         "done 0 0\nopen 0 0\ntrue\nOutcome(z)\n",
     )
 }
 
+const SEARCHES: &[Step<'static>] = &[
+    Add(TOP, "* a=1 c"),
+    Turn,
+    Add(TOP, "* a=2"),
+    Select(&[]),
+    Find("f", Sensitive),
+    Turn,
+    Find("f", Sensitive),
+    Find("f", Sensitive),
+    Turn,
+    Find("f", Sensitive),
+    Show,
+];
+
 // The later search first, then the other, and each of them once more.
 #[test]
 fn searches_follow_one_another(rt: HostRuntime) -> Result<(), AllocError> {
-    let steps = [
-        Add(TOP, "* a=1 c"),
-        Turn,
-        Add(TOP, "* a=2"),
-        Select(&[]),
-        Find("f", Sensitive),
-        Turn,
-        Find("f", Sensitive),
-        Find("f", Sensitive),
-        Turn,
-        Find("f", Sensitive),
-        Show,
-    ];
     expect(
         &rt,
         rt.alloc(),
-        &steps,
+        SEARCHES,
         "true\ntrue\nfalse\nfalse\nOutcome(a=2, c)\n",
     )
 }
 
+const OLDER: &[Step<'static>] = &[
+    Add(TOP, "* a"),
+    Select(&[]),
+    Fit,
+    Add(TOP, "* b"),
+    Fit,
+    Begin,
+    Fit,
+    Find("f", Sensitive),
+    Show,
+];
+
 #[test]
 fn an_older_outcome_covers_no_new_numbers(rt: HostRuntime) -> Result<(), AllocError> {
-    let steps = [
-        Add(TOP, "* a"),
-        Select(&[]),
-        Fit,
-        Add(TOP, "* b"),
-        Fit,
-        Begin,
-        Fit,
-        Find("f", Sensitive),
-        Show,
-    ];
     expect(
         &rt,
         rt.alloc(),
-        &steps,
+        OLDER,
         "true true\nfalse false\ntrue true\ntrue\nOutcome(a, b)\n",
     )
 }
@@ -153,43 +167,45 @@ fn answers_are_copied_under_another_selection(rt: HostRuntime) -> Result<(), All
     Ok(())
 }
 
+const CLONED: &[Step<'static>] = &[
+    Add(TOP, "* a b\n"),
+    Select(&[]),
+    Find("f", Sensitive),
+    Clone,
+    Count,
+    Show,
+    Reset,
+    Count,
+    Show,
+];
+
 #[test]
 fn a_clone_keeps_what_is_reset(rt: HostRuntime) -> Result<(), AllocError> {
-    let steps = [
-        Add(TOP, "* a b\n"),
-        Select(&[]),
-        Find("f", Sensitive),
-        Clone,
-        Count,
-        Show,
-        Reset,
-        Count,
-        Show,
-    ];
     expect(
         &rt,
         rt.alloc(),
-        &steps,
+        CLONED,
         "true\ndone 2 1\nOutcome(a, b)\nopen 0 0\nOutcome\n",
     )
 }
 
+const EMPTIED: &[Step<'static>] = &[
+    Add(TOP, "* a\n*.c b\n/d c e\n"),
+    Select(&[]),
+    Find("x.c", Sensitive),
+    Numbers,
+    Reset,
+    Numbers,
+    Find("d", Sensitive),
+    Show,
+];
+
 #[test]
 fn a_reset_empties_what_was_filled(rt: HostRuntime) -> Result<(), AllocError> {
-    let steps = [
-        Add(TOP, "* a\n*.c b\n/d c e\n"),
-        Select(&[]),
-        Find("x.c", Sensitive),
-        Numbers,
-        Reset,
-        Numbers,
-        Find("d", Sensitive),
-        Show,
-    ];
     expect(
         &rt,
         rt.alloc(),
-        &steps,
+        EMPTIED,
         "true\n0\n1\ntrue\nOutcome(a, c, e)\n",
     )
 }
@@ -214,27 +230,28 @@ fn another_selection_is_looked_for(rt: HostRuntime) -> Result<(), AllocError> {
     Ok(())
 }
 
+const FEWER_NAMES: &[Step<'static>] = &[
+    Add(TOP, "[attr]m x y\n* m a b\n"),
+    Select(&["m", "y"]),
+    Find("f", Sensitive),
+    Show,
+    Renew,
+    Add(TOP, "* z\n"),
+    Fit,
+    Select(&[]),
+    Fit,
+    Find("f", Sensitive),
+    Numbers,
+    Rows,
+];
+
 // The number of the macro is then that of a name that is none.
 #[test]
 fn another_collection_has_fewer_names(rt: HostRuntime) -> Result<(), AllocError> {
-    let steps = [
-        Add(TOP, "[attr]m x y\n* m a b\n"),
-        Select(&["m", "y"]),
-        Find("f", Sensitive),
-        Show,
-        Renew,
-        Add(TOP, "* z\n"),
-        Fit,
-        Select(&[]),
-        Fit,
-        Find("f", Sensitive),
-        Numbers,
-        Rows,
-    ];
     expect(
         &rt,
         rt.alloc(),
-        &steps,
+        FEWER_NAMES,
         "true\nOutcome(m, y)\ntrue false\ntrue true\ntrue\n0\nz attribute - 1\n",
     )
 }
