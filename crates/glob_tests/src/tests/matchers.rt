@@ -24,27 +24,28 @@ fn takes(
     matcher.matches_repo_relative_path(BStr::new(path), place, is_dir, case, &mut rows)
 }
 
+const PATHS: &[(&str, &str, bool)] = &[
+    ("a/**/b", "a/b", true),
+    ("a/**/b", "a/c/d/b", true),
+    ("a/**/b", "ab", false),
+    ("a/**", "a/b", true),
+    ("a/**", "a", false),
+    ("/*", "a", true),
+    ("/*", "a/b", false),
+    ("/a", "a", true),
+    ("/a", "d/a", false),
+    ("a", "d/a", true),
+    ("*.rs", "src/lib.rs", true),
+    ("*.[ch]", "src/main.c", true),
+    ("*.[ch]", "src/main.rs", false),
+    ("src/**/x?[a-c]*.gen", "src/d/e/xyc1.gen", true),
+    ("src/**/x?[a-c]*.gen", "src/d/e/xyd1.gen", false),
+    ("x?[", "xy", false),
+];
+
 #[test]
 fn matches_paths(rt: HostRuntime) -> Result<(), Fail> {
-    let rows = [
-        ("a/**/b", "a/b", true),
-        ("a/**/b", "a/c/d/b", true),
-        ("a/**/b", "ab", false),
-        ("a/**", "a/b", true),
-        ("a/**", "a", false),
-        ("/*", "a", true),
-        ("/*", "a/b", false),
-        ("/a", "a", true),
-        ("/a", "d/a", false),
-        ("a", "d/a", true),
-        ("*.rs", "src/lib.rs", true),
-        ("*.[ch]", "src/main.c", true),
-        ("*.[ch]", "src/main.rs", false),
-        ("src/**/x?[a-c]*.gen", "src/d/e/xyc1.gen", true),
-        ("src/**/x?[a-c]*.gen", "src/d/e/xyd1.gen", false),
-        ("x?[", "xy", false),
-    ];
-    for (text, path, matched) in rows {
+    for &(text, path, matched) in PATHS {
         let answer = takes(
             rt.alloc(),
             text.as_bytes(),

@@ -85,15 +85,17 @@ fn matches(alloc: Global, text: &[u8], path: &[u8], case: Case) -> Result<bool, 
     pattern.matches_repo_relative_path(alloc, BStr::new(path), place, None, case)
 }
 
+const MATCHED: &[(&[u8], Case, bool)] = &[
+    (b"a/c/b", Case::Sensitive, true),
+    (b"a/c/d", Case::Sensitive, false),
+    (b"A/C/B", Case::Sensitive, false),
+    (b"A/C/B", Case::Fold, true),
+];
+
 #[test]
 fn without_memory_paths_are_matched_again(rt: HostRuntime) -> Result<(), AllocError> {
     let (alloc, text) = (rt.alloc(), b"a/**/[b]");
-    for (path, case, matched) in [
-        (b"a/c/b".as_slice(), Case::Sensitive, true),
-        (b"a/c/d".as_slice(), Case::Sensitive, false),
-        (b"A/C/B".as_slice(), Case::Sensitive, false),
-        (b"A/C/B".as_slice(), Case::Fold, true),
-    ] {
+    for &(path, case, matched) in MATCHED {
         let first = matches(alloc, text, path, case);
         let answer = first.or_else(|_| matches(alloc, text, path, case))?;
         assert_eq!(rt; answer, matched);
@@ -110,17 +112,19 @@ fn without_memory_pairs_are_counted_again(rt: HostRuntime) -> Result<(), AllocEr
     Ok(())
 }
 
+const DECIDED_BY_BYTES: &[(&str, &str, bool)] = &[
+    ("src/lib.rs", "src/lib.rs", true),
+    ("src/lib.rs", "src/lib.rc", false),
+    ("*.rs", "src/lib.rs", true),
+    ("*.rs", "src/lib.rc", false),
+    ("src/*.rs", "doc/lib.rs", false),
+];
+
 // A match takes no memory without a wildcard, where the end of the base name decides, and where the bytes before
 // the wildcard differ. Only a pattern that found none itself is not asked.
 #[test]
 fn without_memory_bytes_alone_decide(rt: HostRuntime) {
-    for (text, path, matched) in [
-        ("src/lib.rs", "src/lib.rs", true),
-        ("src/lib.rs", "src/lib.rc", false),
-        ("*.rs", "src/lib.rs", true),
-        ("*.rs", "src/lib.rc", false),
-        ("src/*.rs", "doc/lib.rs", false),
-    ] {
+    for &(text, path, matched) in DECIDED_BY_BYTES {
         let (text, path) = (text.as_bytes(), path.as_bytes());
         let Ok(Some(pattern)) = Pattern::from_bytes(rt.alloc(), text) else {
             continue;

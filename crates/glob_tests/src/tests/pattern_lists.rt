@@ -96,14 +96,6 @@ struct Based {
     base: Option<&'static str>,
 }
 
-fn below(source: &'static str, root: &'static str, base: Option<&'static str>) -> Based {
-    Based {
-        source,
-        root: Some(root),
-        base,
-    }
-}
-
 // A test owns few values at a time, since each call that may fail has to drop them all in a proof. A list and an index
 // are in boxes: a proof drops a box by one call, and what is in none field by field.
 
@@ -134,27 +126,72 @@ fn expect_bases(rt: &impl Abort, alloc: Global, rows: &[Based]) -> Result<(), Al
     Ok(())
 }
 
+const BASES: &[Based] = &[
+    Based {
+        source: "a/b/.gitattributes",
+        root: Some("a"),
+        base: Some("b/"),
+    },
+    Based {
+        source: "a/b/.gitattributes",
+        root: Some("a/"),
+        base: Some("b/"),
+    },
+    Based {
+        source: "a/b/.gitattributes",
+        root: Some("a/b"),
+        base: None,
+    },
+    Based {
+        source: "a/b/.gitattributes",
+        root: Some("ab"),
+        base: None,
+    },
+    Based {
+        source: "a/b/.gitattributes",
+        root: Some("/"),
+        base: None,
+    },
+    Based {
+        source: "/x/.gitattributes",
+        root: Some("/"),
+        base: Some("x/"),
+    },
+    Based {
+        source: ".gitattributes",
+        root: Some(""),
+        base: None,
+    },
+    Based {
+        source: "sub/.gitattributes",
+        root: Some(""),
+        base: Some("sub/"),
+    },
+    Based {
+        source: "a//b/.gitattributes",
+        root: Some("a//"),
+        base: Some("b/"),
+    },
+    Based {
+        source: "a/b/.gitattributes",
+        root: Some("a//"),
+        base: None,
+    },
+    Based {
+        source: "a.b/c/.gitattributes",
+        root: Some("a"),
+        base: None,
+    },
+    Based {
+        source: "a/b/.gitattributes",
+        root: None,
+        base: None,
+    },
+];
+
 #[test]
 fn bases_of_sources(rt: HostRuntime) -> Result<(), AllocError> {
-    let rows = [
-        below("a/b/.gitattributes", "a", Some("b/")),
-        below("a/b/.gitattributes", "a/", Some("b/")),
-        below("a/b/.gitattributes", "a/b", None),
-        below("a/b/.gitattributes", "ab", None),
-        below("a/b/.gitattributes", "/", None),
-        below("/x/.gitattributes", "/", Some("x/")),
-        below(".gitattributes", "", None),
-        below("sub/.gitattributes", "", Some("sub/")),
-        below("a//b/.gitattributes", "a//", Some("b/")),
-        below("a/b/.gitattributes", "a//", None),
-        below("a.b/c/.gitattributes", "a", None),
-        Based {
-            source: "a/b/.gitattributes",
-            root: None,
-            base: None,
-        },
-    ];
-    expect_bases(&rt, rt.alloc(), &rows)
+    expect_bases(&rt, rt.alloc(), BASES)
 }
 
 fn stripped<'a>(
@@ -171,21 +208,19 @@ fn stripped<'a>(
     Some((rest.as_bytes(), place))
 }
 
+const STRIPPED: &[(&[u8], Case, Option<(&[u8], Option<usize>)>)] = &[
+    (b"sub/x", Case::Sensitive, Some((b"x", None))),
+    (b"sub/d/x", Case::Sensitive, Some((b"d/x", Some(2)))),
+    (b"SUB/X", Case::Fold, Some((b"X", None))),
+    (b"SUB/X", Case::Sensitive, None),
+    (b"x", Case::Sensitive, None),
+    (b"subway", Case::Sensitive, None),
+];
+
 #[test]
 fn strips_bases(rt: HostRuntime) -> Result<(), AllocError> {
     let (list, _) = read(rt.alloc(), b"/x", "sub/.gitattributes", Some(""))?;
-    for (path, case, below) in [
-        (
-            b"sub/x".as_slice(),
-            Case::Sensitive,
-            Some((b"x".as_slice(), None)),
-        ),
-        (b"sub/d/x", Case::Sensitive, Some((b"d/x", Some(2)))),
-        (b"SUB/X", Case::Fold, Some((b"X", None))),
-        (b"SUB/X", Case::Sensitive, None),
-        (b"x", Case::Sensitive, None),
-        (b"subway", Case::Sensitive, None),
-    ] {
+    for &(path, case, below) in STRIPPED {
         assert!(rt; stripped(&list, path, case) == below);
     }
     Ok(())
@@ -248,18 +283,16 @@ pub(super) fn candidates(
     candidates_in(alloc, &list, path, case)
 }
 
+const CANDIDATES: &[(&[u8], Case, &[usize])] = &[
+    (b"d/x.rs", Case::Sensitive, &[5, 4, 3, 1, 0]),
+    (b"D/X.RS", Case::Fold, &[5, 4, 3, 1, 0]),
+    (b"D/X.RS", Case::Sensitive, &[5, 4]),
+];
+
 #[test]
 fn candidates_of_few_lines(rt: HostRuntime) -> Result<(), AllocError> {
     let text = b"*.rs\n*s\n*.c\nx.rs\n/x.rs\nd/x.rs";
-    for (path, case, places) in [
-        (
-            b"d/x.rs".as_slice(),
-            Case::Sensitive,
-            [5usize, 4, 3, 1, 0].as_slice(),
-        ),
-        (b"D/X.RS", Case::Fold, &[5, 4, 3, 1, 0]),
-        (b"D/X.RS", Case::Sensitive, &[5, 4]),
-    ] {
+    for &(path, case, places) in CANDIDATES {
         let found = candidates(rt.alloc(), text, path, case)?;
         assert_eq!(rt; found.as_slice(), places);
     }

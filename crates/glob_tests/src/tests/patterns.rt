@@ -203,29 +203,30 @@ fn matches(
     pattern.matches_repo_relative_path(alloc, BStr::new(path), place, is_dir, case)
 }
 
+const PATHS: &[(&str, &str, bool)] = &[
+    ("a/**/b", "a/b", true),
+    ("a/**/b", "a/c/d/b", true),
+    ("a/**/b", "ab", false),
+    ("a/**", "a/b", true),
+    ("a/**", "a", false),
+    ("/*", "a", true),
+    ("/*", "a/b", false),
+    ("/a", "a", true),
+    ("/a", "d/a", false),
+    ("d/a", "d/a", true),
+    ("d/a", "x/d/a", false),
+    ("a", "d/a", true),
+    ("a", "a/d", false),
+    ("*.rs", "src/lib.rs", true),
+    ("/*.rs", "src/lib.rs", false),
+    ("*b", "B", false),
+    ("*", "d/", true),
+    ("x?[", "xy", false),
+];
+
 #[test]
 fn matches_paths(rt: HostRuntime) -> Result<(), Fail> {
-    let rows = [
-        ("a/**/b", "a/b", true),
-        ("a/**/b", "a/c/d/b", true),
-        ("a/**/b", "ab", false),
-        ("a/**", "a/b", true),
-        ("a/**", "a", false),
-        ("/*", "a", true),
-        ("/*", "a/b", false),
-        ("/a", "a", true),
-        ("/a", "d/a", false),
-        ("d/a", "d/a", true),
-        ("d/a", "x/d/a", false),
-        ("a", "d/a", true),
-        ("a", "a/d", false),
-        ("*.rs", "src/lib.rs", true),
-        ("/*.rs", "src/lib.rs", false),
-        ("*b", "B", false),
-        ("*", "d/", true),
-        ("x?[", "xy", false),
-    ];
-    for (text, path, matched) in rows {
+    for &(text, path, matched) in PATHS {
         let answer = takes(
             rt.alloc(),
             text.as_bytes(),
@@ -250,22 +251,24 @@ fn folds_and_asks_for_directories(rt: HostRuntime) -> Result<(), Fail> {
     Ok(())
 }
 
+// Texts, the bits of their modes (2 is `ENDS_WITH`), and places of wildcards.
+const BUILT_BY_HAND: &[(&str, u32, Option<usize>)] = &[
+    ("", 2, Some(0)),
+    ("ab", 2, Some(9)),
+    ("*", u32::MAX, None),
+    ("[", 0, Some(1)),
+    ("a", u32::MAX, Some(usize::MAX)),
+];
+
 // Such patterns return, whatever they answer.
 #[test]
 fn patterns_built_by_hand_return(rt: HostRuntime) -> Result<(), Fail> {
     let alloc = rt.alloc();
-    let rows = [
-        ("", Mode::ENDS_WITH, Some(0)),
-        ("ab", Mode::ENDS_WITH, Some(9)),
-        ("*", Mode::from_bits_retain(u32::MAX), None),
-        ("[", Mode::empty(), Some(1)),
-        ("a", Mode::from_bits_retain(u32::MAX), Some(usize::MAX)),
-    ];
-    for (text, mode, first_wildcard_pos) in rows {
+    for &(text, bits, first_wildcard_pos) in BUILT_BY_HAND {
         let text = Vec::from_slice(alloc, text.as_bytes())?;
         let pattern = Pattern {
             text,
-            mode,
+            mode: Mode::from_bits_retain(bits),
             first_wildcard_pos,
         };
         let _answer = matches(alloc, &pattern, b"d/ab", Some(true), Case::Fold)?;

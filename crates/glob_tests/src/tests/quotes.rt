@@ -19,24 +19,25 @@ fn undone_text(alloc: Global, text: &str) -> Result<String, AllocError> {
     }
 }
 
+const QUOTES: &[(&str, &str)] = &[
+    (r#""a\tb\101"x"#, "owned [97, 9, 98, 65] 10"),
+    (
+        r#""\a\b\f\n\r\v\\\"""#,
+        "owned [7, 8, 12, 10, 13, 11, 92, 34] 18",
+    ),
+    (r#""a b"c""#, "lent [97, 32, 98] 5"),
+    (r#""\377""#, "owned [255] 6"),
+    (r#""\400""#, "bad escape at 1"),
+    (r#""\""#, "unclosed quote"),
+    (r#""a"#, "unclosed quote"),
+    (r#""a\"#, "bad escape at 2"),
+    (r#"a""#, "not quoted"),
+    ("", "not quoted"),
+];
+
 #[test]
 fn undoes_quotes(rt: HostRuntime) -> Result<(), Fail> {
-    let rows = [
-        (r#""a\tb\101"x"#, "owned [97, 9, 98, 65] 10"),
-        (
-            r#""\a\b\f\n\r\v\\\"""#,
-            "owned [7, 8, 12, 10, 13, 11, 92, 34] 18",
-        ),
-        (r#""a b"c""#, "lent [97, 32, 98] 5"),
-        (r#""\377""#, "owned [255] 6"),
-        (r#""\400""#, "bad escape at 1"),
-        (r#""\""#, "unclosed quote"),
-        (r#""a"#, "unclosed quote"),
-        (r#""a\"#, "bad escape at 2"),
-        (r#"a""#, "not quoted"),
-        ("", "not quoted"),
-    ];
-    for (text, want) in rows {
+    for &(text, want) in QUOTES {
         let answer = undone_text(rt.alloc(), text)?;
         assert_eq!(rt; answer.as_str(), want);
     }

@@ -187,15 +187,17 @@ fn each_short_text_takes_what_the_rules_say(rt: HostRuntime) -> Result<(), Fail>
     Ok(())
 }
 
+const WORDS: &[(&[u8], usize, &[u8])] = &[
+    (&TEXT_BYTES, 0, b""),
+    (&TEXT_BYTES, TEXTS - 1, b"]]]]"),
+    (&TEXT_BYTES, TEXTS, b"*****"),
+    (&VALUE_BYTES, VALUES - 1, b"////"),
+    (&VALUE_BYTES, VALUES, b"aaaaa"),
+];
+
 #[test]
 fn words_are_all_the_short_ones(rt: HostRuntime) -> Result<(), Fail> {
-    for (bytes, number, spelled) in [
-        (TEXT_BYTES.as_slice(), 0, b"".as_slice()),
-        (&TEXT_BYTES, TEXTS - 1, b"]]]]"),
-        (&TEXT_BYTES, TEXTS, b"*****"),
-        (&VALUE_BYTES, VALUES - 1, b"////"),
-        (&VALUE_BYTES, VALUES, b"aaaaa"),
-    ] {
+    for &(bytes, number, spelled) in WORDS {
         assert_eq!(rt; word(rt.alloc(), bytes, number)?.as_slice(), spelled);
     }
     Ok(())
