@@ -52,53 +52,66 @@ fn each_byte_alone_has_a_report(rt: HostRuntime) -> Result<(), Fail> {
     Ok(())
 }
 
+// A line that begins with `front`, goes on with a million times `part` and ends with `back`, and the text for it.
+#[derive(Clone, Copy)]
+struct LongLine {
+    front: &'static [u8],
+    part: &'static [u8],
+    back: &'static [u8],
+    text_front: &'static [u8],
+    text_part: &'static [u8],
+}
+
+const LONG_LINES: &[LongLine] = &[
+    // a name
+    LongLine {
+        front: b"* ",
+        part: b"a",
+        back: b"\n* end\n",
+        text_front: b"1: ",
+        text_part: b"a",
+    },
+    // a million items
+    LongLine {
+        front: b"* ",
+        part: b"a ",
+        back: b"\n* end\n",
+        text_front: b"1:",
+        text_part: b" a",
+    },
+    // a refused name of NULs
+    LongLine {
+        front: b"* ",
+        part: b"\0",
+        back: b"\n* end\n",
+        text_front: b"1: ?",
+        text_part: b"\0",
+    },
+    // a refused name past ASCII
+    LongLine {
+        front: b"* ",
+        part: b"\xFF",
+        back: b"\n* end\n",
+        text_front: b"1: ?",
+        text_part: b"\xFF",
+    },
+    // a value that is no UTF-8
+    LongLine {
+        front: b"* a=",
+        part: b"\xFF",
+        back: b"\n* end\n",
+        text_front: b"1: a=",
+        text_part: b"\xEF\xBF\xBD",
+    },
+];
+
 // A line that begins with `front` and goes on with a million times `part`, and the text for it;
 // then an ordinary line.
 #[test]
 fn long_lines_are_whole(rt: HostRuntime) -> Result<(), Fail> {
-    for (front, part, back, text_front, text_part) in [
-        // a name
-        (
-            b"* ".as_slice(),
-            b"a".as_slice(),
-            b"\n* end\n".as_slice(),
-            b"1: ".as_slice(),
-            b"a".as_slice(),
-        ),
-        // a million items
-        (
-            b"* ".as_slice(),
-            b"a ".as_slice(),
-            b"\n* end\n".as_slice(),
-            b"1:".as_slice(),
-            b" a".as_slice(),
-        ),
-        // a refused name of NULs
-        (
-            b"* ".as_slice(),
-            b"\0".as_slice(),
-            b"\n* end\n".as_slice(),
-            b"1: ?".as_slice(),
-            b"\0".as_slice(),
-        ),
-        // a refused name past ASCII
-        (
-            b"* ".as_slice(),
-            b"\xFF".as_slice(),
-            b"\n* end\n".as_slice(),
-            b"1: ?".as_slice(),
-            b"\xFF".as_slice(),
-        ),
-        // a value that is no UTF-8
-        (
-            b"* a=".as_slice(),
-            b"\xFF".as_slice(),
-            b"\n* end\n".as_slice(),
-            b"1: a=".as_slice(),
-            b"\xEF\xBF\xBD".as_slice(),
-        ),
-    ] {
-        let input = repeated(rt.alloc(), front, part, MILLION, back)?;
+    for line in LONG_LINES {
+        let input = repeated(rt.alloc(), line.front, line.part, MILLION, line.back)?;
+        let (text_front, text_part) = (line.text_front, line.text_part);
         let text = repeated(rt.alloc(), text_front, text_part, MILLION, b"\n2: end\n")?;
         let mut sink = Sink::new(rt.alloc());
         lines(rt.alloc(), &mut Source::new(&input), &mut sink)?;
@@ -107,84 +120,97 @@ fn long_lines_are_whole(rt: HostRuntime) -> Result<(), Fail> {
     Ok(())
 }
 
+// A line that begins with `front`, goes on with a million times `part` and ends with `back`, and the whole text.
+#[derive(Clone, Copy)]
+struct LongPattern {
+    front: &'static [u8],
+    part: &'static [u8],
+    back: &'static [u8],
+    text: &'static [u8],
+}
+
+const LONG_PATTERNS: &[LongPattern] = &[
+    // quoted
+    LongPattern {
+        front: b"\"",
+        part: b"a",
+        back: b"\" x\n* end\n",
+        text: b"1: x\n2: end\n",
+    },
+    // quoted, of escapes
+    LongPattern {
+        front: b"\"",
+        part: b"\\101",
+        back: b"\"x\n* end\n",
+        text: b"1: x\n2: end\n",
+    },
+    // never closed
+    LongPattern {
+        front: b"\"",
+        part: b"a",
+        back: b" x\n* end\n",
+        text: b"1: x\n2: end\n",
+    },
+    // damaged at its end
+    LongPattern {
+        front: b"\"",
+        part: b"a",
+        back: b"\\400\" x\n* end\n",
+        text: b"1: x\n2: end\n",
+    },
+    // unquoted, of NULs
+    LongPattern {
+        front: b"",
+        part: b"\0",
+        back: b" x\n* end\n",
+        text: b"1: x\n2: end\n",
+    },
+    // negative
+    LongPattern {
+        front: b"!",
+        part: b"a",
+        back: b" x\n* end\n",
+        text: b"1! negative\n2: end\n",
+    },
+    // a macro's refused name
+    LongPattern {
+        front: b"[attr]",
+        part: b"\xFF",
+        back: b" x\n* end\n",
+        text: b"1! macro-name\n2: end\n",
+    },
+    // quotes alone: the first two quote the empty pattern, so the line is skipped
+    LongPattern {
+        front: b"\"\"",
+        part: b"\"",
+        back: b"\n* end\n",
+        text: b"2: end\n",
+    },
+];
+
 // The pattern is not printed, however long it is.
 #[test]
 fn long_patterns_hide_no_item(rt: HostRuntime) -> Result<(), Fail> {
-    for (front, part, back, text) in [
-        // quoted
-        (
-            b"\"".as_slice(),
-            b"a".as_slice(),
-            b"\" x\n* end\n".as_slice(),
-            b"1: x\n2: end\n".as_slice(),
-        ),
-        // quoted, of escapes
-        (
-            b"\"".as_slice(),
-            b"\\101".as_slice(),
-            b"\"x\n* end\n".as_slice(),
-            b"1: x\n2: end\n".as_slice(),
-        ),
-        // never closed
-        (
-            b"\"".as_slice(),
-            b"a".as_slice(),
-            b" x\n* end\n".as_slice(),
-            b"1: x\n2: end\n".as_slice(),
-        ),
-        // damaged at its end
-        (
-            b"\"".as_slice(),
-            b"a".as_slice(),
-            b"\\400\" x\n* end\n".as_slice(),
-            b"1: x\n2: end\n".as_slice(),
-        ),
-        // unquoted, of NULs
-        (
-            b"".as_slice(),
-            b"\0".as_slice(),
-            b" x\n* end\n".as_slice(),
-            b"1: x\n2: end\n".as_slice(),
-        ),
-        // negative
-        (
-            b"!".as_slice(),
-            b"a".as_slice(),
-            b" x\n* end\n".as_slice(),
-            b"1! negative\n2: end\n".as_slice(),
-        ),
-        // a macro's refused name
-        (
-            b"[attr]".as_slice(),
-            b"\xFF".as_slice(),
-            b" x\n* end\n".as_slice(),
-            b"1! macro-name\n2: end\n".as_slice(),
-        ),
-        // quotes alone: the first two quote the empty pattern, so the line is skipped
-        (
-            b"\"\"".as_slice(),
-            b"\"".as_slice(),
-            b"\n* end\n".as_slice(),
-            b"2: end\n".as_slice(),
-        ),
-    ] {
-        let input = repeated(rt.alloc(), front, part, MILLION, back)?;
+    for line in LONG_PATTERNS {
+        let input = repeated(rt.alloc(), line.front, line.part, MILLION, line.back)?;
         let mut sink = Sink::new(rt.alloc());
         lines(rt.alloc(), &mut Source::new(&input), &mut sink)?;
-        assert_eq!(rt; sink.bytes(), text);
+        assert_eq!(rt; sink.bytes(), line.text);
     }
     Ok(())
 }
 
+const MANY_LINES: &[(&[u8], &str)] = &[
+    (b"* a\n", ": a\n"),
+    (b"!a b\n", "! negative\n"),
+    (b"[attr]-m x\n", "! macro-name\n"),
+    (b"\"\\400\" a\n", ": a\n"),
+    (b"\"a\0\xFF\n", ":\n"),
+];
+
 #[test]
 fn many_lines_are_counted(rt: HostRuntime) -> Result<(), Fail> {
-    for (line, text) in [
-        (b"* a\n".as_slice(), ": a\n"),
-        (b"!a b\n".as_slice(), "! negative\n"),
-        (b"[attr]-m x\n".as_slice(), "! macro-name\n"),
-        (b"\"\\400\" a\n".as_slice(), ": a\n"),
-        (b"\"a\0\xFF\n".as_slice(), ":\n"),
-    ] {
+    for &(line, text) in MANY_LINES {
         let input = repeated(rt.alloc(), b"", line, 100_000, b"")?;
         let text = numbered(rt.alloc(), 100_000, text)?;
         let mut sink = Sink::new(rt.alloc());
@@ -194,15 +220,11 @@ fn many_lines_are_counted(rt: HostRuntime) -> Result<(), Fail> {
     Ok(())
 }
 
+const SKIPPED: &[&[u8]] = &[b"\n", b"# c\n", b" \t\r\n", b"\"\" a\n", b"! a\n"];
+
 #[test]
 fn skipped_lines_are_counted(rt: HostRuntime) -> Result<(), Fail> {
-    for line in [
-        b"\n".as_slice(),
-        b"# c\n",
-        b" \t\r\n",
-        b"\"\" a\n",
-        b"! a\n",
-    ] {
+    for &line in SKIPPED {
         let input = repeated(rt.alloc(), b"", line, 99_999, b"* a")?;
         let mut sink = Sink::new(rt.alloc());
         lines(rt.alloc(), &mut Source::new(&input), &mut sink)?;

@@ -4,27 +4,20 @@ use crate::tests::{INPUT, TEXT};
 use check_attr::{Push, lines};
 use std::test::Fail;
 
+const PRINTED: &[(&[u8], &[u8])] = &[
+    (b"*.rs -text !eol diff=rust\n", b"1: -text !eol diff=rust\n"),
+    (INPUT, TEXT),
+    (b"[attr]builtin_x a\n", b"1! macro-name\n"),
+    (b"", b""),
+    (b"# c\n\n  a b", b"3: b\n"),
+    (b"a\n* b\r\n", b"1:\n2: b\n"),
+    (b"* builtin_x y", b"1: ?builtin_x y\n"),
+    (b"* =x --a builtin_x y", b"1: ? ?-a ?builtin_x y\n"),
+];
+
 #[test]
 fn lines_are_printed(rt: HostRuntime) -> Result<(), Fail> {
-    for (input, text) in [
-        (
-            b"*.rs -text !eol diff=rust\n".as_slice(),
-            b"1: -text !eol diff=rust\n".as_slice(),
-        ),
-        (INPUT, TEXT),
-        (
-            b"[attr]builtin_x a\n".as_slice(),
-            b"1! macro-name\n".as_slice(),
-        ),
-        (b"".as_slice(), b"".as_slice()),
-        (b"# c\n\n  a b".as_slice(), b"3: b\n".as_slice()),
-        (b"a\n* b\r\n".as_slice(), b"1:\n2: b\n".as_slice()),
-        (b"* builtin_x y".as_slice(), b"1: ?builtin_x y\n".as_slice()),
-        (
-            b"* =x --a builtin_x y".as_slice(),
-            b"1: ? ?-a ?builtin_x y\n".as_slice(),
-        ),
-    ] {
+    for &(input, text) in PRINTED {
         let mut sink = Sink::new(rt.alloc());
         lines(rt.alloc(), &mut Source::new(input), &mut sink)?;
         assert_eq!(rt; sink.bytes(), text);
@@ -38,26 +31,19 @@ fn lines_are_printed(rt: HostRuntime) -> Result<(), Fail> {
     Ok(())
 }
 
+const RAW_AND_LOSSY: &[(&[u8], &[u8])] = &[
+    (b"* a=1 -\xFF", b"1: a=1 ?\xFF\n"),
+    (b"* !\xC3\xA9=1", b"1: ?\xC3\xA9\n"),
+    (b"* a=b\xFFc", b"1: a=b\xEF\xBF\xBDc\n"),
+    (b"* a=\xE2\x82z", b"1: a=\xEF\xBF\xBDz\n"),
+    (b"* a=\xC0\x80", b"1: a=\xEF\xBF\xBD\xEF\xBF\xBD\n"),
+    (b"* a=\xC3\xA9", b"1: a=\xC3\xA9\n"),
+];
+
 // Lossy text has one U+FFFD for each longest ill-formed part, by the Unicode standard, section 3.9.
 #[test]
 fn names_stay_raw_and_values_are_lossy(rt: HostRuntime) -> Result<(), Fail> {
-    for (input, text) in [
-        (b"* a=1 -\xFF".as_slice(), b"1: a=1 ?\xFF\n".as_slice()),
-        (b"* !\xC3\xA9=1".as_slice(), b"1: ?\xC3\xA9\n".as_slice()),
-        (
-            b"* a=b\xFFc".as_slice(),
-            b"1: a=b\xEF\xBF\xBDc\n".as_slice(),
-        ),
-        (
-            b"* a=\xE2\x82z".as_slice(),
-            b"1: a=\xEF\xBF\xBDz\n".as_slice(),
-        ),
-        (
-            b"* a=\xC0\x80".as_slice(),
-            b"1: a=\xEF\xBF\xBD\xEF\xBF\xBD\n".as_slice(),
-        ),
-        (b"* a=\xC3\xA9".as_slice(), b"1: a=\xC3\xA9\n".as_slice()),
-    ] {
+    for &(input, text) in RAW_AND_LOSSY {
         let mut sink = Sink::new(rt.alloc());
         lines(rt.alloc(), &mut Source::new(input), &mut sink)?;
         assert_eq!(rt; sink.bytes(), text);

@@ -117,15 +117,17 @@ fn counts_no_call_that_succeeded(rt: HostRuntime) -> Result<(), Fail> {
     Ok(())
 }
 
+const FAULTS: &[(Fault, &str)] = &[
+    (Fault::Record(12), "malformed record 12"),
+    (Fault::Read, "reading failed"),
+    (Fault::Write, "writing failed"),
+    (Fault::OutOfMemory, "out of memory"),
+];
+
 #[test]
 fn faults_have_texts(rt: HostRuntime) -> Result<(), Fail> {
-    for (fault, text) in [
-        (Fault::Record(12), "malformed record 12"),
-        (Fault::Read, "reading failed"),
-        (Fault::Write, "writing failed"),
-        (Fault::OutOfMemory, "out of memory"),
-    ] {
-        assert_eq!(rt; fault.to_string(rt.alloc())?.as_str(), text);
+    for (fault, text) in FAULTS {
+        assert_eq!(rt; fault.to_string(rt.alloc())?.as_str(), *text);
     }
     Ok(())
 }

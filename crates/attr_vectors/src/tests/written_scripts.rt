@@ -66,68 +66,71 @@ fn script_of(alloc: Global, steps: &[Step<'_>]) -> Result<Vec<u8>, AllocError> {
     Ok(script)
 }
 
+const WORKED: &[Step<'static>] = &[
+    Step::Add("m", ".gitattributes", Some(""), b"*.sh text eol=lf"),
+    Step::Names(&["text", "eol"]),
+    Step::Ask("l s f", b"script.sh"),
+];
+
 #[test]
 fn records_are_spelled_as_in_the_worked_script(rt: HostRuntime) -> Result<(), Fail> {
-    let steps = [
-        Step::Add("m", ".gitattributes", Some(""), b"*.sh text eol=lf"),
-        Step::Names(&["text", "eol"]),
-        Step::Ask("l s f", b"script.sh"),
-    ];
-    let script = script_of(rt.alloc(), &steps)?;
+    let script = script_of(rt.alloc(), WORKED)?;
     assert_eq!(rt; script.as_slice(), SCRIPT);
     expect(&rt, rt.alloc(), &mut Source::new(&script), TEXT)?;
     Ok(())
 }
 
+const LIKE_RECORDS: &[(&[Step<'static>], &[u8])] = &[
+    (
+        &[
+            Step::Add(
+                "m",
+                ".gitattributes",
+                None,
+                b"pop\n* a=1\nnames 0\nask l s f 1\n",
+            ),
+            Step::Names(&["a", "0"]),
+            Step::Ask("z s f", b"a b\nc"),
+        ],
+        b"a b\nc\0a\x001\0a b\nc\x000\0unspecified\0",
+    ),
+    (
+        &[
+            Step::Add(
+                "m",
+                ".gitattributes",
+                Some(""),
+                b"pop\n* a=1\nnames 0\nask l s f 1\n",
+            ),
+            Step::Ask("l s f", b"names"),
+            Step::Ask("l s f", b"ask"),
+        ],
+        b"names: a: 1\nnames: 0: set\nask: a: 1\nask: l: set\nask: s: set\nask: f: set\nask: 1: set\n",
+    ),
+    (
+        &[
+            Step::Add("-", ".gitattributes", Some(""), b"* a=1"),
+            Step::Add("-", "d e/.gitattributes", Some(""), b"* b\n/f -b c=+01\n"),
+            Step::Ask("l s f", b"d e/f"),
+        ],
+        b"d e/f: a: 1\nd e/f: b: unset\nd e/f: c: +01\n",
+    ),
+    (
+        &[
+            Step::Add("m", ".gitattributes", Some(""), b"\xC3\xA9 x\n"),
+            Step::Names(&["x"]),
+            Step::Ask("z s f", b"\xFF"),
+        ],
+        b"\xFF\0x\0unspecified\0",
+    ),
+];
+
 // Contents, names and paths that look like records. What is written is what `git check-attr` says
 // for these files and paths.
 #[test]
 fn lengths_alone_end_a_part(rt: HostRuntime) -> Result<(), Fail> {
-    for (steps, text) in [
-        (
-            [
-                Step::Add(
-                    "m",
-                    ".gitattributes",
-                    None,
-                    b"pop\n* a=1\nnames 0\nask l s f 1\n",
-                ),
-                Step::Names(&["a", "0"]),
-                Step::Ask("z s f", b"a b\nc"),
-            ],
-            b"a b\nc\0a\x001\0a b\nc\x000\0unspecified\0".as_slice(),
-        ),
-        (
-            [
-                Step::Add(
-                    "m",
-                    ".gitattributes",
-                    Some(""),
-                    b"pop\n* a=1\nnames 0\nask l s f 1\n",
-                ),
-                Step::Ask("l s f", b"names"),
-                Step::Ask("l s f", b"ask"),
-            ],
-            b"names: a: 1\nnames: 0: set\nask: a: 1\nask: l: set\nask: s: set\nask: f: set\nask: 1: set\n",
-        ),
-        (
-            [
-                Step::Add("-", ".gitattributes", Some(""), b"* a=1"),
-                Step::Add("-", "d e/.gitattributes", Some(""), b"* b\n/f -b c=+01\n"),
-                Step::Ask("l s f", b"d e/f"),
-            ],
-            b"d e/f: a: 1\nd e/f: b: unset\nd e/f: c: +01\n",
-        ),
-        (
-            [
-                Step::Add("m", ".gitattributes", Some(""), b"\xC3\xA9 x\n"),
-                Step::Names(&["x"]),
-                Step::Ask("z s f", b"\xFF"),
-            ],
-            b"\xFF\0x\0unspecified\0",
-        ),
-    ] {
-        let script = script_of(rt.alloc(), &steps)?;
+    for &(steps, text) in LIKE_RECORDS {
+        let script = script_of(rt.alloc(), steps)?;
         expect(&rt, rt.alloc(), &mut Source::new(&script), text)?;
     }
     Ok(())
@@ -172,42 +175,44 @@ fn each_list_of_records_is_read(rt: HostRuntime) -> Result<(), Fail> {
     Ok(())
 }
 
+const OTHER_SPELLINGS: &[&[u8]] = &[
+    b"names +0\n",
+    b"names -0\n",
+    b"names 00\n",
+    b"names 01\na\n",
+    b"names 0\r\n",
+    b"names  0\n",
+    b"names 0 \n",
+    b"names \n",
+    b"names\n",
+    b"names 1\na",
+    b"NAMES 0\n",
+    b" names 0\n",
+    b"\n",
+    b"pop\r\n",
+    b"pop \n",
+    b"add - +1 - 5\ns* a=1\n",
+    b"add - 01 - 5\ns* a=1\n",
+    b"add - 1 -0 5\ns* a=1\n",
+    b"add - 1 - +5\ns* a=1\n",
+    b"add - 1 - 05\ns* a=1\n",
+    b"add - 1 - 5\r\ns* a=1\n",
+    b"add - 1 - 5\ns* a=1\r\n",
+    b"add - 1 - 5\ns* a=1",
+    b"add M 1 - 5\ns* a=1\n",
+    b"add - 1 - 4\ns* a=1\n",
+    b"ask l s f +1\nf\n",
+    b"ask l s f 01\nf\n",
+    b"ask l s f 1\r\nf\n",
+    b"ask l s f 1\nf\r\n",
+    b"ask l s  f 1\nf\n",
+    b"ask s l f 1\nf\n",
+];
+
 // A record has one text: no sign, no zero in front of a number, one space, and a line feed alone.
 #[test]
 fn other_spellings_are_malformed(rt: HostRuntime) -> Result<(), Fail> {
-    for script in [
-        b"names +0\n".as_slice(),
-        b"names -0\n",
-        b"names 00\n",
-        b"names 01\na\n",
-        b"names 0\r\n",
-        b"names  0\n",
-        b"names 0 \n",
-        b"names \n",
-        b"names\n",
-        b"names 1\na",
-        b"NAMES 0\n",
-        b" names 0\n",
-        b"\n",
-        b"pop\r\n",
-        b"pop \n",
-        b"add - +1 - 5\ns* a=1\n",
-        b"add - 01 - 5\ns* a=1\n",
-        b"add - 1 -0 5\ns* a=1\n",
-        b"add - 1 - +5\ns* a=1\n",
-        b"add - 1 - 05\ns* a=1\n",
-        b"add - 1 - 5\r\ns* a=1\n",
-        b"add - 1 - 5\ns* a=1\r\n",
-        b"add - 1 - 5\ns* a=1",
-        b"add M 1 - 5\ns* a=1\n",
-        b"add - 1 - 4\ns* a=1\n",
-        b"ask l s f +1\nf\n",
-        b"ask l s f 01\nf\n",
-        b"ask l s f 1\r\nf\n",
-        b"ask l s f 1\nf\r\n",
-        b"ask l s  f 1\nf\n",
-        b"ask s l f 1\nf\n",
-    ] {
+    for &script in OTHER_SPELLINGS {
         let answer = b"malformed record 1".as_slice();
         expect(&rt, rt.alloc(), &mut Source::new(script), answer)?;
     }
