@@ -7,7 +7,7 @@ use Rattle.std.specs.Char.{to_ascii_lowercase}
 use Rattle.std.specs.Hash.DefaultHasher as sip
 use Rattle.std.specs.declared.hash.DefaultHasher.{DefaultHasher}
 use Rattle.std.proofs.Math.Seq.{get_or-append_seam, take-add, take-append_seam}
-use Rattle.std.proofs.lemmas.Bool.Decides.{eqb_tells}
+use Rattle.std.proofs.lemmas.Bool.Decides.{eqb_tells, leb_tells}
 use Rattle.std.proofs.lemmas.List.Elements.{Contains-get_or}
 use Rattle.std.proofs.lemmas.List.Sorted.{IsNonDecreasingBy-from_default}
 use Rattle.std.proofs.lemmas.List.{get_or-map, get_or_append_left, get_or-take, length-append, length-map, length-take, map-append, take-map}
@@ -21,11 +21,12 @@ use Rattle.attr_glob.specs.Views.{base_bytes}
 use Rattle.attr_glob.specs.declared.pattern.Case.{Case}
 use Rattle.attr_glob.specs.declared.pattern.Case.TheVariants.{Sensitive, Fold}
 use Rattle.attr_search.specs.declared.indexed_list.IndexedList.{IndexedList}
+use Rattle.attr_search.specs.IndexedLists.{list_ids_of}
 use Rattle.attr_search.specs.inner.BaseKeys.{base_keys, longest_base}
 use Rattle.attr_search.proofs.KeyedLemmas.{below_or, some_inside}
 use Rattle.attr_search.specs.inner.Counting.{CountUp}
 use Rattle.attr_search.specs.inner.FoundLists.{AreListsFor}
-use Rattle.attr_search.specs.inner.FolderKeys.{EndsFolder, GathersFolders, HasNumbersOf, base_len, base_text, small_letters, text_key}
+use Rattle.attr_search.specs.inner.FolderKeys.{EndsFolder, GathersFolders, HasNumbersOf, base_len, base_text, short_key, small_letters, text_key}
 
 -- the keys and the longest base of one more list, and of one less
 pub keys_pushed : (keys : List ℕ) (lists : List IndexedList) (list : IndexedList) → keys ≡ base_keys lists →
@@ -56,6 +57,16 @@ keys_popped keys all lists list is whole =
     ap (take (length keys - 1)) e ∙ ap (λ n. take n (base_keys lists ++ list.base_key ∷ [])) less
     ∙ take-append_seam (base_keys lists) (list.base_key ∷ [])
 
+-- and the list ids
+pub ids_popped : (ids : List ℕ) (all lists : List IndexedList) (list : IndexedList) → ids ≡ list_ids_of all → all ≡ lists ++ list ∷ [] →
+    take (length ids - 1) ids ≡ list_ids_of lists
+ids_popped ids all lists list is whole =
+    let e = is ∙ ap list_ids_of whole ∙ map-append (λ (l : IndexedList). l.list_id) lists (list ∷ []) in
+    let long = ap length e ∙ length-append (list_ids_of lists) (list.list_id ∷ []) in
+    let less : length ids - 1 ≡ length (list_ids_of lists) = omega (arith, long) in
+    ap (take (length ids - 1)) e ∙ ap (λ n. take n (list_ids_of lists ++ list.list_id ∷ [])) less
+    ∙ take-append_seam (list_ids_of lists) (list.list_id ∷ [])
+
 -- no base is longer
 pub one_within : (lists : List IndexedList) (number : ℕ) (list : IndexedList) (longest : ℕ) → slice_get lists number ≡ Some list →
     longest_base lists ≤ longest → base_len (base_bytes list.list.base) ≤ longest
@@ -75,6 +86,14 @@ hashed_on text start place le =
 pub hashed_none : (hasher : DefaultHasher) → hasher ≡ sip.initial → hasher ≡ sip.write sip.initial []
 unfolding sip.write
 hashed_none hasher is = is
+
+-- the key of a text that is not short
+pub key_of_long : (text : List ℕ) → 8 < length text → text_key text ≡ sip.finish (sip.write sip.initial text)
+key_of_long text long =
+    elim (leb_tells (length text) 8) [
+      | inl short ↦ let few = short.1 in absurd (omega (arith, few, long))
+      | inr other ↦ ap (λ b. if b then short_key text else sip.finish (sip.write sip.initial text)) other.0
+    ]
 
 -- one more place
 pub gathered_on : (keys text : List ℕ) (k : ℕ) (found more : List ℕ) → GathersFolders keys text k found →
@@ -194,6 +213,19 @@ count_on count numbers up =
             ap (λ p. get_or (numbers ++ count ∷ []) p 0) same ∙ get_or-append_seam numbers count [] 0 ∙ omega (arith, last)
       ];
     }
+
+-- the numbers of few lists
+none_counted : CountUp 0 []
+none_counted = record { len = refl; each = λ place lt. absurd (omega (arith, lt)) }
+
+pub few_counted : (n : ℕ) → n ≤ 4 → CountUp n (take n (0 ∷ 1 ∷ 2 ∷ 3 ∷ []))
+few_counted zero le = none_counted
+few_counted (suc zero) le = count_on 0 [] none_counted
+few_counted (suc (suc zero)) le = count_on 1 (0 ∷ []) (count_on 0 [] none_counted)
+few_counted (suc (suc (suc zero))) le = count_on 2 (0 ∷ 1 ∷ []) (count_on 1 (0 ∷ []) (count_on 0 [] none_counted))
+few_counted (suc (suc (suc (suc zero)))) le =
+    count_on 3 (0 ∷ 1 ∷ 2 ∷ []) (count_on 2 (0 ∷ 1 ∷ []) (count_on 1 (0 ∷ []) (count_on 0 [] none_counted)))
+few_counted (suc (suc (suc (suc (suc n))))) le = absurd (omega (arith, le))
 
 -- all lists are found by the numbers below their count
 pub all_found : (path : List ℕ) (lists : List IndexedList) (numbers : List ℕ) → CountUp (length lists) numbers → AreListsFor path lists numbers

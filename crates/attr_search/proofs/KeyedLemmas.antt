@@ -1,12 +1,20 @@
 -- Numbers by key: the greatest with a key, after one more and after one less.
 use Rattle.std.proofs.Common.{◌≡◌, ◌≢◌, ℕ, zero, suc, ◌+◌, ◌<◌, ◌≤◌, ◌⊎◌, inl, inr, true, false, cond, List, [], ◌∷◌, ◌++◌, length, get_or}
 use Rattle.std.proofs.Common.{Option, Some, None}
-use Rattle.std.proofs.Common.{refl, sym, ap, subst, ◌∙◌, arith, nat_eq}
-use Rattle.std.specs.Prelude.{Contains, MatchOption, ⊤, option_map, slice_get}
+use Rattle.std.proofs.Common.{refl, sym, ap, subst, ◌∙◌, ◌-◌, arith, eq-eqb, nat_eq, take}
+use Rattle.std.specs.Prelude.{Contains, MatchOption, ⊤, ◌↔◌, IsTrue, is_none, option_map, slice_get}
+use Rattle.std.specs.List.{AllPairs, IsDistinct, list_all}
+use Rattle.std.specs.Bool.{Decides}
+use Rattle.std.proofs.lemmas.Bool.{eqb-true}
+use Rattle.std.proofs.lemmas.List.Sums.{AllPass-from_list_all, list_all-from_AllPass}
+use Rattle.std.proofs.lemmas.Cmp.{nat_eq_equiv}
+use Rattle.std.proofs.lemmas.Map.Views.{Contains-from_any, list_any-from_Contains}
+use Rattle.std.proofs.lemmas.Map.Made.{AllPairs-from_IsDistinct, IsDistinct-from_AllPairs}
+use Rattle.attr_search.specs.inner.FolderKeys.{HasNumbersOf, IncludesNumbersOf}
 use Rattle.std.proofs.lemmas.Bool.Decides.{eqb_tells}
-use Rattle.std.proofs.lemmas.List.{length-append, length-map}
+use Rattle.std.proofs.lemmas.List.{get_or-map, length-append, length-map}
 use Rattle.std.proofs.lemmas.List.Elements.{Contains-append_left, Contains-push}
-use Rattle.std.proofs.lemmas.Option.{slice_get-map, slice_get_read, slice_get_within}
+use Rattle.std.proofs.lemmas.Option.{get_or_from_slice_get, slice_get-get_or, slice_get-map, slice_get_read, slice_get_within}
 use Rattle.std.specs.Option.{unwrap_or}
 use Rattle.attr_search.specs.declared.numbers_by_key.Link.{Link}
 use Rattle.attr_search.specs.inner.KeyLinks.{AppendsKeyed, IsLatest}
@@ -264,3 +272,83 @@ last_present all links link latest whole l none =
     let long = length_more links link in
     subst (λ o. MatchOption o ⊥ (λ n. length links ≤ n)) none
     (is.greatest (length links) (omega (arith, long)) (keys_seam links link))
+
+-- keys of which no two are the same have no earlier number, and the other way round
+same_tells : (a b : ℕ) → Decides (nat_eq a b) (a ≡ b)
+same_tells a b = (eqb-true a b, eq-eqb a b)
+
+alone : (option : Option ℕ) → is_none option ≡ true → option ≡ None
+alone None is = refl
+alone (Some n) is = absurd cc
+
+first_of_key : (keys : List ℕ) (bound key : ℕ) (latest : Option ℕ) → IsLatest keys bound key latest → latest ≡ None → (number : ℕ) → number < bound →
+    slice_get keys number ≡ Some key → ⊥
+first_of_key keys bound key latest l none number lt has =
+    subst (λ (o : Option ℕ). MatchOption o ⊥ (λ n. number ≤ n)) none (l.greatest number lt has)
+
+unlinked_differ : (links : List Link) → LeadOn links → list_all (λ (l : Link). is_none l.earlier) links ≡ true →
+    AllPairs (λ x y. x ≢ y) (link_keys links)
+unlinked_differ links lead all i j d lt below same =
+    let long = length-map links (λ (l : Link). l.key) in
+    let link = get_or links j (record { key = d; earlier = None }) in
+    let has = slice_get-get_or links j (record { key = d; earlier = None }) (omega (arith, below, long)) in
+    let own : get_or (link_keys links) j d ≡ link.key = get_or-map (λ (l : Link). l.key) links j (record { key = d; earlier = None }) d
+    (omega (arith, below, long)) in
+    let unlinked = alone link.earlier (AllPass-from_list_all (λ (l : Link). is_none l.earlier) links all j (record { key = d; earlier = None })
+    (omega (arith, below, long))) in
+    first_of_key (link_keys links) j link.key link.earlier (lead j link has) unlinked i lt
+    (slice_get-get_or (link_keys links) i d (omega (arith, lt, below)) ∙ ap Some (same ∙ own))
+
+linked_same : (keys : List ℕ) (bound key : ℕ) (latest : Option ℕ) → MatchOption latest ⊤ (λ n. (n < bound) × (slice_get keys n ≡ Some key)) →
+    AllPairs (λ x y. x ≢ y) keys → slice_get keys bound ≡ Some key → is_none latest ≡ true
+linked_same keys bound key None has differ is = refl
+linked_same keys bound key (Some n) has differ is =
+    absurd (differ n bound key has.0 (slice_get_within keys bound key is)
+    (get_or_from_slice_get keys n key key has.1 ∙ sym (get_or_from_slice_get keys bound key key is)))
+
+one_unlinked : (links : List Link) (link : Link) (number : ℕ) → LeadOn links → AllPairs (λ x y. x ≢ y) (link_keys links) →
+    slice_get links number ≡ Some link → is_none link.earlier ≡ true
+one_unlinked links link number lead differ is =
+    linked_same (link_keys links) number link.key link.earlier (lead number link is).has differ
+    (slice_get-map (λ (l : Link). l.key) links number ∙ ap option_key is)
+
+pub unlinked_distinct : (links : List Link) → LeadOn links →
+    IsTrue (list_all (λ (l : Link). is_none l.earlier) links) ↔ IsDistinct nat_eq (link_keys links)
+unlinked_distinct links lead = (
+  λ all. IsDistinct-from_AllPairs same_tells (link_keys links) (unlinked_differ links lead all),
+  λ distinct. list_all-from_AllPass (λ (l : Link). is_none l.earlier) links
+      (λ k d lt. one_unlinked links (get_or links k d) k lead (AllPairs-from_IsDistinct same_tells (link_keys links) distinct)
+      (slice_get-get_or links k d lt)),
+)
+
+pub includes_from : (keys numbers : List ℕ) (key : ℕ) → HasNumbersOf keys numbers key → IncludesNumbersOf keys numbers key
+includes_from keys numbers key has = λ number is. list_any-from_Contains nat_eq_equiv number numbers (has number is)
+
+pub includes_to : (keys numbers : List ℕ) (key : ℕ) → IncludesNumbersOf keys numbers key → HasNumbersOf keys numbers key
+includes_to keys numbers key includes = λ number is. Contains-from_any eqb-true number numbers (includes number is)
+
+-- the numbers of a key, after one more number and after one less
+pub rooted_pushed : (keys roots more : List ℕ) (key root : ℕ) → HasNumbersOf keys roots root →
+    ((other : ℕ) → Contains roots other → Contains more other) → (key ≡ root → Contains more (length keys)) →
+    HasNumbersOf (keys ++ key ∷ []) more root
+rooted_pushed keys roots more key root rooted kept own = λ number has.
+    let lt = slice_get_within (keys ++ key ∷ []) number root has in
+    let long = length-append keys (key ∷ []) in
+    elim (below_or number (length keys) (omega (arith, lt, long))) [
+      | inl less ↦ kept number (rooted number (sym (get_front keys (key ∷ []) number less) ∙ has))
+      | inr same ↦ subst (Contains more) (sym same) (own (some_inside key root
+          (sym (get_seam keys key []) ∙ ap (slice_get (keys ++ key ∷ [])) (sym same) ∙ has)))
+    ]
+
+slice_get-take : {X : Type 0} (xs : List X) (m i : ℕ) (x : X) → slice_get (take m xs) i ≡ Some x → (i < m) × (slice_get xs i ≡ Some x)
+slice_get-take xs zero i x is = let none = slice_get_within [] i x is in absurd (omega (arith, none))
+slice_get-take [] (suc m) i x is = let none = slice_get_within [] i x is in absurd (omega (arith, none))
+slice_get-take (y ∷ xs) (suc m) zero x is = (omega arith, is)
+slice_get-take (y ∷ xs) (suc m) (suc i) x is = let rest = slice_get-take xs m i x is in let lt = rest.0 in (omega (arith, lt), rest.1)
+
+pub rooted_popped : (keys roots fewer : List ℕ) (root last : ℕ) → HasNumbersOf keys roots root → last ≡ length keys - 1 →
+    ((other : ℕ) → other ≢ last → Contains roots other → Contains fewer other) → HasNumbersOf (take (length keys - 1) keys) fewer root
+rooted_popped keys roots fewer root last rooted is kept = λ number has.
+    let at = slice_get-take keys (length keys - 1) number root has in
+    let lt = at.0 in
+    kept number (λ same. omega (arith, same, is, lt)) (rooted number at.1)

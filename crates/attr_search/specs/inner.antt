@@ -6,6 +6,7 @@ pub mod Counting
 pub mod Filling
 pub mod FolderKeys
 pub mod FoundLists
+pub mod FrontHashers
 pub mod KeyLinks
 pub mod LineIndexes
 pub mod LineTokens

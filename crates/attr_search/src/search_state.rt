@@ -37,12 +37,22 @@ use std::mem;
 
 /// What a search fills and uses: the slots, the bodies of macros, buffers that are kept from path to path, and the
 /// counts of the last search.
-#[derive(Drop)]
 pub struct SearchState {
     filler: SlotFiller,
     buffers: SearchBuffers,
     // How many lines the last search tested.
     tested: u128,
+}
+
+// By hand, so that a proof drops it by one call.
+impl Drop for SearchState {
+    fn drop(self) {
+        let SearchState {
+            filler: _,
+            buffers: _,
+            tested: _,
+        } = self;
+    }
 }
 
 #[derive(Drop)]
@@ -327,9 +337,34 @@ impl SearchState {
         ensures searched { OnOk result (SearchedLists
             query.entry (lists_view lists.now.lists.items) self.old self.new) }
     {
+        let searched = match lists.few() {
+            Some(numbers) => self.search_numbers(alloc, &lists.lists, numbers, query),
+            None => self.search_found(alloc, lists, query),
+        };
+        self.order();
+        searched
+    }
+
+    // The same for many lists, of which those that apply to the path are found.
+    fn search_found(
+        &mut self,
+        alloc: Global,
+        lists: &IndexedLists,
+        query: PathQuery<'_>,
+    ) -> Result<(), AllocError>
+        requires in_lists { ListsHaveSlots (length self.old.answers)
+            (lists_view lists.now.lists.items) }
+        ensures kept { KeepsState self.old self.new }
+        ensures named { OnOk result
+            (ListsKeepNamed (lists_view lists.now.lists.items) self.old self.new) }
+        ensures tested { OnOk result (self.new.tested
+            ≤ self.old.tested + query_candidates (lists_view lists.now.lists.items) query.entry) }
+        ensures searched { OnOk result (SearchedLists
+            query.entry (lists_view lists.now.lists.items) self.old self.new) }
+    {
         let numbers = self.find_lists(alloc, lists, query)?;
         let searched = self.search_numbers(alloc, &lists.lists, &numbers, query);
-        self.end(numbers);
+        self.buffers.numbers = numbers;
         searched
     }
 
@@ -353,11 +388,10 @@ impl SearchState {
         Ok(mem::replace(&mut buffers.numbers, Vec::new(alloc)))
     }
 
-    // Ends a search: the buffer of numbers is put back, and the numbers of filled slots are put in their order.
-    fn end(&mut self, numbers: Vec<usize>)
+    // Puts the numbers of filled slots in their order.
+    fn order(&mut self)
         ensures { self.new ≡ self.old }
     {
-        self.buffers.numbers = numbers;
         self.filler.slots.order();
     }
 

@@ -17,14 +17,10 @@ use Rattle.attr_lists.specs.ListViews.{entries_view}
 use Rattle.attr_lists.specs.inner.Keeping.{StayRegistered}
 use Rattle.attr_lists.specs.inner.Keeping.{OthersStayRegistered}
 use Rattle.gix_attributes.specs.SearchViews.{AreHeld}
-use Rattle.gix_attributes.specs.inner.HeldLists.{AreHeldLists, Ascend, IsBelowFirst, IsHeldList}
+use Rattle.gix_attributes.specs.inner.HeldLists.{AreHeldLists, IsHeldList}
 use Rattle.attr_search.specs.IndexedLists.{list_ids_of, lists_view}
 use Rattle.attr_search.specs.Settings.{Listed}
 use Rattle.attr_search.specs.declared.indexed_list.IndexedList.{IndexedList}
-
-none_parts : (a b : Bool) → a || b ≡ false → (a ≡ false) × (b ≡ false)
-none_parts false b h = (refl, h)
-none_parts true b h = absurd cc
 
 true-false : true ≡ false → ⊥
 true-false e = absurd cc
@@ -93,62 +89,6 @@ held_less before after lists s keeps held =
       held = others-held before after s.list_id keeps lists parts.1
           (All-pop (IsHeldList before) (lists ++ s ∷ []) lists (Some s) refl held.held).0;
     }
-
--- a list id among those of lists
-any-list_id : (list_id : ℕ) (lists : List IndexedList) → list_any (nat_eq list_id) (list_ids_of lists) ≡ list_any
-    (λ (s : IndexedList). list_id == s.list_id) lists
-any-list_id list_id [] = refl
-any-list_id list_id (s ∷ ss) = ap (λ b. nat_eq list_id s.list_id || b) (any-list_id list_id ss)
-
-distinct-any : (list_id : ℕ) (list_ids : List ℕ) → AllByRecursion (λ m. nat_eq list_id m ≡ false) list_ids → list_any (nat_eq list_id) list_ids ≡
-    false
-distinct-any list_id list_ids h = list_any_none (nat_eq list_id) list_ids (All-from_recursion (λ m. nat_eq list_id m ≡ false) list_ids h)
-
-any-distinct : (list_id : ℕ) (list_ids : List ℕ) → list_any (nat_eq list_id) list_ids ≡ false → AllByRecursion (λ m. nat_eq list_id m ≡ false)
-    list_ids
-any-distinct list_id [] h = tt
-any-distinct list_id (m ∷ ms) h =
-    let parts = none_parts (nat_eq list_id m) (list_any (nat_eq list_id) ms) h in
-    (parts.0, any-distinct list_id ms parts.1)
-
--- the list ids differ where the first is none of the others, which differ
-pub first_apart : (s : IndexedList) (others : List IndexedList) → list_any (λ (x : IndexedList). s.list_id == x.list_id) others ≡ false
-    → IsDistinct nat_eq (list_ids_of others) → IsDistinct nat_eq (list_ids_of (s ∷ others))
-unfolding IsDistinct
-first_apart s others h d = (any-distinct s.list_id (list_ids_of others) (any-list_id s.list_id others ∙ h), d)
-
-pub others_apart : (s : IndexedList) (others : List IndexedList) → IsDistinct nat_eq (list_ids_of (s ∷ others)) → IsDistinct nat_eq
-    (list_ids_of others)
-unfolding IsDistinct
-others_apart s others d = d.1
-
-pub first_again : (s : IndexedList) (others : List IndexedList) → list_any (λ (x : IndexedList). s.list_id == x.list_id) others ≡ true
-    → IsDistinct nat_eq (list_ids_of (s ∷ others)) → ⊥
-unfolding IsDistinct
-first_again s others h d = true-false (sym h ∙ sym (any-list_id s.list_id others) ∙ distinct-any s.list_id (list_ids_of others) d.0)
-
-pub none_apart : (lists : List IndexedList) → length lists ≡ 0 → IsDistinct nat_eq (list_ids_of lists)
-unfolding IsDistinct
-none_apart [] e = tt
-none_apart (s ∷ ss) e = absurd cc
-
-pub none_ascend : (lists : List IndexedList) → length lists ≡ 0 → Ascend (list_ids_of lists)
-none_ascend [] e = tt
-none_ascend (s ∷ ss) e = absurd cc
-
--- a number below the first of ascending ones is none of them
-below_all : (n : ℕ) (ns : List ℕ) → IsBelowFirst n ns → Ascend ns → AllByRecursion (λ m. nat_eq n m ≡ false) ns
-below_all n [] below a = tt
-below_all n (m ∷ ms) below a = (ne_eqb n m (λ same. omega (arith, below, same)), below_all n ms (further ms a.0) a.1)
-  where
-    further : (ks : List ℕ) → IsBelowFirst m ks → IsBelowFirst n ks
-    further [] h = tt
-    further (k ∷ ks) h = omega (arith, h, below)
-
-pub ascending_distinct : (ns : List ℕ) → Ascend ns → IsDistinct nat_eq ns
-unfolding IsDistinct
-ascending_distinct [] a = tt
-ascending_distinct (n ∷ ns) a = (below_all n ns a.0 a.1, ascending_distinct ns a.1)
 
 -- the list of each list id is registered
 IsEach : Collection → ℕ → Listed → Type 0

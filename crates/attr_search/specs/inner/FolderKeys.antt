@@ -1,13 +1,18 @@
 -- The keys of bases, by which the lists of a path are found (own). Nothing here has to be believed.
 use Rattle.std.specs.Prelude.{◌≡◌, ℕ, ◌-◌, ◌≤◌, ◌==◌, ◌⊎◌, Contains, List, [], length, map, take, Option, Some, None, slice_get, slice_index}
-use Rattle.std.specs.Prelude.{if◌then◌else◌}
+use Rattle.std.specs.Prelude.{if◌then◌else◌, ◌+◌, ◌*◌, ◌%◌, ◌^◌, nat_eq, nat_le, true}
+use Rattle.std.specs.List.{fold, list_any}
 use Rattle.std.specs.Char.{to_ascii_lowercase}
 use Rattle.std.specs.Hash.DefaultHasher as sip
 use Rattle.attr_glob.specs.Bytes.{slash}
 
+-- the bytes of a short text after a one, in 64 bits
+abbrev pub short_key : List ℕ → ℕ
+short_key text = fold (λ number byte. (number * 256 % 2 ^ 64 + byte) % 2 ^ 64) 1 text
+
 -- the key of a text
 abbrev pub text_key : List ℕ → ℕ
-text_key text = sip.finish (sip.write sip.initial text)
+text_key text = if nat_le (length text) 8 then short_key text else sip.finish (sip.write sip.initial text)
 
 -- a text in small letters
 abbrev pub small_letters : List ℕ → List ℕ
@@ -32,6 +37,10 @@ EndsFolder text place = (place ≡ 0) ⊎ (slice_index text (place - 1) ≡ slas
 -- the numbers with this key are among those found
 abbrev pub HasNumbersOf : List ℕ → List ℕ → ℕ → Type 0
 HasNumbersOf keys found key = (number : ℕ) → slice_get keys number ≡ Some key → Contains found number
+
+-- as a fact that a struct can keep
+abbrev pub IncludesNumbersOf : List ℕ → List ℕ → ℕ → Type 0
+IncludesNumbersOf keys numbers key = (number : ℕ) → slice_get keys number ≡ Some key → list_any (nat_eq number) numbers ≡ true
 
 -- and so are those with the key of a folder that ends in the first part of the text
 abbrev pub GathersFolders : List ℕ → List ℕ → ℕ → List ℕ → Type 0

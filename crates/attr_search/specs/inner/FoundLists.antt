@@ -11,6 +11,8 @@ use Rattle.attr_search.specs.Settings.{rest_for}
 pub record HasListRoom (lists : IndexedLists) : Type 0 where
   pub list : vec_len lists.lists < vec_capacity lists.lists
   pub number : 0 < lists.numbers.room
+  pub root : vec_len lists.roots < vec_capacity lists.roots
+  pub list_id : 0 < lists.by_id.room
 
 -- each list that applies to the path is among those with these numbers, which don't fall
 pub record AreListsFor (path : List ℕ) (lists : List IndexedList) (numbers : List ℕ) : Type 0 where

@@ -1,5 +1,5 @@
 -- How a collection holds indexed lists (own).
-use Rattle.std.specs.Prelude.{ℕ, ◌<◌, ⊤, List, [], ◌∷◌, All, nat_eq}
+use Rattle.std.specs.Prelude.{List, All, nat_eq}
 use Rattle.std.specs.List.{IsDistinct}
 use Rattle.attr_lists.specs.Collections.{Collection}
 use Rattle.attr_lists.specs.Definitions.{HoldsList}
@@ -15,13 +15,3 @@ IsHeldList known s = HoldsList known s.list_id (entries_view s.list.patterns.ite
 pub record AreHeldLists (known : Collection) (lists : List IndexedList) : Type 0 where
   pub distinct : IsDistinct nat_eq (list_ids_of lists)
   pub held : All (IsHeldList known) lists
-
--- the list id is below the first of these, if there is one
-abbrev pub IsBelowFirst : ℕ → List ℕ → Type 0
-IsBelowFirst list_id [] = ⊤
-IsBelowFirst list_id (first ∷ list_ids) = list_id < first
-
--- each list id is below the next one
-abbrev pub Ascend : List ℕ → Type 0
-Ascend [] = ⊤
-Ascend (list_id ∷ list_ids) = IsBelowFirst list_id list_ids × Ascend list_ids

@@ -215,10 +215,10 @@ impl Search {
     }
 
     // The lists, each with its index.
-    pub(crate) fn lists(&self) -> &[IndexedList]
-        ensures { result.now ≡ self.now.patterns.lists.items }
+    pub(crate) fn lists(&self) -> &IndexedLists
+        ensures { result.now ≡ self.now.patterns }
     {
-        &self.patterns.lists
+        &self.patterns
     }
 }
 

@@ -16,7 +16,7 @@ ghost use Rattle.attr_search.specs.ListView.{list_view};
 ghost use Rattle.attr_search.specs.Settings.{LinesAreNamed};
 ghost use Rattle.gix_attributes.specs.Keeping.{KeepsSearches, RegistersLast};
 ghost use Rattle.gix_attributes.specs.Registers.{RegistersExactly};
-ghost use Rattle.gix_attributes.specs.inner.HeldLists.{AreHeldLists, IsBelowFirst};
+ghost use Rattle.gix_attributes.specs.inner.HeldLists.{AreHeldLists};
 ghost use Rattle.attr_lists.specs.inner.Keeping.{OthersStayRegistered};
 ghost use Rattle.attr_lists.specs.inner.MacroNumbers.{ListsMacros};
 ghost use Rattle.gix_attributes.specs.inner.Registering.{Registers};
@@ -27,6 +27,7 @@ use attr_lists::name_table::{NameTable, Names};
 use attr_lists::parser::macros_valid;
 use attr_lists::types::{Assignments, AttributeId, Attributes, Value};
 use attr_search::indexed_list::IndexedList;
+use attr_search::indexed_lists::IndexedLists;
 use std::alloc::{AllocError, Global};
 use std::collections::BTreeSet;
 use std::marker::Model;
@@ -209,60 +210,12 @@ impl MetadataCollection {
 }
 
 // Whether the lists are registered under different list ids, each with its definitions.
-fn are_held(numbering: &NameTable, lists: &[IndexedList]) -> bool
-    ensures { IsTrue result ↔ AreHeldLists numbering.now lists.now }
+fn are_held(numbering: &NameTable, lists: &IndexedLists) -> bool
+    ensures { IsTrue result ↔ AreHeldLists numbering.now lists.now.lists.items }
 {
-    are_list_ids_distinct(lists)
+    lists.are_ids_distinct()
         && lists
+            .lists
             .iter()
             .all(|s| numbering.holds(s.list_id, &s.list.patterns))
-}
-
-// Whether no two lists have the same list id. Those of a search mostly ascend; else each is compared with those after it.
-fn are_list_ids_distinct(lists: &[IndexedList]) -> bool
-    ensures { IsTrue result ↔ IsDistinct nat_eq (list_ids_of lists.now) }
-{
-    ascend(lists) || differ(lists)
-}
-
-// Whether each list id is above the one before it.
-fn ascend(lists: &[IndexedList]) -> bool
-    ensures { IsTrue result → IsDistinct nat_eq (list_ids_of lists.now) }
-{
-    let mut rest = lists;
-    while let Some((one, others)) = rest.split_first() {
-        if !is_below_first(one.list_id, others) {
-            return false;
-        }
-        rest = others;
-    }
-    true
-}
-
-fn is_below_first(list_id: usize, lists: &[IndexedList]) -> bool
-    ensures { IsTrue result → IsBelowFirst list_id (list_ids_of lists.now) }
-{
-    match lists.first() {
-        Some(first) => list_id < first.list_id,
-        None => true,
-    }
-}
-
-fn differ(lists: &[IndexedList]) -> bool
-    ensures { IsTrue result ↔ IsDistinct nat_eq (list_ids_of lists.now) }
-{
-    let mut rest = lists;
-    while let Some((one, others)) = rest.split_first() {
-        if has_list_id(others, one.list_id) {
-            return false;
-        }
-        rest = others;
-    }
-    true
-}
-
-fn has_list_id(lists: &[IndexedList], list_id: usize) -> bool
-    ensures { result ≡ list_any (λ s. list_id == s.list_id) lists.now }
-{
-    lists.iter().any(|s| list_id == s.list_id)
 }

@@ -36,7 +36,6 @@ use std::marker::Model;
 ///
 /// It has a slot for each number of a collection: the answer for the attribute with that number, if one was found. So
 /// it is initialised with a collection, and has to be initialised again after that has changed.
-#[derive(Drop)]
 pub struct Outcome {
     // The answers, the body of each attribute, and the buffers of a search.
     pub(crate) state: SearchState,
@@ -46,6 +45,19 @@ pub struct Outcome {
     // The pattern of the answer for an unspecified attribute.
     no_pattern: Pattern,
     is_initialized: bool,
+}
+
+// By hand, so that a proof drops it by one call.
+impl Drop for Outcome {
+    fn drop(self) {
+        let Outcome {
+            state: _,
+            macros: _,
+            selected: _,
+            no_pattern: _,
+            is_initialized: _,
+        } = self;
+    }
 }
 
 impl Model for Outcome {
@@ -215,7 +227,7 @@ impl Outcome {
     pub fn covers(&self, search: &Search) -> bool
         ensures { IsTrue result ↔ ListsAreCovered (length self.now.slots) (lists_in search.now) }
     {
-        are_covered(search.lists(), self.len())
+        are_covered(&search.lists().lists, self.len())
     }
 
     /// Whether the outcome was initialised.

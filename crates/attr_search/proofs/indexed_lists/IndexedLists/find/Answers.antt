@@ -1,8 +1,7 @@
-use Rattle.std.proofs.Common.{◌≡◌, ap, arith, subst, ◌∙◌, length, take, vec_len}
+use Rattle.std.proofs.Common.{ap, subst, ◌∙◌, length, take}
 use Rattle.std.proofs.lemmas.List.Sorted.{Contains-permutation, IsNonDecreasingBy-from_sort}
-use Rattle.attr_search.specs.inner.Counting.{CountUp}
 use Rattle.attr_search.specs.inner.FolderKeys.{GathersFolders, small_letters}
-use Rattle.attr_search.proofs.FolderLemmas.{all_found, list_found}
+use Rattle.attr_search.proofs.FolderLemmas.{list_found}
 use Rattle.attr_search.proofs.indexed_lists.IndexedLists.find.Goals as goal
 
 pub returns : goal.returns
@@ -17,10 +16,3 @@ returns c =
           lists.keyed lists.within gathered has applies);
       rising = IsNonDecreasingBy-from_sort (λ x. x) _ c.sort_unstable.ensures.sorted;
     }
-
-pub returns-then-len-le-FEW : goal.returns-then-len-le-FEW
-returns-then-len-le-FEW c =
-    let lists = c.args.self.now.lists in
-    let count : vec_len lists ≡ length lists.items = omega (arith, lists.ok) in
-    all_found c.args.path.now lists.items _ (subst (λ n. CountUp n c.put_numbers.new.numbers.items) (c.len-then-len-le-FEW.ensures ∙ count)
-    c.in_ok-put_numbers.ensures)

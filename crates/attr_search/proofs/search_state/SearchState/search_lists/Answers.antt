@@ -1,5 +1,9 @@
-use Rattle.attr_search.proofs.SearchedLemmas.{state_kept}
+use Rattle.std.proofs.Common.{subst, sym}
+use Rattle.bstr.specs.BStr.{bstr_bytes}
+use Rattle.attr_search.specs.inner.FoundLists.{AreListsFor}
 use Rattle.attr_search.proofs.search_state.SearchState.search_lists.Goals as goal
 
-pub returns-in_err-numbers-clause-kept : goal.returns-in_err-numbers-clause-kept
-returns-in_err-numbers-clause-kept c = rw c.find_lists.ensures.unchanged (state_kept c.args.self.now)
+pub search_numbers-searched-requires-clause-numbers : goal.search_numbers-searched-requires-clause-numbers
+search_numbers-searched-requires-clause-numbers c =
+    subst (λ lists. AreListsFor (bstr_bytes c.args.query.path) lists c.in-Some.numbers.now) (sym c.deref.ensures.value)
+    (c.in-Some.ensures (bstr_bytes c.args.query.path))
