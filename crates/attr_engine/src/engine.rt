@@ -46,7 +46,6 @@ pub struct Question<'a> {
 /// Lists of attributes files with the names that are looked up in them, and the answers to the last question.
 ///
 /// Whatever changes the lists or the selected names leaves no answers.
-#[derive(Drop)]
 pub struct Engine {
     search: Search,
     collection: MetadataCollection,
@@ -59,6 +58,21 @@ pub struct Engine {
     // The numbers of the answers, if nothing is selected.
     numbers: Vec<usize>,
     dropped: Vec<Dropped>,
+}
+
+// By hand, so that a proof drops it by one call.
+impl Drop for Engine {
+    fn drop(self) {
+        let Engine {
+            search: _,
+            collection: _,
+            outcome: _,
+            is_current: _,
+            has_answers: _,
+            numbers: _,
+            dropped: _,
+        } = self;
+    }
 }
 
 impl Model for Engine {

@@ -19,7 +19,7 @@ use std::alloc::{AllocError, Global};
 use std::collections::BTreeSet;
 
 /// The parts of a table. While a list is added, a name may lack its entry.
-#[derive(Debug, Drop)]
+#[derive(Debug)]
 pub(super) struct Parts {
     /// The names. The index of a name is its number.
     pub(super) names: NameSet,
@@ -34,6 +34,20 @@ pub(super) struct Parts {
     pub(super) registered: Vec<Vec<Metadata>>,
     /// The numbers of the names that have definitions.
     pub(super) macros: BTreeSet<usize>,
+}
+
+// By hand, so that a proof drops it by one call.
+impl Drop for Parts {
+    fn drop(self) {
+        let Parts {
+            names: _,
+            entries: _,
+            active: _,
+            free_from: _,
+            registered: _,
+            macros: _,
+        } = self;
+    }
 }
 
 impl Parts {
