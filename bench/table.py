@@ -51,10 +51,29 @@ class Workload:
 
     def few_and_many(self):
         """The files and the paths of two runs under callgrind, and by what their difference is divided."""
-        blocks = max(1, self.counted // 20)
+        return self.first_and_all(self.few, self.counted)
+
+    def few_and_many_of_git(self):
+        """The same for git, which is asked fewer paths where it tries many lines for each."""
+        return self.few_and_many()
+
+    def first_and_all(self, few, count):
+        blocks = max(1, count // 20)
         apart = len(self.paths) / blocks
-        many = [path for block in range(blocks) for path in self.paths[int(block * apart):][:20]][:self.counted]
-        return (self.files, many[:self.few]), (self.files, many), len(many) - self.few
+        many = [path for block in range(blocks) for path in self.paths[int(block * apart):][:20]][:count]
+        return (self.files, many[:few]), (self.files, many), len(many) - few
+
+
+class ExactPaths(Workload):
+    """Whole paths: the first thousand of those that are asked make what is kept of their answers grow."""
+
+    few = 1_000
+
+    def few_and_many(self):
+        return self.first_and_all(self.few, 4 * self.few)
+
+    def few_and_many_of_git(self):
+        return self.first_and_all(FEW, self.counted)
 
 
 class Reading(Workload):
@@ -108,8 +127,9 @@ TITLES = {"names": "names", "ends": "ends `*.eN`", "exact": "exact paths", "glob
 
 
 def of_kind(kind, lines, quick, paths=None):
-    text, asked = KINDS[kind](lines, paths or timed(lines, quick))
-    return Workload(f"{lines:,} {TITLES[kind]}", [("", text)], inputs.THREE_NAMES, asked, counted(lines, quick))
+    make = ExactPaths if kind == "exact" else Workload
+    text, asked = KINDS[kind](lines, max(paths or timed(lines, quick), 4 * make.few))
+    return make(f"{lines:,} {TITLES[kind]}", [("", text)], inputs.THREE_NAMES, asked, counted(lines, quick))
 
 
 def of_typical(quick):
@@ -223,15 +243,17 @@ class Bench:
         """The instructions of both programs for a path."""
         if not self.valgrind:
             return None, None
-        few, many, divisor = work.few_and_many()
-        counts = []
-        repository = self.repository(few[0]) if self.git else None
+        return self.difference(work, work.few_and_many(), 0), self.difference(work, work.few_and_many_of_git(), 1)
+
+    def difference(self, work, few_and_many, place):
+        """The instructions of the program at a place of the pair, ours or git, for a path."""
+        few, many, divisor = few_and_many
+        counts, repository = [], None
         for files, paths in (few, many):
-            if repository and files is not few[0]:
+            if place and self.git and (repository is None or files is not few[0]):
                 repository = self.repository(files)
-            pair = self.commands(work, files, paths, repository)
-            counts.append([self.count(command) for command in pair])
-        return [None if None in pair else (pair[1] - pair[0]) / divisor for pair in zip(*counts)]
+            counts.append(self.count(self.commands(work, files, paths, repository)[place]))
+        return None if None in counts else (counts[1] - counts[0]) / divisor
 
     def count(self, command):
         try:
