@@ -300,6 +300,31 @@ fn the_list_of_the_first_search_goes_first(rt: HostRuntime) -> Result<(), AllocE
     )
 }
 
+// The second list of the search gets the id that the list of the other one had, which is below that of the first.
+const FREED_ID: &[Step<'static>] = &[
+    Add(TOP, "[attr]m x\n"),
+    Turn,
+    Add(TOP, "[attr]m y\n"),
+    Turn,
+    Removed,
+    Turn,
+    Add(TOP, "[attr]m z\n"),
+    Held,
+    Removed,
+    Held,
+    Names,
+];
+
+#[test]
+fn list_ids_need_not_ascend(rt: HostRuntime) -> Result<(), AllocError> {
+    expect(
+        &rt,
+        rt.alloc(),
+        FREED_ID,
+        "removed\ntrue\nremoved\ntrue\nm: y\nx:\ny:\nz:\n",
+    )
+}
+
 const SECOND_GOES: &[Step<'static>] = &[
     Add(TOP, "[attr]m x\n"),
     Turn,
