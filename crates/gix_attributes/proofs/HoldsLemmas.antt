@@ -1,11 +1,10 @@
 -- A collection holds a search after lists are added and removed.
 use Rattle.std.proofs.Common.{◌≡◌, ◌≢◌, ℕ, Bool, true, false, List, [], ◌∷◌, ◌++◌, map, refl, sym, ap, ◌∙◌, subst, nat_eq}
 use Rattle.std.specs.Prelude.{All}
-use Rattle.std.specs.Prelude.{◌==◌, ◌||◌, length}
-use Rattle.std.specs.List.{AllZip, IsDistinct, list_any, AllByRecursion}
+use Rattle.std.specs.List.{AllZip, IsDistinct}
 use Rattle.std.specs.Cmp.{IsEquivalence}
 use Rattle.std.proofs.lemmas.Bool.{eqb-true}
-use Rattle.std.proofs.Common.{Some, arith, eq-eqb, ne_eqb}
+use Rattle.std.proofs.Common.{Some, eq-eqb}
 use Rattle.std.proofs.lemmas.List.{map-append}
 use Rattle.std.proofs.lemmas.List.Elements.{All-nil, All-cons, All-head, All-tail, All-push, All-pop, All-weaker, All-map, All-from_recursion}
 use Rattle.std.proofs.lemmas.List.Elements.{recursion_from_All}
