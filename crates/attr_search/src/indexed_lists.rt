@@ -140,8 +140,9 @@ impl IndexedLists {
 
     /// The numbers of all lists, in their order, if they are few.
     pub fn few(&self) -> Option<&[usize]>
-        ensures { IfSome result (λ numbers. (path : List ℕ) →
+        ensures few { IfSome result (λ numbers. (path : List ℕ) →
             AreListsFor path self.now.lists.items numbers.now) }
+        ensures many { IfNone result (4 < length self.now.lists.items) }
     {
         if self.lists.len() <= FEW.len() {
             Some(&FEW[..self.lists.len()])

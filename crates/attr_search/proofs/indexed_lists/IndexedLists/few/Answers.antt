@@ -3,8 +3,8 @@ use Rattle.attr_search.specs.inner.Counting.{CountUp}
 use Rattle.attr_search.proofs.FolderLemmas.{all_found, few_counted}
 use Rattle.attr_search.proofs.indexed_lists.IndexedLists.few.Goals as goal
 
-pub returns-then-len : goal.returns-then-len
-returns-then-len c = λ path.
+pub returns-then-len-clause-few : goal.returns-then-len-clause-few
+returns-then-len-clause-few c = λ path.
     let lists = c.args.self.now.lists in
     let count : c.len-then-len.result ≡ length lists.items = omega (arith, c.len-then-len.ensures, lists.ok) in
     let few : c.len-then-len.result ≤ 4 = omega (arith, c.if-len.true, c.len.ensures, c.len-then-len.ensures) in
