@@ -137,10 +137,16 @@ fn held_bytes(members: &[Member]) -> ByteSet
 }
 
 /// The members of a bracket, with the set of their bytes.
-#[derive(Debug, Drop)]
+#[derive(Debug)]
 pub(crate) struct MemberSet {
     list: Vec<Member>,
     bytes: ByteSet,
+}
+
+impl Drop for MemberSet {
+    fn drop(self) {
+        let MemberSet { list: _, bytes: _ } = self;
+    }
 }
 
 impl Model for MemberSet {

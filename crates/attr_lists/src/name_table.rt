@@ -30,9 +30,15 @@ use std::collections::BTreeSet;
 use std::marker::Model;
 
 /// Attribute names by number, and the definitions of macros, each under the list id of its list.
-#[derive(Debug, Drop)]
+#[derive(Debug)]
 pub struct NameTable {
     parts: Parts,
+}
+
+impl Drop for NameTable {
+    fn drop(self) {
+        let NameTable { parts: _ } = self;
+    }
 }
 
 impl Model for NameTable {
