@@ -387,6 +387,14 @@ def long_patterns_in_turn(n):
     return add(lines) + select(["b"]) + (ask("c") + ask("d")) * 1_000
 
 
+@case(2 ** 18)
+def long_sources_in_turn(n):
+    """two lists with sources of n bytes that decide in turn and aren't shown, and 2,000 paths"""
+    source = "x" * n
+    lists = add(b"* b\n") + add(b"c a\n", source + "c") + add(b"d a\n", source + "d")
+    return lists + select(["b"]) + (ask("c") + ask("d")) * 1_000
+
+
 # What is written.
 
 @case(1_250)

@@ -11,6 +11,7 @@ pub mod KeyLinks
 pub mod LineIndexes
 pub mod LineTokens
 pub mod Lines
+pub mod NotedPlaces
 pub mod NumbersView
 pub mod Pending
 pub mod ReadLines

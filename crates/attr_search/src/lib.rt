@@ -8,6 +8,7 @@ pub mod indexed_list;
 pub mod indexed_lists;
 mod line_keys;
 pub mod matching_line;
+mod noted_places;
 pub mod numbers_by_key;
 pub mod path_query;
 mod recent_places;

@@ -13,6 +13,8 @@ use attr_lists::types::{AttributeId, MatchKind, TrackedAssignment, Value};
 pub struct MatchingLine<'a> {
     /// The line.
     pub mapping: &'a Mapping<Value>,
+    /// The id of its list.
+    pub list: usize,
     /// The source of its list, if the list has one.
     pub source: &'a Option<String>,
     /// The line's items.

@@ -12,10 +12,9 @@ ghost use Rattle.attr_search.specs.inner.Refs.{HasAssignment, RefersTo, IsMatchR
 
 use crate::bodies::{self, BodyChange};
 use crate::matching_line::{MatchingLine, PendingItem, body_of};
-use crate::recent_places::RecentPlaces;
+use crate::noted_places::{NotedPlaces, NotedText};
 use attr_glob::Pattern;
-use attr_glob::search::pattern::Mapping;
-use attr_lists::types::{Match, MatchKind, MatchLocation, TrackedAssignment, Value};
+use attr_lists::types::{Match, MatchKind, MatchLocation, TrackedAssignment};
 use attr_text::Assignment;
 use std::alloc::{AllocError, Global};
 use std::marker::Model;
@@ -51,7 +50,6 @@ const BESIDE: usize = 64;
 /// The patterns, assignments and sources of matches, and the bodies of macros. A pattern or source that was stored of late is
 /// found again; another one is stored once more. An item of a body is there already, so a match by it stores no assignment. A
 /// match by an item of a line stores its own, which shares its texts with the item.
-#[derive(Drop)]
 pub struct RefMap {
     patterns: PatternStore,
     assignments: Vec<Assignment>,
@@ -60,24 +58,54 @@ pub struct RefMap {
     bodies: Vec<Vec<TrackedAssignment>>,
 }
 
-#[derive(Drop)]
+impl Drop for RefMap {
+    fn drop(self) {
+        let RefMap {
+            patterns: _,
+            assignments: _,
+            sources: _,
+            bodies: _,
+        } = self;
+    }
+}
+
 struct PatternStore {
     stored: Vec<Pattern>,
-    // Where the patterns of lines were stored of late.
-    recent: RecentPlaces,
+    // Where the patterns of lines were stored.
+    noted: NotedPlaces,
     // How many bytes are stored, with those beside each text. It stops at `usize::MAX`.
     bytes: usize,
 }
 
-#[derive(Drop)]
+impl Drop for PatternStore {
+    fn drop(self) {
+        let PatternStore {
+            stored: _,
+            noted: _,
+            bytes: _,
+        } = self;
+    }
+}
+
 struct SourceStore {
     stored: Vec<String>,
-    // Where the sources of lines were stored of late.
-    recent: RecentPlaces,
+    // Where the sources of lists were stored.
+    noted: NotedPlaces,
     // The place that was looked up last: the next line is often of the same list.
     last: usize,
     // How many bytes are stored, with those beside each text. It stops at `usize::MAX`.
     bytes: usize,
+}
+
+impl Drop for SourceStore {
+    fn drop(self) {
+        let SourceStore {
+            stored: _,
+            noted: _,
+            last: _,
+            bytes: _,
+        } = self;
+    }
 }
 
 impl Model for PatternStore {
@@ -186,9 +214,8 @@ impl RefMap {
         ensures line { IfOk result (λ l. RefersTo self.new l (line_origin line.entry)) }
         ensures extends { KeepsRefs self.old self.new }
     {
-        let number = line_number(line.mapping);
-        let pattern = self.patterns.place(alloc, number, &line.mapping.pattern)?;
-        let source = self.sources.optional_place(alloc, number, line.source)?;
+        let pattern = self.patterns.place(alloc, line)?;
+        let source = self.sources.optional_place(alloc, line.list, line.source)?;
         Ok(OriginRef {
             pattern,
             source,
@@ -277,7 +304,7 @@ impl PatternStore {
     {
         PatternStore {
             stored: Vec::new(alloc),
-            recent: RecentPlaces::new(alloc),
+            noted: NotedPlaces::new(alloc),
             bytes: 0,
         }
     }
@@ -286,6 +313,7 @@ impl PatternStore {
         ensures { self.new ≡ [] }
     {
         self.stored.clear();
+        self.noted.forget_long();
         self.bytes = 0;
     }
 
@@ -303,7 +331,7 @@ impl PatternStore {
     {
         Ok(PatternStore {
             stored: copy_of_patterns(alloc, &self.stored)?,
-            recent: RecentPlaces::new(alloc),
+            noted: NotedPlaces::new(alloc),
             bytes: self.bytes,
         })
     }
@@ -315,25 +343,22 @@ impl PatternStore {
         &self.stored[place]
     }
 
-    // The place of the pattern of a line with this number. It is stored if it is not where such a line's was stored last.
-    fn place(
-        &mut self,
-        alloc: Global,
-        number: usize,
-        pattern: &Pattern,
-    ) -> Result<usize, AllocError>
-        ensures place { IfOk result (λ place.
-            slice_get self.new place ≡ Some (pattern_view pattern.now)) }
+    // The place of a line's pattern. It is stored if it isn't found.
+    fn place(&mut self, alloc: Global, line: MatchingLine<'_>) -> Result<usize, AllocError>
+        ensures place { IfOk result (λ place. slice_get self.new place
+            ≡ Some (pattern_view line.entry.mapping.now.pattern)) }
         ensures grows { Grows self.old self.new }
     {
-        let place = self.recent.get(number);
+        let pattern = &line.mapping.pattern;
+        let text = pattern_of(line);
+        let place = self.noted.get(text);
         if has_pattern(&self.stored, place, pattern) {
             return Ok(place);
         }
         let place = self.stored.len();
         self.stored.push(pattern.clone(alloc)?)?;
         self.bytes = counted(self.bytes, pattern.text.len());
-        self.recent.note(number, place)?;
+        self.noted.note(text, place)?;
         Ok(place)
     }
 }
@@ -358,9 +383,22 @@ const LINES: usize = 1 << 20;
 
 const LENGTHS: usize = 1024;
 
-// A number for a line by which its pattern and source are noted.
-fn line_number(line: &Mapping<Value>) -> usize {
-    line.sequence_number % LINES + text_number(&line.pattern.text)
+// What a line's pattern is noted by.
+fn pattern_of(line: MatchingLine<'_>) -> NotedText {
+    let text = &line.mapping.pattern.text;
+    let number = line.mapping.sequence_number;
+    NotedText {
+        number: number % LINES + text_number(text),
+        key: noted_key(line.list, number),
+        len: text.len(),
+    }
+}
+
+// Few lists and lines have the key of others: those with more than four billions of them.
+fn noted_key(list: usize, line: usize) -> u64 {
+    (list as u64)
+        .wrapping_mul(1 << 32)
+        .wrapping_add(line as u64)
 }
 
 // A number for a text, by its length and its last byte.
@@ -379,7 +417,7 @@ impl SourceStore {
     {
         SourceStore {
             stored: Vec::new(alloc),
-            recent: RecentPlaces::new(alloc),
+            noted: NotedPlaces::new(alloc),
             last: 0,
             bytes: 0,
         }
@@ -389,6 +427,7 @@ impl SourceStore {
         ensures { self.new ≡ [] }
     {
         self.stored.clear();
+        self.noted.forget_long();
         self.bytes = 0;
     }
 
@@ -406,7 +445,7 @@ impl SourceStore {
     {
         Ok(SourceStore {
             stored: copy_of_sources(alloc, &self.stored)?,
-            recent: RecentPlaces::new(alloc),
+            noted: NotedPlaces::new(alloc),
             last: self.last,
             bytes: self.bytes,
         })
@@ -422,7 +461,7 @@ impl SourceStore {
     fn optional_place(
         &mut self,
         alloc: Global,
-        number: usize,
+        list: usize,
         source: &Option<String>,
     ) -> Result<Option<usize>, AllocError>
         ensures place { IfOk result (λ place.
@@ -431,42 +470,41 @@ impl SourceStore {
         ensures grows { Grows self.old self.new }
     {
         match source {
-            Some(source) => Ok(Some(self.place(alloc, number, source.as_str())?)),
+            Some(source) => Ok(Some(self.place(alloc, list, source.as_str())?)),
             None => Ok(None),
         }
     }
 
-    // The place of the source of a line with this number. The place that was looked up last is tried first, and then where
-    // such a line's was stored last.
-    fn place(&mut self, alloc: Global, number: usize, source: &str) -> Result<usize, AllocError>
+    // The place of a list's source. The place that was looked up last is tried first. It is stored if it isn't found.
+    fn place(&mut self, alloc: Global, list: usize, source: &str) -> Result<usize, AllocError>
         ensures place { IfOk result (λ place. slice_get self.new place ≡ Some source.now) }
         ensures grows { Grows self.old self.new }
     {
         if has_source(&self.stored, self.last, source) {
             return Ok(self.last);
         }
-        let place = self.other_place(alloc, number, source)?;
+        let place = self.other_place(alloc, list, source)?;
         self.last = place;
         Ok(place)
     }
 
-    fn other_place(
-        &mut self,
-        alloc: Global,
-        number: usize,
-        source: &str,
-    ) -> Result<usize, AllocError>
+    fn other_place(&mut self, alloc: Global, list: usize, source: &str) -> Result<usize, AllocError>
         ensures place { IfOk result (λ place. slice_get self.new place ≡ Some source.now) }
         ensures grows { Grows self.old self.new }
     {
-        let place = self.recent.get(number);
+        let text = NotedText {
+            number: list,
+            key: noted_key(list, 0),
+            len: source.len(),
+        };
+        let place = self.noted.get(text);
         if has_source(&self.stored, place, source) {
             return Ok(place);
         }
         let place = self.stored.len();
         self.stored.push(String::from_str(alloc, source)?)?;
         self.bytes = counted(self.bytes, source.len());
-        self.recent.note(number, place)?;
+        self.noted.note(text, place)?;
         Ok(place)
     }
 }

@@ -55,7 +55,6 @@ impl Drop for SearchState {
     }
 }
 
-#[derive(Drop)]
 struct SearchBuffers {
     matching: MatchBuffers,
     // A base name, reversed.
@@ -63,6 +62,17 @@ struct SearchBuffers {
     places: Vec<usize>,
     // The numbers of lists.
     numbers: Vec<usize>,
+}
+
+impl Drop for SearchBuffers {
+    fn drop(self) {
+        let SearchBuffers {
+            matching: _,
+            turned: _,
+            places: _,
+            numbers: _,
+        } = self;
+    }
 }
 
 impl Model for SearchState {
@@ -535,6 +545,7 @@ impl SearchState {
         }
         let line = MatchingLine {
             mapping,
+            list: list.list_id,
             source: &list.list.source,
             items,
         };
