@@ -137,16 +137,10 @@ fn held_bytes(members: &[Member]) -> ByteSet
 }
 
 /// The members of a bracket, with the set of their bytes.
-#[derive(Debug)]
+#[derive(Debug, Drop)]
 pub(crate) struct MemberSet {
     list: Vec<Member>,
     bytes: ByteSet,
-}
-
-impl Drop for MemberSet {
-    fn drop(self) {
-        let MemberSet { list: _, bytes: _ } = self;
-    }
 }
 
 impl Model for MemberSet {

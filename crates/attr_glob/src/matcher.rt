@@ -85,19 +85,10 @@ impl Pattern {
 }
 
 /// A pattern with the tokens of its text, which no match reads again.
-#[derive(Debug)]
+#[derive(Debug, Drop)]
 pub struct Matcher {
     pattern: Pattern,
     tokens: Option<Tokens>,
-}
-
-impl Drop for Matcher {
-    fn drop(self) {
-        let Matcher {
-            pattern: _,
-            tokens: _,
-        } = self;
-    }
 }
 
 impl Model for Matcher {

@@ -186,15 +186,9 @@ fn read_token(
 }
 
 /// The tokens of a pattern's text, kept so that they can be matched against many values.
-#[derive(Debug)]
+#[derive(Debug, Drop)]
 pub struct Tokens {
     list: Vec<Token>,
-}
-
-impl Drop for Tokens {
-    fn drop(self) {
-        let Tokens { list: _ } = self;
-    }
 }
 
 impl Model for Tokens {

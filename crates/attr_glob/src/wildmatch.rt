@@ -328,16 +328,10 @@ fn skip_ends<'t, 'v>(
 }
 
 /// The two row buffers of a match, which any number of matches can share. They grow only by `reserve`.
-#[derive(Debug)]
+#[derive(Debug, Drop)]
 pub struct MatchBuffers {
     row: Vec<usize>,
     next: Vec<usize>,
-}
-
-impl Drop for MatchBuffers {
-    fn drop(self) {
-        let MatchBuffers { row: _, next: _ } = self;
-    }
 }
 
 impl Model for MatchBuffers {

@@ -22,7 +22,7 @@ pub struct HashedRow {
 }
 
 /// Numbers of keys, which are found by their hashes in a time that does not depend on how many there are.
-#[derive(Debug)]
+#[derive(Debug, Drop)]
 pub struct HashedRows {
     // In the order of the hashes.
     rows: Vec<HashedRow>,
@@ -30,16 +30,6 @@ pub struct HashedRows {
     width: u64,
     // The place in `rows` where each bucket starts, and after the last bucket the number of rows.
     starts: Vec<usize>,
-}
-
-impl Drop for HashedRows {
-    fn drop(self) {
-        let HashedRows {
-            rows: _,
-            width: _,
-            starts: _,
-        } = self;
-    }
 }
 
 impl Model for HashedRows {

@@ -28,7 +28,7 @@ pub enum Subject {
 
 /// A text that is looked up. Another text has the key if it begins with this text or, if `is_whole` is set, is this
 /// text.
-#[derive(Debug)]
+#[derive(Debug, Drop)]
 pub struct Key {
     /// The text of a path that has to have the key.
     pub subject: Subject,
@@ -36,16 +36,6 @@ pub struct Key {
     pub text: Vec<u8>,
     /// Whether the subject has no other bytes.
     pub is_whole: bool,
-}
-
-impl Drop for Key {
-    fn drop(self) {
-        let Key {
-            subject: _,
-            text: _,
-            is_whole: _,
-        } = self;
-    }
 }
 
 /// The keys of lines as they are looked up: as they are, or in lower case.

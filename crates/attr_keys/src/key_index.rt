@@ -19,7 +19,7 @@ use std::alloc::{AllocError, Global};
 use std::marker::Model;
 
 /// The keys of lines, by which the lines that a path may match are found.
-#[derive(Debug)]
+#[derive(Debug, Drop)]
 pub struct KeyIndex {
     keys: Vec<Key>,
     exact: KeyRows,
@@ -29,19 +29,8 @@ pub struct KeyIndex {
     others: Vec<usize>,
 }
 
-impl Drop for KeyIndex {
-    fn drop(self) {
-        let KeyIndex {
-            keys: _,
-            exact: _,
-            folded: _,
-            others: _,
-        } = self;
-    }
-}
-
 // The numbers of each subject's keys. Ends that are extensions are apart.
-#[derive(Debug)]
+#[derive(Debug, Drop)]
 struct KeyRows {
     names: SubjectRows,
     extensions: HashedRows,
@@ -49,34 +38,13 @@ struct KeyRows {
     paths: SubjectRows,
 }
 
-impl Drop for KeyRows {
-    fn drop(self) {
-        let KeyRows {
-            names: _,
-            extensions: _,
-            ends: _,
-            paths: _,
-        } = self;
-    }
-}
-
 // The numbers of a subject's keys: of most whole keys by their hashes, and of the others in the order of the keys.
-#[derive(Debug)]
+#[derive(Debug, Drop)]
 struct SubjectRows {
     wholes: HashedRows,
     fronts: Vec<usize>,
     // The first codes of the keys of `fronts`.
     firsts: Vec<u16>,
-}
-
-impl Drop for SubjectRows {
-    fn drop(self) {
-        let SubjectRows {
-            wholes: _,
-            fronts: _,
-            firsts: _,
-        } = self;
-    }
 }
 
 // Keys as they are looked up, with their numbers.

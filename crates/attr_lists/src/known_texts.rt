@@ -11,18 +11,10 @@ use std::alloc::{AllocError, Global};
 /// For each place of texts, the name and the value that were read there last. Files have few names and values, most of them in
 /// many lines, so most items find theirs. Only what is at the place is compared, so that an item takes no longer if a file has
 /// many names and values.
+#[derive(Drop)]
 pub(crate) struct KnownTexts {
     names: LastRead<Name>,
     values: LastRead<Value>,
-}
-
-impl Drop for KnownTexts {
-    fn drop(self) {
-        let KnownTexts {
-            names: _,
-            values: _,
-        } = self;
-    }
 }
 
 impl KnownTexts {

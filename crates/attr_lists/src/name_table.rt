@@ -30,15 +30,9 @@ use std::collections::BTreeSet;
 use std::marker::Model;
 
 /// Attribute names by number, and the definitions of macros, each under the list id of its list.
-#[derive(Debug)]
+#[derive(Debug, Drop)]
 pub struct NameTable {
     parts: Parts,
-}
-
-impl Drop for NameTable {
-    fn drop(self) {
-        let NameTable { parts: _ } = self;
-    }
 }
 
 impl Model for NameTable {

@@ -33,6 +33,7 @@ use attr_lists::types::{Attributes, Value};
 use std::alloc::{AllocError, Global};
 
 /// A list of a search, with the keys of its lines. It compares as the list.
+#[derive(Drop)]
 #[derive_where(PartialEq, Eq, PartialOrd, Ord, Hash, Debug)]
 pub struct IndexedList {
     /// The lines, their source, and the base below which they apply.
@@ -57,19 +58,6 @@ pub struct IndexedList {
     ghost based: { base_key ≡ key_of_base (base_bytes list.base) },
     ghost idle: { is_idle ≡ list_all has_macro_mode (patterns_of list.patterns.items) },
     ghost read: { ∥ AreRead (entries_view list.patterns.items) ∥₁ },
-}
-
-impl Drop for IndexedList {
-    fn drop(self) {
-        let IndexedList {
-            list: _,
-            keys: _,
-            tokens: _,
-            list_id: _,
-            base_key: _,
-            is_idle: _,
-        } = self;
-    }
 }
 
 // What is made of a list's lines and base once, for its searches.
@@ -165,21 +153,6 @@ impl IndexedList {
         }
         let part = pattern.matched_part(rest.path.as_bytes(), rest.name_place);
         pattern.matches_part(lent(&self.tokens[place]), part, rest.case, buffers)
-    }
-
-    /// The list alone.
-    pub fn into_list(self) -> List<Attributes>
-        ensures { result ≡ self.list }
-    {
-        let IndexedList {
-            list,
-            keys: _,
-            tokens: _,
-            list_id: _,
-            base_key: _,
-            is_idle: _,
-        } = self;
-        list
     }
 
     /// A copy, with the same list id.

@@ -23,17 +23,12 @@ pub struct NotedText {
 
 /// Places of texts. What is stored there has to be compared: another text may have been noted there. A long text that isn't
 /// found costs a copy of its bytes, so none takes the place of another.
+#[derive(Drop)]
 pub struct NotedPlaces {
     /// The places of short texts.
     pub recent: RecentPlaces,
     /// The places of long texts, by key.
     pub long: HashMap<u64, usize>,
-}
-
-impl Drop for NotedPlaces {
-    fn drop(self) {
-        let NotedPlaces { recent: _, long: _ } = self;
-    }
 }
 
 impl NotedPlaces {

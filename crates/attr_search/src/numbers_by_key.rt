@@ -9,19 +9,11 @@ use std::collections::HashMap;
 use std::marker::Model;
 
 /// Numbers from 0 on, each with a key, by which it is found.
+#[derive(Drop)]
 pub struct NumbersByKey {
     // For each key the greatest number that has it.
     latest: HashMap<u64, usize>,
     links: Vec<Link>,
-}
-
-impl Drop for NumbersByKey {
-    fn drop(self) {
-        let NumbersByKey {
-            latest: _,
-            links: _,
-        } = self;
-    }
 }
 
 /// The key of a number, and the greatest smaller number that has the same.

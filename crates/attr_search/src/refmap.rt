@@ -50,6 +50,7 @@ const BESIDE: usize = 64;
 /// The patterns, assignments and sources of matches, and the bodies of macros. A pattern or source that was stored of late is
 /// found again; another one is stored once more. An item of a body is there already, so a match by it stores no assignment. A
 /// match by an item of a line stores its own, which shares its texts with the item.
+#[derive(Drop)]
 pub struct RefMap {
     patterns: PatternStore,
     assignments: Vec<Assignment>,
@@ -58,17 +59,7 @@ pub struct RefMap {
     bodies: Vec<Vec<TrackedAssignment>>,
 }
 
-impl Drop for RefMap {
-    fn drop(self) {
-        let RefMap {
-            patterns: _,
-            assignments: _,
-            sources: _,
-            bodies: _,
-        } = self;
-    }
-}
-
+#[derive(Drop)]
 struct PatternStore {
     stored: Vec<Pattern>,
     // Where the patterns of lines were stored.
@@ -77,16 +68,7 @@ struct PatternStore {
     bytes: usize,
 }
 
-impl Drop for PatternStore {
-    fn drop(self) {
-        let PatternStore {
-            stored: _,
-            noted: _,
-            bytes: _,
-        } = self;
-    }
-}
-
+#[derive(Drop)]
 struct SourceStore {
     stored: Vec<String>,
     // Where the sources of lists were stored.
@@ -95,17 +77,6 @@ struct SourceStore {
     last: usize,
     // How many bytes are stored, with those beside each text. It stops at `usize::MAX`.
     bytes: usize,
-}
-
-impl Drop for SourceStore {
-    fn drop(self) {
-        let SourceStore {
-            stored: _,
-            noted: _,
-            last: _,
-            bytes: _,
-        } = self;
-    }
 }
 
 impl Model for PatternStore {

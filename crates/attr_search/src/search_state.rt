@@ -55,6 +55,7 @@ impl Drop for SearchState {
     }
 }
 
+#[derive(Drop)]
 struct SearchBuffers {
     matching: MatchBuffers,
     // A base name, reversed.
@@ -62,17 +63,6 @@ struct SearchBuffers {
     places: Vec<usize>,
     // The numbers of lists.
     numbers: Vec<usize>,
-}
-
-impl Drop for SearchBuffers {
-    fn drop(self) {
-        let SearchBuffers {
-            matching: _,
-            turned: _,
-            places: _,
-            numbers: _,
-        } = self;
-    }
 }
 
 impl Model for SearchState {

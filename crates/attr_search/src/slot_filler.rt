@@ -15,6 +15,7 @@ use attr_text::State;
 use std::alloc::{AllocError, Global};
 
 /// The slots, with the bodies of macros, and the stack that fills the slots.
+#[derive(Drop)]
 pub struct SlotFiller {
     /// The slots and the bodies of the attributes, by number.
     pub slots: AnswerSlots,
@@ -22,16 +23,6 @@ pub struct SlotFiller {
     pub stack: Vec<PendingItem>,
     /// How many items the last search popped from the stack. It stops at `u128::MAX`.
     pub taken: u128,
-}
-
-impl Drop for SlotFiller {
-    fn drop(self) {
-        let SlotFiller {
-            slots: _,
-            stack: _,
-            taken: _,
-        } = self;
-    }
 }
 
 impl SlotFiller {

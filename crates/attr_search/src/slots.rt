@@ -24,6 +24,7 @@ use std::alloc::{AllocError, Global};
 use std::marker::Model;
 
 /// A slot and a body for each attribute, and which of them are wanted.
+#[derive(Drop)]
 pub struct AnswerSlots {
     slots: Vec<Option<MatchRef>>,
     // The numbers of the slots that may be filled: the others are free.
@@ -36,30 +37,12 @@ pub struct AnswerSlots {
     matches: MatchStore,
 }
 
-impl Drop for AnswerSlots {
-    fn drop(self) {
-        let AnswerSlots {
-            slots: _,
-            filled: _,
-            is_ordered: _,
-            wanted: _,
-            remaining: _,
-            matches: _,
-        } = self;
-    }
-}
-
 // What the matches in slots refer to.
+#[derive(Drop)]
 struct MatchStore {
     refs: RefMap,
     // The places at which the current line is stored. None until it has filled a slot.
     line: Option<OriginRef>,
-}
-
-impl Drop for MatchStore {
-    fn drop(self) {
-        let MatchStore { refs: _, line: _ } = self;
-    }
 }
 
 impl Model for AnswerSlots {

@@ -37,14 +37,9 @@ pub struct NameRef<'a> {
 }
 
 /// A valid name of an attribute. It compares and hashes as its text.
+#[derive(Drop)]
 pub struct Name {
     text: Text,
-}
-
-impl Drop for Name {
-    fn drop(self) {
-        let Name { text: _ } = self;
-    }
 }
 
 // The text of a name. A short list of assignments has blank names in its unused places: they take no memory.

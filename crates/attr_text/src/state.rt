@@ -18,15 +18,10 @@ use std::marker::Model;
 use std::rc::RcSlice;
 
 /// The bytes of a value, which need not be UTF-8. Copies share them.
+#[derive(Drop)]
 pub struct Value {
     // A value without bytes takes no memory.
     bytes: Option<RcSlice<u8>>,
-}
-
-impl Drop for Value {
-    fn drop(self) {
-        let Value { bytes: _ } = self;
-    }
 }
 
 /// A reference to the bytes of a value, which need not be UTF-8.

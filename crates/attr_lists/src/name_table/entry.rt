@@ -19,7 +19,7 @@ use attr_glob::search::pattern::Mapping;
 use std::alloc::{AllocError, Global};
 
 /// The definitions of a name.
-#[derive(Debug)]
+#[derive(Debug, Drop)]
 pub(super) struct NameEntry {
     // The metadata without a definition: no body.
     undefined: Metadata,
@@ -27,30 +27,12 @@ pub(super) struct NameEntry {
     definitions: Vec<Definition>,
 }
 
-impl Drop for NameEntry {
-    fn drop(self) {
-        let NameEntry {
-            undefined: _,
-            definitions: _,
-        } = self;
-    }
-}
-
 /// A definition of a macro.
-#[derive(Debug)]
+#[derive(Debug, Drop)]
 struct Definition {
     // The list id of its list.
     list_id: usize,
     metadata: Metadata,
-}
-
-impl Drop for Definition {
-    fn drop(self) {
-        let Definition {
-            list_id: _,
-            metadata: _,
-        } = self;
-    }
 }
 
 impl NameEntry {

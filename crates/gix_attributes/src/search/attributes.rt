@@ -130,7 +130,7 @@ impl Search {
     {
         let last = self.patterns.pop()?;
         collection.remove(last.list_id, &last.list.patterns);
-        Some(last.into_list())
+        Some(last.list)
     }
 
     /// Looks up a path: fills the slots of an outcome from the lines that match the path, until each selected attribute

@@ -20,11 +20,11 @@ pub returns-in_default-clause-missed : goal.returns-in_default-clause-missed
 returns-in_default-clause-missed c = λ f ts a. absurd (malformed c ts a)
 
 -- the tokens that were read
-read_as : (c : goal.After-drop-tokens-2) → tokens c.args.text.now ≡ Some c.in-Some.tokens
+read_as : (c : goal.After-drop-tokens-inside-2) → tokens c.args.text.now ≡ Some c.in-Some.tokens
 read_as c = sym c.in_ok-tokens.ensures.tokens ∙ c.in-Some.is
 
 -- a text has one list of tokens
-only : (c : goal.After-drop-tokens-2) (ts : List Token) → AreTokens true c.args.text.now ts → c.in-Some.tokens ≡ ts
+only : (c : goal.After-drop-tokens-inside-2) (ts : List Token) → AreTokens true c.args.text.now ts → c.in-Some.tokens ≡ ts
 only c ts a = let e : Some c.in-Some.tokens ≡ Some ts = sym (read_as c) ∙ read_back c.args.text.now ts a in cc
 
 pub returns-clause-matched : goal.returns-clause-matched

@@ -20,19 +20,10 @@ use std::marker::Model;
 
 /// The patterns of a list by the base names that they need, so that a search tests only candidates. A candidate is a
 /// pattern that may match a path with a given base name (own: it changes no answer).
-#[derive(Debug)]
+#[derive(Debug, Drop)]
 pub struct Index {
     patterns: Vec<Pattern>,
     keys: KeyIndex,
-}
-
-impl Drop for Index {
-    fn drop(self) {
-        let Index {
-            patterns: _,
-            keys: _,
-        } = self;
-    }
 }
 
 impl Model for Index {
@@ -50,19 +41,10 @@ impl Model for Index {
 }
 
 /// Buffers for lookups in an index, which several calls share so that they don't grow for each path.
-#[derive(Debug)]
+#[derive(Debug, Drop)]
 pub struct IndexBuffers {
     turned: Vec<u8>,
     found: Vec<usize>,
-}
-
-impl Drop for IndexBuffers {
-    fn drop(self) {
-        let IndexBuffers {
-            turned: _,
-            found: _,
-        } = self;
-    }
 }
 
 impl IndexBuffers {
