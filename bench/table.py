@@ -64,8 +64,8 @@ class Workload:
         return (self.files, many[:few]), (self.files, many), len(many) - few
 
 
-class ExactPaths(Workload):
-    """Whole paths: the first thousand of those that are asked make what is kept of their answers grow."""
+class OwnLines(Workload):
+    """Paths that match lines of their own: the first thousand that are asked make what is kept of their answers grow."""
 
     few = 1_000
 
@@ -127,7 +127,7 @@ TITLES = {"names": "names", "ends": "ends `*.eN`", "exact": "exact paths", "glob
 
 
 def of_kind(kind, lines, quick, paths=None):
-    make = ExactPaths if kind == "exact" else Workload
+    make = OwnLines if kind in ("exact", "globs") else Workload
     text, asked = KINDS[kind](lines, max(paths or timed(lines, quick), 4 * make.few))
     return make(f"{lines:,} {TITLES[kind]}", [("", text)], inputs.THREE_NAMES, asked, counted(lines, quick))
 
