@@ -1,7 +1,7 @@
 //! Where the texts of lines were stored.
 
-ghost use Rattle.std.specs.Prelude.{◌≡◌, OnErr, OnOk, if◌then◌else◌, nat_lt};
-ghost use Rattle.attr_search.specs.inner.NotedPlaces.{noted_place};
+ghost use Rattle.std.specs.Prelude.{◌≡◌, OnErr, OnOk, if◌then◌else◌};
+ghost use Rattle.attr_search.specs.inner.NotedPlaces.{KeepsApart, is_short, noted_place};
 
 use crate::recent_places::RecentPlaces;
 use std::alloc::{AllocError, Global};
@@ -55,14 +55,16 @@ impl NotedPlaces {
         }
     }
 
-    /// Notes a place for the text.
+    /// Notes a place for the text. Long texts of other keys keep theirs.
     ///
     /// # Errors
     ///
     /// If memory runs out. Nothing is noted then.
     pub fn note(&mut self, text: NotedText, place: usize) -> Result<(), AllocError>
         ensures noted { OnOk result (noted_place self.new text ≡ place) }
-        ensures refused { OnErr result (noted_place self.new text ≡ noted_place self.old text) }
+        ensures others { OnOk result (KeepsApart text self.old self.new) }
+        ensures refused { OnErr result ((any : NotedText) →
+            noted_place self.new any ≡ noted_place self.old any) }
     {
         if text.len < LONG {
             return self.recent.note(text.number, place);
@@ -76,7 +78,7 @@ impl NotedPlaces {
     /// Forgets the places of long texts.
     pub fn forget_long(&mut self)
         ensures { (text : NotedText) → noted_place self.new text
-            ≡ if nat_lt text.len 1024 then noted_place self.old text else 0 }
+            ≡ if is_short text then noted_place self.old text else 0 }
     {
         self.long.clear();
     }

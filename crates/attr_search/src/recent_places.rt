@@ -1,7 +1,7 @@
 //! Places that were found of late, with which a look-up begins.
 
 ghost use Rattle.std.specs.Prelude.{◌≡◌, ◌<◌, ◌%◌, [], OnErr, OnOk, Some, length, slice_get, slice_index_or};
-ghost use Rattle.attr_search.specs.inner.RecentSizes.{IsSized};
+ghost use Rattle.attr_search.specs.inner.RecentSizes.{IsSized, KeepsOthers};
 
 use std::alloc::{AllocError, Global};
 
@@ -53,7 +53,7 @@ impl RecentPlaces {
         }
     }
 
-    /// Notes a place for the number's remainder.
+    /// Notes a place for the number's remainder. Unless there are more places then, those of other remainders stay.
     ///
     /// # Errors
     ///
@@ -61,6 +61,9 @@ impl RecentPlaces {
     pub fn note(&mut self, number: usize, place: usize) -> Result<(), AllocError>
         ensures noted { OnOk result (slice_get self.new.places.items
             (number % length self.new.places.items) ≡ Some place) }
+        ensures others { OnOk result (
+            length self.new.places.items ≡ length self.old.places.items → KeepsOthers
+            (number % length self.new.places.items) self.old.places.items self.new.places.items) }
         ensures refused { OnErr result (self.new.places.items ≡ self.old.places.items) }
     {
         let wanted = if place < FEW { FEW } else { MANY };

@@ -35,7 +35,7 @@ fn kind_of(word: &str) -> Option<Kind> {
 ///
 /// # Errors
 /// The first row that differs; a file that can't be read; a line that is no row; memory is refused.
-pub fn compare_all<F: Files>(alloc: Global, files: &mut F) -> Result<u64, Fault> {
+pub(crate) fn compare_all<F: Files>(alloc: Global, files: &mut F) -> Result<u64, Fault> {
     let manifest = read(alloc, files, "manifest")?;
     let mut compared = 0u64;
     for line in manifest.as_slice().split(|byte| *byte == b'\n') {

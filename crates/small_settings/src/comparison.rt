@@ -15,7 +15,7 @@ use std::alloc::{AllocError, Global};
 ///
 /// # Errors
 /// The first setting in which they differ; memory is refused.
-pub fn compare_all(alloc: Global) -> Result<u64, Fault> {
+pub(crate) fn compare_all(alloc: Global) -> Result<u64, Fault> {
     let bodies = short_lists(alloc)?;
     let files = files(alloc)?;
     let mut rows = Vec::new(alloc);

@@ -18,7 +18,7 @@ pub struct Lists {
 
 impl Lists {
     /// Registers the attributes in the order of their numbers, the bodies and the lists of files.
-    pub fn new(
+    pub(crate) fn new(
         alloc: Global,
         bodies: &[&[Item<'static>]],
         files: &[&[Row<'_, 'static>]],

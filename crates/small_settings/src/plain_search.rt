@@ -17,18 +17,18 @@ pub struct PlainSearch<'s> {
 
 impl<'s> PlainSearch<'s> {
     /// A search by two bodies, those of the first and of the second macro.
-    pub fn new(first: &'s [Item<'static>], second: &'s [Item<'static>]) -> PlainSearch<'s> {
+    pub(crate) fn new(first: &'s [Item<'static>], second: &'s [Item<'static>]) -> PlainSearch<'s> {
         PlainSearch { first, second }
     }
 
     /// The bodies of all attributes, by number. The third has none.
-    pub fn bodies(&self) -> [&'s [Item<'static>]; COUNT] {
+    pub(crate) fn bodies(&self) -> [&'s [Item<'static>]; COUNT] {
         let third: &'s [Item<'static>] = &[];
         [self.first, self.second, third]
     }
 
     /// Slots of which one is filled, or none.
-    pub fn begin(&self, start: Option<usize>) -> Slots {
+    pub(crate) fn begin(&self, start: Option<usize>) -> Slots {
         let mut slots: Slots = [None; COUNT];
         let Some(attribute) = start else {
             return slots;
@@ -49,7 +49,7 @@ impl<'s> PlainSearch<'s> {
     }
 
     /// Searches lists, and reports how many items were taken.
-    pub fn search(
+    pub(crate) fn search(
         &self,
         alloc: Global,
         lists: &[&[Row<'_, 'static>]],
@@ -65,7 +65,7 @@ impl<'s> PlainSearch<'s> {
     }
 
     /// How many items the lines of lists and the bodies have.
-    pub fn work(&self, lists: &[&[Row<'_, 'static>]]) -> u128 {
+    pub(crate) fn work(&self, lists: &[&[Row<'_, 'static>]]) -> u128 {
         let mut work = 0u128;
         for rows in lists {
             for row in *rows {
@@ -84,7 +84,10 @@ fn count_of(items: &[Item<'static>]) -> u128 {
 }
 
 /// The lines of a file, each of which matches.
-pub fn rows_of<'r>(alloc: Global, lines: &'r [Items]) -> Result<Vec<Row<'r, 'static>>, AllocError> {
+pub(crate) fn rows_of<'r>(
+    alloc: Global,
+    lines: &'r [Items],
+) -> Result<Vec<Row<'r, 'static>>, AllocError> {
     let mut rows = Vec::new(alloc);
     for (place, items) in [FIRST, SECOND].iter().zip(lines.iter()) {
         rows.push(Row {

@@ -28,7 +28,7 @@ impl<'l> RealSearch<'l> {
     /// # Errors
     ///
     /// If memory is refused.
-    pub fn new(alloc: Global, lists: &'l Lists) -> Result<RealSearch<'l>, AllocError> {
+    pub(crate) fn new(alloc: Global, lists: &'l Lists) -> Result<RealSearch<'l>, AllocError> {
         let mut complete = Outcome::new(alloc);
         complete.initialize(alloc, &lists.collection)?;
         Ok(RealSearch {
@@ -40,14 +40,14 @@ impl<'l> RealSearch<'l> {
     }
 
     /// Selects the attributes that are looked for from here on.
-    pub fn select(&mut self, selection: &Selection) -> Result<(), AllocError> {
+    pub(crate) fn select(&mut self, selection: &Selection) -> Result<(), AllocError> {
         let names = selection.names;
         self.outcome
             .initialize_with_selection(self.alloc, &self.lists.collection, names)
     }
 
     /// Empties the slots, and fills one of them.
-    pub fn begin(&mut self, start: Option<usize>) -> Result<(), Fault> {
+    pub(crate) fn begin(&mut self, start: Option<usize>) -> Result<(), Fault> {
         self.outcome.reset();
         let Some(attribute) = start else {
             return Ok(());
@@ -75,18 +75,18 @@ impl<'l> RealSearch<'l> {
     }
 
     /// Searches the lines of a file, and reports whether an attribute was found that is looked for.
-    pub fn search(&mut self, file: usize) -> Result<bool, Fault> {
+    pub(crate) fn search(&mut self, file: usize) -> Result<bool, Fault> {
         let search = self.lists.files.get(file).ok_or(Fault::NotReady)?;
         search_into(self.alloc, search, &mut self.outcome)
     }
 
     /// How many items the last search took.
-    pub fn taken(&self) -> u128 {
+    pub(crate) fn taken(&self) -> u128 {
         self.outcome.taken()
     }
 
     /// Whether the slots have these answers, by number.
-    pub fn has(&self, slots: &Slots) -> bool {
+    pub(crate) fn has(&self, slots: &Slots) -> bool {
         for number in 0..COUNT {
             if !is_same(self.slot(number), slots[number]) {
                 return false;

@@ -138,7 +138,7 @@ fn push_states(items: &mut Items, attribute: usize) -> Result<(), AllocError> {
 }
 
 /// Every list of at most two items: 43 lists.
-pub fn short_lists(alloc: Global) -> Result<Vec<Items>, AllocError> {
+pub(crate) fn short_lists(alloc: Global) -> Result<Vec<Items>, AllocError> {
     let items = items(alloc)?;
     let mut lists = Vec::new(alloc);
     lists.push(Vec::new(alloc))?;
@@ -152,7 +152,7 @@ pub fn short_lists(alloc: Global) -> Result<Vec<Items>, AllocError> {
 }
 
 /// The files of one line of at most two items, and those of two lines of one item each: 79 files.
-pub fn files(alloc: Global) -> Result<Vec<Lines>, AllocError> {
+pub(crate) fn files(alloc: Global) -> Result<Vec<Lines>, AllocError> {
     let mut files = Vec::new(alloc);
     for line in short_lists(alloc)? {
         files.push(vec![in alloc; line]?)?;
@@ -168,7 +168,7 @@ pub fn files(alloc: Global) -> Result<Vec<Lines>, AllocError> {
 }
 
 /// Appends items as an attributes file spells them, each after a blank, and ends the line.
-pub fn push_items(text: &mut String, items: &[Item<'static>]) -> Result<(), AllocError> {
+pub(crate) fn push_items(text: &mut String, items: &[Item<'static>]) -> Result<(), AllocError> {
     for item in items {
         text.push_str(if item.state == State::Unset {
             " -"
@@ -181,7 +181,10 @@ pub fn push_items(text: &mut String, items: &[Item<'static>]) -> Result<(), Allo
 }
 
 /// Appends the definitions of the first two attributes as macros.
-pub fn push_macros(text: &mut String, bodies: &[&[Item<'static>]]) -> Result<(), AllocError> {
+pub(crate) fn push_macros(
+    text: &mut String,
+    bodies: &[&[Item<'static>]],
+) -> Result<(), AllocError> {
     for (name, body) in NAMES.iter().zip(bodies.iter()).take(2) {
         text.push_str("[attr]")?;
         text.push_str(name)?;
@@ -191,7 +194,7 @@ pub fn push_macros(text: &mut String, bodies: &[&[Item<'static>]]) -> Result<(),
 }
 
 /// Appends the lines of a list.
-pub fn push_rows(text: &mut String, rows: &[Row<'_, 'static>]) -> Result<(), AllocError> {
+pub(crate) fn push_rows(text: &mut String, rows: &[Row<'_, 'static>]) -> Result<(), AllocError> {
     for (place, row) in [FIRST, SECOND].iter().zip(rows.iter()) {
         text.push_str(place.spelling)?;
         push_items(text, row.items)?;
@@ -200,7 +203,7 @@ pub fn push_rows(text: &mut String, rows: &[Row<'_, 'static>]) -> Result<(), All
 }
 
 /// Appends names of attributes, each after a blank.
-pub fn push_names(text: &mut String, attributes: &[usize]) -> Result<(), AllocError> {
+pub(crate) fn push_names(text: &mut String, attributes: &[usize]) -> Result<(), AllocError> {
     for attribute in attributes {
         text.push(' ')?;
         text.push_str(NAMES.get(*attribute).copied().unwrap_or("?"))?;
