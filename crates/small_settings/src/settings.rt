@@ -86,7 +86,7 @@ pub struct Place {
 }
 
 /// The place of a first line.
-pub const FIRST: Place = Place {
+const FIRST: Place = Place {
     spelling: "*",
     origin: Origin {
         text: b"*",
@@ -98,7 +98,7 @@ pub const FIRST: Place = Place {
 };
 
 /// The place of a second line.
-pub const SECOND: Place = Place {
+const SECOND: Place = Place {
     spelling: "f",
     origin: Origin {
         text: b"f",
@@ -108,6 +108,9 @@ pub const SECOND: Place = Place {
         line: 2,
     },
 };
+
+/// The places of lines, in their order.
+pub static PLACES: [Place; 2] = [FIRST, SECOND];
 
 /// The place of the line that fills a slot before the search.
 pub const START: Place = Place {
@@ -131,9 +134,10 @@ fn items(alloc: Global) -> Result<Items, AllocError> {
 }
 
 fn push_states(items: &mut Items, attribute: usize) -> Result<(), AllocError> {
-    for state in [State::Set, State::Unset] {
-        items.push(Item { attribute, state })?;
-    }
+    let state = State::Set;
+    items.push(Item { attribute, state })?;
+    let state = State::Unset;
+    items.push(Item { attribute, state })?;
     Ok(())
 }
 
@@ -154,17 +158,27 @@ pub(crate) fn short_lists(alloc: Global) -> Result<Vec<Items>, AllocError> {
 /// The files of one line of at most two items, and those of two lines of one item each: 79 files.
 pub(crate) fn files(alloc: Global) -> Result<Vec<Lines>, AllocError> {
     let mut files = Vec::new(alloc);
-    for line in short_lists(alloc)? {
-        files.push(vec![in alloc; line]?)?;
+    for line in short_lists(alloc)?.iter() {
+        files.push(vec![in alloc; line.clone()?]?)?;
     }
     let items = items(alloc)?;
     for first in items.iter() {
         for second in items.iter() {
-            let lines = vec![in alloc; vec![in alloc; *first]?, vec![in alloc; *second]?]?;
-            files.push(lines)?;
+            files.push(two_lines(alloc, *first, *second)?)?;
         }
     }
     Ok(files)
+}
+
+fn two_lines(
+    alloc: Global,
+    first: Item<'static>,
+    second: Item<'static>,
+) -> Result<Lines, AllocError> {
+    let mut lines = Vec::new(alloc);
+    lines.push(vec![in alloc; first]?)?;
+    lines.push(vec![in alloc; second]?)?;
+    Ok(lines)
 }
 
 /// Appends items as an attributes file spells them, each after a blank, and ends the line.
@@ -195,7 +209,7 @@ pub(crate) fn push_macros(
 
 /// Appends the lines of a list.
 pub(crate) fn push_rows(text: &mut String, rows: &[Row<'_, 'static>]) -> Result<(), AllocError> {
-    for (place, row) in [FIRST, SECOND].iter().zip(rows.iter()) {
+    for (place, row) in PLACES.iter().zip(rows.iter()) {
         text.push_str(place.spelling)?;
         push_items(text, row.items)?;
     }
