@@ -7,13 +7,13 @@ use Rattle.attr_keys.specs.inner.LineKeys.{candidate_content}
 use Rattle.attr_keys.specs.KeyContents.{KeyContent}
 use Rattle.attr_keys.specs.inner.Meeting.{content_met, content_met_at}
 use Rattle.attr_keys.specs.inner.Rows.{has_row, IsFalling}
-use Rattle.attr_glob.specs.declared.pattern.Case.{Case}
+use Rattle.attr_wildmatch.specs.declared.case.Case.{Case}
 use Rattle.attr_glob.specs.Candidates.{has_macro_mode, matches_base_name, is_candidate, candidates}
 use Rattle.attr_glob.specs.Patterns.{Reading, has_flag, ends_with}
 use Rattle.attr_glob.specs.declared.pattern.Pattern.{Pattern}
 use Rattle.attr_glob.specs.Views.{pattern_view}
 use Rattle.attr_glob.specs.inner.LineShapes.{folds, shape_reading}
-use Rattle.attr_glob.proofs.Basics.{by_test}
+use Rattle.attr_wildmatch.proofs.ForCallers.{by_test}
 use Rattle.attr_glob.proofs.FallingPlaces.{falling_places, passes}
 use Rattle.attr_glob.proofs.KeyTexts.{whole_met, end_met}
 

@@ -4,7 +4,7 @@ use Rattle.std.proofs.Common.{◌∙◌, append_assoc, arith}
 use Rattle.std.proofs.lemmas.Bool.{cases_eq}
 use Rattle.std.proofs.lemmas.Bool.Decides.{nat_tests}
 use Rattle.std.proofs.lemmas.List.{length-append}
-use Rattle.attr_glob.specs.Bytes.{quote, backslash}
+use Rattle.attr_wildmatch.specs.Bytes.{quote, backslash}
 use Rattle.attr_glob.specs.Quotes.{letter_byte, digits_byte, octal_byte, digit, Spells, itself, by_letter, by_digits, SpellsAll, escaped}
 
 record Digits (high middle low byte : ℕ) : Type 0 where

@@ -8,7 +8,7 @@ use Rattle.std.proofs.lemmas.Bool.Decides.{nat_tests}
 use Rattle.std.proofs.lemmas.List.{length-reverse, reverse-reverse}
 use Rattle.attr_keys.specs.inner.Rows.{has_row, IsFalling}
 use Rattle.attr_glob.specs.Candidates.{places_where}
-use Rattle.attr_glob.proofs.Basics.{by_test, reverse-cons}
+use Rattle.attr_wildmatch.proofs.ForCallers.{by_test, reverse-cons}
 
 -- there is a line, which passes the test
 abbrev pub passes : {X : Type 0} → (X → Bool) → Option X → Bool

@@ -1,10 +1,6 @@
 -- What the crates above may use, beside the contracts. It passes on lemmas alone: their proofs are in the modules named here.
 
--- by_test: the two cases of a test. and_parts: both tests of a conjunction pass. equal, equal_so: numbers that pass `==` are
--- equal, and equal numbers pass it. reverse-cons: the reverse of a list with one more element. same_answer: tests that imply
--- each other are equal. take_whole: a list is its own front of at least its length.
-pub use Rattle.attr_glob.proofs.Basics.{by_test, and_parts, equal, equal_so, reverse-cons}
-pub use Rattle.attr_glob.proofs.Ends.{same_answer}
+-- take_whole: a list is its own front of at least its length.
 pub use Rattle.attr_glob.proofs.IndexLemmas.{take_whole}
 -- read_same, same_read: patterns that pass `==` have the same view, and patterns of the same view pass it.
 pub use Rattle.attr_glob.proofs.IndexLemmas.{read_same, same_read}

@@ -8,7 +8,7 @@ use Rattle.std.proofs.lemmas.List.Quantifiers.{position-Some}
 use Rattle.std.proofs.lemmas.List.Sums.{fails_before_first}
 use Rattle.std.proofs.lemmas.List.Folds.{find_at}
 use Rattle.std.proofs.lemmas.Option.{slice_get-get_or}
-use Rattle.attr_glob.specs.Bytes.{quote, backslash}
+use Rattle.attr_wildmatch.specs.Bytes.{quote, backslash}
 use Rattle.attr_glob.specs.Quotes.{is_mark, piece, closing, spelled, with_front, undone_from, undone, BeginsQuoted, HoldsEscape, unclosed}
 use Rattle.attr_glob.proofs.Undoing.{undone_from-piece, with_front-none, with_front-append}
 

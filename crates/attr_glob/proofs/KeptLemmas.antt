@@ -1,8 +1,8 @@
 -- Which tokens are kept of a pattern that bytes alone don't decide.
 use Rattle.std.proofs.Common.{◌≡◌, true, Option, Some, None, refl}
-use Rattle.attr_glob.proofs.Basics.{by_test}
+use Rattle.attr_wildmatch.proofs.ForCallers.{by_test}
 use Rattle.attr_glob.specs.Patterns.{Reading, has_flag, ends_with}
-use Rattle.attr_glob.specs.Tokens.{tokens}
+use Rattle.attr_wildmatch.specs.Tokens.{tokens}
 use Rattle.attr_glob.specs.KeptTokens.{kept_tokens}
 
 -- with a wildcard, and no mere end, they are those of the text

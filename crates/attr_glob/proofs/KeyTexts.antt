@@ -13,13 +13,12 @@ use Rattle.attr_keys.specs.inner.Codes.{byte_code}
 use Rattle.attr_keys.specs.inner.LineKeys.{whole_text, turned_end}
 use Rattle.attr_keys.specs.KeyContents.{KeyContent}
 use Rattle.attr_keys.specs.inner.Meeting.{has_content}
-use Rattle.attr_glob.specs.declared.pattern.Case.{Case}
-use Rattle.attr_glob.specs.declared.pattern.Case.TheVariants.{Sensitive, Fold}
+use Rattle.attr_wildmatch.specs.declared.case.Case.{Case}
+use Rattle.attr_wildmatch.specs.declared.case.Case.TheVariants.{Sensitive, Fold}
 use Rattle.attr_glob.specs.Folding.{folded, same_text}
-use Rattle.attr_glob.specs.Matching.{same_byte}
+use Rattle.attr_wildmatch.specs.Matching.{same_byte}
 use Rattle.attr_glob.specs.inner.LineShapes.{folds}
-use Rattle.attr_glob.proofs.Basics.{reverse-cons}
-use Rattle.attr_glob.proofs.Ends.{same_answer}
+use Rattle.attr_wildmatch.proofs.ForCallers.{reverse-cons, same_answer}
 use Rattle.attr_glob.proofs.MatchingLines.{length-folded, drop-folded}
 
 shifted : (a b : ℕ) → nat_eq (a + 2) (b + 2) ≡ nat_eq a b

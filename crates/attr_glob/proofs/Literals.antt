@@ -7,15 +7,16 @@ use Rattle.std.specs.Char.{to_ascii_lowercase}
 use Rattle.std.proofs.lemmas.Iterator.Adapters.{position_from-zero}
 use Rattle.std.proofs.lemmas.List.{take-append-drop}
 use Rattle.std.proofs.lemmas.List.Quantifiers.{position-Some}
-use Rattle.attr_glob.specs.declared.pattern.Case.{Case}
-use Rattle.attr_glob.specs.declared.pattern.Case.TheVariants.{Fold}
-use Rattle.attr_glob.specs.Bytes.{asterisk, question_mark, open_bracket, backslash, slash}
-use Rattle.attr_glob.specs.Patterns.{is_wildcard, is_slash, is_suffix}
-use Rattle.attr_glob.specs.Tokens.{Token, lit, star, tokens_from, tokens, token_at}
-use Rattle.attr_glob.specs.Matching.{same_byte}
-use Rattle.attr_glob.specs.Deciding.{star_then, matches, some_match, text_matches}
+use Rattle.attr_wildmatch.specs.declared.case.Case.{Case}
+use Rattle.attr_wildmatch.specs.declared.case.Case.TheVariants.{Fold}
+use Rattle.attr_wildmatch.specs.Bytes.{asterisk, question_mark, open_bracket, backslash, slash}
+use Rattle.attr_glob.specs.Patterns.{is_wildcard, is_suffix}
+use Rattle.attr_wildmatch.specs.Slashes.{is_slash}
+use Rattle.attr_wildmatch.specs.Tokens.{Token, lit, star, tokens_from, tokens, token_at}
+use Rattle.attr_wildmatch.specs.Matching.{same_byte}
+use Rattle.attr_wildmatch.specs.Deciding.{star_then, matches, some_match, text_matches}
 use Rattle.attr_glob.specs.inner.StarEnds.{ends_after_star}
-use Rattle.attr_glob.proofs.Basics.{and_parts, and_both, by_test, equal, equal_so}
+use Rattle.attr_wildmatch.proofs.ForCallers.{and_parts, and_both, by_test, equal, equal_so}
 
 pub or_none : (a b : Bool) → (a || b) ≡ false → (a ≡ false) × (b ≡ false)
 or_none true b h = cc

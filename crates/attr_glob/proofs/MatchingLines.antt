@@ -6,16 +6,16 @@ use Rattle.std.specs.List.{ends_with as ends_with_list}
 use Rattle.std.specs.Char.{to_ascii_lowercase}
 use Rattle.std.specs.Cmp.Lexicographic.{pointwise, bytes_decides}
 use Rattle.std.proofs.lemmas.List.{length-map, drop-map}
-use Rattle.attr_glob.specs.declared.pattern.Case.{Case}
-use Rattle.attr_glob.specs.declared.pattern.Case.TheVariants.{Sensitive, Fold}
+use Rattle.attr_wildmatch.specs.declared.case.Case.{Case}
+use Rattle.attr_wildmatch.specs.declared.case.Case.TheVariants.{Sensitive, Fold}
 use Rattle.attr_glob.specs.BaseNames.{base_name}
 use Rattle.attr_glob.specs.Candidates.{has_macro_mode, matches_base_name, name, end, anything, has_key, is_candidate}
 use Rattle.attr_glob.specs.Folding.{folded, same_text}
-use Rattle.attr_glob.specs.Matching.{same_byte}
-use Rattle.attr_glob.specs.Deciding.{text_matches}
+use Rattle.attr_wildmatch.specs.Matching.{same_byte}
+use Rattle.attr_wildmatch.specs.Deciding.{text_matches}
 use Rattle.attr_glob.specs.Paths.{matched_part, is_directory, path_matches}
 use Rattle.attr_glob.specs.Patterns.{Reading, reading, has_flag, ends_with, must_be_dir}
-use Rattle.attr_glob.proofs.Basics.{by_test, and_parts, equal}
+use Rattle.attr_wildmatch.proofs.ForCallers.{by_test, and_parts, equal}
 use Rattle.attr_glob.proofs.PathLemmas.{reading-wildcard, reading-ends_with}
 use Rattle.attr_glob.proofs.Literals.{text_matches-literal, suffix-ends, no_wildcard}
 

@@ -3,7 +3,7 @@ use Rattle.std.proofs.Common.{◌≡◌, ℕ, ◌+◌, ◌⊎◌, inl, inr, List
 use Rattle.std.proofs.lemmas.Bool.{cases_eq}
 use Rattle.std.proofs.lemmas.Bool.Decides.{nat_tests}
 use Rattle.std.proofs.lemmas.List.{append-nil}
-use Rattle.attr_glob.specs.Bytes.{quote, backslash}
+use Rattle.attr_wildmatch.specs.Bytes.{quote, backslash}
 use Rattle.attr_glob.specs.Quotes.{Spells, SpellsAll, escaped, with_front, undone_from, undone, IsQuoted, IsUnclosed, IsBadEscape, BeginsQuoted}
 use Rattle.attr_glob.specs.Quotes.{not_quoted, unclosed, bad_escape}
 use Rattle.attr_glob.proofs.Spellings.{undone_from-spellings, Spells-escaped}

@@ -4,14 +4,15 @@ use Rattle.std.proofs.Common.{position, Option, Some, None, cond, refl, sym, ap,
 use Rattle.std.specs.List.{list_any, list_all, prefix_len, suffix_len}
 use Rattle.std.proofs.lemmas.List.{length-reverse, length-drop}
 use Rattle.std.proofs.lemmas.List.Sums.{suffix_len_is}
-use Rattle.attr_glob.specs.declared.pattern.Case.{Case}
-use Rattle.attr_glob.specs.Patterns.{Reading, reading, read_rest, is_slash, is_space, is_wildcard, is_suffix, is_negated, without_negation}
-use Rattle.attr_glob.specs.Patterns.{without_root, without_end, first, ends_in_slash, has_flag, ends_with, must_be_dir, negative}
-use Rattle.attr_glob.specs.Deciding.{text_matches}
+use Rattle.attr_wildmatch.specs.declared.case.Case.{Case}
+use Rattle.attr_glob.specs.Patterns.{Reading, reading, read_rest, is_space, is_wildcard, is_suffix, is_negated, without_negation}
+use Rattle.attr_wildmatch.specs.Slashes.{is_slash, ends_in_slash}
+use Rattle.attr_glob.specs.Patterns.{without_root, without_end, first, has_flag, ends_with, must_be_dir, negative}
+use Rattle.attr_wildmatch.specs.Deciding.{text_matches}
 use Rattle.attr_glob.specs.Paths.{matched_part, is_directory, PathMatches, path_matches}
 use Rattle.attr_glob.specs.BaseNames.{base_name, base_name_place}
-use Rattle.attr_glob.proofs.Basics.{by_test, and_parts, and_both, or_left, or_right, reverse-cons}
-use Rattle.attr_glob.proofs.DecidingLemmas.{text_match_of_test, test_of_text_match}
+use Rattle.attr_wildmatch.proofs.ForCallers.{by_test, and_parts, and_both, or_left, or_right, reverse-cons}
+use Rattle.attr_wildmatch.proofs.ForCallers.{text_match_of_test, test_of_text_match}
 use Rattle.attr_glob.proofs.Modes.{added-ends_with, added-negative}
 
 read_of : {A : Type 0} (blank : Bool) (a b : A) → cond blank None (Some a) ≡ Some b → a ≡ b

@@ -8,7 +8,7 @@ use Rattle.std.proofs.lemmas.List.Folds.{prefix_len-append}
 use Rattle.std.proofs.lemmas.List.Sums.{suffix_len-le-length}
 use Rattle.attr_glob.specs.inner.PlacesAfter.{place_after}
 use Rattle.attr_glob.specs.BaseNames.{base_name, base_name_place}
-use Rattle.attr_glob.specs.Patterns.{is_slash}
+use Rattle.attr_wildmatch.specs.Slashes.{is_slash}
 
 abbrev no_slash : ℕ → Bool
 no_slash b = not (is_slash b)

@@ -3,7 +3,7 @@ use Rattle.std.proofs.Common.{◌≡◌, ◌≢◌, ℕ, ◌+◌, ◌≤◌, Lis
 use Rattle.std.proofs.Common.{arith}
 use Rattle.std.proofs.lemmas.Bool.Decides.{nat_tests}
 use Rattle.std.proofs.lemmas.List.{length-append}
-use Rattle.attr_glob.specs.Bytes.{quote, backslash}
+use Rattle.attr_wildmatch.specs.Bytes.{quote, backslash}
 use Rattle.attr_glob.specs.Quotes.{letter_byte, digits_byte, octal_byte, digit, Spells, itself, by_letter, by_digits, SpellsAll, piece, spelled}
 use Rattle.attr_glob.specs.Quotes.{escaped, with_front, undone_from, Fault}
 use Rattle.attr_glob.proofs.Undoing.{undone_from-piece, with_front-append, with_front-none}

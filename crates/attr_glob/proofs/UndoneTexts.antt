@@ -1,6 +1,6 @@
 -- What is undone is the quoted text in front, and lies within the text.
 use Rattle.std.proofs.Common.{◌≡◌, ℕ, suc, ◌+◌, ◌≤◌, List, ◌∷◌, length, Ok, ap, ◌∙◌, arith, length-append}
-use Rattle.attr_glob.specs.Bytes.{quote}
+use Rattle.attr_wildmatch.specs.Bytes.{quote}
 use Rattle.attr_glob.specs.Quotes.{undone, IsQuoted}
 use Rattle.attr_glob.proofs.Outcomes.{undone-IsQuoted, undone-IsUnclosed, undone-IsBadEscape, undone-unquoted, Outcome, quoted, ends, bad, plain_text}
 use Rattle.attr_glob.proofs.Outcomes.{outcome}

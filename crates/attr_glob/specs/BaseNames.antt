@@ -1,7 +1,7 @@
 -- The base name of a path (gitignore page).
 use Rattle.std.specs.Prelude.{ℕ, ◌-◌, List, length, Option, Some, None, if◌then◌else◌}
 use Rattle.std.specs.List.{list_any, after_last}
-use Rattle.attr_glob.specs.Patterns.{is_slash}
+use Rattle.attr_wildmatch.specs.Slashes.{is_slash}
 
 -- what follows the last `/` of a path, and all of a path without one
 abbrev pub base_name : List ℕ → List ℕ

@@ -1,10 +1,11 @@
 -- Where the patterns of a source apply (own; the gitattributes page matches them relative to the folder of their file).
 use Rattle.std.specs.Prelude.{ℕ, ◌+◌, ◌==◌, ◌&&◌, List, [], ◌∷◌, ◌++◌, length, take, drop, slice_index, nat_eq, Option, Some, None, option_and_then, if◌then◌else◌}
 use Rattle.std.specs.List.{starts_with, before_last}
-use Rattle.attr_glob.specs.declared.pattern.Case.{Case}
-use Rattle.attr_glob.specs.Bytes.{slash}
+use Rattle.attr_wildmatch.specs.declared.case.Case.{Case}
+use Rattle.attr_wildmatch.specs.Bytes.{slash}
 use Rattle.attr_glob.specs.Folding.{same_text}
-use Rattle.attr_glob.specs.Patterns.{is_slash, without_end}
+use Rattle.attr_glob.specs.Patterns.{without_end}
+use Rattle.attr_wildmatch.specs.Slashes.{is_slash}
 
 -- what precedes the last slash, and nothing if there is none
 abbrev pub folder : List ℕ → List ℕ

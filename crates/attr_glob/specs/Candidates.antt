@@ -1,7 +1,7 @@
 -- Which lines of a list a path has to be matched against (own): a search looks up the lines whose key the base name has.
 use Rattle.std.specs.Prelude.{◌≡◌, ℕ, ◌++◌, Bool, true, false, not, ◌&&◌, List, [], ◌∷◌, length, drop, reverse, nat_eq, is_none, if◌then◌else◌}
 use Rattle.std.specs.List.{ends_with as ends_with_list}
-use Rattle.attr_glob.specs.declared.pattern.Case.{Case}
+use Rattle.attr_wildmatch.specs.declared.case.Case.{Case}
 use Rattle.attr_glob.specs.Folding.{folded, same_text}
 use Rattle.attr_glob.specs.Patterns.{Reading, has_flag, no_sub_dir, ends_with, absolute, all_flags}
 

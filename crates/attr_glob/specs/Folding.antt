@@ -1,8 +1,8 @@
 -- Letters of both cases (own): under `Fold` ASCII letters of different case are the same.
 use Rattle.std.specs.Prelude.{ℕ, Bool, List, map, bytes_eq}
 use Rattle.std.specs.Char.{to_ascii_lowercase}
-use Rattle.attr_glob.specs.declared.pattern.Case.{Case}
-use Rattle.attr_glob.specs.declared.pattern.Case.TheVariants.{Sensitive, Fold}
+use Rattle.attr_wildmatch.specs.declared.case.Case.{Case}
+use Rattle.attr_wildmatch.specs.declared.case.Case.TheVariants.{Sensitive, Fold}
 
 -- the text, under `Fold` with small letters in place of capital ones
 abbrev pub folded : Case → List ℕ → List ℕ

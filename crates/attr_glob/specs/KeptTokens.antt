@@ -1,7 +1,7 @@
 -- Which tokens are kept of a pattern (own).
 use Rattle.std.specs.Prelude.{Bool, not, ◌&&◌, List, Option, None, is_some, if◌then◌else◌}
 use Rattle.attr_glob.specs.Patterns.{Reading, has_flag, ends_with}
-use Rattle.attr_glob.specs.Tokens.{Token, tokens}
+use Rattle.attr_wildmatch.specs.Tokens.{Token, tokens}
 
 -- bytes alone may not decide: the text has a wildcard, and isn't one star and an end
 abbrev pub needs_tokens : Reading → Bool

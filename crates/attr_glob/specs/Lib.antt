@@ -1,11 +1,4 @@
 pub mod BaseNames
-pub mod Bytes
-pub mod Brackets
-pub mod Tokens
-pub mod TokenList
-pub mod Spelling
-pub mod Matching
-pub mod Deciding
 pub mod Patterns
 pub mod KeptTokens
 pub mod Quotes

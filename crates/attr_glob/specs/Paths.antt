@@ -1,10 +1,10 @@
 -- Which paths a pattern matches (gitignore page).
 use Rattle.std.specs.Prelude.{◌≡◌, ℕ, Bool, true, false, not, ◌&&◌, ◌||◌, IsTrue, List, Option, Some, None, if◌then◌else◌}
-use Rattle.attr_glob.specs.declared.pattern.Case.{Case}
+use Rattle.attr_wildmatch.specs.declared.case.Case.{Case}
 use Rattle.attr_glob.specs.BaseNames.{base_name}
 use Rattle.attr_glob.specs.Patterns.{Reading, has_flag, no_sub_dir, must_be_dir, absolute}
-use Rattle.attr_glob.specs.Matching.{TextMatches}
-use Rattle.attr_glob.specs.Deciding.{text_matches}
+use Rattle.attr_wildmatch.specs.Matching.{TextMatches}
+use Rattle.attr_wildmatch.specs.Deciding.{text_matches}
 
 -- what is matched: the base name if the pattern has no slash in front or inside, else the whole path
 abbrev pub matched_part : Reading → List ℕ → List ℕ

@@ -3,7 +3,8 @@ use Rattle.std.specs.Prelude.{ℕ, ◌+◌, ◌-◌, Bool, not, ◌&&◌, ◌||�
 use Rattle.std.specs.List.{list_all, list_any}
 use Rattle.std.specs.Char.{is_ascii_whitespace}
 use Rattle.std.specs.Int.RustNames.{bit_and}
-use Rattle.attr_glob.specs.Bytes.{backslash, slash, asterisk, question_mark, open_bracket, exclamation_mark, number_sign}
+use Rattle.attr_wildmatch.specs.Slashes.{is_slash, ends_in_slash}
+use Rattle.attr_wildmatch.specs.Bytes.{backslash, slash, asterisk, question_mark, open_bracket, exclamation_mark, number_sign}
 
 -- what is read of a pattern text: the text that is left, the sum of the mode's flags, and the place of the first wildcard
 pub record Reading : Type 0 where
@@ -43,9 +44,6 @@ is_space byte = is_ascii_whitespace byte
 abbrev pub is_wildcard : ℕ → Bool
 is_wildcard byte = byte == asterisk || byte == question_mark || byte == open_bracket || byte == backslash
 
-abbrev pub is_slash : ℕ → Bool
-is_slash byte = byte == slash
-
 -- the byte in front, and 0 of an empty text
 abbrev pub first : List ℕ → ℕ
 first text = slice_index text 0
@@ -65,9 +63,6 @@ without_negation text = if is_negated text || is_escaped text then drop 1 text e
 -- without the `/` in front
 abbrev pub without_root : List ℕ → List ℕ
 without_root text = if is_slash (first text) then drop 1 text else text
-
-abbrev pub ends_in_slash : List ℕ → Bool
-ends_in_slash text = is_slash (slice_index text (length text - 1))
 
 -- without the `/` at the end
 abbrev pub without_end : List ℕ → List ℕ

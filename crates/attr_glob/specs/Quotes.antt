@@ -1,6 +1,6 @@
 -- Git's C-style quoting (gitattributes page: patterns that begin with a double quote are quoted in C style).
 use Rattle.std.specs.Prelude.{◌≡◌, ◌≢◌, ℕ, zero, suc, ◌+◌, ◌-◌, ◌*◌, ◌≤◌, nat_le, Bool, ◌&&◌, ◌||◌, ◌==◌, if◌then◌else◌, List, [], ◌∷◌, ◌++◌, length, drop, slice_index, Option, Some, None, option_map, Result, Ok, Err, find}
-use Rattle.attr_glob.specs.Bytes.{quote, backslash}
+use Rattle.attr_wildmatch.specs.Bytes.{quote, backslash}
 
 -- the byte that a letter after a backslash spells
 abbrev pub letter_byte : ℕ → Option ℕ

@@ -1,13 +1,6 @@
 -- Relations between functions inside the crate (own). No contract of a public call reaches it, so nothing of it has to be
 -- believed.
-pub mod Bordered
-pub mod ByteSets
-pub mod Closing
-pub mod FirstBytes
 pub mod IndexInvariant
-pub mod Left
 pub mod LineShapes
 pub mod PlacesAfter
-pub mod RowPlaces
 pub mod StarEnds
-pub mod Stretches

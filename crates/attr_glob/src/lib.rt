@@ -1,14 +1,12 @@
 //! The patterns of attributes files and ignore files (gitattributes and gitignore pages): this crate undoes quoted
-//! texts, reads pattern texts, and matches patterns against paths.
+//! texts, reads pattern texts, and matches patterns against paths. The tokens of a pattern's text, and what they match, are
+//! those of `attr_wildmatch`, whose modules are shown here.
 #![tactic(auto)]
 
-mod bracket;
-mod byte_set;
 pub mod matcher;
 pub mod pattern;
 pub mod quote;
 pub mod search;
-pub mod token;
-pub mod wildmatch;
 
 pub use crate::pattern::Pattern;
+pub use attr_wildmatch::{token, wildmatch};

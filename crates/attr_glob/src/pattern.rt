@@ -4,16 +4,19 @@ ghost use Rattle.std.specs.Prelude.{⊤, ◌≡◌, ◌↔◌, ℕ, Bool, false,
 ghost use Rattle.std.specs.List.{list_all, list_any, starts_with, ends_with};
 ghost use Rattle.std.specs.Cmp.Lexicographic.{pointwise};
 ghost use Rattle.bstr.specs.BStr.{bstr_bytes};
-ghost use Rattle.attr_glob.specs.Patterns.{Reading, reading, written, is_space, is_wildcard, is_slash, is_negated, without_negation, without_root, without_end, first, ends_in_slash, is_suffix, read_rest, has_flag, negative, must_be_dir, ends_with as ends_with_flag, set_where};
-ghost use Rattle.attr_glob.specs.Matching.{same_byte};
-ghost use Rattle.attr_glob.specs.Deciding.{text_matches};
+ghost use Rattle.attr_glob.specs.Patterns.{Reading, reading, written, is_space, is_wildcard, is_negated, without_negation, without_root, without_end, first, is_suffix, read_rest, has_flag, negative, must_be_dir, ends_with as ends_with_flag, set_where};
+ghost use Rattle.attr_wildmatch.specs.Slashes.{is_slash};
+ghost use Rattle.attr_wildmatch.specs.Matching.{same_byte};
+ghost use Rattle.attr_wildmatch.specs.Deciding.{text_matches};
 ghost use Rattle.attr_glob.specs.Folding.{same_text};
 ghost use Rattle.attr_glob.specs.Paths.{matched_part, is_directory, PathMatches, path_matches};
 ghost use Rattle.attr_glob.specs.BaseNames.{base_name, base_name_place};
 ghost use Rattle.attr_glob.specs.Views.{mode_bits, pattern_view};
 ghost use Rattle.attr_glob.specs.inner.StarEnds.{ends_after_star};
 
-use crate::wildmatch;
+pub use attr_wildmatch::Case;
+use attr_wildmatch::slashes::{ends_in_slash, has_slash};
+use attr_wildmatch::wildmatch;
 use bitflags::{Flag, Flags};
 use bstr::{BStr, ByteSlice};
 use std::alloc::{AllocError, Global};
@@ -90,15 +93,6 @@ impl Flags for Mode {
     fn from_bits_retain(bits: u32) -> Mode {
         Mode(bits)
     }
-}
-
-/// Whether the case of ASCII letters matters.
-#[derive(Clone, Copy, PartialEq, Eq, PartialOrd, Ord, Hash, Debug)]
-pub enum Case {
-    /// Letters of different case differ.
-    Sensitive,
-    /// Letters of different case are the same.
-    Fold,
 }
 
 /// A pattern, as it is read from a pattern text.
@@ -324,12 +318,6 @@ fn without_root(text: &[u8]) -> &[u8]
     }
 }
 
-pub(crate) fn ends_in_slash(text: &[u8]) -> bool
-    ensures { result ≡ ends_in_slash text.now }
-{
-    text.last() == Some(&b'/')
-}
-
 pub(crate) fn without_end(text: &[u8]) -> &[u8]
     ensures { result.now ≡ without_end text.now }
 {
@@ -337,33 +325,6 @@ pub(crate) fn without_end(text: &[u8]) -> &[u8]
         [front @ .., b'/'] => front,
         _ => text,
     }
-}
-
-// Whether a byte of the text is a slash: eight are compared together.
-pub(crate) fn has_slash(text: &[u8]) -> bool
-    ensures { result ≡ list_any is_slash text.now }
-{
-    let mut rest = text;
-    while let [a, b, c, d, e, f, g, h, others @ ..] = rest {
-        if (*a == b'/')
-            | (*b == b'/')
-            | (*c == b'/')
-            | (*d == b'/')
-            | (*e == b'/')
-            | (*f == b'/')
-            | (*g == b'/')
-            | (*h == b'/')
-        {
-            return true;
-        }
-        rest = others;
-    }
-    for byte in rest {
-        if *byte == b'/' {
-            return true;
-        }
-    }
-    false
 }
 
 fn is_suffix(text: &[u8]) -> bool

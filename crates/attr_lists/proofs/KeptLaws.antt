@@ -6,7 +6,7 @@ use Rattle.std.specs.Option.{option_to_list}
 use Rattle.std.specs.Result.{result_ok, result_map_both}
 use Rattle.std.proofs.lemmas.List.Folds.{list_all-append}
 use Rattle.std.proofs.lemmas.Bool.{and_parts}
-use Rattle.attr_glob.specs.Bytes.{number_sign}
+use Rattle.attr_wildmatch.specs.Bytes.{number_sign}
 use Rattle.attr_glob.specs.Patterns.{Reading, reading, is_negated}
 use Rattle.attr_text.specs.Names.{is_valid_name, is_reserved_name}
 use Rattle.attr_text.specs.Items.{invalid_name, reserved, checked_name, after_blanks}

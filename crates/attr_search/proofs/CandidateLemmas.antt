@@ -9,7 +9,7 @@ use Rattle.std.proofs.lemmas.List.{length-map, length-reverse, map-append, appen
 use Rattle.std.proofs.lemmas.Grind.{flat_map-append}
 use Rattle.std.proofs.lemmas.Nat.{and_assoc}
 use Rattle.std.specs.Int.Bits.{bit_and}
-use Rattle.attr_glob.specs.declared.pattern.Case.{Case}
+use Rattle.attr_wildmatch.specs.declared.case.Case.{Case}
 use Rattle.attr_glob.specs.declared.search.pattern.Mapping.{Mapping}
 use Rattle.attr_glob.specs.BaseNames.{base_name}
 use Rattle.attr_glob.specs.Bases.{rest_below}
@@ -17,7 +17,7 @@ use Rattle.attr_glob.specs.Candidates.{has_macro_mode, is_candidate, places_wher
 use Rattle.attr_glob.specs.Paths.{path_matches}
 use Rattle.attr_glob.specs.Patterns.{Reading, reading, has_flag, negative, no_sub_dir, ends_with, must_be_dir, absolute}
 use Rattle.attr_glob.specs.Views.{patterns_of}
-use Rattle.attr_glob.proofs.ForCallers.{by_test, equal, equal_so, reverse-cons}
+use Rattle.attr_wildmatch.proofs.ForCallers.{by_test, equal, equal_so, reverse-cons}
 use Rattle.attr_lists.specs.declared.types.AttributeId.{AttributeId}
 use Rattle.attr_lists.specs.declared.types.Value.{Value}
 use Rattle.attr_lists.specs.ListViews.{Entry, entries_view}

@@ -11,7 +11,7 @@ use Rattle.attr_glob.specs.declared.search.pattern.List.{List as PatternList}
 use Rattle.attr_glob.specs.Clones.{AreMappingClones, IsMappingClone}
 use Rattle.attr_glob.specs.KeptTokens.{kept_tokens}
 use Rattle.attr_glob.specs.Patterns.{Reading}
-use Rattle.attr_glob.specs.Tokens.{Token}
+use Rattle.attr_wildmatch.specs.Tokens.{Token}
 use Rattle.attr_glob.specs.Views.{base_bytes, pattern_view, patterns_of}
 use Rattle.attr_lists.specs.declared.parser.Attributes.{Attributes}
 use Rattle.attr_lists.specs.declared.types.Dropped.{Dropped}

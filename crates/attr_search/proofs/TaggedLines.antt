@@ -6,7 +6,7 @@ use Rattle.std.specs.List.{flat_map}
 use Rattle.std.proofs.lemmas.Bool.{cases_eq, eq-eqb}
 use Rattle.std.proofs.lemmas.List.{map-append, append-nil}
 use Rattle.std.proofs.lemmas.Grind.{flat_map-append}
-use Rattle.attr_glob.proofs.ForCallers.{by_test}
+use Rattle.attr_wildmatch.proofs.ForCallers.{by_test}
 use Rattle.attr_table.specs.Setting.{Item, Origin, Line, Setting, Answer, body_of}
 use Rattle.attr_table.specs.Table.{Occurrence, Root, Inside, Table, Slots, line_at, item_at, IsReached, IsLive, IsEarliest, IsStable}
 use Rattle.attr_table.specs.Cut.{is_done, origin_at, answer_at, IsCut, IsCutAt}

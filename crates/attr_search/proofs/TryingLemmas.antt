@@ -9,15 +9,16 @@ use Rattle.attr_keys.specs.inner.LineKeys.{front_of}
 use Rattle.attr_keys.specs.KeyContents.{KeyContent}
 use Rattle.attr_keys.specs.inner.Meeting.{content_met, content_met_at}
 use Rattle.attr_keys.specs.inner.Rows.{has_row, IsFalling}
-use Rattle.attr_glob.specs.declared.pattern.Case.{Case}
+use Rattle.attr_wildmatch.specs.declared.case.Case.{Case}
 use Rattle.attr_glob.specs.BaseNames.{base_name}
 use Rattle.attr_glob.specs.Candidates.{has_macro_mode, matches_base_name, is_candidate}
-use Rattle.attr_glob.specs.Deciding.{text_matches}
-use Rattle.attr_glob.specs.Matching.{same_byte}
+use Rattle.attr_wildmatch.specs.Deciding.{text_matches}
+use Rattle.attr_wildmatch.specs.Matching.{same_byte}
 use Rattle.attr_glob.specs.Paths.{matched_part, is_directory, path_matches}
 use Rattle.attr_glob.specs.Patterns.{Reading, reading, has_flag, is_wildcard, must_be_dir, ends_with}
 use Rattle.attr_glob.specs.inner.LineShapes.{folds, is_tried}
-use Rattle.attr_glob.proofs.ForCallers.{by_test, and_parts, matching_line_is_candidate, reading-wildcard, no_wildcard, text_matches-literal}
+use Rattle.attr_glob.proofs.ForCallers.{matching_line_is_candidate, reading-wildcard, no_wildcard, text_matches-literal}
+use Rattle.attr_wildmatch.proofs.ForCallers.{by_test, and_parts}
 use Rattle.attr_glob.proofs.ForCallers.{text_matches-front}
 use Rattle.attr_glob.proofs.ForCallers.{whole_met, front_met, end_met, bytewise, falling_places, passes}
 use Rattle.attr_search.specs.inner.Trying.{AreTried, key_of_line}

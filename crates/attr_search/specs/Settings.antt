@@ -2,7 +2,7 @@
 use Rattle.std.specs.Prelude.{◌≡◌, ℕ, ◌<◌, Bool, false, ◌&&◌, List, [], map, length, sum_by, All, Option, Some, None, MatchOption, ⊤}
 use Rattle.std.specs.Prelude.{is_none, is_some, slice_get, slice_index_or, if◌then◌else◌}
 use Rattle.std.specs.List.{list_any}
-use Rattle.attr_glob.specs.declared.pattern.Case.{Case}
+use Rattle.attr_wildmatch.specs.declared.case.Case.{Case}
 use Rattle.attr_glob.specs.BaseNames.{base_name}
 use Rattle.attr_glob.specs.Bases.{rest_below}
 use Rattle.attr_glob.specs.Candidates.{candidates}

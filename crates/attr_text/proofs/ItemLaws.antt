@@ -5,7 +5,7 @@ use Rattle.std.specs.List.{before_first, list_all, AllZip}
 use Rattle.std.proofs.Math.Seq.{drop-append-add}
 use Rattle.std.proofs.lemmas.List.{append-nil}
 use Rattle.std.proofs.lemmas.Bool.{cases_Bool, cases_eq, and_from, eqb-true, ne_eqb}
-use Rattle.attr_glob.specs.Bytes.{exclamation_mark, hyphen}
+use Rattle.attr_wildmatch.specs.Bytes.{exclamation_mark, hyphen}
 use Rattle.attr_text.specs.Names.{is_valid_name, is_reserved_name}
 use Rattle.attr_text.specs.Items.{equals, is_equals, Refusal, invalid_name, reserved, checked_name, with_state, item_of, items_of}
 use Rattle.attr_text.specs.ItemForms.{HasNoEquals, HasNoMark, IsValuePart, HasForm, name_alone, name_and_value, after_minus}

@@ -5,7 +5,7 @@ use Rattle.std.specs.List.{position_or_len, before_first, list_all}
 use Rattle.std.proofs.Math.Seq.{take-append_seam}
 use Rattle.std.proofs.lemmas.List.{append-nil, take_all}
 use Rattle.std.proofs.lemmas.Bool.{and_parts, lt-ltb, le-ltb}
-use Rattle.attr_glob.specs.Bytes.{exclamation_mark, hyphen}
+use Rattle.attr_wildmatch.specs.Bytes.{exclamation_mark, hyphen}
 use Rattle.attr_text.specs.Items.{equals, is_equals, checked_name, with_state, state_from, item_of}
 use Rattle.attr_text.specs.declared.state.State.TheVariants.{Unset, Unspecified}
 

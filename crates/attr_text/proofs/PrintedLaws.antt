@@ -11,7 +11,7 @@ use Rattle.std.proofs.lemmas.Bool.Decides.{nat_tests}
 use Rattle.std.proofs.lemmas.Str.{utf8_lossy-IsUtf8}
 use Rattle.bstr.proofs.lemmas.LossyLemmas.{lossy_chars-utf8_lossy}
 use Rattle.bstr.specs.Utf8.{lossy_chars}
-use Rattle.attr_glob.specs.Bytes.{exclamation_mark, hyphen}
+use Rattle.attr_wildmatch.specs.Bytes.{exclamation_mark, hyphen}
 use Rattle.attr_text.specs.Names.{is_name_byte, is_valid_name, is_reserved_name}
 use Rattle.attr_text.specs.Items.{equals, is_equals, is_blank, words, checked_name, with_state, item_of, items_of, printed_state, printed}
 use Rattle.attr_text.specs.Words.{IsPlain}

@@ -1,7 +1,7 @@
 -- What an item of a line is (gitattributes page): `name`, `name=value`, `-name` or `!name`, where git passes over a value.
 use Rattle.std.specs.Prelude.{◌≡◌, ◌≢◌, ℕ, true, false, not, ◌==◌, List, [], ◌∷◌, ◌++◌, slice_index, Result, Ok, Err}
 use Rattle.std.specs.List.{list_all}
-use Rattle.attr_glob.specs.Bytes.{exclamation_mark, hyphen}
+use Rattle.attr_wildmatch.specs.Bytes.{exclamation_mark, hyphen}
 use Rattle.attr_text.specs.Items.{equals, Refusal, invalid_name, reserved}
 use Rattle.attr_text.specs.Names.{is_valid_name, is_reserved_name}
 use Rattle.attr_text.specs.declared.state.State.{State}

@@ -3,7 +3,7 @@ use Rattle.std.specs.Prelude.{ℕ, ◌+◌, Bool, true, false, not, ◌||◌, �
 use Rattle.std.specs.Prelude.{Option, Some, None, Result, Ok, Err, if◌then◌else◌, position, filter, encode_utf8_all}
 use Rattle.std.specs.List.{before_first, slice_split, position_or_len}
 use Rattle.bstr.specs.Utf8.{lossy_chars}
-use Rattle.attr_glob.specs.Bytes.{exclamation_mark, hyphen}
+use Rattle.attr_wildmatch.specs.Bytes.{exclamation_mark, hyphen}
 use Rattle.attr_text.specs.LinesJoined.{carriage_return}
 use Rattle.attr_text.specs.Names.{is_valid_name, is_reserved_name}
 use Rattle.attr_text.specs.declared.state.State.{State}

@@ -5,7 +5,7 @@ use Rattle.std.specs.Prelude.{Option, Some, None, option_map, Result, Ok, Err, i
 use Rattle.std.specs.List.{starts_with}
 use Rattle.std.specs.Option.{option_to_list}
 use Rattle.bstr.specs.Text.{lines_of, without_terminator}
-use Rattle.attr_glob.specs.Bytes.{number_sign}
+use Rattle.attr_wildmatch.specs.Bytes.{number_sign}
 use Rattle.attr_glob.specs.Patterns.{Reading, reading, is_negated}
 use Rattle.attr_glob.specs.Quotes.{Fault, undone}
 use Rattle.attr_text.specs.Items.{after_blanks, before_blank, from_blank, Refusal, checked_name, items_of}

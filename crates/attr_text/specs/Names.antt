@@ -2,7 +2,7 @@
 use Rattle.std.specs.Prelude.{ℕ, Bool, not, ◌&&◌, ◌||◌, nat_lt, nat_eq, ◌==◌, List, length, slice_index, codes}
 use Rattle.std.specs.Char.{is_ascii_alphanumeric}
 use Rattle.std.specs.List.{list_all, starts_with}
-use Rattle.attr_glob.specs.Bytes.{hyphen}
+use Rattle.attr_wildmatch.specs.Bytes.{hyphen}
 
 -- `.`
 abbrev pub dot : ℕ

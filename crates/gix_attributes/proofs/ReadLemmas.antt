@@ -4,10 +4,11 @@ use Rattle.std.specs.Prelude.{⊤, All, option_map, drop, length, ◌==◌, ◌|
 use Rattle.std.specs.List.{list_all, list_any, cons_option}
 use Rattle.std.specs.Option.{option_to_list}
 use Rattle.std.specs.Result.{result_ok, result_map_both}
-use Rattle.attr_glob.specs.Bytes.{number_sign}
+use Rattle.attr_wildmatch.specs.Bytes.{number_sign}
 use Rattle.std.proofs.lemmas.List.Elements.{All-nil, All-cons, All-head, All-tail, All-append}
-use Rattle.attr_glob.specs.Patterns.{Reading, reading, read_rest, is_negated, without_negation, without_root, without_end, is_space, is_slash}
-use Rattle.attr_glob.specs.Patterns.{is_suffix, ends_in_slash, first, set_where, has_flag, no_sub_dir, ends_with, must_be_dir, negative, absolute}
+use Rattle.attr_glob.specs.Patterns.{Reading, reading, read_rest, is_negated, without_negation, without_root, without_end, is_space}
+use Rattle.attr_wildmatch.specs.Slashes.{is_slash, ends_in_slash}
+use Rattle.attr_glob.specs.Patterns.{is_suffix, first, set_where, has_flag, no_sub_dir, ends_with, must_be_dir, negative, absolute}
 use Rattle.attr_text.specs.Items.{Refusal, checked_name, after_blanks}
 use Rattle.attr_text.specs.LineResults.{Target, pattern, macro, LineResult, RefusedLine, Given, macro_name, negative_pattern, macro_prefix}
 use Rattle.attr_text.specs.LineResults.{is_macro_definition, macro_of, pattern_of, target_of, parts_of, with_items, result_of_text, result_of}

@@ -7,7 +7,7 @@ use Rattle.std.specs.Prelude.{◌&&◌, is_some, option_and_then, slice_get}
 use Rattle.std.specs.List.{Contains, list_any, range_with_len}
 use Rattle.std.proofs.lemmas.List.Elements.{All-head, All-tail}
 use Rattle.std.proofs.lemmas.List.{append-nil}
-use Rattle.attr_glob.specs.declared.pattern.Case.{Case}
+use Rattle.attr_wildmatch.specs.declared.case.Case.{Case}
 use Rattle.attr_lists.specs.ListViews.{Entry}
 use Rattle.attr_lists.specs.declared.types.TrackedAssignment.{TrackedAssignment}
 use Rattle.attr_table.specs.Setting.{Answer, Item, Line, Origin, Setting, body_of}

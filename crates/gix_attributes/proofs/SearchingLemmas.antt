@@ -4,7 +4,7 @@ use Rattle.std.proofs.Math.Path.{subst}
 use Rattle.std.specs.Result.{is_err}
 use Rattle.std.specs.declared.result.Result.{Result}
 use Rattle.bstr.specs.BStr.{bstr_bytes}
-use Rattle.attr_glob.specs.declared.pattern.Case.{Case}
+use Rattle.attr_wildmatch.specs.declared.case.Case.{Case}
 use Rattle.attr_search.specs.declared.path_query.PathQuery.{PathQuery}
 use Rattle.attr_search.specs.SearchContents.{SearchContents}
 use Rattle.attr_search.specs.inner.SlotContents.{wanted_numbers}

@@ -9,7 +9,7 @@ use Rattle.std.proofs.lemmas.Bool.{ne_eqb, cases_lt}
 use Rattle.std.proofs.lemmas.List.{length-take-le, take-take, get_or-take, take_more, take_all}
 use Rattle.std.proofs.lemmas.Str.{encode_ascii}
 use Rattle.std.proofs.lemmas.List.Sums.{suffix_len_is}
-use Rattle.attr_glob.specs.Patterns.{is_slash}
+use Rattle.attr_wildmatch.specs.Slashes.{is_slash}
 use Rattle.gix_attributes.specs.Sources.{Asked, AsksInOrder, location}
 use Rattle.gix_attributes.specs.declared.source.Prefixes.{Prefixes}
 use Rattle.gix_attributes.specs.declared.source.Source.{Source}

@@ -3,7 +3,7 @@
 use Rattle.std.specs.Prelude.{◌≡◌, ℕ, ◌<◌, ◌⊎◌, ⊤, Bool, false, List, [], ◌++◌, map, length, slice_index_or, All, Contains}
 use Rattle.std.specs.Prelude.{Option, None, unwrap_or, option_map, option_and_then, MatchOption}
 use Rattle.std.specs.List.{filter_map, range_with_len}
-use Rattle.attr_glob.specs.declared.pattern.Case.{Case}
+use Rattle.attr_wildmatch.specs.declared.case.Case.{Case}
 use Rattle.attr_text.specs.declared.state.State.{State}
 use Rattle.attr_text.specs.declared.state.State.TheVariants.{Set, Unset, Value, Unspecified}
 use Rattle.attr_lists.specs.Collections.{Collection}

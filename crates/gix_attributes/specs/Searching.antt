@@ -1,6 +1,6 @@
 -- The setting of a search, and what the search leaves in its outcome (own).
 use Rattle.std.specs.Prelude.{◌≡◌, ℕ, Bool, List, Option, length}
-use Rattle.attr_glob.specs.declared.pattern.Case.{Case}
+use Rattle.attr_wildmatch.specs.declared.case.Case.{Case}
 use Rattle.attr_table.specs.Cut.{ExtendsCuts, is_done}
 use Rattle.attr_table.specs.Setting.{Setting}
 use Rattle.attr_table.specs.Table.{Slots}

@@ -6,8 +6,8 @@ use Rattle.std.specs.Global.{Global}
 use Rattle.std.specs.List.{FoldsTo, find, suffix_len}
 use Rattle.std.specs.Fn.{Mut, CalledAt}
 use Rattle.std.specs.Borrow.{Bor}
-use Rattle.attr_glob.specs.Bytes.{slash}
-use Rattle.attr_glob.specs.Patterns.{is_slash}
+use Rattle.attr_wildmatch.specs.Bytes.{slash}
+use Rattle.attr_wildmatch.specs.Slashes.{is_slash}
 use Rattle.gix_attributes.specs.declared.source.Prefixes.{Prefixes}
 use Rattle.gix_attributes.specs.declared.source.Source.{Source}
 use Rattle.gix_attributes.specs.declared.source.Source.TheVariants.{GitInstallation, System, Git, Local}

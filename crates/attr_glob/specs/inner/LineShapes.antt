@@ -2,8 +2,8 @@
 use Rattle.std.specs.Prelude.{ℕ, Bool, true, false, List}
 use Rattle.attr_keys.specs.inner.LineKeys.{ShapeContent, line_content}
 use Rattle.attr_keys.specs.inner.Meeting.{content_met}
-use Rattle.attr_glob.specs.declared.pattern.Case.{Case}
-use Rattle.attr_glob.specs.declared.pattern.Case.TheVariants.{Sensitive, Fold}
+use Rattle.attr_wildmatch.specs.declared.case.Case.{Case}
+use Rattle.attr_wildmatch.specs.declared.case.Case.TheVariants.{Sensitive, Fold}
 use Rattle.attr_glob.specs.BaseNames.{base_name}
 use Rattle.attr_glob.specs.Candidates.{has_macro_mode, matches_base_name}
 use Rattle.attr_glob.specs.Patterns.{Reading, has_flag, ends_with}

@@ -5,7 +5,7 @@ ghost use Rattle.std.specs.Prelude.{ℕ, ◌≡◌, ◌↔◌, ◌≤◌, ◌<�
 ghost use Rattle.std.specs.Cow.{cow_slice_items, IsOwnedSlice};
 ghost use Rattle.bstr.specs.BStr.{bstr_bytes};
 ghost use Rattle.attr_glob.specs.declared.quote.ansi_c.UndoError.TheVariants.{OutOfMemory};
-ghost use Rattle.attr_glob.specs.Bytes.{backslash};
+ghost use Rattle.attr_wildmatch.specs.Bytes.{backslash};
 ghost use Rattle.attr_glob.specs.Quotes.{letter_byte, digits_byte, escaped, HoldsEscape, IsQuoted, IsUnclosed, IsBadEscape, BeginsQuoted, is_mark, undone, not_quoted, unclosed, bad_escape};
 ghost use Rattle.attr_glob.specs.Refusals.{IsRefusal};
 

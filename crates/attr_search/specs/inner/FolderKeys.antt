@@ -4,7 +4,7 @@ use Rattle.std.specs.Prelude.{if◌then◌else◌, ◌+◌, ◌*◌, ◌%◌, �
 use Rattle.std.specs.List.{fold, list_any}
 use Rattle.std.specs.Char.{to_ascii_lowercase}
 use Rattle.std.specs.Hash.DefaultHasher as sip
-use Rattle.attr_glob.specs.Bytes.{slash}
+use Rattle.attr_wildmatch.specs.Bytes.{slash}
 
 -- the bytes of a short text after a one, in 64 bits
 abbrev pub short_key : List ℕ → ℕ

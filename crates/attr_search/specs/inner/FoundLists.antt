@@ -1,7 +1,7 @@
 -- The lists that apply to a path, by their numbers (own). Nothing here has to be believed.
 use Rattle.std.specs.Prelude.{◌≡◌, ℕ, ◌<◌, Contains, List, Some, slice_get, vec_capacity, vec_len}
 use Rattle.std.specs.List.Sorted.{IsNonDecreasing}
-use Rattle.attr_glob.specs.declared.pattern.Case.{Case}
+use Rattle.attr_wildmatch.specs.declared.case.Case.{Case}
 use Rattle.attr_search.specs.declared.indexed_list.IndexedList.{IndexedList}
 use Rattle.attr_search.specs.declared.indexed_lists.IndexedLists.{IndexedLists}
 use Rattle.attr_search.specs.IndexedLists.{listed_view}

@@ -1,7 +1,7 @@
 -- The lines that functions search (own). Nothing here has to be believed.
 use Rattle.std.specs.Prelude.{ℕ, List, [], map, Bool, Option, Some, None, slice_index_or}
 use Rattle.bstr.specs.BStr.{bstr_bytes}
-use Rattle.attr_glob.specs.declared.pattern.Case.{Case}
+use Rattle.attr_wildmatch.specs.declared.case.Case.{Case}
 use Rattle.attr_lists.specs.ListViews.{Entry}
 use Rattle.attr_table.specs.Setting.{Line}
 use Rattle.attr_table.specs.inner.Walk.{Task, line_tasks}

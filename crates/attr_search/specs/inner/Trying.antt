@@ -2,7 +2,7 @@
 use Rattle.std.specs.Prelude.{◌≡◌, ℕ, Bool, true, false, List, reverse, Option, Some}
 use Rattle.attr_keys.specs.inner.LineKeys.{line_content}
 use Rattle.attr_keys.specs.KeyContents.{KeyContent}
-use Rattle.attr_glob.specs.declared.pattern.Case.{Case}
+use Rattle.attr_wildmatch.specs.declared.case.Case.{Case}
 use Rattle.attr_glob.specs.BaseNames.{base_name}
 use Rattle.attr_glob.specs.Candidates.{has_macro_mode, is_candidate, places_where}
 use Rattle.attr_glob.specs.Paths.{path_matches}

@@ -4,7 +4,7 @@
 //! attribute, by the gitattributes page. The laws of `attr_table` prove that exactly one table is stable.
 
 ghost use Rattle.std.specs.Prelude.{◌≡◌, ◌↔◌, ℕ, Bool, false, List, ◌∷◌, ◌++◌, Option, All};
-ghost use Rattle.attr_glob.specs.declared.pattern.Case.{Case};
+ghost use Rattle.attr_wildmatch.specs.declared.case.Case.{Case};
 ghost use Rattle.attr_lists.specs.Collections.{Collection};
 ghost use Rattle.attr_lists.specs.declared.types.TrackedAssignment.{TrackedAssignment};
 ghost use Rattle.attr_table.specs.Cut.{IsSearched, full_answer};

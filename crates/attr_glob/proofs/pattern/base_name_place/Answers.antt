@@ -1,5 +1,5 @@
 use Rattle.std.proofs.Common.{◌≡◌, ◌+◌, ◌-◌, arith, Bool, true, false, refl, ap, ◌∙◌, get_or}
-use Rattle.attr_glob.specs.Patterns.{is_slash}
+use Rattle.attr_wildmatch.specs.Slashes.{is_slash}
 use Rattle.attr_glob.proofs.PathLemmas.{base_name_place-found, base_name_place-none}
 use Rattle.attr_glob.proofs.pattern.base_name_place.Goals as goal
 

@@ -1,7 +1,8 @@
 -- The flags are joined one after the other, and each is set where the reading sets it.
 use Rattle.std.proofs.Common.{not}
 use Rattle.std.specs.List.{list_any}
-use Rattle.attr_glob.specs.Patterns.{is_slash, without_root, without_end, first, ends_in_slash, is_suffix}
+use Rattle.attr_glob.specs.Patterns.{without_root, without_end, first, is_suffix}
+use Rattle.attr_wildmatch.specs.Slashes.{is_slash, ends_in_slash}
 use Rattle.attr_glob.proofs.Modes.{joined_flags}
 use Rattle.attr_glob.proofs.pattern.mode_of.Goals as goal
 

@@ -1,6 +1,6 @@
 use Rattle.std.proofs.Common.{sym, ap, ◌∙◌}
 use Rattle.std.specs.Cmp.Lexicographic.{pointwise}
-use Rattle.attr_glob.specs.Matching.{same_byte}
+use Rattle.attr_wildmatch.specs.Matching.{same_byte}
 use Rattle.attr_glob.proofs.Literals.{folded}
 use Rattle.attr_glob.proofs.pattern.same_text.Goals as goal
 

@@ -2,7 +2,7 @@ use Rattle.std.proofs.Common.{◌≡◌, true, false, Some, None, length, take, 
 use Rattle.std.specs.List.{starts_with}
 use Rattle.std.specs.Cmp.Lexicographic.{pointwise}
 use Rattle.attr_glob.specs.Patterns.{is_wildcard, is_suffix, has_flag, ends_with as ends_with_flag}
-use Rattle.attr_glob.specs.Matching.{same_byte}
+use Rattle.attr_wildmatch.specs.Matching.{same_byte}
 use Rattle.attr_glob.specs.Views.{pattern_view}
 use Rattle.attr_glob.specs.inner.StarEnds.{ends_after_star}
 use Rattle.attr_glob.proofs.Literals.{text_matches-literal, text_matches-suffix, text_matches-front, no_wildcard, place_inside}

@@ -1,9 +1,9 @@
 -- The kept tokens tell what the text matches.
 use Rattle.std.proofs.Common.{sym, ap, ◌∙◌}
 use Rattle.std.specs.Option.{option_copied}
-use Rattle.attr_glob.specs.Deciding.{some_match}
+use Rattle.attr_wildmatch.specs.Deciding.{some_match}
 use Rattle.attr_glob.specs.Views.{pattern_view}
-use Rattle.attr_glob.proofs.Ends.{exact_answer}
+use Rattle.attr_wildmatch.proofs.ForCallers.{exact_answer}
 use Rattle.attr_glob.proofs.KeptLemmas.{kept_if_undecided}
 use Rattle.attr_glob.proofs.pattern.Pattern.matches_part.Goals as goal
 

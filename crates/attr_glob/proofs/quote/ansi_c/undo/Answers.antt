@@ -1,7 +1,7 @@
 -- By the first quote or backslash after the opening quote.
 use Rattle.std.proofs.Common.{◌≢◌, ◌-◌, length, drop, take, get_or, position, ap, sym, ◌∙◌, arith}
 use Rattle.std.proofs.lemmas.Slice.{between_to_end}
-use Rattle.attr_glob.specs.Bytes.{quote}
+use Rattle.attr_wildmatch.specs.Bytes.{quote}
 use Rattle.attr_glob.specs.Quotes.{is_mark, BeginsQuoted}
 use Rattle.attr_glob.proofs.Fronts.{undone-unmarked, undone-marked, HoldsEscape-marked, HoldsEscape-Contains, no_escape}
 use Rattle.attr_glob.proofs.UndoneTexts.{IsQuoted-undone, IsQuoted-inside}

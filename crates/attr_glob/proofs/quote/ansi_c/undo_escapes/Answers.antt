@@ -1,7 +1,7 @@
 -- Each turn undoes one more byte.
 use Rattle.std.proofs.Common.{◌≡◌, ◌≢◌, ◌+◌, length, drop, get_or, Some, ap, ◌∙◌, arith}
 use Rattle.std.proofs.lemmas.Slice.{between_to_end}
-use Rattle.attr_glob.specs.Bytes.{quote, backslash}
+use Rattle.attr_wildmatch.specs.Bytes.{quote, backslash}
 use Rattle.attr_glob.specs.Quotes.{escaped, undone}
 use Rattle.attr_glob.proofs.Undoing.{undone_from-plain, undone_from-escape}
 use Rattle.attr_glob.proofs.quote.ansi_c.undo_escapes.Goals as goal

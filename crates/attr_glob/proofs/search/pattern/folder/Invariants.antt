@@ -1,6 +1,6 @@
 use Rattle.std.proofs.Common.{◌≡◌, ◌+◌, ◌≤◌, length, take, not}
 use Rattle.std.specs.List.{suffix_len}
-use Rattle.attr_glob.specs.Patterns.{is_slash}
+use Rattle.attr_wildmatch.specs.Slashes.{is_slash}
 use Rattle.attr_glob.proofs.search.pattern.folder.Given as goal
 
 abbrev pub invariant-loop-end : goal.invariant-loop-end

@@ -5,7 +5,7 @@ use Rattle.std.specs.Option.{option_eq}
 use Rattle.std.specs.String.{string_eq}
 use Rattle.attr_glob.specs.Clones.{IsMappingClone}
 use Rattle.attr_glob.specs.contracts.pattern.PatternPartialEq.TheImpl as pattern
-use Rattle.attr_glob.proofs.Basics.{and_both}
+use Rattle.attr_wildmatch.proofs.ForCallers.{and_both}
 use Rattle.attr_glob.proofs.Copies.{clones_equal, text_equal, base_equal}
 use Rattle.attr_glob.proofs.IndexLemmas.{same_read}
 use Rattle.attr_glob.proofs.search.pattern.laws.list_clone_is_equal.Goals as goal

@@ -1,6 +1,6 @@
 use Rattle.std.proofs.Common.{◌≤◌, ◌∙◌, ap, arith, length}
+use Rattle.std.proofs.lemmas.Result.{IfOk-weaker}
 use Rattle.attr_glob.specs.Views.{patterns_of}
-use Rattle.attr_glob.proofs.Basics.{if_ok}
 use Rattle.attr_glob.proofs.IndexLemmas.{lines_push, take_whole}
 use Rattle.attr_glob.proofs.search.pattern.index.Index.of.Goals as goal
 
@@ -15,6 +15,6 @@ pub returns : goal.returns
 returns g c =
     let mappings = c.args.list.now.patterns.items in
     let whole : length mappings ≤ c.loop-mapping.mapping-index = omega (arith, ap length c.deref-mapping-items.ensures.value) in
-    if_ok c.from_patterns.result
+    IfOk-weaker c.from_patterns.result _ _
     (λ index made. made ∙ c.loop-mapping.invariant ∙ ap patterns_of (take_whole mappings c.loop-mapping.mapping-index whole))
     c.from_patterns.ensures

@@ -1,9 +1,0 @@
-use Rattle.std.proofs.Common.{◌≡◌, ◌≤◌, length}
-use Rattle.attr_glob.specs.Tokens.{after_stars}
-use Rattle.attr_glob.proofs.token.skip_stars.Given as goal
-
-abbrev pub invariant-loop-byte : goal.invariant-loop-byte
-invariant-loop-byte l = (after_stars l.rest ≡ after_stars l.bytes) × (length l.rest ≤ length l.bytes)
-
-abbrev pub decreases-loop-byte : goal.decreases-loop-byte
-decreases-loop-byte l = length l.rest

@@ -1,0 +1,101 @@
+-- A byte that is put into a set, and the bytes that the members of a bracket put in.
+use Rattle.std.proofs.Common.{◌≡◌, ℕ, ◌+◌, ◌*◌, ◌/◌, ◌%◌, ◌^◌, ◌<◌, Bool, true, false, ◌||◌, ◌==◌, nat_lt, ◌&&◌, [], ◌∷◌, ◌++◌, take, bit_or}
+use Rattle.std.proofs.Common.{List, length, get_or, set, refl, sym, ◌∙◌, ap, inl, inr, arith, get_or-set_same, get_or-set_other, eq-eqb, ne_eqb, w64}
+use Rattle.std.proofs.lemmas.Bool.{cases_eq}
+use Rattle.std.proofs.lemmas.Bool.Decides.{nat_tests}
+use Rattle.std.proofs.lemmas.List.{take_more}
+use Rattle.std.specs.List.{list_any}
+use Rattle.std.proofs.lemmas.Nat.Bits.{bit_at_set_same, bit_at_set_other}
+use Rattle.std.specs.Int.{bit_at}
+use Rattle.attr_wildmatch.specs.declared.bracket.Member.{Member}
+use Rattle.attr_wildmatch.specs.Brackets.{member_holds, members_hold}
+use Rattle.attr_wildmatch.specs.inner.ByteSets.{is_marked}
+
+or_true : (a b : Bool) → b ≡ true → true ≡ (a || b)
+or_true true b h = refl
+or_true false b h = sym h
+
+or_false : (a b : Bool) → b ≡ false → a ≡ (a || b)
+or_false true b h = refl
+or_false false b h = sym h
+
+-- the words with bit i of the word at this place set
+abbrev pub with_word : List ℕ → ℕ → ℕ → List ℕ
+with_word words place i = set words place (bit_or (get_or words place 0) (1 * 2 ^ i % 2 ^ 64))
+
+-- the words with the bit of n set
+abbrev pub with_mark : List ℕ → ℕ → List ℕ
+with_mark words n = with_word words (n / 64) (n % 64)
+
+-- one bit more is set
+pub marked : (words : List ℕ) (n k : ℕ) → n < 64 * length words → is_marked (with_mark words n) k ≡ (is_marked words k || k == n)
+marked words n k within =
+    let word : ℕ = get_or words (n / 64) 0 in
+    let v : ℕ = bit_or word (1 * 2 ^ (n % 64) % 2 ^ 64) in
+    let word_in : n / 64 < length words = omega arith in
+    let low : n % 64 < 64 = omega arith in
+    elim (cases_eq k n) [
+      | inl same ↦
+          ap (λ x. is_marked (with_mark words n) x) same
+          ∙ ap (λ x. bit_at x (n % 64) == 1) (get_or-set_same words (n / 64) v 0 word_in)
+          ∙ eq-eqb _ 1 (bit_at_set_same w64 word (n % 64) low)
+          ∙ or_true (is_marked words k) (k == n) (eq-eqb k n same)
+      | inr other ↦
+          (elim (cases_eq (k / 64) (n / 64)) as (λ _. is_marked (with_mark words n) k ≡ is_marked words k) [
+            | inl row ↦
+                ap (λ x. bit_at (get_or (set words (n / 64) v) x 0) (k % 64) == 1) row
+                ∙ ap (λ x. bit_at x (k % 64) == 1) (get_or-set_same words (n / 64) v 0 word_in)
+                ∙ ap (λ x. x == 1) (bit_at_set_other w64 word (n % 64) low (k % 64) (omega arith))
+                ∙ ap (λ x. bit_at (get_or words x 0) (k % 64) == 1) (sym row)
+            | inr apart ↦ ap (λ x. bit_at x (k % 64) == 1) (get_or-set_other words (n / 64) (k / 64) v 0 apart)
+          ])
+          ∙ or_false (is_marked words k) (k == n) (ne_eqb k n other)
+    ]
+
+-- Of a member's bytes below n, one more is put in, or the member doesn't have it.
+
+and_false : (a : Bool) → (a && false) ≡ false
+and_false true = refl
+and_false false = refl
+
+-- the byte n comes beside those below it
+pub next_held : (old held : Bool) (b n : ℕ) →
+    ((old || (held && nat_lt b n)) || (held && b == n)) ≡ (old || (held && nat_lt b (n + 1)))
+next_held true held b n = refl
+next_held false true b n = grind (arith, nat_tests)
+next_held false false b n = refl
+
+pub one_held : (old : Bool) (held : ℕ → Bool) (b n : ℕ) → held n ≡ true → (old || b == n) ≡ (old || (held b && b == n))
+one_held true held b n h = refl
+one_held false held b n h = elim (cases_eq b n) [
+  | inl same ↦ ap (λ x. x && b == n) (sym (ap held same ∙ h))
+  | inr other ↦ ne_eqb b n other ∙ sym (ap (λ x. held b && x) (ne_eqb b n other) ∙ and_false (held b))
+]
+
+pub none_held : (old : Bool) (held : ℕ → Bool) (b n : ℕ) → held n ≡ false → old ≡ (old || (held b && b == n))
+none_held true held b n h = refl
+none_held false held b n h = elim (cases_eq b n) [
+  | inl same ↦ sym (ap (λ x. x && b == n) (ap held same ∙ h))
+  | inr other ↦ sym (ap (λ x. held b && x) (ne_eqb b n other) ∙ and_false (held b))
+]
+
+pub all_below : (held : Bool) (b n : ℕ) → (held ≡ true → b < n) → (held && nat_lt b n) ≡ held
+all_below true b n h = let l : b < n = h refl in grind (arith, nat_tests)
+all_below false b n h = refl
+
+or_nil : (a : Bool) → (a || false) ≡ (false || a)
+or_nil true = refl
+or_nil false = refl
+
+list_any_push : {A : Type 0} (p : A → Bool) (xs : List A) (x : A) → list_any p (xs ++ x ∷ []) ≡ (list_any p xs || p x)
+list_any_push p [] x = or_nil (p x)
+list_any_push p (y ∷ xs) x = ap (λ r. p y || r) (list_any_push p xs x) ∙ or_assoc (p y) (list_any p xs) (p x)
+  where
+    or_assoc : (a b c : Bool) → (a || (b || c)) ≡ ((a || b) || c)
+    or_assoc true b c = refl
+    or_assoc false b c = refl
+
+-- one member more holds what it holds itself and what those before it hold
+pub held_more : (ms : List Member) (i : ℕ) (d : Member) (b : ℕ) → i < length ms →
+    members_hold (take (i + 1) ms) b ≡ (members_hold (take i ms) b || member_holds (get_or ms i d) b)
+held_more ms i d b inside = ap (λ xs. members_hold xs b) (take_more ms i d inside) ∙ list_any_push (λ m. member_holds m b) (take i ms) (get_or ms i d)

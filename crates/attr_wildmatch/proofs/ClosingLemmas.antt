@@ -1,0 +1,122 @@
+-- How many bytes there are from the first `]` on.
+use Rattle.std.proofs.Common.{◌≡◌, ◌≢◌, ◌≤◌, ◌<◌, ℕ, zero, suc, ◌+◌, ◌-◌, ◌==◌, ◌&&◌, List, [], ◌∷◌, length, drop, Option, Some}
+use Rattle.std.proofs.Common.{None, option_map, refl, sym, ap, ◌∙◌, arith}
+use Rattle.std.specs.List.{position, position_from}
+use Rattle.std.proofs.lemmas.Iterator.Adapters.{position_from-zero}
+use Rattle.attr_wildmatch.specs.declared.bracket.Class.{Class}
+use Rattle.attr_wildmatch.specs.declared.bracket.Member.{Member}
+use Rattle.attr_wildmatch.specs.declared.bracket.Member.TheVariants.{Named}
+use Rattle.attr_wildmatch.specs.Bytes.{backslash, close_bracket, colon, hyphen, open_bracket}
+use Rattle.attr_wildmatch.specs.Brackets.{begins, class_member, class_named, from_escape, from_single, member_at, name_in, ranged, span_end}
+use Rattle.attr_wildmatch.specs.inner.Closing.{from_close}
+use Rattle.attr_wildmatch.proofs.Basics.{by_test}
+use Rattle.attr_wildmatch.proofs.Names.{closes}
+
+pub from_close-few : (bs : List ℕ) → from_close bs ≤ length bs
+from_close-few [] = omega arith
+from_close-few (b ∷ bs) =
+    let few = from_close-few bs in
+    by_test (b == close_bracket) (λ t. rw t (omega arith)) (λ t. rw t (omega (arith, few)))
+
+from_close-none : (i : ℕ) (bs : List ℕ) → position_from closes i bs ≡ None → from_close bs ≡ 0
+from_close-none i [] h = refl
+from_close-none i (b ∷ bs) h =
+    by_test (b == close_bracket) (λ t. absurd (let e = rw t at h in cc)) (λ t. rw t (from_close-none (i + 1) bs (rw t at h)))
+
+from_close-some : (i : ℕ) (bs : List ℕ) (j : ℕ) → position_from closes i bs ≡ Some j →
+    (from_close bs + j ≡ length bs + i) × (0 < from_close bs)
+from_close-some i [] j h = cc
+from_close-some i (b ∷ bs) j h =
+    by_test (b == close_bracket)
+    (λ t. let e = rw t at h in let same : i ≡ j = cc in rw t (omega (arith, same), omega arith))
+    (λ t. let r = from_close-some (i + 1) bs j (rw t at h) in rw t (omega (arith, r.0), r.1))
+
+pub position-none : (bs : List ℕ) → position closes bs ≡ None → from_close bs ≡ 0
+position-none bs h = from_close-none 0 bs (sym (position_from-zero closes bs) ∙ h)
+
+pub position-some : (bs : List ℕ) (j : ℕ) → position closes bs ≡ Some j → (from_close bs + j ≡ length bs) × (0 < from_close bs)
+position-some bs j h =
+    let r = from_close-some 0 bs j (sym (position_from-zero closes bs) ∙ h) in
+    (omega (arith, r.0), r.1)
+
+-- the first `]`, by how many bytes there are from it on
+pub close-position : (bs : List ℕ) → from_close bs ≢ 0 → position closes bs ≡ Some (length bs - from_close bs)
+close-position bs h = found (position closes bs) refl
+  where
+    found : (o : Option ℕ) → position closes bs ≡ o → position closes bs ≡ Some (length bs - from_close bs)
+    found None e = absurd (h (position-none bs e))
+    found (Some j) e =
+        let r = position-some bs j e in
+        let same : j ≡ length bs - from_close bs = omega (arith, r.0) in e ∙ ap Some same
+
+pub no-close : (bs : List ℕ) → from_close bs ≡ 0 → position closes bs ≡ None
+no-close bs h = found (position closes bs) refl
+  where
+    found : (o : Option ℕ) → position closes bs ≡ o → position closes bs ≡ None
+    found None e = e
+    found (Some j) e = absurd (let r = position-some bs j e in omega (arith, r.1, h))
+
+-- what is left of the bytes has the same first `]`, unless that is passed
+pub close-tail : (n b : ℕ) (bs : List ℕ) → (n ≤ length (b ∷ bs) → n ≡ from_close (b ∷ bs)) → n ≤ length bs → n ≡ from_close bs
+close-tail n b bs h le =
+    let e = h (omega (arith, le)) in
+    by_test (b == close_bracket) (λ t. absurd (let f = rw t at e in omega (arith, f, le))) (λ t. rw t at e)
+
+pub close-drop : (n k : ℕ) (bs : List ℕ) → (n ≤ length bs → n ≡ from_close bs) → n ≤ length (drop k bs) → n ≡ from_close (drop k bs)
+close-drop n zero bs h le = h le
+close-drop n (suc k) [] h le = h le
+close-drop n (suc k) (b ∷ bs) h le = close-drop n k bs (close-tail n b bs h) le
+
+-- what follows a member is an end of the bytes
+abbrev pub IsEnd : List ℕ → List ℕ → Type 0
+IsEnd bs rest = (k : ℕ) × (rest ≡ drop k bs)
+
+span_end-rest : (bs : List ℕ) (p : ℕ × List ℕ) → span_end bs ≡ Some p → IsEnd bs p.1
+span_end-rest [] p h = cc
+span_end-rest (d ∷ []) p h =
+    by_test (d == close_bracket)
+    (λ t. absurd (let e = rw t at h in cc))
+    (λ t. by_test (d == backslash) (λ s. absurd (let e = rw (t, s) at h in cc))
+    (λ s. let e = rw (t, s) at h in (1, let same : p ≡ (d, []) = cc in ap (λ q. q.1) same)))
+span_end-rest (d ∷ e ∷ bs) p h =
+    by_test (d == close_bracket)
+    (λ t. absurd (let f = rw t at h in cc))
+    (λ t. by_test (d == backslash)
+    (λ s. let f = rw (t, s) at h in (2, let same : p ≡ (e, bs) = cc in ap (λ q. q.1) same))
+    (λ s. let f = rw (t, s) at h in (1, let same : p ≡ (d, e ∷ bs) = cc in ap (λ q. q.1) same)))
+
+ranged-rest : (c b : ℕ) (bs : List ℕ) (o : Option (ℕ × List ℕ)) → span_end bs ≡ o → IsEnd (b ∷ bs) (ranged c (b ∷ bs) o).1
+ranged-rest c b bs None h = (0, refl)
+ranged-rest c b bs (Some p) h = let r = span_end-rest bs p h in (suc r.0, r.1)
+
+from_single-rest : (c : ℕ) (bs : List ℕ) → IsEnd bs (from_single c bs).1
+from_single-rest c [] = (0, refl)
+from_single-rest c (b ∷ bs) = by_test (b == hyphen) (λ t. rw t (ranged-rest c b bs (span_end bs) refl)) (λ t. rw t (0, refl))
+
+abbrev rest_of : Option (Member × List ℕ) → List ℕ
+rest_of None = []
+rest_of (Some q) = q.1
+
+some_single : (c : ℕ) (bs : List ℕ) (m : Member) (rest : List ℕ) → Some (from_single c bs) ≡ Some (m, rest) → IsEnd bs rest
+some_single c bs m rest h = let r = from_single-rest c bs in (r.0, sym (ap rest_of h) ∙ r.1)
+
+escape-rest : (bs : List ℕ) (m : Member) (rest : List ℕ) → from_escape bs ≡ Some (m, rest) → IsEnd bs rest
+escape-rest [] m rest h = cc
+escape-rest (c ∷ bs) m rest h = let r = some_single c bs m rest h in (suc r.0, r.1)
+
+named-rest : (bs : List ℕ) (n : ℕ) (o : Option Class) (m : Member) (rest : List ℕ) →
+    option_map {U = Member × List ℕ} (λ class. (Named class, drop n bs)) o ≡ Some (m, rest) → IsEnd bs rest
+named-rest bs n None m rest h = cc
+named-rest bs n (Some class) m rest h = (n, sym (ap rest_of h))
+
+class-rest : (bs : List ℕ) (o : Option (List ℕ)) (m : Member) (rest : List ℕ) → class_member bs o ≡ Some (m, rest) → IsEnd bs rest
+class-rest bs None m rest h = some_single open_bracket bs m rest h
+class-rest bs (Some name) m rest h = named-rest bs (length name + 3) (class_named name) m rest h
+
+pub member-rest : (b : ℕ) (bs : List ℕ) (m : Member) (rest : List ℕ) → member_at b bs ≡ Some (m, rest) → IsEnd bs rest
+member-rest b bs m rest h =
+    by_test (b == backslash)
+    (λ t. escape-rest bs m rest (rw t at h))
+    (λ t. by_test (b == open_bracket && begins colon bs)
+    (λ s. class-rest bs (name_in (drop 1 bs)) m rest (rw (t, s) at h))
+    (λ s. some_single b bs m rest (rw (t, s) at h)))

@@ -1,0 +1,76 @@
+-- The test of matching says what the relation says.
+use Rattle.std.proofs.Common.{◌≡◌, ℕ, Bool, true, ◌||◌, inl, inr, List, [], ◌∷◌, ◌++◌, Option, Some, None, refl, sym, ap, subst, ◌∙◌}
+use Rattle.attr_wildmatch.specs.declared.case.Case.{Case}
+use Rattle.attr_wildmatch.specs.Bytes.{slash}
+use Rattle.attr_wildmatch.specs.Tokens.{Token, lit, one, set, star, dirs, rest, tokens}
+use Rattle.attr_wildmatch.specs.Matching.{Takes, Match, TextMatches}
+use Rattle.attr_wildmatch.specs.Deciding.{takes_byte, byte_then, slash_then, token_then, is_nil, matches, some_match, text_matches}
+use Rattle.attr_wildmatch.proofs.Basics.{each_of_all, all_of_each, or_part, or_left, or_right}
+use Rattle.attr_wildmatch.proofs.SpellTokens.{spelled, read_back}
+use Rattle.attr_wildmatch.proofs.Splits.{NoSlash, Split, byte_split, byte_joined, star_split, star_joined, rest_split, rest_joined, slash_split}
+use Rattle.attr_wildmatch.proofs.Splits.{slash_joined, single_takes, single_taken}
+
+single_split : (case : Case) (t : Token) (f : List ℕ → Bool) (v : List ℕ) → byte_then (takes_byte case t) f v ≡ true → Split (Takes case t) f v
+single_split case t f v h =
+    let s = byte_split (takes_byte case t) f v h in
+    record { part = s.byte ∷ []; others = s.others; whole = s.whole; holds = single_takes case t s.byte s.passes; taken = s.taken }
+
+-- what a token's test takes, it takes as a part
+pub token_split : (case : Case) (t : Token) (f : List ℕ → Bool) (v : List ℕ) → token_then case t f v ≡ true → Split (Takes case t) f v
+token_split case (lit c) f v h = single_split case (lit c) f v h
+token_split case one f v h = single_split case one f v h
+token_split case (set negated ms) f v h = single_split case (set negated ms) f v h
+token_split case star f v h =
+    let s = star_split f v h in
+    record { part = s.part; others = s.others; whole = s.whole; holds = all_of_each NoSlash s.part s.holds; taken = s.taken }
+token_split case dirs f v h = elim (or_part (f v) (slash_then f v) h) [
+  | inl t ↦ record { part = []; others = v; whole = refl; holds = inl refl; taken = t }
+  | inr t ↦ let s = slash_split f v t in record { part = s.part; others = s.others; whole = s.whole; holds = inr s.holds; taken = s.taken }
+]
+token_split case rest f v h = let s = rest_split f v h in record { part = s.part; others = s.others; whole = s.whole; holds = tt; taken = s.taken }
+
+single_joined : (case : Case) (t : Token) (f : List ℕ → Bool) (others : List ℕ) → f others ≡ true →
+    (part : List ℕ) → ((b : ℕ) × (part ≡ b ∷ []) × (takes_byte case t b ≡ true)) → byte_then (takes_byte case t) f (part ++ others) ≡ true
+single_joined case t f others k part h =
+    subst (λ x. byte_then (takes_byte case t) f (x ++ others) ≡ true) (sym h.1) (byte_joined (takes_byte case t) f h.0 others h.2 k)
+
+pub token_joined : (case : Case) (t : Token) (f : List ℕ → Bool) (part others : List ℕ) → Takes case t part → f others ≡ true →
+    token_then case t f (part ++ others) ≡ true
+token_joined case (lit c) f part others h k = single_joined case (lit c) f others k part (single_taken case (lit c) part refl h)
+token_joined case one f part others h k = single_joined case one f others k part (single_taken case one part refl h)
+token_joined case (set negated ms) f part others h k =
+    single_joined case (set negated ms) f others k part (single_taken case (set negated ms) part refl h)
+token_joined case star f part others h k = star_joined f part others (each_of_all NoSlash part h) k
+token_joined case dirs f part others (inl h) k =
+    subst (λ x. (f (x ++ others) || slash_then f (x ++ others)) ≡ true) (sym h) (or_left (f others) (slash_then f others) k)
+token_joined case dirs f part others (inr h) k =
+    subst (λ x. (f (x ++ others) || slash_then f (x ++ others)) ≡ true) (sym h.1)
+    (or_right (f ((h.0 ++ slash ∷ []) ++ others)) (slash_then f ((h.0 ++ slash ∷ []) ++ others)) (slash_joined f h.0 others k))
+token_joined case rest f part others h k = rest_joined f part others k
+
+nil_of : (v : List ℕ) → is_nil v ≡ true → v ≡ []
+nil_of [] h = refl
+nil_of (b ∷ v) h = cc
+
+pub match_of_test : (case : Case) (ts : List Token) (v : List ℕ) → matches case ts v ≡ true → Match case ts v
+match_of_test case [] v h = nil_of v h
+match_of_test case (t ∷ ts) v h =
+    let s = token_split case t (matches case ts) v h in
+    (s.part, s.others, s.whole, s.holds, match_of_test case ts s.others s.taken)
+
+pub test_of_match : (case : Case) (ts : List Token) (v : List ℕ) → Match case ts v → matches case ts v ≡ true
+test_of_match case [] v h = ap is_nil h
+test_of_match case (t ∷ ts) v h =
+    subst (λ x. token_then case t (matches case ts) x ≡ true) (sym h.2)
+    (token_joined case t (matches case ts) h.0 h.1 h.3 (test_of_match case ts h.1 h.4))
+
+some_split : (case : Case) (text value : List ℕ) (o : Option (List Token)) → some_match case o value ≡ true → (ts : List Token) × (o ≡ Some ts) ×
+    Match case ts value
+some_split case text value None h = cc
+some_split case text value (Some ts) h = (ts, refl, match_of_test case ts value h)
+
+pub text_match_of_test : (case : Case) (text value : List ℕ) → text_matches case text value ≡ true → TextMatches case text value
+text_match_of_test case text value h = let s = some_split case text value (tokens text) h in (s.0, spelled text s.0 s.1, s.2)
+
+pub test_of_text_match : (case : Case) (text value : List ℕ) → TextMatches case text value → text_matches case text value ≡ true
+test_of_text_match case text value m = ap (λ o. some_match case o value) (read_back text m.0 m.1) ∙ test_of_match case m.0 value m.2

@@ -1,0 +1,11 @@
+-- What the crates above may use, beside the contracts. It passes on lemmas alone: their proofs are in the modules named here.
+
+-- by_test: the two cases of a test. and_parts: both tests of a conjunction pass. and_both, or_left, or_right: a conjunction and a
+-- disjunction of tests that pass. equal, equal_so: numbers that pass `==` are equal, and equal numbers pass it. reverse-cons: the
+-- reverse of a list with one more element. same_answer: tests that imply each other are equal.
+pub use Rattle.attr_wildmatch.proofs.Basics.{by_test, and_parts, and_both, or_left, or_right, equal, equal_so, reverse-cons}
+pub use Rattle.attr_wildmatch.proofs.Ends.{same_answer}
+-- text_match_of_test, test_of_text_match: the computed test of matching a text decides the relation. exact_answer: an answer by the
+-- relation of tokens and a value is that of the test.
+pub use Rattle.attr_wildmatch.proofs.DecidingLemmas.{text_match_of_test, test_of_text_match}
+pub use Rattle.attr_wildmatch.proofs.Ends.{exact_answer}

@@ -1,0 +1,146 @@
+-- Which places are reached: the first tokens against the first bytes, by recursion on both reversed, so
+-- that one more byte and one more token each stand in front.
+use Rattle.std.proofs.Common.{◌≡◌, ℕ, Bool, true, cond, ◌||◌, ◌==◌, inl, inr, List, [], ◌∷◌, ◌++◌, take, reverse, slice_get, refl, sym, ap, subst}
+use Rattle.std.proofs.Common.{◌∙◌, append_assoc, append-nil}
+use Rattle.std.proofs.lemmas.List.{reverse-append}
+use Rattle.attr_wildmatch.specs.declared.case.Case.{Case}
+use Rattle.attr_wildmatch.specs.Bytes.{slash}
+use Rattle.attr_wildmatch.specs.Tokens.{Token, lit, one, set, star, dirs, rest}
+use Rattle.attr_wildmatch.specs.Matching.{Takes, Match}
+use Rattle.attr_wildmatch.specs.Deciding.{takes_byte, byte_then, star_then, rest_then, is_nil}
+use Rattle.attr_wildmatch.specs.inner.RowPlaces.{is_folder}
+use Rattle.attr_wildmatch.proofs.Basics.{each_of_all, all_of_each, Each-reverse, reverse-cons, or_part, or_left, or_right, equal}
+use Rattle.attr_wildmatch.proofs.Splits.{NoSlash, Split, byte_split, byte_joined, star_split, star_joined, rest_split, rest_joined, single_takes}
+use Rattle.attr_wildmatch.proofs.Splits.{single_taken}
+
+-- what the token takes at the end, and before that what f takes; all reversed
+abbrev pub back_then : Case → Token → (List ℕ → Bool) → List ℕ → Bool
+back_then case (lit c) f v = byte_then (takes_byte case (lit c)) f v
+back_then case one f v = byte_then (takes_byte case one) f v
+back_then case (set negated ms) f v = byte_then (takes_byte case (set negated ms)) f v
+back_then case star f v = star_then f v
+back_then case dirs f v = f v || byte_then (λ b. b == slash) (rest_then f) v
+back_then case rest f v = rest_then f v
+
+-- the reversed tokens match the reversed value
+abbrev pub reached : Case → List Token → List ℕ → Bool
+reached case [] v = is_nil v
+reached case (t ∷ ts) v = back_then case t (reached case ts) v
+
+-- the first k tokens match the reversed value
+abbrev pub fresh : Case → List Token → List ℕ → ℕ → Bool
+fresh case ts v k = reached case (reverse (take k ts)) v
+
+-- the same, or token k is a folder star and they match some first part of the value
+abbrev pub alive : Case → List Token → List ℕ → ℕ → Bool
+alive case ts v k = cond (is_folder (slice_get ts k)) (rest_then (reached case (reverse (take k ts))) v) (fresh case ts v k)
+
+-- What it says: the split relation.
+
+pub match-last : (case : Case) (ts : List Token) (t : Token) (front part : List ℕ) → Match case ts front → Takes case t part →
+    Match case (ts ++ t ∷ []) (front ++ part)
+match-last case [] t front part m h = (part, [], ap (λ x. x ++ part) m ∙ sym (append-nil part), h, refl)
+match-last case (u ∷ ts) t front part m h =
+    (m.0, m.1 ++ part, ap (λ x. x ++ part) m.2 ∙ append_assoc m.0 m.1 part, m.3, match-last case ts t m.1 part m.4 h)
+
+pub record Last (case : Case) (ts : List Token) (t : Token) (v : List ℕ) : Type 0 where
+  pub front : List ℕ
+  pub part : List ℕ
+  pub whole : v ≡ front ++ part
+  pub before : Match case ts front
+  pub takes : Takes case t part
+
+pub match-unlast : (case : Case) (ts : List Token) (t : Token) (v : List ℕ) → Match case (ts ++ t ∷ []) v → Last case ts t v
+match-unlast case [] t v m = record {
+  front = [];
+  part = v;
+  whole = refl;
+  before = refl;
+  takes = subst (Takes case t)
+      (sym (m.2 ∙ (ap (λ x. m.0 ++ x) m.4 ∙ append-nil m.0))) m.3;
+}
+match-unlast case (u ∷ ts) t v m =
+    let r = match-unlast case ts t m.1 m.4 in
+    record {
+      front = m.0 ++ r.front;
+      part = r.part;
+      whole = m.2 ∙ (ap (λ x. m.0 ++ x) r.whole ∙ sym (append_assoc m.0 r.front r.part));
+      before = (m.0, r.front, refl, m.3, r.before);
+      takes = r.takes;
+    }
+
+-- the part, reversed, is taken
+abbrev TakesBack : Case → Token → List ℕ → Type 0
+TakesBack case t part = Takes case t (reverse part)
+
+single_back : (case : Case) (t : Token) (f : List ℕ → Bool) (v : List ℕ) → byte_then (takes_byte case t) f v ≡ true → Split (TakesBack case t) f v
+single_back case t f v h =
+    let s = byte_split (takes_byte case t) f v h in
+    record { part = s.byte ∷ []; others = s.others; whole = s.whole; holds = single_takes case t s.byte s.passes; taken = s.taken }
+
+back_split : (case : Case) (t : Token) (f : List ℕ → Bool) (v : List ℕ) → back_then case t f v ≡ true → Split (TakesBack case t) f v
+back_split case (lit c) f v h = single_back case (lit c) f v h
+back_split case one f v h = single_back case one f v h
+back_split case (set negated ms) f v h = single_back case (set negated ms) f v h
+back_split case star f v h =
+    let s = star_split f v h in
+    record {
+      part = s.part;
+      others = s.others;
+      whole = s.whole;
+      holds = all_of_each NoSlash (reverse s.part) (Each-reverse NoSlash s.part s.holds);
+      taken = s.taken;
+    }
+back_split case dirs f v h = elim (or_part (f v) (byte_then (λ b. b == slash) (rest_then f) v) h) [
+  | inl t ↦ record { part = []; others = v; whole = refl; holds = inl refl; taken = t }
+  | inr t ↦
+      let s = byte_split (λ b. b == slash) (rest_then f) v t in
+      let r = rest_split f s.others s.taken in
+      record {
+        part = s.byte ∷ r.part;
+        others = r.others;
+        whole = s.whole ∙ ap (λ x. s.byte ∷ x) r.whole;
+        holds = inr (reverse r.part, reverse-cons s.byte r.part ∙ ap (λ x. reverse r.part ++ x ∷ []) (equal s.byte slash s.passes));
+        taken = r.taken;
+      }
+]
+back_split case rest f v h = let s = rest_split f v h in record { part = s.part; others = s.others; whole = s.whole; holds = tt; taken = s.taken }
+
+single_back_joined : (case : Case) (t : Token) (f : List ℕ → Bool) (others part : List ℕ) → f others ≡ true →
+    ((b : ℕ) × (part ≡ b ∷ []) × (takes_byte case t b ≡ true)) → byte_then (takes_byte case t) f (reverse part ++ others) ≡ true
+single_back_joined case t f others part k h =
+    subst (λ x. byte_then (takes_byte case t) f (reverse x ++ others) ≡ true) (sym h.1) (byte_joined (takes_byte case t) f h.0 others h.2 k)
+
+back_joined : (case : Case) (t : Token) (f : List ℕ → Bool) (part others : List ℕ) → Takes case t part → f others ≡ true →
+    back_then case t f (reverse part ++ others) ≡ true
+back_joined case (lit c) f part others h k = single_back_joined case (lit c) f others part k (single_taken case (lit c) part refl h)
+back_joined case one f part others h k = single_back_joined case one f others part k (single_taken case one part refl h)
+back_joined case (set negated ms) f part others h k =
+    single_back_joined case (set negated ms) f others part k (single_taken case (set negated ms) part refl h)
+back_joined case star f part others h k = star_joined f (reverse part) others (Each-reverse NoSlash part (each_of_all NoSlash part h)) k
+back_joined case dirs f part others (inl h) k =
+    subst (λ x. back_then case dirs f (reverse x ++ others) ≡ true) (sym h) (or_left (f others) (byte_then (λ b. b == slash) (rest_then f) others) k)
+back_joined case dirs f part others (inr h) k =
+    let same : reverse part ≡ slash ∷ reverse h.0 = ap reverse h.1 ∙ reverse-append h.0 (slash ∷ []) in
+    subst (λ x. back_then case dirs f (x ++ others) ≡ true) (sym same)
+    (or_right (f (slash ∷ (reverse h.0 ++ others))) (rest_then f (reverse h.0 ++ others)) (rest_joined f (reverse h.0) others k))
+back_joined case rest f part others h k = rest_joined f (reverse part) others k
+
+nil_of : (v : List ℕ) → is_nil v ≡ true → v ≡ []
+nil_of [] h = refl
+nil_of (b ∷ v) h = cc
+
+pub match_of_reached : (case : Case) (ts : List Token) (v : List ℕ) → reached case ts v ≡ true → Match case (reverse ts) (reverse v)
+match_of_reached case [] v h = ap reverse (nil_of v h)
+match_of_reached case (t ∷ ts) v h =
+    let s = back_split case t (reached case ts) v h in
+    let m = match-last case (reverse ts) t (reverse s.others) (reverse s.part) (match_of_reached case ts s.others s.taken) s.holds in
+    subst (λ x. Match case x (reverse v)) (sym (reverse-cons t ts))
+    (subst (Match case (reverse ts ++ t ∷ [])) (sym (ap reverse s.whole ∙ reverse-append s.part s.others)) m)
+
+pub reached_of_match : (case : Case) (ts : List Token) (v : List ℕ) → Match case (reverse ts) v → reached case ts (reverse v) ≡ true
+reached_of_match case [] v h = ap (λ x. is_nil (reverse x)) h
+reached_of_match case (t ∷ ts) v h =
+    let l = match-unlast case (reverse ts) t v (subst (λ x. Match case x v) (reverse-cons t ts) h) in
+    subst (λ x. back_then case t (reached case ts) x ≡ true) (sym (ap reverse l.whole ∙ reverse-append l.front l.part))
+    (back_joined case t (reached case ts) l.part (reverse l.front) l.takes (reached_of_match case ts l.front l.before))

@@ -1,0 +1,184 @@
+-- The rules of a step hold for the places that are reached.
+use Rattle.std.proofs.Common.{◌≡◌, ◌<◌, ◌+◌, ℕ, zero, suc, Bool, true, false, cond, not, ◌&&◌, ◌==◌, ◌⊎◌, inl, inr, List, [], ◌∷◌, length, slice_get}
+use Rattle.std.proofs.Common.{Option, Some, None, refl, sym, ap, subst, ◌∙◌, arith, add-one}
+use Rattle.attr_wildmatch.specs.declared.case.Case.{Case}
+use Rattle.attr_wildmatch.specs.Bytes.{slash}
+use Rattle.attr_wildmatch.specs.Tokens.{Token, lit, one, set, star, dirs, rest, token_ends_in_slash}
+use Rattle.attr_wildmatch.specs.inner.Bordered.{is_bordered}
+use Rattle.attr_wildmatch.specs.Deciding.{takes_byte, star_then, rest_then}
+use Rattle.attr_wildmatch.specs.inner.RowPlaces.{may_be_nothing, is_dirs, continues_with, ends_at, may_skip, is_folder, stays_on, advances_on}
+use Rattle.attr_wildmatch.specs.inner.RowPlaces.{token_before, IsStep}
+use Rattle.attr_wildmatch.proofs.Basics.{by_test, and_parts, and_both, or_part, or_right}
+use Rattle.attr_wildmatch.proofs.Reached.{back_then, fresh, alive}
+use Rattle.attr_wildmatch.proofs.ReachedSteps.{before_place, fresh-next, alive-folder, alive-plain, growing, no_folder_behind}
+
+-- the token takes any number of bytes and its place is after it
+abbrev is_wide : Token → Bool
+is_wide star = true
+is_wide rest = true
+is_wide _ = false
+
+wide_end : (t : Token) → is_wide t ≡ true → token_ends_in_slash t ≡ false
+wide_end star h = refl
+wide_end rest h = refl
+wide_end (lit c) h = cc
+wide_end one h = cc
+wide_end (set n ms) h = cc
+wide_end dirs h = cc
+
+goes_wide : (t : Token) (b : ℕ) → continues_with t b ≡ true → is_wide t ≡ true
+goes_wide star b h = refl
+goes_wide rest b h = refl
+goes_wide (lit c) b h = cc
+goes_wide one b h = cc
+goes_wide (set n ms) b h = cc
+goes_wide dirs b h = cc
+
+-- over a byte a star or a rest keeps what it had taken
+stay_back : (case : Case) (t : Token) (f : List ℕ → Bool) (b : ℕ) (w : List ℕ) → continues_with t b ≡ true → back_then case t f w ≡ true → back_then
+    case t f (b ∷ w) ≡ true
+stay_back case star f b w h k = or_right (f (b ∷ w)) (not (b == slash) && star_then f w) (and_both (not (b == slash)) (star_then f w) h k)
+stay_back case rest f b w h k = or_right (f (b ∷ w)) (rest_then f w) k
+stay_back case (lit c) f b w h k = cc
+stay_back case one f b w h k = cc
+stay_back case (set n ms) f b w h k = cc
+stay_back case dirs f b w h k = cc
+
+-- a byte leads on from where the token stood
+advance_back : (case : Case) (t : Token) (f : List ℕ → Bool) (b : ℕ) (w : List ℕ) → ends_at case t b ≡ true →
+    cond (is_dirs t) (rest_then f w) (f w) ≡ true → back_then case t f (b ∷ w) ≡ true
+advance_back case (lit c) f b w h k = and_both (takes_byte case (lit c) b) (f w) h k
+advance_back case one f b w h k = and_both (takes_byte case one b) (f w) h k
+advance_back case (set n ms) f b w h k = and_both (takes_byte case (set n ms) b) (f w) h k
+advance_back case star f b w h k = cc
+advance_back case rest f b w h k = cc
+advance_back case dirs f b w h k = or_right (f (b ∷ w)) (b == slash && rest_then f w) (and_both (b == slash) (rest_then f w) h k)
+
+-- how a token came to take what ends with the byte
+abbrev BackFrom : Case → Token → (List ℕ → Bool) → ℕ → List ℕ → Type 0
+BackFrom case t f b w =
+    ((continues_with t b ≡ true) × (back_then case t f w ≡ true)) ⊎
+    (((ends_at case t b ≡ true) × (cond (is_dirs t) (rest_then f w) (f w) ≡ true)) ⊎
+    ((may_be_nothing t ≡ true) × (f (b ∷ w) ≡ true)))
+
+back_from : (case : Case) (t : Token) (f : List ℕ → Bool) (b : ℕ) (w : List ℕ) → back_then case t f (b ∷ w) ≡ true → BackFrom case t f b w
+back_from case (lit c) f b w h = inr (inl (and_parts (takes_byte case (lit c) b) (f w) h))
+back_from case one f b w h = inr (inl (and_parts (takes_byte case one b) (f w) h))
+back_from case (set n ms) f b w h = inr (inl (and_parts (takes_byte case (set n ms) b) (f w) h))
+back_from case star f b w h = elim (or_part (f (b ∷ w)) (not (b == slash) && star_then f w) h) [
+  | inl t ↦ inr (inr (refl, t))
+  | inr t ↦ inl (and_parts (not (b == slash)) (star_then f w) t)
+]
+back_from case rest f b w h = elim (or_part (f (b ∷ w)) (rest_then f w) h) [ inl t ↦ inr (inr (refl, t)) | inr t ↦ inl (refl, t) ]
+back_from case dirs f b w h = elim (or_part (f (b ∷ w)) (b == slash && rest_then f w) h) [
+  | inl t ↦ inr (inr (refl, t))
+  | inr t ↦ inr (inl (and_parts (b == slash) (rest_then f w) t))
+]
+
+alive-token : (case : Case) (ts : List Token) (v : List ℕ) (k : ℕ) (t : Token) → slice_get ts k ≡ Some t →
+    alive case ts v k ≡ cond (is_dirs t) (rest_then (before_place case ts k) v) (before_place case ts k v)
+alive-token case ts v k t h = ap (λ x. cond (is_folder x) (rest_then (before_place case ts k) v) (fresh case ts v k)) h
+
+-- a place after a star or a rest is alive only where it is fresh
+alive-tail : (case : Case) (ts : List Token) (v : List ℕ) (k : ℕ) (t : Token) → is_bordered true ts ≡ true → slice_get ts k ≡ Some t →
+    is_wide t ≡ true → alive case ts v (k + 1) ≡ back_then case t (before_place case ts k) v
+alive-tail case ts v k t h e n =
+    alive-plain case ts v (k + 1)
+    (subst (λ x. is_folder (slice_get ts x) ≡ false) (sym (add-one k)) (no_folder_behind true ts k t h e (wide_end t n))) ∙
+    fresh-next case ts v k t e
+
+token_before-next : (ts : List Token) (k : ℕ) (t : Token) → slice_get ts k ≡ Some t → token_before ts (k + 1) ≡ Some t
+token_before-next ts k t e = ap (token_before ts) (add-one k) ∙ e
+
+module _ (case : Case) (ts : List Token) (b : ℕ) (w : List ℕ) (bordered : is_bordered true ts ≡ true) where
+  stay_at : (o : Option Token) (k : ℕ) → token_before ts k ≡ o → stays_on o b ≡ true → alive case ts w k ≡ true → fresh case ts (b ∷ w) k ≡ true
+  stay_at None k e h a = cc
+  stay_at (Some t) zero e h a = cc
+  stay_at (Some t) (suc k) e h a =
+      let n = goes_wide t b h in
+      subst (λ x. fresh case ts (b ∷ w) x ≡ true) (add-one k)
+      (fresh-next case ts (b ∷ w) k t e ∙
+      stay_back case t (before_place case ts k) b w h
+      (sym (alive-tail case ts w k t bordered e n) ∙ subst (λ x. alive case ts w x ≡ true) (sym (add-one k)) a))
+
+  advance_at : (o : Option Token) (k : ℕ) → slice_get ts k ≡ o → advances_on case o b ≡ true → alive case ts w k ≡ true →
+      fresh case ts (b ∷ w) (k + 1) ≡ true
+  advance_at None k e h a = cc
+  advance_at (Some t) k e h a =
+      fresh-next case ts (b ∷ w) k t e ∙ advance_back case t (before_place case ts k) b w h (sym (alive-token case ts w k t e) ∙ a)
+
+  alive_from_at : (k : ℕ) → alive case ts (b ∷ w) k ≡ true →
+      (fresh case ts (b ∷ w) k ≡ true) ⊎ ((is_folder (slice_get ts k) ≡ true) × (alive case ts w k ≡ true))
+  alive_from_at k a = by_test (is_folder (slice_get ts k))
+      (λ d. elim (or_part (before_place case ts k (b ∷ w)) (rest_then (before_place case ts k) w) (sym (alive-folder case ts (b ∷ w) k d) ∙ a)) [
+        | inl t ↦ inl t
+        | inr t ↦ inr (d, alive-folder case ts w k d ∙ t)
+      ])
+      (λ d. inl (sym (alive-plain case ts (b ∷ w) k d) ∙ a))
+
+  fresh_from_at : (o : Option Token) (k : ℕ) → slice_get ts k ≡ o → k < length ts → fresh case ts (b ∷ w) (k + 1) ≡ true →
+      ((stays_on (token_before ts (k + 1)) b ≡ true) × (alive case ts w (k + 1) ≡ true)) ⊎
+      (((advances_on case (slice_get ts k) b ≡ true) × (alive case ts w k ≡ true)) ⊎
+      ((may_skip (slice_get ts k) ≡ true) × (fresh case ts (b ∷ w) k ≡ true)))
+  fresh_from_at None k e l h = absurd (missing ts k l e)
+    where
+      missing : (ts : List Token) (k : ℕ) → k < length ts → slice_get ts k ≡ None → ⊥
+      missing [] k l e = absurd (omega arith)
+      missing (t ∷ ts) zero l e = cc
+      missing (t ∷ ts) (suc k) l e = missing ts k (omega arith) e
+  fresh_from_at (Some t) k e l h = elim (back_from case t (before_place case ts k) b w (sym (fresh-next case ts (b ∷ w) k t e) ∙ h)) [
+    | inl s ↦ inl (
+      subst (λ x. stays_on x b ≡ true) (sym (token_before-next ts k t e)) s.0,
+      alive-tail case ts w k t bordered e (goes_wide t b s.0) ∙ s.1,
+    )
+    | inr s ↦ inr (elim s [
+      | inl r ↦ inl (subst (λ x. advances_on case x b ≡ true) (sym e) r.0, alive-token case ts w k t e ∙ r.1)
+      | inr r ↦ inr (subst (λ x. may_skip x ≡ true) (sym e) r.0, r.1)
+    ])
+  ]
+
+  pub steps : IsStep case ts b (fresh case ts (b ∷ w)) (alive case ts (b ∷ w)) (alive case ts w)
+  steps = record {
+    growing = growing case ts (b ∷ w);
+    folder = λ k d a. alive-folder case ts (b ∷ w) k d ∙
+        or_right (before_place case ts k (b ∷ w)) (rest_then (before_place case ts k) w) (sym (alive-folder case ts w k d) ∙ a);
+    stay = λ k h a. stay_at (token_before ts k) k refl h a;
+    advance = λ k h a. advance_at (slice_get ts k) k refl h a;
+    alive_from = λ k l a. alive_from_at k a;
+    fresh_from = λ k l h. fresh_from_at (slice_get ts k) k refl l h;
+  }
+
+-- at the start nothing was alive before
+abbrev pub nothing : ℕ → Bool
+nothing k = false
+
+back_from_nil : (case : Case) (t : Token) (f : List ℕ → Bool) → back_then case t f [] ≡ true → (may_be_nothing t ≡ true) × (f [] ≡ true)
+back_from_nil case star f h = (refl, h)
+back_from_nil case rest f h = (refl, h)
+back_from_nil case dirs f h = elim (or_part (f []) false h) [ inl t ↦ (refl, t) | inr t ↦ cc ]
+back_from_nil case (lit c) f h = cc
+back_from_nil case one f h = cc
+back_from_nil case (set n ms) f h = cc
+
+pub starts : (case : Case) (ts : List Token) (b : ℕ) → IsStep case ts b (fresh case ts []) (alive case ts []) nothing
+starts case ts b = record {
+  growing = growing case ts [];
+  folder = λ k d a. cc;
+  stay = λ k h a. cc;
+  advance = λ k h a. cc;
+  alive_from = λ k l a. inl (by_test (is_folder (slice_get ts k))
+      (λ d. sym (alive-folder case ts [] k d) ∙ a) (λ d. sym (alive-plain case ts [] k d) ∙ a));
+  fresh_from = λ k l h. inr (inr (from (slice_get ts k) k refl l h));
+}
+  where
+    from : (o : Option Token) (k : ℕ) → slice_get ts k ≡ o → k < length ts → fresh case ts [] (k + 1) ≡ true →
+        (may_skip (slice_get ts k) ≡ true) × (fresh case ts [] k ≡ true)
+    from None k e l h = absurd (missing ts k l e)
+      where
+        missing : (ts : List Token) (k : ℕ) → k < length ts → slice_get ts k ≡ None → ⊥
+        missing [] k l e = absurd (omega arith)
+        missing (t ∷ ts) zero l e = cc
+        missing (t ∷ ts) (suc k) l e = missing ts k (omega arith) e
+    from (Some t) k e l h =
+        let r = back_from_nil case t (before_place case ts k) (sym (fresh-next case ts [] k t e) ∙ h) in
+        (subst (λ x. may_skip x ≡ true) (sym e) r.0, r.1)

@@ -1,0 +1,89 @@
+-- What one more byte makes of the places that are reached.
+use Rattle.std.proofs.Common.{◌≡◌, ◌+◌, ℕ, zero, suc, Bool, true, false, cond, not, ◌&&◌, ◌==◌, List, [], ◌∷◌, ◌++◌, take, reverse, slice_get, Option}
+use Rattle.std.proofs.Common.{Some, None, refl, sym, ap, subst, ◌∙◌, add-one}
+use Rattle.std.proofs.lemmas.List.{reverse-append}
+use Rattle.attr_wildmatch.specs.declared.case.Case.{Case}
+use Rattle.attr_wildmatch.specs.Bytes.{slash}
+use Rattle.attr_wildmatch.specs.Tokens.{Token, lit, one, set, star, dirs, rest, token_ends_in_slash}
+use Rattle.attr_wildmatch.specs.inner.Bordered.{is_bordered}
+use Rattle.attr_wildmatch.specs.Deciding.{byte_then, star_then, rest_then}
+use Rattle.attr_wildmatch.specs.inner.RowPlaces.{may_be_nothing, may_skip, is_folder, IsGrowing}
+use Rattle.attr_wildmatch.proofs.Basics.{by_test, and_parts, or_left, true_false}
+use Rattle.attr_wildmatch.proofs.Reached.{reached, back_then, fresh, alive}
+
+take-next : (ts : List Token) (k : ℕ) (t : Token) → slice_get ts k ≡ Some t → take (suc k) ts ≡ take k ts ++ t ∷ []
+take-next [] k t h = cc
+take-next (u ∷ ts) zero t h = let same : u ≡ t = cc in ap (λ x. x ∷ []) same
+take-next (u ∷ ts) (suc k) t h = ap (λ x. u ∷ x) (take-next ts k t h)
+
+-- the test of the tokens before place k
+abbrev pub before_place : Case → List Token → ℕ → List ℕ → Bool
+before_place case ts k = reached case (reverse (take k ts))
+
+pub fresh-next : (case : Case) (ts : List Token) (v : List ℕ) (k : ℕ) (t : Token) → slice_get ts k ≡ Some t →
+    fresh case ts v (k + 1) ≡ back_then case t (before_place case ts k) v
+fresh-next case ts v k t h =
+    ap (λ x. reached case x v) (ap reverse (ap (λ x. take x ts) (add-one k) ∙ take-next ts k t h) ∙ reverse-append (take k ts) (t ∷ []))
+
+pub alive-folder : (case : Case) (ts : List Token) (v : List ℕ) (k : ℕ) → is_folder (slice_get ts k) ≡ true →
+    alive case ts v k ≡ rest_then (before_place case ts k) v
+alive-folder case ts v k h = ap (λ x. cond x (rest_then (before_place case ts k) v) (fresh case ts v k)) h
+
+pub alive-plain : (case : Case) (ts : List Token) (v : List ℕ) (k : ℕ) → is_folder (slice_get ts k) ≡ false → alive case ts v k ≡ fresh case ts v k
+alive-plain case ts v k h = ap (λ x. cond x (rest_then (before_place case ts k) v) (fresh case ts v k)) h
+
+rest_now : (f : List ℕ → Bool) (v : List ℕ) → f v ≡ true → rest_then f v ≡ true
+rest_now f [] h = h
+rest_now f (b ∷ v) h = or_left (f (b ∷ v)) (rest_then f v) h
+
+star_now : (f : List ℕ → Bool) (v : List ℕ) → f v ≡ true → star_then f v ≡ true
+star_now f [] h = h
+star_now f (b ∷ v) h = or_left (f (b ∷ v)) (not (b == slash) && star_then f v) h
+
+skip_back : (case : Case) (t : Token) (f : List ℕ → Bool) (v : List ℕ) → may_be_nothing t ≡ true → f v ≡ true → back_then case t f v ≡ true
+skip_back case star f v h k = star_now f v k
+skip_back case dirs f v h k = or_left (f v) (byte_then (λ b. b == slash) (rest_then f) v) k
+skip_back case rest f v h k = rest_now f v k
+skip_back case (lit c) f v h k = cc
+skip_back case one f v h k = cc
+skip_back case (set n ms) f v h k = cc
+
+pub growing : (case : Case) (ts : List Token) (v : List ℕ) → IsGrowing ts (fresh case ts v) (alive case ts v)
+growing case ts v = record {
+  living = λ k h. by_test (is_folder (slice_get ts k))
+      (λ t. alive-folder case ts v k t ∙ rest_now (before_place case ts k) v h)
+      (λ f. alive-plain case ts v k f ∙ h);
+  skip = λ k s h. skipped (slice_get ts k) k refl s h;
+}
+  where
+    skipped : (o : Option Token) (k : ℕ) → slice_get ts k ≡ o → may_skip o ≡ true → fresh case ts v k ≡ true → fresh case ts v (k + 1) ≡ true
+    skipped None k e s h = cc
+    skipped (Some t) k e s h = fresh-next case ts v k t e ∙ skip_back case t (before_place case ts k) v s h
+
+plain_head : (border : Bool) (ts : List Token) → is_bordered border ts ≡ true → border ≡ false → is_folder (slice_get ts 0) ≡ false
+plain_head border [] h e = refl
+plain_head border (dirs ∷ ts) h e = absurd (true_false border (and_parts border (is_bordered true ts) h).0 e)
+plain_head border (lit c ∷ ts) h e = refl
+plain_head border (one ∷ ts) h e = refl
+plain_head border (set m ms ∷ ts) h e = refl
+plain_head border (star ∷ ts) h e = refl
+plain_head border (rest ∷ ts) h e = refl
+
+-- after a star or a rest stands no folder star
+pub no_folder_behind : (border : Bool) (ts : List Token) (k : ℕ) (t : Token) → is_bordered border ts ≡ true → slice_get ts k ≡ Some t →
+    token_ends_in_slash t ≡ false → is_folder (slice_get ts (suc k)) ≡ false
+no_folder_behind border [] k t h e n = refl
+no_folder_behind border (dirs ∷ ts) zero t h e n = let same : dirs ≡ t = cc in absurd
+    (true_false true refl (subst (λ x. token_ends_in_slash x ≡ false) (sym same) n))
+no_folder_behind border (lit c ∷ ts) zero t h e n = let same : lit c ≡ t = cc in plain_head (token_ends_in_slash (lit c)) ts h
+    (subst (λ x. token_ends_in_slash x ≡ false) (sym same) n)
+no_folder_behind border (one ∷ ts) zero t h e n = plain_head false ts h refl
+no_folder_behind border (set m ms ∷ ts) zero t h e n = plain_head false ts h refl
+no_folder_behind border (star ∷ ts) zero t h e n = plain_head false ts h refl
+no_folder_behind border (rest ∷ ts) zero t h e n = plain_head false ts h refl
+no_folder_behind border (dirs ∷ ts) (suc k) t h e n = no_folder_behind true ts k t (and_parts border (is_bordered true ts) h).1 e n
+no_folder_behind border (lit c ∷ ts) (suc k) t h e n = no_folder_behind (token_ends_in_slash (lit c)) ts k t h e n
+no_folder_behind border (one ∷ ts) (suc k) t h e n = no_folder_behind false ts k t h e n
+no_folder_behind border (set m ms ∷ ts) (suc k) t h e n = no_folder_behind false ts k t h e n
+no_folder_behind border (star ∷ ts) (suc k) t h e n = no_folder_behind false ts k t h e n
+no_folder_behind border (rest ∷ ts) (suc k) t h e n = no_folder_behind false ts k t h e n

@@ -1,0 +1,242 @@
+-- Rows of places: pushing a place, and places that are quiet.
+use Rattle.std.proofs.Common.{◌≡◌, ◌≤◌, ◌<◌, ℕ, zero, suc, ◌+◌, ◌-◌, Bool, true, false, cond, List, [], ◌∷◌, ◌++◌, length, slice_get, filter, ◌⊎◌}
+use Rattle.std.proofs.Common.{inl, inr, sym, ap, subst, ◌∙◌, append-nil, add-zero, add-one, arith}
+use Rattle.std.specs.List.{range_with_len}
+use Rattle.attr_wildmatch.specs.declared.case.Case.{Case}
+use Rattle.attr_wildmatch.specs.Tokens.{Token}
+use Rattle.attr_wildmatch.specs.inner.RowPlaces.{may_skip, is_folder, stays_on, advances_on, token_before, places_below, IsRow, IsSettled, IsUnderway}
+use Rattle.attr_wildmatch.proofs.Basics.{by_test}
+
+filter_range-more : (test : ℕ → Bool) (n a : ℕ) →
+    filter test (range_with_len a (suc n)) ≡ filter test (range_with_len a n) ++ cond (test (a + n)) ((a + n) ∷ []) []
+filter_range-more test zero a = rw add-zero
+filter_range-more test (suc n) a =
+    let same : a + 1 + n ≡ a + suc n = omega arith in
+    let rest = rw same at (filter_range-more test n (a + 1)) in
+    by_test (test a) (λ t. rw t (ap (λ x. a ∷ x) rest)) (λ f. rw f rest)
+
+places_below-more : (test : ℕ → Bool) (n : ℕ) → places_below test (n + 1) ≡ places_below test n ++ cond (test n) (n ∷ []) []
+places_below-more test n =
+    let same : 0 + n ≡ n = omega arith in
+    ap (places_below test) (add-one n) ∙ (rw same at (filter_range-more test n 0))
+
+pub places_below-push : (test : ℕ → Bool) (n : ℕ) → test n ≡ true → places_below test (n + 1) ≡ places_below test n ++ n ∷ []
+places_below-push test n h = rw h at (places_below-more test n)
+
+places_below-skip : (test : ℕ → Bool) (n : ℕ) → test n ≡ false → places_below test (n + 1) ≡ places_below test n
+places_below-skip test n h = (rw h at (places_below-more test n)) ∙ append-nil (places_below test n)
+
+-- places that fail the test add nothing
+pub places_below-quiet : (test : ℕ → Bool) (n d : ℕ) → ((k : ℕ) → n ≤ k → k < n + d → test k ≡ false) → places_below test (n + d) ≡ places_below test
+    n
+places_below-quiet test n zero h = ap (places_below test) (add-zero n)
+places_below-quiet test n (suc d) h =
+    let same : n + suc d ≡ n + d + 1 = omega arith in
+    ap (places_below test) same ∙ (places_below-skip test (n + d) (h (n + d) (omega arith) (omega arith)) ∙
+    places_below-quiet test n d (λ k l m. h k l (omega arith)))
+
+pub places_below-up_to : (test : ℕ → Bool) (n m : ℕ) → n ≤ m → ((k : ℕ) → n ≤ k → k < m → test k ≡ false) → places_below test m ≡ places_below test n
+places_below-up_to test n m l h =
+    let same : n + (m - n) ≡ m = omega arith in
+    ap (places_below test) (sym same) ∙ places_below-quiet test n (m - n) (λ k a b. h k a (omega arith))
+
+pub length-filter-le : (test : ℕ → Bool) (xs : List ℕ) → length (filter test xs) ≤ length xs
+length-filter-le test [] = omega arith
+length-filter-le test (x ∷ xs) = let r = length-filter-le test xs in by_test (test x) (λ t. rw t (omega arith)) (λ f. rw f (omega arith))
+
+-- a place pushed after a row
+pub row-push : (ts : List Token) (fresh alive : ℕ → Bool) (row : List ℕ) (free place : ℕ) → IsRow ts fresh alive row free →
+    free ≤ place → ((k : ℕ) → free ≤ k → k < place → alive k ≡ false) → alive place ≡ true →
+    row ++ place ∷ [] ≡ places_below alive (place + 1)
+row-push ts fresh alive row free place r l q a =
+    ap (λ x. x ++ place ∷ []) (r.kept ∙ sym (places_below-up_to alive free place l q)) ∙ sym (places_below-push alive place a)
+
+true_false : (v : Bool) → v ≡ true → v ≡ false → ⊥
+true_false v t f = let e : true ≡ false = sym t ∙ f in cc
+
+refuted : {case : Case} {ts : List Token} {b : ℕ} {fresh alive before : ℕ → Bool} {row : List ℕ} {p free : ℕ} →
+    IsUnderway case ts b fresh alive before row p free → (k : ℕ) → free ≤ k + 1 → k + 1 ≤ p → k < length ts →
+    (k + 1 ≡ p → stays_on (token_before ts (k + 1)) b ≡ false) → (free ≤ k → fresh k ≡ false) → fresh (k + 1) ≡ true → ⊥
+refuted {case} {ts} {b} {fresh} {alive} {before} {row} {p} {free} u k l h i e r t = elim (u.step.fresh_from k i t) [
+  | inl w ↦ held w.0 w.1 (less_or_equal (k + 1) p h)
+  | inr s ↦ elim s [
+    | inl w ↦ let z : k + 1 < free = u.settled.advance k (omega arith) w.1 w.0 in absurd (omega arith)
+    | inr w ↦ skipped w.0 w.1 (less_or_equal free (k + 1) l)
+  ]
+]
+  where
+    less_or_equal : (x y : ℕ) → x ≤ y → (x < y) ⊎ (x ≡ y)
+    less_or_equal x y q = grind arith
+
+    held : stays_on (token_before ts (k + 1)) b ≡ true → before (k + 1) ≡ true → (k + 1 < p) ⊎ (k + 1 ≡ p) → ⊥
+    held a c (inl q) = let z : k + 1 < free = u.settled.stay (k + 1) q c a in absurd (omega arith)
+    held a c (inr q) = true_false _ a (e q)
+
+    skipped : may_skip (slice_get ts k) ≡ true → fresh k ≡ true → (free < k + 1) ⊎ (free ≡ k + 1) → ⊥
+    skipped a c (inl q) = true_false _ c (r (omega arith))
+    skipped a c (inr q) = u.row_is.closed k (sym q) c a
+
+-- a settled place is fresh only by the token before it, which holds it
+pub silent_fresh : {case : Case} {ts : List Token} {b : ℕ} {fresh alive before : ℕ → Bool} {row : List ℕ} {p free : ℕ} →
+    IsUnderway case ts b fresh alive before row p free → (k : ℕ) → free ≤ k → k ≤ p → k ≤ length ts →
+    (k ≡ p → stays_on (token_before ts k) b ≡ false) → fresh k ≡ false
+silent_fresh u zero l h i e = u.first (omega arith)
+silent_fresh {case} {ts} {b} {fresh} {alive} {before} {row} {p} {free} u (suc k) l h i e =
+    let same : k + 1 ≡ suc k = add-one k in
+    let free_before : free ≤ k → fresh k ≡ false = λ q. silent_fresh u k q (omega arith) (omega arith) (λ x. absurd (omega arith)) in
+    by_test (fresh (suc k))
+    (λ t. absurd (refuted u k (omega arith) (omega arith) (omega arith)
+    (λ q. subst (λ x. stays_on (token_before ts x) b ≡ false) (sym same) (e (omega arith)))
+    free_before (subst (λ x. fresh x ≡ true) (sym same) t)))
+    (λ f. f)
+
+pub silent : {case : Case} {ts : List Token} {b : ℕ} {fresh alive before : ℕ → Bool} {row : List ℕ} {p free : ℕ} →
+    IsUnderway case ts b fresh alive before row p free → p ≤ length ts + 1 → (k : ℕ) → free ≤ k → k < p → alive k ≡ false
+silent {case} {ts} {b} {fresh} {alive} {before} {row} {p} {free} u m k l h =
+    by_test (alive k) (λ t. absurd (elim (u.step.alive_from k (omega arith) t) [
+      | inl f ↦ true_false _ f (silent_fresh u k l (omega arith) (omega arith) (λ q. absurd (omega arith)))
+      | inr w ↦ let z : k < free = u.settled.folder k h w.1 w.0 in absurd (omega arith)
+    ])) (λ f. f)
+
+-- the same with the place p itself, where it doesn't stay
+pub silent_next : {case : Case} {ts : List Token} {b : ℕ} {fresh alive before : ℕ → Bool} {row : List ℕ} {p free : ℕ} →
+    IsUnderway case ts b fresh alive before row p free → p ≤ length ts → before p ≡ true →
+    (stays_on (token_before ts p) b ≡ true → p < free) → (is_folder (slice_get ts p) ≡ true → p < free) →
+    (k : ℕ) → free ≤ k → k < p + 1 → alive k ≡ false
+silent_next {case} {ts} {b} {fresh} {alive} {before} {row} {p} {free} u m o c d k l h = elim (below_or_at k p h) [
+  | inl q ↦ silent u (omega arith) k l q
+  | inr q ↦ subst (λ x. alive x ≡ false) (sym q) (here (omega arith))
+]
+  where
+    below_or_at : (x y : ℕ) → x < y + 1 → (x < y) ⊎ (x ≡ y)
+    below_or_at x y e = grind arith
+
+    here : free ≤ p → alive p ≡ false
+    here f = by_test (alive p) (λ t. absurd (elim (u.step.alive_from p m t) [
+      | inl z ↦ true_false _ z (silent_fresh u p f (omega arith) m (λ e. by_test (stays_on (token_before ts p) b)
+          (λ y. absurd (let w : p < free = c y in omega arith)) (λ y. y)))
+      | inr w ↦ let z : p < free = d w.0 in absurd (omega arith)
+    ])) (λ z. z)
+
+pub settled-grown : {case : Case} {ts : List Token} {b : ℕ} {before : ℕ → Bool} {p free : ℕ} (more : ℕ) →
+    IsSettled case ts b before p free → free ≤ more → IsSettled case ts b before p more
+settled-grown {case} {ts} {b} {before} {p} {free} more s l = record {
+  stay = λ k h o c. let z : k < free = s.stay k h o c in omega arith;
+  folder = λ k h o c. let z : k < free = s.folder k h o c in omega arith;
+  advance = λ k h o c. let z : k + 1 < free = s.advance k h o c in omega arith;
+}
+
+-- a row that ends with a place that is alive and not fresh
+pub kept_row : (ts : List Token) (fresh alive : ℕ → Bool) (row : List ℕ) (place : ℕ) → row ≡ places_below alive (place + 1) →
+    alive place ≡ true → fresh place ≡ false → IsRow ts fresh alive row (place + 1)
+kept_row ts fresh alive row place e a f = record {
+  kept = e;
+  last = λ k h. let same : place ≡ k = omega arith in subst (λ x. alive x ≡ true) same a;
+  closed = λ k h t n. let same : k ≡ place = omega arith in true_false _ (subst (λ x. fresh x ≡ true) same t) f;
+}
+
+pub settled-skip : {case : Case} {ts : List Token} {b : ℕ} {before : ℕ → Bool} {p free : ℕ} (q : ℕ) →
+    IsSettled case ts b before p free → ((k : ℕ) → p ≤ k → k < q → before k ≡ false) → IsSettled case ts b before q free
+settled-skip {case} {ts} {b} {before} {p} {free} q s none = record {
+  stay = λ k h o c. s.stay k (below k h o) o c;
+  folder = λ k h o c. s.folder k (below k h o) o c;
+  advance = λ k h o c. s.advance k (below k h o) o c;
+}
+  where
+    below_or_not : (x y : ℕ) → (x < y) ⊎ (y ≤ x)
+    below_or_not x y = grind arith
+
+    below : (k : ℕ) → k < q → before k ≡ true → k < p
+    below k h o = elim (below_or_not k p) [ inl l ↦ l | inr l ↦ absurd (true_false _ o (none k l h)) ]
+
+pub settled-next : {case : Case} {ts : List Token} {b : ℕ} {before : ℕ → Bool} {p free : ℕ} →
+    IsSettled case ts b before p free → (stays_on (token_before ts p) b ≡ true → p < free) →
+    (is_folder (slice_get ts p) ≡ true → p < free) → (advances_on case (slice_get ts p) b ≡ true → p + 1 < free) →
+    IsSettled case ts b before (p + 1) free
+settled-next {case} {ts} {b} {before} {p} {free} s c d e = record {
+  stay = λ k h o t. elim (below_or_at k p h) [
+    | inl q ↦ s.stay k q o t
+    | inr q ↦ let z : p < free = c (subst (λ x. stays_on (token_before ts x) b ≡ true) q t) in omega arith
+  ];
+  folder = λ k h o t. elim (below_or_at k p h) [
+    | inl q ↦ s.folder k q o t
+    | inr q ↦ let z : p < free = d (subst (λ x. is_folder (slice_get ts x) ≡ true) q t) in omega arith
+  ];
+  advance = λ k h o t. elim (below_or_at k p h) [
+    | inl q ↦ s.advance k q o t
+    | inr q ↦ let z : p + 1 < free = e (subst (λ x. advances_on case (slice_get ts x) b ≡ true) q t) in omega arith
+  ];
+}
+  where
+    below_or_at : (x y : ℕ) → x < y + 1 → (x < y) ⊎ (x ≡ y)
+    below_or_at x y h = grind arith
+
+-- the first of the numbers from p on that pass
+pub record FirstOf (test : ℕ → Bool) (p d q : ℕ) (others : List ℕ) : Type 0 where
+  pub left : ℕ
+  pub end : q + 1 + left ≡ p + d
+  pub from : p ≤ q
+  pub passes : test q ≡ true
+  pub none : (k : ℕ) → p ≤ k → k < q → test k ≡ false
+  pub others_are : others ≡ filter test (range_with_len (q + 1) left)
+
+pub first_of_places : (test : ℕ → Bool) (d p q : ℕ) (others : List ℕ) → q ∷ others ≡ filter test (range_with_len p d) → FirstOf test p d q others
+first_of_places test zero p q others h = cc
+first_of_places test (suc d) p q others h = by_test (test p) (λ t. found t (rw t at h))
+    (λ f. later f (first_of_places test d (p + 1) q others (rw f at h)))
+  where
+    found : test p ≡ true → q ∷ others ≡ p ∷ filter test (range_with_len (p + 1) d) → FirstOf test p (suc d) q others
+    found t e =
+        let same : q ≡ p = cc in
+        record {
+          left = d;
+          end = omega arith;
+          from = omega arith;
+          passes = subst (λ x. test x ≡ true) (sym same) t;
+          none = λ k l m. absurd (omega arith);
+          others_are = let tail : others ≡ filter test (range_with_len (p + 1) d) = cc in tail ∙ ap (λ x. filter test (range_with_len (x + 1) d))
+              (sym same);
+        }
+
+    later : test p ≡ false → FirstOf test (p + 1) d q others → FirstOf test p (suc d) q others
+    later f r = record {
+      left = r.left;
+      end = omega (arith, r.end);
+      from = omega (arith, r.from);
+      passes = r.passes;
+      none = λ k l m. elim (at_or_above k p l) [
+        | inl e ↦ subst (λ x. test x ≡ false) (sym e) f
+        | inr e ↦ r.none k (omega arith) m
+      ];
+      others_are = r.others_are;
+    }
+      where
+        at_or_above : (x y : ℕ) → y ≤ x → (x ≡ y) ⊎ (y < x)
+        at_or_above x y l = grind arith
+
+pub none_of_places : (test : ℕ → Bool) (d p : ℕ) → [] ≡ filter test (range_with_len p d) → (k : ℕ) → p ≤ k → k < p + d → test k ≡ false
+none_of_places test zero p h k l m = absurd (omega arith)
+none_of_places test (suc d) p h k l m = by_test (test p)
+    (λ t. let e : [] ≡ p ∷ filter test (range_with_len (p + 1) d) = rw t at h in cc)
+    (λ f. elim (at_or_above k p l) [
+      | inl e ↦ subst (λ x. test x ≡ false) (sym e) f
+      | inr e ↦ none_of_places test d (p + 1) (rw f at h) k (omega arith) (omega arith)
+    ])
+  where
+    at_or_above : (x y : ℕ) → y ≤ x → (x ≡ y) ⊎ (y < x)
+    at_or_above x y l = grind arith
+
+-- the empty row
+pub empty_row : (ts : List Token) (fresh alive : ℕ → Bool) (row : List ℕ) → row ≡ [] → IsRow ts fresh alive row 0
+empty_row ts fresh alive row e = record {
+  kept = e;
+  last = λ k h. absurd (omega arith);
+  closed = λ k h t n. absurd (omega arith);
+}
+
+pub settled-none : (case : Case) (ts : List Token) (b : ℕ) (before : ℕ → Bool) (free : ℕ) → IsSettled case ts b before 0 free
+settled-none case ts b before free = record {
+  stay = λ k h o t. absurd (omega arith);
+  folder = λ k h o t. absurd (omega arith);
+  advance = λ k h o t. absurd (omega arith);
+}

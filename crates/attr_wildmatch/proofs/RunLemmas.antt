@@ -1,0 +1,254 @@
+-- A row moved over a value: what it holds after each byte, and how many places were visited.
+use Rattle.std.proofs.Common.{◌≡◌, ◌≤◌, ◌<◌, ◌+◌, ◌*◌, ◌-◌, ℕ, zero, suc, Bool, true, false, cond, ◌⊎◌, inl, inr, List, [], ◌∷◌, ◌++◌, length, take}
+use Rattle.std.proofs.Common.{reverse, slice_get, get_or, filter, sum_by, count_by, All, refl, sym, ap, subst, ◌∙◌, arith, add-one, add-zero}
+use Rattle.std.proofs.Common.{zero-add}
+use Rattle.std.specs.List.{range_with_len}
+use Rattle.std.proofs.lemmas.List.{reverse-append, reverse-reverse, take_more, take_all}
+use Rattle.std.proofs.lemmas.List.Sums.{length-filter, sum_by-le-sum_by, sum_by-append}
+use Rattle.std.proofs.lemmas.List.FromFn.{length-range_with_len}
+use Rattle.attr_wildmatch.specs.declared.case.Case.{Case}
+use Rattle.attr_wildmatch.specs.Tokens.{Token}
+use Rattle.attr_wildmatch.specs.inner.Bordered.{is_bordered}
+use Rattle.attr_wildmatch.specs.Matching.{Match, ReachedAtMost, pairs_passed}
+use Rattle.attr_wildmatch.specs.inner.RowPlaces.{places_below, is_folder, IsStep, IsRow}
+use Rattle.attr_wildmatch.proofs.Basics.{by_test, true_false, Each, all_of_each}
+use Rattle.attr_wildmatch.proofs.TokenLemmas.{slice_get-missing}
+use Rattle.attr_wildmatch.specs.inner.RowPlaces.{IsUnderway}
+use Rattle.attr_wildmatch.proofs.RowLemmas.{places_below-up_to, silent, empty_row, length-filter-le}
+use Rattle.attr_wildmatch.proofs.Reached.{fresh, alive, match_of_reached, reached_of_match}
+use Rattle.attr_wildmatch.proofs.ReachedSteps.{growing, alive-plain}
+use Rattle.attr_wildmatch.proofs.ReachedRules.{steps, starts, nothing}
+
+-- after the first j bytes
+abbrev pub first_bytes : List ℕ → ℕ → List ℕ
+first_bytes value j = reverse (take j value)
+
+-- place k is alive after the first j bytes
+abbrev pub alive_at : Case → List Token → List ℕ → ℕ → ℕ → Bool
+alive_at case ts value k j = alive case ts (first_bytes value j) k
+
+range-more : (m a : ℕ) → range_with_len a (suc m) ≡ range_with_len a m ++ (a + m) ∷ []
+range-more zero a = ap (λ x. x ∷ []) (sym (add-zero a))
+range-more (suc m) a =
+    let same : a + 1 + m ≡ a + suc m = omega arith in
+    ap (λ x. a ∷ x) (range-more m (a + 1) ∙ ap (λ x. range_with_len (a + 1) m ++ x ∷ []) same)
+
+pub pairs-more : (test : ℕ → ℕ → Bool) (n i : ℕ) →
+    pairs_passed test n (i + 1) ≡ pairs_passed test n i + count_by (λ k. test k (i + 1)) (range_with_len 0 (n + 1))
+pairs-more test n i =
+    let f : ℕ → ℕ = λ j. count_by (λ k. test k j) (range_with_len 0 (n + 1)) in
+    let whole : range_with_len 0 (i + 1 + 1) ≡ range_with_len 0 (i + 1) ++ (i + 1) ∷ [] =
+    ap (range_with_len 0) (add-one (i + 1)) ∙ (range-more (i + 1) 0 ∙ ap (λ x. range_with_len 0 (i + 1) ++ x ∷ []) (zero-add (i + 1))) in
+    ap (sum_by f) whole ∙ (sum_by-append f (range_with_len 0 (i + 1)) ((i + 1) ∷ []) ∙ ap (λ x. sum_by f (range_with_len 0 (i + 1)) + x)
+    (zero-add (f (i + 1))))
+
+-- The row after i bytes, with the first place after all in it, and the visits so far.
+pub record IsAt (case : Case) (ts : List Token) (value row : List ℕ) (free visits i : ℕ) : Type 0 where
+  pub row_is : row ≡ places_below (λ k. alive_at case ts value k i) (length ts + 1)
+  pub last : (k : ℕ) → k + 1 ≡ free → alive_at case ts value k i ≡ true
+  pub beyond : (k : ℕ) → free ≤ k → k ≤ length ts → alive_at case ts value k i ≡ false
+  pub bound : free ≤ length ts + 1
+  pub counted : visits ≡ pairs_passed (alive_at case ts value) (length ts) i
+  pub paid : free ≤ visits
+  pub most : visits ≤ (length ts + 1) * (i + 1)
+
+row-whole : (case : Case) (ts : List Token) (v row : List ℕ) (free : ℕ) → IsRow ts (fresh case ts v) (alive case ts v) row free →
+    free ≤ length ts + 1 → ((k : ℕ) → free ≤ k → k ≤ length ts → alive case ts v k ≡ false) → row ≡ places_below (alive case ts v) (length ts + 1)
+row-whole case ts v row free r l b = r.kept ∙ sym (places_below-up_to (alive case ts v) free (length ts + 1) l (λ k x y. b k x (omega arith)))
+
+length-places_below : (test : ℕ → Bool) (n : ℕ) (row : List ℕ) → row ≡ places_below test n → length row ≡ count_by test (range_with_len 0 n)
+length-places_below test n row e = ap length e ∙ length-filter test (range_with_len 0 n)
+
+length-row : (test : ℕ → Bool) (n : ℕ) (row : List ℕ) → row ≡ places_below test n → length row ≤ n
+length-row test n row e =
+    let a : length row ≤ length (range_with_len 0 n) = subst (λ x. length x ≤ length (range_with_len 0 n)) (sym e)
+    (length-filter-le test (range_with_len 0 n)) in
+    omega (arith, length-range_with_len 0 n)
+
+pub at_start : (case : Case) (ts : List Token) (value row : List ℕ) (free : ℕ) →
+    IsRow ts (fresh case ts []) (alive case ts []) row free → 0 < free → free ≤ length ts + 1 → free ≤ length row →
+    IsAt case ts value row free (length row) 0
+at_start case ts value row free r p l q =
+    let u : IsUnderway case ts 0 (fresh case ts []) (alive case ts []) nothing row (length ts + 1) free = record {
+      step = starts case ts 0;
+      first = λ e. absurd (omega arith);
+      row_is = r;
+      settled = record { stay = λ k h o t. cc; folder = λ k h o t. cc; advance = λ k h o t. cc };
+    } in
+    let none : (k : ℕ) → free ≤ k → k ≤ length ts → alive case ts [] k ≡ false = λ k a b. silent u (omega arith) k a (omega arith) in
+    let whole = row-whole case ts [] row free r l none in
+    record {
+      row_is = whole;
+      last = r.last;
+      beyond = none;
+      bound = l;
+      counted = length-places_below (alive case ts []) (length ts + 1) row whole ∙ sym
+          (zero-add (count_by (alive case ts []) (range_with_len 0 (length ts + 1))));
+      paid = q;
+      most = let m = length-row (alive case ts []) (length ts + 1) row whole in omega arith;
+    }
+
+next_bytes : (value : List ℕ) (i : ℕ) → i < length value → first_bytes value (i + 1) ≡ get_or value i 0 ∷ first_bytes value i
+next_bytes value i h = ap reverse (take_more value i 0 h) ∙ reverse-append (take i value) (get_or value i 0 ∷ [])
+
+pub step_at : (case : Case) (ts : List Token) (value : List ℕ) (i : ℕ) → is_bordered true ts ≡ true → i < length value →
+    IsStep case ts (get_or value i 0) (fresh case ts (first_bytes value (i + 1))) (alive case ts (first_bytes value (i + 1)))
+    (alive case ts (first_bytes value i))
+step_at case ts value i bordered h =
+    subst (λ x. IsStep case ts (get_or value i 0) (fresh case ts x) (alive case ts x) (alive case ts (first_bytes value i)))
+    (sym (next_bytes value i h)) (steps case ts (get_or value i 0) (first_bytes value i) bordered)
+
+pub fresh-first : (case : Case) (ts : List Token) (value : List ℕ) (i : ℕ) → i < length value → fresh case ts (first_bytes value (i + 1)) 0 ≡ false
+fresh-first case ts value i h = ap (λ x. fresh case ts x 0) (next_bytes value i h)
+
+pub at_more : (case : Case) (ts : List Token) (value row next : List ℕ) (free more visits i : ℕ) → IsAt case ts value row free visits i →
+    i < length value → IsRow ts (fresh case ts (first_bytes value (i + 1))) (alive case ts (first_bytes value (i + 1))) next more →
+    ((k : ℕ) → more ≤ k → k ≤ length ts → alive case ts (first_bytes value (i + 1)) k ≡ false) → more ≤ length ts + 1 →
+    more ≤ free + length next → IsAt case ts value next more (visits + length next) (i + 1)
+at_more case ts value row next free more visits i a h r none l q =
+    let whole = row-whole case ts (first_bytes value (i + 1)) next more r l none in
+    record {
+      row_is = whole;
+      last = r.last;
+      beyond = none;
+      bound = l;
+      counted =
+          ap (λ x. x + length next) a.counted ∙
+          (ap (λ x. pairs_passed (alive_at case ts value) (length ts) i + x)
+          (length-places_below (alive case ts (first_bytes value (i + 1))) (length ts + 1) next whole) ∙
+          sym (pairs-more (alive_at case ts value) (length ts) i));
+      paid = omega (arith, a.paid);
+      most = let m = length-row (alive case ts (first_bytes value (i + 1))) (length ts + 1) next whole in
+          let b = a.most in
+          let c : (length ts + 1) * (i + 1 + 1) ≡ (length ts + 1) * (i + 1) + (length ts + 1) = omega arith in
+          omega arith;
+    }
+
+pub below_free : (case : Case) (ts : List Token) (value row : List ℕ) (free visits i : ℕ) → IsAt case ts value row free visits i → All (λ k. k < free)
+    row
+below_free case ts value row free visits i a =
+    let test : ℕ → Bool = λ k. alive_at case ts value k i in
+    let e : row ≡ places_below test free =
+    a.row_is ∙ places_below-up_to test free (length ts + 1) a.bound (λ k x y. a.beyond k x (omega arith)) in
+    subst (All (λ k. k < free)) (sym e) (all_of_each (λ k. k < free) (places_below test free) (below test free 0 free (omega arith)))
+  where
+    below : (test : ℕ → Bool) (n a most : ℕ) → a + n ≤ most → Each (λ k. k < most) (filter test (range_with_len a n))
+    below test zero a most h = tt
+    below test (suc n) a most h =
+        let rest = below test n (a + 1) most (omega arith) in
+        by_test (test a) (λ t. rw t (omega arith, rest)) (λ f. rw f rest)
+
+-- where no place is alive, none is after any further bytes
+pub dead : (case : Case) (ts : List Token) (value : List ℕ) (i : ℕ) → is_bordered true ts ≡ true →
+    ((k : ℕ) → k ≤ length ts → alive_at case ts value k i ≡ false) → (d : ℕ) → i + d ≤ length value →
+    (k : ℕ) → k ≤ length ts → alive_at case ts value k (i + d) ≡ false
+dead case ts value i bordered none zero h k l = subst (λ x. alive_at case ts value k x ≡ false) (sym (add-zero i)) (none k l)
+dead case ts value i bordered none (suc d) h k l =
+    let same : i + d + 1 ≡ i + suc d = omega arith in
+    let before = dead case ts value i bordered none d (omega arith) in
+    let u : IsUnderway case ts (get_or value (i + d) 0) (fresh case ts (first_bytes value (i + d + 1)))
+    (alive case ts (first_bytes value (i + d + 1))) (alive case ts (first_bytes value (i + d))) [] (length ts + 1) 0 = record {
+      step = step_at case ts value (i + d) bordered (omega arith);
+      first = λ e. fresh-first case ts value (i + d) (omega arith);
+      row_is = empty_row ts (fresh case ts (first_bytes value (i + d + 1))) (alive case ts (first_bytes value (i + d + 1))) [] refl;
+      settled = record {
+        stay = λ q m o t. absurd (true_false _ o (before q (omega arith)));
+        folder = λ q m o t. absurd (true_false _ o (before q (omega arith)));
+        advance = λ q m o t. absurd (true_false _ o (before q (omega arith)));
+      };
+    } in
+    subst (λ x. alive_at case ts value k x ≡ false) same (silent u (omega arith) k (omega arith) (omega arith))
+
+count_by-le : (p q : ℕ → Bool) (xs : List ℕ) → ((x : ℕ) → p x ≡ true → q x ≡ true) → count_by p xs ≤ count_by q xs
+count_by-le p q xs h = sum_by-le-sum_by (λ x. cond (p x) 1 0) (λ x. cond (q x) 1 0) xs
+    (λ x. by_test (p x) (λ t. rw (t, h x t) (omega arith)) (λ f. rw f (omega arith)))
+
+alive_of_match : (case : Case) (ts : List Token) (value : List ℕ) (k j : ℕ) → Match case (take k ts) (take j value) → alive_at case ts value k j ≡
+    true
+alive_of_match case ts value k j m =
+    (growing case ts (first_bytes value j)).living k
+    (reached_of_match case (reverse (take k ts)) (take j value) (subst (λ x. Match case x (take j value)) (sym (reverse-reverse (take k ts))) m))
+
+missed : (case : Case) (ts : List Token) (value : List ℕ) (visits : ℕ) → pairs_passed (alive_at case ts value) (length ts) (length value) ≤ visits →
+    ReachedAtMost case ts value visits
+missed case ts value visits h = λ test sound.
+    let numbers = range_with_len 0 (length ts + 1) in
+    let less : pairs_passed test (length ts) (length value) ≤ pairs_passed (alive_at case ts value) (length ts) (length value) =
+    sum_by-le-sum_by (λ j. count_by (λ k. test k j) numbers) (λ j. count_by (λ k. alive_at case ts value k j) numbers)
+    (range_with_len 0 (length value + 1))
+    (λ j. count_by-le (λ k. test k j) (λ k. alive_at case ts value k j) numbers (λ k t. alive_of_match case ts value k j (sound k j t))) in
+    omega arith
+
+match_of_last : (case : Case) (ts : List Token) (value : List ℕ) → alive_at case ts value (length ts) (length value) ≡ true → Match case ts value
+match_of_last case ts value h =
+    let tail : is_folder (slice_get ts (length ts)) ≡ false = ap is_folder (slice_get-missing ts (length ts) (omega arith)) in
+    let f = sym (alive-plain case ts (first_bytes value (length value)) (length ts) tail) ∙ h in
+    let m = match_of_reached case (reverse (take (length ts) ts)) (first_bytes value (length value)) f in
+    subst (λ x. Match case x value) (reverse-reverse (take (length ts) ts) ∙ take_all (length ts) ts (omega arith))
+    (subst (Match case (reverse (reverse (take (length ts) ts)))) (reverse-reverse (take (length value) value) ∙ take_all (length value) value
+    (omega arith)) m)
+
+last_of_match : (case : Case) (ts : List Token) (value : List ℕ) → Match case ts value → alive_at case ts value (length ts) (length value) ≡ true
+last_of_match case ts value m =
+    alive_of_match case ts value (length ts) (length value)
+    (subst (λ x. Match case x (take (length value) value)) (sym (take_all (length ts) ts (omega arith)))
+    (subst (Match case ts) (sym (take_all (length value) value (omega arith))) m))
+
+-- at the end of the value
+pub matched_at_end : (case : Case) (ts : List Token) (value row : List ℕ) (free visits : ℕ) → IsAt case ts value row free visits (length value) →
+    ((free ≡ length ts + 1) → Match case ts value) × (Match case ts value → free ≡ length ts + 1)
+matched_at_end case ts value row free visits a = (
+  (λ e. match_of_last case ts value (a.last (length ts) (sym e))),
+  (λ m. elim (above_or_not (length ts) free) [
+    | inl l ↦ let b = a.bound in omega arith
+    | inr l ↦ absurd (true_false _ (last_of_match case ts value m) (a.beyond (length ts) l (omega arith)))
+  ]),
+)
+  where
+    above_or_not : (x y : ℕ) → (x < y) ⊎ (y ≤ x)
+    above_or_not x y = grind arith
+
+pub missed_at_end : (case : Case) (ts : List Token) (value row : List ℕ) (free visits : ℕ) → IsAt case ts value row free visits (length value) →
+    ReachedAtMost case ts value visits
+missed_at_end case ts value row free visits a = missed case ts value visits (omega (arith, a.counted))
+
+-- where the row is empty
+no_pairs : (test : ℕ → Bool) (n a : ℕ) → ((k : ℕ) → k < a + n → test k ≡ false) → count_by test (range_with_len a n) ≡ 0
+no_pairs test n a h = sym (length-filter test (range_with_len a n)) ∙ ap length (none n a h)
+  where
+    none : (n a : ℕ) → ((k : ℕ) → k < a + n → test k ≡ false) → filter test (range_with_len a n) ≡ []
+    none zero a h = refl
+    none (suc n) a h = rw (h a (omega arith)) (none n (a + 1) (λ k l. h k (omega arith)))
+
+pairs-dead : (case : Case) (ts : List Token) (value : List ℕ) (i : ℕ) → is_bordered true ts ≡ true →
+    ((k : ℕ) → k ≤ length ts → alive_at case ts value k i ≡ false) → (d : ℕ) → i + d ≤ length value →
+    pairs_passed (alive_at case ts value) (length ts) (i + d) ≡ pairs_passed (alive_at case ts value) (length ts) i
+pairs-dead case ts value i bordered none zero h = ap (pairs_passed (alive_at case ts value) (length ts)) (add-zero i)
+pairs-dead case ts value i bordered none (suc d) h =
+    let same : i + suc d ≡ i + d + 1 = omega arith in
+    let test : ℕ → Bool = λ k. alive_at case ts value k (i + d + 1) in
+    let gone : (k : ℕ) → k ≤ length ts → test k ≡ false = λ k l. subst (λ x. alive_at case ts value k x ≡ false) same
+    (dead case ts value i bordered none (suc d) h k l) in
+    let zero_more : count_by test (range_with_len 0 (length ts + 1)) ≡ 0 = no_pairs test (length ts + 1) 0 (λ k l. gone k (omega arith)) in
+    ap (pairs_passed (alive_at case ts value) (length ts)) same ∙
+    (pairs-more (alive_at case ts value) (length ts) (i + d) ∙
+    (ap (λ x. pairs_passed (alive_at case ts value) (length ts) (i + d) + x) zero_more ∙
+    (add-zero (pairs_passed (alive_at case ts value) (length ts) (i + d)) ∙ pairs-dead case ts value i bordered none d (omega arith))))
+
+pub unmatched_where_dead : (case : Case) (ts : List Token) (value row : List ℕ) (visits i : ℕ) → is_bordered true ts ≡ true →
+    IsAt case ts value row 0 visits i → i ≤ length value → Match case ts value → ⊥
+unmatched_where_dead case ts value row visits i bordered a l m =
+    let same : i + (length value - i) ≡ length value = omega arith in
+    true_false _ (last_of_match case ts value m)
+    (subst (λ x. alive_at case ts value (length ts) x ≡ false) same
+    (dead case ts value i bordered (λ k b. a.beyond k (omega arith) b) (length value - i) (omega arith) (length ts) (omega arith)))
+
+pub missed_where_dead : (case : Case) (ts : List Token) (value row : List ℕ) (visits i : ℕ) → is_bordered true ts ≡ true →
+    IsAt case ts value row 0 visits i → i ≤ length value → ReachedAtMost case ts value visits
+missed_where_dead case ts value row visits i bordered a l =
+    let same : i + (length value - i) ≡ length value = omega arith in
+    let none : (k : ℕ) → k ≤ length ts → alive_at case ts value k i ≡ false = λ k b. a.beyond k (omega arith) b in
+    let e : pairs_passed (alive_at case ts value) (length ts) (length value) ≡ visits =
+    ap (pairs_passed (alive_at case ts value) (length ts)) (sym same) ∙
+    (pairs-dead case ts value i bordered none (length value - i) (omega arith) ∙ sym a.counted) in
+    missed case ts value visits (omega arith)

@@ -1,0 +1,407 @@
+-- The members of a bracket, read and spelled.
+use Rattle.std.proofs.Common.{◌≡◌, ◌≢◌, ◌≤◌, ◌<◌, ◌+◌, ℕ, zero, suc, Bool, true, false, cond, not, ◌&&◌, ◌||◌, ◌==◌, inl, inr, List, [], ◌∷◌, ◌++◌}
+use Rattle.std.proofs.Common.{length, drop, Option, Some, None, option_map, codes, refl, sym, ap, subst, ◌∙◌, arith, length-append}
+use Rattle.std.specs.Str.{bytes_eq}
+use Rattle.std.proofs.lemmas.Slice.Eq.{bytes_eq-Decides}
+use Rattle.attr_wildmatch.specs.declared.bracket.Class.{Class}
+use Rattle.attr_wildmatch.specs.declared.bracket.Class.TheVariants.{Alnum, Alpha, Blank, Cntrl, Digit, Graph, Lower, Print, Punct, Space, Upper, Xdigit}
+use Rattle.attr_wildmatch.specs.declared.bracket.Member.{Member}
+use Rattle.attr_wildmatch.specs.declared.bracket.Member.TheVariants.{Single, Span, Named}
+use Rattle.attr_wildmatch.specs.Bytes.{hyphen, colon, open_bracket, backslash, close_bracket}
+use Rattle.attr_wildmatch.specs.Brackets.{class_named, begins, name_in, span_end, ranged, from_single, from_escape, class_member, from_class, member_at}
+use Rattle.attr_wildmatch.specs.Brackets.{members}
+use Rattle.attr_wildmatch.specs.Spelling.{class_name, BeginsClass, IsSingle, IsEnd, IsMember, AreMembers}
+use Rattle.attr_wildmatch.proofs.Basics.{by_test, unequal, equal, equal_so, not_equal, and_parts, and_both, or_left, or_right, true_false, pair_parts}
+use Rattle.attr_wildmatch.proofs.Basics.{by_option, each_of_all, all_of_each}
+use Rattle.attr_wildmatch.proofs.Names.{Unclosed, skipped}
+
+-- Names of classes.
+
+pub name_in-named : (name others : List ℕ) → Unclosed name → name_in (name ++ colon ∷ close_bracket ∷ others) ≡ Some name
+name_in-named [] others h = refl
+name_in-named (b ∷ name) others h =
+    skipped b (name ++ colon ∷ close_bracket ∷ others) h.0 (unclosed_begin name others h.1) ∙ ap (option_map (λ x. b ∷ x))
+    (name_in-named name others h.1)
+  where
+    unclosed_begin : (name others : List ℕ) → Unclosed name → begins close_bracket (name ++ colon ∷ close_bracket ∷ others) ≡ false
+    unclosed_begin [] others h = refl
+    unclosed_begin (b ∷ name) others h = unequal b close_bracket h.0
+
+-- what a name that was found says of the bytes
+pub record HasName (bs name : List ℕ) : Type 0 where
+  pub others : List ℕ
+  pub whole : bs ≡ name ++ colon ∷ close_bracket ∷ others
+  pub unclosed : Unclosed name
+  pub tail : drop (length name + 2) bs ≡ others
+
+named_step : (b : ℕ) (bs name : List ℕ) → ((rest : List ℕ) → name_in bs ≡ Some rest → HasName bs rest) →
+    name_in (b ∷ bs) ≡ Some name → HasName (b ∷ bs) name
+named_step b bs name before h = by_test (b == close_bracket) (λ t. let e = rw t at h in cc) (λ f. open_still f (rw f at h))
+  where
+    begun : (bs : List ℕ) → begins close_bracket bs ≡ true → (others : List ℕ) × (bs ≡ close_bracket ∷ others)
+    begun [] e = cc
+    begun (c ∷ bs) e = (bs, ap (λ x. x ∷ bs) (equal c close_bracket e))
+
+    at_once : b ≡ colon → begins close_bracket bs ≡ true → [] ≡ name → HasName (b ∷ bs) name
+    at_once e g n =
+        let r = begun bs g in
+        subst (HasName (b ∷ bs)) n
+        (subst (λ x. HasName x []) (sym (ap (λ x. x ∷ bs) e ∙ ap (λ x. colon ∷ x) r.1))
+        (record { others = r.0; whole = refl; unclosed = tt; tail = refl }))
+
+    later : b ≢ close_bracket → (rest : List ℕ) → name_in bs ≡ Some rest → b ∷ rest ≡ name → HasName (b ∷ bs) name
+    later ne rest e n =
+        let r = before rest e in
+        subst (HasName (b ∷ bs)) n
+        (record {
+          others = r.others;
+          whole = ap (λ x. b ∷ x) r.whole;
+          unclosed = (ne, r.unclosed);
+          tail = let more : suc (length rest) + 2 ≡ suc (length rest + 2) = omega arith in ap (λ x. drop x (b ∷ bs)) more ∙ r.tail;
+        })
+
+    mapped : b ≢ close_bracket → (o : Option (List ℕ)) → name_in bs ≡ o → option_map (λ x. b ∷ x) o ≡ Some name → HasName (b ∷ bs) name
+    mapped ne None e q = cc
+    mapped ne (Some rest) e q = later ne rest e (let same : b ∷ rest ≡ name = cc in same)
+
+    open_still : (b == close_bracket) ≡ false →
+        cond (b == colon && begins close_bracket bs) (Some []) (option_map (λ x. b ∷ x) (name_in bs)) ≡ Some name → HasName (b ∷ bs) name
+    open_still f q = by_test (b == colon && begins close_bracket bs)
+        (λ t. let w = and_parts (b == colon) (begins close_bracket bs) t in
+        at_once (equal b colon w.0) w.1 (let e : Some [] ≡ Some name = rw t at q in let same : [] ≡ name = cc in same))
+        (λ g. mapped (not_equal b close_bracket f) (name_in bs) refl (rw g at q))
+
+pub named : (bs name : List ℕ) → name_in bs ≡ Some name → HasName bs name
+named [] name h = cc
+named (b ∷ bs) name h = named_step b bs name (λ rest e. named bs rest e) h
+
+pub class_of_name : (class : Class) → class_named (class_name class) ≡ Some class
+class_of_name Alnum = refl
+class_of_name Alpha = refl
+class_of_name Blank = refl
+class_of_name Cntrl = refl
+class_of_name Digit = refl
+class_of_name Graph = refl
+class_of_name Lower = refl
+class_of_name Print = refl
+class_of_name Punct = refl
+class_of_name Space = refl
+class_of_name Upper = refl
+class_of_name Xdigit = refl
+
+-- one look at a list of names
+looked : (name text : List ℕ) (class found : Class) (others : Option Class) → text ≡ class_name class →
+    (others ≡ Some found → name ≡ class_name found) → cond (bytes_eq name text) (Some class) others ≡ Some found → name ≡ class_name found
+looked name text class found others e r h = by_test (bytes_eq name text)
+    (λ t. let q : Some class ≡ Some found = rw t at h in let same : class ≡ found = cc in
+    (bytes_eq-Decides name text).0 t ∙ (e ∙ ap class_name same))
+    (λ f. r (rw f at h))
+
+pub name_of_class : (name : List ℕ) (class : Class) → class_named name ≡ Some class → name ≡ class_name class
+name_of_class name class h =
+    looked name (codes "alnum") Alnum class _ refl (
+    looked name (codes "alpha") Alpha class _ refl (
+    looked name (codes "blank") Blank class _ refl (
+    looked name (codes "cntrl") Cntrl class _ refl (
+    looked name (codes "digit") Digit class _ refl (
+    looked name (codes "graph") Graph class _ refl (
+    looked name (codes "lower") Lower class _ refl (
+    looked name (codes "print") Print class _ refl (
+    looked name (codes "punct") Punct class _ refl (
+    looked name (codes "space") Space class _ refl (
+    looked name (codes "upper") Upper class _ refl (
+    looked name (codes "xdigit") Xdigit class None refl (λ e. cc)))))))))))) h
+
+-- Ends of ranges.
+
+pub end_of : (bs : List ℕ) (d : ℕ) (more : List ℕ) → span_end bs ≡ Some (d, more) → IsEnd bs d more
+end_of [] d more h = cc
+end_of (c ∷ []) d more h = by_test (c == close_bracket || c == backslash)
+    (λ t. let e = rw t at h in cc)
+    (λ f. let e : Some (c, []) ≡ Some (d, more) = rw f at h in
+    let parts = pair_parts c d [] more e in
+    let byte = parts.0 in
+    inr (ap (λ x. x ∷ []) byte ∙ ap (λ x. d ∷ x) parts.1, different c d byte f, other c d byte f))
+  where
+    different : (x y : ℕ) → x ≡ y → (x == close_bracket || x == backslash) ≡ false → y ≢ backslash
+    different x y e f q = true_false _ (or_right (x == close_bracket) (x == backslash) (equal_so x backslash (e ∙ q))) f
+
+    other : (x y : ℕ) → x ≡ y → (x == close_bracket || x == backslash) ≡ false → y ≢ close_bracket
+    other x y e f q = true_false _ (or_left (x == close_bracket) (x == backslash) (equal_so x close_bracket (e ∙ q))) f
+end_of (c ∷ e ∷ bs) d more h = by_test (c == close_bracket)
+    (λ t. let q = rw t at h in cc)
+    (λ f. let q = rw f at h in by_test (c == backslash)
+    (λ t. let r : Some (e, bs) ≡ Some (d, more) = rw t at q in
+    let parts = pair_parts e d bs more r in
+    let byte = parts.0 in
+    let rest = parts.1 in
+    inl (ap (λ x. x ∷ e ∷ bs) (equal c backslash t) ∙ (ap (λ x. backslash ∷ x ∷ bs) byte ∙ ap (λ x. backslash ∷ d ∷ x) rest)))
+    (λ g. let r : Some (c, e ∷ bs) ≡ Some (d, more) = rw g at q in
+    let parts = pair_parts c d (e ∷ bs) more r in
+    let byte = parts.0 in
+    let rest = parts.1 in
+    inr (
+      ap (λ x. x ∷ e ∷ bs) byte ∙ ap (λ x. d ∷ x) rest,
+      (λ z. true_false _ (equal_so c backslash (byte ∙ z)) g),
+      (λ z. true_false _ (equal_so c close_bracket (byte ∙ z)) f),
+    )))
+
+plain_end : (d : ℕ) (more : List ℕ) → d ≢ backslash → d ≢ close_bracket → span_end (d ∷ more) ≡ Some (d, more)
+plain_end d [] h k = rw (unequal d close_bracket k, unequal d backslash h)
+plain_end d (e ∷ more) h k = rw (unequal d close_bracket k, unequal d backslash h)
+
+pub end_read : (bs : List ℕ) (d : ℕ) (more : List ℕ) → IsEnd bs d more → span_end bs ≡ Some (d, more)
+end_read bs d more (inl h) = ap span_end h
+end_read bs d more (inr h) = ap span_end h.0 ∙ plain_end d more h.1 h.2
+
+-- Single bytes and ranges.
+
+-- what follows a single byte is no range
+abbrev NoRange : List ℕ → Type 0
+NoRange others = (ends : List ℕ) (d : ℕ) (more : List ℕ) → others ≡ hyphen ∷ ends → IsEnd ends d more → ⊥
+
+pub alone : (c : ℕ) (bs : List ℕ) → NoRange bs → from_single c bs ≡ (Single c, bs)
+alone c [] h = refl
+alone c (b ∷ bs) h = by_test (b == hyphen)
+    (λ t. rw t (by_option (span_end bs) (λ n. rw n) (λ p e. absurd (h bs p.0 p.1 (ap (λ x. x ∷ bs) (equal b hyphen t)) (end_of bs p.0 p.1 e)))))
+    (λ f. rw f)
+
+pub tail_member : (first : Bool) (text : List ℕ) (c : ℕ) (bs : List ℕ) → IsSingle first text c bs →
+    IsMember first text (from_single c bs).0 (from_single c bs).1
+tail_member first text c [] s = (s, (λ ends d more e i. cc))
+tail_member first text c (b ∷ bs) s = by_test (b == hyphen)
+    (λ t. rw t (by_option (span_end bs)
+    (λ n. rw n (
+      s,
+      (λ ends d more e i. let same : bs ≡ ends = cc in
+          let q : span_end bs ≡ Some (d, more) = ap span_end same ∙ end_read ends d more i in cc),
+    ))
+    (λ p e. rw e (bs, subst (λ x. IsSingle first text c (x ∷ bs)) (equal b hyphen t) s, end_of bs p.0 p.1 e))))
+    (λ f. rw f (s, (λ ends d more e i. let same : b ≡ hyphen = cc in true_false _ (equal_so b hyphen same) f)))
+
+-- Members.
+
+-- the byte does not close the bracket
+abbrev Closes : Bool → ℕ → Bool
+Closes first b = b == close_bracket && not first
+
+-- where the text begins with a class, its name is found
+begun_class : (b : ℕ) (bs : List ℕ) → BeginsClass (b ∷ bs) → (b ≡ open_bracket) × (begins colon bs ≡ true) ×
+    ((name : List ℕ) × (name_in (drop 1 bs) ≡ Some name))
+begun_class b bs h =
+    let head : b ≡ open_bracket = cc (h.2) in
+    let tail : bs ≡ colon ∷ (h.0 ++ colon ∷ close_bracket ∷ h.1) = cc (h.2) in (
+      head,
+      ap (begins colon) tail,
+      (h.0, ap (λ x. name_in (drop 1 x)) tail ∙ name_in-named h.0 h.1 (each_of_all (λ x. x ≢ close_bracket) h.0 h.3)),
+    )
+
+open_first : (first : Bool) (b : ℕ) → Closes first b ≡ false → b ≡ close_bracket → first ≡ true
+open_first true b f e = refl
+open_first false b f e = absurd (true_false _ (and_both (b == close_bracket) true (equal_so b close_bracket e) refl) f)
+
+same_member : (first : Bool) (text : List ℕ) (p : Member × List ℕ) (m : Member) (mid : List ℕ) → Some p ≡ Some (m, mid) →
+    IsMember first text p.0 p.1 → IsMember first text m mid
+same_member first text p m mid e h =
+    let parts = pair_parts p.0 m p.1 mid e in
+    subst (λ x. IsMember first text m x) parts.1 (subst (λ x. IsMember first text x p.1) parts.0 h)
+
+class_read : (first : Bool) (bs : List ℕ) (m : Member) (mid : List ℕ) → begins colon bs ≡ true → class_member bs (name_in (drop 1 bs)) ≡ Some (m, mid)
+    →
+    IsMember first (open_bracket ∷ bs) m mid
+class_read first [] m mid g h = cc
+class_read first (b ∷ bs) m mid g h = by_option (name_in bs)
+    (λ n. same_member first (open_bracket ∷ b ∷ bs) (from_single open_bracket (b ∷ bs)) m mid (rw n at h)
+    (tail_member first (open_bracket ∷ b ∷ bs) open_bracket (b ∷ bs)
+    (inr (
+      refl,
+      not_equal open_bracket backslash refl,
+      (λ e. absurd (not_equal open_bracket close_bracket refl e)),
+      (λ c. let f = (begun_class open_bracket (b ∷ bs) c).2 in let q : None ≡ Some f.0 = sym n ∙ f.1 in cc),
+    ))))
+    (λ name e. named_class name e (rw e at h))
+  where
+    at_class : (name : List ℕ) → HasName bs name → (class : Class) → class_named name ≡ Some class → Named class ≡ m → drop (length name + 3) (b ∷ bs)
+        ≡ mid →
+        IsMember first (open_bracket ∷ b ∷ bs) m mid
+    at_class name r class k q d =
+        let more : length name + 3 ≡ suc (length name + 2) = omega arith in
+        let mid_is : r.others ≡ mid = sym r.tail ∙ (sym (ap (λ x. drop x (b ∷ bs)) more) ∙ d) in
+        let whole : open_bracket ∷ b ∷ bs ≡ open_bracket ∷ colon ∷ (class_name class ++ colon ∷ close_bracket ∷ mid) =
+        ap (λ x. open_bracket ∷ x ∷ bs) (equal b colon g) ∙ (ap (λ x. open_bracket ∷ colon ∷ x) r.whole ∙
+        (ap (λ x. open_bracket ∷ colon ∷ (x ++ colon ∷ close_bracket ∷ r.others)) (name_of_class name class k) ∙
+        ap (λ x. open_bracket ∷ colon ∷ (class_name class ++ colon ∷ close_bracket ∷ x)) mid_is)) in
+        subst (λ x. IsMember first (open_bracket ∷ b ∷ bs) x mid) q whole
+
+    named_class : (name : List ℕ) → name_in bs ≡ Some name → option_map {U = Member × List ℕ}
+        (λ class. (Named class, drop (length name + 3) (b ∷ bs))) (class_named name) ≡ Some (m, mid) →
+        IsMember first (open_bracket ∷ b ∷ bs) m mid
+    named_class name e q = by_option (class_named name)
+        (λ n. let z = rw n at q in cc)
+        (λ class k. let parts = pair_parts (Named class) m (drop (length name + 3) (b ∷ bs)) mid (rw k at q) in at_class name (named bs name e) class
+        k parts.0 parts.1)
+
+pub member_of : (first : Bool) (b : ℕ) (bs : List ℕ) (m : Member) (mid : List ℕ) → Closes first b ≡ false → member_at b bs ≡ Some (m, mid) →
+    IsMember first (b ∷ bs) m mid
+member_of first b bs m mid c h = by_test (b == backslash) (λ t. escaped bs t (rw t at h)) (λ f. plain f (rw f at h))
+  where
+    escaped : (bs : List ℕ) → (b == backslash) ≡ true → from_escape bs ≡ Some (m, mid) → IsMember first (b ∷ bs) m mid
+    escaped [] t e = cc
+    escaped (d ∷ bs) t e = same_member first (b ∷ d ∷ bs) (from_single d bs) m mid e
+        (tail_member first (b ∷ d ∷ bs) d bs (inl (ap (λ x. x ∷ d ∷ bs) (equal b backslash t))))
+
+    plain : (b == backslash) ≡ false → cond (b == open_bracket && begins colon bs) (from_class bs) (Some (from_single b bs)) ≡ Some (m, mid) →
+        IsMember first (b ∷ bs) m mid
+    plain f e = by_test (b == open_bracket && begins colon bs)
+        (λ t. let w = and_parts (b == open_bracket) (begins colon bs) t in
+        subst (λ x. IsMember first (x ∷ bs) m mid) (sym (equal b open_bracket w.0)) (class_read first bs m mid w.1 (rw t at e)))
+        (λ g. same_member first (b ∷ bs) (from_single b bs) m mid (rw g at e)
+        (tail_member first (b ∷ bs) b bs (inr (
+          refl,
+          not_equal b backslash f,
+          open_first first b c,
+          (λ k. let r = begun_class b bs k in true_false _ (and_both (b == open_bracket) (begins colon bs) (equal_so b open_bracket r.0) r.1) g),
+        ))))
+
+-- the text begins with a byte that does not close the bracket, at which the member is read
+pub record Reads (first : Bool) (text : List ℕ) (m : Member) (mid : List ℕ) : Type 0 where
+  pub byte : ℕ
+  pub tail : List ℕ
+  pub whole : text ≡ byte ∷ tail
+  pub stays_open : Closes first byte ≡ false
+  pub read : member_at byte tail ≡ Some (m, mid)
+
+single_read : (first : Bool) (text : List ℕ) (c : ℕ) (others : List ℕ) (m : Member) (mid : List ℕ) → from_single c others ≡ (m, mid) →
+    IsSingle first text c others → Reads first text m mid
+single_read first text c others m mid e (inl h) = record { byte = backslash; tail = c ∷ others; whole = h; stays_open = refl; read = ap Some e }
+single_read first text c others m mid e (inr h) = record {
+  byte = c;
+  tail = others;
+  whole = h.0;
+  stays_open = by_test (c == close_bracket) (λ t. rw (t, h.2 (equal c close_bracket t))) (λ f. rw f);
+  read = rw (unequal c backslash h.1) (by_test (c == open_bracket && begins colon others) (λ t. rw t (as_class t)) (λ f. rw f (ap Some e)));
+}
+  where
+    colon_first : (bs : List ℕ) → begins colon bs ≡ true → bs ≡ colon ∷ drop 1 bs
+    colon_first [] g = cc
+    colon_first (b ∷ bs) g = ap (λ x. x ∷ bs) (equal b colon g)
+
+    as_class : (c == open_bracket && begins colon others) ≡ true → class_member others (name_in (drop 1 others)) ≡ Some (m, mid)
+    as_class t =
+        let w = and_parts (c == open_bracket) (begins colon others) t in
+        by_option (name_in (drop 1 others))
+        (λ n. rw n (ap (λ x. Some (from_single x others)) (sym (equal c open_bracket w.0)) ∙ ap Some e))
+        (λ name k. let r = named (drop 1 others) name k in
+        absurd (h.3 (
+          name,
+          r.others,
+          h.0 ∙ (ap (λ x. x ∷ others) (equal c open_bracket w.0) ∙ (ap (λ x. open_bracket ∷ x) (colon_first others w.1) ∙ ap
+              (λ x. open_bracket ∷ colon ∷ x) r.whole)),
+          all_of_each (λ x. x ≢ close_bracket) name r.unclosed,
+        )))
+
+class_at : (class : Class) (others : List ℕ) → member_at open_bracket (colon ∷ (class_name class ++ colon ∷ close_bracket ∷ others)) ≡ Some
+    (Named class, others)
+class_at Alnum others = refl
+class_at Alpha others = refl
+class_at Blank others = refl
+class_at Cntrl others = refl
+class_at Digit others = refl
+class_at Graph others = refl
+class_at Lower others = refl
+class_at Print others = refl
+class_at Punct others = refl
+class_at Space others = refl
+class_at Upper others = refl
+class_at Xdigit others = refl
+
+pub member_read : (first : Bool) (text : List ℕ) (m : Member) (mid : List ℕ) → IsMember first text m mid → Reads first text m mid
+member_read first text (Single c) mid h = single_read first text c mid (Single c) mid (alone c mid h.1) h.0
+member_read first text (Span c d) mid h = single_read first text c (hyphen ∷ h.0) (Span c d) mid
+    (ap (ranged c (hyphen ∷ h.0)) (end_read h.0 d mid h.2)) h.1
+member_read first text (Named class) mid h = record {
+  byte = open_bracket;
+  tail = colon ∷ (class_name class ++ colon ∷ close_bracket ∷ mid);
+  whole = h;
+  stays_open = refl;
+  read = class_at class mid;
+}
+
+single_shorter : (first : Bool) (text : List ℕ) (c : ℕ) (others : List ℕ) → IsSingle first text c others → length others < length text
+single_shorter first text c others (inl h) = let e : length text ≡ suc (suc (length others)) = ap length h in omega arith
+single_shorter first text c others (inr h) = let e : length text ≡ suc (length others) = ap length h.0 in omega arith
+
+end_shorter : (text : List ℕ) (d : ℕ) (others : List ℕ) → IsEnd text d others → length others < length text
+end_shorter text d others (inl h) = let e : length text ≡ suc (suc (length others)) = ap length h in omega arith
+end_shorter text d others (inr h) = let e : length text ≡ suc (length others) = ap length h.0 in omega arith
+
+pub member_shorter : (first : Bool) (text : List ℕ) (m : Member) (mid : List ℕ) → IsMember first text m mid → length mid < length text
+member_shorter first text (Single c) mid h = single_shorter first text c mid h.0
+member_shorter first text (Span c d) mid h =
+    let a : length (hyphen ∷ h.0) < length text = single_shorter first text c (hyphen ∷ h.0) h.1 in
+    let b = end_shorter h.0 d mid h.2 in
+    omega arith
+member_shorter first text (Named class) mid h =
+    let e : length text ≡ suc (suc (length (class_name class ++ colon ∷ close_bracket ∷ mid))) = ap length h in
+    omega (arith, length-append (class_name class) (colon ∷ close_bracket ∷ mid))
+
+-- Lists of members.
+
+pub members_of : (n : ℕ) (first : Bool) (text : List ℕ) (ms : List Member) (rest : List ℕ) → members n first text ≡ Some (ms, rest) → AreMembers first
+    text ms rest
+members_of n first [] ms rest h = cc
+members_of zero first (b ∷ bs) ms rest h = cc
+members_of (suc n) first (b ∷ bs) ms rest h = one_more first b bs ms rest n (λ mid q z e. members_of n false mid q z e) h
+  where
+    end_of_list : (first : Bool) (b : ℕ) (bs : List ℕ) (ms : List Member) (rest : List ℕ) → [] ≡ ms → bs ≡ rest → Closes first b ≡ true → AreMembers
+        first (b ∷ bs) ms rest
+    end_of_list first b bs ms rest e k c =
+        let w = and_parts (b == close_bracket) (not first) c in
+        subst (λ x. AreMembers first (b ∷ bs) x rest) e (
+          closed_first first w.1,
+          ap (λ x. x ∷ bs) (equal b close_bracket w.0) ∙ ap
+              (λ x. close_bracket ∷ x) k,
+        )
+      where
+        closed_first : (v : Bool) → not v ≡ true → v ≡ false
+        closed_first true q = cc
+        closed_first false q = refl
+
+    onto : (first : Bool) (b : ℕ) (bs : List ℕ) (ms : List Member) (rest : List ℕ) (m : Member) (mid : List ℕ) (o : Option (List Member × List ℕ)) →
+        IsMember first (b ∷ bs) m mid → ((q : List Member) (z : List ℕ) → o ≡ Some (q, z) → AreMembers false mid q z) →
+        option_map {U = List Member × List ℕ} (λ q. (m ∷ q.0, q.1)) o ≡ Some (ms, rest) → AreMembers first (b ∷ bs) ms rest
+    onto first b bs ms rest m mid None i f e = cc
+    onto first b bs ms rest m mid (Some p) i f e =
+        let parts = pair_parts (m ∷ p.0) ms p.1 rest e in
+        subst (λ x. AreMembers first (b ∷ bs) x rest) parts.0
+        (mid, i, subst (AreMembers false mid p.0) parts.1 (f p.0 p.1 refl))
+
+    one_more : (first : Bool) (b : ℕ) (bs : List ℕ) (ms : List Member) (rest : List ℕ) (n : ℕ) →
+        ((mid : List ℕ) (q : List Member) (z : List ℕ) → members n false mid ≡ Some (q, z) → AreMembers false mid q z) →
+        members (suc n) first (b ∷ bs) ≡ Some (ms, rest) → AreMembers first (b ∷ bs) ms rest
+    one_more first b bs ms rest n f h = by_test (b == close_bracket && not first)
+        (λ t. let parts = pair_parts [] ms bs rest (rw t at h) in end_of_list first b bs ms rest parts.0 parts.1 t)
+        (λ c. by_option (member_at b bs)
+        (λ k. let e = rw (c, k) at h in cc)
+        (λ p k. onto first b bs ms rest p.0 p.1 (members n false p.1) (member_of first b bs p.0 p.1 c k) (λ q z e. f p.1 q z e) (rw (c, k) at h)))
+
+pub members_read : (n : ℕ) (first : Bool) (text : List ℕ) (ms : List Member) (rest : List ℕ) → length text ≤ n → AreMembers first text ms rest →
+    members n first text ≡ Some (ms, rest)
+members_read n first text [] rest l h =
+    subst (λ x. members n x text ≡ Some ([], rest)) (sym h.0)
+    (subst (λ x. members n false x ≡ Some ([], rest)) (sym h.1) (closed n (let e : length text ≡ suc (length rest) = ap length h.1 in omega arith)))
+  where
+    closed : (n : ℕ) → suc (length rest) ≤ n → members n false (close_bracket ∷ rest) ≡ Some ([], rest)
+    closed zero q = absurd (omega arith)
+    closed (suc n) q = refl
+members_read n first text (m ∷ ms) rest l h =
+    let r = member_read first text m h.0 h.1 in
+    let s = member_shorter first text m h.0 h.1 in
+    subst (λ x. members n first x ≡ Some (m ∷ ms, rest)) (sym r.whole)
+    (more n r.byte r.tail (let e : length text ≡ suc (length r.tail) = ap length r.whole in omega arith) r.stays_open r.read
+    (λ k q. members_read k false h.0 ms rest (let e : length text ≡ suc (length r.tail) = ap length r.whole in omega arith) h.2))
+  where
+    more : (n b : ℕ) (bs : List ℕ) → suc (length bs) ≤ n → Closes first b ≡ false → member_at b bs ≡ Some (m, h.0) →
+        ((k : ℕ) → length bs ≤ k → members k false h.0 ≡ Some (ms, rest)) → members n first (b ∷ bs) ≡ Some (m ∷ ms, rest)
+    more zero b bs q c e f = absurd (omega arith)
+    more (suc n) b bs q c e f = rw (c, e, f n (omega arith))

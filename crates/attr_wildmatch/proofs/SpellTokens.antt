@@ -1,0 +1,310 @@
+-- The tokens of a text, read and spelled.
+use Rattle.std.proofs.Common.{◌≡◌, ◌≢◌, ◌≤◌, ◌<◌, ℕ, zero, suc, Bool, true, false, ◌&&◌, ◌==◌, ◌⊎◌, inl, inr, List, [], ◌∷◌, ◌++◌, length, replicate}
+use Rattle.std.proofs.Common.{Option, Some, None, option_map, refl, sym, ap, subst, ◌∙◌, arith, length-append, append-nil}
+use Rattle.std.proofs.lemmas.List.{length-replicate}
+use Rattle.attr_wildmatch.specs.declared.bracket.Member.{Member}
+use Rattle.attr_wildmatch.specs.Bytes.{exclamation_mark, asterisk, slash, question_mark, open_bracket, backslash, caret}
+use Rattle.attr_wildmatch.specs.Brackets.{negates, begins, members}
+use Rattle.attr_wildmatch.specs.Tokens.{Token, lit, one, set, star, dirs, rest, after_stars, folder_at, stars_at, bracket_at, escape_at, token_at}
+use Rattle.attr_wildmatch.specs.Tokens.{token_ends_in_slash, tokens_from, tokens}
+use Rattle.attr_wildmatch.specs.Spelling.{AreMembers, IsRun, IsToken, AreTokens}
+use Rattle.attr_wildmatch.proofs.Basics.{by_test, by_option, pair_parts, unequal, equal, equal_so, not_equal, and_parts, and_both, or_part, or_left}
+use Rattle.attr_wildmatch.proofs.Basics.{or_right, true_false}
+use Rattle.attr_wildmatch.proofs.SpellMembers.{members_of, members_read, member_shorter}
+
+-- Runs of stars.
+
+-- n stars and then what follows, which is no star
+abbrev Run : ℕ → List ℕ → List ℕ → Type 0
+Run n others bs = IsRun bs n others
+
+record Stars (bs : List ℕ) : Type 0 where
+  count : ℕ
+  whole : bs ≡ replicate count asterisk ++ after_stars bs
+  longest : (more : List ℕ) → after_stars bs ≡ asterisk ∷ more → ⊥
+  some : begins asterisk bs ≡ true → 1 ≤ count
+  none : begins asterisk bs ≡ false → count ≡ 0
+
+stars_of : (bs : List ℕ) → Stars bs
+stars_of [] = record { count = 0; whole = refl; longest = λ more e. cc; some = λ e. absurd (true_false false e refl); none = λ e. refl }
+stars_of (b ∷ bs) = by_test (b == asterisk) (λ t. further b bs t (stars_of bs)) (λ f. ended b bs f)
+  where
+    further : (b : ℕ) (bs : List ℕ) → (b == asterisk) ≡ true → Stars bs → Stars (b ∷ bs)
+    further b bs t s = record {
+      count = suc s.count;
+      whole = ap (λ x. x ∷ bs) (equal b asterisk t) ∙ (ap (λ x. asterisk ∷ x) s.whole ∙ ap (λ x. asterisk ∷ (replicate s.count asterisk ++ x))
+          (sym (kept t)));
+      longest = λ more e. s.longest more (sym (kept t) ∙ e);
+      some = λ e. omega arith;
+      none = λ e. absurd (true_false _ t e);
+    }
+      where
+        kept : (b == asterisk) ≡ true → after_stars (b ∷ bs) ≡ after_stars bs
+        kept t = rw t
+
+    ended : (b : ℕ) (bs : List ℕ) → (b == asterisk) ≡ false → Stars (b ∷ bs)
+    ended b bs f = record {
+      count = 0;
+      whole = sym (stopped f);
+      longest = λ more e. let q : b ∷ bs ≡ asterisk ∷ more = sym (stopped f) ∙ e in let same : b ≡ asterisk = cc in true_false _
+          (equal_so b asterisk same) f;
+      some = λ e. absurd (true_false _ e f);
+      none = λ e. refl;
+    }
+      where
+        stopped : (b == asterisk) ≡ false → after_stars (b ∷ bs) ≡ b ∷ bs
+        stopped f = rw f
+
+after_run : (n : ℕ) (others : List ℕ) → ((more : List ℕ) → others ≡ asterisk ∷ more → ⊥) → after_stars (replicate n asterisk ++ others) ≡ others
+after_run zero [] h = refl
+after_run zero (b ∷ others) h = by_test (b == asterisk) (λ t. absurd (h others (ap (λ x. x ∷ others) (equal b asterisk t)))) (λ f. rw f)
+after_run (suc n) others h = after_run n others h
+
+begins_run : (n : ℕ) (others : List ℕ) → ((more : List ℕ) → others ≡ asterisk ∷ more → ⊥) → begins asterisk (replicate n asterisk ++ others) ≡ true →
+    1 ≤ n
+begins_run zero [] h e = absurd (true_false false e refl)
+begins_run zero (b ∷ others) h e = absurd (h others (ap (λ x. x ∷ others) (equal b asterisk e)))
+begins_run (suc n) others h e = omega arith
+
+pub stars_spelled : (border : Bool) (bs : List ℕ) → IsToken border (asterisk ∷ bs) (stars_at border bs).0 (stars_at border bs).1
+stars_spelled border bs = by_test (border && begins asterisk bs)
+    (λ t. let w = and_parts border (begins asterisk bs) t in rw t (folder (stars_of bs) w.0 w.1 (after_stars bs) refl))
+    (λ f. rw f (let s = stars_of bs in (
+      s.count,
+      (ap (λ x. asterisk ∷ x) s.whole, s.longest),
+      (λ b l. absurd (true_false _ (and_both border (begins asterisk bs) b (long_begins s l)) f)),
+    )))
+  where
+    long_begins : (s : Stars bs) → 1 ≤ s.count → begins asterisk bs ≡ true
+    long_begins s l = by_test (begins asterisk bs) (λ t. t) (λ f. absurd (let e : s.count ≡ 0 = s.none f in omega arith))
+
+    positive : (n : ℕ) → 1 ≤ n → (m : ℕ) × (n ≡ suc m)
+    positive zero l = absurd (omega arith)
+    positive (suc m) l = (m, refl)
+
+    folder : Stars bs → border ≡ true → begins asterisk bs ≡ true → (after : List ℕ) → after_stars bs ≡ after → IsToken border (asterisk ∷ bs)
+        (folder_at after).0 (folder_at after).1
+    folder s b g [] e =
+        let p = positive s.count (s.some g) in (
+          p.0,
+          b,
+          ap (λ x. asterisk ∷ x) (s.whole ∙ (ap (λ x. replicate s.count asterisk ++ x) e ∙
+              (append-nil (replicate s.count asterisk) ∙ ap (λ x. replicate x asterisk) p.1))),
+          refl,
+        )
+    folder s b g (c ∷ cs) e =
+        let p = positive s.count (s.some g) in
+        let whole : asterisk ∷ bs ≡ asterisk ∷ (replicate s.count asterisk ++ c ∷ cs) = ap (λ x. asterisk ∷ x)
+        (s.whole ∙ ap (λ x. replicate s.count asterisk ++ x) e) in
+        by_test (c == slash)
+        (λ t. rw t (
+          p.0,
+          b,
+          whole ∙ (ap (λ x. asterisk ∷ (replicate s.count asterisk ++ x ∷ cs)) (equal c slash t) ∙ ap
+              (λ x. asterisk ∷ (replicate x asterisk ++ slash ∷ cs)) p.1),
+        ))
+        (λ f. rw f (s.count, (whole, (λ more q. s.longest more (e ∙ q))), (λ d l. (c, cs, refl, not_equal c slash f))))
+
+-- Brackets and single tokens.
+
+negates_of : (b : ℕ) → negates b ≡ true → (b ≡ exclamation_mark) ⊎ (b ≡ caret)
+negates_of b h = elim (or_part (b == exclamation_mark) (b == caret) h) [ inl t ↦ inl (equal b exclamation_mark t) | inr t ↦ inr (equal b caret t) ]
+
+negates_so : (b : ℕ) → (b ≡ exclamation_mark) ⊎ (b ≡ caret) → negates b ≡ true
+negates_so b (inl e) = or_left (b == exclamation_mark) (b == caret) (equal_so b exclamation_mark e)
+negates_so b (inr e) = or_right (b == exclamation_mark) (b == caret) (equal_so b caret e)
+
+bracket_spelled : (border : Bool) (bs : List ℕ) (t : Token) (others : List ℕ) → bracket_at bs ≡ Some (t, others) → IsToken border (open_bracket ∷ bs)
+    t others
+bracket_spelled border [] t others h = cc
+bracket_spelled border (b ∷ bs) t others h = by_test (negates b)
+    (λ n. as_set true (members (length bs) true bs) (rw n at h) (λ ms z e. (b, bs, refl, negates_of b n, members_of (length bs) true bs ms z e)))
+    (λ n. as_set false (members (length (b ∷ bs)) true (b ∷ bs)) (rw n at h) (λ ms z e. (
+      b,
+      bs,
+      refl,
+      (λ q. true_false _ (negates_so b (inl q)) n),
+      (λ q. true_false _ (negates_so b (inr q)) n),
+      members_of (length (b ∷ bs)) true
+          (b ∷ bs) ms z e,
+    )))
+  where
+    as_set : (n : Bool) (o : Option (List Member × List ℕ)) → option_map {U = Token × List ℕ} (λ p. (set n p.0, p.1)) o ≡ Some (t, others) →
+        ((ms : List Member) (z : List ℕ) → o ≡ Some (ms, z) → IsToken border (open_bracket ∷ b ∷ bs) (set n ms) z) → IsToken border
+        (open_bracket ∷ b ∷ bs) t others
+    as_set n None e f = cc
+    as_set n (Some p) e f =
+        let parts = pair_parts (set n p.0) t p.1 others e in
+        subst (λ x. IsToken border (open_bracket ∷ b ∷ bs) x others) parts.0
+        (subst (λ x. IsToken border (open_bracket ∷ b ∷ bs) (set n p.0) x) parts.1 (f p.0 p.1 refl))
+
+pub token_spelled : (border : Bool) (b : ℕ) (bs : List ℕ) (t : Token) (others : List ℕ) → token_at border b bs ≡ Some (t, others) → IsToken border
+    (b ∷ bs) t others
+token_spelled border b bs t others h =
+    by_test (b == question_mark)
+    (λ y. same (one, bs) (rw y at h) (ap (λ x. x ∷ bs) (equal b question_mark y)))
+    (λ n1. let h1 = rw n1 at h in by_test (b == backslash)
+    (λ y. escape bs (rw y at h1) (equal b backslash y))
+    (λ n2. let h2 = rw n2 at h1 in by_test (b == open_bracket)
+    (λ y. subst (λ x. IsToken border (x ∷ bs) t others) (sym (equal b open_bracket y)) (bracket_spelled border bs t others (rw y at h2)))
+    (λ n3. let h3 = rw n3 at h2 in by_test (b == asterisk)
+    (λ y. same (stars_at border bs) (rw y at h3) (subst (λ x. IsToken border (x ∷ bs) (stars_at border bs).0 (stars_at border bs).1)
+    (sym (equal b asterisk y)) (stars_spelled border bs)))
+    (λ n4. same (lit b, bs) (rw n4 at h3)
+    (inr (refl, not_equal b asterisk n4, not_equal b question_mark n1, not_equal b open_bracket n3, not_equal b backslash n2))))))
+  where
+    same : (p : Token × List ℕ) → Some p ≡ Some (t, others) → IsToken border (b ∷ bs) p.0 p.1 → IsToken border (b ∷ bs) t others
+    same p e i =
+        let parts = pair_parts p.0 t p.1 others e in
+        subst (λ x. IsToken border (b ∷ bs) x others) parts.0 (subst (λ x. IsToken border (b ∷ bs) p.0 x) parts.1 i)
+
+    escape : (bs : List ℕ) → escape_at bs ≡ Some (t, others) → b ≡ backslash → IsToken border (b ∷ bs) t others
+    escape [] e q = cc
+    escape (c ∷ bs) e q =
+        let parts = pair_parts (lit c) t bs others e in
+        subst (λ x. IsToken border (b ∷ c ∷ bs) x others) parts.0
+        (inl (ap (λ x. x ∷ c ∷ bs) q ∙ ap (λ x. backslash ∷ c ∷ x) parts.1))
+
+-- the text begins with a byte at which the token is read
+pub record ReadsToken (border : Bool) (text : List ℕ) (t : Token) (others : List ℕ) : Type 0 where
+  pub byte : ℕ
+  pub tail : List ℕ
+  pub whole : text ≡ byte ∷ tail
+  pub read : token_at border byte tail ≡ Some (t, others)
+
+plain_lit : (border : Bool) (c : ℕ) (bs : List ℕ) → c ≢ asterisk → c ≢ question_mark → c ≢ open_bracket → c ≢ backslash → token_at border c bs ≡ Some
+    (lit c, bs)
+plain_lit border c bs h i j k = rw (unequal c question_mark i, unequal c backslash k, unequal c open_bracket j, unequal c asterisk h)
+
+set_read : (border n : Bool) (bs : List ℕ) (ms : List Member) (others : List ℕ) → bracket_at bs ≡ Some (set n ms, others) →
+    ReadsToken border (open_bracket ∷ bs) (set n ms) others
+set_read border n bs ms others h = record { byte = open_bracket; tail = bs; whole = refl; read = h }
+
+pub token_read : (border : Bool) (text : List ℕ) (t : Token) (others : List ℕ) → IsToken border text t others → ReadsToken border text t others
+token_read border text (lit c) others (inl h) = record { byte = backslash; tail = c ∷ others; whole = h; read = refl }
+token_read border text (lit c) others (inr h) = record { byte = c; tail = others; whole = h.0; read = plain_lit border c others h.1 h.2 h.3 h.4 }
+token_read border text one others h = record { byte = question_mark; tail = others; whole = h; read = refl }
+token_read border text (set true ms) others h =
+    subst (λ x. ReadsToken border x (set true ms) others) (sym h.2)
+    (set_read border true (h.0 ∷ h.1) ms others (rw (negates_so h.0 h.3, members_read (length h.1) true h.1 ms others (omega arith) h.4)))
+token_read border text (set false ms) others h =
+    subst (λ x. ReadsToken border x (set false ms) others) (sym h.2)
+    (set_read border false (h.0 ∷ h.1) ms others
+    (rw (not_negating h.0 h.3 h.4, members_read (length (h.0 ∷ h.1)) true (h.0 ∷ h.1) ms others (omega arith) h.5)))
+  where
+    not_negating : (b : ℕ) → b ≢ exclamation_mark → b ≢ caret → negates b ≡ false
+    not_negating b p q = rw (unequal b exclamation_mark p, unequal b caret q)
+token_read border text star others h = record {
+  byte = asterisk;
+  tail = replicate h.0 asterisk ++ others;
+  whole = h.1.0;
+  read = ap Some (by_test (border && begins asterisk (replicate h.0 asterisk ++ others))
+      (λ t. let w = and_parts border (begins asterisk (replicate h.0 asterisk ++ others)) t in
+      let q = h.2 w.0 (begins_run h.0 others h.1.1 w.1) in
+      rw (t, after_run h.0 others h.1.1) (not_folder q.0 q.1 q.2 q.3))
+      (λ f. rw (f, after_run h.0 others h.1.1)));
+}
+  where
+    not_folder : (b : ℕ) (more : List ℕ) → others ≡ b ∷ more → b ≢ slash → folder_at others ≡ (star, others)
+    not_folder b more e n = ap folder_at e ∙ (let same : folder_at (b ∷ more) ≡ (star, b ∷ more) = rw (unequal b slash n) in same ∙ ap
+        (λ x. (star, x)) (sym e))
+token_read border text dirs others h = record {
+  byte = asterisk;
+  tail = asterisk ∷ (replicate h.0 asterisk ++ slash ∷ others);
+  whole = h.2;
+  read = rw (
+    h.1,
+    after_run h.0 (slash ∷ others) (λ more e. let same : slash ≡ asterisk = head_is slash others asterisk more e in not_equal slash
+        asterisk refl same),
+  );
+}
+  where
+    head_is : (a : ℕ) (x : List ℕ) (b : ℕ) (y : List ℕ) → a ∷ x ≡ b ∷ y → a ≡ b
+    head_is a x b y e = cc
+token_read border text rest others h = record {
+  byte = asterisk;
+  tail = asterisk ∷ replicate h.0 asterisk;
+  whole = h.2;
+  read = rw (h.1, ends h.0) (ap (λ x. Some (rest, x)) (sym h.3));
+}
+  where
+    ends : (n : ℕ) → after_stars (replicate n asterisk) ≡ []
+    ends zero = refl
+    ends (suc n) = ends n
+
+members_shorter : (first : Bool) (text : List ℕ) (ms : List Member) (others : List ℕ) → AreMembers first text ms others → length others < length text
+members_shorter first text [] others h = let e : length text ≡ suc (length others) = ap length h.1 in omega arith
+members_shorter first text (m ∷ ms) others h =
+    let a = member_shorter first text m h.0 h.1 in
+    let b = members_shorter false h.0 ms others h.2 in
+    omega arith
+
+stars_shorter : (n : ℕ) (text others : List ℕ) → text ≡ replicate (suc n) asterisk ++ others → length others < length text
+stars_shorter n text others h =
+    let e : length text ≡ length (replicate (suc n) asterisk ++ others) = ap length h in
+    omega (arith, e, length-append (replicate (suc n) asterisk) others, length-replicate (suc n) asterisk)
+
+token_shorter : (border : Bool) (text : List ℕ) (t : Token) (others : List ℕ) → IsToken border text t others → length others < length text
+token_shorter border text (lit c) others (inl h) = let e : length text ≡ suc (suc (length others)) = ap length h in omega arith
+token_shorter border text (lit c) others (inr h) = let e : length text ≡ suc (length others) = ap length h.0 in omega arith
+token_shorter border text one others h = let e : length text ≡ suc (length others) = ap length h in omega arith
+token_shorter border text (set true ms) others h =
+    let a = members_shorter true h.1 ms others h.4 in
+    let e : length text ≡ suc (suc (length h.1)) = ap length h.2 in
+    omega arith
+token_shorter border text (set false ms) others h =
+    let a : length others < suc (length h.1) = members_shorter true (h.0 ∷ h.1) ms others h.5 in
+    let e : length text ≡ suc (suc (length h.1)) = ap length h.2 in
+    omega arith
+token_shorter border text star others h = stars_shorter h.0 text others h.1.0
+token_shorter border text dirs others h =
+    let a : length (slash ∷ others) < length text = stars_shorter (suc h.0) text (slash ∷ others) h.2 in
+    omega arith
+token_shorter border text rest others h =
+    let a : length text ≡ suc (suc (length (replicate h.0 asterisk))) = ap length h.2 in
+    let b : length others ≡ 0 = ap length h.3 in
+    omega arith
+
+-- Lists of tokens.
+
+from_step : (n : ℕ) (border : Bool) (b : ℕ) (bs : List ℕ) (ts : List Token) →
+    ((border : Bool) (text : List ℕ) (q : List Token) → tokens_from n border text ≡ Some q → AreTokens border text q) →
+    tokens_from (suc n) border (b ∷ bs) ≡ Some ts → AreTokens border (b ∷ bs) ts
+from_step n border b bs ts f h = by_option (token_at border b bs)
+    (λ k. let e = rw k at h in cc)
+    (λ p k. onto p.0 p.1 (tokens_from n (token_ends_in_slash p.0) p.1) (token_spelled border b bs p.0 p.1 k)
+    (λ q e. f (token_ends_in_slash p.0) p.1 q e) (rw k at h))
+  where
+    onto : (t : Token) (mid : List ℕ) (o : Option (List Token)) → IsToken border (b ∷ bs) t mid →
+        ((q : List Token) → o ≡ Some q → AreTokens (token_ends_in_slash t) mid q) → option_map (λ q. t ∷ q) o ≡ Some ts → AreTokens border (b ∷ bs) ts
+    onto t mid None i f e = cc
+    onto t mid (Some q) i f e =
+        let same : t ∷ q ≡ ts = cc in
+        subst (AreTokens border (b ∷ bs)) same (mid, i, f q refl)
+
+pub tokens_spelled : (n : ℕ) (border : Bool) (text : List ℕ) (ts : List Token) → tokens_from n border text ≡ Some ts → AreTokens border text ts
+tokens_spelled n border [] ts h = let same : [] ≡ ts = cc in subst (AreTokens border []) same refl
+tokens_spelled zero border (b ∷ bs) ts h = cc
+tokens_spelled (suc n) border (b ∷ bs) ts h = from_step n border b bs ts (λ w x q e. tokens_spelled n w x q e) h
+
+pub tokens_read : (n : ℕ) (border : Bool) (text : List ℕ) (ts : List Token) → length text ≤ n → AreTokens border text ts → tokens_from n border text ≡
+    Some ts
+tokens_read n border text [] l h = ap (tokens_from n border) h
+tokens_read n border text (t ∷ ts) l h =
+    let r = token_read border text t h.0 h.1 in
+    let s = token_shorter border text t h.0 h.1 in
+    let e : length text ≡ suc (length r.tail) = ap length r.whole in
+    subst (λ x. tokens_from n border x ≡ Some (t ∷ ts)) (sym r.whole)
+    (more n r.byte r.tail (omega arith) r.read (λ k q. tokens_read k (token_ends_in_slash t) h.0 ts (omega arith) h.2))
+  where
+    more : (n b : ℕ) (bs : List ℕ) → suc (length bs) ≤ n → token_at border b bs ≡ Some (t, h.0) →
+        ((k : ℕ) → length bs ≤ k → tokens_from k (token_ends_in_slash t) h.0 ≡ Some ts) → tokens_from n border (b ∷ bs) ≡ Some (t ∷ ts)
+    more zero b bs q e f = absurd (omega arith)
+    more (suc n) b bs q e f = rw (e, f n (omega arith))
+
+-- the text's tokens are those that it spells
+pub spelled : (text : List ℕ) (ts : List Token) → tokens text ≡ Some ts → AreTokens true text ts
+spelled text ts h = tokens_spelled (length text) true text ts h
+
+pub read_back : (text : List ℕ) (ts : List Token) → AreTokens true text ts → tokens text ≡ Some ts
+read_back text ts h = tokens_read (length text) true text ts (omega arith) h

@@ -1,0 +1,138 @@
+-- The tokens of a text, one after the other.
+use Rattle.std.proofs.Common.{◌≡◌, ◌≤◌, ◌<◌, ℕ, zero, suc, Bool, true, false, ◌==◌, List, [], ◌∷◌, ◌++◌, length, slice_get, get_or, nat_lt, is_some}
+use Rattle.std.proofs.Common.{IfSome, Bor, Option, None, Some, option_map, refl, sym, ap, ◌∙◌, append_assoc, arith}
+use borrow.Author.Tests.{ltb-true, ltb-false}
+use Rattle.attr_wildmatch.specs.declared.token.Token as written
+use Rattle.attr_wildmatch.specs.declared.bracket.Member.{Member}
+use Rattle.attr_wildmatch.specs.Bytes.{asterisk, question_mark, backslash, open_bracket}
+use Rattle.attr_wildmatch.specs.Tokens.{Token, lit, one, set, star, dirs, rest, tokens_from, token_at, bracket_at, escape_at, token_ends_in_slash}
+use Rattle.attr_wildmatch.specs.Brackets.{members, negates}
+use Rattle.attr_wildmatch.specs.TokenList.{token_of, tokens_of}
+use Rattle.attr_wildmatch.specs.inner.Bordered.{is_bordered}
+use Rattle.attr_wildmatch.proofs.Basics.{by_test}
+
+-- what was read before, and then what is read here
+abbrev pub after : List Token → Option (List Token) → Option (List Token)
+after list None = None
+after list (Some ts) = Some (list ++ ts)
+
+pub after-nil : (o : Option (List Token)) → o ≡ after [] o
+after-nil None = refl
+after-nil (Some p) = refl
+
+after-cons : (list : List Token) (t : Token) (o : Option (List Token)) →
+    after list (option_map (λ ts. t ∷ ts) o) ≡ after (list ++ t ∷ []) o
+after-cons list t None = refl
+after-cons list t (Some ts) = ap Some (sym (append_assoc list (t ∷ []) ts))
+
+pub tokens_more : (list : List Token) (n : ℕ) (border : Bool) (b : ℕ) (bs : List ℕ) (t : Token) (tail : List ℕ) →
+    token_at border b bs ≡ Some (t, tail) → suc (length bs) ≤ n → length tail ≤ length bs →
+    (k : ℕ) × (length tail ≤ k) × (after list (tokens_from n border (b ∷ bs)) ≡ after (list ++ t ∷ [])
+    (tokens_from k (token_ends_in_slash t) tail))
+tokens_more list zero border b bs t tail h l r = absurd (omega arith)
+tokens_more list (suc n) border b bs t tail h l r = (n, omega arith, rw h (after-cons list t (tokens_from n (token_ends_in_slash t) tail)))
+
+pub tokens_malformed : (list : List Token) (n : ℕ) (border : Bool) (b : ℕ) (bs : List ℕ) →
+    token_at border b bs ≡ None → suc (length bs) ≤ n → after list (tokens_from n border (b ∷ bs)) ≡ None
+tokens_malformed list zero border b bs h l = absurd (omega arith)
+tokens_malformed list (suc n) border b bs h l = rw h
+
+pub tokens_of-push : (ts : List written.Token) (t : written.Token) → tokens_of (ts ++ t ∷ []) ≡ tokens_of ts ++ token_of t ∷ []
+tokens_of-push [] t = refl
+tokens_of-push (u ∷ ts) t = ap (λ x. token_of u ∷ x) (tokens_of-push ts t)
+
+pub length-tokens_of : (ts : List written.Token) → length (tokens_of ts) ≡ length ts
+length-tokens_of [] = refl
+length-tokens_of (t ∷ ts) = ap suc (length-tokens_of ts)
+
+pub slice_get_tokens_of : (ts : List written.Token) (k : ℕ) → slice_get (tokens_of ts) k ≡ option_map token_of (slice_get ts k)
+slice_get_tokens_of [] k = refl
+slice_get_tokens_of (t ∷ ts) zero = refl
+slice_get_tokens_of (t ∷ ts) (suc k) = slice_get_tokens_of ts k
+
+slice_get-found : (ts : List written.Token) (k : ℕ) (t : written.Token) → k < length ts → t ≡ get_or ts k t →
+    slice_get ts k ≡ Some t
+slice_get-found [] k t h e = absurd (omega arith)
+slice_get-found (u ∷ ts) zero t h e = ap Some (sym e)
+slice_get-found (u ∷ ts) (suc k) t h e = slice_get-found ts k t (omega arith) e
+
+pub slice_get-missing : {A : Type 0} (ts : List A) (k : ℕ) → length ts ≤ k → slice_get ts k ≡ None
+slice_get-missing [] k h = refl
+slice_get-missing (u ∷ ts) zero h = absurd (omega arith)
+slice_get-missing (u ∷ ts) (suc k) h = slice_get-missing ts k (omega arith)
+
+-- what `get` gives
+pub looked_up : (ts : List written.Token) (k : ℕ) (o : Option (Bor written.Token)) → is_some o ≡ nat_lt k (length ts) →
+    IfSome o (λ x. x.now ≡ get_or ts k x.now) → option_map (λ t. token_of t.now) o ≡ slice_get (tokens_of ts) k
+looked_up ts k None h e = sym (slice_get_tokens_of ts k ∙ ap (option_map token_of) (slice_get-missing ts k (ltb-false k (length ts) (sym h))))
+looked_up ts k (Some x) h e = sym (slice_get_tokens_of ts k ∙ ap (option_map token_of)
+    (slice_get-found ts k x.now (ltb-true k (length ts) (sym h)) e))
+
+-- what follows tokens that end so: a folder star only where the last one ends in a slash
+abbrev pub border_after : Bool → List Token → Bool
+border_after border [] = border
+border_after border (t ∷ ts) = border_after (token_ends_in_slash t) ts
+
+-- a folder star is read only at a border
+abbrev pub fits_border : Bool → Token → Bool
+fits_border border dirs = border
+fits_border border t = true
+
+pub bordered-push : (border : Bool) (ts : List Token) (t : Token) → is_bordered border ts ≡ true →
+    fits_border (border_after border ts) t ≡ true → is_bordered border (ts ++ t ∷ []) ≡ true
+bordered-push border [] (lit c) h f = refl
+bordered-push border [] one h f = refl
+bordered-push border [] (set n ms) h f = refl
+bordered-push border [] star h f = refl
+bordered-push border [] dirs h f = rw f
+bordered-push border [] rest h f = refl
+bordered-push border (lit c ∷ ts) t h f = bordered-push (token_ends_in_slash (lit c)) ts t h f
+bordered-push border (one ∷ ts) t h f = bordered-push false ts t h f
+bordered-push border (set n ms ∷ ts) t h f = bordered-push false ts t h f
+bordered-push border (star ∷ ts) t h f = bordered-push false ts t h f
+bordered-push true (dirs ∷ ts) t h f = bordered-push true ts t h f
+bordered-push false (dirs ∷ ts) t h f = cc
+bordered-push border (rest ∷ ts) t h f = bordered-push false ts t h f
+
+pub border_after-push : (border : Bool) (ts : List Token) (t : Token) → border_after border (ts ++ t ∷ []) ≡ token_ends_in_slash t
+border_after-push border [] t = refl
+border_after-push border (u ∷ ts) t = border_after-push (token_ends_in_slash u) ts t
+
+-- what is read fits where there is no border
+abbrev fits_read : Option (Token × List ℕ) → Bool
+fits_read None = true
+fits_read (Some p) = fits_border false p.0
+
+set_fits : (n : Bool) (o : Option (List Member × List ℕ)) → fits_read (option_map (λ p. (set n p.0, p.1)) o) ≡ true
+set_fits n None = refl
+set_fits n (Some p) = refl
+
+bracket_fits : (bs : List ℕ) → fits_read (bracket_at bs) ≡ true
+bracket_fits [] = refl
+bracket_fits (c ∷ bs) =
+    by_test (negates c) (λ t. rw t (set_fits true (members (length bs) true bs)))
+    (λ f. rw f (set_fits false (members (length (c ∷ bs)) true (c ∷ bs))))
+
+escape_fits : (bs : List ℕ) → fits_read (escape_at bs) ≡ true
+escape_fits [] = refl
+escape_fits (c ∷ bs) = refl
+
+token_fits : (b : ℕ) (bs : List ℕ) → fits_read (token_at false b bs) ≡ true
+token_fits b bs =
+    by_test (b == question_mark) (λ t. rw t) (λ f. rw f
+    (by_test (b == backslash) (λ t. rw t (escape_fits bs)) (λ g. rw g
+    (by_test (b == open_bracket) (λ t. rw t (bracket_fits bs)) (λ h. rw h
+    (by_test (b == asterisk) (λ t. rw t) (λ i. rw i)))))))
+
+pub token_at-fits : (border : Bool) (b : ℕ) (bs : List ℕ) (t : Token) (tail : List ℕ) →
+    token_at border b bs ≡ Some (t, tail) → fits_border border t ≡ true
+token_at-fits true b bs t tail h = always t
+  where
+    always : (t : Token) → fits_border true t ≡ true
+    always dirs = refl
+    always (lit c) = refl
+    always one = refl
+    always (set n ms) = refl
+    always star = refl
+    always rest = refl
+token_at-fits false b bs t tail h = sym (ap fits_read h) ∙ token_fits b bs

@@ -1,0 +1,48 @@
+use Rattle.std.proofs.Common.{◌≡◌, ◌≤◌, ◌&&◌, not, suc, ◌==◌, ℕ, List, length, drop, true, Some, false, ◌∷◌, arith, ap, sym, ◌∙◌}
+use Rattle.attr_wildmatch.specs.Bytes.{close_bracket}
+use Rattle.attr_wildmatch.specs.Brackets.{member_at, members as members_at}
+use Rattle.attr_wildmatch.specs.inner.Closing.{from_close}
+use Rattle.attr_wildmatch.proofs.ClosingLemmas.{close-drop, close-tail, member-rest}
+use Rattle.attr_wildmatch.proofs.MembersLemmas.{after, after-nil, members_more}
+use Rattle.attr_wildmatch.proofs.bracket.members.Goals as goal
+
+pub loop-byte-init : goal.loop-byte-init
+loop-byte-init c = (
+  omega arith,
+  length c.args.bytes.now,
+  omega arith,
+  rw c.new-list.ensures.items (after-nil (members_at (length c.args.bytes.now) true c.args.bytes.now)),
+  λ le. c.bytes_from_close-close.ensures,
+)
+
+tail : (n b : ℕ) (bs rest : List ℕ) → rest ≡ b ∷ bs → (n ≤ length rest → n ≡ from_close rest) → n ≤ length bs → n ≡ from_close bs
+tail n b bs rest split before le = close-tail n b bs (let e : n ≤ length (b ∷ bs) → n ≡ from_close (b ∷ bs) = rw split at before in e) le
+
+pub next_close-close-requires : goal.next_close-close-requires
+next_close-close-requires c =
+    tail c.loop-byte.close c.in-Some.byte.now c.in-Some.tail.now c.loop-byte.rest.now c.in-Some.ensures.cases.0 c.loop-byte.invariant.4
+
+ends : (n k : ℕ) (bs rest : List ℕ) → rest ≡ drop k bs → (n ≤ length bs → n ≡ from_close bs) → n ≤ length rest → n ≡ from_close rest
+ends n k bs rest e before = rw e (close-drop n k bs before)
+
+pub loop-byte-preserved : goal.loop-byte-preserved
+loop-byte-preserved c =
+    let b = c.in-Some.byte.now in
+    let bs = c.in-Some.tail.now in
+    let rest = c.in-Some-read_member.tail.now in
+    let list = c.loop-byte.list.items in
+    let before = c.loop-byte.invariant in
+    let split : c.loop-byte.rest.now ≡ b ∷ bs = c.in-Some.ensures.cases.0 in
+    let whole : length c.loop-byte.rest.now ≡ suc (length bs) = ap length split in
+    let shorter : length rest ≤ length bs = c.in-Some-read_member.ensures.shorter in
+    let open_still : (b == close_bracket && not c.loop-byte.first) ≡ false = sym c.if-closes.ensures in
+    let read : member_at b bs ≡ Some (c.in-Some-read_member.member, rest) = sym c.in-Some-read_member.ensures.member in
+    let next = members_more list before.1 c.loop-byte.first b bs c.in-Some-read_member.member rest open_still read (omega arith) shorter in
+    let left = member-rest b bs c.in-Some-read_member.member rest read in (
+      omega arith,
+      next.0,
+      next.1,
+      before.3 ∙ (ap (λ s. after list (members_at before.1 c.loop-byte.first s)) split ∙
+          (next.2 ∙ ap (λ x. after x (members_at next.0 false rest)) (sym c.in_ok-push-in-Some-read_member.ensures.items))),
+      ends c.next_close-close.result left.0 bs rest left.1 (λ le. c.next_close-close.ensures),
+    )

@@ -1,0 +1,43 @@
+use Rattle.std.proofs.Common.{true, ◌≡◌, List, Some, None, length, arith, sym, ap, subst, ◌∙◌}
+use Rattle.attr_wildmatch.specs.Tokens.{Token, tokens}
+use Rattle.attr_wildmatch.specs.Spelling.{AreTokens}
+use Rattle.attr_wildmatch.specs.Matching.{Match, ReachedAtMost}
+use Rattle.attr_wildmatch.proofs.SpellTokens.{spelled, read_back}
+use Rattle.attr_wildmatch.proofs.wildmatch.count.Goals as goal
+
+-- a malformed text has no tokens
+malformed : (c : goal.In_default) (ts : List Token) → AreTokens true c.args.text.now ts → ⊥
+malformed c ts a =
+    let none : tokens c.args.text.now ≡ None = sym c.in_ok-tokens.ensures.tokens ∙ c.in_default.is in
+    let some : tokens c.args.text.now ≡ Some ts = read_back c.args.text.now ts a in
+    let clash : None ≡ Some ts = sym none ∙ some in
+    cc
+
+pub returns-in_default-clause-matched : goal.returns-in_default-clause-matched
+returns-in_default-clause-matched c = ((λ t. cc), (λ m. absurd (malformed c m.0 m.1)))
+
+pub returns-in_default-clause-missed : goal.returns-in_default-clause-missed
+returns-in_default-clause-missed c = λ f ts a. absurd (malformed c ts a)
+
+-- the tokens that were read
+read_as : (c : goal.After-drop-tokens-inside-2) → tokens c.args.text.now ≡ Some c.in-Some.tokens
+read_as c = sym c.in_ok-tokens.ensures.tokens ∙ c.in-Some.is
+
+-- a text has one list of tokens
+only : (c : goal.After-drop-tokens-inside-2) (ts : List Token) → AreTokens true c.args.text.now ts → c.in-Some.tokens ≡ ts
+only c ts a = let e : Some c.in-Some.tokens ≡ Some ts = sym (read_as c) ∙ read_back c.args.text.now ts a in cc
+
+pub returns-clause-matched : goal.returns-clause-matched
+returns-clause-matched c = (
+  (λ t. (c.in-Some.tokens, spelled c.args.text.now c.in-Some.tokens (read_as c), c.count.ensures.matched.0 t)),
+  (λ m. c.count.ensures.matched.1 (subst (λ x. Match c.args.case x c.args.value.now) (sym (only c m.0 m.1)) m.2)),
+)
+
+pub returns-clause-found : goal.returns-clause-found
+returns-clause-found c = λ t ts a.
+    let e : length c.in-Some.tokens ≡ length ts = ap length (only c ts a) in
+    let l = c.count.ensures.found t in
+    omega arith
+
+pub returns-clause-missed : goal.returns-clause-missed
+returns-clause-missed c = λ f ts a. subst (λ x. ReachedAtMost c.args.case x c.args.value.now c.count.result.1) (only c ts a) c.count.ensures.missed

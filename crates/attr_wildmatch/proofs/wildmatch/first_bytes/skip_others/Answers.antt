@@ -1,0 +1,19 @@
+use Rattle.std.proofs.Common.{refl, arith}
+use Rattle.attr_wildmatch.specs.Brackets.{begins}
+use Rattle.attr_wildmatch.proofs.FirstBytes.{fewer, left_after, over_eight, none_in_end, no_byte}
+use Rattle.attr_wildmatch.proofs.wildmatch.first_bytes.skip_others.Goals as goal
+
+pub loop-rest-preserved : goal.loop-rest-preserved
+loop-rest-preserved c =
+    let v = c.loop-rest.rest.now in
+    let test = begins c.args.byte in (
+      over_eight test c.args.value.now v (c.loop-rest-test.ensures.passed refl) c.loop-rest.invariant.0,
+      omega (arith, fewer 8 v, c.loop-rest.invariant.1),
+      left_after c.args.value.now v (omega (arith, c.loop-rest-test.ensures.enough refl)) c.loop-rest.invariant.1 c.loop-rest.invariant.2,
+    )
+
+pub returns-then-not-may_hold_byte-clause-same : goal.returns-then-not-may_hold_byte-clause-same
+returns-then-not-may_hold_byte-clause-same c =
+    none_in_end (begins c.args.byte) 8 c.args.value.now c.loop-rest.rest.now (no_byte c.args.byte)
+    (omega (arith, c.if-rest-lt8.true)) (omega arith) (omega (arith, c.if-value-ge8.true)) c.loop-rest.invariant.2 c.loop-rest.invariant.0
+    (c.if-not-may_hold_byte.ensures.passed refl)

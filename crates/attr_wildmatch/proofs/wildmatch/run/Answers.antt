@@ -1,0 +1,149 @@
+use Rattle.std.proofs.Common.{◌≡◌, ◌≤◌, ◌<◌, ◌+◌, ◌*◌, ◌^◌, ℕ, [], length, vec_capacity, All, arith, refl, ap, sym, subst, ◌∙◌}
+use Rattle.std.proofs.Math.Nat.{mul-le-mul}
+use Rattle.attr_wildmatch.specs.TokenList.{tokens_of}
+use Rattle.attr_wildmatch.specs.inner.RowPlaces.{IsRow, places_below}
+use Rattle.attr_wildmatch.proofs.Basics.{equal, equal_so}
+use Rattle.attr_wildmatch.proofs.TokenLemmas.{length-tokens_of}
+use Rattle.attr_wildmatch.proofs.RowLemmas.{empty_row}
+use Rattle.attr_wildmatch.proofs.Reached.{fresh, alive}
+use Rattle.attr_wildmatch.proofs.ReachedSteps.{growing}
+use Rattle.attr_wildmatch.proofs.RunLemmas.{IsAt, first_bytes, at_start, at_more, step_at, fresh-first, below_free, matched_at_end, missed_at_end}
+use Rattle.attr_wildmatch.proofs.RunLemmas.{unmatched_where_dead, missed_where_dead}
+use Rattle.attr_wildmatch.proofs.wildmatch.run.Goals as goal
+
+-- a bound at one byte is one at any later byte
+fits_all : (m n i t visits : ℕ) → m ≡ n → visits ≤ (m + 1) * (i + 1) → i ≤ t → visits ≤ (n + 1) * (t + 1)
+fits_all m n i t visits e h l =
+    let a : m + 1 ≤ n + 1 = omega arith in
+    let b : i + 1 ≤ t + 1 = omega arith in
+    let more : (m + 1) * (i + 1) ≤ (n + 1) * (t + 1) = mul-le-mul a b in
+    omega arith
+
+pub loop-byte-init : goal.loop-byte-init
+loop-byte-init c =
+    let ts = tokens_of c.args.tokens.now in
+    let same = length-tokens_of c.args.tokens.now in
+    let cleared : c.clear.new.self.items ≡ [] = c.clear.ensures.items in
+    let none : length c.clear.new.self.items ≡ 0 = ap length cleared in
+    let row : IsRow ts (fresh c.args.case ts []) (alive c.args.case ts []) c.insert-free.new.row.items c.insert-free.result =
+    c.insert-free.ensures.row (fresh c.args.case ts []) (alive c.args.case ts []) (growing c.args.case ts [])
+    (empty_row ts (fresh c.args.case ts []) (alive c.args.case ts []) c.clear.new.self.items cleared) refl (λ k l m. absurd (omega arith)) in
+    let some : 0 < c.insert-free.result = c.insert-free.ensures.added in
+    let bound : c.insert-free.result ≤ length c.args.tokens.now + 1 = c.insert-free.ensures.extended.bound (omega arith) in
+    let paid : c.insert-free.result ≤ 0 + length c.insert-free.new.row.items = c.insert-free.ensures.extended.reached 0 (omega arith) (omega arith) in
+    let counted : length c.insert-free.new.row.items ≡ c.len-visits.result = omega (arith, c.len-visits.ensures, c.insert-free.new.row.ok) in (
+      subst (λ x. IsAt c.args.case ts c.args.value.now c.insert-free.new.row.items c.insert-free.result x 0) counted
+          (at_start c.args.case ts c.args.value.now c.insert-free.new.row.items c.insert-free.result row some (omega arith) (omega arith)),
+      (λ n h k. (omega (arith, c.clear.ensures.capacity, c.insert-free.ensures.extended.capacity), k)),
+    )
+
+pub returns-then-free-eq0-clause-matched : goal.returns-then-free-eq0-clause-matched
+returns-then-free-eq0-clause-matched c =
+    let ts = tokens_of c.args.tokens.now in
+    let a = c.loop-byte.invariant.0 in
+    let dead = subst (λ x. IsAt c.args.case ts c.args.value.now c.loop-byte.row.items x c.loop-byte.visits c.loop-byte.byte-index) c.if-free-eq0.true
+    a in (
+      (λ t. cc),
+      (λ m. absurd (unmatched_where_dead c.args.case ts c.args.value.now c.loop-byte.row.items c.loop-byte.visits c.loop-byte.byte-index
+          c.requires.bordered dead (omega arith) m)),
+    )
+
+pub returns-then-free-eq0-clause-at_most : goal.returns-then-free-eq0-clause-at_most
+returns-then-free-eq0-clause-at_most c =
+    let same = length-tokens_of c.args.tokens.now in
+    fits_all (length (tokens_of c.args.tokens.now)) (length c.args.tokens.now) c.loop-byte.byte-index (length c.args.value.now) c.loop-byte.visits
+    same c.loop-byte.invariant.0.most (omega arith)
+
+pub returns-then-free-eq0-clause-missed : goal.returns-then-free-eq0-clause-missed
+returns-then-free-eq0-clause-missed c =
+    let ts = tokens_of c.args.tokens.now in
+    let a = c.loop-byte.invariant.0 in
+    let dead = subst (λ x. IsAt c.args.case ts c.args.value.now c.loop-byte.row.items x c.loop-byte.visits c.loop-byte.byte-index) c.if-free-eq0.true
+    a in
+    missed_where_dead c.args.case ts c.args.value.now c.loop-byte.row.items c.loop-byte.visits c.loop-byte.byte-index c.requires.bordered dead
+    (omega arith)
+
+pub next_row-free-requires-clause-capacity : goal.next_row-free-requires-clause-capacity
+next_row-free-requires-clause-capacity c =
+    let room = (c.loop-byte.invariant.1 (length c.args.tokens.now + 1) (omega arith) (omega arith)).1 in
+    omega arith
+
+next_at : (c : goal.After-len) →
+    IsAt c.args.case (tokens_of c.args.tokens.now) c.args.value.now c.next_row-free.new.next.items c.next_row-free.result
+    (c.loop-byte.visits + length c.next_row-free.new.next.items) (c.loop-byte.byte-index + 1)
+next_at c =
+    let ts = tokens_of c.args.tokens.now in
+    let same = length-tokens_of c.args.tokens.now in
+    let a = c.loop-byte.invariant.0 in
+    let value = c.args.value.now in
+    let i = c.loop-byte.byte-index in
+    let row : c.loop-byte.row.items ≡ places_below (alive c.args.case ts (first_bytes value i)) (length c.args.tokens.now + 1) =
+    a.row_is ∙ ap (λ x. places_below (alive c.args.case ts (first_bytes value i)) (x + 1)) same in
+    let given : c.deref.result.now ≡ c.loop-byte.row.items = c.deref.ensures.value in
+    let known = c.next_row-free.ensures.row (fresh c.args.case ts (first_bytes value (i + 1))) (alive c.args.case ts (first_bytes value (i + 1)))
+    (alive c.args.case ts (first_bytes value i)) (step_at c.args.case ts value i c.requires.bordered c.loop-byte-test.true)
+    (fresh-first c.args.case ts value i c.loop-byte-test.true) (given ∙ row) in
+    let below : All (λ k. k < c.loop-byte.free) c.deref.result.now =
+    subst (All (λ k. k < c.loop-byte.free)) (sym given) (below_free c.args.case ts value c.loop-byte.row.items c.loop-byte.free c.loop-byte.visits i
+    a) in
+    at_more c.args.case ts value c.loop-byte.row.items c.next_row-free.new.next.items c.loop-byte.free c.next_row-free.result c.loop-byte.visits i a
+    c.loop-byte-test.true known.0 (λ k l m. known.1 k l (omega arith)) (omega (arith, c.next_row-free.ensures.bound))
+    (c.next_row-free.ensures.reached c.loop-byte.free below)
+
+pub overflow_add-visits : goal.overflow_add-visits
+overflow_add-visits c =
+    let n = length c.args.tokens.now in
+    let same = length-tokens_of c.args.tokens.now in
+    let most : c.loop-byte.visits + length c.next_row-free.new.next.items ≤ (n + 1) * (length c.args.value.now + 1) =
+    fits_all (length (tokens_of c.args.tokens.now)) n (c.loop-byte.byte-index + 1) (length c.args.value.now)
+    (c.loop-byte.visits + length c.next_row-free.new.next.items) same (next_at c).most (omega arith) in
+    let length_is : length c.swap.new.x.items ≡ length c.next_row-free.new.next.items = ap (λ x. length x.items) c.swap.ensures.x_after in
+    let counted : c.len.result ≡ length c.next_row-free.new.next.items = omega (arith, c.len.ensures, c.swap.new.x.ok) in
+    let few : n + 1 ≤ 2 ^ 63 = omega (arith, c.requires.few) in
+    let value_fits : length c.args.value.now + 1 ≤ 2 ^ 64 = omega arith in
+    let product : (n + 1) * (length c.args.value.now + 1) ≤ 2 ^ 63 * 2 ^ 64 = mul-le-mul few value_fits in
+    omega arith
+
+pub loop-byte-preserved : goal.loop-byte-preserved
+loop-byte-preserved c =
+    let ts = tokens_of c.args.tokens.now in
+    let room = c.loop-byte.invariant.1 in
+    let items : c.next_row-free.new.next.items ≡ c.swap.new.x.items = sym (ap (λ x. x.items) c.swap.ensures.x_after) in
+    let length_is : length c.swap.new.x.items ≡ length c.next_row-free.new.next.items = ap (λ x. length x.items) c.swap.ensures.x_after in
+    let counted : length c.next_row-free.new.next.items ≡ c.len.result = omega (arith, c.len.ensures, c.swap.new.x.ok) in
+    let at = next_at c in
+    let i = c.loop-byte.byte-index + 1 in
+    let capacity : vec_capacity c.swap.new.x ≡ vec_capacity c.next_row-free.new.next = ap (λ x. vec_capacity x) c.swap.ensures.x_after in
+    let capacity_next : vec_capacity c.swap.new.y ≡ vec_capacity c.loop-byte.row = ap (λ x. vec_capacity x) c.swap.ensures.y_after in (
+      subst (λ x. IsAt c.args.case ts c.args.value.now x c.next_row-free.result (c.loop-byte.visits + c.len.result) i) items
+          (subst (λ x. IsAt c.args.case ts c.args.value.now c.next_row-free.new.next.items c.next_row-free.result (c.loop-byte.visits + x) i)
+          counted at),
+      (λ n h k. let before = room n h k in
+          (omega (arith, before.1, c.next_row-free.ensures.capacity), omega (arith, before.0))),
+    )
+
+ended : (c : goal.After-loop-byte) → IsAt c.args.case (tokens_of c.args.tokens.now) c.args.value.now c.loop-byte.row.items c.loop-byte.free
+    c.loop-byte.visits (length c.args.value.now)
+ended c =
+    let at_end : c.loop-byte.byte-index ≡ length c.args.value.now = omega arith in
+    subst (IsAt c.args.case (tokens_of c.args.tokens.now) c.args.value.now c.loop-byte.row.items c.loop-byte.free c.loop-byte.visits) at_end
+    c.loop-byte.invariant.0
+
+pub returns-clause-matched : goal.returns-clause-matched
+returns-clause-matched c =
+    let same = length-tokens_of c.args.tokens.now in
+    let m = matched_at_end c.args.case (tokens_of c.args.tokens.now) c.args.value.now c.loop-byte.row.items c.loop-byte.free c.loop-byte.visits
+    (ended c) in (
+      (λ t. m.0 (let e : c.loop-byte.free ≡ length c.args.tokens.now + 1 = equal c.loop-byte.free (length c.args.tokens.now + 1) t in omega arith)),
+      (λ x. let e : c.loop-byte.free ≡ length (tokens_of c.args.tokens.now) + 1 = m.1 x in equal_so c.loop-byte.free (length c.args.tokens.now + 1)
+          (omega arith)),
+    )
+
+pub returns-clause-at_most : goal.returns-clause-at_most
+returns-clause-at_most c =
+    fits_all (length (tokens_of c.args.tokens.now)) (length c.args.tokens.now) (length c.args.value.now) (length c.args.value.now) c.loop-byte.visits
+    (length-tokens_of c.args.tokens.now) (ended c).most (omega arith)
+
+pub returns-clause-missed : goal.returns-clause-missed
+returns-clause-missed c =
+    missed_at_end c.args.case (tokens_of c.args.tokens.now) c.args.value.now c.loop-byte.row.items c.loop-byte.free c.loop-byte.visits (ended c)

@@ -1,0 +1,24 @@
+use Rattle.std.proofs.Common.{sym, ap, ◌∙◌}
+use Rattle.std.proofs.lemmas.Option.{IfSome_then}
+use Rattle.attr_wildmatch.specs.Deciding.{matches}
+use Rattle.attr_wildmatch.specs.TokenList.{tokens_of}
+use Rattle.attr_wildmatch.proofs.StretchLemmas.{star_found, star_missed}
+use Rattle.attr_wildmatch.proofs.wildmatch.stretches.match_stretches.Goals as goal
+
+pub returns-in_default : goal.returns-in_default
+returns-in_default c =
+    sym (ap (λ l. matches c.args.case l c.args.value.now) c.in_ok-others.ensures.star
+    ∙ star_missed c.args.case (tokens_of c.in_ok-others.others.now) c.args.value.now c.in_default.ensures.none)
+
+pub match_plain-requires : goal.match_plain-requires
+match_plain-requires c =
+    (star_found c.args.case (tokens_of c.in_ok-others.others.now) (tokens_of c.in-Some.next.now) (tokens_of c.in_ok-after_star.field-0.now)
+    c.args.value.now c.in-Some.after.now (sym c.has_slash.ensures ∙ c.if-has_slash.false) c.in-Some.ensures.left c.in_ok-after_star.ensures.star).1
+
+pub returns : goal.returns
+returns c =
+    let more = star_found c.args.case (tokens_of c.in_ok-others.others.now) (tokens_of c.in-Some.next.now)
+    (tokens_of c.in_ok-after_star.field-0.now) c.args.value.now c.in-Some.after.now (sym c.has_slash.ensures ∙ c.if-has_slash.false)
+    c.in-Some.ensures.left c.in_ok-after_star.ensures.star in
+    IfSome_then c.match_plain.result c.match_plain.ensures
+    (λ answer is. is ∙ sym (ap (λ l. matches c.args.case l c.args.value.now) c.in_ok-others.ensures.star ∙ more.0))

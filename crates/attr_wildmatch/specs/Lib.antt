@@ -1,0 +1,9 @@
+pub mod Bytes
+pub mod Slashes
+pub mod Brackets
+pub mod Tokens
+pub mod TokenList
+pub mod Spelling
+pub mod Matching
+pub mod Deciding
+pub mod inner

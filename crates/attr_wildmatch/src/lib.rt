@@ -1,0 +1,11 @@
+//! The tokens of a pattern's text, and which texts they match (gitignore page).
+#![tactic(auto)]
+
+mod bracket;
+mod byte_set;
+pub mod case;
+pub mod slashes;
+pub mod token;
+pub mod wildmatch;
+
+pub use crate::case::Case;

@@ -1,0 +1,444 @@
+//! Matching of tokens against a value: a row of places moves forward over the bytes of the value.
+//!
+//! A row has the place k if the first k tokens match the bytes so far, or if token k is a folder star (`**/`) and the
+//! first k tokens match some first part of these bytes. So no pair of a place among the tokens and a place in the
+//! value is visited twice.
+
+ghost use Rattle.std.specs.Prelude.{◌≡◌, ◌+◌, ◌*◌, ◌≤◌, ◌<◌, ◌^◌, ◌↔◌, ◌++◌, ◌∷◌, [], ℕ, Bool, List, All, IfOk, IsOk, IsSome, IfSome, IfNone, OnOk, IsTrue, option_map, IsFalse, true, false, length, slice_get, vec_capacity};
+ghost use Rattle.attr_wildmatch.specs.Tokens.{Token as Meaning};
+ghost use Rattle.attr_wildmatch.specs.TokenList.{token_of, tokens_of};
+ghost use Rattle.attr_wildmatch.specs.inner.Bordered.{is_bordered};
+ghost use Rattle.attr_wildmatch.specs.Spelling.{AreTokens};
+ghost use Rattle.attr_wildmatch.specs.Matching.{Match, ReachedAtMost, TextMatches};
+ghost use Rattle.attr_wildmatch.specs.Deciding.{matches, text_matches};
+ghost use Rattle.attr_wildmatch.specs.inner.Left.{IsLeft};
+ghost use Rattle.attr_wildmatch.specs.inner.Stretches.{front_left};
+ghost use Rattle.attr_wildmatch.specs.inner.RowPlaces.{may_skip, is_folder, stays_on, advances_on, token_before, places_below, IsGrowing, IsStep, IsRow, IsUnderway, NoneAlive, HasStayed, HasRoom, IsExtended, KeepsCapacity};
+
+use crate::case::Case;
+use crate::token::{Token, Tokens};
+use std::alloc::{AllocError, Global};
+use std::marker::Model;
+use std::mem;
+
+// The token of a place.
+fn token_at(tokens: &[Token], place: usize) -> Option<&Token>
+    ensures token { option_map (λ t. token_of t.now) result
+        ≡ slice_get (tokens_of tokens.now) place }
+    ensures inside { IsSome result → place < length tokens.now }
+{
+    tokens.get(place)
+}
+
+// Whether the token of the place may take nothing.
+fn may_skip(tokens: &[Token], place: usize) -> bool
+    ensures skips { result ≡ may_skip (slice_get (tokens_of tokens.now) place) }
+    ensures inside { IsTrue result → place < length tokens.now }
+{
+    match token_at(tokens, place) {
+        None => false,
+        Some(token) => token.may_be_empty(),
+    }
+}
+
+// Adds a place to a row that has room.
+fn push(row: &mut Vec<usize>, place: usize)
+    requires { length row.old.items < vec_capacity row.old }
+    ensures pushed { row.new.items ≡ row.old.items ++ place ∷ [] }
+    ensures longer { length row.new.items ≡ length row.old.items + 1 }
+    ensures capacity { vec_capacity row.old ≤ vec_capacity row.new }
+{
+    let _ = row.push(place);
+}
+
+// Adds a fresh place to the row, and those after it up to which the tokens may take nothing, unless the row has it. A
+// place is fresh if the tokens before it match exactly the bytes so far. `free` is one more than the row's last place,
+// before and after.
+fn insert(tokens: &[Token], row: &mut Vec<usize>, free: usize, place: usize) -> usize
+    requires inside { place ≤ length tokens.now }
+    requires room { HasRoom (length tokens.now) row.old free }
+    ensures added { place < result }
+    ensures extended { IsExtended (length tokens.now) place row.old row.new free result }
+    ensures row { (fresh alive : ℕ → Bool) → IsGrowing (tokens_of tokens.now) fresh alive →
+        IsRow (tokens_of tokens.now) fresh alive row.old.items free → fresh place ≡ true →
+        NoneAlive alive free place → IsRow (tokens_of tokens.now) fresh alive row.new.items result }
+{
+    if place < free {
+        return free;
+    }
+    let mut last = place;
+    push(row, last);
+    while may_skip(tokens, last) {
+        last += 1;
+        push(row, last);
+    }
+    last + 1
+}
+
+// Adds the place of a folder star to the row, unless the row has it. It stays in the row, and need not be fresh.
+fn insert_folder(tokens: &[Token], row: &mut Vec<usize>, free: usize, place: usize) -> usize
+    requires inside { place ≤ length tokens.now }
+    requires room { HasRoom (length tokens.now) row.old free }
+    ensures added { place < result }
+    ensures extended { IsExtended (length tokens.now) place row.old row.new free result }
+    ensures row { (fresh alive : ℕ → Bool) →
+        IsRow (tokens_of tokens.now) fresh alive row.old.items free →
+        alive place ≡ true → (free ≤ place → fresh place ≡ false) →
+        NoneAlive alive free place → IsRow (tokens_of tokens.now) fresh alive row.new.items result }
+{
+    if free > place {
+        return free;
+    }
+    push(row, place);
+    place + 1
+}
+
+// One step of a row: the byte that it is moved over, and the tokens.
+#[derive(Clone, Copy)]
+struct Step<'t> {
+    tokens: &'t [Token],
+    byte: u8,
+    case: Case,
+}
+
+impl Step<'_> {
+    // Whether the token before the place goes on to take the byte, so that the place stays.
+    fn stays(&self, place: usize) -> bool
+        ensures stays { let ts = tokens_of self.now.tokens.now in
+            result ≡ stays_on (token_before ts place) self.now.byte }
+        ensures inside { IsTrue result → place ≤ length self.now.tokens.now }
+    {
+        if place == 0 {
+            return false;
+        }
+        match token_at(self.tokens, place - 1) {
+            None => false,
+            Some(token) => token.continues(self.byte),
+        }
+    }
+
+    // Whether the token of the place is a folder star, whose place stays for good.
+    fn is_folder_star(&self, place: usize) -> bool
+        ensures folder { result ≡ is_folder (slice_get (tokens_of self.now.tokens.now) place) }
+        ensures inside { IsTrue result → place < length self.now.tokens.now }
+    {
+        match token_at(self.tokens, place) {
+            None => false,
+            Some(token) => token.is_folder_star(),
+        }
+    }
+
+    // Whether the token of the place ends with the byte, so that the next place is reached.
+    fn advances(&self, place: usize) -> bool
+        ensures advances { let ts = tokens_of self.now.tokens.now in
+            result ≡ advances_on self.now.case (slice_get ts place) self.now.byte }
+        ensures inside { IsTrue result → place < length self.now.tokens.now }
+    {
+        match token_at(self.tokens, place) {
+            None => false,
+            Some(token) => token.ends(self.byte, self.case),
+        }
+    }
+
+    // Adds a place of the row before to the next row, if the byte leaves it there.
+    fn stay(&self, row: &mut Vec<usize>, free: usize, place: usize) -> usize
+        requires room { HasRoom (length self.now.tokens.now) row.old free }
+        requires bound { free ≤ length self.now.tokens.now + 1 }
+        ensures extended { let n = length self.now.tokens.now in
+            IsExtended n place row.old row.new free result }
+        ensures row { let ts = tokens_of self.now.tokens.now in (fresh alive before : ℕ → Bool) →
+            IsUnderway self.now.case ts self.now.byte fresh alive before row.old.items place free →
+            before place ≡ true → place ≤ length self.now.tokens.now →
+            IsRow ts fresh alive row.new.items result }
+        ensures stayed { HasStayed (tokens_of self.now.tokens.now) self.now.byte place result }
+    {
+        if self.stays(place) {
+            return insert(self.tokens, row, free, place);
+        }
+        if self.is_folder_star(place) {
+            return insert_folder(self.tokens, row, free, place);
+        }
+        free
+    }
+
+    // Adds the place after one of the row before to the next row, if the byte leads to it.
+    fn advance(&self, row: &mut Vec<usize>, free: usize, place: usize) -> usize
+        requires room { HasRoom (length self.now.tokens.now) row.old free }
+        requires bound { free ≤ length self.now.tokens.now + 1 }
+        ensures extended { let n = length self.now.tokens.now in
+            IsExtended n (place + 1) row.old row.new free result }
+        ensures row { let ts = tokens_of self.now.tokens.now in (fresh alive before : ℕ → Bool) →
+            IsUnderway self.now.case ts self.now.byte fresh alive before row.old.items place free →
+            before place ≡ true → HasStayed ts self.now.byte place free →
+            IsRow ts fresh alive row.new.items result }
+        ensures advanced { let ts = tokens_of self.now.tokens.now in
+            advances_on self.now.case (slice_get ts place) self.now.byte ≡ true →
+            place + 1 < result }
+    {
+        if self.advances(place) {
+            return insert(self.tokens, row, free, place + 1);
+        }
+        free
+    }
+
+    // Makes the next row of a row. Returns one more than its last place.
+    fn next_row(&self, row: &[usize], next: &mut Vec<usize>) -> usize
+        requires capacity { length self.now.tokens.now < vec_capacity next.old }
+        requires few { length self.now.tokens.now < 2 ^ 63 }
+        ensures bound { result ≤ length self.now.tokens.now + 1 }
+        ensures capacity { vec_capacity next.old ≤ vec_capacity next.new }
+        ensures reached { (most : ℕ) → All (λ k. k < most) row.now →
+            result ≤ most + length next.new.items }
+        ensures row { let ts = tokens_of self.now.tokens.now in (fresh alive before : ℕ → Bool) →
+            IsStep self.now.case ts self.now.byte fresh alive before → fresh 0 ≡ false →
+            row.now ≡ places_below before (length self.now.tokens.now + 1) →
+            IsRow ts fresh alive next.new.items result ×
+            NoneAlive alive result (length self.now.tokens.now + 1) }
+    {
+        next.clear();
+        let mut free = 0;
+        for place in row {
+            let kept = self.stay(next, free, *place);
+            free = self.advance(next, kept, *place);
+        }
+        free
+    }
+}
+
+// Moves the row over the value. Returns whether the tokens match it, and how many pairs of a place among the
+// tokens and a place in the value were visited. The count fits: it is at most (n + 1)(t + 1) for n tokens, fewer than
+// 2^63, and t bytes.
+fn run(
+    tokens: &[Token],
+    value: &[u8],
+    case: Case,
+    row: &mut Vec<usize>,
+    next: &mut Vec<usize>,
+) -> (bool, u128)
+    requires few { length tokens.now < 2 ^ 63 }
+    requires bordered { is_bordered true (tokens_of tokens.now) ≡ true }
+    requires room { length tokens.now < vec_capacity row.old }
+    requires room_next { length tokens.now < vec_capacity next.old }
+    ensures matched { IsTrue result.0 ↔ Match case (tokens_of tokens.now) value.now }
+    ensures at_most { result.1 ≤ (length tokens.now + 1) * (length value.now + 1) }
+    ensures found { IsTrue result.0 → length tokens.now < result.1 }
+    ensures missed { ReachedAtMost case (tokens_of tokens.now) value.now result.1 }
+    ensures room { KeepsCapacity row.old next.old row.new next.new }
+{
+    row.clear();
+    let mut free = insert(tokens, row, 0, 0);
+    let mut visits = row.len() as u128;
+    for byte in value {
+        if free == 0 {
+            return (false, visits);
+        }
+        let step = Step {
+            tokens,
+            byte: *byte,
+            case,
+        };
+        free = step.next_row(row, next);
+        mem::swap(row, next);
+        visits += row.len() as u128;
+    }
+    (free == tokens.len() + 1, visits)
+}
+
+// Takes tokens of one byte each off the front, with the bytes that they take. None if one takes no byte.
+fn skip_front<'t, 'v>(
+    tokens: &'t [Token],
+    value: &'v [u8],
+    case: Case,
+) -> Option<(&'t [Token], &'v [u8])>
+    ensures left { IfSome result (λ r.
+        IsLeft case (tokens_of tokens.now) value.now (tokens_of r.0.now) r.1.now) }
+    ensures missed { IfNone result (matches case (tokens_of tokens.now) value.now ≡ false) }
+    ensures value { option_map (λ r. (tokens_of r.0.now, r.1.now)) result
+        ≡ front_left case (tokens_of tokens.now) value.now }
+    ensures shorter { IfSome result (λ r. length r.0.now ≤ length tokens.now) }
+{
+    let mut left = tokens;
+    let mut rest = value;
+    while let Some((token, tail)) = left.split_first() {
+        if token.may_be_empty() {
+            break;
+        }
+        let (byte, others) = rest.split_first()?;
+        if !token.takes(*byte, case) {
+            return None;
+        }
+        left = tail;
+        rest = others;
+    }
+    Some((left, rest))
+}
+
+// Takes tokens of one byte each off the end, with the bytes that they take. None if one takes no byte.
+fn skip_end<'t, 'v>(
+    tokens: &'t [Token],
+    value: &'v [u8],
+    case: Case,
+) -> Option<(&'t [Token], &'v [u8])>
+    ensures left { IfSome result (λ r.
+        IsLeft case (tokens_of tokens.now) value.now (tokens_of r.0.now) r.1.now) }
+    ensures missed { IfNone result (matches case (tokens_of tokens.now) value.now ≡ false) }
+    ensures shorter { IfSome result (λ r. length r.0.now ≤ length tokens.now) }
+{
+    let mut left = tokens;
+    let mut rest = value;
+    while let Some((token, before)) = left.split_last() {
+        if token.may_be_empty() {
+            break;
+        }
+        let (byte, others) = rest.split_last()?;
+        if !token.takes(*byte, case) {
+            return None;
+        }
+        left = before;
+        rest = others;
+    }
+    Some((left, rest))
+}
+
+// Whether tokens that may take nothing stand at both ends, so that neither end has anything to take off.
+fn is_open(tokens: &[Token]) -> bool {
+    match tokens {
+        [first, .., last] => first.may_be_empty() && last.may_be_empty(),
+        _ => false,
+    }
+}
+
+// Takes tokens of one byte each off both ends, with the bytes that they take. None if one takes no byte. The end is
+// compared first: a literal front of a text was compared before its tokens.
+fn skip_ends<'t, 'v>(
+    tokens: &'t [Token],
+    value: &'v [u8],
+    case: Case,
+) -> Option<(&'t [Token], &'v [u8])>
+    ensures left { IfSome result (λ r.
+        IsLeft case (tokens_of tokens.now) value.now (tokens_of r.0.now) r.1.now) }
+    ensures missed { IfNone result (matches case (tokens_of tokens.now) value.now ≡ false) }
+    ensures shorter { IfSome result (λ r. length r.0.now ≤ length tokens.now) }
+{
+    if is_open(tokens) {
+        return Some((tokens, value));
+    }
+    let (left, rest) = skip_end(tokens, value, case)?;
+    skip_front(left, rest, case)
+}
+
+/// The two row buffers of a match, which any number of matches can share. They grow only by `reserve`.
+#[derive(Debug, Drop)]
+pub struct MatchBuffers {
+    row: Vec<usize>,
+    next: Vec<usize>,
+}
+
+impl Model for MatchBuffers {
+    ghost use Rattle.std.specs.Prelude.{ℕ, min, vec_capacity};
+
+    ghost Value = { ℕ };
+
+    ghost view = { λ r. min (vec_capacity r.row) (vec_capacity r.next) };
+}
+
+impl MatchBuffers {
+    /// Buffers without room; takes no memory.
+    pub fn new(alloc: Global) -> MatchBuffers
+        ensures { result ≡ 0 }
+    {
+        MatchBuffers {
+            row: Vec::new(alloc),
+            next: Vec::new(alloc),
+        }
+    }
+
+    /// Makes room for this many places. Tokens need [`Tokens::places`].
+    ///
+    /// # Errors
+    ///
+    /// If memory runs out. The room that there was stays.
+    pub fn reserve(&mut self, places: usize) -> Result<(), AllocError>
+        ensures room { OnOk result (places ≤ self.new) }
+        ensures kept { self.old ≤ self.new }
+
+        // Takes no memory if there is room already.
+        ensures succeeds { places ≤ self.old → IsOk result }
+    {
+        if places <= self.row.capacity() && places <= self.next.capacity() {
+            return Ok(());
+        }
+        self.row.clear();
+        self.next.clear();
+        self.row.reserve(places)?;
+        self.next.reserve(places)?;
+        Ok(())
+    }
+}
+
+impl Tokens {
+    /// Whether the tokens match the whole value, and how many pairs (place among the tokens, place in the
+    /// value) were visited. Takes no memory.
+    pub fn count(&self, value: &[u8], case: Case, rows: &mut MatchBuffers) -> (bool, u128)
+        requires room { length self.now < rows.old }
+        ensures matched { IsTrue result.0 ↔ Match case self.now value.now }
+        ensures at_most { result.1 ≤ (length self.now + 1) * (length value.now + 1) }
+        ensures found { IsTrue result.0 → length self.now < result.1 }
+        ensures missed { ReachedAtMost case self.now value.now result.1 }
+        ensures room { rows.old ≤ rows.new }
+    {
+        run(self.as_slice(), value, case, &mut rows.row, &mut rows.next)
+    }
+
+    /// Whether the tokens match the whole value. Takes no memory. Tokens of one byte at either end are compared
+    /// before the others.
+    pub fn matches(&self, value: &[u8], case: Case, rows: &mut MatchBuffers) -> bool
+        requires room { length self.now < rows.old }
+        ensures matched { IsTrue result ↔ Match case self.now value.now }
+        ensures room { rows.old ≤ rows.new }
+    {
+        let Some((tokens, value)) = skip_ends(self.as_slice(), value, case) else {
+            return false;
+        };
+        folders::match_early(tokens, value, case, rows)
+    }
+}
+
+/// Whether the tokens of the text match the whole value, and how many pairs (place among the tokens, place in the
+/// value) were visited: none for a malformed text, which matches nothing. The count always fits into a `u128`.
+///
+/// # Errors
+///
+/// If memory runs out.
+pub fn count(
+    alloc: Global,
+    text: &[u8],
+    value: &[u8],
+    case: Case,
+) -> Result<(bool, u128), AllocError>
+    ensures matched { IfOk result (λ r. IsTrue r.0 ↔ TextMatches case text.now value.now) }
+    ensures at_most { IfOk result (λ r. r.1 ≤ (length text.now + 1) * (length value.now + 1)) }
+    ensures found { IfOk result (λ r. IsTrue r.0 → (ts : List Meaning) →
+        AreTokens true text.now ts → length ts ≤ r.1) }
+    ensures missed { IfOk result (λ r. IsFalse r.0 → (ts : List Meaning) →
+        AreTokens true text.now ts → ReachedAtMost case ts value.now r.1) }
+{
+    let Some(tokens) = Tokens::read(alloc, text)? else {
+        return Ok((false, 0));
+    };
+    let mut rows = MatchBuffers::new(alloc);
+    rows.reserve(tokens.places())?;
+    Ok(tokens.count(value, case, &mut rows))
+}
+
+/// A law: the tests that compute whether tokens or a text match a value decide the relations.
+pub fn tests_tell_match(case: Case, text: &[u8], value: &[u8])
+    ensures tokens { (ts : List Meaning) →
+        IsTrue (matches case ts value.now) ↔ Match case ts value.now }
+    ensures text { IsTrue (text_matches case text.now value.now)
+        ↔ TextMatches case text.now value.now }
+{}
+
+mod first_bytes;
+mod folders;
+mod stretches;

@@ -1,0 +1,176 @@
+//! Where tokens that begin with a byte or two may match: eight places are looked at together.
+
+ghost use Rattle.std.specs.Prelude.{◌≡◌, ◌≤◌, ◌∷◌, IfSome, IsFalse, false, drop, length};
+ghost use Rattle.attr_wildmatch.specs.Brackets.{begins};
+ghost use Rattle.attr_wildmatch.specs.Tokens.{lit};
+ghost use Rattle.attr_wildmatch.specs.TokenList.{tokens_of};
+ghost use Rattle.attr_wildmatch.specs.Deciding.{matches};
+ghost use Rattle.attr_wildmatch.specs.inner.FirstBytes.{BeginWith, BeginWithPair, begins_with_pair, from_first};
+
+use crate::case::Case;
+use crate::token::Token;
+
+// The byte that the first token stands for, if it is a byte, and the tokens after it.
+fn first_literal(tokens: &[Token]) -> Option<(u8, &[Token])>
+    ensures { IfSome result (λ first.
+        tokens_of tokens.now ≡ lit first.0 ∷ tokens_of first.1.now) }
+{
+    match tokens {
+        [Token::Lit(byte), others @ ..] => Some((*byte, others)),
+        _ => None,
+    }
+}
+
+// The byte that the tokens begin with, if its case matters.
+pub(crate) fn first_byte(tokens: &[Token], case: Case) -> Option<u8>
+    ensures { IfSome result (λ byte. BeginWith case byte (tokens_of tokens.now)) }
+{
+    if let Case::Fold = case {
+        return None;
+    }
+    let (byte, _) = first_literal(tokens)?;
+    Some(byte)
+}
+
+// The two bytes that the tokens begin with, if their case matters.
+pub(crate) fn first_pair(tokens: &[Token], case: Case) -> Option<(u8, u8)>
+    ensures { IfSome result (λ pair.
+        BeginWithPair case pair.0 pair.1 (tokens_of tokens.now)) }
+{
+    let first = first_byte(tokens, case)?;
+    let (_, others) = first_literal(tokens)?;
+    let (second, _) = first_literal(others)?;
+    Some((first, second))
+}
+
+// Whether the byte may be one of the first eight: these are compared together. True for fewer bytes.
+fn may_hold_byte(value: &[u8], byte: u8) -> bool
+    ensures enough { IsFalse result → 8 ≤ length value.now }
+    ensures passed { IsFalse result →
+        from_first (begins byte) (drop 8 value.now) ≡ from_first (begins byte) value.now }
+{
+    match value {
+        [a, b, c, d, e, f, g, h, ..] => {
+            (*a == byte)
+                | (*b == byte)
+                | (*c == byte)
+                | (*d == byte)
+                | (*e == byte)
+                | (*f == byte)
+                | (*g == byte)
+                | (*h == byte)
+        }
+        _ => true,
+    }
+}
+
+// The value from a byte on before which none is this byte. The last eight bytes are compared together too, some of them
+// again, rather than one by one.
+fn skip_others(value: &[u8], byte: u8) -> &[u8]
+    ensures same { from_first (begins byte) result.now ≡ from_first (begins byte) value.now }
+    ensures shorter { length result.now ≤ length value.now }
+{
+    let mut rest = value;
+    while !may_hold_byte(rest, byte) {
+        rest = &rest[8..];
+    }
+    if rest.len() < 8 && value.len() >= 8 && !may_hold_byte(&value[value.len() - 8..], byte) {
+        return &[];
+    }
+    rest
+}
+
+// The value from the first such byte on, and nothing if it has none. It isn't inlined, so that its callers are small enough
+// to be.
+#[inline(never)]
+pub(crate) fn from_byte(value: &[u8], byte: u8) -> &[u8]
+    ensures found { result.now ≡ from_first (begins byte) value.now }
+    ensures shorter { length result.now ≤ length value.now }
+{
+    let mut rest = skip_others(value, byte);
+    while let Some((first, others)) = rest.split_first() {
+        if *first == byte {
+            return rest;
+        }
+        rest = others;
+    }
+    rest
+}
+
+// Whether the pair may stand at one of the first eight places: these are compared together. True for fewer bytes.
+fn may_hold_pair(value: &[u8], first: u8, second: u8) -> bool
+    ensures enough { IsFalse result → 9 ≤ length value.now }
+    ensures passed { let test = begins_with_pair first second in IsFalse result →
+        from_first test (drop 8 value.now) ≡ from_first test value.now }
+{
+    match value {
+        [a, b, c, d, e, f, g, h, i, ..] => {
+            (*a == first) & (*b == second)
+                | (*b == first) & (*c == second)
+                | (*c == first) & (*d == second)
+                | (*d == first) & (*e == second)
+                | (*e == first) & (*f == second)
+                | (*f == first) & (*g == second)
+                | (*g == first) & (*h == second)
+                | (*h == first) & (*i == second)
+        }
+        _ => true,
+    }
+}
+
+// The value from a place on before which the pair stands nowhere. The last eight places are compared together too, some
+// of them again, rather than one by one.
+fn skip_pairs(value: &[u8], first: u8, second: u8) -> &[u8]
+    ensures same { let test = begins_with_pair first second in
+        from_first test result.now ≡ from_first test value.now }
+    ensures shorter { length result.now ≤ length value.now }
+{
+    let mut rest = value;
+    while !may_hold_pair(rest, first, second) {
+        rest = &rest[8..];
+    }
+    if rest.len() < 9
+        && value.len() >= 9
+        && !may_hold_pair(&value[value.len() - 9..], first, second)
+    {
+        return &[];
+    }
+    rest
+}
+
+// Whether the value begins with these two bytes.
+fn begins_with_pair(value: &[u8], first: u8, second: u8) -> bool
+    ensures { result ≡ begins_with_pair first second value.now }
+{
+    match value {
+        [a, b, ..] => *a == first && *b == second,
+        _ => false,
+    }
+}
+
+// The value from the first place on where these two bytes stand together, and nothing if they do nowhere. It isn't inlined,
+// for the same reason.
+#[inline(never)]
+pub(crate) fn from_pair(value: &[u8], first: u8, second: u8) -> &[u8]
+    ensures found { result.now ≡ from_first (begins_with_pair first second) value.now }
+    ensures shorter { length result.now ≤ length value.now }
+{
+    let mut rest = skip_pairs(value, first, second);
+    while let Some((_, others)) = rest.split_first() {
+        if begins_with_pair(rest, first, second) {
+            return rest;
+        }
+        rest = others;
+    }
+    rest
+}
+
+// Whether the tokens may match the value: if they begin with two bytes whose case matters, it begins with these.
+pub(crate) fn may_begin(tokens: &[Token], value: &[u8], case: Case) -> bool
+    ensures { IsFalse result → matches case (tokens_of tokens.now) value.now ≡ false }
+{
+    match first_pair(tokens, case) {
+        Some((first, second)) => begins_with_pair(value, first, second),
+        None => true,
+    }
+}
