@@ -14,7 +14,8 @@ use Rattle.gix_attributes.specs.IndexedLists.{listed_view}
 use Rattle.gix_attributes.specs.Keeping.{Adds, Keeps, Removes}
 use Rattle.gix_attributes.specs.Registers.{RegistersExactly, last_definition, no_lists, with_list_ids}
 use Rattle.gix_attributes.specs.SearchViews.{LosesLast, RemovesLast, lists_in, list_ids_in}
-use Rattle.gix_attributes.specs.Settings.{LinesAreNamed, Listed}
+use Rattle.gix_attributes.specs.Settings.{LinesAreNamed}
+use Rattle.gix_attributes.specs.ListView.{Listed}
 use Rattle.gix_attributes.specs.declared.search.attributes.Search.{Search}
 use Rattle.gix_attributes.proofs.ForCallers.{bodies_registered as registered_bodies, left_alone, lists_with_ids}
 use Rattle.attr_engine.specs.Registration.{RegistersAlone}

@@ -7,7 +7,8 @@ use Rattle.gix_attributes.specs.Lookups.{answers_by_number, selected_answers}
 use Rattle.gix_attributes.specs.Numbers.{names_in, numbered_lines, with_names}
 use Rattle.gix_attributes.specs.Registers.{last_definition}
 use Rattle.gix_attributes.specs.Setting.{Setting}
-use Rattle.gix_attributes.specs.Settings.{Listed, setting_of}
+use Rattle.gix_attributes.specs.Settings.{setting_of}
+use Rattle.gix_attributes.specs.ListView.{Listed}
 use Rattle.gix_attributes.specs.Slots.{Matched}
 use Rattle.gix_attributes.specs.Table.{Slots}
 use Rattle.gix_attributes.specs.declared.glob.pattern.Case.{Case}

@@ -3,7 +3,8 @@ use Rattle.std.specs.Prelude.{ℕ, List, length}
 use Rattle.gix_attributes.specs.Collections.{Collection}
 use Rattle.gix_attributes.specs.Covered.{ListsAreCovered}
 use Rattle.gix_attributes.specs.Registers.{RegistersExactly, with_list_ids}
-use Rattle.gix_attributes.specs.Settings.{Listed, ListsAreNamed}
+use Rattle.gix_attributes.specs.Settings.{ListsAreNamed}
+use Rattle.gix_attributes.specs.ListView.{Listed}
 
 -- a collection registers these lists under these list ids, and no others; their items have the numbers of their names, and all of
 -- their numbers are numbers of names

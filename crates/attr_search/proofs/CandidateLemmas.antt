@@ -25,11 +25,13 @@ use Rattle.attr_table.specs.Setting.{Item, Line}
 use Rattle.attr_table.specs.Table.{Slots}
 use Rattle.attr_table.specs.inner.Walk.{Task, Searches, backwards, line_tasks, list_tasks}
 use Rattle.attr_table.proofs.ForCallers.{nothing_taken}
-use Rattle.attr_search.specs.Settings.{Listed, gives, line_of, lines_of, candidates_in}
-use Rattle.attr_search.specs.inner.ReadLines.{AreRead}
-use Rattle.attr_search.specs.inner.Lines.{no_entry, entry_at, entry_tasks}
-use Rattle.attr_search.specs.inner.Trying.{AreTried, TakesMatching}
-use Rattle.attr_search.proofs.LineLemmas.{lines_patterns}
+use Rattle.attr_index.specs.ListView.{Listed}
+use Rattle.attr_index.specs.inner.ReadLines.{AreRead}
+use Rattle.attr_index.specs.inner.PlacedLines.{no_entry, entry_at}
+use Rattle.attr_index.specs.inner.Trying.{AreTried, TakesMatching}
+use Rattle.attr_index.proofs.ForCallers.{lines_patterns}
+use Rattle.attr_search.specs.Settings.{gives, line_of, lines_of, candidates_in}
+use Rattle.attr_search.specs.inner.Lines.{entry_tasks}
 
 -- the tasks of the lines at some places
 abbrev tasks_at : Case → Option Bool → Option (List ℕ) → List ℕ → List Entry → List ℕ → List Task

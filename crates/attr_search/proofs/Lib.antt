@@ -1,12 +1,8 @@
-pub mod IndexedListLemmas
-pub mod FolderLemmas
-pub mod KeyedLemmas
 pub mod RefLemmas
 pub mod SlotLemmas
 pub mod FillingLemmas
 pub mod LineLemmas
 pub mod CandidateLemmas
-pub mod TryingLemmas
 pub mod ListLemmas
 pub mod ListedLemmas
 pub mod FoundAnswers

@@ -1,21 +1,15 @@
 -- The lines of a list, of which a search goes through the candidates alone.
-use Rattle.std.proofs.Common.{◌≡◌, ℕ, ◌+◌, ◌<◌, Bool, true, false, ◌&&◌, List, [], ◌∷◌, ◌++◌, length, map, get_or, take, drop, Option, Some, None, Ok}
-use Rattle.std.proofs.Common.{not, ◌||◌}
-use Rattle.std.proofs.Common.{Err, Result, refl, sym, ap, subst, ◌∙◌, arith}
-use Rattle.std.specs.Prelude.{All, IfOk, is_none}
+use Rattle.std.proofs.Common.{◌≡◌, ℕ, ◌+◌, ◌<◌, Bool, true, false, ◌&&◌, List, [], ◌∷◌, ◌++◌, length, get_or, take, drop, Option, Some, None}
+use Rattle.std.proofs.Common.{refl, sym, ap, subst, ◌∙◌, arith}
+use Rattle.std.specs.Prelude.{All, is_none}
 use Rattle.std.specs.List.{flat_map, list_any}
-use Rattle.std.proofs.Math.Logic.{∥∥₁_elim}
-use Rattle.std.proofs.Math.Bool.{Bool-set}
 use Rattle.std.proofs.lemmas.Bool.{or_parts}
-use Rattle.std.proofs.lemmas.List.{length-map, append-nil, get_or-map, take_more, take-append-drop}
+use Rattle.std.proofs.lemmas.List.{length-map, append-nil, take_more, take-append-drop}
 use Rattle.std.proofs.lemmas.Grind.{flat_map-append}
 use Rattle.attr_wildmatch.specs.declared.case.Case.{Case}
 use Rattle.attr_glob.specs.declared.search.pattern.Mapping.{Mapping}
 use Rattle.attr_glob.specs.Candidates.{places_where}
-use Rattle.attr_wildmatch.specs.Deciding.{text_matches}
-use Rattle.attr_glob.specs.Paths.{matched_part, is_directory, path_matches}
-use Rattle.attr_glob.specs.Patterns.{reading, has_flag, negative, must_be_dir}
-use Rattle.attr_glob.specs.Views.{pattern_view, patterns_of}
+use Rattle.attr_glob.specs.Paths.{path_matches}
 use Rattle.attr_wildmatch.proofs.ForCallers.{by_test}
 use Rattle.attr_lists.specs.declared.types.Value.{Value}
 use Rattle.attr_lists.specs.declared.types.AttributeId.{AttributeId}
@@ -26,57 +20,15 @@ use Rattle.attr_table.specs.Table.{Slots}
 use Rattle.attr_table.specs.Cut.{is_done}
 use Rattle.attr_table.specs.inner.Walk.{Task, Searches, free_items, tasks_in}
 use Rattle.attr_table.proofs.ForCallers.{nothing_taken, done_taken, row_filled, then_searches}
+use Rattle.attr_index.specs.inner.PlacedLines.{no_entry, entry_at}
+use Rattle.attr_index.proofs.ForCallers.{entry_is}
 use Rattle.attr_search.specs.Slots.{table_items}
 use Rattle.attr_search.specs.inner.Slotted.{origin_of}
 use Rattle.attr_search.specs.inner.SlotContents.{wanted_numbers}
 use Rattle.attr_search.specs.Settings.{HaveSlots, LinesAreNamed, gives, origin_in}
 use Rattle.attr_lists.specs.Numbers.{AreNamed}
 use Rattle.attr_search.specs.inner.Slotted.{LinesHaveSlots}
-use Rattle.attr_search.specs.inner.ReadLines.{AreRead}
-use Rattle.attr_search.specs.inner.Lines.{no_entry, entry_at, entry_tasks}
-
--- the patterns of a list are those of its lines
-pub lines_patterns : (ms : List (Mapping Value)) → patterns_of ms ≡ map (λ entry. entry.pattern) (entries_view ms)
-lines_patterns [] = refl
-lines_patterns (m ∷ ms) = let e = lines_patterns ms in cc
-
--- what is known of a line that defines no macro
-read_at : (lines : List Entry) (place : ℕ) → AreRead lines → place < length lines → (entry_at lines place).macro ≡ None →
-    (text : List ℕ) × (reading text ≡ Some (entry_at lines place).pattern) × (has_flag (entry_at lines place).pattern.mode negative ≡ false)
-read_at lines place all lt none = rw none at (all place no_entry lt)
-
--- the line at a place is that of the mapping there
-pub entry_is : (ms : List (Mapping Value)) (place : ℕ) (m : Mapping Value) → place < length ms → m ≡ get_or ms place m →
-    entry_at (entries_view ms) place ≡ entry_view m
-entry_is ms place m lt is = get_or-map entry_view ms place m no_entry lt ∙ ap entry_view (sym is)
-
--- a pattern that wants a directory matches no other path
-pub other_kind : (ms : List (Mapping Value)) (place : ℕ) (m : Mapping Value) (case : Case) (path : List ℕ) (is_dir : Option Bool) →
-    place < length ms → m ≡ get_or ms place m →
-    (not (has_flag (pattern_view m.pattern).mode must_be_dir) || is_directory is_dir) ≡ false →
-    false ≡ path_matches case (entry_at (entries_view ms) place).pattern path is_dir
-other_kind ms place m case path is_dir lt is kind = rw (entry_is ms place m lt is, kind) refl
-
--- else the answer for the matched part is the test of the line
-pub matched_answer : {E : Type 0} (ms : List (Mapping Value)) (place : ℕ) (m : Mapping Value) (case : Case) (path part : List ℕ)
-    (is_dir : Option Bool) (result : Result Bool E) →
-    ∥ AreRead (entries_view ms) ∥₁ → place < length ms → (entry_at (entries_view ms) place).macro ≡ None → m ≡ get_or ms place m →
-    (not (has_flag (pattern_view m.pattern).mode must_be_dir) || is_directory is_dir) ≡ true →
-    part ≡ matched_part (pattern_view m.pattern) path →
-    IfOk result (λ answer. (text : List ℕ) → reading text ≡ Some (pattern_view m.pattern) →
-    answer ≡ text_matches case (pattern_view m.pattern).text part) →
-    IfOk result (λ answer. answer ≡ path_matches case (entry_at (entries_view ms) place).pattern path is_dir)
-matched_answer ms place m case path part is_dir (Err e) read lt none is kind same told = tt
-matched_answer ms place m case path part is_dir (Ok answer) read lt none is kind same told =
-    let here = entry_is ms place m lt is in
-    let n = length-map ms entry_view in
-    let r = pattern_view m.pattern in
-    let test : text_matches case r.text (matched_part r path) ≡ path_matches case (entry_at (entries_view ms) place).pattern path is_dir =
-    rw (here, kind) refl in
-    ∥∥₁_elim read (Bool-set answer (path_matches case (entry_at (entries_view ms) place).pattern path is_dir))
-    (λ lines. let known = read_at (entries_view ms) place lines (omega arith) none in
-    told known.0 (known.1 ∙ ap (λ (x : Entry). Some x.pattern) here)
-    ∙ (ap (text_matches case r.text) same ∙ test))
+use Rattle.attr_search.specs.inner.Lines.{entry_tasks}
 
 -- a line that gives nothing
 not_given : (bodies : List (List Item)) (wanted : List ℕ) (case : Case) (is_dir : Option Bool) (source : Option (List ℕ)) (rest : List ℕ)

@@ -13,25 +13,25 @@ use Rattle.attr_lists.specs.declared.types.TrackedAssignment.{TrackedAssignment}
 use Rattle.attr_table.specs.Cut.{is_done}
 use Rattle.attr_table.specs.inner.Walk.{Searches, Task, tasks_of}
 use Rattle.attr_table.proofs.ForCallers.{nothing_taken}
-use Rattle.attr_search.specs.declared.indexed_list.IndexedList.{IndexedList}
-use Rattle.attr_search.specs.declared.path_query.PathQuery.{PathQuery}
-use Rattle.attr_search.specs.IndexedLists.{listed_view, lists_view}
+use Rattle.attr_index.specs.declared.indexed_list.IndexedList.{IndexedList}
+use Rattle.attr_index.specs.declared.path_query.PathQuery.{PathQuery}
+use Rattle.attr_index.specs.IndexedLists.{listed_view, lists_view}
+use Rattle.attr_index.specs.ListView.{Listed}
+use Rattle.attr_index.specs.inner.FoundLists.{AreListsFor}
+use Rattle.attr_index.specs.inner.Trying.{AreTried}
+use Rattle.attr_index.proofs.ForCallers.{below_or, idle_tried}
 use Rattle.attr_search.specs.SearchContents.{SearchContents}
-use Rattle.attr_search.specs.Settings.{Listed, candidates_in}
+use Rattle.attr_search.specs.Settings.{candidates_in}
 use Rattle.attr_search.specs.Slots.{table_items}
-use Rattle.attr_search.specs.inner.FoundLists.{AreListsFor}
 use Rattle.attr_search.specs.inner.Lines.{place_tasks, query_lines}
 use Rattle.attr_search.specs.inner.Rounds.{Rounds, over, rounds_of}
 use Rattle.attr_search.specs.inner.Searched.{KeepsState, Searched, SearchedLine, SearchedList, SearchedLists, SearchedPlaces, state_bodies}
 use Rattle.attr_search.specs.inner.Searched.{query_candidates, state_slots}
 use Rattle.attr_search.specs.inner.Searched.{state_wanted}
 use Rattle.attr_search.specs.inner.SlotContents.{wanted_numbers}
-use Rattle.attr_search.specs.inner.Trying.{AreTried}
 use Rattle.attr_search.proofs.LineLemmas.{places_more, places_stopped}
-use Rattle.attr_search.proofs.KeyedLemmas.{below_or}
 use Rattle.attr_search.proofs.ListLemmas.{count_more, lists_begun, lists_more, lists_over, lists_stopped}
 use Rattle.attr_search.proofs.CandidateLemmas.{list_passed, list_walked}
-use Rattle.attr_search.proofs.TryingLemmas.{idle_tried}
 use Rattle.attr_search.proofs.RoundLemmas.{all_begun, all_more, all_over, all_stopped, list_round, list_unasked, one_round, rounds_more}
 use Rattle.attr_search.proofs.RoundLemmas.{rounds_stopped}
 

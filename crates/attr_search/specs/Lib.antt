@@ -1,6 +1,3 @@
-pub mod IndexedLists
-pub mod KeyedNumbers
-pub mod ListView
 pub mod Matches
 pub mod Roots
 pub mod SearchContents

@@ -4,7 +4,6 @@ use Rattle.std.specs.Prelude.{is_none, is_some, slice_get, slice_index_or, if◌
 use Rattle.std.specs.List.{list_any}
 use Rattle.attr_wildmatch.specs.declared.case.Case.{Case}
 use Rattle.attr_glob.specs.BaseNames.{base_name}
-use Rattle.attr_glob.specs.Bases.{rest_below}
 use Rattle.attr_glob.specs.Candidates.{candidates}
 use Rattle.attr_glob.specs.Paths.{path_matches}
 use Rattle.attr_lists.specs.ListViews.{Entry}
@@ -12,17 +11,8 @@ use Rattle.attr_lists.specs.Numbers.{AreNamed}
 use Rattle.attr_lists.specs.declared.types.TrackedAssignment.{TrackedAssignment}
 use Rattle.attr_table.specs.Setting.{Origin, Line, Setting}
 use Rattle.attr_table.specs.Table.{Slots}
+use Rattle.attr_index.specs.ListView.{Listed, rest_for}
 use Rattle.attr_search.specs.Slots.{Matched, table_items}
-
--- what a list has: where it was read, the base below which it applies, and its lines
-pub record Listed : Type 0 where
-  pub source : Option (List ℕ)
-  pub base : Option (List ℕ)
-  pub lines : List Entry
-
--- what is left of the path below the list's base, if the list applies to the path
-abbrev pub rest_for : Case → List ℕ → Listed → Option (List ℕ)
-rest_for case path listed = rest_below listed.base case path
 
 -- A line gives its items if its list applies to the path, the line defines no macro, and its pattern matches what is left
 -- of the path below the base.

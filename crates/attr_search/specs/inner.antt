@@ -1,20 +1,10 @@
 -- What contracts of functions inside the crate name (own). No contract of a public call reaches it, so nothing of it has to be
 -- believed.
-pub mod BaseKeys
 pub mod BodyChanges
-pub mod Counting
 pub mod Filling
-pub mod FolderKeys
-pub mod FoundLists
-pub mod FrontHashers
-pub mod KeyLinks
-pub mod LineIndexes
-pub mod LineTokens
 pub mod Lines
 pub mod NotedPlaces
-pub mod NumbersView
 pub mod Pending
-pub mod ReadLines
 pub mod RecentSizes
 pub mod RefMapParts
 pub mod RefMapView
@@ -26,5 +16,4 @@ pub mod SlotContents
 pub mod SlotsView
 pub mod Slotted
 pub mod StoresView
-pub mod Trying
 pub mod WantedView

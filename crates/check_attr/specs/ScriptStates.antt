@@ -1,7 +1,7 @@
 -- The state of a script, and how each record changes it (own): that of an engine.
 use Rattle.std.specs.Prelude.{ℕ, List, []}
 use Rattle.gix_attributes.specs.declared.search.Dropped.{Dropped}
-use Rattle.gix_attributes.specs.Settings.{Listed}
+use Rattle.gix_attributes.specs.ListView.{Listed}
 use Rattle.attr_engine.specs.EngineStates.{EngineState, state_selecting, state_with_list, state_without_last}
 use Rattle.check_attr.specs.Script.{Record, add, pop, names, ask}
 

@@ -5,10 +5,10 @@ use Rattle.attr_lists.specs.Definitions.{free_id}
 use Rattle.attr_lists.specs.KeptLists.{kept_list_where}
 use Rattle.attr_lists.specs.Collections.{Collection}
 use Rattle.gix_attributes.specs.Additions.{RegisteredLists, buffer_list, with_buffer, with_registered}
-use Rattle.attr_search.specs.IndexedLists.{list_ids_of, lists_view}
+use Rattle.attr_index.specs.IndexedLists.{list_ids_of, lists_view}
 use Rattle.gix_attributes.specs.SearchViews.{AreHeld}
-use Rattle.attr_search.specs.Settings.{Listed}
-use Rattle.attr_search.specs.declared.indexed_list.IndexedList.{IndexedList}
+use Rattle.attr_index.specs.ListView.{Listed}
+use Rattle.attr_index.specs.declared.indexed_list.IndexedList.{IndexedList}
 
 -- the lists, the list ids and the collection after the addition of a buffer, as one
 pub buffer_added : (source : List ℕ) (root : Option (List ℕ)) (allow_macros : Bool) (bytes : List ℕ) (old : RegisteredLists)

@@ -20,10 +20,11 @@ use Rattle.attr_lists.specs.inner.Keeping.{IsNumbered, OthersStayRegistered, Sta
 use Rattle.attr_lists.specs.declared.types.TrackedAssignment.{TrackedAssignment}
 use Rattle.attr_lists.proofs.ForCallers.{added_for, get_or-map, list_numbered, number_at, of_other_lists-append, of_other_lists-own, removed_for}
 use Rattle.attr_lists.proofs.ForCallers.{with_names-extends}
-use Rattle.attr_search.specs.IndexedLists.{list_ids_of, listed_view, lists_view}
-use Rattle.attr_search.specs.Settings.{BodiesAreNamed, HeldAreNamed, LinesAreNamed, Listed, ListsAreNamed}
+use Rattle.attr_index.specs.IndexedLists.{list_ids_of, listed_view, lists_view}
+use Rattle.attr_index.specs.ListView.{Listed}
+use Rattle.attr_index.specs.declared.indexed_list.IndexedList.{IndexedList}
+use Rattle.attr_search.specs.Settings.{BodiesAreNamed, HeldAreNamed, LinesAreNamed, ListsAreNamed}
 use Rattle.attr_search.specs.Slots.{Matched}
-use Rattle.attr_search.specs.declared.indexed_list.IndexedList.{IndexedList}
 use Rattle.gix_attributes.specs.Additions.{RegisteredLists, registered_lists, with_registered}
 use Rattle.gix_attributes.specs.Contents.{bodies_of}
 use Rattle.gix_attributes.specs.Covered.{AreCovered, IsCovered, ListsAreCovered}

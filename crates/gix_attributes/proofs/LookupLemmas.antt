@@ -20,7 +20,8 @@ use Rattle.attr_table.specs.Setting.{Answer, Setting}
 use Rattle.attr_table.specs.Table.{IsStable, Occurrence, OneTable, Slots, Table}
 use Rattle.attr_table.specs.Cut.{IsSearched, answer_at, full_answer, is_done, no_answers}
 use Rattle.attr_table.proofs.ForCallers.{OneTable-of}
-use Rattle.attr_search.specs.Settings.{BodiesAreNamed, HeldAreNamed, LinesAreNamed, Listed, lines_of, setting_of}
+use Rattle.attr_index.specs.ListView.{Listed}
+use Rattle.attr_search.specs.Settings.{BodiesAreNamed, HeldAreNamed, LinesAreNamed, lines_of, setting_of}
 use Rattle.attr_search.specs.Slots.{Matched, table_answer, table_items, table_state}
 use Rattle.gix_attributes.specs.Contents.{Content, Wanted, found_in, has_number, initial_content}
 use Rattle.gix_attributes.specs.Contents.{is_wanted, looked_up, selected_in, unspecified, wanted_of}

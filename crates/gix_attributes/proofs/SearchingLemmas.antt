@@ -5,17 +5,17 @@ use Rattle.std.specs.Result.{is_err}
 use Rattle.std.specs.declared.result.Result.{Result}
 use Rattle.bstr.specs.BStr.{bstr_bytes}
 use Rattle.attr_wildmatch.specs.declared.case.Case.{Case}
-use Rattle.attr_search.specs.declared.path_query.PathQuery.{PathQuery}
+use Rattle.attr_index.specs.declared.path_query.PathQuery.{PathQuery}
+use Rattle.attr_index.specs.IndexedLists.{lists_view}
+use Rattle.attr_index.specs.ListView.{Listed}
+use Rattle.attr_index.specs.declared.indexed_list.IndexedList.{IndexedList}
 use Rattle.attr_search.specs.SearchContents.{SearchContents}
 use Rattle.attr_search.specs.inner.SlotContents.{wanted_numbers}
 use Rattle.gix_attributes.specs.ContentView.{outcome_view}
 use Rattle.gix_attributes.specs.Contents.{Content, reset_content, is_wanted, wanted_of}
 use Rattle.gix_attributes.specs.inner.Consistency.{flags_of}
-use Rattle.attr_search.specs.IndexedLists.{lists_view}
 use Rattle.gix_attributes.specs.Selection.{selection_view}
-use Rattle.attr_search.specs.Settings.{Listed}
 use Rattle.attr_search.specs.Slots.{Matched}
-use Rattle.attr_search.specs.declared.indexed_list.IndexedList.{IndexedList}
 use Rattle.attr_lists.specs.declared.types.TrackedAssignment.{TrackedAssignment}
 use Rattle.gix_attributes.specs.declared.search.outcome.Outcome.TheInside.{Inside}
 use Rattle.gix_attributes.proofs.OutcomeLemmas.{same_empty, wanted_by_flags}

@@ -1,7 +1,8 @@
 -- Which lists have slots for all their numbers (own).
 use Rattle.std.specs.Prelude.{ℕ, ⊤, ◌<◌, List, All, MatchOption}
 use Rattle.attr_lists.specs.ListViews.{Entry}
-use Rattle.attr_search.specs.Settings.{HaveSlots, Listed}
+use Rattle.attr_index.specs.ListView.{Listed}
+use Rattle.attr_search.specs.Settings.{HaveSlots}
 
 -- the line's items have slots, and so has the macro that it defines
 pub record IsCovered (n : ℕ) (entry : Entry) : Type 0 where

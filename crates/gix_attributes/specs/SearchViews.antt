@@ -3,8 +3,8 @@ use Rattle.std.specs.Prelude.{◌≡◌, ℕ, List, [], ◌∷◌, ◌++◌, nat
 use Rattle.std.specs.List.{AllZip, IsDistinct}
 use Rattle.attr_lists.specs.Collections.{Collection}
 use Rattle.attr_lists.specs.Definitions.{without_list, HoldsList}
-use Rattle.attr_search.specs.Settings.{Listed}
-use Rattle.attr_search.specs.IndexedLists.{lists_view, list_ids_of}
+use Rattle.attr_index.specs.ListView.{Listed}
+use Rattle.attr_index.specs.IndexedLists.{lists_view, list_ids_of}
 use Rattle.gix_attributes.specs.declared.search.attributes.Search.{Search}
 
 -- the lists of a search, in the order of their addition

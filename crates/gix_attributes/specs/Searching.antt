@@ -5,7 +5,8 @@ use Rattle.attr_table.specs.Cut.{ExtendsCuts, is_done}
 use Rattle.attr_table.specs.Setting.{Setting}
 use Rattle.attr_table.specs.Table.{Slots}
 use Rattle.gix_attributes.specs.Contents.{Content, wanted_of}
-use Rattle.attr_search.specs.Settings.{Listed, BodiesAreNamed, HeldAreNamed, ListsAreNamed, setting_of}
+use Rattle.attr_index.specs.ListView.{Listed}
+use Rattle.attr_search.specs.Settings.{BodiesAreNamed, HeldAreNamed, ListsAreNamed, setting_of}
 use Rattle.attr_search.specs.Slots.{slots_of}
 
 -- the slots of an outcome, as the table has them

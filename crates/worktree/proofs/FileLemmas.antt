@@ -9,7 +9,7 @@ use Rattle.gix_attributes.specs.Collections.{Collection}
 use Rattle.gix_attributes.specs.Definitions.{free_id}
 use Rattle.gix_attributes.specs.KeptLists.{kept_list_where}
 use Rattle.gix_attributes.specs.SearchViews.{LosesLast, RemovesLast}
-use Rattle.gix_attributes.specs.Settings.{Listed}
+use Rattle.gix_attributes.specs.ListView.{Listed}
 use Rattle.worktree.specs.Worktrees.{Files, all_but_last, with_folder, with_global_file, without_last_folder, without_registration}
 use Rattle.worktree.specs.declared.File.{File}
 

@@ -11,7 +11,8 @@ use Rattle.gix_attributes.specs.Keeping.{Adds, AreApart, Keeps, Removes}
 use Rattle.gix_attributes.specs.Numbers.{AppendsNames}
 use Rattle.gix_attributes.specs.Registers.{RegistersExactly, without_registered}
 use Rattle.gix_attributes.specs.SearchViews.{Holds, LosesLast, RemovesLast, list_ids_in, lists_in}
-use Rattle.gix_attributes.specs.Settings.{LinesAreNamed, Listed, ListsAreNamed}
+use Rattle.gix_attributes.specs.Settings.{LinesAreNamed, ListsAreNamed}
+use Rattle.gix_attributes.specs.ListView.{Listed}
 use Rattle.gix_attributes.specs.declared.search.attributes.Search.{Search}
 use Rattle.worktree.specs.WorktreeView.{AreKept, HasItsNumbers}
 

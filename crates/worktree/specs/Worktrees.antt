@@ -5,7 +5,7 @@ use Rattle.gix_attributes.specs.Collections.{Collection, empty_collection}
 use Rattle.gix_attributes.specs.Definitions.{free_id, without_list}
 use Rattle.gix_attributes.specs.KeptLists.{kept_list_where}
 use Rattle.gix_attributes.specs.Lookups.{Lookup}
-use Rattle.gix_attributes.specs.Settings.{Listed}
+use Rattle.gix_attributes.specs.ListView.{Listed}
 use Rattle.gix_attributes.specs.declared.glob.pattern.Case.TheVariants.{Sensitive}
 use Rattle.worktree.specs.declared.File.{File}
 use Rattle.worktree.specs.declared.Question.{Question}

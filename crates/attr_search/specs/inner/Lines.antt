@@ -1,19 +1,14 @@
 -- The lines that functions search (own). Nothing here has to be believed.
-use Rattle.std.specs.Prelude.{ℕ, List, [], map, Bool, Option, Some, None, slice_index_or}
+use Rattle.std.specs.Prelude.{ℕ, List, map, Bool, Option, Some}
 use Rattle.bstr.specs.BStr.{bstr_bytes}
 use Rattle.attr_wildmatch.specs.declared.case.Case.{Case}
 use Rattle.attr_lists.specs.ListViews.{Entry}
 use Rattle.attr_table.specs.Setting.{Line}
 use Rattle.attr_table.specs.inner.Walk.{Task, line_tasks}
-use Rattle.attr_search.specs.declared.path_query.PathQuery.{PathQuery}
-use Rattle.attr_search.specs.Settings.{Listed, line_of, lines_of}
-
--- the empty line, for places past the last line
-abbrev pub no_entry : Entry
-no_entry = record { pattern = record { text = []; mode = 0; wildcard = None }; macro = None; items = []; line = 0 }
-
-abbrev pub entry_at : List Entry → ℕ → Entry
-entry_at lines place = slice_index_or lines place no_entry
+use Rattle.attr_index.specs.declared.path_query.PathQuery.{PathQuery}
+use Rattle.attr_index.specs.ListView.{Listed}
+use Rattle.attr_index.specs.inner.PlacedLines.{entry_at}
+use Rattle.attr_search.specs.Settings.{line_of, lines_of}
 
 -- the tasks of a line, for what is left of a path below the base
 abbrev pub entry_tasks : Case → Option Bool → Option (List ℕ) → List ℕ → Entry → List Task

@@ -6,10 +6,11 @@ use Rattle.attr_lists.specs.declared.types.TrackedAssignment.{TrackedAssignment}
 use Rattle.attr_table.specs.Setting.{Item, Setting}
 use Rattle.attr_table.specs.Table.{IsStable, Slots, Table}
 use Rattle.attr_table.specs.inner.Walk.{Searches, Task, list_tasks, tasks_of}
-use Rattle.attr_search.specs.declared.path_query.PathQuery.{PathQuery}
+use Rattle.attr_index.specs.declared.path_query.PathQuery.{PathQuery}
+use Rattle.attr_index.specs.ListView.{Listed}
 use Rattle.attr_search.specs.Roots.{RootsAtMost}
 use Rattle.attr_search.specs.SearchContents.{SearchContents}
-use Rattle.attr_search.specs.Settings.{BodiesAreNamed, HeldAreNamed, LinesAreNamed, Listed, ListsAreNamed, candidate_lines, setting_of}
+use Rattle.attr_search.specs.Settings.{BodiesAreNamed, HeldAreNamed, LinesAreNamed, ListsAreNamed, candidate_lines, setting_of}
 use Rattle.attr_search.specs.Slots.{slots_of, table_items}
 use Rattle.attr_search.specs.inner.Lines.{all_lines, place_tasks, query_lines}
 use Rattle.attr_search.specs.inner.Rounds.{Rounds, list_rounds, rounds_of}

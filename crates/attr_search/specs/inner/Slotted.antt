@@ -7,7 +7,8 @@ use Rattle.attr_lists.specs.ListViews.{Entry}
 use Rattle.attr_lists.specs.declared.types.TrackedAssignment.{TrackedAssignment}
 use Rattle.attr_lists.specs.declared.types.Value.{Value as LineValue}
 use Rattle.attr_table.specs.Setting.{Origin}
-use Rattle.attr_search.specs.Settings.{HaveSlots, Listed}
+use Rattle.attr_index.specs.ListView.{Listed}
+use Rattle.attr_search.specs.Settings.{HaveSlots}
 
 -- the items of all bodies, and of all lines of lists, have slots
 abbrev pub BodiesHaveSlots : ℕ → List (List TrackedAssignment) → Type 0

@@ -1,6 +1,5 @@
 use Rattle.std.proofs.Common.{ℕ, ap, ◌∙◌}
-use Rattle.gix_attributes.specs.Settings.{Listed}
-use Rattle.gix_attributes.specs.ListView.{list_view}
+use Rattle.gix_attributes.specs.ListView.{Listed, list_view}
 use Rattle.gix_attributes.specs.Definitions.{HoldsList}
 use Rattle.gix_attributes.specs.SearchViews.{list_ids_in, lists_in}
 use Rattle.worktree.specs.Worktrees.{without_last_folder}

@@ -1,0 +1,6 @@
+pub mod IndexedListLemmas
+pub mod FolderLemmas
+pub mod KeyedLemmas
+pub mod PlacedLemmas
+pub mod TryingLemmas
+pub mod ForCallers

@@ -1,0 +1,16 @@
+-- The lists of a search, as clauses see them (own).
+use Rattle.std.specs.Prelude.{ℕ, List, map}
+use Rattle.attr_index.specs.declared.indexed_list.IndexedList.{IndexedList}
+use Rattle.attr_index.specs.ListView.{Listed, list_view}
+
+-- what a list has
+abbrev pub listed_view : IndexedList → Listed
+listed_view list = list_view list.list
+
+-- the lists of a search, the last of which takes precedence
+abbrev pub lists_view : List IndexedList → List Listed
+lists_view lists = map listed_view lists
+
+-- the numbers under which they are active
+abbrev pub list_ids_of : List IndexedList → List ℕ
+list_ids_of lists = map (λ list. list.list_id) lists

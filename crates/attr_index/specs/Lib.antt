@@ -1,0 +1,4 @@
+pub mod IndexedLists
+pub mod KeyedNumbers
+pub mod ListView
+pub mod inner
