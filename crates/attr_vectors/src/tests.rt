@@ -1,4 +1,5 @@
 //! Worked rows of the program, hostile inputs, and runs over devices in memory that fail.
+mod calls;
 mod failing;
 mod global_names;
 mod hostile;
@@ -6,6 +7,7 @@ mod memory;
 mod pieces;
 mod plays;
 mod rows;
+mod runs;
 mod scripts;
 mod statuses;
 mod std_devices;

@@ -1,101 +1,99 @@
 //! The program with names of global files.
-use super::statuses::arguments;
-use crate::devices::{Sink, Source};
-use check_attr::program;
-use gix_attributes::files::{Disk, Files, Memory};
+use super::calls::{Call, Printed, expect_printed, expect_printed_over};
+use super::runs::Devices;
+use gix_attributes::files::Disk;
 use std::alloc::{AllocError, Global};
 
-fn two_files(alloc: Global) -> Result<Memory, AllocError> {
-    let mut files = Memory::new(alloc);
-    files.insert("g1", b"* a\n!b c\n")?;
-    files.insert("g3", b"* d\n")?;
-    Ok(files)
-}
+const TWO_FILES: &[(&str, &[u8])] = &[("g1", b"* a\n!b c\n"), ("g3", b"* d\n")];
 
-// The status, the text on standard error, and the text that is written.
-fn output_of<F: Files>(
-    alloc: Global,
-    files: &mut F,
-    names: &[&str],
-    script: &[u8],
-) -> Result<Vec<u8>, AllocError> {
-    let args = arguments(alloc, names)?;
-    let mut writer = Sink::new(alloc);
-    let mut errors = Sink::new(alloc);
-    let status = program(
-        alloc,
-        files,
-        &args,
-        &mut Source::new(script),
-        &mut writer,
-        &mut errors,
-    );
-    let mut out = Vec::new(alloc);
-    out.extend_from_slice(format!(in alloc; "{status}\n")?.as_bytes())?;
-    out.extend_from_slice(errors.bytes())?;
-    out.extend_from_slice(writer.bytes())?;
-    Ok(out)
+const ASK: &[u8] = b"ask l s f 1\nf\n";
+
+// A script whose second record is malformed.
+const MALFORMED: &[u8] = b"names 0\nask l s f 9\nabc";
+
+const UNREAD_FILE: &[u8] = b"check_attr: cannot read a global file\n";
+
+// A call with these names and this script over two files.
+fn call<'a>(args: &'a [&'a str], script: &'a [u8]) -> Call<'a> {
+    Call {
+        args,
+        files: TWO_FILES,
+        failing_file: 0,
+        devices: Devices::at_once(script),
+    }
 }
 
 #[test]
 fn dropped_lines_are_printed_first(rt: HostRuntime) -> Result<(), AllocError> {
-    let mut files = two_files(rt.alloc())?;
-    let names = ["g1", "g2", "g3"];
-    let answer = b"0\ndropped: g1:2: negative\nf: a: set\nf: d: set\n".as_slice();
-    let output = output_of(rt.alloc(), &mut files, &names, b"ask l s f 1\nf\n")?;
-    assert_eq!(rt; output.as_slice(), answer);
+    let dropped = b"dropped: g1:2: negative\n";
+    let wanted = Printed::flushed(0, dropped, b"f: a: set\nf: d: set\n");
+    expect_printed(&rt, rt.alloc(), call(&["g1", "g2", "g3"], ASK), wanted)?;
     Ok(())
 }
 
 #[test]
 fn a_malformed_record_is_printed_last(rt: HostRuntime) -> Result<(), AllocError> {
-    let mut files = two_files(rt.alloc())?;
-    let script = b"names 0\nask l s f 9\nabc".as_slice();
-    let answer = b"2\ndropped: g1:2: negative\ncheck_attr: malformed record 2\n".as_slice();
-    let output = output_of(rt.alloc(), &mut files, &["g1"], script)?;
-    assert_eq!(rt; output.as_slice(), answer);
+    let errors = b"dropped: g1:2: negative\ncheck_attr: malformed record 2\n";
+    let wanted = Printed::flushed(2, errors, b"");
+    expect_printed(&rt, rt.alloc(), call(&["g1"], MALFORMED), wanted)?;
     Ok(())
 }
 
 #[test]
 fn a_malformed_record_has_its_status(rt: HostRuntime) -> Result<(), AllocError> {
-    let mut files = Memory::new(rt.alloc());
-    let script = b"names 0\nask l s f 9\nabc".as_slice();
-    let answer = b"2\ncheck_attr: malformed record 2\n".as_slice();
-    let output = output_of(rt.alloc(), &mut files, &[], script)?;
-    assert_eq!(rt; output.as_slice(), answer);
+    let wanted = Printed::flushed(2, b"check_attr: malformed record 2\n", b"");
+    let call = Call {
+        files: &[],
+        ..call(&[], MALFORMED)
+    };
+    expect_printed(&rt, rt.alloc(), call, wanted)?;
     Ok(())
 }
 
 #[test]
 fn an_empty_script_prints_nothing(rt: HostRuntime) -> Result<(), AllocError> {
-    let mut files = Memory::new(rt.alloc());
-    let output = output_of(rt.alloc(), &mut files, &[], b"")?;
-    assert_eq!(rt; output.as_slice(), b"0\n".as_slice());
+    let wanted = Printed::flushed(0, b"", b"");
+    let call = Call {
+        files: &[],
+        ..call(&[], b"")
+    };
+    expect_printed(&rt, rt.alloc(), call, wanted)?;
     Ok(())
 }
 
+// Nothing is read of the script.
 #[test]
 fn a_failed_file_ends_the_program(rt: HostRuntime) -> Result<(), AllocError> {
-    let mut files = two_files(rt.alloc())?;
-    files.fail_read(2);
-    let answer = b"1\ncheck_attr: cannot read a global file\n".as_slice();
-    let script = b"ask l s f 1\nf\n".as_slice();
-    let output = output_of(rt.alloc(), &mut files, &["g1", "g3"], script)?;
-    assert_eq!(rt; output.as_slice(), answer);
-    assert_eq!(rt; files.failures(), 1);
+    let call = Call {
+        failing_file: 2,
+        ..call(&["g1", "g3"], ASK)
+    };
+    let wanted = Printed {
+        unread: ASK.len(),
+        failed_files: 1,
+        ..Printed::failed(UNREAD_FILE)
+    };
+    expect_printed(&rt, rt.alloc(), call, wanted)?;
     Ok(())
+}
+
+fn long_name(alloc: Global) -> Result<String, AllocError> {
+    let mut name = String::new(alloc);
+    for _ in 0..5000 {
+        name.push('a')?;
+    }
+    Ok(name)
 }
 
 #[test]
 fn a_name_that_no_disk_takes_ends_the_program(rt: HostRuntime) -> Result<(), AllocError> {
-    let mut long = String::new(rt.alloc());
-    for _ in 0..5000 {
-        long.push('a')?;
-    }
-    let answer = b"1\ncheck_attr: cannot read a global file\n".as_slice();
+    let name = long_name(rt.alloc())?;
     let mut disk = Disk::new(&rt);
-    let output = output_of(rt.alloc(), &mut disk, &[long.as_str()], b"")?;
-    assert_eq!(rt; output.as_slice(), answer);
+    let names = [name.as_str()];
+    let wanted = Printed {
+        failed_files: 1,
+        ..Printed::failed(UNREAD_FILE)
+    };
+    expect_printed_over(&rt, rt.alloc(), &mut disk, call(&names, b""), wanted)?;
     Ok(())
 }

@@ -1,23 +1,42 @@
 //! Inputs that no one would write: each has a report, and no line is lost.
+use super::runs::Pace::{AtOnce, OneByOne};
+use super::runs::{Devices, End, Left, Program, expect};
 use crate::devices::{Sink, Source};
-use check_attr::lines;
 use std::alloc::{AllocError, Global};
-use std::test::Fail;
+use std::process::Abort;
 
 const MILLION: usize = 1_000_000;
 
-// The front, the part `count` times, and the back.
-fn repeated(
-    alloc: Global,
-    front: &[u8],
-    part: &[u8],
+// A text: a front, a part that is repeated, and a back.
+#[derive(Clone, Copy)]
+struct Repeated<'a> {
+    front: &'a [u8],
+    part: &'a [u8],
     count: usize,
-    back: &[u8],
-) -> Result<Vec<u8>, AllocError> {
-    let mut out = front.to_vec(alloc)?;
-    push_times(part, count, &mut out)?;
-    out.extend_from_slice(back)?;
-    Ok(out)
+    back: &'a [u8],
+}
+
+impl<'a> Repeated<'a> {
+    fn new(front: &'a [u8], part: &'a [u8], count: usize, back: &'a [u8]) -> Repeated<'a> {
+        Repeated {
+            front,
+            part,
+            count,
+            back,
+        }
+    }
+
+    // A text without a part that is repeated.
+    fn plain(text: &'a [u8]) -> Repeated<'a> {
+        Repeated::new(text, b"", 0, b"")
+    }
+
+    fn text(self, alloc: Global) -> Result<Vec<u8>, AllocError> {
+        let mut out = self.front.to_vec(alloc)?;
+        push_times(self.part, self.count, &mut out)?;
+        out.extend_from_slice(self.back)?;
+        Ok(out)
+    }
 }
 
 fn push_times(part: &[u8], count: usize, out: &mut Vec<u8>) -> Result<(), AllocError> {
@@ -31,30 +50,59 @@ fn push_times(part: &[u8], count: usize, out: &mut Vec<u8>) -> Result<(), AllocE
 fn numbered(alloc: Global, count: usize, text: &str) -> Result<Vec<u8>, AllocError> {
     let mut out = Vec::new(alloc);
     for number in 1..=count {
-        let line = format!(in alloc; "{number}{text}")?;
-        out.extend_from_slice(line.as_bytes())?;
+        push_numbered(alloc, number, text, &mut out)?;
     }
     Ok(out)
 }
 
+fn push_numbered(
+    alloc: Global,
+    number: usize,
+    text: &str,
+    out: &mut Vec<u8>,
+) -> Result<(), AllocError> {
+    out.extend_from_slice(format!(in alloc; "{number}{text}")?.as_bytes())
+}
+
+// Expects the report on a long input, which is not printed if it differs.
+fn expect_report(rt: &impl Abort, alloc: Global, name: &str, input: &[u8], text: &[u8]) {
+    let mut sink = Sink::new(alloc);
+    let end = Program::Lines.end(alloc, &mut Source::new(input), &mut sink);
+    let is_whole = sink.bytes() == text;
+    assert_eq!(rt; (end, is_whole), (End::Whole, true), "{name}");
+}
+
+fn expect_repeated(
+    rt: &impl Abort,
+    alloc: Global,
+    name: &str,
+    input: Repeated<'_>,
+    text: Repeated<'_>,
+) -> Result<(), AllocError> {
+    let input = input.text(alloc)?;
+    let text = text.text(alloc)?;
+    expect_report(rt, alloc, name, &input, &text);
+    Ok(())
+}
+
 // Blanks, comments and a lone `!` are no lines; any other byte is a pattern without items.
 #[test]
-fn each_byte_alone_has_a_report(rt: HostRuntime) -> Result<(), Fail> {
+fn each_byte_alone_has_a_report(rt: HostRuntime) {
     for byte in 0..=u8::MAX {
         let text: &[u8] = match byte {
             b'\t' | b'\n' | 0x0C | b'\r' | b' ' | b'!' | b'#' => b"",
             _ => b"1:\n",
         };
-        let mut sink = Sink::new(rt.alloc());
-        lines(rt.alloc(), &mut Source::new(&[byte]), &mut sink)?;
-        assert_eq!(rt; sink.bytes(), text, "byte {byte}");
+        let input = [byte];
+        let devices = Devices::at_once(&input);
+        expect(&rt, rt.alloc(), Program::Lines, devices, Left::whole(text));
     }
-    Ok(())
 }
 
 // A line that begins with `front`, goes on with a million times `part` and ends with `back`, and the text for it.
 #[derive(Clone, Copy)]
 struct LongLine {
+    name: &'static str,
     front: &'static [u8],
     part: &'static [u8],
     back: &'static [u8],
@@ -63,40 +111,40 @@ struct LongLine {
 }
 
 const LONG_LINES: &[LongLine] = &[
-    // a name
     LongLine {
+        name: "a name",
         front: b"* ",
         part: b"a",
         back: b"\n* end\n",
         text_front: b"1: ",
         text_part: b"a",
     },
-    // a million items
     LongLine {
+        name: "a million items",
         front: b"* ",
         part: b"a ",
         back: b"\n* end\n",
         text_front: b"1:",
         text_part: b" a",
     },
-    // a refused name of NULs
     LongLine {
+        name: "a refused name of NULs",
         front: b"* ",
         part: b"\0",
         back: b"\n* end\n",
         text_front: b"1: ?",
         text_part: b"\0",
     },
-    // a refused name past ASCII
     LongLine {
+        name: "a refused name past ASCII",
         front: b"* ",
         part: b"\xFF",
         back: b"\n* end\n",
         text_front: b"1: ?",
         text_part: b"\xFF",
     },
-    // a value that is no UTF-8
     LongLine {
+        name: "a value that is no UTF-8",
         front: b"* a=",
         part: b"\xFF",
         back: b"\n* end\n",
@@ -105,17 +153,13 @@ const LONG_LINES: &[LongLine] = &[
     },
 ];
 
-// A line that begins with `front` and goes on with a million times `part`, and the text for it;
-// then an ordinary line.
 #[test]
-fn long_lines_are_whole(rt: HostRuntime) -> Result<(), Fail> {
+fn long_lines_are_whole(rt: HostRuntime) -> Result<(), AllocError> {
     for line in LONG_LINES {
-        let input = repeated(rt.alloc(), line.front, line.part, MILLION, line.back)?;
         let (text_front, text_part) = (line.text_front, line.text_part);
-        let text = repeated(rt.alloc(), text_front, text_part, MILLION, b"\n2: end\n")?;
-        let mut sink = Sink::new(rt.alloc());
-        lines(rt.alloc(), &mut Source::new(&input), &mut sink)?;
-        assert!(rt; sink.bytes() == text.as_slice());
+        let input = Repeated::new(line.front, line.part, MILLION, line.back);
+        let text = Repeated::new(text_front, text_part, MILLION, b"\n2: end\n");
+        expect_repeated(&rt, rt.alloc(), line.name, input, text)?;
     }
     Ok(())
 }
@@ -123,6 +167,7 @@ fn long_lines_are_whole(rt: HostRuntime) -> Result<(), Fail> {
 // A line that begins with `front`, goes on with a million times `part` and ends with `back`, and the whole text.
 #[derive(Clone, Copy)]
 struct LongPattern {
+    name: &'static str,
     front: &'static [u8],
     part: &'static [u8],
     back: &'static [u8],
@@ -130,57 +175,57 @@ struct LongPattern {
 }
 
 const LONG_PATTERNS: &[LongPattern] = &[
-    // quoted
     LongPattern {
+        name: "quoted",
         front: b"\"",
         part: b"a",
         back: b"\" x\n* end\n",
         text: b"1: x\n2: end\n",
     },
-    // quoted, of escapes
     LongPattern {
+        name: "quoted, of escapes",
         front: b"\"",
         part: b"\\101",
         back: b"\"x\n* end\n",
         text: b"1: x\n2: end\n",
     },
-    // never closed
     LongPattern {
+        name: "never closed",
         front: b"\"",
         part: b"a",
         back: b" x\n* end\n",
         text: b"1: x\n2: end\n",
     },
-    // damaged at its end
     LongPattern {
+        name: "damaged at its end",
         front: b"\"",
         part: b"a",
         back: b"\\400\" x\n* end\n",
         text: b"1: x\n2: end\n",
     },
-    // unquoted, of NULs
     LongPattern {
+        name: "unquoted, of NULs",
         front: b"",
         part: b"\0",
         back: b" x\n* end\n",
         text: b"1: x\n2: end\n",
     },
-    // negative
     LongPattern {
+        name: "negative",
         front: b"!",
         part: b"a",
         back: b" x\n* end\n",
         text: b"1! negative\n2: end\n",
     },
-    // a macro's refused name
     LongPattern {
+        name: "a macro's refused name",
         front: b"[attr]",
         part: b"\xFF",
         back: b" x\n* end\n",
         text: b"1! macro-name\n2: end\n",
     },
-    // quotes alone: the first two quote the empty pattern, so the line is skipped
     LongPattern {
+        name: "quotes alone: the first two quote the empty pattern, so the line is skipped",
         front: b"\"\"",
         part: b"\"",
         back: b"\n* end\n",
@@ -190,61 +235,91 @@ const LONG_PATTERNS: &[LongPattern] = &[
 
 // The pattern is not printed, however long it is.
 #[test]
-fn long_patterns_hide_no_item(rt: HostRuntime) -> Result<(), Fail> {
+fn long_patterns_hide_no_item(rt: HostRuntime) -> Result<(), AllocError> {
     for line in LONG_PATTERNS {
-        let input = repeated(rt.alloc(), line.front, line.part, MILLION, line.back)?;
-        let mut sink = Sink::new(rt.alloc());
-        lines(rt.alloc(), &mut Source::new(&input), &mut sink)?;
-        assert_eq!(rt; sink.bytes(), line.text);
+        let input = Repeated::new(line.front, line.part, MILLION, line.back);
+        expect_repeated(
+            &rt,
+            rt.alloc(),
+            line.name,
+            input,
+            Repeated::plain(line.text),
+        )?;
     }
     Ok(())
 }
 
-const MANY_LINES: &[(&[u8], &str)] = &[
-    (b"* a\n", ": a\n"),
-    (b"!a b\n", "! negative\n"),
-    (b"[attr]-m x\n", "! macro-name\n"),
-    (b"\"\\400\" a\n", ": a\n"),
-    (b"\"a\0\xFF\n", ":\n"),
+// What a line is, the line, and the text for it behind its number.
+const MANY_LINES: &[(&str, &[u8], &str)] = &[
+    ("an item", b"* a\n", ": a\n"),
+    ("negative", b"!a b\n", "! negative\n"),
+    ("a macro's refused name", b"[attr]-m x\n", "! macro-name\n"),
+    ("a damaged quote", b"\"\\400\" a\n", ": a\n"),
+    ("a quote that is never closed", b"\"a\0\xFF\n", ":\n"),
+];
+
+// Expects a hundred thousand times this line to have this text, each behind its number.
+fn expect_numbered(
+    rt: &impl Abort,
+    alloc: Global,
+    name: &str,
+    line: &[u8],
+    text: &str,
+) -> Result<(), AllocError> {
+    let mut input = Vec::new(alloc);
+    push_times(line, 100_000, &mut input)?;
+    let text = numbered(alloc, 100_000, text)?;
+    expect_report(rt, alloc, name, &input, &text);
+    Ok(())
+}
+
+#[test]
+fn many_lines_are_counted(rt: HostRuntime) -> Result<(), AllocError> {
+    for &(name, line, text) in MANY_LINES {
+        expect_numbered(&rt, rt.alloc(), name, line, text)?;
+    }
+    Ok(())
+}
+
+const SKIPPED: &[(&str, &[u8])] = &[
+    ("empty", b"\n"),
+    ("a comment", b"# c\n"),
+    ("blanks", b" \t\r\n"),
+    ("a quoted empty pattern", b"\"\" a\n"),
+    ("a lone exclamation mark", b"! a\n"),
 ];
 
 #[test]
-fn many_lines_are_counted(rt: HostRuntime) -> Result<(), Fail> {
-    for &(line, text) in MANY_LINES {
-        let input = repeated(rt.alloc(), b"", line, 100_000, b"")?;
-        let text = numbered(rt.alloc(), 100_000, text)?;
-        let mut sink = Sink::new(rt.alloc());
-        lines(rt.alloc(), &mut Source::new(&input), &mut sink)?;
-        assert!(rt; sink.bytes() == text.as_slice());
+fn skipped_lines_are_counted(rt: HostRuntime) -> Result<(), AllocError> {
+    for &(name, line) in SKIPPED {
+        let input = Repeated::new(b"", line, 99_999, b"* a");
+        expect_repeated(
+            &rt,
+            rt.alloc(),
+            name,
+            input,
+            Repeated::plain(b"100000: a\n"),
+        )?;
     }
     Ok(())
 }
 
-const SKIPPED: &[&[u8]] = &[b"\n", b"# c\n", b" \t\r\n", b"\"\" a\n", b"! a\n"];
-
-#[test]
-fn skipped_lines_are_counted(rt: HostRuntime) -> Result<(), Fail> {
-    for &line in SKIPPED {
-        let input = repeated(rt.alloc(), b"", line, 99_999, b"* a")?;
-        let mut sink = Sink::new(rt.alloc());
-        lines(rt.alloc(), &mut Source::new(&input), &mut sink)?;
-        assert_eq!(rt; sink.bytes(), b"100000: a\n".as_slice());
+// Expects the report on a name of this length, however the devices move it.
+fn expect_name(rt: &impl Abort, alloc: Global, length: usize) -> Result<(), AllocError> {
+    let input = Repeated::new(b"* ", b"a", length, b"").text(alloc)?;
+    let text = Repeated::new(b"1: ", b"a", length, b"\n").text(alloc)?;
+    for pace in [AtOnce, OneByOne] {
+        let devices = Devices::new(&input, pace);
+        expect(rt, alloc, Program::Lines, devices, Left::whole(&text));
     }
     Ok(())
 }
 
 // The lengths at which an input needs one read more.
 #[test]
-fn inputs_of_several_reads_are_whole(rt: HostRuntime) -> Result<(), Fail> {
-    for count in [8189, 8190, 8191, 20_000] {
-        let input = repeated(rt.alloc(), b"* ", b"a", count, b"")?;
-        let text = repeated(rt.alloc(), b"1: ", b"a", count, b"\n")?;
-        let mut sink = Sink::new(rt.alloc());
-        lines(rt.alloc(), &mut Source::new(&input), &mut sink)?;
-        assert_eq!(rt; sink.bytes(), text.as_slice());
-        let mut slow = Sink::one_by_one(rt.alloc());
-        lines(rt.alloc(), &mut Source::one_by_one(&input), &mut slow)?;
-        assert_eq!(rt; slow.bytes(), text.as_slice());
+fn inputs_of_several_reads_are_whole(rt: HostRuntime) -> Result<(), AllocError> {
+    for length in [8189, 8190, 8191, 20_000] {
+        expect_name(&rt, rt.alloc(), length)?;
     }
     Ok(())
 }

@@ -1,16 +1,25 @@
 //! Runs that pass whichever request for memory is refused.
-use super::statuses::arguments;
+use super::calls::{arguments, status_of};
+use super::runs::{End, Program};
 use super::{INPUT, TEXT, scripts};
 use crate::devices::{Sink, Source};
-use check_attr::{Fault, Globals, globals, lines, program, run};
+use check_attr::{Globals, globals, run};
 use gix_attributes::files::Memory;
 use gix_attributes::search::AddError;
 use std::alloc::{AllocError, Global};
-use std::test::Fail;
 
 // A sink that takes no memory until it has more than 64 bytes.
 fn with_room(alloc: Global) -> Result<Sink, AllocError> {
     Ok(Sink::over(Vec::with_capacity(alloc, 64)?, usize::MAX))
+}
+
+// Whether a run wrote its text, or a beginning of it for want of memory. No device failed.
+fn wrote_what_it_could(end: End, written: &[u8], text: &[u8]) -> bool {
+    match end {
+        End::Whole => written == text,
+        End::NoMemory => text.starts_with(written),
+        End::Malformed(_) | End::FailedRead | End::FailedWrite => false,
+    }
 }
 
 // The memory of the writer is reserved before the run.
@@ -19,11 +28,9 @@ fn without_memory_a_beginning_is_written(rt: HostRuntime) {
     let Ok(mut sink) = with_room(rt.alloc()) else {
         return;
     };
-    match lines(rt.alloc(), &mut Source::new(INPUT), &mut sink) {
-        Ok(()) => assert_eq!(rt; sink.bytes(), TEXT),
-        Err(Fault::OutOfMemory) => assert!(rt; TEXT.starts_with(sink.bytes())),
-        Err(Fault::Record(_) | Fault::Read | Fault::Write) => panic!(rt; "no device failed"),
-    }
+    let end = Program::Lines.end(rt.alloc(), &mut Source::new(INPUT), &mut sink);
+    let is_right = wrote_what_it_could(end, sink.bytes(), TEXT);
+    assert!(rt; is_right, "{end:?}");
 }
 
 // The lists of a global file, of which one line is dropped.
@@ -34,65 +41,59 @@ fn lists_of_a_file(alloc: Global) -> Result<Globals, AddError> {
     globals(alloc, &mut files, &names)
 }
 
-// How many lines are dropped of global files.
-fn count_of_dropped(lists: &Globals) -> usize {
+// How many lines of that file are dropped.
+fn count_of_dropped(alloc: Global) -> Result<usize, AddError> {
+    let lists = lists_of_a_file(alloc)?;
     let mut count: usize = 0;
     for lines in lists.dropped() {
         count = count.saturating_add(lines.len());
     }
-    count
+    Ok(count)
 }
 
 #[test]
 fn without_memory_global_files_are_read_again(rt: HostRuntime) -> Result<(), AddError> {
     let alloc = rt.alloc();
-    let lists = lists_of_a_file(alloc).or_else(|_| lists_of_a_file(alloc))?;
-    assert_eq!(rt; count_of_dropped(&lists), 1);
+    let count = count_of_dropped(alloc).or_else(|_| count_of_dropped(alloc))?;
+    assert_eq!(rt; count, 1);
     Ok(())
 }
 
 // The lists and the memory of the writer are there before the run.
 #[test]
 fn without_memory_a_beginning_of_the_answers_is_written(rt: HostRuntime) {
-    let (Ok(lists), Ok(mut sink)) = (lists_of_a_file(rt.alloc()), with_room(rt.alloc())) else {
+    let Ok(mut sink) = with_room(rt.alloc()) else {
         return;
     };
-    match run(
-        rt.alloc(),
-        &mut Source::new(scripts::SCRIPT),
-        &mut sink,
-        lists,
-    ) {
-        Ok(()) => assert_eq!(rt; sink.bytes(), scripts::TEXT),
-        Err(Fault::OutOfMemory) => assert!(rt; scripts::TEXT.starts_with(sink.bytes())),
-        Err(Fault::Record(_) | Fault::Read | Fault::Write) => panic!(rt; "no device failed"),
+    let Ok(lists) = lists_of_a_file(rt.alloc()) else {
+        return;
+    };
+    let mut source = Source::new(scripts::SCRIPT);
+    let end = End::of(run(rt.alloc(), &mut source, &mut sink, lists));
+    let is_right = wrote_what_it_could(end, sink.bytes(), scripts::TEXT);
+    assert!(rt; is_right, "{end:?}");
+}
+
+// Whether the program printed its text, or a beginning of it and the words for want of memory.
+fn printed_what_it_could(status: u8, written: &[u8], errors: &[u8]) -> bool {
+    match status {
+        0 => written == TEXT && errors.is_empty(),
+        1 => TEXT.starts_with(written) && errors == b"check_attr: out of memory\n".as_slice(),
+        _ => false,
     }
 }
 
 // The line on standard error takes no memory, and `errors` has its own.
 #[test]
-fn without_memory_the_program_prints_it(rt: HostRuntime) -> Result<(), Fail> {
+fn without_memory_the_program_prints_it(rt: HostRuntime) {
     let Ok(args) = arguments(rt.alloc(), &["--lines"]) else {
-        return Ok(());
+        return;
     };
     let (Ok(mut writer), Ok(mut errors)) = (with_room(rt.alloc()), with_room(rt.alloc())) else {
-        return Ok(());
+        return;
     };
-    let status = program(
-        rt.alloc(),
-        &mut Memory::new(rt.alloc()),
-        &args,
-        &mut Source::new(INPUT),
-        &mut writer,
-        &mut errors,
-    );
-    if status == 0 {
-        assert_eq!(rt; writer.bytes(), TEXT);
-        assert!(rt; errors.bytes().is_empty());
-    } else {
-        assert_eq!(rt; status, 1);
-        assert!(rt; TEXT.starts_with(writer.bytes()));
-        assert_eq!(rt; errors.bytes(), b"check_attr: out of memory\n".as_slice());
-    }
-    Ok(())
+    let mut source = Source::new(INPUT);
+    let status = status_of(rt.alloc(), &args, &mut source, &mut writer, &mut errors);
+    let is_right = printed_what_it_could(status, writer.bytes(), errors.bytes());
+    assert!(rt; is_right, "status {status}");
 }

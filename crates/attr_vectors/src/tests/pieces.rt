@@ -1,12 +1,13 @@
 //! Runs of scripts whose text is longer than a piece. An entry is `p: n0000: unspecified` and a line
 //! feed, 22 bytes, so 2,979 entries are the first that have 65,536 bytes.
-use crate::devices::{Sink, Source};
-use check_attr::{Fault, Globals, Push, Writer, globals, run};
-use gix_attributes::files::Memory;
+use super::runs::Pace::OneByOne;
+use super::runs::{Devices, End, Left, Program, expect};
+use crate::devices::Source;
+use check_attr::Writer;
 use std::alloc::{AllocError, Global};
 use std::io;
 use std::io::{ErrorKind, Write};
-use std::test::Fail;
+use std::process::Abort;
 
 const ENTRY: usize = 22;
 
@@ -33,22 +34,48 @@ impl Write for Sizes {
     }
 }
 
-fn no_files(alloc: Global) -> Result<Globals, Fail> {
-    Ok(globals(alloc, &mut Memory::new(alloc), &[])?)
+// A script with 6,000 answers.
+#[derive(Clone, Copy)]
+enum Script {
+    // It selects 6,000 names and looks them up once.
+    OneQuestion,
+    // It looks one name up 6,000 times.
+    ManyQuestions,
 }
 
-// A script that selects 6,000 names and looks them up once.
+const SCRIPTS: &[Script] = &[Script::OneQuestion, Script::ManyQuestions];
+
+impl Script {
+    fn text(self, alloc: Global) -> Result<Vec<u8>, AllocError> {
+        match self {
+            Script::OneQuestion => one_question(alloc),
+            Script::ManyQuestions => many_questions(alloc),
+        }
+    }
+
+    // What the script writes.
+    fn answers(self, alloc: Global) -> Result<Vec<u8>, AllocError> {
+        let mut out = Vec::new(alloc);
+        for number in 0..6000 {
+            let name = match self {
+                Script::OneQuestion => number,
+                Script::ManyQuestions => 0,
+            };
+            push_answer(alloc, name, &mut out)?;
+        }
+        Ok(out)
+    }
+}
+
 fn one_question(alloc: Global) -> Result<Vec<u8>, AllocError> {
     let mut script = Vec::from_slice(alloc, b"names 6000\n")?;
     for number in 0..6000 {
-        let name = format!(in alloc; "n{number:04}\n")?;
-        script.extend_from_slice(name.as_bytes())?;
+        push_name(alloc, number, &mut script)?;
     }
     script.extend_from_slice(b"ask l s u 1\np\n")?;
     Ok(script)
 }
 
-// A script that looks one name up 6,000 times.
 fn many_questions(alloc: Global) -> Result<Vec<u8>, AllocError> {
     let mut script = Vec::from_slice(alloc, b"names 1\nn0000\n")?;
     for _ in 0..6000 {
@@ -57,97 +84,102 @@ fn many_questions(alloc: Global) -> Result<Vec<u8>, AllocError> {
     Ok(script)
 }
 
-// What both scripts write.
-fn text_of(alloc: Global, script: &[u8]) -> Result<Vec<u8>, Fail> {
-    let mut sink = Sink::one_by_one(alloc);
-    run(alloc, &mut Source::new(script), &mut sink, no_files(alloc)?)?;
-    Ok(Vec::from_slice(alloc, sink.bytes())?)
+fn push_name(alloc: Global, number: u32, script: &mut Vec<u8>) -> Result<(), AllocError> {
+    script.extend_from_slice(format!(in alloc; "n{number:04}\n")?.as_bytes())
+}
+
+fn push_answer(alloc: Global, number: u32, out: &mut Vec<u8>) -> Result<(), AllocError> {
+    out.extend_from_slice(format!(in alloc; "p: n{number:04}: unspecified\n")?.as_bytes())
+}
+
+const THREE_PIECES: &[(usize, u64)] = &[(PIECE, 0), (PIECE, 0), (42 * ENTRY, 0)];
+
+// Expects a run to write three pieces, and to flush once behind them.
+fn expect_three_pieces(rt: &impl Abort, alloc: Global, script: &[u8]) {
+    let mut sizes = Sizes {
+        writes: Vec::new(alloc),
+        flushes: 0,
+    };
+    let mut writer = Writer::new(&mut sizes);
+    let end = Program::Script.end(alloc, &mut Source::new(script), &mut writer);
+    assert_eq!(rt;
+        (end, sizes.writes.as_slice(), sizes.flushes),
+        (End::Whole, THREE_PIECES, 1)
+    );
 }
 
 #[test]
-fn pieces_are_written_within_a_record_and_over_records(rt: HostRuntime) -> Result<(), Fail> {
-    let alloc = rt.alloc();
-    for script in [one_question(alloc)?, many_questions(alloc)?] {
-        let mut sizes = Sizes {
-            writes: Vec::new(alloc),
-            flushes: 0,
-        };
-        let mut writer = Writer::new(&mut sizes);
-        run(
-            alloc,
-            &mut Source::new(&script),
-            &mut writer,
-            no_files(alloc)?,
-        )?;
-        let wanted = [(PIECE, 0), (PIECE, 0), (42 * ENTRY, 0)];
-        assert_eq!(rt; sizes.writes.as_slice(), wanted.as_slice());
-        assert_eq!(rt; sizes.flushes, 1);
+fn pieces_are_written_within_a_record_and_over_records(rt: HostRuntime) -> Result<(), AllocError> {
+    for script in SCRIPTS {
+        let script = script.text(rt.alloc())?;
+        expect_three_pieces(&rt, rt.alloc(), &script);
     }
     Ok(())
 }
 
 #[test]
-fn nothing_is_flushed_once(rt: HostRuntime) -> Result<(), Fail> {
-    let alloc = rt.alloc();
-    let mut sink = Sink::new(alloc);
-    run(alloc, &mut Source::new(b""), &mut sink, no_files(alloc)?)?;
-    assert_eq!(rt; (sink.bytes().len(), sink.flushes()), (0, 1));
-    Ok(())
+fn nothing_is_flushed_once(rt: HostRuntime) {
+    let devices = Devices::at_once(b"");
+    expect(&rt, rt.alloc(), Program::Script, devices, Left::whole(b""));
 }
 
 #[test]
-fn a_malformed_record_follows_the_flushed_text(rt: HostRuntime) -> Result<(), Fail> {
-    let alloc = rt.alloc();
-    let mut script = one_question(alloc)?;
+fn a_malformed_record_follows_the_flushed_text(rt: HostRuntime) -> Result<(), AllocError> {
+    let text = Script::OneQuestion.answers(rt.alloc())?;
+    let mut script = one_question(rt.alloc())?;
     script.extend_from_slice(b"ask")?;
-    let mut sink = Sink::new(alloc);
-    let outcome = run(
-        alloc,
-        &mut Source::new(&script),
-        &mut sink,
-        no_files(alloc)?,
-    );
-    assert!(rt; matches!(outcome, Err(Fault::Record(3))));
-    assert_eq!(rt; sink.bytes().len(), 6000 * ENTRY);
-    assert!(rt; sink.is_flushed());
-    assert_eq!(rt; (sink.flushes(), sink.failures()), (1, 0));
+    let wanted = Left {
+        end: End::Malformed(3),
+        ..Left::whole(&text)
+    };
+    let devices = Devices::at_once(&script);
+    expect(&rt, rt.alloc(), Program::Script, devices, wanted);
     Ok(())
+}
+
+// Expects a run to write this text one byte a call, and all pieces before one that fails.
+fn expect_failed_pieces(rt: &impl Abort, alloc: Global, script: &[u8], text: &[u8]) {
+    assert_eq!(rt; text.len(), 6000 * ENTRY);
+    let devices = Devices {
+        writes: OneByOne,
+        ..Devices::at_once(script)
+    };
+    expect(rt, alloc, Program::Script, devices, Left::whole(text));
+    for failing in 1..4 {
+        let devices = Devices {
+            failing_write: failing,
+            ..Devices::at_once(script)
+        };
+        let written = (failing as usize - 1) * PIECE;
+        let wanted = Left::failed_write(&text[..written]);
+        expect(rt, alloc, Program::Script, devices, wanted);
+    }
 }
 
 // What was held is dropped, and nothing is flushed.
 #[test]
-fn a_failed_piece_leaves_those_before_it(rt: HostRuntime) -> Result<(), Fail> {
-    let alloc = rt.alloc();
-    for script in [one_question(alloc)?, many_questions(alloc)?] {
-        let text = text_of(alloc, &script)?;
-        assert_eq!(rt; text.len(), 6000 * ENTRY);
-        for failing in 1..4 {
-            let mut sink = Sink::new(alloc);
-            sink.fail_write(failing);
-            let outcome = run(
-                alloc,
-                &mut Source::new(&script),
-                &mut sink,
-                no_files(alloc)?,
-            );
-            assert!(rt; matches!(outcome, Err(Fault::Write)));
-            let written = (failing as usize - 1) * PIECE;
-            assert_eq!(rt; sink.bytes(), &text[..written]);
-            assert_eq!(rt; (sink.flushes(), sink.failures()), (0, 1));
-        }
+fn a_failed_piece_leaves_those_before_it(rt: HostRuntime) -> Result<(), AllocError> {
+    for script in SCRIPTS {
+        let text = script.answers(rt.alloc())?;
+        let script = script.text(rt.alloc())?;
+        expect_failed_pieces(&rt, rt.alloc(), &script, &text);
     }
     Ok(())
 }
 
 #[test]
-fn a_failed_read_comes_before_all_pieces(rt: HostRuntime) -> Result<(), Fail> {
-    let alloc = rt.alloc();
-    let script = many_questions(alloc)?;
-    let mut source = Source::new(&script);
-    source.fail_read(12);
-    let mut sink = Sink::new(alloc);
-    let outcome = run(alloc, &mut source, &mut sink, no_files(alloc)?);
-    assert!(rt; matches!(outcome, Err(Fault::Read)));
-    assert_eq!(rt; (sink.bytes().len(), sink.flushes()), (0, 0));
+fn a_failed_read_comes_before_all_pieces(rt: HostRuntime) -> Result<(), AllocError> {
+    let script = many_questions(rt.alloc())?;
+    let devices = Devices {
+        failing_read: 12,
+        ..Devices::at_once(&script)
+    };
+    expect(
+        &rt,
+        rt.alloc(),
+        Program::Script,
+        devices,
+        Left::failed_read(),
+    );
     Ok(())
 }

@@ -1,8 +1,7 @@
 //! Worked rows, read and written at once and byte by byte.
-use crate::devices::{Sink, Source};
-use crate::tests::{INPUT, TEXT};
-use check_attr::{Push, lines};
-use std::test::Fail;
+use super::runs::Pace::{AtOnce, OneByOne};
+use super::runs::{Devices, Left, Program, expect};
+use super::{INPUT, TEXT};
 
 const PRINTED: &[(&[u8], &[u8])] = &[
     (b"*.rs -text !eol diff=rust\n", b"1: -text !eol diff=rust\n"),
@@ -16,19 +15,13 @@ const PRINTED: &[(&[u8], &[u8])] = &[
 ];
 
 #[test]
-fn lines_are_printed(rt: HostRuntime) -> Result<(), Fail> {
+fn lines_are_printed(rt: HostRuntime) {
     for &(input, text) in PRINTED {
-        let mut sink = Sink::new(rt.alloc());
-        lines(rt.alloc(), &mut Source::new(input), &mut sink)?;
-        assert_eq!(rt; sink.bytes(), text);
-        assert_eq!(rt; (sink.flushes(), sink.failures()), (1, 0));
-        assert!(rt; sink.is_flushed());
-        let mut slow = Sink::one_by_one(rt.alloc());
-        lines(rt.alloc(), &mut Source::one_by_one(input), &mut slow)?;
-        assert_eq!(rt; slow.bytes(), text);
-        assert_eq!(rt; (slow.flushes(), slow.failures()), (1, 0));
+        for pace in [AtOnce, OneByOne] {
+            let devices = Devices::new(input, pace);
+            expect(&rt, rt.alloc(), Program::Lines, devices, Left::whole(text));
+        }
     }
-    Ok(())
 }
 
 const RAW_AND_LOSSY: &[(&[u8], &[u8])] = &[
@@ -42,11 +35,9 @@ const RAW_AND_LOSSY: &[(&[u8], &[u8])] = &[
 
 // Lossy text has one U+FFFD for each longest ill-formed part, by the Unicode standard, section 3.9.
 #[test]
-fn names_stay_raw_and_values_are_lossy(rt: HostRuntime) -> Result<(), Fail> {
+fn names_stay_raw_and_values_are_lossy(rt: HostRuntime) {
     for &(input, text) in RAW_AND_LOSSY {
-        let mut sink = Sink::new(rt.alloc());
-        lines(rt.alloc(), &mut Source::new(input), &mut sink)?;
-        assert_eq!(rt; sink.bytes(), text);
+        let devices = Devices::at_once(input);
+        expect(&rt, rt.alloc(), Program::Lines, devices, Left::whole(text));
     }
-    Ok(())
 }

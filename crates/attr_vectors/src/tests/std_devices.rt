@@ -1,5 +1,7 @@
 //! Readers and writers of std, and the texts of faults.
-use check_attr::{Fault, Pull, Push, Reader, Writer, lines};
+use super::runs::{End, lines_end};
+use check_attr::{Fault, Pull, Push, Reader, Writer};
+use std::alloc::Global;
 use std::io;
 use std::io::{ErrorKind, Read, Write};
 use std::test::Fail;
@@ -27,24 +29,24 @@ impl Write for Interrupted {
 fn counts_each_error_of_std(rt: HostRuntime) {
     let mut reader = Reader::new(Interrupted);
     let mut chunk = [0u8; 4];
-    assert!(rt; Pull::read(&mut reader, &mut chunk).is_err());
-    assert!(rt; Pull::read(&mut reader, &mut chunk).is_err());
-    assert_eq!(rt; reader.failures(), 2);
+    let first = Pull::read(&mut reader, &mut chunk).is_err();
+    let second = Pull::read(&mut reader, &mut chunk).is_err();
+    assert_eq!(rt; (first, second, reader.failures()), (true, true, 2));
     let mut writer = Writer::new(Interrupted);
-    assert!(rt; Push::write(&mut writer, b"a").is_err());
-    assert!(rt; Push::flush(&mut writer).is_err());
-    assert_eq!(rt; writer.failures(), 2);
+    let write = Push::write(&mut writer, b"a").is_err();
+    let flush = Push::flush(&mut writer).is_err();
+    assert_eq!(rt; (write, flush, writer.failures()), (true, true, 2));
 }
 
 #[test]
-fn prints_between_readers_and_writers_of_std(rt: HostRuntime) -> Result<(), Fail> {
+fn prints_between_readers_and_writers_of_std(rt: HostRuntime) {
     let mut out = Vec::new(rt.alloc());
     let mut reader = Reader::new(b"* text\n".as_slice());
     let mut writer = Writer::new(&mut out);
-    lines(rt.alloc(), &mut reader, &mut writer)?;
-    assert_eq!(rt; (reader.failures(), writer.failures()), (0, 0));
-    assert_eq!(rt; out.as_slice(), b"1: text\n".as_slice());
-    Ok(())
+    let end = lines_end(rt.alloc(), &mut reader, &mut writer);
+    let failures = (reader.failures(), writer.failures());
+    let text = b"1: text\n".as_slice();
+    assert_eq!(rt; (end, failures, out.as_slice()), (End::Whole, (0, 0), text));
 }
 
 #[derive(Drop)]
@@ -60,61 +62,80 @@ impl Write for Full {
     }
 }
 
+// How many bytes a write takes, if it does not fail.
+fn taken<W: Write>(writer: &mut Writer<W>, text: &[u8]) -> Option<usize> {
+    Push::write(writer, text).ok()
+}
+
+// How many bytes a write takes, and whether the writer is flushed behind it and behind a flush. Neither call fails.
+fn write_and_flush<W: Write>(writer: &mut Writer<W>, text: &[u8]) -> Option<(usize, bool, bool)> {
+    let count = taken(writer, text)?;
+    let is_flushed = writer.is_flushed();
+    Push::flush(writer).ok()?;
+    Some((count, is_flushed, writer.is_flushed()))
+}
+
 #[test]
-fn flags_follow_the_calls(rt: HostRuntime) -> Result<(), Fail> {
+fn flags_follow_the_calls(rt: HostRuntime) {
     let mut writer = Writer::new(Vec::new(rt.alloc()));
-    assert!(rt; !writer.is_flushed());
-    for text in [b"a".as_slice(), b"bc".as_slice()] {
-        assert_eq!(rt; Push::write(&mut writer, text)?, text.len());
-        assert!(rt; !writer.is_flushed());
-        Push::flush(&mut writer)?;
-        assert!(rt; writer.is_flushed());
-    }
-    assert_eq!(rt; (writer.failures(), writer.stalls()), (0, 0));
+    let is_flushed = writer.is_flushed();
+    let first = write_and_flush(&mut writer, b"a");
+    let second = write_and_flush(&mut writer, b"bc");
+    let flags = (is_flushed, first, second);
+    let counts = (writer.failures(), writer.stalls());
+    let wanted = (false, Some((1, false, true)), Some((2, false, true)));
+    assert_eq!(rt; (flags, counts), (wanted, (0, 0)));
+}
+
+#[test]
+fn a_failed_flush_sets_no_flag(rt: HostRuntime) {
     let mut interrupted = Writer::new(Interrupted);
-    assert!(rt; Push::flush(&mut interrupted).is_err());
-    assert!(rt; !interrupted.is_flushed());
-    Ok(())
+    let is_failed = Push::flush(&mut interrupted).is_err();
+    assert_eq!(rt; (is_failed, interrupted.is_flushed()), (true, false));
+}
+
+// How the report on a line ends.
+fn end_of_line<W: Write>(alloc: Global, writer: &mut Writer<W>) -> End {
+    lines_end(alloc, &mut Reader::new(b"* a\n".as_slice()), writer)
 }
 
 // A write that has no byte to take stalls nothing, and a stall before a run is none of that run.
 #[test]
-fn counts_each_write_that_took_no_byte_of_some(rt: HostRuntime) -> Result<(), Fail> {
+fn counts_each_write_that_took_no_byte_of_some(rt: HostRuntime) {
     let mut full = Writer::new(Full);
-    assert_eq!(rt; Push::write(&mut full, b"")?, 0);
-    assert_eq!(rt; full.stalls(), 0);
+    assert_eq!(rt; (taken(&mut full, b""), full.stalls()), (Some(0), 0));
     for stalls in 1..4 {
-        assert_eq!(rt; Push::write(&mut full, b"a")?, 0);
-        assert_eq!(rt; (full.stalls(), full.failures()), (stalls, 0));
+        let counts = (taken(&mut full, b"a"), full.stalls(), full.failures());
+        assert_eq!(rt; counts, (Some(0), stalls, 0));
     }
-    assert!(rt; !full.is_flushed());
-    let outcome = lines(rt.alloc(), &mut Reader::new(b"* a\n".as_slice()), &mut full);
-    assert!(rt; matches!(outcome, Err(Fault::Write)));
-    assert_eq!(rt; (full.stalls(), full.failures()), (4, 0));
-    let mut interrupted = Writer::new(Interrupted);
-    let outcome = lines(
-        rt.alloc(),
-        &mut Reader::new(b"* a\n".as_slice()),
-        &mut interrupted,
+    let (is_flushed, end) = (full.is_flushed(), end_of_line(rt.alloc(), &mut full));
+    let counts = (full.stalls(), full.failures());
+    assert_eq!(rt;
+        (is_flushed, end, counts),
+        (false, End::FailedWrite, (4, 0))
     );
-    assert!(rt; matches!(outcome, Err(Fault::Write)));
-    assert_eq!(rt; (interrupted.stalls(), interrupted.failures()), (0, 1));
-    Ok(())
 }
 
 #[test]
-fn counts_no_call_that_succeeded(rt: HostRuntime) -> Result<(), Fail> {
+fn a_failed_write_is_no_stall(rt: HostRuntime) {
+    let mut interrupted = Writer::new(Interrupted);
+    let end = end_of_line(rt.alloc(), &mut interrupted);
+    let counts = (interrupted.stalls(), interrupted.failures());
+    assert_eq!(rt; (end, counts), (End::FailedWrite, (0, 1)));
+}
+
+#[test]
+fn counts_no_call_that_succeeded(rt: HostRuntime) {
     let mut reader = Reader::new(b"abc".as_slice());
     let mut chunk = [0u8; 2];
-    for count in [2, 1, 0] {
-        assert_eq!(rt; Pull::read(&mut reader, &mut chunk)?, count);
-        assert_eq!(rt; reader.failures(), 0);
+    for wanted in [2, 1, 0] {
+        let count = Pull::read(&mut reader, &mut chunk).ok();
+        assert_eq!(rt; (count, reader.failures()), (Some(wanted), 0));
     }
     let mut writer = Writer::new(Vec::new(rt.alloc()));
-    assert_eq!(rt; Push::write(&mut writer, b"abc")?, 3);
-    Push::flush(&mut writer)?;
-    assert_eq!(rt; (writer.failures(), writer.stalls()), (0, 0));
-    Ok(())
+    let flags = write_and_flush(&mut writer, b"abc");
+    let counts = (writer.failures(), writer.stalls());
+    assert_eq!(rt; (flags, counts), (Some((3, false, true)), (0, 0)));
 }
 
 const FAULTS: &[(Fault, &str)] = &[

@@ -1,8 +1,9 @@
 //! Scripts that are written from lists of records, and what they write when they are read.
-use crate::devices::Source;
-use crate::tests::scripts::{SCRIPT, TEXT, expect};
+use super::runs::Devices;
+use super::runs::End::{Malformed, Whole};
+use super::scripts::{SCRIPT, TEXT, expect_text};
 use std::alloc::{AllocError, Global};
-use std::test::Fail;
+use std::process::Abort;
 
 #[derive(Clone, Copy)]
 enum Step<'a> {
@@ -14,54 +15,71 @@ enum Step<'a> {
     Ask(&'a str, &'a [u8]),
 }
 
-fn write_addition(
+fn push_all(script: &mut Vec<u8>, parts: &[&[u8]]) -> Result<(), AllocError> {
+    for part in parts {
+        script.extend_from_slice(part)?;
+    }
+    Ok(())
+}
+
+// A number, and what follows it.
+fn push_number(
+    alloc: Global,
+    script: &mut Vec<u8>,
+    number: usize,
+    end: &str,
+) -> Result<(), AllocError> {
+    script.extend_from_slice(format!(in alloc; "{number}{end}")?.as_bytes())
+}
+
+fn push_lengths(
     alloc: Global,
     script: &mut Vec<u8>,
     source: &str,
     root: Option<&str>,
     buffer: &[u8],
 ) -> Result<(), AllocError> {
-    let length = match root {
-        Some(root) => format!(in alloc; "{}", root.len())?,
-        None => String::from_str(alloc, "-")?,
-    };
-    let lengths = format!(in alloc; "{} {length} {}\n", source.len(), buffer.len())?;
-    script.extend_from_slice(lengths.as_bytes())?;
-    script.extend_from_slice(source.as_bytes())?;
-    script.extend_from_slice(root.unwrap_or("").as_bytes())?;
-    script.extend_from_slice(buffer)?;
-    Ok(script.push(b'\n')?)
+    push_number(alloc, script, source.len(), " ")?;
+    match root {
+        Some(root) => push_number(alloc, script, root.len(), " ")?,
+        None => script.extend_from_slice(b"- ")?,
+    }
+    push_number(alloc, script, buffer.len(), "\n")
 }
 
-fn write_step(alloc: Global, script: &mut Vec<u8>, step: Step<'_>) -> Result<(), AllocError> {
+fn push_step(alloc: Global, script: &mut Vec<u8>, step: Step<'_>) -> Result<(), AllocError> {
     match step {
         Step::Add(macros, source, root, buffer) => {
-            script.extend_from_slice(format!(in alloc; "add {macros} ")?.as_bytes())?;
-            write_addition(alloc, script, source, root, buffer)
+            push_all(script, &[b"add ", macros.as_bytes(), b" "])?;
+            push_lengths(alloc, script, source, root, buffer)?;
+            let root = root.unwrap_or("");
+            push_all(script, &[source.as_bytes(), root.as_bytes(), buffer, b"\n"])
         }
         Step::Pop => script.extend_from_slice(b"pop\n"),
         Step::Names(names) => {
-            script.extend_from_slice(format!(in alloc; "names {}\n", names.len())?.as_bytes())?;
-            for name in names {
-                script.extend_from_slice(format!(in alloc; "{name}\n")?.as_bytes())?;
-            }
-            Ok(())
+            script.extend_from_slice(b"names ")?;
+            push_number(alloc, script, names.len(), "\n")?;
+            push_names(script, names)
         }
         Step::Ask(letters, path) => {
-            script.extend_from_slice(format!(in alloc;
-                "ask {letters} {}\n",
-                path.len()
-            )?.as_bytes())?;
-            script.extend_from_slice(path)?;
-            Ok(script.push(b'\n')?)
+            push_all(script, &[b"ask ", letters.as_bytes(), b" "])?;
+            push_number(alloc, script, path.len(), "\n")?;
+            push_all(script, &[path, b"\n"])
         }
     }
+}
+
+fn push_names(script: &mut Vec<u8>, names: &[&str]) -> Result<(), AllocError> {
+    for name in names {
+        push_all(script, &[name.as_bytes(), b"\n"])?;
+    }
+    Ok(())
 }
 
 fn script_of(alloc: Global, steps: &[Step<'_>]) -> Result<Vec<u8>, AllocError> {
     let mut script = Vec::new(alloc);
     for step in steps {
-        write_step(alloc, &mut script, *step)?;
+        push_step(alloc, &mut script, *step)?;
     }
     Ok(script)
 }
@@ -73,10 +91,10 @@ const WORKED: &[Step<'static>] = &[
 ];
 
 #[test]
-fn records_are_spelled_as_in_the_worked_script(rt: HostRuntime) -> Result<(), Fail> {
+fn records_are_spelled_as_in_the_worked_script(rt: HostRuntime) -> Result<(), AllocError> {
     let script = script_of(rt.alloc(), WORKED)?;
     assert_eq!(rt; script.as_slice(), SCRIPT);
-    expect(&rt, rt.alloc(), &mut Source::new(&script), TEXT)?;
+    expect_text(&rt, rt.alloc(), Devices::at_once(&script), TEXT, Whole);
     Ok(())
 }
 
@@ -128,10 +146,10 @@ const LIKE_RECORDS: &[(&[Step<'static>], &[u8])] = &[
 // Contents, names and paths that look like records. What is written is what `git check-attr` says
 // for these files and paths.
 #[test]
-fn lengths_alone_end_a_part(rt: HostRuntime) -> Result<(), Fail> {
+fn lengths_alone_end_a_part(rt: HostRuntime) -> Result<(), AllocError> {
     for &(steps, text) in LIKE_RECORDS {
         let script = script_of(rt.alloc(), steps)?;
-        expect(&rt, rt.alloc(), &mut Source::new(&script), text)?;
+        expect_text(&rt, rt.alloc(), Devices::at_once(&script), text, Whole);
     }
     Ok(())
 }
@@ -147,30 +165,44 @@ fn step_of(digits: u32) -> Step<'static> {
     }
 }
 
-// All lists of five of these records. A question is answered if a list is left, and no record is
-// malformed; if a part of a record follows, that is the sixth record.
-#[test]
-fn each_list_of_records_is_read(rt: HostRuntime) -> Result<(), Fail> {
-    for code in 0..1024u32 {
-        let mut script = Vec::new(rt.alloc());
-        let mut text = Vec::new(rt.alloc());
-        let mut lists = 0u32;
-        let mut rest = code;
-        for _ in 0..5 {
-            let step = step_of(rest);
-            rest /= 4;
-            write_step(rt.alloc(), &mut script, step)?;
-            match step {
-                Step::Add(..) => lists = lists.saturating_add(1),
-                Step::Pop => lists = lists.saturating_sub(1),
-                Step::Ask(..) if lists > 0 => text.extend_from_slice(b"f: a: set\n")?,
-                _ => {}
-            }
+// The list of five of these records with this code, and the text that it writes. A question is answered if a list is left.
+fn push_records(
+    alloc: Global,
+    code: u32,
+    script: &mut Vec<u8>,
+    text: &mut Vec<u8>,
+) -> Result<(), AllocError> {
+    let mut lists = 0u32;
+    let mut rest = code;
+    for _ in 0..5 {
+        let step = step_of(rest);
+        rest /= 4;
+        push_step(alloc, script, step)?;
+        match step {
+            Step::Add(..) => lists = lists.saturating_add(1),
+            Step::Pop => lists = lists.saturating_sub(1),
+            Step::Ask(..) if lists > 0 => text.extend_from_slice(b"f: a: set\n")?,
+            _ => {}
         }
-        expect(&rt, rt.alloc(), &mut Source::new(&script), &text)?;
-        script.extend_from_slice(b"pop")?;
-        text.extend_from_slice(b"malformed record 6")?;
-        expect(&rt, rt.alloc(), &mut Source::new(&script), &text)?;
+    }
+    Ok(())
+}
+
+// No record is malformed; if a part of a record follows, that is the sixth record.
+fn expect_records(rt: &impl Abort, alloc: Global, code: u32) -> Result<(), AllocError> {
+    let (mut script, mut text) = (Vec::new(alloc), Vec::new(alloc));
+    push_records(alloc, code, &mut script, &mut text)?;
+    expect_text(rt, alloc, Devices::at_once(&script), &text, Whole);
+    script.extend_from_slice(b"pop")?;
+    expect_text(rt, alloc, Devices::at_once(&script), &text, Malformed(6));
+    Ok(())
+}
+
+// All lists of five of these records.
+#[test]
+fn each_list_of_records_is_read(rt: HostRuntime) -> Result<(), AllocError> {
+    for code in 0..1024u32 {
+        expect_records(&rt, rt.alloc(), code)?;
     }
     Ok(())
 }
@@ -211,10 +243,8 @@ const OTHER_SPELLINGS: &[&[u8]] = &[
 
 // A record has one text: no sign, no zero in front of a number, one space, and a line feed alone.
 #[test]
-fn other_spellings_are_malformed(rt: HostRuntime) -> Result<(), Fail> {
+fn other_spellings_are_malformed(rt: HostRuntime) {
     for &script in OTHER_SPELLINGS {
-        let answer = b"malformed record 1".as_slice();
-        expect(&rt, rt.alloc(), &mut Source::new(script), answer)?;
+        expect_text(&rt, rt.alloc(), Devices::at_once(script), b"", Malformed(1));
     }
-    Ok(())
 }
