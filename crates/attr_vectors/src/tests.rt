@@ -1,4 +1,6 @@
 //! Worked rows of the program, hostile inputs, and runs over devices in memory that fail.
+use std::alloc::{AllocError, Global};
+
 mod calls;
 mod failing;
 mod global_names;
@@ -17,3 +19,13 @@ mod written_scripts;
 const INPUT: &[u8] = b"!a b\n* a =x b=\n";
 
 const TEXT: &[u8] = b"1! negative\n2: a ? b=\n";
+
+// A number and the text behind it.
+fn push_number(
+    alloc: Global,
+    number: usize,
+    text: &str,
+    out: &mut Vec<u8>,
+) -> Result<(), AllocError> {
+    out.extend_from_slice(format!(in alloc; "{number}{text}")?.as_bytes())
+}

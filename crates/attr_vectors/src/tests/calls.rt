@@ -23,6 +23,8 @@ pub(super) struct Call<'a> {
 pub(super) struct Printed<'a> {
     pub(super) status: u8,
     pub(super) errors: &'a [u8],
+    /// How often standard error was flushed, or nothing if that is not compared.
+    pub(super) error_flushes: Option<u64>,
     pub(super) text: &'a [u8],
     pub(super) flushes: u64,
     /// How many bytes of the input are left.
@@ -38,6 +40,7 @@ impl<'a> Printed<'a> {
         Printed {
             status,
             errors,
+            error_flushes: None,
             text,
             flushes: 1,
             unread: 0,
@@ -74,13 +77,13 @@ fn in_memory(alloc: Global, call: Call<'_>) -> Result<Memory, AllocError> {
     Ok(files)
 }
 
-/// Expects a call over its files in memory to leave this, and returns how often standard error was flushed.
+/// Expects a call over its files in memory to leave this.
 pub(super) fn expect_printed(
     rt: &impl Abort,
     alloc: Global,
     call: Call<'_>,
     wanted: Printed<'_>,
-) -> Result<u64, AllocError> {
+) -> Result<(), AllocError> {
     let mut files = in_memory(alloc, call)?;
     expect_printed_over(rt, alloc, &mut files, call, wanted)
 }
@@ -92,7 +95,7 @@ pub(super) fn expect_printed_over<F: Files>(
     files: &mut F,
     call: Call<'_>,
     wanted: Printed<'_>,
-) -> Result<u64, AllocError> {
+) -> Result<(), AllocError> {
     let args = arguments(alloc, call.args)?;
     let mut source = call.devices.source();
     let mut writer = call.devices.sink(alloc);
@@ -101,6 +104,7 @@ pub(super) fn expect_printed_over<F: Files>(
     let printed = Printed {
         status,
         errors: errors.bytes(),
+        error_flushes: wanted.error_flushes.and(Some(errors.flushes())),
         text: writer.bytes(),
         flushes: writer.flushes(),
         unread: source.rest().len(),
@@ -109,7 +113,7 @@ pub(super) fn expect_printed_over<F: Files>(
         failed_files: files.failures(),
     };
     assert_eq!(rt; printed, wanted, "{:?}", call.args);
-    Ok(errors.flushes())
+    Ok(())
 }
 
 /// The status of a call with these arguments over these devices, without files.

@@ -1,7 +1,7 @@
 //! Devices that fail at each call in turn. A call that failed would succeed if it were tried again,
 //! since each fails once, as an interrupted one.
 use super::runs::Pace::{AtOnce, OneByOne};
-use super::runs::{Devices, End, Left, Program, expect};
+use super::runs::{Devices, End, Left, Program, expect, expect_failed_reads, expect_failed_writes};
 use super::{INPUT, TEXT};
 use crate::devices::{Broken, Source, Stuck};
 use check_attr::Push;
@@ -9,20 +9,7 @@ use check_attr::Push;
 #[test]
 fn a_failed_read_writes_nothing(rt: HostRuntime) {
     assert_eq!(rt; INPUT.len(), 15);
-    for call in 1..17 {
-        let devices = Devices {
-            reads: OneByOne,
-            failing_read: call,
-            ..Devices::at_once(INPUT)
-        };
-        expect(
-            &rt,
-            rt.alloc(),
-            Program::Lines,
-            devices,
-            Left::failed_read(),
-        );
-    }
+    expect_failed_reads(&rt, rt.alloc(), Program::Lines, INPUT);
 }
 
 #[test]
@@ -56,15 +43,7 @@ fn no_call_follows_the_end(rt: HostRuntime) {
 #[test]
 fn a_failed_write_leaves_a_beginning(rt: HostRuntime) {
     assert_eq!(rt; TEXT.len(), 22);
-    for kept in 0..TEXT.len() {
-        let devices = Devices {
-            writes: OneByOne,
-            failing_write: kept as u64 + 1,
-            ..Devices::at_once(INPUT)
-        };
-        let wanted = Left::failed_write(&TEXT[..kept]);
-        expect(&rt, rt.alloc(), Program::Lines, devices, wanted);
-    }
+    expect_failed_writes(&rt, rt.alloc(), Program::Lines, INPUT, TEXT);
 }
 
 #[test]
@@ -106,10 +85,7 @@ fn a_failed_flush_comes_after_all_bytes(rt: HostRuntime) {
             fails_flush: true,
             ..Devices::at_once(INPUT)
         };
-        let wanted = Left {
-            flushes: 1,
-            ..Left::failed_write(TEXT)
-        };
+        let wanted = Left::failed_flush(TEXT);
         expect(&rt, rt.alloc(), Program::Lines, devices, wanted);
     }
 }

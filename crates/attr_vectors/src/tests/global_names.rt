@@ -27,16 +27,14 @@ fn call<'a>(args: &'a [&'a str], script: &'a [u8]) -> Call<'a> {
 fn dropped_lines_are_printed_first(rt: HostRuntime) -> Result<(), AllocError> {
     let dropped = b"dropped: g1:2: negative\n";
     let wanted = Printed::flushed(0, dropped, b"f: a: set\nf: d: set\n");
-    expect_printed(&rt, rt.alloc(), call(&["g1", "g2", "g3"], ASK), wanted)?;
-    Ok(())
+    expect_printed(&rt, rt.alloc(), call(&["g1", "g2", "g3"], ASK), wanted)
 }
 
 #[test]
 fn a_malformed_record_is_printed_last(rt: HostRuntime) -> Result<(), AllocError> {
     let errors = b"dropped: g1:2: negative\ncheck_attr: malformed record 2\n";
     let wanted = Printed::flushed(2, errors, b"");
-    expect_printed(&rt, rt.alloc(), call(&["g1"], MALFORMED), wanted)?;
-    Ok(())
+    expect_printed(&rt, rt.alloc(), call(&["g1"], MALFORMED), wanted)
 }
 
 #[test]
@@ -46,8 +44,7 @@ fn a_malformed_record_has_its_status(rt: HostRuntime) -> Result<(), AllocError> 
         files: &[],
         ..call(&[], MALFORMED)
     };
-    expect_printed(&rt, rt.alloc(), call, wanted)?;
-    Ok(())
+    expect_printed(&rt, rt.alloc(), call, wanted)
 }
 
 #[test]
@@ -57,8 +54,7 @@ fn an_empty_script_prints_nothing(rt: HostRuntime) -> Result<(), AllocError> {
         files: &[],
         ..call(&[], b"")
     };
-    expect_printed(&rt, rt.alloc(), call, wanted)?;
-    Ok(())
+    expect_printed(&rt, rt.alloc(), call, wanted)
 }
 
 // Nothing is read of the script.
@@ -73,8 +69,7 @@ fn a_failed_file_ends_the_program(rt: HostRuntime) -> Result<(), AllocError> {
         failed_files: 1,
         ..Printed::failed(UNREAD_FILE)
     };
-    expect_printed(&rt, rt.alloc(), call, wanted)?;
-    Ok(())
+    expect_printed(&rt, rt.alloc(), call, wanted)
 }
 
 fn long_name(alloc: Global) -> Result<String, AllocError> {
@@ -94,6 +89,5 @@ fn a_name_that_no_disk_takes_ends_the_program(rt: HostRuntime) -> Result<(), All
         failed_files: 1,
         ..Printed::failed(UNREAD_FILE)
     };
-    expect_printed_over(&rt, rt.alloc(), &mut disk, call(&names, b""), wanted)?;
-    Ok(())
+    expect_printed_over(&rt, rt.alloc(), &mut disk, call(&names, b""), wanted)
 }

@@ -1,4 +1,5 @@
 //! Inputs that no one would write: each has a report, and no line is lost.
+use super::push_number;
 use super::runs::Pace::{AtOnce, OneByOne};
 use super::runs::{Devices, End, Left, Program, expect};
 use crate::devices::{Sink, Source};
@@ -50,18 +51,9 @@ fn push_times(part: &[u8], count: usize, out: &mut Vec<u8>) -> Result<(), AllocE
 fn numbered(alloc: Global, count: usize, text: &str) -> Result<Vec<u8>, AllocError> {
     let mut out = Vec::new(alloc);
     for number in 1..=count {
-        push_numbered(alloc, number, text, &mut out)?;
+        push_number(alloc, number, text, &mut out)?;
     }
     Ok(out)
-}
-
-fn push_numbered(
-    alloc: Global,
-    number: usize,
-    text: &str,
-    out: &mut Vec<u8>,
-) -> Result<(), AllocError> {
-    out.extend_from_slice(format!(in alloc; "{number}{text}")?.as_bytes())
 }
 
 // Expects the report on a long input, which is not printed if it differs.

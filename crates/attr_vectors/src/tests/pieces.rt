@@ -61,7 +61,8 @@ impl Script {
                 Script::OneQuestion => number,
                 Script::ManyQuestions => 0,
             };
-            push_answer(alloc, name, &mut out)?;
+            out.extend_from_slice(b"p: ")?;
+            push_name(alloc, name, ": unspecified\n", &mut out)?;
         }
         Ok(out)
     }
@@ -70,7 +71,7 @@ impl Script {
 fn one_question(alloc: Global) -> Result<Vec<u8>, AllocError> {
     let mut script = Vec::from_slice(alloc, b"names 6000\n")?;
     for number in 0..6000 {
-        push_name(alloc, number, &mut script)?;
+        push_name(alloc, number, "\n", &mut script)?;
     }
     script.extend_from_slice(b"ask l s u 1\np\n")?;
     Ok(script)
@@ -84,12 +85,9 @@ fn many_questions(alloc: Global) -> Result<Vec<u8>, AllocError> {
     Ok(script)
 }
 
-fn push_name(alloc: Global, number: u32, script: &mut Vec<u8>) -> Result<(), AllocError> {
-    script.extend_from_slice(format!(in alloc; "n{number:04}\n")?.as_bytes())
-}
-
-fn push_answer(alloc: Global, number: u32, out: &mut Vec<u8>) -> Result<(), AllocError> {
-    out.extend_from_slice(format!(in alloc; "p: n{number:04}: unspecified\n")?.as_bytes())
+// A name of five letters, and the text behind it.
+fn push_name(alloc: Global, number: u32, text: &str, out: &mut Vec<u8>) -> Result<(), AllocError> {
+    out.extend_from_slice(format!(in alloc; "n{number:04}{text}")?.as_bytes())
 }
 
 const THREE_PIECES: &[(usize, u64)] = &[(PIECE, 0), (PIECE, 0), (42 * ENTRY, 0)];

@@ -148,6 +148,14 @@ impl<'a> Left<'a> {
         }
     }
 
+    /// What a run leaves of which the flush behind this text failed.
+    pub(super) fn failed_flush(text: &'a [u8]) -> Left<'a> {
+        Left {
+            flushes: 1,
+            ..Left::failed_write(text)
+        }
+    }
+
     /// What a run leaves with this end, this writer and so many failed reads.
     pub(super) fn of(end: End, sink: &'a Sink, failed_reads: u64) -> Left<'a> {
         Left {
@@ -251,4 +259,40 @@ pub(super) fn expect(
 // The first bytes of an input, which tell what it is.
 fn front_of(input: &[u8]) -> &[u8] {
     &input[..input.len().min(60)]
+}
+
+/// Expects a run to write nothing, whichever of its reads fails. Each has one byte, but the last one.
+pub(super) fn expect_failed_reads(rt: &impl Abort, alloc: Global, program: Program, input: &[u8]) {
+    for read in 0..=input.len() {
+        let devices = Devices {
+            reads: Pace::OneByOne,
+            failing_read: read as u64 + 1,
+            ..Devices::at_once(input)
+        };
+        expect(rt, alloc, program, devices, Left::failed_read());
+    }
+}
+
+/// Expects a run to write a beginning of its text, whichever of its writes fails. Each has one byte.
+pub(super) fn expect_failed_writes(
+    rt: &impl Abort,
+    alloc: Global,
+    program: Program,
+    input: &[u8],
+    text: &[u8],
+) {
+    for kept in 0..text.len() {
+        let devices = Devices {
+            writes: Pace::OneByOne,
+            failing_write: kept as u64 + 1,
+            ..Devices::at_once(input)
+        };
+        expect(
+            rt,
+            alloc,
+            program,
+            devices,
+            Left::failed_write(&text[..kept]),
+        );
+    }
 }

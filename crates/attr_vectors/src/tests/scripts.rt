@@ -1,7 +1,7 @@
 //! Scripts, read at once and byte by byte, and the text that they write.
 use super::runs::End::{Malformed, Whole};
 use super::runs::Pace::OneByOne;
-use super::runs::{Devices, End, Left, Program, expect};
+use super::runs::{Devices, End, Left, Program, expect, expect_failed_reads, expect_failed_writes};
 use crate::devices::{Source, Stuck};
 use std::alloc::{AllocError, Global};
 use std::process::Abort;
@@ -153,34 +153,13 @@ fn a_cut_script_is_malformed(rt: HostRuntime) {
 
 #[test]
 fn a_failed_read_writes_nothing(rt: HostRuntime) {
-    for call in 1..86 {
-        let devices = Devices {
-            reads: OneByOne,
-            failing_read: call,
-            ..Devices::at_once(SCRIPT)
-        };
-        expect(
-            &rt,
-            rt.alloc(),
-            Program::Script,
-            devices,
-            Left::failed_read(),
-        );
-    }
+    expect_failed_reads(&rt, rt.alloc(), Program::Script, SCRIPT);
 }
 
 #[test]
 fn a_failed_write_leaves_a_beginning(rt: HostRuntime) {
     assert_eq!(rt; TEXT.len(), 40);
-    for kept in 0..TEXT.len() {
-        let devices = Devices {
-            writes: OneByOne,
-            failing_write: kept as u64 + 1,
-            ..Devices::at_once(SCRIPT)
-        };
-        let wanted = Left::failed_write(&TEXT[..kept]);
-        expect(&rt, rt.alloc(), Program::Script, devices, wanted);
-    }
+    expect_failed_writes(&rt, rt.alloc(), Program::Script, SCRIPT, TEXT);
 }
 
 #[test]
@@ -189,10 +168,7 @@ fn a_failed_flush_ends_the_run(rt: HostRuntime) {
         fails_flush: true,
         ..Devices::at_once(SCRIPT)
     };
-    let wanted = Left {
-        flushes: 1,
-        ..Left::failed_write(TEXT)
-    };
+    let wanted = Left::failed_flush(TEXT);
     expect(&rt, rt.alloc(), Program::Script, devices, wanted);
 }
 

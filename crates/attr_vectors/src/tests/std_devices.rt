@@ -25,17 +25,27 @@ impl Write for Interrupted {
     }
 }
 
+// The count of a call, if it did not fail. An error of std is dropped here and in `is_done` alone.
+fn count_of(outcome: io::Result<usize>) -> Option<usize> {
+    outcome.ok()
+}
+
+fn is_done(outcome: io::Result<()>) -> bool {
+    outcome.is_ok()
+}
+
 #[test]
 fn counts_each_error_of_std(rt: HostRuntime) {
     let mut reader = Reader::new(Interrupted);
     let mut chunk = [0u8; 4];
-    let first = Pull::read(&mut reader, &mut chunk).is_err();
-    let second = Pull::read(&mut reader, &mut chunk).is_err();
-    assert_eq!(rt; (first, second, reader.failures()), (true, true, 2));
+    let first = count_of(Pull::read(&mut reader, &mut chunk));
+    let second = count_of(Pull::read(&mut reader, &mut chunk));
     let mut writer = Writer::new(Interrupted);
-    let write = Push::write(&mut writer, b"a").is_err();
-    let flush = Push::flush(&mut writer).is_err();
-    assert_eq!(rt; (write, flush, writer.failures()), (true, true, 2));
+    let write = count_of(Push::write(&mut writer, b"a"));
+    let is_flushed = is_done(Push::flush(&mut writer));
+    let failures = (reader.failures(), writer.failures());
+    let outcomes = (first, second, write, is_flushed);
+    assert_eq!(rt; (outcomes, failures), ((None, None, None, false), (2, 2)));
 }
 
 #[test]
@@ -62,16 +72,13 @@ impl Write for Full {
     }
 }
 
-// How many bytes a write takes, if it does not fail.
-fn taken<W: Write>(writer: &mut Writer<W>, text: &[u8]) -> Option<usize> {
-    Push::write(writer, text).ok()
-}
-
 // How many bytes a write takes, and whether the writer is flushed behind it and behind a flush. Neither call fails.
 fn write_and_flush<W: Write>(writer: &mut Writer<W>, text: &[u8]) -> Option<(usize, bool, bool)> {
-    let count = taken(writer, text)?;
+    let count = count_of(Push::write(writer, text))?;
     let is_flushed = writer.is_flushed();
-    Push::flush(writer).ok()?;
+    if !is_done(Push::flush(writer)) {
+        return None;
+    }
     Some((count, is_flushed, writer.is_flushed()))
 }
 
@@ -90,8 +97,8 @@ fn flags_follow_the_calls(rt: HostRuntime) {
 #[test]
 fn a_failed_flush_sets_no_flag(rt: HostRuntime) {
     let mut interrupted = Writer::new(Interrupted);
-    let is_failed = Push::flush(&mut interrupted).is_err();
-    assert_eq!(rt; (is_failed, interrupted.is_flushed()), (true, false));
+    let is_done = is_done(Push::flush(&mut interrupted));
+    assert_eq!(rt; (is_done, interrupted.is_flushed()), (false, false));
 }
 
 // How the report on a line ends.
@@ -103,10 +110,14 @@ fn end_of_line<W: Write>(alloc: Global, writer: &mut Writer<W>) -> End {
 #[test]
 fn counts_each_write_that_took_no_byte_of_some(rt: HostRuntime) {
     let mut full = Writer::new(Full);
-    assert_eq!(rt; (taken(&mut full, b""), full.stalls()), (Some(0), 0));
+    let count = count_of(Push::write(&mut full, b""));
+    assert_eq!(rt; (count, full.stalls()), (Some(0), 0));
     for stalls in 1..4 {
-        let counts = (taken(&mut full, b"a"), full.stalls(), full.failures());
-        assert_eq!(rt; counts, (Some(0), stalls, 0));
+        let count = count_of(Push::write(&mut full, b"a"));
+        assert_eq!(rt;
+            (count, full.stalls(), full.failures()),
+            (Some(0), stalls, 0)
+        );
     }
     let (is_flushed, end) = (full.is_flushed(), end_of_line(rt.alloc(), &mut full));
     let counts = (full.stalls(), full.failures());
@@ -129,7 +140,7 @@ fn counts_no_call_that_succeeded(rt: HostRuntime) {
     let mut reader = Reader::new(b"abc".as_slice());
     let mut chunk = [0u8; 2];
     for wanted in [2, 1, 0] {
-        let count = Pull::read(&mut reader, &mut chunk).ok();
+        let count = count_of(Pull::read(&mut reader, &mut chunk));
         assert_eq!(rt; (count, reader.failures()), (Some(wanted), 0));
     }
     let mut writer = Writer::new(Vec::new(rt.alloc()));

@@ -1,4 +1,5 @@
 //! Scripts that are written from lists of records, and what they write when they are read.
+use super::push_number;
 use super::runs::Devices;
 use super::runs::End::{Malformed, Whole};
 use super::scripts::{SCRIPT, TEXT, expect_text};
@@ -22,16 +23,6 @@ fn push_all(script: &mut Vec<u8>, parts: &[&[u8]]) -> Result<(), AllocError> {
     Ok(())
 }
 
-// A number, and what follows it.
-fn push_number(
-    alloc: Global,
-    script: &mut Vec<u8>,
-    number: usize,
-    end: &str,
-) -> Result<(), AllocError> {
-    script.extend_from_slice(format!(in alloc; "{number}{end}")?.as_bytes())
-}
-
 fn push_lengths(
     alloc: Global,
     script: &mut Vec<u8>,
@@ -39,12 +30,12 @@ fn push_lengths(
     root: Option<&str>,
     buffer: &[u8],
 ) -> Result<(), AllocError> {
-    push_number(alloc, script, source.len(), " ")?;
+    push_number(alloc, source.len(), " ", script)?;
     match root {
-        Some(root) => push_number(alloc, script, root.len(), " ")?,
+        Some(root) => push_number(alloc, root.len(), " ", script)?,
         None => script.extend_from_slice(b"- ")?,
     }
-    push_number(alloc, script, buffer.len(), "\n")
+    push_number(alloc, buffer.len(), "\n", script)
 }
 
 fn push_step(alloc: Global, script: &mut Vec<u8>, step: Step<'_>) -> Result<(), AllocError> {
@@ -58,12 +49,12 @@ fn push_step(alloc: Global, script: &mut Vec<u8>, step: Step<'_>) -> Result<(), 
         Step::Pop => script.extend_from_slice(b"pop\n"),
         Step::Names(names) => {
             script.extend_from_slice(b"names ")?;
-            push_number(alloc, script, names.len(), "\n")?;
+            push_number(alloc, names.len(), "\n", script)?;
             push_names(script, names)
         }
         Step::Ask(letters, path) => {
             push_all(script, &[b"ask ", letters.as_bytes(), b" "])?;
-            push_number(alloc, script, path.len(), "\n")?;
+            push_number(alloc, path.len(), "\n", script)?;
             push_all(script, &[path, b"\n"])
         }
     }
