@@ -16,13 +16,17 @@ use std::process::Abort;
 // the items that have no number.
 fn push_lines(out: &mut String, mappings: &[Mapping<Value>]) -> Result<(), AllocError> {
     for mapping in mappings {
-        push_pattern(out, mapping)?;
-        match &mapping.value {
-            Value::MacroAssignments { assignments, .. } => push_items(out, assignments)?,
-            Value::Assignments(assignments) => push_items(out, assignments)?,
-        }
+        push_line(out, mapping)?;
     }
     Ok(())
+}
+
+fn push_line(out: &mut String, mapping: &Mapping<Value>) -> Result<(), AllocError> {
+    push_pattern(out, mapping)?;
+    match &mapping.value {
+        Value::MacroAssignments { assignments, .. } => push_items(out, assignments),
+        Value::Assignments(assignments) => push_items(out, assignments),
+    }
 }
 
 fn push_pattern(out: &mut String, mapping: &Mapping<Value>) -> Result<(), AllocError> {

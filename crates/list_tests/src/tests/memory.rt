@@ -9,7 +9,7 @@ use super::names::{
     is_assignment_copied, is_name_copied, is_state_copied, is_value_copied, name_of, refused,
 };
 use super::numbers::{add, copied as copied_table, first_number, push_names, remove, table};
-use super::search_types::tracked;
+use super::search_types::is_item_copied;
 use attr_glob::search::Pattern as _;
 use attr_glob::search::pattern::Mapping;
 use attr_lists::name_table::NameTable;
@@ -80,16 +80,12 @@ fn without_memory_kinds_are_copied_again(rt: HostRuntime) -> Result<(), AllocErr
     Ok(())
 }
 
-fn is_item_copied(alloc: Global, name: NameRef<'_>) -> Result<bool, AllocError> {
-    let state = StateRef::from_bytes(b"a value of more than a few bytes");
-    let item = tracked(alloc, 5, AssignmentRef { name, state })?;
-    Ok(item.clone(alloc)? == item)
-}
-
 #[test]
 fn without_memory_numbered_items_are_copied_again(rt: HostRuntime) -> Result<(), Fail> {
     let (alloc, name) = (rt.alloc(), name_of("eol")?);
-    assert!(rt; is_item_copied(alloc, name).or_else(|_| is_item_copied(alloc, name))?);
+    let state = StateRef::from_bytes(b"a value of more than a few bytes");
+    let item = AssignmentRef { name, state };
+    assert!(rt; is_item_copied(alloc, 5, item).or_else(|_| is_item_copied(alloc, 5, item))?);
     Ok(())
 }
 
@@ -257,15 +253,18 @@ fn has_text_if_copied(alloc: Global, name: NameRef<'_>, text: &str) -> bool {
     }
 }
 
+fn expect_name(rt: &impl Abort, alloc: Global, name: NameRef<'_>, text: &str) {
+    assert_eq!(rt; name.as_str(), text);
+    assert!(rt; has_text_if_copied(alloc, name, text), "{text}");
+}
+
 const NAMES: &[&str] = &["Az9-._", "builtin_x", "eol"];
 
 #[test]
 fn without_memory_names_are_read(rt: HostRuntime) -> Result<(), Fail> {
     assert_eq!(rt; refused(b"-a"), Some(BStr::from("-a")));
     for text in NAMES {
-        let name = name_of(text)?;
-        assert_eq!(rt; name.as_str(), *text);
-        assert!(rt; has_text_if_copied(rt.alloc(), name, text), "{text}");
+        expect_name(&rt, rt.alloc(), name_of(text)?, text);
     }
     Ok(())
 }
@@ -394,6 +393,13 @@ fn without_memory_lines_are_counted(rt: HostRuntime) {
     }
 }
 
+fn is_without_numbers_if_read(alloc: Global, text: &[u8]) -> bool {
+    match read(alloc, text) {
+        Ok(list) => are_without_numbers(&list),
+        Err(_) => true,
+    }
+}
+
 fn expect_new_metadata(rt: &impl Abort, alloc: Global) {
     let metadata = Metadata::of(alloc, AttributeId(2));
     assert_eq!(rt;
@@ -404,9 +410,7 @@ fn expect_new_metadata(rt: &impl Abort, alloc: Global) {
 
 #[test]
 fn without_memory_numbers_answer(rt: HostRuntime) {
-    if let Ok(list) = read(rt.alloc(), b"[attr]m x\n* m") {
-        assert!(rt; are_without_numbers(&list));
-    }
+    assert!(rt; is_without_numbers_if_read(rt.alloc(), b"[attr]m x\n* m"));
     expect_new_metadata(&rt, rt.alloc());
     assert_eq!(rt; AttributeId::default().0, 18_446_744_073_709_551_615);
     let id = Some(AttributeId(5));

@@ -58,12 +58,6 @@ pub(super) fn is_name_copied(alloc: Global, borrowed: NameRef<'_>) -> Result<boo
     Ok((owned.as_ref() == borrowed) & (copy == owned))
 }
 
-#[test]
-fn names_are_copied(rt: HostRuntime) -> Result<(), Fail> {
-    assert!(rt; is_name_copied(rt.alloc(), name_of("diff")?)?);
-    Ok(())
-}
-
 fn printed(alloc: Global, borrowed: NameRef<'_>) -> Result<String, AllocError> {
     let owned = borrowed.to_owned(alloc)?;
     format!(in alloc; "{borrowed:?} {owned:?} {}", owned.as_str())
@@ -120,24 +114,12 @@ pub(super) fn is_state_copied(alloc: Global, borrowed: StateRef<'_>) -> Result<b
     Ok((owned.as_ref() == borrowed) & (copy == owned))
 }
 
-#[test]
-fn states_are_copied(rt: HostRuntime) -> Result<(), AllocError> {
-    assert!(rt; is_state_copied(rt.alloc(), StateRef::from_bytes(b"true"))?);
-    Ok(())
-}
-
 /// Whether a value of this text, an owned one, and a copy are equal.
 pub(super) fn is_value_copied(alloc: Global, text: &str) -> Result<bool, AllocError> {
     let value = Value::from_str_in(alloc, text)?;
     let owned = ValueRef::from(text).to_owned(alloc)?;
     let copy = value.clone(alloc)?;
     Ok((value.as_ref() == ValueRef::from(text)) & (owned == value) & (copy == value))
-}
-
-#[test]
-fn values_are_copied(rt: HostRuntime) -> Result<(), AllocError> {
-    assert!(rt; is_value_copied(rt.alloc(), "true")?);
-    Ok(())
 }
 
 /// Whether an owned assignment and its copy are equal to the borrowed one.
@@ -151,10 +133,23 @@ pub(super) fn is_assignment_copied(
 }
 
 #[test]
-fn assignments_are_copied(rt: HostRuntime) -> Result<(), Fail> {
+fn copies_are_equal(rt: HostRuntime) -> Result<(), Fail> {
     let (name, state) = (name_of("eol")?, StateRef::from_bytes(b"lf"));
+    assert!(rt; is_name_copied(rt.alloc(), name_of("diff")?)?);
+    assert!(rt; is_state_copied(rt.alloc(), StateRef::from_bytes(b"true"))?);
+    assert!(rt; is_value_copied(rt.alloc(), "true")?);
     assert!(rt; is_assignment_copied(rt.alloc(), AssignmentRef { name, state })?);
-    let text = format!(in rt.alloc(); "{}", AssignmentRef { name, state })?;
+    Ok(())
+}
+
+fn printed_assignment(alloc: Global, borrowed: AssignmentRef<'_>) -> Result<String, AllocError> {
+    format!(in alloc; "{borrowed}")
+}
+
+#[test]
+fn assignments_are_printed(rt: HostRuntime) -> Result<(), Fail> {
+    let (name, state) = (name_of("eol")?, StateRef::from_bytes(b"lf"));
+    let text = printed_assignment(rt.alloc(), AssignmentRef { name, state })?;
     assert_eq!(rt; text.as_str(), "eol=lf");
     Ok(())
 }

@@ -338,14 +338,17 @@ fn a_new_list_gets_the_least_free_id(rt: HostRuntime) -> Result<(), AllocError> 
     expect_least_free_ids(&rt, rt.alloc(), &mut table)
 }
 
+fn expect_name(rt: &impl Abort, table: &NameTable, number: usize, name: Option<&str>) {
+    assert_eq!(rt; table.name(number), name);
+}
+
 #[test]
 fn a_number_has_a_name(rt: HostRuntime) -> Result<(), AllocError> {
     let mut table = table(rt.alloc())?;
     added(rt.alloc(), &mut table, "[attr]m x y\n* z x\n[attr]y q")?;
-    assert_eq!(rt;
-        (table.name(0), table.name(4), table.name(5)),
-        (Some("m"), Some("q"), None)
-    );
+    expect_name(&rt, &table, 0, Some("m"));
+    expect_name(&rt, &table, 4, Some("q"));
+    expect_name(&rt, &table, 5, None);
     Ok(())
 }
 

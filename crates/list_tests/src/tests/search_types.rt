@@ -6,8 +6,8 @@ use smallvec::SmallVec;
 use std::alloc::{AllocError, Global};
 use std::test::Fail;
 
-/// An item with a number.
-pub(super) fn tracked(
+// An item with a number.
+fn tracked(
     alloc: Global,
     id: usize,
     borrowed: AssignmentRef<'_>,
@@ -47,24 +47,31 @@ fn kinds_have_their_source(rt: HostRuntime) {
     assert_eq!(rt; (attribute.source_id(), definition.source_id()), (id, None));
 }
 
-// Whether an item is before the later one, and whether it is equal to its copy.
+/// Whether the copy of an item with this number is equal to it.
+pub(super) fn is_item_copied(
+    alloc: Global,
+    id: usize,
+    borrowed: AssignmentRef<'_>,
+) -> Result<bool, AllocError> {
+    let item = tracked(alloc, id, borrowed)?;
+    Ok(item.clone(alloc)? == item)
+}
+
 fn is_before(
     alloc: Global,
     (id, item): (usize, AssignmentRef<'_>),
     (later_id, later): (usize, AssignmentRef<'_>),
-) -> Result<(bool, bool), AllocError> {
+) -> Result<bool, AllocError> {
     let item = tracked(alloc, id, item)?;
-    let is_copied = item.clone(alloc)? == item;
-    let later = tracked(alloc, later_id, later)?;
-    Ok((item < later, is_copied))
+    Ok(item < tracked(alloc, later_id, later)?)
 }
 
 // By number first.
 #[test]
 fn items_are_ordered(rt: HostRuntime) -> Result<(), Fail> {
     let (item, later) = (set("b")?, set("a")?);
-    let found = is_before(rt.alloc(), (1, item), (2, later))?;
-    assert_eq!(rt; found, (true, true));
+    assert!(rt; is_before(rt.alloc(), (1, item), (2, later))?);
+    assert!(rt; is_item_copied(rt.alloc(), 1, item)?);
     Ok(())
 }
 
