@@ -1,42 +1,31 @@
 //! Calls that succeed when they are repeated, after any one request for memory was refused.
 //!
 //! `tests/refused_memory.sh` refuses each request of a test in turn; the repeated call then has memory.
-use super::lines::lines_of;
-use super::numbers::{copied as copied_table, first_number, is_removed, push_names, table};
+//!
+//! A function that owns a value takes long to prove, once more for each place where it can end. So what compares
+//! borrows, and what owns ends in few places.
+use super::lines::{are_kinds_copied, lines_of};
+use super::names::{
+    is_assignment_copied, is_name_copied, is_state_copied, is_value_copied, name_of, refused,
+};
+use super::numbers::{add, copied as copied_table, first_number, push_names, remove, table};
+use super::search_types::is_item_copied;
 use attr_glob::search::Pattern as _;
 use attr_glob::search::pattern::Mapping;
 use attr_lists::name_table::NameTable;
 use attr_lists::parser::{macros_valid, without_macros};
-use attr_lists::types::{
-    AttributeId, Attributes, MatchKind, Metadata, TrackedAssignment, Value as Line,
-};
+use attr_lists::types::{AttributeId, Attributes, MatchKind, Metadata, Value as Line};
 use attr_text::parse::{AttrError, Error, Iter, Kind, Lines, parse};
-use attr_text::state::{Value, ValueRef};
-use attr_text::{Assignment, AssignmentRef, NameRef, State, StateRef, name};
+use attr_text::state::ValueRef;
+use attr_text::{AssignmentRef, NameRef, StateRef};
 use bstr::BStr;
 use std::alloc::{AllocError, Global};
 use std::process::Abort;
 use std::test::Fail;
 
-fn owned_value(alloc: Global, text: &str) -> Result<Value, AllocError> {
-    let value = Value::from_str_in(alloc, text)?.clone(alloc)?;
-    value.as_ref().to_owned(alloc)
-}
-
-fn is_name_copied(alloc: Global, borrowed: NameRef<'_>) -> Result<bool, AllocError> {
-    let copy = borrowed.to_owned(alloc)?.clone(alloc)?;
-    Ok(copy.as_ref() == borrowed)
-}
-
-fn is_state_copied(alloc: Global, borrowed: StateRef<'_>) -> Result<bool, AllocError> {
-    let copy = borrowed.to_owned(alloc)?.clone(alloc)?;
-    Ok(copy.as_ref() == borrowed)
-}
-
-fn copied(alloc: Global, borrowed: AssignmentRef<'_>) -> Result<bool, AllocError> {
-    let copy = borrowed.to_owned(alloc)?.clone(alloc)?;
+fn is_copied(alloc: Global, borrowed: AssignmentRef<'_>) -> Result<bool, AllocError> {
     Ok(
-        copy.as_ref() == borrowed
+        is_assignment_copied(alloc, borrowed)?
             && is_name_copied(alloc, borrowed.name)?
             && is_state_copied(alloc, borrowed.state)?,
     )
@@ -44,14 +33,11 @@ fn copied(alloc: Global, borrowed: AssignmentRef<'_>) -> Result<bool, AllocError
 
 #[test]
 fn without_memory_items_are_copied_again(rt: HostRuntime) -> Result<(), Fail> {
-    let alloc = rt.alloc();
-    let borrowed = AssignmentRef {
-        name: NameRef::try_from(BStr::from("eol"))?,
-        state: StateRef::from_bytes(b"a value of more than a few bytes"),
-    };
-    assert!(rt; copied(alloc, borrowed).or_else(|_| copied(alloc, borrowed))?);
-    let value = owned_value(alloc, "lf").or_else(|_| owned_value(alloc, "lf"))?;
-    assert!(rt; value.as_ref() == ValueRef::from("lf"));
+    let (alloc, name) = (rt.alloc(), name_of("eol")?);
+    let state = StateRef::from_bytes(b"a value of more than a few bytes");
+    let borrowed = AssignmentRef { name, state };
+    assert!(rt; is_copied(alloc, borrowed).or_else(|_| is_copied(alloc, borrowed))?);
+    assert!(rt; is_value_copied(alloc, "lf").or_else(|_| is_value_copied(alloc, "lf"))?);
     Ok(())
 }
 
@@ -61,38 +47,30 @@ fn without_memory_lines_are_read_again(rt: HostRuntime) -> Result<(), AllocError
     let lines = lines_of(alloc, text).or_else(|_| lines_of(alloc, text))?;
     assert_eq!(rt;
         lines.as_str(),
-        "1 pattern a\tb [x];Line 2 has a negative pattern, for literal characters use \\!;\
+        "1 pattern a\tb [x];Line 2 has a negative pattern, for literal characters use \\! (!a);\
          3 macro m [y];4 pattern * [z];"
     );
     Ok(())
 }
 
-#[test]
-fn without_memory_quotes_are_never_read_as_they_are(rt: HostRuntime) {
-    let mut lines = parse(rt.alloc(), b"\"a\\tb\" x\n* y");
+// Whether the first line has the pattern `a<TAB>b`, or there is no memory and so no further line.
+fn is_unquoted(lines: &mut Lines<'_>) -> bool {
     match lines.next() {
         Some(Ok((Kind::Pattern(pattern), _, 1))) => {
-            assert_eq!(rt; pattern.text.as_slice(), b"a\tb".as_slice())
+            pattern.text.as_slice() == b"a\tb".as_slice()
         }
-        Some(Err(Error::OutOfMemory)) => {
-            assert!(rt; lines.next().is_none());
-            assert!(rt; lines.next().is_none());
-        }
-        _ => panic!(rt; "the line has its pattern, or there is no memory"),
+        Some(Err(Error::OutOfMemory)) => lines.next().is_none() && lines.next().is_none(),
+        _ => false,
     }
 }
 
-// The kinds of the lines, none of which is refused.
-fn are_kinds_copied(alloc: Global, text: &[u8]) -> Result<bool, AllocError> {
-    for line in parse(alloc, text) {
-        let Ok((kind, _, _)) = line else {
-            return Err(AllocError);
-        };
-        if kind.clone(alloc)? != kind {
-            return Ok(false);
-        }
-    }
-    Ok(true)
+#[test]
+fn without_memory_quotes_are_never_read_as_they_are(rt: HostRuntime) {
+    let mut lines = parse(rt.alloc(), b"\"a\\tb\" x\n* y");
+    assert!(rt;
+        is_unquoted(&mut lines),
+        "the line has its pattern, or there is no memory"
+    );
 }
 
 #[test]
@@ -102,20 +80,12 @@ fn without_memory_kinds_are_copied_again(rt: HostRuntime) -> Result<(), AllocErr
     Ok(())
 }
 
-fn is_item_copied(alloc: Global, name: NameRef<'_>) -> Result<bool, AllocError> {
-    let name = name.to_owned(alloc)?;
-    let state = State::Value(Value::from_str_in(alloc, "a value of more than a few bytes")?);
-    let item = TrackedAssignment {
-        id: AttributeId(5),
-        inner: Assignment { name, state },
-    };
-    Ok(item.clone(alloc)? == item)
-}
-
 #[test]
 fn without_memory_numbered_items_are_copied_again(rt: HostRuntime) -> Result<(), Fail> {
-    let (alloc, name) = (rt.alloc(), NameRef::try_from(BStr::from("eol"))?);
-    assert!(rt; is_item_copied(alloc, name).or_else(|_| is_item_copied(alloc, name))?);
+    let (alloc, name) = (rt.alloc(), name_of("eol")?);
+    let state = StateRef::from_bytes(b"a value of more than a few bytes");
+    let item = AssignmentRef { name, state };
+    assert!(rt; is_item_copied(alloc, 5, item).or_else(|_| is_item_copied(alloc, 5, item))?);
     Ok(())
 }
 
@@ -129,27 +99,39 @@ fn read(alloc: Global, text: &[u8]) -> Result<Vec<Mapping<Line>>, AllocError> {
     }
 }
 
+fn expect_text_in_quotes(rt: &impl Abort, list: &[Mapping<Line>]) {
+    assert_eq!(rt; list.len(), 2);
+    assert_eq!(rt; list[0].pattern.text.as_slice(), b"a\tb".as_slice());
+}
+
 #[test]
 fn without_memory_lists_have_the_text_in_quotes(rt: HostRuntime) -> Result<(), AllocError> {
     let (alloc, text) = (rt.alloc(), b"\"a\\tb\" x\n* y");
     let list = read(alloc, text).or_else(|_| read(alloc, text))?;
-    assert_eq!(rt; list.len(), 2);
-    assert_eq!(rt; list[0].pattern.text.as_slice(), b"a\tb".as_slice());
+    expect_text_in_quotes(&rt, &list);
     Ok(())
 }
 
+fn has_copy(
+    alloc: Global,
+    table: &NameTable,
+    list_id: usize,
+    list: &[Mapping<Line>],
+) -> Result<bool, AllocError> {
+    let copy = copied_table(alloc, table)?;
+    Ok(copy.holds(list_id, list) && copy.number_of("x") == Some(1))
+}
+
 // Adds a list to a table, and returns whether a copy of the table has the list.
-fn is_numbered(alloc: Global, text: &[u8]) -> Result<bool, AllocError> {
-    let (mut list, _) = Attributes.bytes_to_patterns(alloc, text, "")?;
+fn is_numbered(alloc: Global, text: &str) -> Result<bool, AllocError> {
     let mut table = table(alloc)?;
-    let list_id = table.add(alloc, &mut list)?;
-    let copy = copied_table(alloc, &table)?;
-    Ok(copy.holds(list_id, &list) && copy.number_of("x") == Some(1))
+    let (list_id, list) = add(alloc, &mut table, text)?;
+    has_copy(alloc, &table, list_id, &list)
 }
 
 #[test]
 fn without_memory_lists_are_numbered_again(rt: HostRuntime) -> Result<(), AllocError> {
-    let (alloc, text) = (rt.alloc(), b"[attr]m x y=1 z w\n* m x");
+    let (alloc, text) = (rt.alloc(), "[attr]m x y=1 z w\n* m x");
     assert!(rt; is_numbered(alloc, text).or_else(|_| is_numbered(alloc, text))?);
     Ok(())
 }
@@ -206,6 +188,17 @@ fn expect_added(
     expect_names(rt, alloc, table, after)
 }
 
+fn expect_both_added(
+    rt: &impl Abort,
+    alloc: Global,
+    table: &mut NameTable,
+    first: &mut [Mapping<Line>],
+    second: &mut [Mapping<Line>],
+) -> Result<(), AllocError> {
+    expect_added(rt, alloc, table, first, ("", "m 1;x;"))?;
+    expect_added(rt, alloc, table, second, ("m 1;x;", "m 2 3;x;y;z;n 0;"))
+}
+
 #[test]
 fn without_memory_names_and_bodies_stay(rt: HostRuntime) -> Result<(), AllocError> {
     let alloc = rt.alloc();
@@ -216,9 +209,7 @@ fn without_memory_names_and_bodies_stay(rt: HostRuntime) -> Result<(), AllocErro
     ) else {
         return Ok(());
     };
-    expect_added(&rt, alloc, &mut table, &mut first, ("", "m 1;x;"))?;
-    let names = ("m 1;x;", "m 2 3;x;y;z;n 0;");
-    expect_added(&rt, alloc, &mut table, &mut second, names)
+    expect_both_added(&rt, alloc, &mut table, &mut first, &mut second)
 }
 
 fn are_lines_copied(alloc: Global, list: &[Mapping<Line>]) -> Result<bool, AllocError> {
@@ -239,170 +230,238 @@ fn are_bodies_copied(alloc: Global, table: &NameTable) -> Result<bool, AllocErro
     Ok(true)
 }
 
-fn are_copied(alloc: Global, text: &[u8]) -> Result<bool, AllocError> {
-    let (mut list, _) = Attributes.bytes_to_patterns(alloc, text, "")?;
+fn are_copied(alloc: Global, text: &str) -> Result<bool, AllocError> {
     let mut table = table(alloc)?;
-    let _ = table.add(alloc, &mut list)?;
+    let (_, list) = add(alloc, &mut table, text)?;
     Ok(are_lines_copied(alloc, &list)? && are_bodies_copied(alloc, &table)?)
 }
 
 #[test]
 fn without_memory_bodies_are_copied_again(rt: HostRuntime) -> Result<(), AllocError> {
-    let (alloc, text) = (rt.alloc(), b"[attr]m x y=1 z w\n* m x");
+    let (alloc, text) = (rt.alloc(), "[attr]m x y=1 z w\n* m x");
     assert!(rt; are_copied(alloc, text).or_else(|_| are_copied(alloc, text))?);
     Ok(())
 }
 
 // The calls below take no memory. What they are called on is made before, or the test is over.
 
+// Whether the copy of a name has this text, if there is memory for a copy.
+fn has_text_if_copied(alloc: Global, name: NameRef<'_>, text: &str) -> bool {
+    match name.to_owned(alloc) {
+        Ok(owned) => owned.as_str() == text && owned.as_ref() == name,
+        Err(_) => true,
+    }
+}
+
+fn expect_name(rt: &impl Abort, alloc: Global, name: NameRef<'_>, text: &str) {
+    assert_eq!(rt; name.as_str(), text);
+    assert!(rt; has_text_if_copied(alloc, name, text), "{text}");
+}
+
+const NAMES: &[&str] = &["Az9-._", "builtin_x", "eol"];
+
 #[test]
-fn without_memory_names_are_read(rt: HostRuntime) {
-    match NameRef::try_from(BStr::from("-a")) {
-        Err(name::Error::InvalidName(input)) => assert!(rt; input == BStr::from("-a")),
-        Ok(_) => panic!(rt; "a name does not begin with a hyphen"),
+fn without_memory_names_are_read(rt: HostRuntime) -> Result<(), Fail> {
+    assert_eq!(rt; refused(b"-a"), Some(BStr::from("-a")));
+    for text in NAMES {
+        expect_name(&rt, rt.alloc(), name_of(text)?, text);
     }
-    for text in ["Az9-._", "builtin_x", "eol"] {
-        let Ok(name) = NameRef::try_from(BStr::from(text)) else {
-            panic!(rt; "the name is valid");
-        };
-        assert_eq!(rt; name.as_str(), text);
-        if let Ok(owned) = name.to_owned(rt.alloc()) {
-            assert!(rt; owned.as_str() == text && owned.as_ref() == name);
-        }
+    Ok(())
+}
+
+fn is_equal_if_copied(alloc: Global, state: StateRef<'_>) -> bool {
+    match state.to_owned(alloc) {
+        Ok(owned) => owned.as_ref() == state,
+        Err(_) => true,
     }
+}
+
+// Expects a state to be set, unset or unspecified, and to have this value.
+fn expect_state(
+    rt: &impl Abort,
+    alloc: Global,
+    state: StateRef<'_>,
+    answers: (bool, bool, bool),
+    value: Option<BStr<'_>>,
+) {
+    let found = (state.is_set(), state.is_unset(), state.is_unspecified());
+    assert_eq!(rt; (found, state.as_bstr()), (answers, value));
+    assert!(rt; is_equal_if_copied(alloc, state));
 }
 
 #[test]
 fn without_memory_states_answer(rt: HostRuntime) {
+    let (alloc, lf) = (rt.alloc(), BStr::from("lf"));
+    expect_state(&rt, alloc, StateRef::Set, (true, false, false), None);
+    expect_state(&rt, alloc, StateRef::Unset, (false, true, false), None);
+    expect_state(
+        &rt,
+        alloc,
+        StateRef::Unspecified,
+        (false, false, true),
+        None,
+    );
     let value = StateRef::from_bytes(b"lf");
-    for (state, is_set, is_unset, is_unspecified) in [
-        (StateRef::Set, true, false, false),
-        (StateRef::Unset, false, true, false),
-        (StateRef::Unspecified, false, false, true),
-        (value, true, false, false),
-    ] {
-        assert!(rt; state.is_set() == is_set && state.is_unset() == is_unset);
-        assert!(rt; state.is_unspecified() == is_unspecified);
-        assert!(rt; state.as_bstr().is_some() == (state == value));
-        if let Ok(owned) = state.to_owned(rt.alloc()) {
-            assert!(rt; owned.as_ref() == state);
-        }
+    expect_state(&rt, alloc, value, (true, false, false), Some(lf));
+}
+
+fn is_value_equal_if_copied(alloc: Global, value: ValueRef<'_>) -> bool {
+    match value.to_owned(alloc) {
+        Ok(owned) => owned.as_ref() == value,
+        Err(_) => true,
     }
-    assert!(rt; value.as_bstr() == Some(BStr::from("lf")));
+}
+
+fn is_assignment_equal_if_copied(alloc: Global, borrowed: AssignmentRef<'_>) -> bool {
+    match borrowed.to_owned(alloc) {
+        Ok(owned) => owned.as_ref() == borrowed,
+        Err(_) => true,
+    }
 }
 
 #[test]
-fn without_memory_values_and_assignments_answer(rt: HostRuntime) {
+fn without_memory_values_and_assignments_answer(rt: HostRuntime) -> Result<(), Fail> {
     let value = ValueRef::from("lf");
     assert!(rt; ValueRef::from_bytes(b"lf") == value && value.as_bstr() == BStr::from("lf"));
-    if let Ok(owned) = value.to_owned(rt.alloc()) {
-        assert!(rt; owned.as_ref() == value);
-    }
-    let Ok(name) = NameRef::try_from(BStr::from("eol")) else {
-        panic!(rt; "the name is valid");
-    };
-    let state = StateRef::Value(value);
-    let borrowed = AssignmentRef { name, state };
-    if let Ok(owned) = borrowed.to_owned(rt.alloc()) {
-        assert!(rt; owned.as_ref() == borrowed);
+    assert!(rt; is_value_equal_if_copied(rt.alloc(), value));
+    let (name, state) = (name_of("eol")?, StateRef::Value(value));
+    assert!(rt; is_assignment_equal_if_copied(rt.alloc(), AssignmentRef { name, state }));
+    Ok(())
+}
+
+fn next_item<'a>(items: &mut Iter<'a>) -> Option<(&'a str, StateRef<'a>)> {
+    match items.next() {
+        Some(Ok(item)) => Some((item.name.as_str(), item.state)),
+        _ => None,
     }
 }
 
-// The items of a text, up to the first that is refused.
-fn expect_items<'a>(
-    rt: &impl Abort,
-    items: &mut Iter<'a>,
-    answers: &[(&str, StateRef<'_>)],
-) -> Option<AttrError<'a>> {
-    for (name, state) in answers {
-        match items.next() {
-            Some(Ok(item)) => assert!(rt; item.name.as_str() == *name && item.state == *state),
-            _ => panic!(rt; "there is an item"),
-        }
+/// What is wrong with a name.
+#[derive(Debug, Clone, Copy, PartialEq, Eq)]
+enum Wrong {
+    Invalid,
+    Reserved,
+}
+
+// The name of the next item, which is refused.
+fn next_refused<'a>(items: &mut Iter<'a>) -> Option<(Wrong, BStr<'a>)> {
+    match items.next() {
+        Some(Err(AttrError::InvalidName(input))) => Some((Wrong::Invalid, input)),
+        Some(Err(AttrError::Reserved(input))) => Some((Wrong::Reserved, input)),
+        _ => None,
     }
-    items.next()?.err()
+}
+
+fn expect_item(rt: &impl Abort, items: &mut Iter<'_>, name: &str, state: StateRef<'_>) {
+    assert_eq!(rt; next_item(items), Some((name, state)));
+}
+
+fn expect_refused(rt: &impl Abort, items: &mut Iter<'_>, wrong: Wrong, name: &str) {
+    assert_eq!(rt; next_refused(items), Some((wrong, BStr::from(name))));
+}
+
+fn expect_items(rt: &impl Abort, items: &mut Iter<'_>) {
+    expect_item(rt, items, "a", StateRef::from_bytes(b"b=c"));
+    expect_item(rt, items, "foo", StateRef::from_bytes(b"true"));
+    expect_item(rt, items, "foo", StateRef::Unset);
+    expect_item(rt, items, "x", StateRef::from_bytes(b""));
+    expect_refused(rt, items, Wrong::Invalid, "");
+    expect_refused(rt, items, Wrong::Invalid, "-a");
+    expect_refused(rt, items, Wrong::Reserved, "builtin_x");
+    expect_item(rt, items, "y", StateRef::Unspecified);
+    assert!(rt; items.next().is_none() && items.next().is_none());
 }
 
 #[test]
 fn without_memory_items_are_read(rt: HostRuntime) {
     let text = b"a=b=c foo=true -foo=bar x= =x --a builtin_x !y";
-    let Ok(text) = Vec::from_slice(rt.alloc(), text) else {
-        return;
-    };
-    let mut items = Iter::new(BStr::new(&text));
-    let answers = [
-        ("a", StateRef::from_bytes(b"b=c")),
-        ("foo", StateRef::from_bytes(b"true")),
-        ("foo", StateRef::Unset),
-        ("x", StateRef::from_bytes(b"")),
-    ];
-    let error = expect_items(&rt, &mut items, &answers);
-    assert!(rt; matches!(error, Some(AttrError::InvalidName(input)) if input == BStr::from("")));
-    let error = expect_items(&rt, &mut items, &[]);
-    assert!(rt; matches!(error, Some(AttrError::InvalidName(input)) if input == BStr::from("-a")));
-    let error = expect_items(&rt, &mut items, &[]);
-    let reserved = BStr::from("builtin_x");
-    assert!(rt; matches!(error, Some(AttrError::Reserved(input)) if input == reserved));
-    let answers = [("y", StateRef::Unspecified)];
-    assert!(rt; expect_items(&rt, &mut items, &answers).is_none());
-    assert!(rt; items.next().is_none());
+    if let Ok(text) = Vec::from_slice(rt.alloc(), text) {
+        expect_items(&rt, &mut Iter::new(BStr::new(&text)));
+    }
+}
+
+fn expect_no_line(rt: &impl Abort, alloc: Global, text: &[u8]) {
+    assert!(rt; parse(alloc, text).next().is_none());
+    assert!(rt; Lines::new(alloc, text).next().is_none());
 }
 
 // Nothing is asked for before the first line that has a result.
 #[test]
 fn without_memory_lines_are_counted(rt: HostRuntime) {
     if let Ok(text) = Vec::from_slice(rt.alloc(), b"\xEF\xBB\xBF# c\n\n \t\r\n") {
-        assert!(rt; parse(rt.alloc(), &text).next().is_none());
-        assert!(rt; Lines::new(rt.alloc(), &text).next().is_none());
+        expect_no_line(&rt, rt.alloc(), &text);
     }
+}
+
+fn is_without_numbers_if_read(alloc: Global, text: &[u8]) -> bool {
+    match read(alloc, text) {
+        Ok(list) => are_without_numbers(&list),
+        Err(_) => true,
+    }
+}
+
+fn expect_new_metadata(rt: &impl Abort, alloc: Global) {
+    let metadata = Metadata::of(alloc, AttributeId(2));
+    assert_eq!(rt;
+        (metadata.id, metadata.macro_attributes.len()),
+        (AttributeId(2), 0)
+    );
 }
 
 #[test]
 fn without_memory_numbers_answer(rt: HostRuntime) {
-    let Ok(list) = read(rt.alloc(), b"[attr]m x\n* m") else {
-        return;
-    };
-    assert!(rt; are_without_numbers(&list));
-    let metadata = Metadata::of(rt.alloc(), AttributeId(2));
-    assert!(rt; metadata.id == AttributeId(2) && metadata.macro_attributes.is_empty());
-    assert!(rt; AttributeId::default().0 == 18_446_744_073_709_551_615);
+    assert!(rt; is_without_numbers_if_read(rt.alloc(), b"[attr]m x\n* m"));
+    expect_new_metadata(&rt, rt.alloc());
+    assert_eq!(rt; AttributeId::default().0, 18_446_744_073_709_551_615);
     let id = Some(AttributeId(5));
-    assert!(rt; MatchKind::Attribute { macro_id: id }.source_id() == id);
-    assert!(rt;
-        MatchKind::Macro {
-            parent_macro_id: id
-        }
-        .source_id()
-            == id
+    let attribute = MatchKind::Attribute { macro_id: id };
+    let definition = MatchKind::Macro {
+        parent_macro_id: id,
+    };
+    let first = MatchKind::Macro {
+        parent_macro_id: None,
+    };
+    assert_eq!(rt;
+        (
+            attribute.source_id(),
+            definition.source_id(),
+            first.source_id()
+        ),
+        (id, id, None)
     );
-    assert!(rt;
-        MatchKind::Macro {
-            parent_macro_id: None
-        }
-        .source_id()
-        .is_none()
+}
+
+// Expects the names `m` and `x`, and this first number in the body of `m`.
+fn expect_m_and_x(rt: &impl Abort, table: &NameTable, first: Option<usize>) {
+    assert_eq!(rt; (table.number_of("x"), table.len()), (Some(1), 2));
+    assert_eq!(rt;
+        (first_number(table, "m"), first_number(table, "x")),
+        (first, None)
     );
 }
 
 fn expect_removed(rt: &impl Abort, table: &mut NameTable, list_id: usize, list: &[Mapping<Line>]) {
-    assert!(rt; first_number(table, "m") == Some(1) && first_number(table, "x").is_none());
-    assert!(rt; is_removed(table, list_id, list));
-    assert!(rt; first_number(table, "m").is_none() && !table.holds(list_id, list));
-    assert!(rt; table.number_of("x") == Some(1) && table.len() == 2);
+    expect_m_and_x(rt, table, Some(1));
+    remove(rt, table, list_id, list);
+    expect_m_and_x(rt, table, None);
+    assert!(rt; !table.holds(list_id, list));
+}
+
+fn expect_added_and_removed(rt: &impl Abort, alloc: Global, table: &mut NameTable) {
+    assert!(rt; table.len() == 0 && table.iter().next().is_none());
+    let Ok(mut list) = read(alloc, b"[attr]m x\n* m") else {
+        return;
+    };
+    assert!(rt; macros_valid(&list));
+    if let Ok(list_id) = table.add(alloc, &mut list) {
+        expect_removed(rt, table, list_id, &list);
+        assert_eq!(rt; without_macros(list).len(), 1);
+    }
 }
 
 #[test]
 fn without_memory_lists_are_removed(rt: HostRuntime) {
-    let Ok(mut table) = table(rt.alloc()) else {
-        return;
-    };
-    assert!(rt; table.len() == 0 && table.iter().next().is_none());
-    let Ok(mut list) = read(rt.alloc(), b"[attr]m x\n* m") else {
-        return;
-    };
-    assert!(rt; macros_valid(&list));
-    if let Ok(list_id) = table.add(rt.alloc(), &mut list) {
-        expect_removed(&rt, &mut table, list_id, &list);
-        assert_eq!(rt; without_macros(list).len(), 1);
+    if let Ok(mut table) = table(rt.alloc()) {
+        expect_added_and_removed(&rt, rt.alloc(), &mut table);
     }
 }

@@ -1,30 +1,49 @@
 //! Names, states and assignments: conversions, comparisons and printed forms.
+//!
+//! A function that owns a copy takes long to prove, once more for each place where it can end. So the functions that
+//! own one end in few places.
 use attr_text::state::{Value, ValueRef};
 use attr_text::{AssignmentRef, Name, NameRef, StateRef, name};
 use bstr::BStr;
-use std::alloc::AllocError;
+use std::alloc::{AllocError, Global};
+use std::process::Abort;
 use std::rc::RcStr;
 use std::test::Fail;
 
+/// The name with this text.
+pub(super) fn name_of(text: &str) -> Result<NameRef<'_>, Fail> {
+    Ok(NameRef::try_from(BStr::from(text))?)
+}
+
+/// What the refusal of a name says is refused, or none if the name is valid.
+pub(super) fn refused(text: &[u8]) -> Option<BStr<'_>> {
+    match NameRef::try_from(BStr::new(text)) {
+        Ok(_) => None,
+        Err(name::Error::InvalidName(input)) => Some(input),
+    }
+}
+
+const VALID: &[&[u8]] = &[b"a", b"Az9-._", b"builtin_x"];
+
+const INVALID: &[&[u8]] = &[b"", b"-a", b"a b", b"\xFF"];
+
 #[test]
 fn valid_names(rt: HostRuntime) {
-    assert!(rt; NameRef::try_from(BStr::from("a")).is_ok());
-    assert!(rt; NameRef::try_from(BStr::from("Az9-._")).is_ok());
-    assert!(rt; NameRef::try_from(BStr::from("builtin_x")).is_ok());
-    assert!(rt; NameRef::try_from(BStr::from("")).is_err());
-    assert!(rt; NameRef::try_from(BStr::from("-a")).is_err());
-    assert!(rt; NameRef::try_from(BStr::from("a b")).is_err());
-    assert!(rt; NameRef::try_from(BStr::new(b"\xFF")).is_err());
+    for text in VALID {
+        assert_eq!(rt; refused(text), None);
+    }
 }
 
 #[test]
-fn a_refusal_has_its_input(rt: HostRuntime) -> Result<(), Fail> {
-    match NameRef::try_from(BStr::from("-a")) {
-        Err(name::Error::InvalidName(input)) => assert!(rt; input == BStr::from("-a")),
-        Ok(_) => panic!(rt; "a name does not begin with a hyphen"),
+fn a_refusal_has_its_input(rt: HostRuntime) {
+    for text in INVALID {
+        assert_eq!(rt; refused(text), Some(BStr::new(text)));
     }
-    let error = name::Error::InvalidName(BStr::from("-a"));
-    let text = format!(in rt.alloc(); "{error}")?;
+}
+
+#[test]
+fn a_refusal_has_its_text(rt: HostRuntime) -> Result<(), AllocError> {
+    let text = format!(in rt.alloc(); "{}", name::Error::InvalidName(BStr::from("-a")))?;
     assert_eq!(rt;
         text.as_str(),
         "Attribute has non-ascii characters or starts with '-'"
@@ -32,34 +51,46 @@ fn a_refusal_has_its_input(rt: HostRuntime) -> Result<(), Fail> {
     Ok(())
 }
 
+/// Whether an owned name and its copy are equal to the borrowed one.
+pub(super) fn is_name_copied(alloc: Global, borrowed: NameRef<'_>) -> Result<bool, AllocError> {
+    let owned = borrowed.to_owned(alloc)?;
+    let copy = owned.clone(alloc)?;
+    Ok((owned.as_ref() == borrowed) & (copy == owned))
+}
+
+fn printed(alloc: Global, borrowed: NameRef<'_>) -> Result<String, AllocError> {
+    let owned = borrowed.to_owned(alloc)?;
+    format!(in alloc; "{borrowed:?} {owned:?} {}", owned.as_str())
+}
+
 #[test]
-fn names_are_copied(rt: HostRuntime) -> Result<(), Fail> {
-    let borrowed = NameRef::try_from(BStr::from("diff"))?;
-    let owned = borrowed.to_owned(rt.alloc())?;
-    assert_eq!(rt; owned.as_str(), "diff");
-    assert!(rt; owned.as_ref() == borrowed);
-    assert!(rt; owned.clone(rt.alloc())? == owned);
-    let text = format!(in rt.alloc(); "{borrowed:?} {owned:?}")?;
-    assert_eq!(rt; text.as_str(), "NameRef(\"diff\") Name(\"diff\")");
+fn names_are_printed(rt: HostRuntime) -> Result<(), Fail> {
+    let text = printed(rt.alloc(), name_of("diff")?)?;
+    assert_eq!(rt; text.as_str(), "NameRef(\"diff\") Name(\"diff\") diff");
+    Ok(())
+}
+
+fn expect_made(rt: &impl Abort, alloc: Global, borrowed: NameRef<'_>) -> Result<(), AllocError> {
+    let text = RcStr::from_str(alloc, borrowed.as_str())?;
+    let name = Name::of(text.clone()?);
+    assert_eq!(rt; (name.as_ref(), name.as_str()), (borrowed, text.as_str()));
     Ok(())
 }
 
 #[test]
 fn a_name_is_made_of_a_shared_text(rt: HostRuntime) -> Result<(), Fail> {
-    let borrowed = NameRef::try_from(BStr::from("diff"))?;
-    let text = RcStr::from_str(rt.alloc(), borrowed.as_str())?;
-    let name = Name::of(text.clone()?);
-    assert!(rt; name.as_ref() == borrowed);
-    assert_eq!(rt; name.as_str(), text.as_str());
-    Ok(())
+    Ok(expect_made(&rt, rt.alloc(), name_of("diff")?)?)
+}
+
+fn are_copies_less(alloc: Global, a: NameRef<'_>, b: NameRef<'_>) -> Result<bool, AllocError> {
+    let copy = a.to_owned(alloc)?;
+    Ok(copy < b.to_owned(alloc)?)
 }
 
 #[test]
 fn names_compare_as_their_text(rt: HostRuntime) -> Result<(), Fail> {
-    let a = NameRef::try_from(BStr::from("a"))?;
-    let b = NameRef::try_from(BStr::from("b"))?;
-    assert!(rt; a < b);
-    assert!(rt; a.to_owned(rt.alloc())? < b.to_owned(rt.alloc())?);
+    let (a, b) = (name_of("a")?, name_of("b")?);
+    assert_eq!(rt; (a < b, are_copies_less(rt.alloc(), a, b)?), (true, true));
     Ok(())
 }
 
@@ -76,34 +107,49 @@ fn a_state_of_bytes_is_a_value(rt: HostRuntime) {
     assert!(rt; StateRef::Set.as_bstr().is_none());
 }
 
-#[test]
-fn states_are_copied(rt: HostRuntime) -> Result<(), AllocError> {
-    let value = StateRef::from_bytes(b"true");
-    let owned = value.to_owned(rt.alloc())?;
-    assert!(rt; owned.as_ref() == value);
-    assert!(rt; owned.clone(rt.alloc())? == owned);
-    Ok(())
+/// Whether an owned state and its copy are equal to the borrowed one.
+pub(super) fn is_state_copied(alloc: Global, borrowed: StateRef<'_>) -> Result<bool, AllocError> {
+    let owned = borrowed.to_owned(alloc)?;
+    let copy = owned.clone(alloc)?;
+    Ok((owned.as_ref() == borrowed) & (copy == owned))
+}
+
+/// Whether a value of this text, an owned one, and a copy are equal.
+pub(super) fn is_value_copied(alloc: Global, text: &str) -> Result<bool, AllocError> {
+    let value = Value::from_str_in(alloc, text)?;
+    let owned = ValueRef::from(text).to_owned(alloc)?;
+    let copy = value.clone(alloc)?;
+    Ok((value.as_ref() == ValueRef::from(text)) & (owned == value) & (copy == value))
+}
+
+/// Whether an owned assignment and its copy are equal to the borrowed one.
+pub(super) fn is_assignment_copied(
+    alloc: Global,
+    borrowed: AssignmentRef<'_>,
+) -> Result<bool, AllocError> {
+    let owned = borrowed.to_owned(alloc)?;
+    let copy = owned.clone(alloc)?;
+    Ok((owned.as_ref() == borrowed) & (copy == owned))
 }
 
 #[test]
-fn values_are_copied(rt: HostRuntime) -> Result<(), AllocError> {
-    let text = Value::from_str_in(rt.alloc(), "true")?;
-    assert!(rt; ValueRef::from("true").to_owned(rt.alloc())? == text);
-    assert!(rt; text.as_ref() == ValueRef::from("true"));
-    assert!(rt; text.clone(rt.alloc())? == text);
+fn copies_are_equal(rt: HostRuntime) -> Result<(), Fail> {
+    let (name, state) = (name_of("eol")?, StateRef::from_bytes(b"lf"));
+    assert!(rt; is_name_copied(rt.alloc(), name_of("diff")?)?);
+    assert!(rt; is_state_copied(rt.alloc(), StateRef::from_bytes(b"true"))?);
+    assert!(rt; is_value_copied(rt.alloc(), "true")?);
+    assert!(rt; is_assignment_copied(rt.alloc(), AssignmentRef { name, state })?);
     Ok(())
 }
 
+fn printed_assignment(alloc: Global, borrowed: AssignmentRef<'_>) -> Result<String, AllocError> {
+    format!(in alloc; "{borrowed}")
+}
+
 #[test]
-fn assignments_are_copied(rt: HostRuntime) -> Result<(), Fail> {
-    let borrowed = AssignmentRef {
-        name: NameRef::try_from(BStr::from("eol"))?,
-        state: StateRef::from_bytes(b"lf"),
-    };
-    let owned = borrowed.to_owned(rt.alloc())?;
-    assert!(rt; owned.as_ref() == borrowed);
-    assert!(rt; owned.clone(rt.alloc())? == owned);
-    let text = format!(in rt.alloc(); "{borrowed}")?;
+fn assignments_are_printed(rt: HostRuntime) -> Result<(), Fail> {
+    let (name, state) = (name_of("eol")?, StateRef::from_bytes(b"lf"));
+    let text = printed_assignment(rt.alloc(), AssignmentRef { name, state })?;
     assert_eq!(rt; text.as_str(), "eol=lf");
     Ok(())
 }

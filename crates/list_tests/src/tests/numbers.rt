@@ -6,10 +6,9 @@ use attr_lists::types::{Attributes, TrackedAssignment, Value};
 use std::alloc::{AllocError, Global};
 use std::fmt::Write;
 use std::process::Abort;
-use std::test::Fail;
 
 // Adds the list of a text, and returns it with its list id.
-fn add(
+pub(super) fn add(
     alloc: Global,
     table: &mut NameTable,
     text: &str,
@@ -19,8 +18,14 @@ fn add(
     Ok((list_id, list))
 }
 
+// The list id of the list of a text, which is added.
+fn added(alloc: Global, table: &mut NameTable, text: &str) -> Result<usize, AllocError> {
+    let (list_id, _) = add(alloc, table, text)?;
+    Ok(list_id)
+}
+
 // Removes a list if it is registered.
-pub(super) fn is_removed(table: &mut NameTable, list_id: usize, list: &[Mapping<Value>]) -> bool {
+fn is_removed(table: &mut NameTable, list_id: usize, list: &[Mapping<Value>]) -> bool {
     let is_registered = table.holds(list_id, list);
     if is_registered {
         table.remove(list_id, list);
@@ -35,9 +40,13 @@ pub(super) fn first_number(table: &NameTable, name: &str) -> Option<usize> {
     Some(item.id.0)
 }
 
+fn push_number(out: &mut String, number: usize) -> Result<(), AllocError> {
+    write!(out, " {number}")
+}
+
 fn push_numbers(out: &mut String, items: &[TrackedAssignment]) -> Result<(), AllocError> {
     for item in items {
-        write!(out, " {}", item.id.0)?;
+        push_number(out, item.id.0)?;
     }
     out.push_str(";")
 }
@@ -62,8 +71,8 @@ fn push_list(out: &mut String, list: &[Mapping<Value>]) -> Result<(), AllocError
     Ok(())
 }
 
-// A test owns few values at a time, since each call that may fail has to drop them all in a proof. A table is in a box: a
-// proof drops a box by one call, and what is in none field by field.
+// A test owns few values at a time, since each call that may fail has to drop them all in a proof. So what compares
+// borrows, and a table is in a box: a proof drops a box by one call, and what is in none field by field.
 
 pub(super) fn table(alloc: Global) -> Result<Box<NameTable>, AllocError> {
     Ok(Box::new(alloc, NameTable::new(alloc))?)
@@ -98,6 +107,28 @@ fn expect_numbers(
     Ok(())
 }
 
+// Expects this first number in the body of a name.
+fn expect_first(rt: &impl Abort, table: &NameTable, name: &str, number: Option<usize>) {
+    assert_eq!(rt;
+        first_number(table, name),
+        number,
+        "the first item of {name}"
+    );
+}
+
+// Removes a list, which is registered.
+pub(super) fn remove(
+    rt: &impl Abort,
+    table: &mut NameTable,
+    list_id: usize,
+    list: &[Mapping<Value>],
+) {
+    assert!(rt;
+        is_removed(table, list_id, list),
+        "list {list_id} is registered"
+    );
+}
+
 #[test]
 fn names_get_numbers_in_the_order_of_the_lines(rt: HostRuntime) -> Result<(), AllocError> {
     let mut table = table(rt.alloc())?;
@@ -122,44 +153,64 @@ fn expect_removed(
     row: Removal,
 ) -> Result<(), AllocError> {
     let (list_id, list) = add(alloc, table, row.second)?;
-    assert!(rt; first_number(table, "m") == row.before);
-    assert!(rt; is_removed(table, list_id, &list));
-    assert!(rt; first_number(table, "m") == row.after);
+    expect_first(rt, table, "m", row.before);
+    remove(rt, table, list_id, &list);
+    expect_first(rt, table, "m", row.after);
     Ok(())
 }
 
-fn expect_restored(
-    rt: &impl Abort,
-    alloc: Global,
-    table: &mut NameTable,
-    row: Removal,
-) -> Result<(), AllocError> {
-    let (list_id, list) = add(alloc, table, row.first)?;
-    expect_removed(rt, alloc, table, row)?;
-    assert!(rt; table.holds(list_id, &list));
+fn expect_restored(rt: &impl Abort, alloc: Global, row: Removal) -> Result<(), AllocError> {
+    let mut table = table(alloc)?;
+    let (list_id, list) = add(alloc, &mut table, row.first)?;
+    expect_removed(rt, alloc, &mut table, row)?;
+    assert!(rt; table.holds(list_id, &list), "{}", row.first);
     Ok(())
 }
+
+const REMOVALS: &[Removal] = &[
+    Removal {
+        first: "[attr]m x\n* m",
+        second: "[attr]m y",
+        before: Some(2),
+        after: Some(1),
+    },
+    Removal {
+        first: "* m",
+        second: "[attr]m x",
+        before: Some(1),
+        after: None,
+    },
+    Removal {
+        first: "[attr]m x\n* m",
+        second: "[attr]m y\n[attr]m z",
+        before: Some(3),
+        after: Some(1),
+    },
+    Removal {
+        first: "[attr]m x\n* m",
+        second: "[attr]m",
+        before: None,
+        after: Some(1),
+    },
+];
 
 #[test]
 fn a_removal_restores_earlier_bodies(rt: HostRuntime) -> Result<(), AllocError> {
-    for (first, second, before, after) in [
-        ("[attr]m x\n* m", "[attr]m y", Some(2), Some(1)),
-        ("* m", "[attr]m x", Some(1), None),
-        ("[attr]m x\n* m", "[attr]m y\n[attr]m z", Some(3), Some(1)),
-        ("[attr]m x\n* m", "[attr]m", None, Some(1)),
-    ] {
-        let mut table = table(rt.alloc())?;
-        let row = Removal {
-            first,
-            second,
-            before,
-            after,
-        };
-        expect_restored(&rt, rt.alloc(), &mut table, row)?;
+    for &row in REMOVALS {
+        expect_restored(&rt, rt.alloc(), row)?;
     }
     Ok(())
 }
 
+fn expect_bodies(rt: &impl Abort, table: &NameTable, m: Option<usize>, n: Option<usize>) {
+    assert_eq!(rt;
+        (first_number(table, "m"), first_number(table, "n")),
+        (m, n)
+    );
+}
+
+// Adds the second list, and removes the first one and then the second one. The body of `m` is that of the second list,
+// with this first number, until it goes.
 fn expect_below_removed(
     rt: &impl Abort,
     alloc: Global,
@@ -168,24 +219,26 @@ fn expect_below_removed(
     (later, last): (&str, usize),
 ) -> Result<(), AllocError> {
     let (stays, above) = add(alloc, table, later)?;
-    assert!(rt; first_number(table, "n") == Some(1));
-    assert!(rt; is_removed(table, goes, below));
-    assert!(rt; first_number(table, "m") == Some(last));
-    assert!(rt; first_number(table, "n").is_none());
-    assert!(rt; is_removed(table, stays, &above));
-    assert!(rt; first_number(table, "m").is_none());
+    expect_bodies(rt, table, Some(last), Some(1));
+    remove(rt, table, goes, below);
+    expect_bodies(rt, table, Some(last), None);
+    remove(rt, table, stays, &above);
+    expect_bodies(rt, table, None, None);
     Ok(())
 }
+
+// Two lists, and the first number in the body of `m` in the second one.
+const BELOW: &[(&str, &str, usize)] = &[
+    ("[attr]m x\n[attr]m y\n[attr]n x", "[attr]m z", 4),
+    ("[attr]m x\n[attr]m y\n[attr]n x", "[attr]m w\n[attr]m z", 5),
+    ("[attr]n x\n[attr]m x\n[attr]m y", "[attr]m z", 4),
+    ("[attr]m x\n[attr]n x\n[attr]m y", "[attr]m w\n[attr]m z", 5),
+];
 
 // The first list goes while the second, which defines one of its macros too, stays.
 #[test]
 fn a_list_below_another_is_removed(rt: HostRuntime) -> Result<(), AllocError> {
-    for (text, later, last) in [
-        ("[attr]m x\n[attr]m y\n[attr]n x", "[attr]m z", 4),
-        ("[attr]m x\n[attr]m y\n[attr]n x", "[attr]m w\n[attr]m z", 5),
-        ("[attr]n x\n[attr]m x\n[attr]m y", "[attr]m z", 4),
-        ("[attr]m x\n[attr]n x\n[attr]m y", "[attr]m w\n[attr]m z", 5),
-    ] {
+    for &(text, later, last) in BELOW {
         let mut table = table(rt.alloc())?;
         let (goes, below) = add(rt.alloc(), &mut table, text)?;
         expect_below_removed(&rt, rt.alloc(), &mut table, (goes, &below), (later, last))?;
@@ -205,22 +258,46 @@ fn is_held(
     Ok(table.holds(list_id, &list))
 }
 
+fn expect_held(
+    rt: &impl Abort,
+    alloc: Global,
+    table: &NameTable,
+    list_id: usize,
+    (text, expected): (&str, bool),
+) -> Result<(), AllocError> {
+    assert_eq!(rt; is_held(alloc, table, list_id, text)?, expected, "{text}");
+    Ok(())
+}
+
+// Texts, and whether their list is held where `[attr]m x`, `[attr]n y`, `[attr]m z` is registered.
+const HELD: &[(&str, bool)] = &[
+    ("[attr]n y\n[attr]m x\n[attr]m z", true),
+    ("[attr]m x\n[attr]m z\n* a\n[attr]n y", true),
+    ("[attr]m z\n[attr]n y\n[attr]m x", false),
+    ("[attr]m x\n[attr]m z\n[attr]n x", false),
+    ("[attr]m x\n[attr]m z", false),
+    ("[attr]n y\n[attr]m x\n[attr]m z\n[attr]n y", false),
+    ("[attr]n y\n[attr]m x\n[attr]m z\n[attr]x y", false),
+];
+
 // The definitions of each macro are in their order, and those of two macros in any order.
 #[test]
 fn a_list_is_held_in_another_order_of_its_macros(rt: HostRuntime) -> Result<(), AllocError> {
     let mut table = table(rt.alloc())?;
-    let (list_id, _) = add(rt.alloc(), &mut table, "[attr]m x\n[attr]n y\n[attr]m z")?;
-    for (text, expected) in [
-        ("[attr]n y\n[attr]m x\n[attr]m z", true),
-        ("[attr]m x\n[attr]m z\n* a\n[attr]n y", true),
-        ("[attr]m z\n[attr]n y\n[attr]m x", false),
-        ("[attr]m x\n[attr]m z\n[attr]n x", false),
-        ("[attr]m x\n[attr]m z", false),
-        ("[attr]n y\n[attr]m x\n[attr]m z\n[attr]n y", false),
-        ("[attr]n y\n[attr]m x\n[attr]m z\n[attr]x y", false),
-    ] {
-        assert!(rt; is_held(rt.alloc(), &table, list_id, text)? == expected);
+    let list_id = added(rt.alloc(), &mut table, "[attr]m x\n[attr]n y\n[attr]m z")?;
+    for &row in HELD {
+        expect_held(&rt, rt.alloc(), &table, list_id, row)?;
     }
+    Ok(())
+}
+
+fn expect_id(
+    rt: &impl Abort,
+    alloc: Global,
+    table: &mut NameTable,
+    list_id: usize,
+) -> Result<(), AllocError> {
+    assert_eq!(rt; added(alloc, table, "* a")?, list_id);
     Ok(())
 }
 
@@ -230,69 +307,93 @@ fn expect_ids(
     table: &mut NameTable,
     list_ids: &[usize],
 ) -> Result<(), AllocError> {
-    for list_id in list_ids {
-        assert_eq!(rt; add(alloc, table, "* a")?.0, *list_id);
+    for &list_id in list_ids {
+        expect_id(rt, alloc, table, list_id)?;
     }
     Ok(())
 }
 
 fn expect_gone(rt: &impl Abort, alloc: Global, table: &mut NameTable) -> Result<(), AllocError> {
     let (list_id, list) = add(alloc, table, "[attr]m a")?;
-    assert!(rt; table.holds(list_id, &list) && !table.holds(2, &list));
-    assert!(rt; is_removed(table, list_id, &list));
+    assert!(rt; !table.holds(2, &list));
+    remove(rt, table, list_id, &list);
     Ok(())
+}
+
+fn expect_least_free_ids(
+    rt: &impl Abort,
+    alloc: Global,
+    table: &mut NameTable,
+) -> Result<(), AllocError> {
+    expect_ids(rt, alloc, table, &[0, 1, 2, 3])?;
+    expect_gone(rt, alloc, table)?;
+    remove(rt, table, 2, &[]);
+    remove(rt, table, 1, &[]);
+    expect_ids(rt, alloc, table, &[1, 2, 4])
 }
 
 #[test]
 fn a_new_list_gets_the_least_free_id(rt: HostRuntime) -> Result<(), AllocError> {
     let mut table = table(rt.alloc())?;
-    expect_ids(&rt, rt.alloc(), &mut table, &[0, 1, 2, 3])?;
-    expect_gone(&rt, rt.alloc(), &mut table)?;
-    for list_id in [2usize, 1] {
-        assert!(rt; is_removed(&mut table, list_id, &[]));
-    }
-    expect_ids(&rt, rt.alloc(), &mut table, &[1, 2, 4])
+    expect_least_free_ids(&rt, rt.alloc(), &mut table)
+}
+
+fn expect_name(rt: &impl Abort, table: &NameTable, number: usize, name: Option<&str>) {
+    assert_eq!(rt; table.name(number), name);
 }
 
 #[test]
-fn a_number_has_a_name(rt: HostRuntime) -> Result<(), Fail> {
+fn a_number_has_a_name(rt: HostRuntime) -> Result<(), AllocError> {
     let mut table = table(rt.alloc())?;
-    add(rt.alloc(), &mut table, "[attr]m x y\n* z x\n[attr]y q")?;
-    assert!(rt; table.name(0) == Some("m"));
-    assert!(rt; table.name(4) == Some("q"));
-    assert!(rt; table.name(5).is_none());
+    added(rt.alloc(), &mut table, "[attr]m x y\n* z x\n[attr]y q")?;
+    expect_name(&rt, &table, 0, Some("m"));
+    expect_name(&rt, &table, 4, Some("q"));
+    expect_name(&rt, &table, 5, None);
     Ok(())
 }
 
 #[test]
-fn copies_have_the_registered_lists(rt: HostRuntime) -> Result<(), Fail> {
+fn copies_have_the_registered_lists(rt: HostRuntime) -> Result<(), AllocError> {
     let mut table = table(rt.alloc())?;
     let (list_id, list) = add(rt.alloc(), &mut table, "[attr]m x\n* m")?;
     let mut copy = copied(rt.alloc(), &table)?;
-    assert!(rt; is_removed(&mut copy, list_id, &list));
-    assert!(rt; first_number(&copy, "m").is_none());
-    assert!(rt; first_number(&table, "m") == Some(1));
+    remove(&rt, &mut copy, list_id, &list);
+    expect_first(&rt, &copy, "m", None);
+    expect_first(&rt, &table, "m", Some(1));
     Ok(())
 }
 
-#[test]
-fn a_thousand_macros(rt: HostRuntime) -> Result<(), Fail> {
-    let mut text = String::new(rt.alloc());
+fn push_macro(out: &mut String, n: u32) -> Result<(), AllocError> {
+    write!(out, "[attr]m{n} x{n}\n")
+}
+
+fn push_thousand(out: &mut String) -> Result<(), AllocError> {
     for n in 0..1000u32 {
-        write!(text, "[attr]m{n} x{n}\n")?;
+        push_macro(out, n)?;
     }
-    let mut table = table(rt.alloc())?;
-    let (list_id, list) = add(rt.alloc(), &mut table, text.as_str())?;
-    assert!(rt; first_number(&table, "m999") == Some(1999));
-    assert!(rt; is_removed(&mut table, list_id, &list));
-    assert!(rt; table.len() == 2000);
     Ok(())
 }
 
 #[test]
-fn a_new_table_is_empty(rt: HostRuntime) -> Result<(), Fail> {
-    let table = table(rt.alloc())?;
-    let text = format!(in rt.alloc(); "{table:?}")?;
+fn a_thousand_macros(rt: HostRuntime) -> Result<(), AllocError> {
+    let mut table = table(rt.alloc())?;
+    let mut text = String::new(rt.alloc());
+    push_thousand(&mut text)?;
+    let (list_id, list) = add(rt.alloc(), &mut table, text.as_str())?;
+    expect_first(&rt, &table, "m999", Some(1999));
+    remove(&rt, &mut table, list_id, &list);
+    assert_eq!(rt; table.len(), 2000);
+    Ok(())
+}
+
+fn printed_new(alloc: Global) -> Result<String, AllocError> {
+    let table = table(alloc)?;
+    format!(in alloc; "{table:?}")
+}
+
+#[test]
+fn a_new_table_is_empty(rt: HostRuntime) -> Result<(), AllocError> {
+    let text = printed_new(rt.alloc())?;
     assert_eq!(rt;
         text.as_str(),
         "NameTable { parts: Parts { names: {}, entries: [], active: [], free_from: 0, registered: [], macros: {} } }"
