@@ -190,10 +190,11 @@ const BELOW: &[Below] = &[
 
 #[test]
 fn lines_apply_below_their_base(rt: HostRuntime) -> Result<(), AllocError> {
+    let below = "sub/.gitattributes";
     for row in BELOW {
         let steps = [
             Add(TOP, row.first),
-            Add("sub/.gitattributes", row.second),
+            Add(below, row.second),
             Select(&[]),
             Find(row.path, row.case),
             Show,
