@@ -1,16 +1,15 @@
 //! Reads of real files, and of files in memory.
+use super::indexed::times;
 use gix_attributes::files::{Disk, Files, Memory, ReadError};
 use std::alloc::{AllocError, Global};
+use std::fmt::Write;
 use std::io::ErrorKind;
 use std::os::unix::fs::symlink;
 use std::path::Path;
+use std::process::Abort;
 use std::rt::Files as HostFiles;
 use std::test::Fail;
 use std::{env, fs, io, process};
-
-fn is_device(answer: &Result<bool, ReadError>) -> bool {
-    matches!(answer, Err(ReadError::Device(_)))
-}
 
 // A file and a link to it.
 fn write_files<R: HostFiles>(rt: &R, alloc: Global, folder: Path<'_>) -> Result<(), Fail> {
@@ -21,68 +20,8 @@ fn write_files<R: HostFiles>(rt: &R, alloc: Global, folder: Path<'_>) -> Result<
     Ok(symlink(rt, file.as_path(), link.as_path())?)
 }
 
-// Reads a file of the folder into a buffer that isn't empty, and reports whether there is one, and what is in the buffer then.
-fn push_read<R: HostFiles>(
-    alloc: Global,
-    folder: Path<'_>,
-    name: &str,
-    disk: &mut Disk<'_, R>,
-    out: &mut Vec<u8>,
-) -> Result<(), Fail> {
-    let path = folder.join(alloc, name)?;
-    let mut buf = b"before".to_vec(alloc)?;
-    let answer = if disk.read_into(path.as_str(), &mut buf)? {
-        "read "
-    } else {
-        "missing "
-    };
-    out.extend_from_slice(answer.as_bytes())?;
-    Ok(out.extend_from_slice(&buf)?)
-}
-
-fn push_reads<R: HostFiles>(
-    alloc: Global,
-    folder: Path<'_>,
-    disk: &mut Disk<'_, R>,
-    out: &mut Vec<u8>,
-) -> Result<(), Fail> {
-    for name in ["plain", "link", "missing", "plain/below", "."] {
-        push_read(alloc, folder, name, disk, out)?;
-    }
-    Ok(())
-}
-
-#[test]
-fn reads_real_files(rt: HostRuntime) -> Result<(), Fail> {
-    let name = format!(in rt.alloc(); "gix_attributes-files-{}", process::id(rt.process()))?;
-    let folder = env::temp_dir(&rt)?.join(rt.alloc(), name.as_str())?;
-    write_files(&rt, rt.alloc(), folder.as_path())?;
-    let mut disk = Disk::new(&rt);
-    let mut report = Vec::new(rt.alloc());
-    push_reads(rt.alloc(), folder.as_path(), &mut disk, &mut report)?;
-    assert!(rt;
-        report.as_slice() == b"read * text\nread * text\nmissing missing missing ".as_slice()
-    );
-    assert_eq!(rt; (disk.files_read(), disk.failures()), (2, 0));
-    Ok(fs::remove_dir_all(&rt, folder.as_path())?)
-}
-
-#[test]
-fn counts_what_the_disk_fails(rt: HostRuntime) -> Result<(), Fail> {
-    let mut long = String::new(rt.alloc());
-    for _ in 0..5000 {
-        long.push('a')?;
-    }
-    let mut disk = Disk::new(&rt);
-    let mut buf = Vec::new(rt.alloc());
-    assert!(rt; is_device(&disk.read_into(long.as_str(), &mut buf)));
-    assert!(rt; is_device(&disk.read_into("no\0name", &mut buf)));
-    assert_eq!(rt; (disk.files_read(), disk.failures()), (0, 2));
-    Ok(())
-}
-
-// What a read answers, and what is in the buffer then.
-fn push_answer(files: &mut Memory, name: &str, out: &mut Vec<u8>) -> Result<(), AllocError> {
+// What a read into a buffer that isn't empty answers, and what is in the buffer then.
+fn push_read<F: Files>(files: &mut F, name: &str, out: &mut Vec<u8>) -> Result<(), AllocError> {
     let mut buf = b"before".to_vec(*out.allocator())?;
     let answer = match files.read_into(name, &mut buf) {
         Ok(true) => "read ",
@@ -94,36 +33,100 @@ fn push_answer(files: &mut Memory, name: &str, out: &mut Vec<u8>) -> Result<(), 
     out.extend_from_slice(&buf)
 }
 
-fn push_answers(files: &mut Memory, names: &[&str], out: &mut Vec<u8>) -> Result<(), AllocError> {
+fn push_reads<F: Files>(
+    files: &mut F,
+    names: &[&str],
+    out: &mut Vec<u8>,
+) -> Result<(), AllocError> {
     for name in names {
-        push_answer(files, name, out)?;
+        push_read(files, name, out)?;
     }
     Ok(())
+}
+
+// Reads a file of the folder.
+fn push_read_below<R: HostFiles>(
+    alloc: Global,
+    folder: Path<'_>,
+    name: &str,
+    disk: &mut Disk<'_, R>,
+    out: &mut Vec<u8>,
+) -> Result<(), AllocError> {
+    let path = folder.join(alloc, name)?;
+    push_read(disk, path.as_str(), out)
+}
+
+const NAMES: &[&str] = &["plain", "link", "missing", "plain/below", "."];
+
+// Expects these answers of the folder's files.
+fn expect_reads<R: HostFiles + Abort>(
+    rt: &R,
+    alloc: Global,
+    folder: Path<'_>,
+    wanted: &[u8],
+) -> Result<(), Fail> {
+    let mut disk = Disk::new(rt);
+    let mut out = Vec::new(alloc);
+    for name in NAMES {
+        push_read_below(alloc, folder, name, &mut disk, &mut out)?;
+    }
+    let found = (out.as_slice(), disk.files_read(), disk.failures());
+    assert_eq!(rt; found, (wanted, 2, 0));
+    Ok(())
+}
+
+#[test]
+fn reads_real_files(rt: HostRuntime) -> Result<(), Fail> {
+    let name = format!(in rt.alloc(); "gix_attributes-files-{}", process::id(rt.process()))?;
+    let folder = env::temp_dir(&rt)?.join(rt.alloc(), name.as_str())?;
+    write_files(&rt, rt.alloc(), folder.as_path())?;
+    let wanted = b"read * text\nread * text\nmissing missing missing ";
+    expect_reads(&rt, rt.alloc(), folder.as_path(), wanted)?;
+    Ok(fs::remove_dir_all(&rt, folder.as_path())?)
+}
+
+fn expect_failures<R: HostFiles + Abort>(
+    rt: &R,
+    alloc: Global,
+    names: &[&str],
+) -> Result<(), AllocError> {
+    let mut disk = Disk::new(rt);
+    let mut out = Vec::new(alloc);
+    push_reads(&mut disk, names, &mut out)?;
+    let found = (out.as_slice(), disk.files_read(), disk.failures());
+    assert_eq!(rt; found, (b"failed failed ".as_slice(), 0, 2));
+    Ok(())
+}
+
+#[test]
+fn counts_what_the_disk_fails(rt: HostRuntime) -> Result<(), AllocError> {
+    let long = times(rt.alloc(), "a", 5000)?;
+    expect_failures(&rt, rt.alloc(), &[long.as_str(), "no\0name"])
+}
+
+fn write_memory(files: &mut Memory) -> Result<(), AllocError> {
+    files.insert("g1", b"* gone\n")?;
+    files.insert("g1", b"* a\n!b c\n")?;
+    files.insert("g3", b"* d\n")
 }
 
 #[test]
 fn reads_files_in_memory(rt: HostRuntime) -> Result<(), AllocError> {
     let mut files = Memory::new(rt.alloc());
-    files.insert("g1", b"* gone\n")?;
-    files.insert("g1", b"* a\n!b c\n")?;
-    files.insert("g3", b"* d\n")?;
+    write_memory(&mut files)?;
     files.fail_read(3);
     let mut report = Vec::new(rt.alloc());
-    push_answers(&mut files, &["g2", "g1", "g3", "g3", "g2"], &mut report)?;
-    assert!(rt;
-        report.as_slice() == b"missing read * a\n!b c\nfailed read * d\nmissing ".as_slice()
-    );
-    assert_eq!(rt; files.failures(), 1);
+    push_reads(&mut files, &["g2", "g1", "g3", "g3", "g2"], &mut report)?;
+    let wanted = b"missing read * a\n!b c\nfailed read * d\nmissing ".as_slice();
+    assert_eq!(rt; (report.as_slice(), files.failures()), (wanted, 1));
     Ok(())
 }
 
 #[test]
 fn errors_of_reads_are_printed(rt: HostRuntime) -> Result<(), AllocError> {
     let device = ReadError::Device(io::Error::from(ErrorKind::Other));
-    assert_eq!(rt; device.to_string(rt.alloc())?.as_str(), "reading failed");
-    assert_eq!(rt;
-        ReadError::OutOfMemory.to_string(rt.alloc())?.as_str(),
-        "out of memory"
-    );
+    let mut out = String::new(rt.alloc());
+    write!(out, "{device}; {}", ReadError::OutOfMemory)?;
+    assert_eq!(rt; out.as_str(), "reading failed; out of memory");
     Ok(())
 }

@@ -1,21 +1,24 @@
 //! Lists that are added and removed, and the names and bodies of the collection after that.
-use super::scene::Step::{Add, CloneLists, Held, Lists, Names, Removed, Turn, TurnCollections};
-use super::scene::{Step, TOP, expect, new_collection, new_search};
+use super::scene::Step::{
+    Add, CloneLists, Dropped, Held, Lists, NameOf, Names, Removed, Turn, TurnCollections,
+};
+use super::scene::{Step, TOP, expect, expect_both, new_collection, new_search, push_known};
 use gix_attributes::Search;
 use gix_attributes::glob::search::pattern::List;
-use gix_attributes::search::{AttributeId, Attributes, DropReason, Dropped, MetadataCollection};
+use gix_attributes::search::{Attributes, MetadataCollection};
 use std::alloc::{AllocError, Global};
 use std::process::Abort;
 
 /// A search, and the collection in which its lists are registered.
 #[derive(Drop)]
-struct Registered {
-    search: Box<Search>,
-    collection: Box<MetadataCollection>,
+pub(super) struct Registered {
+    pub(super) search: Box<Search>,
+    pub(super) collection: Box<MetadataCollection>,
 }
 
 impl Registered {
-    fn new(alloc: Global) -> Result<Registered, AllocError> {
+    /// Both are empty.
+    pub(super) fn new(alloc: Global) -> Result<Registered, AllocError> {
         Ok(Registered {
             search: new_search(alloc)?,
             collection: new_collection(alloc)?,
@@ -39,8 +42,9 @@ impl Registered {
         self.search.pop_pattern_list(&mut self.collection)
     }
 
-    fn known(&self, alloc: Global) -> Result<String, AllocError> {
-        known(alloc, &self.collection)
+    /// Removes the last list, and tells whether there was one.
+    fn is_popped(&mut self) -> bool {
+        self.pop().is_some()
     }
 }
 
@@ -50,39 +54,10 @@ fn with_list(alloc: Global, bytes: &[u8]) -> Result<Registered, AllocError> {
     Ok(lists)
 }
 
-/// A list that was added and removed.
-pub(super) fn popped(alloc: Global, text: &[u8]) -> Result<Option<List<Attributes>>, AllocError> {
+// A list that was added and removed.
+fn popped(alloc: Global, text: &[u8]) -> Result<Option<List<Attributes>>, AllocError> {
     let mut lists = with_list(alloc, text)?;
     Ok(lists.pop())
-}
-
-// The lines that a buffer without a base drops.
-fn dropped(
-    alloc: Global,
-    lists: &mut Registered,
-    buffer: &[u8],
-    allow_macros: bool,
-) -> Result<Vec<Dropped>, AllocError> {
-    let source = String::from_str(alloc, "s")?;
-    let collection = &mut lists.collection;
-    lists
-        .search
-        .add_patterns_buffer(alloc, buffer, source, None, collection, allow_macros)
-}
-
-/// The names by number, each with its body.
-pub(super) fn known(alloc: Global, collection: &MetadataCollection) -> Result<String, AllocError> {
-    let mut text = String::new(alloc);
-    for (name, metadata) in collection.iter() {
-        text.push_str(name)?;
-        text.push(':')?;
-        for item in metadata.macro_attributes.iter() {
-            let printed = format!(in alloc; " {}", item.inner.as_ref())?;
-            text.push_str(printed.as_str())?;
-        }
-        text.push('\n')?;
-    }
-    Ok(text)
 }
 
 #[test]
@@ -91,15 +66,17 @@ fn names_are_numbered_when_they_are_first_seen(rt: HostRuntime) -> Result<(), Al
     expect(&rt, rt.alloc(), &steps, "m: x y\nx:\ny: q\nz:\nq:\n")
 }
 
-const NUMBERS: &[(usize, Option<&str>)] = &[(0, Some("m")), (3, Some("z")), (5, None)];
+const NUMBERS: &[Step<'static>] = &[
+    Add(TOP, "[attr]m x y\n* z x\n[attr]y q\n"),
+    NameOf(0),
+    NameOf(3),
+    NameOf(5),
+];
 
 #[test]
 fn a_number_has_its_name(rt: HostRuntime) -> Result<(), AllocError> {
-    let lists = with_list(rt.alloc(), b"[attr]m x y\n* z x\n[attr]y q\n")?;
-    for &(number, name) in NUMBERS {
-        assert!(rt; lists.collection.name_of(AttributeId(number)) == name);
-    }
-    Ok(())
+    let answer = "Some(\"m\")\nSome(\"z\")\nNone\n";
+    expect(&rt, rt.alloc(), NUMBERS, answer)
 }
 
 const BUILT_IN: &[Step<'static>] = &[
@@ -119,35 +96,25 @@ fn built_in_macro_comes_first(rt: HostRuntime) -> Result<(), AllocError> {
     )
 }
 
-const DROPPED: &[(&[u8], DropReason)] = &[
-    (b"!a b", DropReason::NegativePattern),
-    (b"* a =x", DropReason::InvalidName),
-    (b"* builtin_x", DropReason::Reserved),
-    (b"[attr]-x a", DropReason::MacroName),
+const DROPPED: &[Step<'static>] = &[
+    Dropped("!a b", true),
+    Dropped("* a =x", true),
+    Dropped("* builtin_x", true),
+    Dropped("[attr]-x a", true),
+    Lists,
+    Names,
 ];
 
 #[test]
 fn dropped_lines_are_returned(rt: HostRuntime) -> Result<(), AllocError> {
-    let mut lists = Registered::new(rt.alloc())?;
-    for &(buffer, reason) in DROPPED {
-        let dropped = dropped(rt.alloc(), &mut lists, buffer, true)?;
-        assert_eq!(rt;
-            dropped.as_slice(),
-            [Dropped { line: 1, reason }].as_slice()
-        );
-    }
-    assert_eq!(rt; lists.search.num_pattern_lists(), 4);
-    assert!(rt; lists.collection.iter().next().is_none());
-    Ok(())
+    let answer = "1:NegativePattern ; 1:InvalidName ; 1:Reserved ; 1:MacroName ; 4\n";
+    expect(&rt, rt.alloc(), DROPPED, answer)
 }
 
 #[test]
 fn macros_that_are_not_allowed_are_skipped(rt: HostRuntime) -> Result<(), AllocError> {
-    let mut lists = Registered::new(rt.alloc())?;
-    let buffer = b"[attr]m x\n* m\n";
-    assert!(rt; dropped(rt.alloc(), &mut lists, buffer, false)?.is_empty());
-    assert_eq!(rt; lists.known(rt.alloc())?.as_str(), "m:\n");
-    Ok(())
+    let steps = [Dropped("[attr]m x\n* m\n", false), Names];
+    expect(&rt, rt.alloc(), &steps, "; m:\n")
 }
 
 const RESTORED: &[(&str, &str, &str)] = &[
@@ -169,18 +136,13 @@ const RESTORED: &[(&str, &str, &str)] = &[
     ),
 ];
 
+const SECOND_REMOVED: &[Step<'static>] = &[Names, Removed, Held, Names];
+
 #[test]
 fn popping_restores_the_bodies_before(rt: HostRuntime) -> Result<(), AllocError> {
     for &(first, second, answer) in RESTORED {
-        let steps = [
-            Add(TOP, first),
-            Add(TOP, second),
-            Names,
-            Removed,
-            Held,
-            Names,
-        ];
-        expect(&rt, rt.alloc(), &steps, answer)?;
+        let lists = [Add(TOP, first), Add(TOP, second)];
+        expect_both(&rt, rt.alloc(), &lists, SECOND_REMOVED, answer)?;
     }
     Ok(())
 }
@@ -360,40 +322,67 @@ fn copies_are_equal(rt: HostRuntime) -> Result<(), AllocError> {
     expect(&rt, rt.alloc(), COPIES, "true\nm: x=1\nx:\n")
 }
 
-// The names of a new collection with the list alone.
-fn numbered(
-    rt: &impl Abort,
+// A call that finds no memory is repeated, and what is known before is reported too, which has to be nothing.
+fn number(
     alloc: Global,
     list: &mut List<Attributes>,
-) -> Result<String, AllocError> {
+    collection: &mut MetadataCollection,
+    out: &mut String,
+) -> Result<(), AllocError> {
+    if !MetadataCollection::macros_valid(list) {
+        return out.push_str("not valid");
+    }
+    if collection.update_from_list(alloc, list).is_err() {
+        push_known(collection, out)?;
+        collection.update_from_list(alloc, list)?;
+    }
+    push_known(collection, out)
+}
+
+fn push_numbered(
+    alloc: Global,
+    list: &mut List<Attributes>,
+    out: &mut String,
+) -> Result<(), AllocError> {
     let mut collection = new_collection(alloc)?;
-    assert!(rt; MetadataCollection::macros_valid(list));
-    collection.update_from_list(alloc, list)?;
-    known(alloc, &collection)
+    number(alloc, list, &mut collection, out)
+}
+
+/// The names of a new collection with a list alone, which was in a search before.
+pub(super) fn push_moved(alloc: Global, out: &mut String) -> Result<(), AllocError> {
+    match popped(alloc, b"* y\n[attr]m x y\n")? {
+        Some(mut list) => push_numbered(alloc, &mut list, out),
+        None => out.push_str("no list"),
+    }
 }
 
 #[test]
 fn a_list_of_no_search_is_numbered(rt: HostRuntime) -> Result<(), AllocError> {
-    let Some(mut list) = popped(rt.alloc(), b"* y\n[attr]m x y\n")? else {
-        panic!(rt; "there is one list");
-    };
-    let text = numbered(&rt, rt.alloc(), &mut list)?;
-    assert_eq!(rt; text.as_str(), "y:\nm: x y\nx:\n");
+    let mut out = String::new(rt.alloc());
+    push_moved(rt.alloc(), &mut out)?;
+    assert_eq!(rt; out.as_str(), "y:\nm: x y\nx:\n");
     Ok(())
 }
 
+// A list that is added and removed many times.
 fn come_and_go(rt: &impl Abort, alloc: Global, lists: &mut Registered) -> Result<(), AllocError> {
     for _ in 0..10_000 {
         lists.add(alloc, b"[attr]m y\n* m\n")?;
-        assert!(rt; lists.pop().is_some());
+        assert!(rt; lists.is_popped());
     }
     Ok(())
 }
 
+fn push_known_after(rt: &impl Abort, alloc: Global, out: &mut String) -> Result<(), AllocError> {
+    let mut lists = with_list(alloc, b"[attr]m x\n")?;
+    come_and_go(rt, alloc, &mut lists)?;
+    push_known(&lists.collection, out)
+}
+
 #[test]
 fn a_list_that_comes_and_goes_leaves_nothing(rt: HostRuntime) -> Result<(), AllocError> {
-    let mut lists = with_list(rt.alloc(), b"[attr]m x\n")?;
-    come_and_go(&rt, rt.alloc(), &mut lists)?;
-    assert_eq!(rt; lists.known(rt.alloc())?.as_str(), "m: x\nx:\ny:\n");
+    let mut out = String::new(rt.alloc());
+    push_known_after(&rt, rt.alloc(), &mut out)?;
+    assert_eq!(rt; out.as_str(), "m: x\nx:\ny:\n");
     Ok(())
 }

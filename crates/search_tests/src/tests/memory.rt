@@ -1,32 +1,34 @@
 //! Searches, copies and files return the right answer when a call is repeated, whichever request for memory was refused.
 //!
 //! `tests/refused_memory.sh` refuses one request of a test in turn. The repeated call gets its memory.
-use super::added_files::{added_report, globals_report, two_files};
-use super::lists::popped;
+use super::added_files::{push_globals_of_two_files, push_two_added_files};
+use super::lists::push_moved;
 use super::scene::Step::{
     Add, AddWithoutMacros, Begin, Clone, CloneLists, Copy, Count, Find, Fit, Held, Names, Numbers,
     Places, Pop, Reset, Rows, Select, Show, Turn, TurnOutcomes,
 };
-use super::scene::{Step, TOP, count_of_names, expect_again, new_collection, report_again};
-use gix_attributes::files::{Files, Memory, ReadError};
+use super::scene::{Step, TOP, expect_again, report_again};
+use gix_attributes::files::{Files, Memory};
 use gix_attributes::glob::pattern::Case::{Fold, Sensitive};
-use gix_attributes::glob::search::pattern::List;
-use gix_attributes::search::{Attributes, MetadataCollection};
 use gix_attributes::{Prefixes, Source};
 use std::alloc::{AllocError, Global};
+use std::fmt::Write;
+use std::process::Abort;
+
+const MACROS: &[(&str, &str)] = &[
+    (
+        "[attr]a b\n[attr]b a\n* a\n",
+        "true\na macro - 3\nb macro 0 3\ndone 2 1\n",
+    ),
+    (
+        "[attr]m x=2\n* x=1 m\n",
+        "true\nm macro - 2\nx=2 attribute 0 2\ndone 2 1\n",
+    ),
+];
 
 #[test]
 fn without_memory_macros_are_searched_again(rt: HostRuntime) -> Result<(), AllocError> {
-    for (text, rows) in [
-        (
-            "[attr]a b\n[attr]b a\n* a\n",
-            "true\na macro - 3\nb macro 0 3\ndone 2 1\n",
-        ),
-        (
-            "[attr]m x=2\n* x=1 m\n",
-            "true\nm macro - 2\nx=2 attribute 0 2\ndone 2 1\n",
-        ),
-    ] {
+    for &(text, rows) in MACROS {
         let steps = [
             Add(TOP, text),
             Select(&[]),
@@ -126,105 +128,106 @@ fn without_memory_searches_are_copied_again(rt: HostRuntime) -> Result<(), Alloc
     expect_again(&rt, rt.alloc(), &steps, "true\nm: x=1\nx:\n")
 }
 
-// Whether a new collection numbers a list, which it does not know after a refusal.
-fn is_list_numbered(alloc: Global, list: &mut List<Attributes>) -> Result<bool, AllocError> {
-    let mut other = new_collection(alloc)?;
-    if !MetadataCollection::macros_valid(list) {
-        return Ok(false);
-    }
-    if other.update_from_list(alloc, list).is_err() {
-        let is_empty = other.iter().next().is_none();
-        other.update_from_list(alloc, list)?;
-        return Ok(is_empty);
-    }
-    Ok(count_of_names(&other) == 3)
+/// What is reported once more if it finds no memory.
+#[derive(Clone, Copy)]
+enum Report {
+    Moved,
+    Globals,
+    AddedFiles,
+    Replaced,
+    FileOfUser,
 }
 
-// Whether another collection numbers a list that was removed.
-fn is_numbered(alloc: Global, text: &[u8]) -> Result<bool, AllocError> {
-    match popped(alloc, text)? {
-        Some(mut list) => is_list_numbered(alloc, &mut list),
-        None => Ok(false),
+impl Report {
+    fn push(self, alloc: Global, out: &mut String) -> Result<(), AllocError> {
+        match self {
+            Report::Moved => push_moved(alloc, out),
+            Report::Globals => push_globals_of_two_files(alloc, out),
+            Report::AddedFiles => push_two_added_files(alloc, out),
+            Report::Replaced => push_replaced(alloc, out),
+            Report::FileOfUser => push_file_of_user(alloc, out),
+        }
     }
+}
+
+fn expect_report(
+    rt: &impl Abort,
+    alloc: Global,
+    report: Report,
+    answer: &str,
+) -> Result<(), AllocError> {
+    let mut out = String::new(alloc);
+    if report.push(alloc, &mut out).is_err() {
+        out.clear();
+        report.push(alloc, &mut out)?;
+    }
+    assert_eq!(rt; out.as_str(), answer);
+    Ok(())
 }
 
 #[test]
 fn without_memory_lists_are_numbered_again(rt: HostRuntime) -> Result<(), AllocError> {
-    let (alloc, text) = (rt.alloc(), b"* y\n[attr]m x y\n");
-    assert!(rt; is_numbered(alloc, text).or_else(|_| is_numbered(alloc, text))?);
-    Ok(())
-}
-
-fn globals_of_two_files(alloc: Global) -> Result<String, AllocError> {
-    let mut files = two_files(alloc)?;
-    let mut buf = Vec::new(alloc);
-    globals_report(alloc, &mut files, &["g1", "g2"], &mut buf)
+    expect_report(&rt, rt.alloc(), Report::Moved, "y:\nm: x y\nx:\n")
 }
 
 #[test]
 fn without_memory_globals_are_read_again(rt: HostRuntime) -> Result<(), AllocError> {
-    let alloc = rt.alloc();
-    let report = globals_of_two_files(alloc).or_else(|_| globals_of_two_files(alloc))?;
     let answer = "2 true 2:NegativePattern ; ; binary diff merge text a ";
-    assert_eq!(rt; report.as_str(), answer);
-    Ok(())
-}
-
-fn two_added_files(alloc: Global) -> Result<String, AllocError> {
-    let mut files = two_files(alloc)?;
-    let (report, _) = added_report(alloc, &mut files, &["g1", "g2", "g3"])?;
-    Ok(report)
+    expect_report(&rt, rt.alloc(), Report::Globals, answer)
 }
 
 #[test]
 fn without_memory_files_are_added_again(rt: HostRuntime) -> Result<(), AllocError> {
-    let alloc = rt.alloc();
-    let report = two_added_files(alloc).or_else(|_| two_added_files(alloc))?;
-    let answer = "added 2:NegativePattern ; missing ; added ; 2 true a d ";
-    assert_eq!(rt; report.as_str(), answer);
-    Ok(())
+    let answer = "added 2:NegativePattern ; missing ; added ; 2 true a d | * d\n";
+    expect_report(&rt, rt.alloc(), Report::AddedFiles, answer)
 }
 
-fn contents(alloc: Global, files: &mut Memory, name: &str) -> Result<Vec<u8>, ReadError> {
+const OLD: &[u8] = b"* a\n";
+
+const NEW: &[u8] = b"* b\n* c\n* d\n";
+
+fn has_contents(alloc: Global, files: &mut Memory, wanted: &[u8]) -> Result<bool, AllocError> {
     let mut buf = Vec::new(alloc);
-    files.read_into(name, &mut buf)?;
-    Ok(buf)
+    match files.read_into("g", &mut buf) {
+        Ok(_) => Ok(buf.as_slice() == wanted),
+        Err(_) => Err(AllocError),
+    }
 }
 
 // Whether a file has its new contents, or the old ones if there was no memory for the new.
-fn is_replaced(alloc: Global, old: &[u8], new: &[u8]) -> Result<bool, ReadError> {
+fn push_replaced(alloc: Global, out: &mut String) -> Result<(), AllocError> {
     let mut files = Memory::new(alloc);
-    files.insert("g", old)?;
-    let wanted = match files.insert("g", new) {
-        Ok(()) => new,
-        Err(_) => old,
+    files.insert("g", OLD)?;
+    let wanted = match files.insert("g", NEW) {
+        Ok(()) => NEW,
+        Err(_) => OLD,
     };
-    let found = contents(alloc, &mut files, "g")?;
-    Ok(found.as_slice() == wanted)
+    out.push_str(if has_contents(alloc, &mut files, wanted)? {
+        "replaced"
+    } else {
+        "lost"
+    })
 }
 
 #[test]
-fn without_memory_files_stay(rt: HostRuntime) -> Result<(), ReadError> {
-    let (alloc, old, new) = (rt.alloc(), b"* a\n", b"* b\n* c\n* d\n");
-    assert!(rt; is_replaced(alloc, old, new).or_else(|_| is_replaced(alloc, old, new))?);
-    Ok(())
+fn without_memory_files_stay(rt: HostRuntime) -> Result<(), AllocError> {
+    expect_report(&rt, rt.alloc(), Report::Replaced, "replaced")
 }
 
-fn file_of_user(alloc: Global) -> Result<Option<String>, AllocError> {
+fn push_file_of_user(alloc: Global, out: &mut String) -> Result<(), AllocError> {
     let prefixes = Prefixes {
         installation: None,
         system: None,
     };
     let mut home = Some(String::from_str(alloc, "/home/u")?);
-    Source::Git.storage_location(alloc, &prefixes, |name: &str| {
+    let file = Source::Git.storage_location(alloc, &prefixes, |name: &str| {
         if name == "HOME" { home.take() } else { None }
-    })
+    })?;
+    write!(out, "{file:?}")
 }
 
 #[test]
 fn without_memory_the_file_of_the_user_is_named_again(rt: HostRuntime) -> Result<(), AllocError> {
-    let alloc = rt.alloc();
-    let file = file_of_user(alloc).or_else(|_| file_of_user(alloc))?;
-    assert_eq!(rt; file.as_deref(), Some("/home/u/.config/git/attributes"));
-    Ok(())
+    let answer = "Some(\"/home/u/.config/git/attributes\")";
+    expect_report(&rt, rt.alloc(), Report::FileOfUser, answer)
 }

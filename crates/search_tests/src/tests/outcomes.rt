@@ -3,7 +3,7 @@ use super::scene::Step::{
     Add, Begin, Clone, CopyFor, Count, Find, Fit, Numbers, Places, Renew, Reset, Rows, Select,
     Show, Turn,
 };
-use super::scene::{Step, TOP, expect};
+use super::scene::{Asked, Step, TOP, expect, expect_found};
 use gix_attributes::glob::pattern::Case::Sensitive;
 use std::alloc::AllocError;
 
@@ -25,19 +25,16 @@ const DONE: &[(&str, &[&str], &str)] = &[
     ),
 ];
 
+const SEARCHED_AGAIN: &[Step<'static>] = &[Count, Find("f", Sensitive), Count, Show];
+
 #[test]
 fn a_done_outcome_stays_as_it_is(rt: HostRuntime) -> Result<(), AllocError> {
     for &(text, names, answer) in DONE {
-        let steps = [
-            Add(TOP, text),
-            Select(names),
-            Find("f", Sensitive),
-            Count,
-            Find("f", Sensitive),
-            Count,
-            Show,
-        ];
-        expect(&rt, rt.alloc(), &steps, answer)?;
+        let asked = Asked {
+            names,
+            ..Asked::all(text, "f")
+        };
+        expect_found(&rt, rt.alloc(), asked, SEARCHED_AGAIN, answer)?;
     }
     Ok(())
 }
@@ -50,8 +47,11 @@ const FILLED: &[(&str, &[&str], &str)] = &[
 #[test]
 fn only_filled_numbers_are_answered(rt: HostRuntime) -> Result<(), AllocError> {
     for &(text, names, answer) in FILLED {
-        let steps = [Add(TOP, text), Select(names), Find("f", Sensitive), Numbers];
-        expect(&rt, rt.alloc(), &steps, answer)?;
+        let asked = Asked {
+            names,
+            ..Asked::all(text, "f")
+        };
+        expect_found(&rt, rt.alloc(), asked, &[Numbers], answer)?;
     }
     Ok(())
 }
@@ -148,21 +148,17 @@ fn an_older_outcome_covers_no_new_numbers(rt: HostRuntime) -> Result<(), AllocEr
     )
 }
 
+const COPIED: &[(&[&str], &str)] = &[
+    (&["b"], "true\ndone 0 0\nOutcome(b)\n"),
+    (&[], "true\nopen 0 0\nOutcome(a, b)\n"),
+];
+
 #[test]
 fn answers_are_copied_under_another_selection(rt: HostRuntime) -> Result<(), AllocError> {
-    for (names, answer) in [
-        (["b"].as_slice(), "true\ndone 0 0\nOutcome(b)\n"),
-        ([].as_slice(), "true\nopen 0 0\nOutcome(a, b)\n"),
-    ] {
-        let steps = [
-            Add(TOP, "* a b\ng c\n"),
-            Select(&[]),
-            Find("f", Sensitive),
-            CopyFor(names),
-            Count,
-            Show,
-        ];
-        expect(&rt, rt.alloc(), &steps, answer)?;
+    for &(names, answer) in COPIED {
+        let asked = Asked::all("* a b\ng c\n", "f");
+        let steps = [CopyFor(names), Count, Show];
+        expect_found(&rt, rt.alloc(), asked, &steps, answer)?;
     }
     Ok(())
 }
@@ -210,22 +206,20 @@ fn a_reset_empties_what_was_filled(rt: HostRuntime) -> Result<(), AllocError> {
     )
 }
 
+const SELECTIONS: &[(&[&str], &str)] = &[
+    (&["b"], "true\nOutcome(a)\ntrue\nOutcome(b=1)\n"),
+    (&[], "true\nOutcome(a)\ntrue\nOutcome(b=1, a)\n"),
+];
+
 #[test]
 fn another_selection_is_looked_for(rt: HostRuntime) -> Result<(), AllocError> {
-    for (names, answer) in [
-        (["b"].as_slice(), "true\nOutcome(a)\ntrue\nOutcome(b=1)\n"),
-        ([].as_slice(), "true\nOutcome(a)\ntrue\nOutcome(b=1, a)\n"),
-    ] {
-        let steps = [
-            Add(TOP, "* b=1\n* a\n"),
-            Select(&["a"]),
-            Find("f", Sensitive),
-            Show,
-            Select(names),
-            Find("f", Sensitive),
-            Show,
-        ];
-        expect(&rt, rt.alloc(), &steps, answer)?;
+    for &(names, answer) in SELECTIONS {
+        let asked = Asked {
+            names: &["a"],
+            ..Asked::all("* b=1\n* a\n", "f")
+        };
+        let steps = [Show, Select(names), Find("f", Sensitive), Show];
+        expect_found(&rt, rt.alloc(), asked, &steps, answer)?;
     }
     Ok(())
 }

@@ -1,6 +1,6 @@
 //! Lists that are removed, and the answers of the others.
 use super::scene::Step::{Add, Begin, Find, Fit, Pop, Rows, Select, Show};
-use super::scene::{Step, TOP, expect};
+use super::scene::{Step, TOP, expect, expect_both};
 use gix_attributes::glob::pattern::Case::Sensitive;
 use std::alloc::AllocError;
 
@@ -72,21 +72,21 @@ const BODIES: &[(&str, &str, &str)] = &[
     ),
 ];
 
+const SECOND_POPPED: &[Step<'static>] = &[
+    Select(&[]),
+    Find("f", Sensitive),
+    Rows,
+    Pop,
+    Begin,
+    Find("f", Sensitive),
+    Rows,
+];
+
 #[test]
 fn a_popped_body_makes_room_for_the_one_before(rt: HostRuntime) -> Result<(), AllocError> {
     for &(first, second, answer) in BODIES {
-        let steps = [
-            Add(TOP, first),
-            Add(TOP, second),
-            Select(&[]),
-            Find("f", Sensitive),
-            Rows,
-            Pop,
-            Begin,
-            Find("f", Sensitive),
-            Rows,
-        ];
-        expect(&rt, rt.alloc(), &steps, answer)?;
+        let lists = [Add(TOP, first), Add(TOP, second)];
+        expect_both(&rt, rt.alloc(), &lists, SECOND_POPPED, answer)?;
     }
     Ok(())
 }

@@ -1,13 +1,13 @@
 //! Steps of a test: lists are added and removed, outcomes are initialised and searched, and what they have is reported.
 //!
 //! The tests of searches are lists of steps, since a function that owns a search and an outcome takes long to prove.
-use super::lists::known;
 use bstr::BStr;
 use gix_attributes::Search;
 use gix_attributes::files::Memory;
 use gix_attributes::glob::pattern::Case;
-use gix_attributes::search::{AttributeId, Match, MatchKind, MetadataCollection, Outcome};
+use gix_attributes::search::{AttributeId, Dropped, Match, MatchKind, MetadataCollection, Outcome};
 use std::alloc::{AllocError, Global};
+use std::fmt::Write;
 use std::mem;
 use std::process::Abort;
 
@@ -21,6 +21,8 @@ pub(super) enum Step<'a> {
     Add(&'a str, &'a str),
     /// Adds lines of the file at the top, in which macros are not allowed.
     AddWithoutMacros(&'a str),
+    /// Adds lines without a base, and reports those that are dropped. Macros are allowed or not.
+    Dropped(&'a str, bool),
     /// Changes to a search of the global lists, without files.
     Globals,
     /// Removes the last list.
@@ -31,6 +33,8 @@ pub(super) enum Step<'a> {
     Held,
     /// Reports the names by number, each with its body.
     Names,
+    /// Reports the name of a number.
+    NameOf(usize),
     /// Reports the number of lists.
     Lists,
     /// Changes to clones of the collection and of the search, which have to be equal.
@@ -80,35 +84,6 @@ struct Query<'a> {
     case: Case,
 }
 
-/// What a scene shows of itself: its lists, its names with the bodies of macros, and the answers of its outcomes.
-#[derive(Drop)]
-struct State {
-    lists: String,
-    names: String,
-    answers: String,
-    other_answers: String,
-}
-
-impl State {
-    // Expects what was there before a step that found no memory. A search leaves an outcome that is reset, and a copy for
-    // names may have initialised the other outcome for them.
-    fn expect_after_refusal(&self, rt: &impl Abort, step: Step<'_>, before: &State) {
-        assert_eq!(rt; self.lists.as_str(), before.lists.as_str());
-        assert_eq!(rt; self.names.as_str(), before.names.as_str());
-        if !matches!(step, Step::Find(_, _)) {
-            assert_eq!(rt; self.answers.as_str(), before.answers.as_str());
-        }
-        if !matches!(step, Step::CopyFor(_)) {
-            assert_eq!(rt; self.other_answers.as_str(), before.other_answers.as_str());
-        }
-    }
-}
-
-fn answers(alloc: Global, outcome: &Outcome) -> Result<String, AllocError> {
-    let (taken, tested) = (outcome.taken(), outcome.tested());
-    format!(in alloc; "{outcome:?} {taken} {tested}")
-}
-
 /// Two collections, two searches and two outcomes, of which steps use one each. They are in boxes: a proof drops a box by one
 /// call, and what is in none field by field, wherever it may be dropped.
 #[derive(Drop)]
@@ -148,9 +123,58 @@ pub(super) fn expect(
     steps: &[Step<'_>],
     answer: &str,
 ) -> Result<(), AllocError> {
-    let report = report(rt, alloc, steps)?;
-    assert_eq!(rt; report.as_str(), answer);
+    expect_both(rt, alloc, &[], steps, answer)
+}
+
+/// Expects this report of a scene that takes these first steps, and then the others.
+pub(super) fn expect_both(
+    rt: &impl Abort,
+    alloc: Global,
+    first: &[Step<'_>],
+    steps: &[Step<'_>],
+    answer: &str,
+) -> Result<(), AllocError> {
+    let mut out = String::new(alloc);
+    push_report(rt, first, steps, Tries::Once, &mut out)?;
+    assert_eq!(rt; out.as_str(), answer);
     Ok(())
+}
+
+/// A list of the file at the top, and a search for these names, or for all if there are none.
+#[derive(Clone, Copy)]
+pub(super) struct Asked {
+    pub(super) text: &'static str,
+    pub(super) names: &'static [&'static str],
+    pub(super) path: &'static str,
+    pub(super) case: Case,
+}
+
+impl Asked {
+    /// A search for all names.
+    pub(super) fn all(text: &'static str, path: &'static str) -> Asked {
+        Asked {
+            text,
+            names: &[],
+            path,
+            case: Case::Sensitive,
+        }
+    }
+}
+
+/// Expects this report of a search, and of the steps after it.
+pub(super) fn expect_found(
+    rt: &impl Abort,
+    alloc: Global,
+    asked: Asked,
+    steps: &[Step<'_>],
+    answer: &str,
+) -> Result<(), AllocError> {
+    let first = [
+        Step::Add(TOP, asked.text),
+        Step::Select(asked.names),
+        Step::Find(asked.path, asked.case),
+    ];
+    expect_both(rt, alloc, &first, steps, answer)
 }
 
 /// The report of a scene that takes these steps.
@@ -160,15 +184,7 @@ pub(super) fn report(
     steps: &[Step<'_>],
 ) -> Result<String, AllocError> {
     let mut out = String::new(alloc);
-    take_all(
-        rt,
-        alloc,
-        Steps {
-            steps,
-            again: false,
-        },
-        &mut out,
-    )?;
+    push_report(rt, &[], steps, Tries::Once, &mut out)?;
     Ok(out)
 }
 
@@ -191,26 +207,29 @@ pub(super) fn report_again(
     steps: &[Step<'_>],
 ) -> Result<String, AllocError> {
     let mut out = String::new(alloc);
-    take_all(rt, alloc, Steps { steps, again: true }, &mut out)?;
+    push_report(rt, &[], steps, Tries::Twice, &mut out)?;
     Ok(out)
 }
 
-// What a scene does, and whether a step that finds no memory is taken once more.
+/// Whether a step that finds no memory is taken once more.
 #[derive(Clone, Copy)]
-struct Steps<'a> {
-    steps: &'a [Step<'a>],
-    again: bool,
+enum Tries {
+    Once,
+    Twice,
 }
 
 // Nothing else owns a scene, which takes long to drop in a proof.
-fn take_all(
+fn push_report(
     rt: &impl Abort,
-    alloc: Global,
-    steps: Steps<'_>,
+    first: &[Step<'_>],
+    steps: &[Step<'_>],
+    tries: Tries,
     out: &mut String,
 ) -> Result<(), AllocError> {
+    let alloc = *out.allocator();
     let mut scene = Scene::new(alloc).or_else(|_| Scene::new(alloc))?;
-    scene.take_all(rt, alloc, steps, out)
+    scene.take_all(rt, first, tries, out)?;
+    scene.take_all(rt, steps, tries, out)
 }
 
 impl Others {
@@ -236,15 +255,15 @@ impl Scene {
     fn take_all(
         &mut self,
         rt: &impl Abort,
-        alloc: Global,
-        steps: Steps<'_>,
+        steps: &[Step<'_>],
+        tries: Tries,
         out: &mut String,
     ) -> Result<(), AllocError> {
-        for step in steps.steps {
-            if steps.again {
-                self.take_again(rt, alloc, *step, out)?;
-            } else {
-                self.take(rt, alloc, *step, out)?;
+        let alloc = *out.allocator();
+        for step in steps {
+            match tries {
+                Tries::Once => self.take(rt, alloc, *step, out)?,
+                Tries::Twice => self.take_again(rt, alloc, *step, out)?,
             }
         }
         Ok(())
@@ -258,11 +277,27 @@ impl Scene {
         step: Step<'_>,
         out: &mut String,
     ) -> Result<(), AllocError> {
-        let before = self.state_again(alloc)?;
+        let mut before = String::new(alloc);
+        if self.push_state(step, &mut before).is_err() {
+            before.clear();
+            self.push_state(step, &mut before)?;
+        }
+        self.take_from(rt, step, before.as_str(), out)
+    }
+
+    fn take_from(
+        &mut self,
+        rt: &impl Abort,
+        step: Step<'_>,
+        before: &str,
+        out: &mut String,
+    ) -> Result<(), AllocError> {
+        let alloc = *out.allocator();
         let mut report = String::new(alloc);
         if self.take(rt, alloc, step, &mut report).is_err() {
-            let after = self.state(alloc)?;
-            after.expect_after_refusal(rt, step, &before);
+            report.clear();
+            self.push_state(step, &mut report)?;
+            assert_eq!(rt; report.as_str(), before);
             report.clear();
             self.take(rt, alloc, step, &mut report)?;
         }
@@ -270,21 +305,19 @@ impl Scene {
             .or_else(|_| out.push_str(report.as_str()))
     }
 
-    fn state_again(&self, alloc: Global) -> Result<State, AllocError> {
-        match self.state(alloc) {
-            Ok(state) => Ok(state),
-            Err(_) => self.state(alloc),
-        }
-    }
-
-    fn state(&self, alloc: Global) -> Result<State, AllocError> {
+    // What a step that finds no memory has to leave as it was: the lists, the names with the bodies of macros, and the
+    // answers. But a search leaves an outcome that is reset, and a copy for names may have initialised the other outcome.
+    fn push_state(&self, step: Step<'_>, out: &mut String) -> Result<(), AllocError> {
         let (search, other_search) = (&self.search, &self.others.search);
-        Ok(State {
-            lists: format!(in alloc; "{search:?} {other_search:?}")?,
-            names: known(alloc, &self.collection)?,
-            answers: answers(alloc, &self.outcome)?,
-            other_answers: answers(alloc, &self.others.outcome)?,
-        })
+        write!(out, "{search:?} {other_search:?}\n")?;
+        push_known(&self.collection, out)?;
+        if !matches!(step, Step::Find(_, _)) {
+            push_answers(&self.outcome, out)?;
+        }
+        if !matches!(step, Step::CopyFor(_)) {
+            push_answers(&self.others.outcome, out)?;
+        }
+        Ok(())
     }
 
     fn take(
@@ -297,12 +330,14 @@ impl Scene {
         match step {
             Step::Add(source, text) => self.add(alloc, source, text, true),
             Step::AddWithoutMacros(text) => self.add(alloc, TOP, text, false),
+            Step::Dropped(text, allow_macros) => self.push_dropped(alloc, text, allow_macros, out),
             Step::Globals => self.read_globals(alloc),
             Step::Pop => self.pop(rt),
             Step::Removed => self.remove(out),
-            Step::Held => self.push_held(alloc, out),
-            Step::Names => self.push_names(alloc, out),
-            Step::Lists => self.push_count(alloc, out),
+            Step::Held => self.push_held(out),
+            Step::Names => push_known(&self.collection, out),
+            Step::NameOf(number) => self.push_name(number, out),
+            Step::Lists => self.push_count(out),
             Step::CloneLists => self.clone_lists(rt, alloc),
             Step::TurnCollections => self.turn_collections(),
             Step::Turn => self.turn(),
@@ -315,13 +350,13 @@ impl Scene {
             Step::TurnOutcomes => self.turn_outcomes(),
             Step::Clone => self.clone_outcome(alloc),
             Step::Find(path, case) => self.find(rt, alloc, Query { path, case }, out),
-            Step::Show => self.show(alloc, out),
-            Step::Count => self.count(rt, alloc, out),
+            Step::Show => self.show(out),
+            Step::Count => self.count(rt, out),
             Step::AtMost(most) => self.expect_at_most(rt, most),
-            Step::Fit => self.fit(alloc, out),
-            Step::Rows => push_rows(alloc, &self.outcome, out),
-            Step::Places => push_places(alloc, &self.outcome, out),
-            Step::Numbers => push_numbers(alloc, &self.outcome, out),
+            Step::Fit => self.fit(out),
+            Step::Rows => push_rows(&self.outcome, out),
+            Step::Places => push_places(&self.outcome, out),
+            Step::Numbers => push_numbers(&self.outcome, out),
         }
     }
 
@@ -340,47 +375,68 @@ impl Scene {
         Ok(())
     }
 
+    fn push_dropped(
+        &mut self,
+        alloc: Global,
+        text: &str,
+        allow_macros: bool,
+        out: &mut String,
+    ) -> Result<(), AllocError> {
+        let source = String::from_str(alloc, "s")?;
+        let (bytes, collection) = (text.as_bytes(), &mut self.collection);
+        let dropped = self
+            .search
+            .add_patterns_buffer(alloc, bytes, source, None, collection, allow_macros)?;
+        push_lines(&dropped, out)
+    }
+
     fn read_globals(&mut self, alloc: Global) -> Result<(), AllocError> {
         let (mut files, mut buf) = (Memory::new(alloc), Vec::new(alloc));
         let collection = &mut self.collection;
         match Search::new_globals_from(alloc, &mut files, &[], &mut buf, collection) {
-            Ok((search, _)) => self.search = Box::new(alloc, search)?,
-            Err(_) => return Err(AllocError),
+            Ok((search, _)) => {
+                *self.search = search;
+                Ok(())
+            }
+            Err(_) => Err(AllocError),
         }
-        Ok(())
+    }
+
+    // Removes the last list, and tells whether there was one. Nothing is removed if the collection does not hold the search.
+    fn pop_if_held(&mut self) -> Option<bool> {
+        if !self.collection.holds(&self.search) {
+            return None;
+        }
+        Some(self.search.pop_pattern_list(&mut self.collection).is_some())
     }
 
     fn pop(&mut self, rt: &impl Abort) -> Result<(), AllocError> {
-        assert!(rt; self.collection.holds(&self.search));
-        let _ = self.search.pop_pattern_list(&mut self.collection);
+        assert!(rt; self.pop_if_held().is_some());
         Ok(())
     }
 
-    // Nothing is removed if the collection does not hold the search.
     fn remove(&mut self, out: &mut String) -> Result<(), AllocError> {
         out.reserve(9)?;
-        if !self.collection.holds(&self.search) {
-            return out.push_str("not held\n");
-        }
-        match self.search.pop_pattern_list(&mut self.collection) {
-            Some(_) => out.push_str("removed\n"),
-            None => out.push_str("no list\n"),
-        }
+        out.push_str(match self.pop_if_held() {
+            Some(true) => "removed\n",
+            Some(false) => "no list\n",
+            None => "not held\n",
+        })
     }
 
-    fn push_held(&self, alloc: Global, out: &mut String) -> Result<(), AllocError> {
+    fn push_held(&self, out: &mut String) -> Result<(), AllocError> {
         let is_held = self.collection.holds(&self.search);
-        out.push_str(format!(in alloc; "{is_held}\n")?.as_str())
+        write!(out, "{is_held}\n")
     }
 
-    fn push_names(&self, alloc: Global, out: &mut String) -> Result<(), AllocError> {
-        let names = known(alloc, &self.collection)?;
-        out.push_str(names.as_str())
+    fn push_name(&self, number: usize, out: &mut String) -> Result<(), AllocError> {
+        let name = self.collection.name_of(AttributeId(number));
+        write!(out, "{name:?}\n")
     }
 
-    fn push_count(&self, alloc: Global, out: &mut String) -> Result<(), AllocError> {
+    fn push_count(&self, out: &mut String) -> Result<(), AllocError> {
         let count = self.search.num_pattern_lists();
-        out.push_str(format!(in alloc; "{count}\n")?.as_str())
+        write!(out, "{count}\n")
     }
 
     fn clone_lists(&mut self, rt: &impl Abort, alloc: Global) -> Result<(), AllocError> {
@@ -432,8 +488,7 @@ impl Scene {
     }
 
     fn copy(&mut self, rt: &impl Abort, alloc: Global) -> Result<(), AllocError> {
-        assert!(rt; self.outcome.is_initialized());
-        assert!(rt; self.outcome.is_current(&self.collection));
+        assert!(rt; self.outcome.is_initialized() && self.outcome.is_current(&self.collection));
         let copy = &mut self.others.outcome;
         self.outcome.copy_into(alloc, &self.collection, copy)?;
         self.turn_outcomes()
@@ -457,8 +512,7 @@ impl Scene {
         query: Query<'_>,
         out: &mut String,
     ) -> Result<(), AllocError> {
-        assert!(rt; self.outcome.is_initialized());
-        assert!(rt; self.outcome.covers(&self.search));
+        assert!(rt; self.outcome.is_initialized() && self.outcome.covers(&self.search));
         let (path, case) = (BStr::new(query.path.as_bytes()), query.case);
         // The report of a search gets its memory first, so that only the search can be refused.
         out.reserve(6)?;
@@ -474,12 +528,12 @@ impl Scene {
         outcome.iter().next().is_none() && outcome.taken() == 0 && outcome.tested() == 0
     }
 
-    fn show(&self, alloc: Global, out: &mut String) -> Result<(), AllocError> {
+    fn show(&self, out: &mut String) -> Result<(), AllocError> {
         let outcome = &self.outcome;
-        out.push_str(format!(in alloc; "{outcome:?}\n")?.as_str())
+        write!(out, "{outcome:?}\n")
     }
 
-    fn count(&self, rt: &impl Abort, alloc: Global, out: &mut String) -> Result<(), AllocError> {
+    fn count(&self, rt: &impl Abort, out: &mut String) -> Result<(), AllocError> {
         assert!(rt; self.outcome.is_initialized());
         let state = if self.outcome.is_done() {
             "done"
@@ -487,7 +541,7 @@ impl Scene {
             "open"
         };
         let (taken, tested) = (self.outcome.taken(), self.outcome.tested());
-        out.push_str(format!(in alloc; "{state} {taken} {tested}\n")?.as_str())
+        write!(out, "{state} {taken} {tested}\n")
     }
 
     fn expect_at_most(&self, rt: &impl Abort, most: u128) -> Result<(), AllocError> {
@@ -495,63 +549,80 @@ impl Scene {
         Ok(())
     }
 
-    fn fit(&self, alloc: Global, out: &mut String) -> Result<(), AllocError> {
+    fn fit(&self, out: &mut String) -> Result<(), AllocError> {
         let covers = self.outcome.covers(&self.search);
         let is_current = self.outcome.is_current(&self.collection);
-        out.push_str(format!(in alloc; "{covers} {is_current}\n")?.as_str())
+        write!(out, "{covers} {is_current}\n")
     }
 }
 
-/// The number of names in a collection.
-pub(super) fn count_of_names(collection: &MetadataCollection) -> usize {
-    let mut count = 0usize;
-    for _ in collection.iter() {
-        count = count.saturating_add(1);
-    }
-    count
-}
-
-fn push_rows(alloc: Global, outcome: &Outcome, out: &mut String) -> Result<(), AllocError> {
+fn push_rows(outcome: &Outcome, out: &mut String) -> Result<(), AllocError> {
     for found in outcome.iter() {
-        push_row(alloc, out, found)?;
+        push_row(out, found)?;
     }
     Ok(())
 }
 
 // `x=1 macro 0 2`: the assignment, the kind, the number of the macro that it comes from, and the line.
-fn push_row(alloc: Global, out: &mut String, found: Match<'_>) -> Result<(), AllocError> {
+fn push_row(out: &mut String, found: Match<'_>) -> Result<(), AllocError> {
     let kind = match found.kind {
         MatchKind::Attribute { macro_id: _ } => "attribute",
         MatchKind::Macro { parent_macro_id: _ } => "macro",
     };
     let line = found.location.sequence_number;
-    let row = match found.kind.source_id() {
-        Some(id) => format!(in alloc; "{} {kind} {} {line}\n", found.assignment, id.0)?,
-        None => format!(in alloc; "{} {kind} - {line}\n", found.assignment)?,
-    };
-    out.push_str(row.as_str())
+    match found.kind.source_id() {
+        Some(id) => write!(out, "{} {kind} {} {line}\n", found.assignment, id.0),
+        None => write!(out, "{} {kind} - {line}\n", found.assignment),
+    }
 }
 
-fn push_places(alloc: Global, outcome: &Outcome, out: &mut String) -> Result<(), AllocError> {
+fn push_places(outcome: &Outcome, out: &mut String) -> Result<(), AllocError> {
     for found in outcome.iter_selected() {
-        push_place(alloc, out, found)?;
+        push_place(out, found)?;
     }
     Ok(())
 }
 
-fn push_place(alloc: Global, out: &mut String, found: Match<'_>) -> Result<(), AllocError> {
+fn push_place(out: &mut String, found: Match<'_>) -> Result<(), AllocError> {
     let source = found.location.source.unwrap_or("-");
     let line = found.location.sequence_number;
-    let pattern = found.pattern.write_text(alloc)?;
-    let row = format!(in alloc; "{source}:{line}:{}\n", BStr::new(pattern.as_slice()))?;
-    out.push_str(row.as_str())
+    let pattern = found.pattern.write_text(*out.allocator())?;
+    write!(out, "{source}:{line}:{}\n", BStr::new(pattern.as_slice()))
 }
 
-fn push_numbers(alloc: Global, outcome: &Outcome, out: &mut String) -> Result<(), AllocError> {
+fn push_numbers(outcome: &Outcome, out: &mut String) -> Result<(), AllocError> {
     for number in 0..8 {
         if outcome.match_by_id(AttributeId(number)).is_some() {
-            out.push_str(format!(in alloc; "{number}\n")?.as_str())?;
+            write!(out, "{number}\n")?;
         }
     }
     Ok(())
+}
+
+/// Reports the names by number, each with its body.
+pub(super) fn push_known(
+    collection: &MetadataCollection,
+    out: &mut String,
+) -> Result<(), AllocError> {
+    for (name, metadata) in collection.iter() {
+        write!(out, "{name}:")?;
+        for item in metadata.macro_attributes.iter() {
+            write!(out, " {}", item.inner.as_ref())?;
+        }
+        out.push('\n')?;
+    }
+    Ok(())
+}
+
+fn push_answers(outcome: &Outcome, out: &mut String) -> Result<(), AllocError> {
+    let (taken, tested) = (outcome.taken(), outcome.tested());
+    write!(out, "{outcome:?} {taken} {tested}\n")
+}
+
+/// Reports the lines that are dropped, each with the reason.
+pub(super) fn push_lines(dropped: &[Dropped], out: &mut String) -> Result<(), AllocError> {
+    for line in dropped {
+        write!(out, "{}:{:?} ", line.line, line.reason)?;
+    }
+    out.push_str("; ")
 }

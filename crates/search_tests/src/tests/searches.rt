@@ -1,6 +1,6 @@
 //! The answers of searches.
 use super::scene::Step::{Add, AddWithoutMacros, AtMost, Count, Find, Globals, Rows, Select, Show};
-use super::scene::{Step, TOP, expect};
+use super::scene::{Asked, Step, TOP, expect, expect_both, expect_found};
 use gix_attributes::glob::pattern::Case::{self, Fold, Sensitive};
 use std::alloc::AllocError;
 
@@ -21,8 +21,7 @@ const DECIDED: &[(&str, &str, &str)] = &[
 #[test]
 fn later_lines_and_items_decide(rt: HostRuntime) -> Result<(), AllocError> {
     for &(text, path, answer) in DECIDED {
-        let steps = [Add(TOP, text), Select(&[]), Find(path, Sensitive), Show];
-        expect(&rt, rt.alloc(), &steps, answer)?;
+        expect_found(&rt, rt.alloc(), Asked::all(text, path), &[Show], answer)?;
     }
     Ok(())
 }
@@ -65,14 +64,8 @@ const TAKEN: &[(&str, u128, &str)] = &[
 #[test]
 fn no_more_items_are_taken_than_there_are(rt: HostRuntime) -> Result<(), AllocError> {
     for &(text, most, answer) in TAKEN {
-        let steps = [
-            Add(TOP, text),
-            Select(&[]),
-            Find("f", Sensitive),
-            AtMost(most),
-            Count,
-        ];
-        expect(&rt, rt.alloc(), &steps, answer)?;
+        let steps = [AtMost(most), Count];
+        expect_found(&rt, rt.alloc(), Asked::all(text, "f"), &steps, answer)?;
     }
     Ok(())
 }
@@ -95,8 +88,11 @@ const SELECTED: &[(&str, &[&str], &str, &str)] = &[
 #[test]
 fn selected_names_are_answered_in_their_order(rt: HostRuntime) -> Result<(), AllocError> {
     for &(text, names, path, answer) in SELECTED {
-        let steps = [Add(TOP, text), Select(names), Find(path, Sensitive), Show];
-        expect(&rt, rt.alloc(), &steps, answer)?;
+        let asked = Asked {
+            names,
+            ..Asked::all(text, path)
+        };
+        expect_found(&rt, rt.alloc(), asked, &[Show], answer)?;
     }
     Ok(())
 }
@@ -115,18 +111,17 @@ const IN_FOLDERS: &[(&str, Case, &str)] = &[
     ("a/B", Fold, "true\nOutcome(x=1, one)\n"),
 ];
 
+const FOLDERS: &[Step<'static>] = &[
+    Add("a/.gitattributes", "* x=1 one\n"),
+    Add("a/B/.gitattributes", "* x=2 two\n"),
+    Add("a/B/c/.gitattributes", "* x=3 three\n"),
+    Select(&[]),
+];
+
 #[test]
 fn lists_of_folders_in_one_another_are_found(rt: HostRuntime) -> Result<(), AllocError> {
     for &(path, case, answer) in IN_FOLDERS {
-        let steps = [
-            Add("a/.gitattributes", "* x=1 one\n"),
-            Add("a/B/.gitattributes", "* x=2 two\n"),
-            Add("a/B/c/.gitattributes", "* x=3 three\n"),
-            Select(&[]),
-            Find(path, case),
-            Show,
-        ];
-        expect(&rt, rt.alloc(), &steps, answer)?;
+        expect_both(&rt, rt.alloc(), FOLDERS, &[Find(path, case), Show], answer)?;
     }
     Ok(())
 }
@@ -271,14 +266,11 @@ const MACROS: &[(&str, &[&str], &str)] = &[
 #[test]
 fn macros_may_name_one_another(rt: HostRuntime) -> Result<(), AllocError> {
     for &(text, names, rows) in MACROS {
-        let steps = [
-            Add(TOP, text),
-            Select(names),
-            Find("f", Sensitive),
-            Count,
-            Rows,
-        ];
-        expect(&rt, rt.alloc(), &steps, rows)?;
+        let asked = Asked {
+            names,
+            ..Asked::all(text, "f")
+        };
+        expect_found(&rt, rt.alloc(), asked, &[Count, Rows], rows)?;
     }
     Ok(())
 }

@@ -1,57 +1,41 @@
 //! The paths of sources, and the environment variables that are looked up for them.
-use gix_attributes::{Prefixes, Source};
+use gix_attributes::Prefixes;
+use gix_attributes::Source::{self, Git, GitInstallation, Local, System};
 use std::alloc::{AllocError, Global};
-use std::test::Fail;
+use std::fmt::Write;
+use std::process::Abort;
 
-/// One prefix for git's installation and for the system, and the values of environment variables.
+/// A source with one prefix for git's installation and for the system, and with values of environment variables.
 #[derive(Clone, Copy)]
-struct Environment<'a> {
+struct Located<'a> {
+    source: Source,
     prefix: Option<&'a str>,
     variables: &'a [(&'a str, &'a str)],
+    /// The variables that are looked up, and then the path of the source's file.
+    answer: &'a str,
 }
 
-impl<'a> Environment<'a> {
-    /// Whether the source's file has this path, and exactly these variables are looked up.
-    fn gives(
-        self,
-        alloc: Global,
-        source: Source,
-        path: Option<&str>,
-        names: &str,
-    ) -> Result<bool, AllocError> {
+impl<'a> Located<'a> {
+    fn push_found(self, alloc: Global, out: &mut String) -> Result<(), AllocError> {
         let prefixes = Prefixes {
             installation: owned(alloc, self.prefix)?,
             system: owned(alloc, self.prefix)?,
         };
-        let variables = self.variables;
-        let mut looked_up = String::new(alloc);
-        let found = source.storage_location(alloc, &prefixes, |name: &str| {
-            let _ = looked_up.push_str(name);
-            let _ = looked_up.push(' ');
-            value_of(alloc, variables, name)
-        })?;
-        Ok(found.as_deref() == path && looked_up.as_str() == names)
+        let (variables, looked_up) = (self.variables, &mut *out);
+        let found = self
+            .source
+            .storage_location(alloc, &prefixes, |name: &str| {
+                let _ = write!(looked_up, "{name} ");
+                owned(alloc, value_of(variables, name)).unwrap_or(None)
+            })?;
+        write!(out, "{found:?}")
     }
 }
 
-fn with_prefix(prefix: Option<&str>) -> Environment<'_> {
-    Environment {
-        prefix,
-        variables: &[],
-    }
-}
-
-fn with_variables<'a>(variables: &'a [(&'a str, &'a str)]) -> Environment<'a> {
-    Environment {
-        prefix: None,
-        variables,
-    }
-}
-
-fn value_of(alloc: Global, variables: &[(&str, &str)], name: &str) -> Option<String> {
-    for (known, value) in variables {
-        if *known == name {
-            return String::from_str(alloc, value).ok();
+fn value_of<'a>(variables: &[(&str, &'a str)], name: &str) -> Option<&'a str> {
+    for &(known, value) in variables {
+        if known == name {
+            return Some(value);
         }
     }
     None
@@ -64,41 +48,90 @@ fn owned(alloc: Global, text: Option<&str>) -> Result<Option<String>, AllocError
     }
 }
 
-#[test]
-fn prefixes_give_the_files_of_all_users(rt: HostRuntime) -> Result<(), Fail> {
-    let alloc = rt.alloc();
-    let (installation, system) = (Source::GitInstallation, Source::System);
-    let file = Some("/gitattributes");
-    assert!(rt; with_prefix(Some("/")).gives(alloc, installation, file, "")?);
-    assert!(rt; with_prefix(None).gives(alloc, installation, None, "")?);
-    let no_system = "GIT_ATTR_NOSYSTEM ";
-    let file = Some("/usr/etc/gitattributes");
-    assert!(rt; with_prefix(Some("/usr/")).gives(alloc, system, file, no_system)?);
-    let is_set = Environment {
-        prefix: Some("/usr/"),
-        variables: &[("GIT_ATTR_NOSYSTEM", "")],
-    };
-    assert!(rt; is_set.gives(alloc, system, None, no_system)?);
+fn expect(rt: &impl Abort, alloc: Global, rows: &[Located<'_>]) -> Result<(), AllocError> {
+    let mut found = String::new(alloc);
+    for row in rows {
+        found.clear();
+        row.push_found(alloc, &mut found)?;
+        assert_eq!(rt;
+            found.as_str(),
+            row.answer,
+            "{:?} of {:?}",
+            row.source,
+            row.variables
+        );
+    }
     Ok(())
 }
 
+const OF_PREFIXES: &[Located<'static>] = &[
+    Located {
+        source: GitInstallation,
+        prefix: Some("/"),
+        variables: &[],
+        answer: "Some(\"/gitattributes\")",
+    },
+    Located {
+        source: GitInstallation,
+        prefix: None,
+        variables: &[],
+        answer: "None",
+    },
+    Located {
+        source: System,
+        prefix: Some("/usr/"),
+        variables: &[],
+        answer: "GIT_ATTR_NOSYSTEM Some(\"/usr/etc/gitattributes\")",
+    },
+    Located {
+        source: System,
+        prefix: Some("/usr/"),
+        variables: &[("GIT_ATTR_NOSYSTEM", "")],
+        answer: "GIT_ATTR_NOSYSTEM None",
+    },
+];
+
 #[test]
-fn variables_give_the_file_of_the_user(rt: HostRuntime) -> Result<(), Fail> {
-    let alloc = rt.alloc();
-    let variables = [("XDG_CONFIG_HOME", "/c//"), ("HOME", "/home/u")];
-    let file = Some("/c/git/attributes");
-    let names = "XDG_CONFIG_HOME ";
-    assert!(rt; with_variables(&variables).gives(alloc, Source::Git, file, names)?);
-    let names = "XDG_CONFIG_HOME HOME ";
-    let variables = [("XDG_CONFIG_HOME", ""), ("HOME", "/home/u")];
-    let file = Some("/home/u/.config/git/attributes");
-    assert!(rt; with_variables(&variables).gives(alloc, Source::Git, file, names)?);
-    let file = Some("/.config/git/attributes");
-    assert!(rt; with_variables(&[("HOME", "")]).gives(alloc, Source::Git, file, names)?);
-    assert!(rt; with_variables(&[]).gives(alloc, Source::Git, None, names)?);
-    let file = Some("info/attributes");
-    assert!(rt; with_variables(&[]).gives(alloc, Source::Local, file, "")?);
-    Ok(())
+fn prefixes_give_the_files_of_all_users(rt: HostRuntime) -> Result<(), AllocError> {
+    expect(&rt, rt.alloc(), OF_PREFIXES)
+}
+
+const OF_VARIABLES: &[Located<'static>] = &[
+    Located {
+        source: Git,
+        prefix: None,
+        variables: &[("XDG_CONFIG_HOME", "/c//"), ("HOME", "/home/u")],
+        answer: "XDG_CONFIG_HOME Some(\"/c/git/attributes\")",
+    },
+    Located {
+        source: Git,
+        prefix: None,
+        variables: &[("XDG_CONFIG_HOME", ""), ("HOME", "/home/u")],
+        answer: "XDG_CONFIG_HOME HOME Some(\"/home/u/.config/git/attributes\")",
+    },
+    Located {
+        source: Git,
+        prefix: None,
+        variables: &[("HOME", "")],
+        answer: "XDG_CONFIG_HOME HOME Some(\"/.config/git/attributes\")",
+    },
+    Located {
+        source: Git,
+        prefix: None,
+        variables: &[],
+        answer: "XDG_CONFIG_HOME HOME None",
+    },
+    Located {
+        source: Local,
+        prefix: None,
+        variables: &[],
+        answer: "Some(\"info/attributes\")",
+    },
+];
+
+#[test]
+fn variables_give_the_file_of_the_user(rt: HostRuntime) -> Result<(), AllocError> {
+    expect(&rt, rt.alloc(), OF_VARIABLES)
 }
 
 #[test]
