@@ -5,6 +5,7 @@ mod memory;
 mod pattern_lists;
 mod patterns;
 mod quotes;
+mod repeated;
 mod short_texts;
 mod table;
 mod wildmatch;

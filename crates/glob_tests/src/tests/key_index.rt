@@ -6,34 +6,56 @@ use attr_keys::line_key::{Shape, candidate_key, line_key};
 use std::alloc::{AllocError, Global};
 use std::process::Abort;
 
-fn named(text: &[u8], wildcard: Option<usize>) -> Shape<'_> {
-    Shape {
-        text,
-        wildcard,
-        is_macro: false,
-        asks_name: true,
-        is_end: false,
-    }
+/// The shape of a text that is matched against base names.
+macro_rules! named {
+    ($text:expr, $wildcard:expr) => {
+        Shape {
+            text: $text,
+            wildcard: $wildcard,
+            is_macro: false,
+            asks_name: true,
+            is_end: false,
+        }
+    };
 }
 
-fn placed(text: &[u8], wildcard: Option<usize>) -> Shape<'_> {
-    Shape {
-        asks_name: false,
-        text,
-        wildcard,
-        is_macro: false,
-        is_end: false,
-    }
+/// The shape of a text that is matched against paths.
+macro_rules! placed {
+    ($text:expr, $wildcard:expr) => {
+        Shape {
+            text: $text,
+            wildcard: $wildcard,
+            is_macro: false,
+            asks_name: false,
+            is_end: false,
+        }
+    };
 }
 
-fn ending(text: &[u8]) -> Shape<'_> {
-    Shape {
-        text,
-        wildcard: Some(0),
-        is_macro: false,
-        asks_name: true,
-        is_end: true,
-    }
+/// The shape of a star and literal bytes.
+macro_rules! ending {
+    ($text:expr) => {
+        Shape {
+            text: $text,
+            wildcard: Some(0),
+            is_macro: false,
+            asks_name: true,
+            is_end: true,
+        }
+    };
+}
+
+/// The shape of a macro's definition.
+macro_rules! definition {
+    ($text:expr) => {
+        Shape {
+            text: $text,
+            wildcard: None,
+            is_macro: true,
+            asks_name: true,
+            is_end: true,
+        }
+    };
 }
 
 fn push_keys(alloc: Global, shapes: &[Shape<'_>], keys: &mut Vec<Key>) -> Result<(), AllocError> {
@@ -64,6 +86,30 @@ struct LookUp<'a> {
     lines: &'a [usize],
 }
 
+/// A look-up of just these bytes.
+macro_rules! exact {
+    ($name:expr, $path:expr, $lines:expr) => {
+        LookUp {
+            name: $name,
+            path: $path,
+            fold: false,
+            lines: $lines,
+        }
+    };
+}
+
+/// A look-up in which case doesn't matter.
+macro_rules! folded {
+    ($name:expr, $path:expr, $lines:expr) => {
+        LookUp {
+            name: $name,
+            path: $path,
+            fold: true,
+            lines: $lines,
+        }
+    };
+}
+
 fn found(alloc: Global, keys: &KeyIndex, lookup: LookUp<'_>) -> Result<Vec<usize>, AllocError> {
     let texts = Texts {
         name: lookup.name,
@@ -89,106 +135,73 @@ fn expect(
     Ok(())
 }
 
-fn exact(name: &'static [u8], path: &'static [u8], lines: &'static [usize]) -> LookUp<'static> {
-    LookUp {
-        name,
-        path,
-        fold: false,
-        lines,
-    }
-}
+const SHAPES: &[Shape<'static>] = &[
+    named!(b"README", None),
+    ending!(b"*.c"),
+    named!(b"ext0_*", Some(5)),
+    placed!(b"src/lib.rs", None),
+    placed!(b"docs/**", Some(5)),
+    named!(b"*foo*", Some(0)),
+    definition!(b"README"),
+    named!(b"readme", None),
+    named!(b"README", None),
+];
 
-fn folded(name: &'static [u8], path: &'static [u8], lines: &'static [usize]) -> LookUp<'static> {
-    LookUp {
-        name,
-        path,
-        fold: true,
-        lines,
-    }
-}
-
-// The keys of README, *.c, ext0_*, src/lib.rs, docs/**, *foo*, a macro, readme and README.
-fn keys(alloc: Global) -> Result<Box<KeyIndex>, AllocError> {
-    let definition = Shape {
-        text: b"README",
-        wildcard: None,
-        is_macro: true,
-        asks_name: true,
-        is_end: true,
-    };
-    let shapes = [
-        named(b"README", None),
-        ending(b"*.c"),
-        named(b"ext0_*", Some(5)),
-        placed(b"src/lib.rs", None),
-        placed(b"docs/**", Some(5)),
-        named(b"*foo*", Some(0)),
-        definition,
-        named(b"readme", None),
-        named(b"README", None),
-    ];
-    index_of(alloc, &shapes)
-}
-
-fn each_key() -> [LookUp<'static>; 7] {
-    [
-        exact(b"ext0_a.c", b"docs/ext0_a.c", &[5, 4, 2, 1]),
-        exact(b"README", b"README", &[8, 5, 0]),
-        folded(b"README", b"README", &[8, 7, 5, 0]),
-        exact(b"lib.rs", b"src/lib.rs", &[5, 3]),
-        folded(b"lib.rsx", b"src/lib.rsx", &[5]),
-        exact(b"LIB.RS", b"SRC/LIB.RS", &[5]),
-        folded(b"LIB.RS", b"SRC/LIB.RS", &[5, 3]),
-    ]
-}
+const EACH_KEY: &[LookUp<'static>] = &[
+    exact!(b"ext0_a.c", b"docs/ext0_a.c", &[5, 4, 2, 1]),
+    exact!(b"README", b"README", &[8, 5, 0]),
+    folded!(b"README", b"README", &[8, 7, 5, 0]),
+    exact!(b"lib.rs", b"src/lib.rs", &[5, 3]),
+    folded!(b"lib.rsx", b"src/lib.rsx", &[5]),
+    exact!(b"LIB.RS", b"SRC/LIB.RS", &[5]),
+    folded!(b"LIB.RS", b"SRC/LIB.RS", &[5, 3]),
+];
 
 #[test]
 fn lines_of_each_key(rt: HostRuntime) -> Result<(), AllocError> {
-    let lookups = each_key();
-    let keys = keys(rt.alloc())?;
-    expect(&rt, rt.alloc(), &keys, &lookups)
+    let keys = index_of(rt.alloc(), SHAPES)?;
+    expect(&rt, rt.alloc(), &keys, EACH_KEY)
 }
 
-fn last_bytes() -> [LookUp<'static>; 2] {
-    [exact(b".c", b"a/.c", &[5, 1]), exact(b"c", b"a/c", &[5])]
-}
+const LAST_BYTES: &[LookUp<'static>] = &[
+    exact!(b".c", b"a/.c", &[5, 1]),
+    exact!(b"c", b"a/c", &[5]),
+];
 
 #[test]
 fn ends_are_told_by_their_last_bytes(rt: HostRuntime) -> Result<(), AllocError> {
-    let lookups = last_bytes();
-    let keys = keys(rt.alloc())?;
-    expect(&rt, rt.alloc(), &keys, &lookups)
+    let keys = index_of(rt.alloc(), SHAPES)?;
+    expect(&rt, rt.alloc(), &keys, LAST_BYTES)
 }
 
-// The candidate keys of ext0_*, ext0 and src/lib.rs.
+const CANDIDATES: &[Shape<'static>] = &[
+    named!(b"ext0_*", Some(5)),
+    named!(b"ext0", None),
+    placed!(b"src/lib.rs", None),
+];
+
 fn candidates(alloc: Global) -> Result<Box<KeyIndex>, AllocError> {
-    let shapes = [
-        named(b"ext0_*", Some(5)),
-        named(b"ext0", None),
-        placed(b"src/lib.rs", None),
-    ];
     let mut keys: Vec<Key> = Vec::new(alloc);
-    for shape in shapes {
-        keys.push(candidate_key(alloc, shape)?)?;
+    for shape in CANDIDATES {
+        keys.push(candidate_key(alloc, *shape)?)?;
     }
     boxed(alloc, keys)
 }
 
 #[test]
 fn candidates_know_no_fronts(rt: HostRuntime) -> Result<(), AllocError> {
-    let lookups = [exact(b"x", b"x", &[2, 0])];
-    let index = candidates(rt.alloc())?;
-    expect(&rt, rt.alloc(), &index, &lookups)
+    let keys = candidates(rt.alloc())?;
+    expect(&rt, rt.alloc(), &keys, &[exact!(b"x", b"x", &[2, 0])])
 }
 
 fn push_letter(alloc: Global, letter: u8, keys: &mut Vec<Key>) -> Result<(), AllocError> {
     let text = [letter, b'/', b'x', letter];
     let (end, front) = ([b'*', b'.', letter], [letter, b'/', b'*']);
     let shapes = [
-        named(&text[2..], None),
-        ending(&end),
-        placed(&front, Some(2)),
-        placed(&text, None),
+        named!(&text[2..], None),
+        ending!(&end),
+        placed!(&front, Some(2)),
+        placed!(&text, None),
     ];
     push_keys(alloc, &shapes, keys)
 }
@@ -202,21 +215,18 @@ fn many_keys(alloc: Global) -> Result<Box<KeyIndex>, AllocError> {
     boxed(alloc, keys)
 }
 
-fn letters() -> [LookUp<'static>; 5] {
-    [
-        exact(b"xb", b"c/xb", &[10, 4]),
-        exact(b"xl", b"l/xl", &[47, 46, 44]),
-        exact(b"xb.d", b"b/xb.d", &[13, 6]),
-        exact(b"XB", b"B/XB", &[]),
-        folded(b"XB", b"B/XB", &[7, 6, 4]),
-    ]
-}
+const LETTERS: &[LookUp<'static>] = &[
+    exact!(b"xb", b"c/xb", &[10, 4]),
+    exact!(b"xl", b"l/xl", &[47, 46, 44]),
+    exact!(b"xb.d", b"b/xb.d", &[13, 6]),
+    exact!(b"XB", b"B/XB", &[]),
+    folded!(b"XB", b"B/XB", &[7, 6, 4]),
+];
 
 #[test]
 fn many_keys_are_looked_up(rt: HostRuntime) -> Result<(), AllocError> {
-    let lookups = letters();
     let keys = many_keys(rt.alloc())?;
-    expect(&rt, rt.alloc(), &keys, &lookups)
+    expect(&rt, rt.alloc(), &keys, LETTERS)
 }
 
 // The keys of a*, aa* and so on, up to twelve letters.
@@ -224,28 +234,26 @@ fn fronts(alloc: Global) -> Result<Box<KeyIndex>, AllocError> {
     let text = b"aaaaaaaaaaaa*";
     let mut keys = Vec::new(alloc);
     for front in 1..13 {
-        keys.push(line_key(alloc, named(&text[12 - front..], Some(front)))?)?;
+        let shape = named!(&text[12 - front..], Some(front));
+        keys.push(line_key(alloc, shape)?)?;
     }
     boxed(alloc, keys)
 }
 
-fn fronts_of_fronts() -> [LookUp<'static>; 3] {
-    [
-        exact(b"aaab", b"aaab", &[2, 1, 0]),
-        exact(b"aaaaaaaaaaa", b"x", &[10, 9, 8, 7, 6, 5, 4, 3, 2, 1, 0]),
-        folded(b"ba", b"ba", &[]),
-    ]
-}
+const FRONTS: &[LookUp<'static>] = &[
+    exact!(b"aaab", b"aaab", &[2, 1, 0]),
+    exact!(b"aaaaaaaaaaa", b"x", &[10, 9, 8, 7, 6, 5, 4, 3, 2, 1, 0]),
+    folded!(b"ba", b"ba", &[]),
+];
 
 #[test]
 fn fronts_of_fronts_are_found(rt: HostRuntime) -> Result<(), AllocError> {
-    let lookups = fronts_of_fronts();
-    let index = fronts(rt.alloc())?;
-    expect(&rt, rt.alloc(), &index, &lookups)
+    let keys = fronts(rt.alloc())?;
+    expect(&rt, rt.alloc(), &keys, FRONTS)
 }
 
 // Names for which a hash by multiplications, of eight bytes at once and then of the last eight, is the same.
-const CROWD: [&[u8; 24]; 20] = [
+const CROWD: &[&[u8]] = &[
     b"2fGiYJ6G\x19\xEE3w\xE2\xF2\x924AAAAAAAA",
     b"7x7eMHbM\x1E@y\xB4{\xE8\xF0\x90AAAAAAAA",
     b"GlocQ0fu\xC7f\x85\xC5+-A\x02AAAAAAAA",
@@ -271,37 +279,43 @@ const CROWD: [&[u8; 24]; 20] = [
 fn crowded(alloc: Global) -> Result<Box<KeyIndex>, AllocError> {
     let mut keys = Vec::new(alloc);
     for name in CROWD {
-        push_keys(alloc, &[named(name, None)], &mut keys)?;
+        keys.push(line_key(alloc, named!(name, None))?)?;
     }
     boxed(alloc, keys)
 }
 
-fn lines_of(alloc: Global, keys: &KeyIndex, name: &[u8]) -> Result<Vec<usize>, AllocError> {
-    let lookup = LookUp {
-        name,
-        path: name,
-        fold: false,
-        lines: &[],
-    };
-    found(alloc, keys, lookup)
+fn expect_crowd(rt: &impl Abort, alloc: Global, keys: &KeyIndex) -> Result<(), AllocError> {
+    for (line, name) in CROWD.iter().enumerate() {
+        expect(rt, alloc, keys, &[exact!(name, name, &[line])])?;
+    }
+    Ok(())
 }
 
 #[test]
 fn names_that_share_a_hash_are_told_apart(rt: HostRuntime) -> Result<(), AllocError> {
     let keys = crowded(rt.alloc())?;
-    for (line, name) in CROWD.iter().enumerate() {
-        let lines = lines_of(rt.alloc(), &keys, *name)?;
-        assert_eq!(rt; lines.as_slice(), [line].as_slice());
-    }
-    Ok(())
+    expect_crowd(&rt, rt.alloc(), &keys)
 }
+
+fn twenty_equal_keys(alloc: Global) -> Result<Box<KeyIndex>, AllocError> {
+    let mut keys = Vec::new(alloc);
+    for _ in 0..20 {
+        keys.push(line_key(alloc, named!(b"same", None))?)?;
+    }
+    boxed(alloc, keys)
+}
+
+const TWENTY_LINES: &[usize] = &[
+    19, 18, 17, 16, 15, 14, 13, 12, 11, 10, 9, 8, 7, 6, 5, 4, 3, 2, 1, 0,
+];
 
 #[test]
 fn a_name_of_many_lines(rt: HostRuntime) -> Result<(), AllocError> {
-    let keys = index_of(rt.alloc(), &[named(b"same", None); 20])?;
-    let lines = lines_of(rt.alloc(), &keys, b"same")?;
-    assert_eq!(rt; lines.len(), 20);
-    assert_eq!(rt; lines.first().copied(), Some(19));
-    assert_eq!(rt; lines.last().copied(), Some(0));
-    Ok(())
+    let keys = twenty_equal_keys(rt.alloc())?;
+    expect(
+        &rt,
+        rt.alloc(),
+        &keys,
+        &[exact!(b"same", b"same", TWENTY_LINES)],
+    )
 }

@@ -7,11 +7,29 @@ use attr_glob::{Pattern, search};
 use bstr::BStr;
 use std::alloc::{AllocError, Global};
 use std::process::Abort;
-use std::test::Fail;
 
 // One mapping for each line: its first word is the pattern.
 #[derive(PartialEq, Eq, PartialOrd, Ord, Hash, Debug, Drop)]
 pub(super) struct Lines;
+
+fn push_line(
+    alloc: Global,
+    number: usize,
+    line: &[u8],
+    patterns: &mut Vec<Mapping<u8>>,
+    dropped: &mut Vec<usize>,
+) -> Result<(), AllocError> {
+    let Some(pattern) = Pattern::from_bytes(alloc, line)? else {
+        dropped.push(number)?;
+        return Ok(());
+    };
+    patterns.push(Mapping {
+        pattern,
+        value: 7,
+        sequence_number: number,
+    })?;
+    Ok(())
+}
 
 impl search::Pattern for Lines {
     type Value = u8;
@@ -31,14 +49,7 @@ impl search::Pattern for Lines {
         let mut patterns = Vec::new(alloc);
         let mut dropped = Vec::new(alloc);
         for (number, line) in bytes.split(|byte| *byte == b'\n').enumerate() {
-            match Pattern::from_bytes(alloc, line)? {
-                Some(pattern) => patterns.push(Mapping {
-                    pattern,
-                    value: 7,
-                    sequence_number: number,
-                })?,
-                None => dropped.push(number)?,
-            }
+            push_line(alloc, number, line, &mut patterns, &mut dropped)?;
         }
         Ok((patterns, dropped))
     }
@@ -78,26 +89,26 @@ fn file_read(alloc: Global, source: String) -> Result<Vec<String>, AllocError>
     Ok(names)
 }
 
-#[test]
-fn sources_reach_the_parser(rt: HostRuntime) -> Result<(), Fail> {
-    for source in ["", ".gitattributes", "sub/.gitattributes"] {
-        let names = file_read(rt.alloc(), String::from_str(rt.alloc(), source)?)?;
-        assert_eq!(rt; names.len(), 1);
-        assert_eq!(rt; names[0].as_str(), source);
-    }
-    Ok(())
+// Whether this is the one file that is read.
+fn is_read(alloc: Global, source: &str) -> Result<bool, AllocError> {
+    let names = file_read(alloc, String::from_str(alloc, source)?)?;
+    Ok(names.len() == 1 && names[0].as_str() == source)
 }
 
-// A file, the root below which it is found, and the base of its list.
-#[derive(Clone, Copy)]
-struct Based {
-    source: &'static str,
-    root: Option<&'static str>,
-    base: Option<&'static str>,
+#[test]
+fn sources_reach_the_parser(rt: HostRuntime) -> Result<(), AllocError> {
+    assert!(rt; is_read(rt.alloc(), "")?);
+    assert!(rt; is_read(rt.alloc(), ".gitattributes")?);
+    assert!(rt; is_read(rt.alloc(), "sub/.gitattributes")?);
+    Ok(())
 }
 
 // A test owns few values at a time, since each call that may fail has to drop them all in a proof. A list and an index
 // are in boxes: a proof drops a box by one call, and what is in none field by field.
+
+pub(super) fn boxed(alloc: Global, list: List<Lines>) -> Result<Box<List<Lines>>, AllocError> {
+    Ok(Box::new(alloc, list)?)
+}
 
 pub(super) fn read(
     alloc: Global,
@@ -107,91 +118,62 @@ pub(super) fn read(
 ) -> Result<(Box<List<Lines>>, Vec<usize>), AllocError> {
     let source = String::from_str(alloc, source)?;
     let (list, dropped) = List::from_bytes(alloc, text, source, root, Lines)?;
-    Ok((Box::new(alloc, list)?, dropped))
+    Ok((boxed(alloc, list)?, dropped))
 }
 
-fn expect_base(rt: &impl Abort, alloc: Global, row: Based) -> Result<(), AllocError> {
-    let (list, dropped) = read(alloc, b"x\n\ny", row.source, row.root)?;
-    assert_eq!(rt; list.patterns.len(), 2);
+pub(super) fn expect_list(rt: &impl Abort, list: &List<Lines>, source: &str, base: Option<&[u8]>) {
+    assert!(rt; list.patterns.len() == 2 && list.source.as_deref() == Some(source));
+    assert!(rt; list.base.as_deref() == base, "{source}");
+}
+
+// Expects the list of a file, below this root, to have this base.
+fn expect_base(
+    rt: &impl Abort,
+    alloc: Global,
+    source: &str,
+    root: Option<&str>,
+    base: Option<&[u8]>,
+) -> Result<(), AllocError> {
+    let (list, dropped) = read(alloc, b"x\n\ny", source, root)?;
+    expect_list(rt, &list, source, base);
     assert_eq!(rt; dropped.as_slice(), [1].as_slice());
-    assert!(rt; list.source.as_deref() == Some(row.source));
-    assert!(rt; list.base.as_deref() == row.base.map(|base| base.as_bytes()));
     Ok(())
 }
 
-fn expect_bases(rt: &impl Abort, alloc: Global, rows: &[Based]) -> Result<(), AllocError> {
-    for row in rows {
-        expect_base(rt, alloc, *row)?;
-    }
-    Ok(())
-}
-
-const BASES: &[Based] = &[
-    Based {
-        source: "a/b/.gitattributes",
-        root: Some("a"),
-        base: Some("b/"),
-    },
-    Based {
-        source: "a/b/.gitattributes",
-        root: Some("a/"),
-        base: Some("b/"),
-    },
-    Based {
-        source: "a/b/.gitattributes",
-        root: Some("a/b"),
-        base: None,
-    },
-    Based {
-        source: "a/b/.gitattributes",
-        root: Some("ab"),
-        base: None,
-    },
-    Based {
-        source: "a/b/.gitattributes",
-        root: Some("/"),
-        base: None,
-    },
-    Based {
-        source: "/x/.gitattributes",
-        root: Some("/"),
-        base: Some("x/"),
-    },
-    Based {
-        source: ".gitattributes",
-        root: Some(""),
-        base: None,
-    },
-    Based {
-        source: "sub/.gitattributes",
-        root: Some(""),
-        base: Some("sub/"),
-    },
-    Based {
-        source: "a//b/.gitattributes",
-        root: Some("a//"),
-        base: Some("b/"),
-    },
-    Based {
-        source: "a/b/.gitattributes",
-        root: Some("a//"),
-        base: None,
-    },
-    Based {
-        source: "a.b/c/.gitattributes",
-        root: Some("a"),
-        base: None,
-    },
-    Based {
-        source: "a/b/.gitattributes",
-        root: None,
-        base: None,
-    },
+// Files, the roots that they are below, and the bases of their lists.
+const BELOW: &[(&str, &str, &[u8])] = &[
+    ("a/b/.gitattributes", "a", b"b/"),
+    ("a/b/.gitattributes", "a/", b"b/"),
+    ("/x/.gitattributes", "/", b"x/"),
+    ("sub/.gitattributes", "", b"sub/"),
+    ("a//b/.gitattributes", "a//", b"b/"),
 ];
 
 #[test]
 fn bases_of_sources(rt: HostRuntime) -> Result<(), AllocError> {
-    expect_bases(&rt, rt.alloc(), BASES)
+    for &(source, root, base) in BELOW {
+        expect_base(&rt, rt.alloc(), source, Some(root), Some(base))?;
+    }
+    Ok(())
+}
+
+// Files that stand in their root or elsewhere, or have none.
+const NOT_BELOW: &[(&str, Option<&str>)] = &[
+    ("a/b/.gitattributes", Some("a/b")),
+    ("a/b/.gitattributes", Some("ab")),
+    ("a/b/.gitattributes", Some("/")),
+    (".gitattributes", Some("")),
+    ("a/b/.gitattributes", Some("a//")),
+    ("a.b/c/.gitattributes", Some("a")),
+    ("a/b/.gitattributes", None),
+];
+
+#[test]
+fn sources_without_bases(rt: HostRuntime) -> Result<(), AllocError> {
+    for &(source, root) in NOT_BELOW {
+        expect_base(&rt, rt.alloc(), source, root, None)?;
+    }
+    Ok(())
 }
 
 fn stripped<'a>(
@@ -217,12 +199,20 @@ const STRIPPED: &[(&[u8], Case, Option<(&[u8], Option<usize>)>)] = &[
     (b"subway", Case::Sensitive, None),
 ];
 
+fn expect_stripped(
+    rt: &impl Abort,
+    list: &List<Lines>,
+    rows: &[(&[u8], Case, Option<(&[u8], Option<usize>)>)],
+) {
+    for &(path, case, below) in rows {
+        assert_eq!(rt; stripped(list, path, case), below);
+    }
+}
+
 #[test]
 fn strips_bases(rt: HostRuntime) -> Result<(), AllocError> {
     let (list, _) = read(rt.alloc(), b"/x", "sub/.gitattributes", Some(""))?;
-    for &(path, case, below) in STRIPPED {
-        assert!(rt; stripped(&list, path, case) == below);
-    }
+    expect_stripped(&rt, &list, STRIPPED);
     Ok(())
 }
 
@@ -230,7 +220,7 @@ fn strips_bases(rt: HostRuntime) -> Result<(), AllocError> {
 fn a_list_without_a_base_strips_nothing(rt: HostRuntime) -> Result<(), AllocError> {
     let (list, _) = read(rt.alloc(), b"/x", "", None)?;
     let below = stripped(&list, b"d/x", Case::Fold);
-    assert!(rt; below == Some((b"d/x".as_slice(), Some(2))));
+    assert_eq!(rt; below, Some((b"d/x".as_slice(), Some(2))));
     Ok(())
 }
 
@@ -239,19 +229,27 @@ fn is_copied(alloc: Global, list: &List<Lines>) -> Result<bool, AllocError> {
     Ok(copy == *list)
 }
 
-#[test]
-fn copies_lists(rt: HostRuntime) -> Result<(), Fail> {
-    let (list, _) = read(rt.alloc(), b"/x\na", "sub/.gitattributes", Some(""))?;
-    assert!(rt; is_copied(rt.alloc(), &list)?);
-    for mapping in &list.patterns {
-        assert!(rt; mapping.clone(rt.alloc())? == *mapping);
+fn are_mappings_copied(alloc: Global, mappings: &[Mapping<u8>]) -> Result<bool, AllocError> {
+    for mapping in mappings {
+        if mapping.clone(alloc)? != *mapping {
+            return Ok(false);
+        }
     }
+    Ok(true)
+}
+
+#[test]
+fn copies_lists(rt: HostRuntime) -> Result<(), AllocError> {
+    let (list, _) = read(rt.alloc(), b"/x\na", "sub/.gitattributes", Some(""))?;
+    let is_copied = is_copied(rt.alloc(), &list)?;
+    let are_copied = are_mappings_copied(rt.alloc(), &list.patterns)?;
+    assert!(rt; is_copied && are_copied);
     Ok(())
 }
 
 pub(super) fn listed(alloc: Global, text: &[u8]) -> Result<Box<List<Lines>>, AllocError> {
     let (list, _) = List::from_bytes(alloc, text, String::new(alloc), None, Lines)?;
-    Ok(Box::new(alloc, list)?)
+    boxed(alloc, list)
 }
 
 pub(super) fn index_of(alloc: Global, list: &List<Lines>) -> Result<Box<Index>, AllocError> {
@@ -289,27 +287,40 @@ const CANDIDATES: &[(&[u8], Case, &[usize])] = &[
     (b"D/X.RS", Case::Sensitive, &[5, 4]),
 ];
 
-#[test]
-fn candidates_of_few_lines(rt: HostRuntime) -> Result<(), AllocError> {
-    let text = b"*.rs\n*s\n*.c\nx.rs\n/x.rs\nd/x.rs";
-    for &(path, case, places) in CANDIDATES {
-        let found = candidates(rt.alloc(), text, path, case)?;
+fn expect_candidates(
+    rt: &impl Abort,
+    alloc: Global,
+    text: &[u8],
+    rows: &[(&[u8], Case, &[usize])],
+) -> Result<(), AllocError> {
+    for &(path, case, places) in rows {
+        let found = candidates(alloc, text, path, case)?;
         assert_eq!(rt; found.as_slice(), places);
     }
     Ok(())
 }
 
-fn is_of(alloc: Global, list: &List<Lines>, other: &List<Lines>) -> Result<bool, AllocError> {
+#[test]
+fn candidates_of_few_lines(rt: HostRuntime) -> Result<(), AllocError> {
+    let text = b"*.rs\n*s\n*.c\nx.rs\n/x.rs\nd/x.rs";
+    expect_candidates(&rt, rt.alloc(), text, CANDIDATES)
+}
+
+// Whether the index of a list is of it, and of another one.
+fn is_of(
+    alloc: Global,
+    list: &List<Lines>,
+    other: &List<Lines>,
+) -> Result<(bool, bool), AllocError> {
     let index = index_of(alloc, list)?;
-    Ok(index.is_of(other))
+    Ok((index.is_of(list), index.is_of(other)))
 }
 
 #[test]
 fn an_index_is_of_its_list(rt: HostRuntime) -> Result<(), AllocError> {
     let list = listed(rt.alloc(), b"*.rs\n*s")?;
     let other = listed(rt.alloc(), b"f\nf")?;
-    assert!(rt; is_of(rt.alloc(), &list, &list)?);
-    assert!(rt; !is_of(rt.alloc(), &list, &other)?);
+    assert_eq!(rt; is_of(rt.alloc(), &list, &other), Ok((true, false)));
     Ok(())
 }
 
@@ -345,7 +356,6 @@ fn a_thousand_lines(alloc: Global) -> Result<String, AllocError> {
 #[test]
 fn candidates_of_a_thousand_lines(rt: HostRuntime) -> Result<(), AllocError> {
     let text = a_thousand_lines(rt.alloc())?;
-    let found = candidates(rt.alloc(), text.as_bytes(), b"d/f7", Case::Sensitive)?;
-    assert_eq!(rt; found.as_slice(), [7].as_slice());
-    Ok(())
+    let rows = [(b"d/f7".as_slice(), Case::Sensitive, [7].as_slice())];
+    expect_candidates(&rt, rt.alloc(), text.as_bytes(), &rows)
 }

@@ -1,11 +1,9 @@
-//! Worked rows: pattern texts, and the paths that patterns match.
+//! Worked rows: pattern texts, their modes, and the base names of paths.
 use attr_glob::Pattern;
 use attr_glob::pattern::{Case, Mode, base_name, base_name_place};
 use bitflags::Flags;
-use bstr::BStr;
 use std::alloc::{AllocError, Global};
 use std::process::Abort;
-use std::test::Fail;
 
 // A pattern's text in a file, and the pattern.
 #[derive(Clone, Copy)]
@@ -17,7 +15,7 @@ struct Row {
     written: &'static str,
 }
 
-const ROWS: [Row; 9] = [
+const ROWS: &[Row] = &[
     Row {
         input: "!*.rs",
         text: "*.rs",
@@ -84,10 +82,23 @@ const ROWS: [Row; 9] = [
 ];
 
 fn expect_fields(rt: &impl Abort, pattern: &Pattern, row: &Row) {
-    assert_eq!(rt; pattern.text.as_slice(), row.text.as_bytes());
-    assert_eq!(rt; pattern.mode.bits(), row.mode);
-    assert_eq!(rt; pattern.first_wildcard_pos, row.wildcard);
-    assert_eq!(rt; pattern.is_negative(), row.input.starts_with('!'));
+    let (text, mode) = (pattern.text.as_slice(), pattern.mode.bits());
+    assert_eq!(rt;
+        (
+            text,
+            mode,
+            pattern.first_wildcard_pos,
+            pattern.is_negative()
+        ),
+        (
+            row.text.as_bytes(),
+            row.mode,
+            row.wildcard,
+            row.input.starts_with('!')
+        ),
+        "{}",
+        row.input
+    );
 }
 
 fn expect_copy(
@@ -97,9 +108,13 @@ fn expect_copy(
     row: &Row,
 ) -> Result<(), AllocError> {
     let copy = pattern.clone(alloc)?;
-    assert!(rt; copy == *pattern);
     let written = copy.write_text(alloc)?;
-    assert_eq!(rt; written.as_slice(), row.written.as_bytes());
+    assert_eq!(rt;
+        (copy == *pattern, written.as_slice()),
+        (true, row.written.as_bytes()),
+        "{}",
+        row.input
+    );
     Ok(())
 }
 
@@ -111,16 +126,24 @@ fn expect_read(rt: &impl Abort, alloc: Global, row: &Row) -> Result<(), AllocErr
 
 #[test]
 fn reads_patterns(rt: HostRuntime) -> Result<(), AllocError> {
-    for row in &ROWS {
+    for row in ROWS {
         expect_read(&rt, rt.alloc(), row)?;
     }
     Ok(())
 }
 
+fn expect_none(rt: &impl Abort, alloc: Global, text: &str) -> Result<(), AllocError> {
+    let pattern = Pattern::from_bytes(alloc, text.as_bytes())?;
+    assert!(rt; pattern.is_none(), "{text:?}");
+    Ok(())
+}
+
+const BLANK: &[&str] = &["!", "", " ", "! \t\n\x0c\r"];
+
 #[test]
 fn blank_patterns_are_none(rt: HostRuntime) -> Result<(), AllocError> {
-    for blank in ["!", "", " ", "! \t\n\x0c\r"] {
-        assert!(rt; Pattern::from_bytes(rt.alloc(), blank.as_bytes())?.is_none());
+    for blank in BLANK {
+        expect_none(&rt, rt.alloc(), blank)?;
     }
     Ok(())
 }
@@ -133,30 +156,37 @@ fn orders_modes_and_cases(rt: HostRuntime) {
     assert!(rt; Case::Sensitive < Case::Fold);
 }
 
+// A mode has these bits. It is empty without any, and all five are 31.
+fn expect_bits(rt: &impl Abort, mode: Mode, bits: u32) {
+    assert_eq!(rt;
+        (mode.bits(), mode.is_empty(), mode.is_all()),
+        (bits, bits == 0, bits == 31)
+    );
+}
+
 // As the pages of bitflags define them, over the five bits of the modes.
 #[test]
 fn modes_are_sets(rt: HostRuntime) {
+    expect_bits(&rt, Mode::empty(), 0);
+    expect_bits(&rt, Mode::all(), 31);
+    expect_bits(&rt, Mode::from_bits_truncate(33), 1);
+    expect_bits(&rt, Mode::from_bits_retain(33), 33);
     let both = Mode::NO_SUB_DIR.union(Mode::ABSOLUTE);
     let other = Mode::ENDS_WITH.union(Mode::ABSOLUTE);
-    for (mode, bits) in [
-        (Mode::empty(), 0),
-        (Mode::all(), 31),
-        (Mode::from_bits_truncate(33), 1),
-        (Mode::from_bits_retain(33), 33),
-        (both.intersection(other), 16),
-        (both.difference(other), 1),
-        (both.symmetric_difference(other), 3),
-        (both.complement(), 14),
-    ] {
-        assert_eq!(rt; mode.bits(), bits);
-        assert_eq!(rt; mode.is_empty(), bits == 0);
-        assert_eq!(rt; mode.is_all(), bits == 31);
-    }
+    expect_bits(&rt, both.intersection(other), 16);
+    expect_bits(&rt, both.difference(other), 1);
+    expect_bits(&rt, both.symmetric_difference(other), 3);
+    expect_bits(&rt, both.complement(), 14);
     assert!(rt; both.contains(Mode::ABSOLUTE) && !both.contains(other));
     assert!(rt; both.intersects(other) && !both.intersects(Mode::ENDS_WITH));
-    assert!(rt; Mode::from_bits(31) == Some(Mode::all()) && Mode::from_bits(32).is_none());
-    assert!(rt; Mode::from_name("ENDS_WITH") == Some(Mode::ENDS_WITH));
-    assert!(rt; Mode::from_name("ends_with").is_none());
+}
+
+#[test]
+fn modes_have_names(rt: HostRuntime) {
+    let (known, unknown) = (Mode::from_bits(31), Mode::from_bits(32));
+    assert_eq!(rt; (known, unknown), (Some(Mode::all()), None));
+    let (named, unnamed) = (Mode::from_name("ENDS_WITH"), Mode::from_name("ends_with"));
+    assert_eq!(rt; (named, unnamed), (Some(Mode::ENDS_WITH), None));
     assert_eq!(rt; Mode::flags().len(), 5);
 }
 
@@ -164,125 +194,37 @@ fn modes_are_sets(rt: HostRuntime) {
 fn modes_change(rt: HostRuntime) {
     let mut mode = Mode::from_bits_retain(33);
     mode.insert(Mode::NEGATIVE);
-    assert_eq!(rt; mode.bits(), 41);
+    expect_bits(&rt, mode, 41);
     mode.remove(Mode::NO_SUB_DIR);
-    assert_eq!(rt; mode.bits(), 40);
+    expect_bits(&rt, mode, 40);
     mode.toggle(Mode::MUST_BE_DIR);
-    assert_eq!(rt; mode.bits(), 44);
+    expect_bits(&rt, mode, 44);
     mode.set(Mode::NEGATIVE, false);
-    assert_eq!(rt; mode.bits(), 36);
+    expect_bits(&rt, mode, 36);
     assert!(rt; mode.contains_unknown_bits());
     mode.truncate();
-    assert!(rt; mode == Mode::MUST_BE_DIR);
+    expect_bits(&rt, mode, Mode::MUST_BE_DIR.bits());
     mode.clear();
-    assert!(rt; mode.is_empty());
+    expect_bits(&rt, mode, 0);
 }
 
-// Whether the pattern text matches the path.
-fn takes(
-    alloc: Global,
-    text: &[u8],
-    path: &[u8],
-    is_dir: Option<bool>,
-    case: Case,
-) -> Result<bool, AllocError> {
-    let Some(pattern) = Pattern::from_bytes(alloc, text)? else {
-        return Ok(false);
-    };
-    matches(alloc, &pattern, path, is_dir, case)
-}
-
-fn matches(
-    alloc: Global,
-    pattern: &Pattern,
-    path: &[u8],
-    is_dir: Option<bool>,
-    case: Case,
-) -> Result<bool, AllocError> {
-    let place = base_name_place(path);
-    pattern.matches_repo_relative_path(alloc, BStr::new(path), place, is_dir, case)
-}
-
-const PATHS: &[(&str, &str, bool)] = &[
-    ("a/**/b", "a/b", true),
-    ("a/**/b", "a/c/d/b", true),
-    ("a/**/b", "ab", false),
-    ("a/**", "a/b", true),
-    ("a/**", "a", false),
-    ("/*", "a", true),
-    ("/*", "a/b", false),
-    ("/a", "a", true),
-    ("/a", "d/a", false),
-    ("d/a", "d/a", true),
-    ("d/a", "x/d/a", false),
-    ("a", "d/a", true),
-    ("a", "a/d", false),
-    ("*.rs", "src/lib.rs", true),
-    ("/*.rs", "src/lib.rs", false),
-    ("*b", "B", false),
-    ("*", "d/", true),
-    ("x?[", "xy", false),
+// Paths, the places of their base names, and these.
+const BASE_NAMES: &[(&str, Option<usize>, &str)] = &[
+    ("a/b/c", Some(4), "c"),
+    ("a/", Some(2), ""),
+    ("a", None, "a"),
+    ("", None, ""),
 ];
 
-#[test]
-fn matches_paths(rt: HostRuntime) -> Result<(), Fail> {
-    for &(text, path, matched) in PATHS {
-        let answer = takes(
-            rt.alloc(),
-            text.as_bytes(),
-            path.as_bytes(),
-            Some(false),
-            Case::Sensitive,
-        )?;
-        assert_eq!(rt; answer, matched, "{text} {path}");
-    }
-    Ok(())
-}
-
-#[test]
-fn folds_and_asks_for_directories(rt: HostRuntime) -> Result<(), Fail> {
-    let alloc = rt.alloc();
-    assert!(rt; takes(alloc, b"*b", b"B", None, Case::Fold)?);
-    assert!(rt; takes(alloc, b"Read?e", b"README", None, Case::Fold)?);
-    assert!(rt; !takes(alloc, b"Read?e", b"README", None, Case::Sensitive)?);
-    assert!(rt; takes(alloc, b"d/", b"d", Some(true), Case::Sensitive)?);
-    assert!(rt; !takes(alloc, b"d/", b"d", Some(false), Case::Sensitive)?);
-    assert!(rt; !takes(alloc, b"d/", b"d", None, Case::Sensitive)?);
-    Ok(())
-}
-
-// Texts, the bits of their modes (2 is `ENDS_WITH`), and places of wildcards.
-const BUILT_BY_HAND: &[(&str, u32, Option<usize>)] = &[
-    ("", 2, Some(0)),
-    ("ab", 2, Some(9)),
-    ("*", u32::MAX, None),
-    ("[", 0, Some(1)),
-    ("a", u32::MAX, Some(usize::MAX)),
-];
-
-// Such patterns return, whatever they answer.
-#[test]
-fn patterns_built_by_hand_return(rt: HostRuntime) -> Result<(), Fail> {
-    let alloc = rt.alloc();
-    for &(text, bits, first_wildcard_pos) in BUILT_BY_HAND {
-        let text = Vec::from_slice(alloc, text.as_bytes())?;
-        let pattern = Pattern {
-            text,
-            mode: Mode::from_bits_retain(bits),
-            first_wildcard_pos,
-        };
-        let _answer = matches(alloc, &pattern, b"d/ab", Some(true), Case::Fold)?;
-    }
-    Ok(())
+fn expect_base_name(rt: &impl Abort, path: &[u8], place: Option<usize>, name: &[u8]) {
+    let found = base_name_place(path);
+    assert_eq!(rt; found, place);
+    assert_eq!(rt; base_name(path, found), name);
 }
 
 #[test]
 fn places_of_base_names(rt: HostRuntime) {
-    assert_eq!(rt; base_name_place(b"a/b/c"), Some(4));
-    assert_eq!(rt; base_name_place(b"a/"), Some(2));
-    assert_eq!(rt; base_name_place(b"a"), None);
-    assert_eq!(rt; base_name_place(b""), None);
-    assert_eq!(rt; base_name(b"a/b/c", Some(4)), b"c".as_slice());
-    assert_eq!(rt; base_name(b"a/", Some(2)), b"".as_slice());
-    assert_eq!(rt; base_name(b"a", None), b"a".as_slice());
+    for &(path, place, name) in BASE_NAMES {
+        expect_base_name(&rt, path.as_bytes(), place, name.as_bytes());
+    }
 }

@@ -1,21 +1,28 @@
 //! Worked rows: quoted texts.
+use super::repeated::repeated;
 use attr_glob::quote::ansi_c::{UndoError, undo};
 use bstr::BStr;
 use std::alloc::{AllocError, Global};
 use std::borrow::CowSlice;
-use std::test::Fail;
+use std::process::Abort;
+
+fn plain_text(alloc: Global, plain: &CowSlice<'_, u8>, taken: usize) -> Result<String, AllocError> {
+    let kept = match plain {
+        CowSlice::Borrowed(_) => "lent",
+        CowSlice::Owned(_) => "owned",
+    };
+    format!(in alloc; "{kept} {:?} {taken}", plain.as_slice())
+}
+
+fn refusal_text(alloc: Global, refusal: &UndoError) -> Result<String, AllocError> {
+    format!(in alloc; "{refusal}")
+}
 
 // What undoing answers, in plain words.
 fn undone_text(alloc: Global, text: &str) -> Result<String, AllocError> {
     match undo(alloc, BStr::from(text)) {
-        Ok((plain, taken)) => {
-            let kept = match &plain {
-                CowSlice::Borrowed(_) => "lent",
-                CowSlice::Owned(_) => "owned",
-            };
-            format!(in alloc; "{kept} {:?} {taken}", plain.as_slice())
-        }
-        Err(refusal) => format!(in alloc; "{refusal}"),
+        Ok((plain, taken)) => plain_text(alloc, &plain, taken),
+        Err(refusal) => refusal_text(alloc, &refusal),
     }
 }
 
@@ -35,32 +42,36 @@ const QUOTES: &[(&str, &str)] = &[
     ("", "not quoted"),
 ];
 
-#[test]
-fn undoes_quotes(rt: HostRuntime) -> Result<(), Fail> {
-    for &(text, want) in QUOTES {
-        let answer = undone_text(rt.alloc(), text)?;
+fn expect_undone(rt: &impl Abort, alloc: Global, rows: &[(&str, &str)]) -> Result<(), AllocError> {
+    for &(text, want) in rows {
+        let answer = undone_text(alloc, text)?;
         assert_eq!(rt; answer.as_str(), want);
     }
     Ok(())
 }
 
 #[test]
-fn names_want_of_memory(rt: HostRuntime) -> Result<(), Fail> {
-    let text = format!(in rt.alloc(); "{}", UndoError::OutOfMemory)?;
+fn undoes_quotes(rt: HostRuntime) -> Result<(), AllocError> {
+    expect_undone(&rt, rt.alloc(), QUOTES)
+}
+
+#[test]
+fn names_want_of_memory(rt: HostRuntime) -> Result<(), AllocError> {
+    let text = refusal_text(rt.alloc(), &UndoError::OutOfMemory)?;
     assert_eq!(rt; text.as_str(), "out of memory");
     Ok(())
 }
 
+// How many bytes are taken of the text, and how many plain ones they give.
+fn undone_lengths(alloc: Global, text: &[u8]) -> Result<(usize, usize), UndoError> {
+    let (plain, taken) = undo(alloc, BStr::new(text))?;
+    Ok((taken, plain.as_slice().len()))
+}
+
 #[test]
-fn undoes_a_long_text(rt: HostRuntime) -> Result<(), Fail> {
-    let mut text = Vec::new(rt.alloc());
-    text.push(b'"')?;
-    for _ in 0..1_000_000 {
-        text.extend_from_slice(b"\\n")?;
-    }
-    text.push(b'"')?;
-    let (plain, taken) = undo(rt.alloc(), BStr::new(&text))?;
-    assert_eq!(rt; taken, 2_000_002);
-    assert_eq!(rt; plain.as_slice().len(), 1_000_000);
+fn undoes_a_long_text(rt: HostRuntime) -> Result<(), AllocError> {
+    let text = repeated(rt.alloc(), &[("\"", 1), (r"\n", 1_000_000), ("\"", 1)])?;
+    let lengths = undone_lengths(rt.alloc(), &text);
+    assert_eq!(rt; lengths.ok(), Some((2_000_002, 1_000_000)));
     Ok(())
 }

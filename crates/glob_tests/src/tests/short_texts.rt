@@ -6,7 +6,7 @@ use attr_glob::pattern::Case;
 use attr_glob::token::Tokens;
 use attr_glob::wildmatch::{self, MatchBuffers};
 use std::alloc::{AllocError, Global};
-use std::test::Fail;
+use std::process::Abort;
 
 // The bytes of the texts. Each of them but `a` has a meaning; a bracket of these has single bytes alone.
 const TEXT_BYTES: [u8; 6] = *b"*?/a[]";
@@ -32,16 +32,24 @@ enum Part<'t> {
 
 // Whether the part takes just this.
 fn takes(part: &Part<'_>, taken: &[u8], case: Case) -> bool {
-    match (part, taken) {
-        (Part::Byte(own), [byte]) => is_same(*own, *byte, case),
-        (Part::Any, [byte]) => *byte != b'/',
-        (Part::OneOf(bytes), [byte]) => {
-            *byte != b'/' && bytes.iter().any(|own| is_same(*own, *byte, case))
-        }
-        (Part::Star, _) => !taken.contains(&b'/'),
-        (Part::Folders, _) => taken.is_empty() || taken.last() == Some(&b'/'),
-        (Part::All, _) => true,
-        (Part::Byte(_) | Part::Any | Part::OneOf(_), _) => false,
+    match part {
+        Part::Star => !taken.contains(&b'/'),
+        Part::Folders => taken.is_empty() || taken.last() == Some(&b'/'),
+        Part::All => true,
+        Part::Byte(_) | Part::Any | Part::OneOf(_) => match taken {
+            [byte] => takes_byte(part, *byte, case),
+            _ => false,
+        },
+    }
+}
+
+// Whether a part of one byte takes this one.
+fn takes_byte(part: &Part<'_>, byte: u8, case: Case) -> bool {
+    match part {
+        Part::Byte(own) => is_same(*own, byte, case),
+        Part::Any => byte != b'/',
+        Part::OneOf(bytes) => byte != b'/' && bytes.iter().any(|own| is_same(*own, byte, case)),
+        Part::Star | Part::Folders | Part::All => false,
     }
 }
 
@@ -127,64 +135,101 @@ fn word(alloc: Global, bytes: &[u8], number: usize) -> Result<Vec<u8>, AllocErro
     Ok(word)
 }
 
-// Whether the kept tokens match the value.
-fn kept_take(
-    tokens: &Tokens,
-    value: &[u8],
-    case: Case,
-    rows: &mut MatchBuffers,
-) -> Result<bool, AllocError> {
-    rows.reserve(tokens.places())?;
-    Ok(tokens.matches(value, case, rows))
+// A text that is read by both readers; each gives nothing where a bracket isn't closed.
+#[derive(Clone, Copy)]
+struct Readings<'a> {
+    text: &'a [u8],
+    parts: Option<&'a [Part<'a>]>,
+    tokens: Option<&'a Tokens>,
 }
 
-// Whether the matchers give the same answer for each value.
+impl Readings<'_> {
+    fn takes(self, value: &[u8], case: Case) -> bool {
+        match self.parts {
+            None => false,
+            Some(parts) => take_all(parts, value, case),
+        }
+    }
+
+    // Whether the kept tokens match the value.
+    fn kept_take(
+        self,
+        value: &[u8],
+        case: Case,
+        rows: &mut MatchBuffers,
+    ) -> Result<bool, AllocError> {
+        let Some(tokens) = self.tokens else {
+            return Ok(false);
+        };
+        rows.reserve(tokens.places())?;
+        Ok(tokens.matches(value, case, rows))
+    }
+
+    // Whether the matchers give the same answer for each value.
+    fn agree(
+        self,
+        alloc: Global,
+        values: &[Vec<u8>],
+        case: Case,
+        rows: &mut MatchBuffers,
+    ) -> Result<bool, AllocError> {
+        for value in values {
+            let plain = self.takes(value, case);
+            let kept = self.kept_take(value, case, rows)?;
+            let (counted, _) = wildmatch::count(alloc, self.text, value, case)?;
+            if counted != plain || kept != plain {
+                return Ok(false);
+            }
+        }
+        Ok(true)
+    }
+}
+
+// Whether the matchers agree on all values, and whether they do with case ignored.
 fn agree(
     alloc: Global,
     text: &[u8],
     values: &[Vec<u8>],
-    case: Case,
     rows: &mut MatchBuffers,
-) -> Result<bool, AllocError> {
+) -> Result<(bool, bool), AllocError> {
     let parts = parts(alloc, text)?;
     let tokens = Tokens::read(alloc, text)?;
-    for value in values {
-        let plain = match &parts {
-            None => false,
-            Some(parts) => take_all(parts, value, case),
-        };
-        let kept = match &tokens {
-            None => false,
-            Some(tokens) => kept_take(tokens, value, case, rows)?,
-        };
-        let (counted, _) = wildmatch::count(alloc, text, value, case)?;
-        if counted != plain || kept != plain {
-            return Ok(false);
-        }
-    }
-    Ok(true)
+    let readings = Readings {
+        text,
+        parts: parts.as_deref(),
+        tokens: tokens.as_ref(),
+    };
+    let agreed = readings.agree(alloc, values, Case::Sensitive, rows)?;
+    Ok((agreed, readings.agree(alloc, values, Case::Fold, rows)?))
 }
 
-#[test]
-fn each_short_text_takes_what_the_rules_say(rt: HostRuntime) -> Result<(), Fail> {
-    let alloc = rt.alloc();
+fn expect_agreement(
+    rt: &impl Abort,
+    alloc: Global,
+    values: &[Vec<u8>],
+    rows: &mut MatchBuffers,
+) -> Result<(), AllocError> {
+    for number in 0..TEXTS {
+        let text = word(alloc, &TEXT_BYTES, number)?;
+        let agreed = agree(alloc, &text, values, rows)?;
+        assert_eq!(rt; agreed, (true, true), "{text:?}");
+    }
+    Ok(())
+}
+
+fn all_values(alloc: Global) -> Result<Vec<Vec<u8>>, AllocError> {
     let mut values = Vec::new(alloc);
     for number in 0..VALUES {
         values.push(word(alloc, &VALUE_BYTES, number)?)?;
     }
-    let mut rows = MatchBuffers::new(alloc);
-    for number in 0..TEXTS {
-        let text = word(alloc, &TEXT_BYTES, number)?;
-        assert!(rt;
-            agree(alloc, &text, &values, Case::Sensitive, &mut rows)?,
-            "{text:?}"
-        );
-        assert!(rt;
-            agree(alloc, &text, &values, Case::Fold, &mut rows)?,
-            "{text:?}, folded"
-        );
-    }
-    Ok(())
+    Ok(values)
+}
+
+#[test]
+fn each_short_text_takes_what_the_rules_say(rt: HostRuntime) -> Result<(), AllocError> {
+    let values = all_values(rt.alloc())?;
+    let mut rows = MatchBuffers::new(rt.alloc());
+    expect_agreement(&rt, rt.alloc(), &values, &mut rows)
 }
 
 const WORDS: &[(&[u8], usize, &[u8])] = &[
@@ -195,10 +240,23 @@ const WORDS: &[(&[u8], usize, &[u8])] = &[
     (&VALUE_BYTES, VALUES, b"aaaaa"),
 ];
 
+fn expect_word(
+    rt: &impl Abort,
+    alloc: Global,
+    bytes: &[u8],
+    number: usize,
+    spelled: &[u8],
+) -> Result<(), AllocError> {
+    assert!(rt; !bytes.is_empty());
+    let word = word(alloc, bytes, number)?;
+    assert_eq!(rt; word.as_slice(), spelled);
+    Ok(())
+}
+
 #[test]
-fn words_are_all_the_short_ones(rt: HostRuntime) -> Result<(), Fail> {
+fn words_are_all_the_short_ones(rt: HostRuntime) -> Result<(), AllocError> {
     for &(bytes, number, spelled) in WORDS {
-        assert_eq!(rt; word(rt.alloc(), bytes, number)?.as_slice(), spelled);
+        expect_word(&rt, rt.alloc(), bytes, number, spelled)?;
     }
     Ok(())
 }

@@ -108,18 +108,25 @@ struct Worked {
 }
 
 impl Worked {
+    // Searches, and returns how many items it takes.
+    fn search(
+        self,
+        rt: &impl Abort,
+        alloc: Global,
+        slots: &mut [Option<Answer<'static>>],
+    ) -> Result<u128, AllocError> {
+        assert!(rt; is_in_range(self.lists, self.bodies, self.wanted, slots.len()));
+        search(alloc, self.lists, self.bodies, self.wanted, slots)
+    }
+
     fn expect(self, rt: &impl Abort, alloc: Global) -> Result<(), AllocError> {
         let mut slots: Vec<Option<Answer<'static>>> = vec![in alloc; None; self.answers.len()]?;
-        assert!(rt; is_in_range(self.lists, self.bodies, self.wanted, slots.len()));
-        let taken = search(
-            alloc,
-            self.lists,
-            self.bodies,
-            self.wanted,
-            slots.as_mut_slice(),
-        )?;
-        assert!(rt; slots.as_slice() == self.answers, "{}", self.lines);
-        assert!(rt; taken == self.taken, "{}", self.lines);
+        let taken = self.search(rt, alloc, slots.as_mut_slice())?;
+        assert!(rt;
+            slots.as_slice() == self.answers && taken == self.taken,
+            "{}",
+            self.lines
+        );
         Ok(())
     }
 }
