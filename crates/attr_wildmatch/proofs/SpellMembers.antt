@@ -4,12 +4,13 @@ use Rattle.std.proofs.Common.{length, drop, Option, Some, None, option_map, code
 use Rattle.std.specs.Str.{bytes_eq}
 use Rattle.std.proofs.lemmas.Slice.Eq.{bytes_eq-Decides}
 use Rattle.attr_wildmatch.specs.declared.bracket.Class.{Class}
-use Rattle.attr_wildmatch.specs.declared.bracket.Class.TheVariants.{Alnum, Alpha, Blank, Cntrl, Digit, Graph, Lower, Print, Punct, Space, Upper, Xdigit}
+use Rattle.attr_wildmatch.specs.declared.bracket.Class.TheVariants.{Alnum, Alpha, Blank, Cntrl, Digit, Graph, Lower, Print}
+use Rattle.attr_wildmatch.specs.declared.bracket.Class.TheVariants.{Punct, Space, Upper, Xdigit}
 use Rattle.attr_wildmatch.specs.declared.bracket.Member.{Member}
 use Rattle.attr_wildmatch.specs.declared.bracket.Member.TheVariants.{Single, Span, Named}
 use Rattle.attr_wildmatch.specs.Bytes.{hyphen, colon, open_bracket, backslash, close_bracket}
-use Rattle.attr_wildmatch.specs.Brackets.{class_named, begins, name_in, span_end, ranged, from_single, from_escape, class_member, from_class, member_at}
-use Rattle.attr_wildmatch.specs.Brackets.{members}
+use Rattle.attr_wildmatch.specs.Brackets.{class_named, begins, name_in, span_end, ranged, from_single, from_escape, class_member}
+use Rattle.attr_wildmatch.specs.Brackets.{from_class, member_at, members}
 use Rattle.attr_wildmatch.specs.Spelling.{class_name, BeginsClass, IsSingle, IsEnd, IsMember, AreMembers}
 use Rattle.attr_wildmatch.proofs.Basics.{by_test, unequal, equal, equal_so, not_equal, and_parts, and_both, or_left, or_right, true_false, pair_parts}
 use Rattle.attr_wildmatch.proofs.Basics.{by_option, each_of_all, all_of_each}

@@ -16,8 +16,8 @@ abbrev pub noted_place : NotedPlaces → NotedText → ℕ
 noted_place noted text = if is_short text then recent_place noted.recent text.number else unwrap_or (get nat_eq noted.long text.key) 0
 
 -- only one of two texts is short, or both are long and have different keys: what is noted for one leaves the other's place
-abbrev pub AreApart : NotedText → NotedText → Type 0
-AreApart one other = (is_short one ≢ is_short other) ⊎ ((is_short one ≡ false) × (is_short other ≡ false) × (one.key ≢ other.key))
+abbrev pub AreNotedApart : NotedText → NotedText → Type 0
+AreNotedApart one other = (is_short one ≢ is_short other) ⊎ ((is_short one ≡ false) × (is_short other ≡ false) × (one.key ≢ other.key))
 
 abbrev pub KeepsApart : NotedText → NotedPlaces → NotedPlaces → Type 0
-KeepsApart text before after = (other : NotedText) → AreApart text other → noted_place after other ≡ noted_place before other
+KeepsApart text before after = (other : NotedText) → AreNotedApart text other → noted_place after other ≡ noted_place before other
