@@ -205,24 +205,29 @@ impl Step<'_> {
     }
 }
 
-// Moves the row over the value. Returns whether the tokens match it, and how many pairs of a place among the
-// tokens and a place in the value were visited. The count fits: it is at most (n + 1)(t + 1) for n tokens, fewer than
-// 2^63, and t bytes.
+// Whether tokens match a value, and how many pairs of a place among the tokens and a place in the value were visited.
+#[derive(Clone, Copy)]
+struct Counted {
+    is_match: bool,
+    visits: u128,
+}
+
+// Moves the row over the value. The count fits: it is at most (n + 1)(t + 1) for n tokens, fewer than 2^63, and t bytes.
 fn run(
     tokens: &[Token],
     value: &[u8],
     case: Case,
     row: &mut Vec<usize>,
     next: &mut Vec<usize>,
-) -> (bool, u128)
+) -> Counted
     requires few { length tokens.now < 2 ^ 63 }
     requires bordered { is_bordered true (tokens_of tokens.now) ≡ true }
     requires room { length tokens.now < vec_capacity row.old }
     requires room_next { length tokens.now < vec_capacity next.old }
-    ensures matched { IsTrue result.0 ↔ Match case (tokens_of tokens.now) value.now }
-    ensures at_most { result.1 ≤ (length tokens.now + 1) * (length value.now + 1) }
-    ensures found { IsTrue result.0 → length tokens.now < result.1 }
-    ensures missed { ReachedAtMost case (tokens_of tokens.now) value.now result.1 }
+    ensures matched { IsTrue result.is_match ↔ Match case (tokens_of tokens.now) value.now }
+    ensures at_most { result.visits ≤ (length tokens.now + 1) * (length value.now + 1) }
+    ensures found { IsTrue result.is_match → length tokens.now < result.visits }
+    ensures missed { ReachedAtMost case (tokens_of tokens.now) value.now result.visits }
     ensures room { KeepsCapacity row.old next.old row.new next.new }
 {
     row.clear();
@@ -230,7 +235,10 @@ fn run(
     let mut visits = row.len() as u128;
     for byte in value {
         if free == 0 {
-            return (false, visits);
+            return Counted {
+                is_match: false,
+                visits,
+            };
         }
         let step = Step {
             tokens,
@@ -241,7 +249,10 @@ fn run(
         mem::swap(row, next);
         visits += row.len() as u128;
     }
-    (free == tokens.len() + 1, visits)
+    Counted {
+        is_match: free == tokens.len() + 1,
+        visits,
+    }
 }
 
 // Takes tokens of one byte each off the front, with the bytes that they take. None if one takes no byte.
@@ -387,7 +398,8 @@ impl Tokens {
         ensures missed { ReachedAtMost case self.now value.now result.1 }
         ensures room { rows.old ≤ rows.new }
     {
-        run(self.as_slice(), value, case, &mut rows.row, &mut rows.next)
+        let counted = run(self.as_slice(), value, case, &mut rows.row, &mut rows.next);
+        (counted.is_match, counted.visits)
     }
 
     /// Whether the tokens match the whole value. Takes no memory. Tokens of one byte at either end are compared

@@ -108,7 +108,7 @@ fn match_folders(
         match answer_front(others, rest, case) {
             Some(true) => return true,
             Some(false) => {}
-            None => return run(tokens, rest, case, &mut rows.row, &mut rows.next).0,
+            None => return run(tokens, rest, case, &mut rows.row, &mut rows.next).is_match,
         }
         let Some(below) = next_folder(others, rest, case) else {
             return false;
@@ -139,5 +139,5 @@ pub(crate) fn match_early(
     if let Some(answer) = match_stretches(tokens, value, case) {
         return answer;
     }
-    run(tokens, value, case, &mut rows.row, &mut rows.next).0
+    run(tokens, value, case, &mut rows.row, &mut rows.next).is_match
 }

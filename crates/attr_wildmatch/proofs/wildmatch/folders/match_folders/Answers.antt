@@ -7,5 +7,5 @@ use Rattle.attr_wildmatch.proofs.wildmatch.folders.match_folders.Goals as goal
 pub returns-in-None-clause-matched : goal.returns-in-None-clause-matched
 returns-in-None-clause-matched c =
     let f = matches c.args.case (tokens_of c.args.others.now) in
-    exact_answer c.args.case (tokens_of c.args.tokens.now) c.loop-rows.rest.now c.run.result.0 c.run.ensures.matched.0 c.run.ensures.matched.1
+    exact_answer c.args.case (tokens_of c.args.tokens.now) c.loop-rows.rest.now c.run.result.is_match c.run.ensures.matched.0 c.run.ensures.matched.1
     ∙ (ap (λ ts. matches c.args.case ts c.loop-rows.rest.now) c.requires.folder ∙ sym c.loop-rows.invariant.0)
