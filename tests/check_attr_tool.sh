@@ -368,6 +368,122 @@ YEKTROD_CHECK_ATTR=false
 refused 128 'the program failed' text README.md
 unset YEKTROD_CHECK_ATTR
 
+part='a file beside a folder of its name'
+git init -q "$room/namesakes"
+cd "$room/namesakes"
+mkdir sub
+printf 'a/ x\na-b/ y\n' >.gitattributes
+printf '/a/ z\n' >sub/.gitattributes
+# Each order of four paths: by arguments and by standard input, lines and fields in turn.
+form=0
+for first in a a-b a.txt a/; do
+    for second in a a-b a.txt a/; do
+        for third in a a-b a.txt a/; do
+            for fourth in a a-b a.txt a/; do
+                case "$(printf '%s\n' "$first" "$second" "$third" "$fourth" | sort -u | wc -l)" in 4) ;; *) continue ;; esac
+                form=$(((form + 1) % 4))
+                case $form in
+                0) same -a -- "$first" "$second" "$third" "$fourth" ;;
+                1) same -z -a -- "$first" "$second" "$third" "$fourth" ;;
+                2)
+                    printf '%s\n' "$first" "$second" "$third" "$fourth" >"$room/input"
+                    same --stdin -a
+                    ;;
+                3)
+                    printf '%s\0' "$first" "$second" "$third" "$fourth" >"$room/input"
+                    same --stdin -a -z
+                    ;;
+                esac
+            done
+        done
+    done
+done
+printf '%s\n' sub/a/ a/ sub/a-b a a-b/ sub/a a-b sub/a.txt a.txt >"$room/some"
+tr '\n' '\0' <"$room/some" >"$room/paths"
+each_form "$room/paths"
+: >"$room/input"
+same -a a a-b a/
+same x z -- a a-b a/ sub/a sub/a/
+
+part='the top, and empty lines'
+git init -q "$room/top"
+cd "$room/top"
+mkdir sub
+printf '* y\n' >sub/.gitattributes
+for contents in '' '* x\n' '** x\n[attr]m x\nsub/ folder\n* m\n'; do
+    printf "$contents" >.gitattributes
+    same -a .
+    same -z -a ''
+    same -a f sub/.. sub ./ .
+    same x y -- . '' sub/.. sub/. sub/
+    printf '\n' >"$room/input"
+    same --stdin -a
+    printf 'f\nsub/\n\n' >"$room/input"
+    same --stdin -a
+    printf '\0\0sub/\0\0' >"$room/input"
+    same --stdin -a -z
+    : >"$room/input"
+done
+(cd sub && same -a .. ../ . '' f)
+rm .gitattributes sub/.gitattributes
+same -a . '' f
+
+part='no folder and no stream'
+cd "$room/top"
+printf '* x\n' >.gitattributes
+mkdir "$room/below"
+for tree in "$room/nowhere" ../../nowhere "$room/top/.gitattributes" "$room/below" ..; do
+    cp .git/config "$room/config"
+    printf '[core]\n\tworktree = %s\n' "$tree" >>.git/config
+    same -a f
+    same x -- f sub/f
+    cp "$room/config" .git/config
+done
+# What it does with streams that are full or closed, by a line for sh.
+streams() {
+    theirs=0
+    sh -c "git check-attr $1" >"$room/git" 2>"$room/warnings" || theirs=$?
+    status=0
+    sh -c "\"\$0\" $1" "$tool" >"$room/ours" 2>"$room/errors" || status=$?
+    if [ "$status" != "$theirs" ] || ! cmp -s "$room/git" "$room/ours" || ! cmp -s "$room/warnings" "$room/errors"; then
+        cat "$room/warnings" "$room/errors"
+        failed "check-attr $1: status $status, git's is $theirs"
+    fi
+    count=$((count + 1))
+}
+if [ -w /dev/full ]; then
+    streams '-a f >/dev/full'
+    streams '--stdin -z x <.gitattributes >/dev/full'
+fi
+streams '-a f >&-'
+streams '-a f <&-'
+streams '-a f 2>&-'
+streams '--stdin -a <&-'
+streams '-a f <&- >&- 2>&-'
+git check-attr -a f >"$room/git"
+for limit in 8 9 10 11 12 13 14 16; do
+    status=0
+    (ulimit -n $limit && exec "$tool" -a f) >"$room/ours" 2>"$room/errors" || status=$?
+    case $status in
+    0) cmp -s "$room/git" "$room/ours" || failed "with $limit descriptors it answers otherwise" ;;
+    128) grep -q '^fatal: ' "$room/errors" || failed "with $limit descriptors it does not say what is wrong" ;;
+    *) cat "$room/errors" && failed "with $limit descriptors its status is $status" ;;
+    esac
+    count=$((count + 1))
+done
+
+part='code of the folder'
+cd "$room/top"
+for name in re getopt os signal shutil subprocess contextlib encodings; do
+    printf 'open("%s/ran", "w")\n' "$room" >$name.py
+done
+PYTHONPATH=:$room/nowhere
+PYTHONSTARTUP=$room/top/re.py
+export PYTHONPATH PYTHONSTARTUP
+same -a f
+unset PYTHONPATH PYTHONSTARTUP
+[ ! -e "$room/ran" ] || failed 'a file of the folder was run'
+
 part='what is ours'
 git init -q "$room/ours_alone"
 cd "$room/ours_alone"
@@ -411,5 +527,51 @@ sort "$room/wanted" >"$room/sorted"
 sort "$room/ours" | diff "$room/sorted" - || failed '--show-origin --all says something else'
 ours --show-origin -z third -- x.z
 printf 'x.z\0third\0set\0.gitattributes:4\0*.z\0vendored\0' | cmp - "$room/ours" || failed '--show-origin -z says something else'
+
+part='what a repository writes is no end of a field'
+git init -q "$room/forged"
+cd "$room/forged"
+mkdir "d:7${tab}x" 2 2/.gitattributes:1
+printf '"[f\\tm\\nf: b: set\\tfake:9\\tpat]" a b\n"[\\000h].c" x\n"[g]\\t-\\nfake" c\n[attr]m d\n"[i]*" m\n' >.gitattributes
+printf '* y\n' >"d:7${tab}x/.gitattributes"
+printf '* y=:1\n' >2/.gitattributes:1/.gitattributes
+printf '!dropped: 1/:1: negative\n* z\n' >2/.gitattributes
+cat >"$room/wanted" <<'END'
+f: a: set	.gitattributes:1	"[f\tm\nf: b: set\tfake:9\tpat]"	-
+f: b: set	.gitattributes:1	"[f\tm\nf: b: set\tfake:9\tpat]"	-
+END
+ours --show-origin a b -- f
+diff "$room/wanted" "$room/ours" || failed '--show-origin is forged by a pattern'
+ours --show-origin -a f
+diff "$room/wanted" "$room/ours" || failed '--show-origin --all is forged by a pattern'
+ours --show-origin -z a b -- f
+for name in a b; do
+    printf 'f\0%s\0set\0.gitattributes:1\0[f\tm\nf: b: set\tfake:9\tpat]\0-\0' $name
+done | cmp - "$room/ours" || failed '--show-origin -z is forged by a pattern'
+cat >"$room/wanted" <<'END'
+h.c: x: set	.gitattributes:2	"[\000h].c"	-
+"g\t-\nfake": c: set	.gitattributes:3	"[g]\t-\nfake"	-
+i: m: set	.gitattributes:5	[i]*	-
+i: d: set	.gitattributes:5	[i]*	m
+"d:7\tx/q": y: set	"d:7\tx/.gitattributes:1"	*	-
+2/.gitattributes:1/q: y: :1	2/.gitattributes:1/.gitattributes:1	*	-
+2/.gitattributes:1/q: z: set	2/.gitattributes:2	*	-
+END
+ours --show-origin --all -- h.c "$(printf 'g\t-\nfake')" i "d:7${tab}x/q" 2/.gitattributes:1/q
+for file in "$room/wanted" "$room/ours"; do sort "$file" >"$file.sorted"; done
+diff "$room/wanted.sorted" "$room/ours.sorted" || failed '--show-origin is forged by a file or a folder'
+ours --show-origin -z -a h.c
+printf 'h.c\0x\0set\0.gitattributes:2\0"[\\000h].c"\0-\0' | cmp - "$room/ours" || failed '-z does not quote a NUL'
+# Differences from git that are meant: docs/DIFFERENCES.md.
+printf '/* x\n"a\\000b" y\n' >.gitattributes
+ours x y -- . a
+printf '.: x: set\n.: y: unspecified\na: x: set\na: y: unspecified\n' | diff - "$room/ours" || failed 'a difference that is meant is none'
+git check-attr x y -- . a >"$room/git"
+printf '.: x: unspecified\n.: y: unspecified\na: x: set\na: y: set\n' | diff - "$room/git" || failed 'git answers otherwise'
+printf '* u\n' >"$room/$last"
+git config core.attributesFile "$room/$last"
+ours --show-origin u v -- f
+printf 'f: u: set\t"%s/\\377\\001:1"\t*\t-\nf: v: unspecified\t-\t-\t-\n' "$room" | diff - "$room/ours" ||
+    failed '--show-origin names the file of the user otherwise'
 
 echo "check_attr_tool: $count calls answer as git check-attr does, or are refused in clear words"
