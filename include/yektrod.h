@@ -21,6 +21,7 @@
  *   5. An engine stays on the thread that opened it.
  *   6. `malloc`, `realloc` and `free` are of one allocator, and align a block to each power of two up to 16 that divides
  *      its size. No call comes from a signal handler, or from the forked child of a process with threads.
+ *   7. A call has 32 KB of stack, whatever its input.
  *
  * What is no promise, since a status answers it: a call before `yektrod_open`, after `yektrod_close`, a second open or
  * close, a number past the end, too little room, bytes that are no UTF-8, a malformed script, no memory.
