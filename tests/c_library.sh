@@ -1,7 +1,8 @@
 #!/bin/sh
 # Builds the library for C, gathers it in a folder, and runs its clients: in C as gcc and clang compile them, in Python and in
 # Rust. Each script of examples/ and of crates/script_rows/data is played by calls, and gives the answers beside it. Each request
-# for memory is refused in turn, and 32 KB of stack have to be enough. What valgrind, clang or rustc would show is left out if the machine lacks them.
+# for memory is refused in turn, and 32 KB of stack have to be enough. What valgrind, clang or rustc would show is left out if the
+# machine lacks them.
 # usage: c_library.sh [built]
 # With `built` the library is proved and built over those that `rt ci` has just built in this tree, in minutes: `rt lib` takes
 # none of these, and proves all crates below once more.
