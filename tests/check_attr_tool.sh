@@ -193,6 +193,9 @@ quietly git commit -q -a -m ours
 git merge -q other >"$room/said" 2>&1 || true
 rm a/.gitattributes
 same -a a/f a/b/f
+quietly git update-index --add --cacheinfo "160000,$(git rev-parse HEAD),module/.gitattributes"
+quietly git update-index --add --cacheinfo "160000,0000000000000000000000000000000000000001,sub/.gitattributes"
+same -a module/f sub/f a/b/f
 quietly git worktree add -q "$room/worktree" other
 mkdir -p .git/info
 echo '* info' >.git/info/attributes
