@@ -568,7 +568,8 @@ printf 'h.c\0x\0set\0.gitattributes:2\0"[\\000h].c"\0-\0' | cmp - "$room/ours" |
 # Differences from git that are meant: docs/DIFFERENCES.md.
 printf '/* x\n"a\\000b" y\n' >.gitattributes
 ours x y -- . a
-printf '.: x: set\n.: y: unspecified\na: x: set\na: y: unspecified\n' | diff - "$room/ours" || failed 'a difference that is meant is none'
+printf '.: x: set\n.: y: unspecified\na: x: set\na: y: unspecified\n' | diff - "$room/ours" ||
+    failed 'a difference that is meant is none'
 git check-attr x y -- . a >"$room/git"
 printf '.: x: unspecified\n.: y: unspecified\na: x: set\na: y: set\n' | diff - "$room/git" || failed 'git answers otherwise'
 printf '* u\n' >"$room/$last"

@@ -27,14 +27,15 @@ static void fill(void) {
     size_t n = 0;
     n += (size_t)sprintf((char *)file, "[attr]m n a1=x -b\n[attr]n binary !c m\n!x y\n* =\n");
     for (int i = 0; i < LINES; i++) {
-        n += (size_t)sprintf((char *)file + n, "*.e%d a%d\n/d/**/x%d?[!a-c[:digit:]]*b* m -a%d\n\"q\\t\\%03o%d\" eol=v%d\n**/f%d* !m n\n", i, i, i,
-                             i, 64 + i % 64, i, i, i % 9);
+        n += (size_t)sprintf((char *)file + n, "*.e%d a%d\n/d/**/x%d?[!a-c[:digit:]]*b* m -a%d\n", i, i, i, i);
+        n += (size_t)sprintf((char *)file + n, "\"q\\t\\%03o%d\" eol=v%d\n**/f%d* !m n\n", 64 + i % 64, i, i, i % 9);
     }
     file_length = n;
     n = (size_t)sprintf((char *)script, "add m 14 0 %zu\n.gitattributes", file_length);
     memcpy(script + n, file, file_length);
     n += file_length;
-    n += (size_t)sprintf((char *)script + n, "\nask l i f 9\nd/e/x7zzb\nnames 2\nm\na7\nask z s d 4\nf8.c\nask o s u 4\nx.e7\npop\nbad");
+    n += (size_t)sprintf((char *)script + n, "\nask l i f 9\nd/e/x7zzb\nnames 2\nm\na7\nask z s d 4\nf8.c\n");
+    n += (size_t)sprintf((char *)script + n, "ask o s u 4\nx.e7\npop\nbad");
     script_length = n;
 }
 
