@@ -19,7 +19,9 @@ import argparse
 import functools
 import math
 import random
+import shutil
 import string
+import subprocess
 import sys
 import tempfile
 from pathlib import Path
@@ -174,6 +176,34 @@ def crowded_names(n):
     names = crowd(n)
     asks = (b"ask l s f %d\n%s\n" % (len(name), name) for name in names[:2_000])
     return add(b"".join(name + b" a\n" for name in names)) + b"".join(asks)
+
+
+class CannotMake(Exception):
+    """The input of a case can't be made here, for this reason."""
+
+
+def names_of_one_place(n):
+    """n names of six bytes that share one of 8,192 places of a table by std's hash, made in some 10 s for 270,000."""
+    if not shutil.which("cc"):
+        raise CannotMake("there is no cc, the C compiler that crowd.c needs")
+    with tempfile.TemporaryDirectory() as room:
+        crowd = Path(room) / "crowd"
+        subprocess.run(["cc", "-O3", "-o", crowd, Path(__file__).with_name("crowd.c")], check=True)
+        return subprocess.run([crowd, str(n), "13"], stdout=subprocess.PIPE, check=True).stdout.decode().split()
+
+
+@case(67_500)
+def crowded_attributes(n):
+    """a line of n names that share a place of a table by std's hash"""
+    return add(b"* " + " ".join(names_of_one_place(n)).encode() + b"\n")
+
+
+@case(67_500)
+def scattered_attributes(n):
+    """a line of n other names of six bytes, in no order"""
+    chance = random.Random("scattered")
+    names = {"".join(chance.choices(string.ascii_letters + string.digits, k=6)): None for _ in range(n)}
+    return add(b"* " + " ".join(names).encode() + b"\n")
 
 
 @case(10_500)
@@ -538,7 +568,11 @@ def main():
         report.head(HEAD, WIDTHS)
         for name, made in CASES.items():
             if measure.is_wanted(name, options.only):
-                row = bench.row(made, options.scale)
+                try:
+                    row = bench.row(made, options.scale)
+                except CannotMake as why:
+                    report.line(f"{name} is not measured: {why}.")
+                    continue
                 marked += row.is_marked()
                 report.row(row.cells(), WIDTHS)
     report.line()

@@ -7,6 +7,7 @@ pub mod ListDefinitions
 pub mod ListLemmas
 pub mod MacroLemmas
 pub mod NameLemmas
+pub mod NameSetLemmas
 pub mod NameTableLaws
 pub mod NameTableSteps
 pub mod NamedDefinitions

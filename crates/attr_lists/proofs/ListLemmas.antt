@@ -1,10 +1,9 @@
 -- Lists and their images under a function.
-use Rattle.std.proofs.Common.{◌≡◌, ℕ, ◌+◌, ◌<◌, Bool, true, not, cond, ◌&&◌, ◌||◌, ltb, List, [], ◌∷◌, ◌++◌, length, get_or, map, position}
+use Rattle.std.proofs.Common.{◌≡◌, ℕ, ◌+◌, ◌<◌, Bool, true, ◌&&◌, ◌||◌, List, [], ◌∷◌, ◌++◌, length, get_or, map}
 use Rattle.std.proofs.Common.{slice_get, take}
-use Rattle.std.proofs.Common.{drop, set, Some, None, Result, Ok, Err, OnOk, OnErr, refl, sym, ap, ◌∙◌, arith, zero, suc, add-one}
-use Rattle.std.specs.List.{list_any, list_all, prefix_len, position_or_len}
+use Rattle.std.proofs.Common.{drop, set, Some, Result, Ok, Err, OnOk, OnErr, refl, sym, ap, ◌∙◌, arith, zero, suc, add-one}
+use Rattle.std.specs.List.{list_any, list_all}
 use Rattle.std.proofs.lemmas.Bool.{and_parts}
-use Rattle.std.proofs.lemmas.List.{length-map, get_or_default}
 
 pub list_any-map : {X Y : Type 0} (p : Y → Bool) (f : X → Y) (xs : List X) → list_any p (map f xs) ≡ list_any (λ x. p (f x)) xs
 list_any-map p f [] = refl
@@ -13,15 +12,6 @@ list_any-map p f (x ∷ xs) = ap (λ b. p (f x) || b) (list_any-map p f xs)
 pub list_all-map : {X Y : Type 0} (p : Y → Bool) (f : X → Y) (xs : List X) → list_all p (map f xs) ≡ list_all (λ x. p (f x)) xs
 list_all-map p f [] = refl
 list_all-map p f (x ∷ xs) = ap (λ b. p (f x) && b) (list_all-map p f xs)
-
-prefix_len-map : {X Y : Type 0} (p : Y → Bool) (f : X → Y) (xs : List X) → prefix_len p (map f xs) ≡ prefix_len (λ x. p (f x)) xs
-prefix_len-map p f [] = refl
-prefix_len-map p f (x ∷ xs) = ap (λ n. cond (p (f x)) (1 + n) 0) (prefix_len-map p f xs)
-
-pub position-map : {X Y : Type 0} (p : Y → Bool) (f : X → Y) (xs : List X) → position p (map f xs) ≡ position (λ x. p (f x)) xs
-position-map p f xs =
-    ap (λ n. cond (ltb n (length (map f xs))) (Some n) None) (prefix_len-map (λ y. not (p y)) f xs)
-    ∙ ap (λ l. cond (ltb (position_or_len (λ x. p (f x)) xs) l) (Some (position_or_len (λ x. p (f x)) xs)) None) (length-map xs f)
 
 -- the element at an index within the list
 pub slice_get-within : {X : Type 0} (xs : List X) (i : ℕ) (d : X) → i < length xs → slice_get xs i ≡ Some (get_or xs i d)
@@ -34,13 +24,6 @@ pub get_or-map : {X Y : Type 0} (f : X → Y) (xs : List X) (i : ℕ) (d : X) �
 get_or-map f [] i d = refl
 get_or-map f (x ∷ xs) zero d = refl
 get_or-map f (x ∷ xs) (suc i) d = get_or-map f xs i d
-
--- the text of an element that was read
-pub name_at : {X : Type 0} (f : X → List ℕ) (keys seen : List X) (n : ℕ) (item : X) (text : List ℕ) → text ≡ f item → item ≡ get_or seen n item
-    → seen ≡ keys → n < length seen → text ≡ get_or (map f keys) n []
-name_at f keys seen n item text read at same lt =
-    read ∙ (ap f (at ∙ ap (λ l. get_or l n item) same)
-    ∙ (sym (get_or-map f keys n item) ∙ get_or_default (map f keys) n (f item) [] (omega (arith, lt, length-map keys f, ap length same))))
 
 -- f of the first so many elements, and the others as they are
 abbrev pub front : {X : Type 0} → (X → X) → ℕ → List X → List X

@@ -1,13 +1,10 @@
 -- Names by number: a list that takes names grows at its end, and its names differ and are valid.
-use Rattle.std.proofs.Common.{◌≡◌, ℕ, ◌+◌, ◌<◌, true, false, cond, List, [], ◌∷◌, ◌++◌, length, get_or, drop, map, position, IsTrue, nat_eq, bytes_eq}
+use Rattle.std.proofs.Common.{◌≡◌, ℕ, ◌+◌, ◌<◌, true, false, List, [], ◌∷◌, ◌++◌, length, get_or, drop, map, IsTrue, bytes_eq}
 use Rattle.std.proofs.Common.{refl, sym, ap, subst, ◌∙◌, ⊎_elim, arith}
-use Rattle.std.specs.HashSet.{HashSet}
 use Rattle.std.specs.List.{list_any, IsDistinct}
-use Rattle.std.specs.Rc.{rc_str_bytes}
-use Rattle.std.specs.declared.rc.RcStr.{RcStr}
-use Rattle.std.specs.Cmp.Lexicographic.{pointwise, nat_list_eq_equiv}
+use Rattle.std.specs.Cmp.Lexicographic.{nat_list_eq_equiv}
 use Rattle.std.proofs.lemmas.Bool.{cases_Bool, cond-true, cond-false}
-use Rattle.std.proofs.lemmas.List.{append-nil, append_assoc, map-append, at_drop_more, length-map, length-append, get_or_at, get_or_default}
+use Rattle.std.proofs.lemmas.List.{append-nil, append_assoc, at_drop_more, length-map, length-append, get_or_at, get_or_default}
 use Rattle.std.proofs.lemmas.List.{get_or_append_left}
 use Rattle.std.proofs.lemmas.List.Elements.{All-push}
 use Rattle.std.proofs.lemmas.List.Folds.{list_any_none}
@@ -18,10 +15,10 @@ use Rattle.attr_glob.specs.declared.search.pattern.Mapping.{Mapping}
 use Rattle.attr_lists.specs.declared.types.TrackedAssignment.{TrackedAssignment}
 use Rattle.attr_lists.specs.declared.types.Value.{Value}
 use Rattle.attr_lists.specs.KeptLists.{macro_valid, macros_valid}
-use Rattle.attr_lists.specs.inner.EntryViews.{name_texts, AreValid}
+use Rattle.attr_lists.specs.inner.EntryViews.{AreValid}
 use Rattle.attr_lists.specs.ListViews.{entry_view, entries_view}
-use Rattle.attr_lists.specs.Numbers.{names_of, names_in, with_name, with_names, number_of}
-use Rattle.attr_lists.proofs.ListLemmas.{list_any-map, position-map, get_or-map, list_all-within}
+use Rattle.attr_lists.specs.Numbers.{names_of, names_in, with_name, with_names}
+use Rattle.attr_lists.proofs.ListLemmas.{get_or-map, list_all-within}
 
 -- a name that is there is not inserted again
 pub with_name-known : (known : List (List ℕ)) (name : List ℕ) → list_any (bytes_eq name) known ≡ true → with_name known name ≡ known
@@ -65,57 +62,16 @@ with_name-valid known name v all =
     (λ e. subst AreValid (sym (with_name-new known name e)) (All-push (λ n. IsTrue (is_valid_name n)) known name all v))
     (cases_Bool (list_any (bytes_eq name) known))
 
-module _ {Z S : Type 0} where
-  -- the test of a set is the test of its texts
-  pub texts_contain : (names : HashSet (RcStr Z) S) (name : List ℕ) → list_any (λ k. bytes_eq name (rc_str_bytes k)) names.keys ≡ list_any
-      (bytes_eq name) (name_texts names)
-  texts_contain names name = sym (list_any-map (bytes_eq name) rc_str_bytes names.keys)
-
-  pub texts_number : (names : HashSet (RcStr Z) S) (name : List ℕ) → position (λ k. bytes_eq name (rc_str_bytes k)) names.keys ≡ number_of
-      (name_texts names) name
-  texts_number names name = sym (position-map (bytes_eq name) rc_str_bytes names.keys)
-
-  pub texts_known : (names : HashSet (RcStr Z) S) (name : List ℕ) → list_any (λ k. bytes_eq name (rc_str_bytes k)) names.keys ≡ true → name_texts
-      names ≡ with_name (name_texts names) name
-  texts_known names name e = sym (with_name-known (name_texts names) name (sym (texts_contain names name) ∙ e))
-
-  pub texts_new : (old new : HashSet (RcStr Z) S) (key : RcStr Z) (name : List ℕ) → list_any (λ k. bytes_eq name (rc_str_bytes k)) old.keys ≡ false →
-      rc_str_bytes key ≡ name → new.keys ≡ cond (list_any (λ k. pointwise nat_eq (rc_str_bytes key) (rc_str_bytes k)) old.keys) old.keys
-      (old.keys ++ key ∷ []) → name_texts new ≡ with_name (name_texts old) name
-  texts_new old new key name absent text keys =
-      let none : list_any (λ k. pointwise nat_eq (rc_str_bytes key) (rc_str_bytes k)) old.keys ≡ false =
-      subst (λ t. list_any (λ k. bytes_eq t (rc_str_bytes k)) old.keys ≡ false) (sym text) absent in
-      ap (map rc_str_bytes) (keys ∙ cond-false (list_any (λ k. pointwise nat_eq (rc_str_bytes key) (rc_str_bytes k)) old.keys) old.keys
-      (old.keys ++ key ∷ []) none)
-      ∙ map-append rc_str_bytes old.keys (key ∷ []) ∙ ap (λ t. name_texts old ++ t ∷ []) text
-      ∙ sym (with_name-new (name_texts old) name (sym (texts_contain old name) ∙ absent))
-
-  pub texts_put : (old new : HashSet (RcStr Z) S) (key : RcStr Z) (name : List ℕ) → rc_str_bytes key ≡ name → new.keys ≡ cond
-      (list_any (λ k. pointwise nat_eq (rc_str_bytes key) (rc_str_bytes k)) old.keys) old.keys (old.keys ++ key ∷ []) → name_texts new ≡ with_name
-      (name_texts old) name
-  texts_put old new key name text keys =
-      let any = list_any (λ k. pointwise nat_eq (rc_str_bytes key) (rc_str_bytes k)) old.keys in
-      let found : any ≡ list_any (λ k. bytes_eq name (rc_str_bytes k)) old.keys = ap (λ t. list_any (λ k. bytes_eq t (rc_str_bytes k)) old.keys) text
-      in
-      ⊎_elim
-      (λ yes. ap (map rc_str_bytes) (keys ∙ cond-true any old.keys (old.keys ++ key ∷ []) (found ∙ yes)) ∙ texts_known old name yes)
-      (λ no. texts_new old new key name no text keys)
-      (cases_Bool (list_any (λ k. bytes_eq name (rc_str_bytes k)) old.keys))
-
--- names that differ are all taken
-pub distinct_taken : (known names : List (List ℕ)) → IsDistinct bytes_eq (known ++ names) → with_names known names ≡ known ++ names
-distinct_taken known [] d = sym (append-nil known)
-distinct_taken known (name ∷ names) d =
-    let place : get_or (known ++ name ∷ names) (length known) name ≡ name = get_or_at known name names name (length known) refl in
-    let absent : list_any (bytes_eq name) known ≡ false =
-    list_any_none (bytes_eq name) known (λ k e lt.
-    nat_list_eq_equiv.symm name (get_or known k e)
-    ∙ ap (λ x. bytes_eq x name) (get_or_default known k e name lt ∙ sym (get_or_append_left known (name ∷ names) name k lt))
-    ∙ ap (bytes_eq (get_or (known ++ name ∷ names) k name)) (sym place)
-    ∙ apart_from_distinct bytes_eq (known ++ name ∷ names) k (length known) name d lt (omega (arith, length-append known (name ∷ names)))) in
-    ap (λ l. with_names l names) (with_name-new known name absent)
-    ∙ distinct_taken (known ++ name ∷ []) names (subst (IsDistinct bytes_eq) (sym (append_assoc known (name ∷ []) names)) d)
-    ∙ append_assoc known (name ∷ []) names
+-- names that differ are none of those before them
+pub not_before : (front : List (List ℕ)) (name : List ℕ) (rest : List (List ℕ)) → IsDistinct bytes_eq (front ++ name ∷ rest) →
+    list_any (bytes_eq name) front ≡ false
+not_before front name rest distinct =
+    let place : get_or (front ++ name ∷ rest) (length front) name ≡ name = get_or_at front name rest name (length front) refl in
+    list_any_none (bytes_eq name) front (λ k e lt.
+    nat_list_eq_equiv.symm name (get_or front k e)
+    ∙ ap (λ x. bytes_eq x name) (get_or_default front k e name lt ∙ sym (get_or_append_left front (name ∷ rest) name k lt))
+    ∙ ap (bytes_eq (get_or (front ++ name ∷ rest) k name)) (sym place)
+    ∙ apart_from_distinct bytes_eq (front ++ name ∷ rest) k (length front) name distinct lt (omega (arith, length-append front (name ∷ rest))))
 
 -- one more name of the items
 pub items_step : (names now : List (List ℕ)) (items : List TrackedAssignment) (i : ℕ) (item : TrackedAssignment) (text : List ℕ) (all : List (List ℕ))

@@ -27,7 +27,7 @@ Has names name = list_any (bytes_eq name) names ≡ true
 pub itself : (name : List ℕ) → bytes_eq name name ≡ true
 itself name = (bytes_decides name name).1 refl
 
-has_at : (names : List (List ℕ)) (n : ℕ) → n < length names → Has names (get_or names n [])
+pub has_at : (names : List (List ℕ)) (n : ℕ) → n < length names → Has names (get_or names n [])
 has_at [] n lt = absurd (omega arith)
 has_at (x ∷ xs) zero lt = or_left (bytes_eq x x) (list_any (bytes_eq x) xs) (itself x)
 has_at (x ∷ xs) (suc n) lt =
@@ -83,6 +83,11 @@ pub number_where : (names : List (List ℕ)) (name : List ℕ) (n : ℕ) → IsD
     → number_of names name ≡ Some n
 number_where names name n distinct h =
     ap (number_of names) (sym (get_at names n name [] h)) ∙ number_at names n distinct (get_below names n name h)
+
+-- the name at the number of a name is that name
+pub named_at : (names : List (List ℕ)) (name : List ℕ) (n : ℕ) (text : List ℕ) → number_of names name ≡ Some n → slice_get names n ≡ Some text →
+    text ≡ name
+named_at names name n text is at = sym (get_at names n text [] at) ∙ (number_name names name n is).1
 
 -- a text that is no valid name is none of valid names
 pub no_number : (names : List (List ℕ)) (text : List ℕ) → AreValid names → (is_valid_name text ≡ true → ⊥) → number_of names text ≡ None

@@ -1,11 +1,7 @@
 -- Lines whose items have the numbers of their names.
-use Rattle.std.proofs.Common.{◌≡◌, ℕ, ◌+◌, ◌<◌, true, false, List, [], ◌∷◌, length, get_or, set, map, nat_eq, bytes_eq, Option, Some, None}
+use Rattle.std.proofs.Common.{◌≡◌, ℕ, ◌+◌, ◌<◌, true, List, [], length, get_or, set, bytes_eq, Option, Some, None}
 use Rattle.std.proofs.Common.{refl, sym, ap, ◌∙◌, true≢false, arith}
 use Rattle.std.specs.Prelude.{is_some}
-use Rattle.std.specs.Cmp.Lexicographic.{bytes_decides, pointwise}
-use Rattle.std.specs.List.{AllByRecursion, IsDistinct}
-use Rattle.std.specs.Rc.{rc_str_bytes}
-use Rattle.std.specs.declared.rc.RcStr.{RcStr}
 use Rattle.std.proofs.lemmas.List.{length-map, map-set}
 use Rattle.std.proofs.lemmas.List.Folds.{list_any_at}
 use Rattle.std.proofs.lemmas.List.Quantifiers.{position-Some}
@@ -45,27 +41,6 @@ number_list_step names start lines i d now lt e is =
     map-set entry_view lines i now
     ∙ front-more (numbered names) i (entries_view start) (entries_view lines) (entry_view now) (entry_view d)
     (omega (arith, length-map start entry_view)) (is ∙ ap (numbered names) (sym (get_or-map entry_view lines i d))) e
-
--- names that differ have texts that differ
-apart_by_text : {Z : Type 0} (name : List ℕ) (names : List (RcStr Z)) → AllByRecursion (λ other. pointwise nat_eq name (rc_str_bytes other) ≡ false)
-    names → AllByRecursion (λ other. bytes_eq name other ≡ false) (map rc_str_bytes names)
-apart_by_text name [] apart = tt
-apart_by_text name (other ∷ names) apart = (apart.0, apart_by_text name names apart.1)
-
-pub distinct_by_text : {Z : Type 0} (names : List (RcStr Z)) → IsDistinct (λ x y. pointwise nat_eq (rc_str_bytes x) (rc_str_bytes y)) names →
-    IsDistinct bytes_eq (map rc_str_bytes names)
-unfolding IsDistinct
-distinct_by_text [] distinct = tt
-distinct_by_text (name ∷ names) distinct = (apart_by_text (rc_str_bytes name) names distinct.0, distinct_by_text names distinct.1)
-
--- the number of a name is its place
-pub name_at_number : (names : List (List ℕ)) (name : List ℕ) (number : ℕ) → number_of names name ≡ Some number →
-    (number < length names) × (get_or names number [] ≡ name)
-name_at_number names name number is =
-    let here = position-Some (bytes_eq name) names number [] is in (
-      here.0,
-      sym ((bytes_decides name (get_or names number [])).0 here.1),
-    )
 
 -- a name that has a number is not taken again
 pub numbered_known : (names : List (List ℕ)) (name : List ℕ) → is_some (number_of names name) ≡ true → names ≡ with_name names name

@@ -4,6 +4,7 @@ pub mod EntryViews
 pub mod EntrySteps
 pub mod Keeping
 pub mod MacroNumbers
+pub mod NameSets
 pub mod NameSteps
 pub mod NameTableView
 pub mod Registered

@@ -16,11 +16,13 @@ ghost use Rattle.attr_lists.specs.Numbers.{AppendsNames, number_of, numbered_lin
 
 mod entry;
 mod macros;
+mod name_set;
 mod numbers;
 mod parts;
 mod recent_numbers;
 mod registered;
 
+use crate::name_table::name_set::NameSet;
 use crate::name_table::parts::{Parts, free_id, is_set};
 use crate::name_table::recent_numbers::RecentNumbers;
 use crate::types::{Metadata, Value};
@@ -55,7 +57,7 @@ impl NameTable {
     {
         NameTable {
             parts: Parts {
-                names: numbers::no_names(alloc),
+                names: NameSet::new(alloc),
                 entries: Vec::new(alloc),
                 active: Vec::new(alloc),
                 free_from: 0,
@@ -77,14 +79,14 @@ impl NameTable {
     pub fn number_of(&self, name: &str) -> Option<usize>
         ensures { result ≡ number_of self.now.names name.now }
     {
-        numbers::number_of(&self.parts.names, name)
+        self.parts.names.number_of(name)
     }
 
     /// The name with this number, if there is one.
     pub fn name(&self, number: usize) -> Option<&str>
         ensures { option_copied result ≡ slice_get self.now.names number }
     {
-        Some(self.parts.names.get_index(number)?.as_str())
+        self.parts.names.name(number)
     }
 
     /// The metadata of the name with this number: the number, and the body of its last definition, which is empty if
@@ -121,9 +123,9 @@ impl NameTable {
             ≡ (if nat_lt number (length self.now.names)
             then Some (named_body self.now number) else None) }
     {
-        let name = self.parts.names.get_index(number)?;
+        let name = self.parts.names.name(number)?;
         let entry = self.parts.entries.get(number)?;
-        Some((name.as_str(), entry.metadata()))
+        Some((name, entry.metadata()))
     }
 
     /// Registers a list and returns its list id, the least that is free. The list's new names get the next numbers,
@@ -208,7 +210,7 @@ impl NameTable {
         ensures content { IfOk result (λ copy. copy ≡ self.now) }
         ensures sound { IsSoundCollection self.now }
     {
-        let names = numbers::clone_names(alloc, &self.parts.names)?;
+        let names = self.parts.names.clone(alloc)?;
         let entries = entry::clone_entries(alloc, &self.parts.entries)?;
         let active = Vec::from_slice(alloc, &self.parts.active)?;
         let registered = registered::clone_registered(alloc, &self.parts.registered)?;

@@ -2,9 +2,6 @@
 use Rattle.std.specs.Prelude.{◌≡◌, ℕ, ◌<◌, Bool, true, List, [], length, map, slice_index_or}
 use Rattle.std.specs.Prelude.{unwrap_or, option_map, All, IsTrue}
 use Rattle.std.specs.List.{list_any}
-use Rattle.std.specs.HashSet.{HashSet}
-use Rattle.std.specs.Rc.{rc_str_bytes}
-use Rattle.std.specs.declared.rc.RcStr.{RcStr}
 use Rattle.attr_text.specs.Names.{is_valid_name}
 use Rattle.attr_glob.specs.declared.search.pattern.Mapping.{Mapping}
 use Rattle.attr_lists.specs.declared.name_table.entry.Definition.{Definition}
@@ -15,17 +12,13 @@ use Rattle.attr_lists.specs.Numbers.{number_of, numbered_lines}
 use Rattle.attr_lists.specs.declared.types.Value.{Value}
 use Rattle.attr_lists.specs.Collections.{MacroDefinition}
 
--- the texts of names, by number
-abbrev pub name_texts : {Z S : Type 0} → HashSet (RcStr Z) S → List (List ℕ)
-name_texts names = map rc_str_bytes names.keys
-
 -- each is a valid name
 abbrev pub AreValid : List (List ℕ) → Type 0
 AreValid names = All (λ name. IsTrue (is_valid_name name)) names
 
 -- the lines of a list, with the numbers that these names have
-abbrev pub numbered_view : {Z S : Type 0} → HashSet (RcStr Z) S → List (Mapping Value) → List Entry
-numbered_view names mappings = numbered_lines (name_texts names) (entries_view mappings)
+abbrev pub numbered_view : List (List ℕ) → List (Mapping Value) → List Entry
+numbered_view names mappings = numbered_lines names (entries_view mappings)
 
 abbrev pub definition_view : Definition → MacroDefinition
 definition_view d = record { list_id = d.list_id; body = d.metadata.macro_attributes.items }

@@ -4,13 +4,13 @@ use Rattle.attr_lists.specs.declared.name_table.NameTable.TheInside.{Inside}
 use Rattle.attr_lists.specs.declared.name_table.parts.Parts.{Parts}
 use Rattle.attr_lists.specs.Collections.{Collection}
 use Rattle.attr_lists.specs.Definitions.{definitions_of, free_id, of_other_lists, IsSoundCollection}
-use Rattle.attr_lists.specs.inner.EntryViews.{name_texts, all_definitions, AreEntries}
+use Rattle.attr_lists.specs.inner.EntryViews.{all_definitions, AreEntries}
 use Rattle.attr_lists.specs.Numbers.{AppendsNames}
 use Rattle.attr_lists.specs.inner.MacroNumbers.{ListsMacros}
 use Rattle.attr_lists.specs.inner.Registered.{AreRegistered}
 
 abbrev pub parts_view : Parts → Collection
-parts_view p = record { names = name_texts p.names; definitions = all_definitions p.entries.items; active = p.active.items }
+parts_view p = record { names = p.names; definitions = all_definitions p.entries.items; active = p.active.items }
 
 abbrev pub name_table_view : Inside → Collection
 name_table_view table = parts_view table.parts

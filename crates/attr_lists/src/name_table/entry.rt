@@ -6,13 +6,12 @@ ghost use Rattle.std.specs.Option.{option_to_list};
 ghost use Rattle.attr_lists.specs.Definitions.{bodies_named, bodies_of_list, definition_of, is_of_list, of_other_lists, last_body};
 ghost use Rattle.attr_lists.specs.KeptLists.{macro_valid, macros_valid};
 ghost use Rattle.attr_lists.specs.inner.EntrySteps.{AddsDefinitions, KeepsOtherDefinitions, RemovesAsMany, StaysWithout, PopsOwn, HasBodies, AgreesOn};
-ghost use Rattle.attr_lists.specs.inner.EntryViews.{numbered_view, definition_view, definitions_view, is_defined_in, all_definitions, definitions_at, definitions_by, name_texts, AreValid, IsEntry, AreEntries};
+ghost use Rattle.attr_lists.specs.inner.EntryViews.{numbered_view, definition_view, definitions_view, is_defined_in, all_definitions, definitions_at, definitions_by, AreValid, IsEntry, AreEntries};
 ghost use Rattle.attr_lists.specs.inner.Registered.{numbered_body, registered_at, ListsNames};
 ghost use Rattle.attr_lists.specs.ListViews.{entry_view, entries_view};
 
-use crate::name_table::numbers::{
-    NameSet, id_of, macro_name, name_at, number_of_text, numbered_copy,
-};
+use crate::name_table::name_set::NameSet;
+use crate::name_table::numbers::{id_of, macro_name, number_of_text, numbered_copy};
 use crate::name_table::registered::{list_at, sort_by_number};
 use crate::types::{Assignments, AttributeId, Metadata, TrackedAssignment, Value};
 use attr_glob::search::pattern::Mapping;
@@ -331,11 +330,11 @@ pub(super) fn remove_list(
     list_id: usize,
     mappings: &[Mapping<Value>],
 )
-    requires valid { AreValid (name_texts names.now) }
-    requires distinct { IsDistinct bytes_eq (name_texts names.now) }
-    requires counted { length entries.old ≡ length (name_texts names.now) }
+    requires valid { AreValid names.now }
+    requires distinct { IsDistinct bytes_eq names.now }
+    requires counted { length entries.old ≡ length names.now }
     requires held { (name : List ℕ) → HasBodies list_id name (entries_view mappings.now)
-        (definitions_by (name_texts names.now) entries.old name) }
+        (definitions_by names.now entries.old name) }
     requires listed { ListsNames list_id (registered_at registered.old list_id) entries.old }
     ensures definitions { all_definitions entries.new
         ≡ map (of_other_lists list_id) (all_definitions entries.old) }
@@ -384,8 +383,8 @@ fn remove_latest(
     list_id: usize,
     mappings: &[Mapping<Value>],
 ) -> bool
-    requires { AreValid (name_texts names.now) }
-    ensures removed { IsTrue result → RemovesAsMany list_id (name_texts names.now)
+    requires { AreValid names.now }
+    ensures removed { IsTrue result → RemovesAsMany list_id names.now
         (entries_view mappings.now) entries.old entries.new }
     ensures others { KeepsOtherDefinitions list_id entries.old entries.new }
     ensures without { StaysWithout list_id entries.old entries.new }
@@ -405,8 +404,8 @@ fn remove_line(
     list_id: usize,
     mapping: &Mapping<Value>,
 ) -> bool
-    requires { AreValid (name_texts names.now) }
-    ensures removed { IsTrue result → RemovesAsMany list_id (name_texts names.now)
+    requires { AreValid names.now }
+    ensures removed { IsTrue result → RemovesAsMany list_id names.now
         (entry_view mapping.now ∷ []) entries.old entries.new }
     ensures others { KeepsOtherDefinitions list_id entries.old entries.new }
     ensures without { StaysWithout list_id entries.old entries.new }
@@ -434,13 +433,13 @@ pub(super) fn has_definitions(
     list: &[Metadata],
     mappings: &[Mapping<Value>],
 ) -> bool
-    requires valid { AreValid (name_texts names.now) }
-    requires distinct { IsDistinct bytes_eq (name_texts names.now) }
-    requires counted { length entries.now ≡ length (name_texts names.now) }
+    requires valid { AreValid names.now }
+    requires distinct { IsDistinct bytes_eq names.now }
+    requires counted { length entries.now ≡ length names.now }
     requires listed { ListsNames list_id (map numbered_body list.now) entries.now }
     ensures { IsTrue result ↔ ((name : List ℕ) →
         HasBodies list_id name (entries_view mappings.now)
-        (definitions_by (name_texts names.now) entries.now name)) }
+        (definitions_by names.now entries.now name)) }
 {
     are_defined(names, entries, list_id, mappings)
         && all_agree(names, entries, list_id, list, mappings)
@@ -453,9 +452,9 @@ fn are_defined(
     list_id: usize,
     mappings: &[Mapping<Value>],
 ) -> bool
-    requires { AreValid (name_texts names.now) }
+    requires { AreValid names.now }
     ensures { result ≡ list_all
-        (λ m. is_defined_in list_id (name_texts names.now) entries.now (entry_view m))
+        (λ m. is_defined_in list_id names.now entries.now (entry_view m))
         mappings.now }
 {
     mappings
@@ -469,9 +468,9 @@ fn is_defined(
     list_id: usize,
     mapping: &Mapping<Value>,
 ) -> bool
-    requires { AreValid (name_texts names.now) }
+    requires { AreValid names.now }
     ensures { result
-        ≡ is_defined_in list_id (name_texts names.now) entries.now (entry_view mapping.now) }
+        ≡ is_defined_in list_id names.now entries.now (entry_view mapping.now) }
 {
     match &mapping.value {
         Value::MacroAssignments { .. } => {
@@ -483,9 +482,9 @@ fn is_defined(
 
 // Whether the list has a definition of the name.
 fn has_definition(names: &NameSet, entries: &[NameEntry], list_id: usize, name: &[u8]) -> bool
-    requires { AreValid (name_texts names.now) }
+    requires { AreValid names.now }
     ensures { result ≡ list_any (is_of_list list_id)
-        (definitions_by (name_texts names.now) entries.now name.now) }
+        (definitions_by names.now entries.now name.now) }
 {
     match number_of_text(names, name) {
         Some(number) => number < entries.len() && entries[number].is_defined_by(list_id),
@@ -502,10 +501,10 @@ fn all_agree(
     list: &[Metadata],
     mappings: &[Mapping<Value>],
 ) -> bool
-    requires counted { length entries.now ≡ length (name_texts names.now) }
+    requires counted { length entries.now ≡ length names.now }
     requires listed { ListsNames list_id (map numbered_body list.now) entries.now }
     ensures { IsTrue result ↔ ((number : ℕ) → number < length entries.now →
-        AgreesOn list_id (slice_index_or (name_texts names.now) number [])
+        AgreesOn list_id (slice_index_or names.now number [])
         (entries_view mappings.now) (definitions_at entries.now number)) }
 {
     for (index, known) in list.iter().enumerate() {
@@ -526,12 +525,12 @@ fn agrees_at(
     number: usize,
     mappings: &[Mapping<Value>],
 ) -> bool
-    requires { length entries.now ≡ length (name_texts names.now) }
+    requires { length entries.now ≡ length names.now }
     ensures { IsTrue result ↔ (number < length entries.now →
-        AgreesOn list_id (slice_index_or (name_texts names.now) number [])
+        AgreesOn list_id (slice_index_or names.now number [])
         (entries_view mappings.now) (definitions_at entries.now number)) }
 {
-    match name_at(names, number) {
+    match names.name(number) {
         Some(name) => entries[number].agrees(list_id, name, mappings),
         None => true,
     }

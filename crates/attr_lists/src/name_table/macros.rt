@@ -4,11 +4,12 @@ ghost use Rattle.std.specs.Prelude.{◌≡◌, ◌∷◌, [], true, OnOk};
 ghost use Rattle.std.specs.Bool.{OnFalse};
 ghost use Rattle.attr_lists.specs.KeptLists.{macro_valid, macros_valid};
 ghost use Rattle.attr_lists.specs.ListViews.{entry_view, entries_view};
-ghost use Rattle.attr_lists.specs.inner.EntryViews.{definitions_at, name_texts, numbered_view, AreValid};
+ghost use Rattle.attr_lists.specs.inner.EntryViews.{definitions_at, numbered_view, AreValid};
 ghost use Rattle.attr_lists.specs.inner.MacroNumbers.{KeepsNumbers, ListsDefined, RemovesUndefined};
 
 use crate::name_table::entry::NameEntry;
-use crate::name_table::numbers::{NameSet, id_of, macro_name, number_of_text};
+use crate::name_table::name_set::NameSet;
+use crate::name_table::numbers::{id_of, macro_name, number_of_text};
 use crate::types::Value;
 use attr_glob::search::pattern::Mapping;
 use std::alloc::AllocError;
@@ -57,7 +58,7 @@ pub(super) fn remove_macros(
     macros: &mut BTreeSet<usize>,
     mappings: &[Mapping<Value>],
 )
-    requires { AreValid (name_texts names.now) }
+    requires { AreValid names.now }
     ensures { RemovesUndefined entries.now macros.old macros.new }
 {
     for mapping in mappings {
@@ -71,7 +72,7 @@ fn remove_macro(
     macros: &mut BTreeSet<usize>,
     mapping: &Mapping<Value>,
 )
-    requires { AreValid (name_texts names.now) }
+    requires { AreValid names.now }
     ensures { RemovesUndefined entries.now macros.old macros.new }
 {
     let Value::MacroAssignments { .. } = &mapping.value else {

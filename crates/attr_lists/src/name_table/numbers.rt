@@ -4,33 +4,21 @@ ghost use Rattle.std.specs.List.{IsDistinct};
 ghost use Rattle.std.specs.Rc.{rc_str_bytes};
 ghost use Rattle.attr_text.specs.Names.{is_valid_name};
 ghost use Rattle.attr_lists.specs.KeptLists.{macro_valid, macros_valid};
-ghost use Rattle.attr_lists.specs.inner.EntryViews.{name_texts, numbered_view, AreValid};
+ghost use Rattle.attr_lists.specs.inner.EntryViews.{numbered_view, AreValid};
 ghost use Rattle.attr_lists.specs.inner.NameSteps.{InsertsNames};
 ghost use Rattle.attr_lists.specs.ListViews.{entry_view, entries_view, macro_id, items_in};
 ghost use Rattle.attr_lists.specs.Numbers.{AppendsNames, macro_names, names_of, names_in, number_of, id_of, numbered_item, numbered};
 
+use crate::name_table::name_set::NameSet;
 use crate::name_table::recent_numbers::RecentNumbers;
 use crate::types::{Assignments, AttributeId, TrackedAssignment, Value};
 use attr_glob::Pattern;
 use attr_glob::search::pattern::Mapping;
 use attr_text::Name;
 use bstr::ByteSlice;
-use indexmap::IndexSet;
 use smallvec::SmallVec;
 use std::alloc::{AllocError, Global};
-use std::hash::{BuildHasherDefault, DefaultHasher};
 use std::rc::RcStr;
-
-/// Names in the order of their numbers. They come from files that anyone may have written, so they are hashed by a function
-/// for which names of one hash can only be found by trying.
-pub(super) type NameSet = IndexSet<RcStr, BuildHasherDefault<DefaultHasher>>;
-
-/// A set without names. It takes no memory.
-pub(super) fn no_names(alloc: Global) -> NameSet
-    ensures { name_texts result ≡ [] }
-{
-    IndexSet::with_hasher(alloc, BuildHasherDefault::new())
-}
 
 /// Inserts the names of a list that are new.
 pub(super) fn insert_names(
@@ -42,9 +30,8 @@ pub(super) fn insert_names(
     requires { macros_valid (entries_view mappings.now) ≡ true }
     ensures ok { OnOk result
         (InsertsNames (names_in (entries_view mappings.now)) names.old names.new) }
-    ensures valid { OnOk result (AreValid (name_texts names.old) →
-        AreValid (name_texts names.new)) }
-    ensures err { OnErr result (AppendsNames (name_texts names.old) (name_texts names.new)) }
+    ensures valid { OnOk result (AreValid names.old → AreValid names.new) }
+    ensures err { OnErr result (AppendsNames names.old names.new) }
 {
     for mapping in mappings {
         insert_line(alloc, names, recent, mapping)?;
@@ -61,9 +48,8 @@ fn insert_line(
     requires { macro_valid (entry_view mapping.now) ≡ true }
     ensures ok { OnOk result
         (InsertsNames (names_of (entry_view mapping.now)) names.old names.new) }
-    ensures valid { OnOk result (AreValid (name_texts names.old) →
-        AreValid (name_texts names.new)) }
-    ensures err { OnErr result (AppendsNames (name_texts names.old) (name_texts names.new)) }
+    ensures valid { OnOk result (AreValid names.old → AreValid names.new) }
+    ensures err { OnErr result (AppendsNames names.old names.new) }
 {
     insert_macro(alloc, names, recent, mapping)?;
     insert_items(alloc, names, recent, items_in(&mapping.value))?;
@@ -79,9 +65,8 @@ fn insert_macro(
     requires { macro_valid (entry_view mapping.now) ≡ true }
     ensures ok { OnOk result
         (InsertsNames (macro_names (entry_view mapping.now)) names.old names.new) }
-    ensures valid { OnOk result (AreValid (name_texts names.old) →
-        AreValid (name_texts names.new)) }
-    ensures err { OnErr result (name_texts names.new ≡ name_texts names.old) }
+    ensures valid { OnOk result (AreValid names.old → AreValid names.new) }
+    ensures err { OnErr result (names.new ≡ names.old) }
 {
     if let Value::MacroAssignments { .. } = &mapping.value {
         insert_name(alloc, names, recent, macro_name(&mapping.pattern))?;
@@ -106,9 +91,8 @@ fn insert_items(
 ) -> Result<(), AllocError>
     ensures ok { OnOk result
         (InsertsNames (map (λ item. item.inner.name) items.now) names.old names.new) }
-    ensures valid { OnOk result (AreValid (name_texts names.old) →
-        AreValid (name_texts names.new)) }
-    ensures err { OnErr result (AppendsNames (name_texts names.old) (name_texts names.new)) }
+    ensures valid { OnOk result (AreValid names.old → AreValid names.new) }
+    ensures err { OnErr result (AppendsNames names.old names.new) }
 {
     for item in items {
         insert_name(alloc, names, recent, item.inner.name.as_str())?;
@@ -124,15 +108,14 @@ fn insert_name(
 ) -> Result<(), AllocError>
     requires { IsTrue (is_valid_name name.now) }
     ensures ok { OnOk result (InsertsNames (name.now ∷ []) names.old names.new) }
-    ensures valid { OnOk result (AreValid (name_texts names.old) →
-        AreValid (name_texts names.new)) }
-    ensures err { OnErr result (name_texts names.new ≡ name_texts names.old) }
+    ensures valid { OnOk result (AreValid names.old → AreValid names.new) }
+    ensures err { OnErr result (names.new ≡ names.old) }
 {
     if recent.number_of(names, name).is_some() {
         return Ok(());
     }
     let number = names.len();
-    names.insert(RcStr::from_str(alloc, name)?)?;
+    names.push(RcStr::from_str(alloc, name)?)?;
     recent.note(name, number);
     Ok(())
 }
@@ -150,37 +133,23 @@ pub(super) fn macro_name(pattern: &Pattern) -> &str
 
 /// The id of a name, which is `AttributeId::default()` if the name is not among them.
 pub(super) fn id_of(names: &NameSet, name: &str) -> AttributeId
-    ensures { result ≡ id_of (name_texts names.now) name.now }
+    ensures { result ≡ id_of names.now name.now }
 {
-    match number_of(names, name) {
+    match names.number_of(name) {
         Some(number) => AttributeId(number),
         None => AttributeId::default(),
     }
 }
 
-/// The number of a name, which is its index.
-pub(super) fn number_of(names: &NameSet, name: &str) -> Option<usize>
-    ensures { result ≡ number_of (name_texts names.now) name.now }
-{
-    names.get_index_of(name)
-}
-
 /// The number of the name that a text is, if it is one of the names.
 pub(super) fn number_of_text(names: &NameSet, text: &[u8]) -> Option<usize>
-    requires { AreValid (name_texts names.now) }
-    ensures { result ≡ number_of (name_texts names.now) text.now }
+    requires { AreValid names.now }
+    ensures { result ≡ number_of names.now text.now }
 {
     match text.to_str() {
-        Ok(name) => number_of(names, name),
+        Ok(name) => names.number_of(name),
         Err(_) => None,
     }
-}
-
-/// The name with this number, if there is one.
-pub(super) fn name_at(names: &NameSet, number: usize) -> Option<&str>
-    ensures { option_copied result ≡ slice_get (name_texts names.now) number }
-{
-    Some(names.get_index(number)?.as_str())
 }
 
 /// A copy of the items, with the numbers of their names.
@@ -190,7 +159,7 @@ pub(super) fn numbered_copy(
     items: &[TrackedAssignment],
 ) -> Result<Assignments, AllocError>
     ensures { IfOk result (λ copy. copy.items
-        ≡ map (numbered_item (name_texts names.now)) items.now) }
+        ≡ map (numbered_item names.now) items.now) }
 {
     let mut copy = SmallVec::new(alloc);
     for item in items {
@@ -204,9 +173,9 @@ fn numbered_item(
     names: &NameSet,
     item: &TrackedAssignment,
 ) -> Result<TrackedAssignment, AllocError>
-    ensures { IfOk result (λ copy. copy ≡ numbered_item (name_texts names.now) item.now) }
+    ensures { IfOk result (λ copy. copy ≡ numbered_item names.now item.now) }
 {
-    let number = number_of(names, item.inner.name.as_str());
+    let number = names.number_of(item.inner.name.as_str());
     let mut copy = item.clone(alloc)?;
     set_number(names, number, &mut copy);
     Ok(copy)
@@ -228,7 +197,7 @@ pub(super) fn number_list(
 
 fn number_line(names: &NameSet, recent: &mut RecentNumbers, mapping: &mut Mapping<Value>)
     requires { macro_valid (entry_view mapping.old) ≡ true }
-    ensures { entry_view mapping.new ≡ numbered (name_texts names.now) (entry_view mapping.old) }
+    ensures { entry_view mapping.new ≡ numbered names.now (entry_view mapping.old) }
 {
     number_macro(names, recent, mapping);
     number_assignments(names, recent, &mut mapping.value);
@@ -238,7 +207,7 @@ fn number_macro(names: &NameSet, recent: &mut RecentNumbers, mapping: &mut Mappi
     requires { macro_valid (entry_view mapping.old) ≡ true }
     ensures pattern { mapping.new.pattern ≡ mapping.old.pattern }
     ensures defined { macro_id mapping.new.value
-        ≡ option_map (λ _. id_of (name_texts names.now) mapping.old.pattern.text.items)
+        ≡ option_map (λ _. id_of names.now mapping.old.pattern.text.items)
         (macro_id mapping.old.value) }
     ensures items { items_in mapping.new.value ≡ items_in mapping.old.value }
     ensures line { mapping.new.sequence_number ≡ mapping.old.sequence_number }
@@ -251,7 +220,7 @@ fn number_macro(names: &NameSet, recent: &mut RecentNumbers, mapping: &mut Mappi
 fn number_assignments(names: &NameSet, recent: &mut RecentNumbers, value: &mut Value)
     ensures defined { macro_id value.new ≡ macro_id value.old }
     ensures items { items_in value.new
-        ≡ map (numbered_item (name_texts names.now)) (items_in value.old) }
+        ≡ map (numbered_item names.now) (items_in value.old) }
 {
     match value {
         Value::MacroAssignments { assignments, .. } => number_items(names, recent, assignments),
@@ -260,7 +229,7 @@ fn number_assignments(names: &NameSet, recent: &mut RecentNumbers, value: &mut V
 }
 
 fn number_items(names: &NameSet, recent: &mut RecentNumbers, items: &mut [TrackedAssignment])
-    ensures { items.new ≡ map (numbered_item (name_texts names.now)) items.old }
+    ensures { items.new ≡ map (numbered_item names.now) items.old }
 {
     for item in items.iter_mut() {
         number_item(names, recent, item);
@@ -268,7 +237,7 @@ fn number_items(names: &NameSet, recent: &mut RecentNumbers, items: &mut [Tracke
 }
 
 fn number_item(names: &NameSet, recent: &mut RecentNumbers, item: &mut TrackedAssignment)
-    ensures { item.new ≡ numbered_item (name_texts names.now) item.old }
+    ensures { item.new ≡ numbered_item names.now item.old }
 {
     let number = recent.number_of(names, item.inner.name.as_str());
     set_number(names, number, item);
@@ -276,35 +245,16 @@ fn number_item(names: &NameSet, recent: &mut RecentNumbers, item: &mut TrackedAs
 
 // Sets an item's number, which its name has. Its name takes the text that the names have of it, so that all lists share one.
 fn set_number(names: &NameSet, number: Option<usize>, item: &mut TrackedAssignment)
-    requires number { number ≡ number_of (name_texts names.now) item.old.inner.name }
+    requires number { number ≡ number_of names.now item.old.inner.name }
     requires valid { IsTrue (is_valid_name item.old.inner.name) }
-    ensures { item.new ≡ numbered_item (name_texts names.now) item.old }
+    ensures { item.new ≡ numbered_item names.now item.old }
 {
     let Some(number) = number else {
         item.id = AttributeId::default();
         return;
     };
     item.id = AttributeId(number);
-    if let Ok(text) = names.as_slice()[number].clone() {
+    if let Some(text) = names.shared_text(number) {
         item.inner.name = Name::of(text);
     }
-}
-
-/// A copy of the names, in their order.
-pub(super) fn clone_names(alloc: Global, names: &NameSet) -> Result<NameSet, AllocError>
-    requires { IsDistinct bytes_eq (name_texts names.now) }
-    ensures { IfOk result (λ copy. name_texts copy ≡ name_texts names.now) }
-{
-    let mut copy = no_names(alloc);
-    for name in names.as_slice() {
-        insert(&mut copy, name)?;
-    }
-    Ok(copy)
-}
-
-fn insert(names: &mut NameSet, name: &RcStr) -> Result<(), AllocError>
-    ensures { OnOk result (InsertsNames (rc_str_bytes name.now ∷ []) names.old names.new) }
-{
-    names.insert(name.clone()?)?;
-    Ok(())
 }

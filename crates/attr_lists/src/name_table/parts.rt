@@ -4,13 +4,13 @@ ghost use Rattle.attr_lists.specs.Definitions.{IsSoundCollection, bodies_defined
 ghost use Rattle.attr_lists.specs.KeptLists.{macros_valid};
 ghost use Rattle.attr_lists.specs.ListViews.{entries_view};
 ghost use Rattle.attr_lists.specs.inner.EntrySteps.{HasBodies};
-ghost use Rattle.attr_lists.specs.inner.EntryViews.{name_texts, numbered_view, AreEntries, AreValid};
+ghost use Rattle.attr_lists.specs.inner.EntryViews.{numbered_view, AreEntries, AreValid};
 ghost use Rattle.attr_lists.specs.inner.MacroNumbers.{KeepsNumbers, ListsDefined};
 ghost use Rattle.attr_lists.specs.inner.Registered.{bodies_of_number, registered_at, AreRegistered};
 ghost use Rattle.attr_lists.specs.inner.NameTableView.{parts_view, rolled_back, IsPartlyAdded};
 
 use crate::name_table::entry::NameEntry;
-use crate::name_table::numbers::NameSet;
+use crate::name_table::name_set::NameSet;
 use crate::name_table::recent_numbers::RecentNumbers;
 use crate::name_table::{entry, macros, numbers, registered};
 use crate::types::{Metadata, Value};
@@ -64,11 +64,11 @@ impl Parts {
         mappings: &[Mapping<Value>],
     ) -> Result<(), AllocError>
         requires valid { macros_valid (entries_view mappings.now) ≡ true }
-        requires counted { length self.old.entries.items ≡ length (name_texts self.old.names) }
+        requires counted { length self.old.entries.items ≡ length self.old.names }
         ensures added { OnOk result (parts_view self.new
             ≡ with_list list_id (entries_view mappings.now) (parts_view self.old)) }
-        ensures valid { OnOk result (AreValid (name_texts self.old.names) →
-            AreValid (name_texts self.new.names)) }
+        ensures valid { OnOk result (AreValid self.old.names →
+            AreValid self.new.names) }
         ensures entries { AreEntries self.old.entries.items → AreEntries self.new.entries.items }
         ensures err { OnErr result
             (IsPartlyAdded list_id (parts_view self.old) (parts_view self.new)) }

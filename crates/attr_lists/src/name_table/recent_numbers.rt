@@ -1,15 +1,14 @@
 //! Numbers of names that were found of late, with which a look-up begins.
 
 ghost use Rattle.std.specs.Prelude.{◌≡◌, IsTrue, Some};
-ghost use Rattle.attr_lists.specs.inner.EntryViews.{name_texts};
 ghost use Rattle.attr_lists.specs.Numbers.{id_of, number_of};
 
-use crate::name_table::numbers::{self, NameSet};
+use crate::name_table::name_set::NameSet;
 use crate::text_place::{PLACES, text_place};
 use crate::types::AttributeId;
 
 /// For each place of texts, the number that was found there last, and 0 before. A look-up compares the name that has this
-/// number, and only if it is another one the names are asked by a hash.
+/// number, and only if it is another one the names are searched.
 #[derive(Drop)]
 pub(super) struct RecentNumbers {
     numbers: [usize; PLACES],
@@ -25,7 +24,7 @@ impl RecentNumbers {
 
     /// The id of a name, which is `AttributeId::default()` if the name is not among them.
     pub(super) fn id_of(&mut self, names: &NameSet, name: &str) -> AttributeId
-        ensures { result ≡ id_of (name_texts names.now) name.now }
+        ensures { result ≡ id_of names.now name.now }
     {
         match self.number_of(names, name) {
             Some(number) => AttributeId(number),
@@ -35,14 +34,14 @@ impl RecentNumbers {
 
     /// The number of a name, which is its index.
     pub(super) fn number_of(&mut self, names: &NameSet, name: &str) -> Option<usize>
-        ensures { result ≡ number_of (name_texts names.now) name.now }
+        ensures { result ≡ number_of names.now name.now }
     {
         let place = text_place(name.as_bytes());
         let recent = self.numbers[place];
         if is_number_of(names, recent, name) {
             return Some(recent);
         }
-        let number = numbers::number_of(names, name)?;
+        let number = names.number_of(name)?;
         self.numbers[place] = number;
         Some(number)
     }
@@ -55,10 +54,10 @@ impl RecentNumbers {
 
 // Whether the name has this number. It has no other one then, since the names of a set differ.
 fn is_number_of(names: &NameSet, number: usize, name: &str) -> bool
-    ensures { IsTrue result → number_of (name_texts names.now) name.now ≡ Some number }
+    ensures { IsTrue result → number_of names.now name.now ≡ Some number }
 {
-    match names.as_slice().get(number) {
-        Some(known) => known.as_str() == name,
+    match names.name(number) {
+        Some(known) => known == name,
         None => false,
     }
 }

@@ -5,11 +5,12 @@ ghost use Rattle.std.specs.List.Sorted.{IsPermutation};
 ghost use Rattle.attr_lists.specs.Definitions.{bodies_defined, bodies_named};
 ghost use Rattle.attr_lists.specs.KeptLists.{macro_valid, macros_valid};
 ghost use Rattle.attr_lists.specs.ListViews.{entry_view, entries_view};
-ghost use Rattle.attr_lists.specs.inner.EntryViews.{name_texts, numbered_view};
+ghost use Rattle.attr_lists.specs.inner.EntryViews.{numbered_view};
 ghost use Rattle.attr_lists.specs.inner.Registered.{bodies_of_name, bodies_of_number, numbered_body, registered_at};
 
 use crate::name_table::entry::{has_text, is_same};
-use crate::name_table::numbers::{NameSet, id_of, macro_name, name_at, numbered_copy};
+use crate::name_table::name_set::NameSet;
+use crate::name_table::numbers::{id_of, macro_name, numbered_copy};
 use crate::types::{Metadata, TrackedAssignment, Value};
 use attr_glob::search::pattern::Mapping;
 use std::alloc::{AllocError, Global};
@@ -119,9 +120,9 @@ pub(super) fn sort_by_number(registered: &mut [Vec<Metadata>], list_id: usize)
 
 /// Whether the lines define these macros, in their order and with their bodies. This takes a step for each line.
 pub(super) fn are_lines_of(names: &NameSet, list: &[Metadata], mappings: &[Mapping<Value>]) -> bool
-    requires distinct { IsDistinct bytes_eq (name_texts names.now) }
+    requires distinct { IsDistinct bytes_eq names.now }
     ensures { IsTrue result → (name : List ℕ) →
-        bodies_of_name (name_texts names.now) (map numbered_body list.now) name
+        bodies_of_name names.now (map numbered_body list.now) name
         ≡ bodies_named name (entries_view mappings.now) }
 {
     let mut rest = list;
@@ -145,7 +146,7 @@ pub(super) fn are_lines_of(names: &NameSet, list: &[Metadata], mappings: &[Mappi
 // Whether the macro has this name and this body.
 fn is_definition(names: &NameSet, known: &Metadata, name: &[u8], body: &[TrackedAssignment]) -> bool
     ensures { IsTrue result →
-        (slice_get (name_texts names.now) known.now.id.0 ≡ Some name.now)
+        (slice_get names.now known.now.id.0 ≡ Some name.now)
         × (known.now.macro_attributes.items ≡ body.now) }
 {
     has_name(names, known.id.0, name) && is_same(&known.macro_attributes, body)
@@ -153,9 +154,9 @@ fn is_definition(names: &NameSet, known: &Metadata, name: &[u8], body: &[Tracked
 
 // Whether the name with this number is the text.
 fn has_name(names: &NameSet, number: usize, text: &[u8]) -> bool
-    ensures { IsTrue result → slice_get (name_texts names.now) number ≡ Some text.now }
+    ensures { IsTrue result → slice_get names.now number ≡ Some text.now }
 {
-    match name_at(names, number) {
+    match names.name(number) {
         Some(name) => has_text(text, name),
         None => false,
     }

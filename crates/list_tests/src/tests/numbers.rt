@@ -396,7 +396,8 @@ fn a_new_table_is_empty(rt: HostRuntime) -> Result<(), AllocError> {
     let text = printed_new(rt.alloc())?;
     assert_eq!(rt;
         text.as_str(),
-        "NameTable { parts: Parts { names: {}, entries: [], active: [], free_from: 0, registered: [], macros: {} } }"
+        "NameTable { parts: Parts { names: NameSet { texts: [], numbers: {} }, entries: [], active: [], \
+         free_from: 0, registered: [], macros: {} } }"
     );
     Ok(())
 }

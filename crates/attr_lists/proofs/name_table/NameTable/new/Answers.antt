@@ -7,20 +7,20 @@ use Rattle.attr_lists.proofs.name_table.NameTable.new.Goals as goal
 
 pub returns-clause-sound : goal.returns-clause-sound
 returns-clause-sound c = subst IsSoundCollection (λ j. record {
-  names = sym c.no_names.ensures j;
-  definitions = all_definitions (sym c.new.ensures.items j);
-  active = sym c.new-2.ensures.items j;
+  names = sym c.new.ensures j;
+  definitions = all_definitions (sym c.new-2.ensures.items j);
+  active = sym c.new-3.ensures.items j;
 }) nothing_sound
 
 pub invariant_of-result : goal.invariant_of-result
 invariant_of-result c = record {
   sound = subst IsSoundCollection (λ j. record {
-    names = sym c.no_names.ensures j;
-    definitions = all_definitions (sym c.new.ensures.items j);
-    active = sym c.new-2.ensures.items j;
+    names = sym c.new.ensures j;
+    definitions = all_definitions (sym c.new-2.ensures.items j);
+    active = sym c.new-3.ensures.items j;
   }) nothing_sound;
-  entries = subst AreEntries (sym c.new.ensures.items) (λ number d lt. absurd (omega arith));
+  entries = subst AreEntries (sym c.new-2.ensures.items) (λ number d lt. absurd (omega arith));
   from = omega arith;
-  registered = λ other number on. absurd (true≢false (sym on ∙ ap (λ l. get_or l other false) c.new-2.ensures.items));
-  macros = λ number none. ap (λ l. get_or (all_definitions l) number []) c.new.ensures.items;
+  registered = λ other number on. absurd (true≢false (sym on ∙ ap (λ l. get_or l other false) c.new-3.ensures.items));
+  macros = λ number none. ap (λ l. get_or (all_definitions l) number []) c.new-2.ensures.items;
 }

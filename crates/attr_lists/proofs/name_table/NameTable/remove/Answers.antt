@@ -3,7 +3,7 @@ use Rattle.std.specs.Vec.{with_items}
 use Rattle.std.proofs.lemmas.List.{length-map, with_items_is}
 use Rattle.attr_lists.specs.Definitions.{definitions_of, without_list, HoldsList, IsSoundCollection}
 use Rattle.attr_lists.specs.inner.EntrySteps.{HasBodies}
-use Rattle.attr_lists.specs.inner.EntryViews.{name_texts, definitions_at, definitions_by, definitions_view, AreEntries}
+use Rattle.attr_lists.specs.inner.EntryViews.{definitions_at, definitions_by, definitions_view, AreEntries}
 use Rattle.attr_lists.specs.ListViews.{entries_view}
 use Rattle.attr_lists.specs.inner.NameTableView.{parts_view}
 use Rattle.attr_lists.specs.inner.Registered.{registered_at, AreRegistered, ListsNames}
@@ -19,7 +19,7 @@ pub returns-clause-removed : goal.returns-clause-removed
 returns-clause-removed c =
     let kept : length c.remove_list.new.entries ≡ c.self.inside.parts.entries.len = omega
     (arith, c.remove_list.auto.entries, ap length c.deref_mut.ensures.value, c.self.inside.parts.entries.ok.0) in
-    removed_is (name_texts c.self.inside.parts.names) c.self.inside.parts.active.items c.self.inside.parts.entries.items c.deref_mut.result.now
+    removed_is c.self.inside.parts.names c.self.inside.parts.active.items c.self.inside.parts.entries.items c.deref_mut.result.now
     c.remove_list.new.entries _ c.args.list_id c.deref_mut.ensures.value (with_items_is c.self.inside.parts.entries c.remove_list.new.entries kept)
     c.remove_list.ensures.definitions
     ∙ ap (without_list c.args.list_id) c.self.view_is
@@ -33,7 +33,7 @@ remove_list-requires c =
       counted = ap length c.deref_mut.ensures.value ∙ (sym (length-map c.self.inside.parts.entries.items definitions_view)
           ∙ c.self.invariant.sound.counted);
       held = λ name. subst (λ l. HasBodies c.args.list_id name (entries_view c.args.mappings.now)
-          (definitions_by (name_texts c.self.inside.parts.names) l name)) (sym c.deref_mut.ensures.value) (held.bodies name);
+          (definitions_by c.self.inside.parts.names l name)) (sym c.deref_mut.ensures.value) (held.bodies name);
       listed = subst (ListsNames c.args.list_id (registered_at c.deref_mut-2.result.now c.args.list_id)) (sym c.deref_mut.ensures.value)
           (subst (λ l. ListsNames c.args.list_id (registered_at l c.args.list_id) c.self.inside.parts.entries.items)
           (sym c.deref_mut-2.ensures.value)

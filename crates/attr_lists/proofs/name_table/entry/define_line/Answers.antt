@@ -1,6 +1,5 @@
 use Rattle.std.proofs.Common.{◌∙◌, ap, map}
 use Rattle.attr_lists.specs.Definitions.{of_other_lists}
-use Rattle.attr_lists.specs.inner.EntryViews.{name_texts}
 use Rattle.attr_lists.specs.Numbers.{id_of, numbered_item}
 use Rattle.attr_lists.proofs.EntryLemmas.{defined_at, others_at, same_at}
 use Rattle.attr_lists.proofs.name_table.entry.define_line.Goals as goal
@@ -13,10 +12,10 @@ returns-in_err-define-clause-others c = λ n.
 
 pub returns-clause-ok : goal.returns-clause-ok
 returns-clause-ok c = λ n lt.
-    defined_at (name_texts c.args.names.now) c.args.list_id n c.args.entries.now c.args.mapping.now c.in-MacroAssignments.id c.id_of-id.result
+    defined_at c.args.names.now c.args.list_id n c.args.entries.now c.args.mapping.now c.in-MacroAssignments.id c.id_of-id.result
     c.in-MacroAssignments.assignments c.in_ok-macro_attributes.macro_attributes.items c.index-entries-id.result c.define.new.self
-    c.in-MacroAssignments.is (c.id_of-id.ensures ∙ ap (id_of (name_texts c.args.names.now)) c.macro_name.ensures)
-    (c.in_ok-macro_attributes.ensures ∙ ap (map (numbered_item (name_texts c.args.names.now))) c.deref.ensures) c.if-id-entries.false
+    c.in-MacroAssignments.is (c.id_of-id.ensures ∙ ap (id_of c.args.names.now) c.macro_name.ensures)
+    (c.in_ok-macro_attributes.ensures ∙ ap (map (numbered_item c.args.names.now)) c.deref.ensures) c.if-id-entries.false
     c.in_ok-define.ensures.ok
 
 pub returns-clause-others : goal.returns-clause-others

@@ -1,5 +1,4 @@
 use Rattle.std.proofs.Common.{◌∙◌, arith}
-use Rattle.attr_lists.specs.inner.EntryViews.{name_texts}
 use Rattle.attr_lists.proofs.EntryLemmas.{define_list_step}
 use Rattle.attr_lists.proofs.NameLemmas.{macro_valid_at}
 use Rattle.attr_lists.proofs.name_table.entry.define_list.Goals as goal
@@ -10,7 +9,7 @@ define_line-requires c = macro_valid_at c.args.mappings.now c.loop-mapping.mappi
 
 pub loop-mapping-preserved : goal.loop-mapping-preserved
 loop-mapping-preserved c = record {
-  defined = λ number lt. define_list_step (name_texts c.args.names.now) c.args.list_id number c.args.entries.now c.loop-mapping.entries
+  defined = λ number lt. define_list_step c.args.names.now c.args.list_id number c.args.entries.now c.loop-mapping.entries
       c.define_line.new.entries c.args.mappings.now c.loop-mapping.mapping-index c.mapping-item.result c.loop-mapping-test.true c.mapping-item.is
       (c.loop-mapping.invariant.defined number lt) (c.in_ok-define_line.ensures.ok number (omega (arith, c.loop-mapping.auto.entries)));
   others = λ number. c.define_line.ensures.others number ∙ c.loop-mapping.invariant.others number;

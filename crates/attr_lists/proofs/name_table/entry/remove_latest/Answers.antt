@@ -1,7 +1,6 @@
 use Rattle.std.proofs.Common.{◌∙◌, subst}
 use Rattle.std.proofs.lemmas.List.{take_all}
 use Rattle.attr_lists.specs.inner.EntrySteps.{RemovesAsMany}
-use Rattle.attr_lists.specs.inner.EntryViews.{name_texts}
 use Rattle.attr_lists.specs.ListViews.{entries_view}
 use Rattle.attr_lists.proofs.EntryLemmas.{removed_more}
 use Rattle.attr_lists.proofs.name_table.entry.remove_latest.Goals as goal
@@ -18,5 +17,5 @@ loop-mapping-preserved c = record {
 
 pub returns-clause-removed : goal.returns-clause-removed
 returns-clause-removed c = λ yes.
-    subst (λ ms. RemovesAsMany c.args.list_id (name_texts c.args.names.now) (entries_view ms) c.args.entries.now c.loop-mapping.entries)
+    subst (λ ms. RemovesAsMany c.args.list_id c.args.names.now (entries_view ms) c.args.entries.now c.loop-mapping.entries)
     (take_all c.loop-mapping.mapping-index c.args.mappings.now c.loop-mapping-test.false) c.loop-mapping.invariant.removed

@@ -1,6 +1,5 @@
 use Rattle.std.proofs.Common.{◌≢◌, ◌∙◌, All, subst}
 use Rattle.std.proofs.lemmas.List.Sorted.{All-permutation, IsPermutation-sym}
-use Rattle.attr_lists.specs.inner.EntryViews.{name_texts}
 use Rattle.attr_lists.specs.inner.Registered.{NumberedBody}
 use Rattle.attr_lists.specs.ListViews.{entries_view}
 use Rattle.attr_lists.proofs.NameTableSteps.{all_removed, others_alike}
@@ -18,6 +17,6 @@ returns-then-not-remove_latest-clause-definitions c =
 
 pub returns-else-not-remove_latest-clause-definitions : goal.returns-else-not-remove_latest-clause-definitions
 returns-else-not-remove_latest-clause-definitions c =
-    all_removed (name_texts c.args.names.now) c.args.entries.now c.remove_latest.new.entries c.args.list_id (entries_view c.args.mappings.now)
+    all_removed c.args.names.now c.args.entries.now c.remove_latest.new.entries c.args.list_id (entries_view c.args.mappings.now)
     c.remove_latest.auto.entries c.requires.counted c.requires.distinct c.requires.held
     (c.remove_latest.ensures.removed c.if-not-remove_latest.false) c.remove_latest.ensures.others

@@ -1,7 +1,6 @@
 use Rattle.std.proofs.Common.{◌∙◌, [], ◌∷◌, ◌++◌, ◌+◌, Some, ap, bytes_eq, drop, map, sym}
 use Rattle.std.specs.Prelude.{is_some, ◌&&◌}
 use Rattle.attr_lists.specs.Definitions.{bodies_named}
-use Rattle.attr_lists.specs.inner.EntryViews.{name_texts}
 use Rattle.attr_lists.specs.inner.Registered.{bodies_of_name, numbered_body}
 use Rattle.attr_lists.specs.ListViews.{entry_view, entries_view, items_in, macro_id}
 use Rattle.attr_lists.proofs.DefinitionLemmas.{bodies_named-none}
@@ -11,7 +10,7 @@ use Rattle.attr_lists.proofs.name_table.registered.are_lines_of.Goals.{in-MacroA
 
 pub loop-mapping-preserved : goal.loop-mapping-preserved
 loop-mapping-preserved c = λ name h.
-    let names = name_texts c.args.names.now in
+    let names = c.args.names.now in
     let line = entry_view c.mapping-item.result in
     let behind = entries_view (drop (c.loop-mapping.mapping-index + 1) c.args.mappings.now) in
     let from = lines_from c.args.mappings.now c.loop-mapping.mapping-index c.mapping-item.result name c.loop-mapping-test.true c.mapping-item.is in

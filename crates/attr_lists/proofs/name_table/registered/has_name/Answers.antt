@@ -4,5 +4,5 @@ use Rattle.std.specs.Cmp.Lexicographic.{bytes_decides}
 use Rattle.attr_lists.proofs.name_table.registered.has_name.Goals as goal
 
 pub returns-in-Some : goal.returns-in-Some
-returns-in-Some c = λ yes. sym c.name_at.ensures ∙ (ap option_copied c.in-Some.is
+returns-in-Some c = λ yes. sym c.name.ensures.name ∙ (ap option_copied c.in-Some.is
     ∙ ap Some ((bytes_decides c.in-Some.name.now c.args.text.now).0 (sym c.has_text.ensures ∙ yes)))

@@ -1,8 +1,7 @@
 use Rattle.std.proofs.Common.{◌≡◌, ◌++◌, length, map, ap, refl, ◌∙◌, arith}
-use Rattle.std.specs.Rc.{rc_str_bytes}
-use Rattle.std.proofs.lemmas.List.{length-map, with_items_is}
+use Rattle.std.proofs.lemmas.List.{with_items_is}
 use Rattle.attr_lists.specs.Definitions.{bodies_defined, definition_of, of_other_lists}
-use Rattle.attr_lists.specs.inner.EntryViews.{name_texts, all_definitions, definitions_at}
+use Rattle.attr_lists.specs.inner.EntryViews.{all_definitions, definitions_at}
 use Rattle.attr_lists.specs.inner.Registered.{bodies_of_number}
 use Rattle.attr_lists.specs.ListViews.{entries_view}
 use Rattle.attr_lists.specs.Numbers.{names_in, with_names, numbered_lines}
@@ -16,52 +15,51 @@ pub extend-requires : goal.extend-requires
 extend-requires c =
     omega (
       arith,
-      c.len.ensures.len,
-      length-map c.insert_names.new.names.keys rc_str_bytes,
+      c.len.ensures,
       ap length c.in_ok-insert_names.ensures.ok,
       count_more
-          (name_texts c.args.self.now.names) (names_in (entries_view c.args.mappings.now)),
+          c.args.self.now.names (names_in (entries_view c.args.mappings.now)),
       c.requires.counted,
     )
 
 pub returns-in_err-insert_macros-clause-err : goal.returns-in_err-insert_macros-clause-err
 returns-in_err-insert_macros-clause-err c =
-    let more = with_names-extends (name_texts c.args.self.now.names) (names_in (entries_view c.args.mappings.now)) in
+    let more = with_names-extends c.args.self.now.names (names_in (entries_view c.args.mappings.now)) in
     let old = c.args.self.now.entries.items in
-    on_err c.from_residual-in_err-insert_macros.result _ (partly_added (name_texts c.args.self.now.names) (name_texts c.insert_names.new.names)
+    on_err c.from_residual-in_err-insert_macros.result _ (partly_added c.args.self.now.names c.insert_names.new.names
     c.args.self.now.active.items c.args.self.now.active.items old old old c.args.list_id (more.0, c.in_ok-insert_names.ensures.ok ∙ more.1)
     (omega arith) (λ n. refl) refl refl)
 
 pub returns-in_err-extend-clause-err : goal.returns-in_err-extend-clause-err
 returns-in_err-extend-clause-err c =
-    let more = with_names-extends (name_texts c.args.self.now.names) (names_in (entries_view c.args.mappings.now)) in
-    on_err c.from_residual-in_err-extend.result _ (partly_added (name_texts c.args.self.now.names) (name_texts c.insert_names.new.names)
+    let more = with_names-extends c.args.self.now.names (names_in (entries_view c.args.mappings.now)) in
+    on_err c.from_residual-in_err-extend.result _ (partly_added c.args.self.now.names c.insert_names.new.names
     c.args.self.now.active.items c.args.self.now.active.items c.args.self.now.entries.items c.extend.new.entries.items c.extend.new.entries.items
     c.args.list_id (more.0, c.in_ok-insert_names.ensures.ok ∙ more.1) c.extend.ensures.more
     (λ n. ap (of_other_lists c.args.list_id) (c.extend.ensures.definitions n)) refl refl)
 
 pub returns-in_err-list-clause-err : goal.returns-in_err-list-clause-err
 returns-in_err-list-clause-err c =
-    let more = with_names-extends (name_texts c.args.self.now.names) (names_in (entries_view c.args.mappings.now)) in
-    on_err c.from_residual-in_err-list.result _ (partly_added (name_texts c.args.self.now.names) (name_texts c.insert_names.new.names)
+    let more = with_names-extends c.args.self.now.names (names_in (entries_view c.args.mappings.now)) in
+    on_err c.from_residual-in_err-list.result _ (partly_added c.args.self.now.names c.insert_names.new.names
     c.args.self.now.active.items c.args.self.now.active.items c.args.self.now.entries.items c.extend.new.entries.items c.extend.new.entries.items
     c.args.list_id (more.0, c.in_ok-insert_names.ensures.ok ∙ more.1) c.extend.ensures.more
     (λ n. ap (of_other_lists c.args.list_id) (c.extend.ensures.definitions n)) refl refl)
 
 pub returns-in_err-register-clause-err : goal.returns-in_err-register-clause-err
 returns-in_err-register-clause-err c =
-    let more = with_names-extends (name_texts c.args.self.now.names) (names_in (entries_view c.args.mappings.now)) in
-    on_err c.from_residual-in_err-register.result _ (partly_added (name_texts c.args.self.now.names) (name_texts c.insert_names.new.names)
+    let more = with_names-extends c.args.self.now.names (names_in (entries_view c.args.mappings.now)) in
+    on_err c.from_residual-in_err-register.result _ (partly_added c.args.self.now.names c.insert_names.new.names
     c.args.self.now.active.items c.args.self.now.active.items c.args.self.now.entries.items c.extend.new.entries.items c.extend.new.entries.items
     c.args.list_id (more.0, c.in_ok-insert_names.ensures.ok ∙ more.1) c.extend.ensures.more
     (λ n. ap (of_other_lists c.args.list_id) (c.extend.ensures.definitions n)) refl refl)
 
 pub returns-in_err-define_list-clause-err : goal.returns-in_err-define_list-clause-err
 returns-in_err-define_list-clause-err c =
-    let more = with_names-extends (name_texts c.args.self.now.names) (names_in (entries_view c.args.mappings.now)) in
+    let more = with_names-extends c.args.self.now.names (names_in (entries_view c.args.mappings.now)) in
     let kept : length c.define_list.new.entries ≡ c.extend.new.entries.len =
     omega (arith, c.define_list.auto.entries, ap length c.deref_mut.ensures.value, c.extend.new.entries.ok.0) in
-    on_err c.from_residual-in_err-define_list.result _ (partly_defined (name_texts c.args.self.now.names) (name_texts c.insert_names.new.names)
+    on_err c.from_residual-in_err-define_list.result _ (partly_defined c.args.self.now.names c.insert_names.new.names
     c.args.self.now.active.items c.args.self.now.active.items c.args.self.now.entries.items c.extend.new.entries.items c.deref_mut.result.now
     c.define_list.new.entries _ c.args.list_id (more.0, c.in_ok-insert_names.ensures.ok ∙ more.1) c.extend.ensures.more c.extend.ensures.definitions
     c.deref_mut.ensures.value c.define_list.auto.entries c.define_list.ensures.others
@@ -69,10 +67,10 @@ returns-in_err-define_list-clause-err c =
 
 pub returns-in_err-mark_active-clause-err : goal.returns-in_err-mark_active-clause-err
 returns-in_err-mark_active-clause-err c =
-    let more = with_names-extends (name_texts c.args.self.now.names) (names_in (entries_view c.args.mappings.now)) in
+    let more = with_names-extends c.args.self.now.names (names_in (entries_view c.args.mappings.now)) in
     let kept : length c.define_list.new.entries ≡ c.extend.new.entries.len =
     omega (arith, c.define_list.auto.entries, ap length c.deref_mut.ensures.value, c.extend.new.entries.ok.0) in
-    on_err c.from_residual-in_err-mark_active.result _ (partly_defined (name_texts c.args.self.now.names) (name_texts c.insert_names.new.names)
+    on_err c.from_residual-in_err-mark_active.result _ (partly_defined c.args.self.now.names c.insert_names.new.names
     c.args.self.now.active.items c.mark_active.new.active.items c.args.self.now.entries.items c.extend.new.entries.items c.deref_mut.result.now
     c.define_list.new.entries _ c.args.list_id (more.0, c.in_ok-insert_names.ensures.ok ∙ more.1) c.extend.ensures.more c.extend.ensures.definitions
     c.deref_mut.ensures.value c.define_list.auto.entries c.define_list.ensures.others
@@ -82,16 +80,14 @@ pub returns-clause-added : goal.returns-clause-added
 returns-clause-added c =
     let kept : length c.define_list.new.entries ≡ c.extend.new.entries.len =
     omega (arith, c.define_list.auto.entries, ap length c.deref_mut.ensures.value, c.extend.new.entries.ok.0) in
-    let all = with_names (name_texts c.args.self.now.names) (names_in (entries_view c.args.mappings.now)) in
+    let all = with_names c.args.self.now.names (names_in (entries_view c.args.mappings.now)) in
     let len : length c.define_list.new.entries ≡ length all =
     omega (
       arith,
       c.define_list.auto.entries,
       ap length c.deref_mut.ensures.value,
       c.in_ok-extend.ensures.ok,
-      c.len.ensures.len,
-      length-map
-          c.insert_names.new.names.keys rc_str_bytes,
+      c.len.ensures,
       ap length c.in_ok-insert_names.ensures.ok,
     ) in
     let definitions =

@@ -1,0 +1,164 @@
+-- A set of names: what an appended name and a removed one leave of the numbers.
+use Rattle.std.proofs.Common.{◌≡◌, ℕ, ◌+◌, ◌<◌, Bool, true, false, ltb, List, [], ◌∷◌, ◌++◌, length, get_or, map, drop, bytes_eq, Option, Some, None}
+use Rattle.std.proofs.Common.{refl, sym, ap, subst, ◌∙◌, ⊎_elim, true≢false, arith}
+use Rattle.std.specs.BTreeMap.{BTreeMap, UpdatesBy}
+use Rattle.std.specs.Cmp.{eq_by_cmp_equiv}
+use Rattle.std.specs.Cmp.Lexicographic.{bytes_decides, slice_cmp, nat_list_cmp_total, nat_list_eq_equiv}
+use Rattle.std.specs.List.{list_any, position_or_len, IsDistinct}
+use Rattle.std.specs.Map.{lookup, IsKeyTest, AreApart, KeepsOthers}
+use Rattle.std.specs.Ordering.{is_eq, nat_cmp}
+use Rattle.std.specs.Prelude.{is_some}
+use Rattle.std.specs.Rc.{rc_str_bytes}
+use Rattle.std.specs.declared.rc.RcStr.{RcStr}
+use Rattle.std.proofs.lemmas.Bool.{cases_Bool, cases_lt, cond-true, lt-ltb}
+use Rattle.std.proofs.lemmas.List.{at_drop_more, get_or_append_left, get_or_at, length-append}
+use Rattle.std.proofs.lemmas.List.Folds.{list_any_at}
+use Rattle.std.proofs.lemmas.List.Quantifiers.{position-Some}
+use Rattle.std.proofs.lemmas.Map.Keys.{apart_from_distinct, IsDistinct-from_apart, IsDistinct-push}
+use Rattle.std.proofs.lemmas.Map.Text.{is_eq-slice_cmp}
+use Rattle.attr_lists.specs.Numbers.{number_of, with_name}
+use Rattle.attr_lists.specs.declared.name_table.name_set.NameSet.TheInside.{Inside}
+use Rattle.attr_lists.specs.inner.NameSets.{texts_of, number_under, IsNameSet}
+use Rattle.attr_lists.proofs.NameLemmas.{not_before, with_name-new}
+use Rattle.attr_lists.proofs.NamedDefinitions.{has_at, number_at, number_name, place_of}
+
+-- a name has a number where it is among the names
+pub absent : (names : List (List ℕ)) (name : List ℕ) → number_of names name ≡ None → list_any (bytes_eq name) names ≡ false
+absent names name none =
+    let place = position_or_len (bytes_eq name) names in
+    ⊎_elim
+    (λ (has : list_any (bytes_eq name) names ≡ true). absurd (true≢false (ap is_some (sym (cond-true (ltb place (length names)) (Some place) None
+    (lt-ltb place (length names) (place_of names name has))) ∙ none))))
+    (λ no. no)
+    (cases_Bool (list_any (bytes_eq name) names))
+
+pub without_number : (names : List (List ℕ)) (name : List ℕ) → list_any (bytes_eq name) names ≡ false → number_of names name ≡ None
+without_number names name none = at (number_of names name) refl
+  where
+    at : (o : Option ℕ) → number_of names name ≡ o → number_of names name ≡ None
+    at None e = e
+    at (Some n) e =
+        let here = position-Some (bytes_eq name) names n [] e in
+        absurd (true≢false (sym (list_any_at (bytes_eq name) names n [] here.0 here.1) ∙ none))
+
+-- a name without a number is taken
+pub numbered_new : (names : List (List ℕ)) (name : List ℕ) → is_some (number_of names name) ≡ false → names ++ name ∷ [] ≡ with_name names name
+numbered_new names name unknown = at (number_of names name) refl unknown
+  where
+    at : (o : Option ℕ) → number_of names name ≡ o → is_some o ≡ false → names ++ name ∷ [] ≡ with_name names name
+    at None e is = sym (with_name-new names name (absent names name e))
+    at (Some n) e is = absurd (true≢false is)
+
+pub distinct_front : (front rest : List (List ℕ)) → IsDistinct bytes_eq (front ++ rest) → IsDistinct bytes_eq front
+distinct_front front rest distinct = IsDistinct-from_apart bytes_eq front (λ i j d before lt.
+    ap (bytes_eq (get_or front i d)) (sym (get_or_append_left front rest d j lt))
+    ∙ ap (λ x. bytes_eq x (get_or (front ++ rest) j d)) (sym (get_or_append_left front rest d i (omega (arith, before, lt))))
+    ∙ apart_from_distinct bytes_eq (front ++ rest) i j d distinct before (omega (arith, lt, length-append front rest)))
+
+-- the numbers of names after one more
+module _ (names : List (List ℕ)) (text : List ℕ) (distinct : IsDistinct bytes_eq (names ++ text ∷ [])) where
+  count : length (names ++ text ∷ []) ≡ length names + 1
+  count = length-append names (text ∷ [])
+
+  -- another name has the number that it had
+  number_of_other : (other : List ℕ) → bytes_eq text other ≡ false → number_of (names ++ text ∷ []) other ≡ number_of names other
+  number_of_other other differs = known (number_of names other) refl
+    where
+      last : (m : ℕ) → number_of (names ++ text ∷ []) other ≡ Some m → m < length names
+      last m e =
+          let here = number_name (names ++ text ∷ []) other m e in
+          ⊎_elim (λ lt. lt)
+          (λ past. absurd (true≢false (sym ((bytes_decides text other).1 (sym (get_or_at names text [] [] m (omega (arith, past, here.0, count)))
+          ∙ here.1)) ∙ differs)))
+          (cases_lt m (length names))
+
+      unknown : number_of names other ≡ None → (o : Option ℕ) → number_of (names ++ text ∷ []) other ≡ o → o ≡ None
+      unknown none None e = refl
+      unknown none (Some m) e =
+          let lt = last m e in
+          let here = number_name (names ++ text ∷ []) other m e in
+          let at : get_or names m [] ≡ other = sym (get_or_append_left names (text ∷ []) [] m lt) ∙ here.1 in
+          absurd (true≢false (sym (subst (λ x. list_any (bytes_eq x) names ≡ true) at (has_at names m lt)) ∙ absent names other none))
+
+      known : (o : Option ℕ) → number_of names other ≡ o → number_of (names ++ text ∷ []) other ≡ number_of names other
+      known None e = unknown e (number_of (names ++ text ∷ []) other) refl ∙ sym e
+      known (Some n) e =
+          let here = number_name names other n e in
+          ap (number_of (names ++ text ∷ [])) (sym (get_or_append_left names (text ∷ []) [] n here.0 ∙ here.1))
+          ∙ number_at (names ++ text ∷ []) n distinct (omega (arith, here.0, count)) ∙ sym e
+
+  -- the name at the end has the last number
+  number_of_last : (other : List ℕ) → bytes_eq text other ≡ true → number_of (names ++ text ∷ []) other ≡ Some (length names)
+  number_of_last other equals =
+      ap (number_of (names ++ text ∷ [])) (sym (get_or_at names text [] [] (length names) refl ∙ (bytes_decides text other).0 equals))
+      ∙ number_at (names ++ text ∷ []) (length names) distinct (omega (arith, count))
+
+others_stay : {K X : Type 0} (eq : K → K → Bool) (test : K → Bool) (old new : List (K × X)) → KeepsOthers eq test old new → (other : K → Bool) →
+    IsKeyTest eq other → AreApart test other → lookup other new ≡ lookup other old
+unfolding KeepsOthers
+others_stay eq test old new h = h
+
+apart : (text other key : List ℕ) → bytes_eq text other ≡ false → is_eq (slice_cmp nat_cmp text key) ≡ true → is_eq (slice_cmp nat_cmp other key) ≡
+    false
+apart text other key differs equals =
+    is_eq-slice_cmp other key ∙ nat_list_eq_equiv.symm other key
+    ∙ sym (nat_list_eq_equiv.congr text key other (sym (is_eq-slice_cmp text key) ∙ equals)) ∙ differs
+
+-- the numbers under texts after the one under a text has changed
+module _ {Z : Type 0} (text : List ℕ) (old new : BTreeMap (RcStr Z) ℕ) (number : Option ℕ) where
+  abbrev pub Changes : Type 0
+  Changes = UpdatesBy (λ x y. slice_cmp nat_cmp (rc_str_bytes x) (rc_str_bytes y)) (λ key. slice_cmp nat_cmp text (rc_str_bytes key)) old new number
+
+  under_text : Changes → (other : List ℕ) → bytes_eq text other ≡ true → number_under new other ≡ number
+  under_text h other equals = subst (λ t. number_under new t ≡ number) ((bytes_decides text other).0 equals) h.1
+
+  under_others : Changes → (other : List ℕ) → bytes_eq text other ≡ false → number_under new other ≡ number_under old other
+  under_others h other differs =
+      others_stay _ _ _ _ h.3 _ (λ x y. (eq_by_cmp_equiv nat_list_cmp_total).congr other (rc_str_bytes x) (rc_str_bytes y))
+      (λ key. apart text other (rc_str_bytes key) differs)
+
+pub name_set_empty : (set : Inside) → set.texts.items ≡ [] → set.numbers.entries ≡ [] → IsNameSet set
+unfolding IsDistinct
+name_set_empty set texts numbers = record {
+  distinct = subst (IsDistinct bytes_eq) (sym (ap (map rc_str_bytes) texts)) tt;
+  numbers = λ other. ap (lookup (λ key. is_eq (slice_cmp nat_cmp other (rc_str_bytes key)))) numbers
+      ∙ sym (ap (λ l. number_of (map rc_str_bytes l) other) texts);
+}
+
+module _ (old new : Inside) (text : List ℕ) (is : IsNameSet old) where
+  pub name_set_pushed : texts_of new ≡ texts_of old ++ text ∷ [] → number_of (texts_of old) text ≡ None →
+      Changes text old.numbers new.numbers (Some (length (texts_of old))) → IsNameSet new
+  name_set_pushed texts none changes =
+      let distinct = IsDistinct-push nat_list_eq_equiv (texts_of old) text is.distinct (absent (texts_of old) text none) in
+      let number = Some (length (texts_of old)) in
+      record {
+        distinct = subst (IsDistinct bytes_eq) (sym texts) distinct;
+        numbers = λ other. ⊎_elim
+            (λ yes. under_text text old.numbers new.numbers number changes other yes
+            ∙ sym (ap (λ l. number_of l other) texts ∙ number_of_last (texts_of old) text distinct other yes))
+            (λ no. under_others text old.numbers new.numbers number changes other no ∙ is.numbers other
+            ∙ sym (ap (λ l. number_of l other) texts ∙ number_of_other (texts_of old) text distinct other no))
+            (cases_Bool (bytes_eq text other));
+      }
+
+  pub name_set_popped : texts_of old ≡ texts_of new ++ text ∷ [] → Changes text old.numbers new.numbers None → IsNameSet new
+  name_set_popped texts changes =
+      let distinct = subst (IsDistinct bytes_eq) texts is.distinct in
+      let gone = without_number (texts_of new) text (not_before (texts_of new) text [] distinct) in
+      record {
+        distinct = distinct_front (texts_of new) (text ∷ []) distinct;
+        numbers = λ other. ⊎_elim
+            (λ yes. under_text text old.numbers new.numbers None changes other yes
+            ∙ sym (subst (λ t. number_of (texts_of new) t ≡ None) ((bytes_decides text other).0 yes) gone))
+            (λ no. under_others text old.numbers new.numbers None changes other no ∙ is.numbers other ∙ ap (λ l. number_of l other) texts
+            ∙ number_of_other (texts_of new) text distinct other no)
+            (cases_Bool (bytes_eq text other));
+      }
+
+-- one more name of those that are left to copy
+pub copy_step : {Z : Type 0} (names copy : List (List ℕ)) (items : List (RcStr Z)) (i : ℕ) (item : RcStr Z) (text : List ℕ) → i < length items →
+    item ≡ get_or items i item → text ≡ rc_str_bytes item → copy ++ map rc_str_bytes (drop i items) ≡ names → copy ++ text ∷ map rc_str_bytes
+    (drop (i + 1) items) ≡ names
+copy_step names copy items i item text lt at is left =
+    ap (λ t. copy ++ t ∷ map rc_str_bytes (drop (i + 1) items)) (is ∙ ap rc_str_bytes at)
+    ∙ sym (at_drop_more (λ l. copy ++ map rc_str_bytes l) items i item lt) ∙ left
