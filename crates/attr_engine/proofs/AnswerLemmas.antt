@@ -1,23 +1,26 @@
 -- The answers of an engine after a search: those of the only stable table, and where they are.
 use Rattle.std.proofs.Common.{◌≡◌, ℕ, ◌+◌, ◌<◌, ◌≤◌, Bool, true, false, List, [], ◌∷◌, length, drop, map, Option, Some, None}
-use Rattle.std.proofs.Common.{option_map, slice_get, get_or, refl, sym, ap, ◌∙◌, subst, eqb-true}
-use Rattle.std.specs.Prelude.{◌==◌, if◌then◌else◌, option_and_then, unwrap_or}
+use Rattle.std.proofs.Common.{◌⊎◌, ⊎_elim, MatchOption, option_map, slice_get, get_or, refl, sym, ap, ◌∙◌, arith, subst, eqb-true}
+use Rattle.std.specs.Prelude.{◌==◌, ⊤, bytes_eq, if◌then◌else◌, option_and_then, unwrap_or}
+use Rattle.std.specs.List.{IsDistinct}
 use Rattle.std.proofs.lemmas.List.{length-map, drop_more, drop_all}
-use Rattle.std.proofs.lemmas.Option.{get_or_from_slice_get, slice_get_within}
+use Rattle.std.proofs.lemmas.Option.{get_or_from_slice_get, slice_get_cases, slice_get_within}
 use Rattle.gix_attributes.specs.Collections.{Collection}
-use Rattle.gix_attributes.specs.Contents.{Content, found_in, initial_content, looked_up, names_selected, reset_content, selected_in}
+use Rattle.gix_attributes.specs.Contents.{Content, Wanted, found_in, initial_content, looked_up, names_selected, reset_content, selected_in}
 use Rattle.gix_attributes.specs.Contents.{wanted_of}
 use Rattle.gix_attributes.specs.Cut.{IsSearched}
-use Rattle.gix_attributes.specs.Lookups.{IsLookedUp, Lookup, OfTheOnlyTable, answers_by_number, selected_answers}
+use Rattle.gix_attributes.specs.Lookups.{FindsAnswers, IsLookedUp, Lookup, OfTheOnlyTable, answers_by_number, selected_answers}
+use Rattle.gix_attributes.specs.Numbers.{number_of}
 use Rattle.gix_attributes.specs.Searching.{KeepsAllButAnswers, KeepsNames, answers_in, setting_for}
-use Rattle.gix_attributes.specs.Settings.{setting_of}
+use Rattle.gix_attributes.specs.Settings.{HeldAreNamed, setting_of}
 use Rattle.gix_attributes.specs.Slots.{Matched}
 use Rattle.gix_attributes.specs.Table.{Slots}
-use Rattle.gix_attributes.proofs.ForCallers.{bodies_have_names, emptied_again, looked_up_answers, reset_at_first, reset_searched}
-use Rattle.attr_engine.specs.EngineStates.{EngineState, is_specified, path_setting, returned_answers, specified_among}
+use Rattle.gix_attributes.proofs.ForCallers.{all_named, bodies_have_names, emptied_again, looked_up_answers, looked_up_found, number_at}
+use Rattle.gix_attributes.proofs.ForCallers.{reset_at_first, reset_searched}
+use Rattle.attr_engine.specs.EngineStates.{EngineState, is_specified, path_setting, returned_answers, specified_among, texts_answered}
 use Rattle.attr_engine.specs.EngineView.{returned_by}
 use Rattle.attr_engine.specs.Registration.{RegistersAlone}
-use Rattle.attr_engine.specs.inner.SoundEngines.{AreNumbered, ArePlacesOf, IsCurrentFor, is_slot_specified}
+use Rattle.attr_engine.specs.inner.SoundEngines.{AreNumbered, ArePlacesOf, IsCurrentFor, IsOfNames, is_slot_specified}
 use Rattle.std.proofs.lemmas.Option.{slice_get-map}
 use Rattle.attr_engine.proofs.RegistrationLemmas.{bodies_registered}
 
@@ -110,6 +113,25 @@ module _ (q : Lookup) (list_ids : List ℕ) (before after : Content)
       (bodies_registered q.known list_ids q.lists q.selected same knows)
       (found.0, returned _ (length q.selected == 0) refl found.1.all found.1.selected)
 
+  -- and so is what is found by number
+  pub found : OfTheOnlyTable (path_setting state q.path q.case q.is_dir) (λ answers. FindsAnswers q.known.names q.selected answers after.slots)
+  found =
+      subst
+      (λ bodies. OfTheOnlyTable (setting_of q.lists bodies q.path q.case q.is_dir)
+      (λ answers. FindsAnswers q.known.names q.selected answers after.slots))
+      (bodies_registered q.known list_ids q.lists q.selected same knows)
+      (looked_up_found q before after looked)
+
+  -- with the names of the collection
+  pub of_names : IsOfNames q.known.names after
+  of_names =
+      let selection = selection_kept q.known q.selected before after fresh kept in
+      record {
+        selection = selection
+            ∙ ap (looked_up q.known.names) (sym (ap names_selected selection ∙ names_again q.known.names q.selected));
+        answers = all_named q before after looked;
+      }
+
 -- ---- where the answers are, if nothing is selected
 
 kept_one : (m : Matched) (ms : List Matched) → is_specified m.assignment.state ≡ true → specified_among (m ∷ ms) ≡ m ∷ specified_among ms
@@ -182,6 +204,51 @@ answer_in_slot has held numbers i n o given none numbered here o_is =
     ∙ (at_place held.slots (specified_among (found_in held.slots)) numbers i n (numbered given no_selection) here
     ∙ sym (ap read (if_true has (Some (returned_by held)) None given)
     ∙ ap (λ answers. slice_get answers i) (if_true (length held.selection == 0) _ _ no_selection)))
+
+-- ---- the numbers of the attributes that answers are for
+
+-- what is read at an index of the answers
+abbrev texts_of : List (List ℕ) → List (List ℕ) → List Matched → List (List ℕ)
+texts_of names selected answers = texts_answered (record { names = names; lists = []; selection = selected }) answers
+
+abbrev Numbered : List (List ℕ) → List (List ℕ) → Option (List Matched) → ℕ → Option ℕ → Type 0
+Numbered names selected answers i o =
+    o ≡ option_and_then (λ ms. option_and_then (number_of names) (slice_get (texts_of names selected ms) i)) answers
+
+-- the number of a slot whose match has the name of the number
+number_of_slot : (names : List (List ℕ)) (slots : List (Option Matched)) (n : ℕ) (m : Matched) → IsDistinct bytes_eq names
+    → HeldAreNamed names slots → get_or slots n None ≡ Some m → number_of names m.assignment.name ≡ Some n
+number_of_slot names slots n m distinct named here =
+    let own : slice_get names n ≡ Some m.assignment.name =
+    subst (λ o. MatchOption o ⊤ (λ (x : Matched). slice_get names n ≡ Some x.assignment.name)) here (named n) in
+    let below : n < length names = slice_get_within names n m.assignment.name own in
+    ap (number_of names) (sym (get_or_from_slice_get names n m.assignment.name [] own)) ∙ number_at names n distinct below
+
+-- without a selection, the number at an index is that of the answer's name
+pub answer_number : (names : List (List ℕ)) (has : Bool) (held : Content) (numbers : List ℕ) (i n : ℕ) → IsDistinct bytes_eq names
+    → has ≡ true → length held.selection ≡ 0 → (has ≡ true → AreNumbered held numbers) → (has ≡ true → IsOfNames names held)
+    → slice_get numbers i ≡ Some n
+    → Numbered names (names_selected held.selection) (if has then Some (returned_by held) else None) i (Some n)
+answer_number names has held numbers i n distinct given none numbered named here =
+    let no_selection : (length held.selection == 0) ≡ true = ap (λ k. k == 0) none in
+    let no_texts : (length (names_selected held.selection) == 0) ≡ true =
+    ap (λ k. k == 0) (length-map held.selection (λ (w : Wanted). w.name)) ∙ no_selection in
+    let places = numbered given no_selection in
+    let matches = specified_among (found_in held.slots) in
+    let within = slice_get_within numbers i n here in
+    let count = same_length held.slots matches numbers places in
+    ⊎_elim
+    (λ (r : (m : Matched) × (i < length matches) × (slice_get matches i ≡ Some m) × (get_or matches i m ≡ m)).
+    sym (ap (option_and_then (number_of names)) (slice_get-map (λ (m : Matched). m.assignment.name) matches i
+    ∙ ap (option_map (λ (m : Matched). m.assignment.name)) r.2)
+    ∙ number_of_slot names held.slots n r.0 distinct (named given).answers (at_place held.slots matches numbers i n places here ∙ r.2)))
+    (λ (past : (length matches ≤ i) × (slice_get matches i ≡ None)). absurd (omega (arith, past.0, within, count)))
+    (slice_get_cases matches i).1
+    ∙ (ap (λ l. option_and_then (number_of names) (slice_get l i))
+    (sym (if_true (length (names_selected held.selection) == 0) (map (λ (m : Matched). m.assignment.name) matches) _ no_texts))
+    ∙ sym (ap (option_and_then (λ ms. option_and_then (number_of names) (slice_get (texts_of names (names_selected held.selection) ms) i)))
+    (if_true has (Some (returned_by held)) None given
+    ∙ ap Some (if_true (length held.selection == 0) matches _ no_selection))))
 
 -- the answers from a number on begin with the one that has the number
 pub next_answer : {X : Type 0} (answers : Option (List X)) (i : ℕ) (x : X) → Some x ≡ option_and_then (λ xs. slice_get xs i) answers

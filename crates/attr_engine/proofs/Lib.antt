@@ -1,3 +1,5 @@
 mod RegistrationLemmas
 mod AnswerLemmas
+mod LabelLemmas
+mod ToldLemmas
 pub mod ForCallers

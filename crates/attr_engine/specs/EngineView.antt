@@ -7,13 +7,18 @@ use Rattle.gix_attributes.specs.Globals.{with_built_in}
 use Rattle.gix_attributes.specs.SearchViews.{lists_in}
 use Rattle.gix_attributes.specs.declared.search.attributes.Search.{Search}
 use Rattle.gix_attributes.specs.Slots.{Matched}
-use Rattle.attr_engine.specs.EngineStates.{AddedFile, EngineContent, EngineState, specified_among}
+use Rattle.attr_engine.specs.EngineStates.{AddedFile, AddedList, EngineContent, EngineState, specified_among}
 use Rattle.attr_engine.specs.declared.engine.Addition.{Addition}
+use Rattle.attr_engine.specs.declared.engine.Below.{Below}
 use Rattle.attr_engine.specs.declared.engine.Engine.TheInside.{Inside}
 
 abbrev pub addition_view : Addition → AddedFile
 addition_view a =
     record { allow_macros = a.allow_macros; source = a.source.now; root = option_copied a.root; buffer = a.buffer.now }
+
+abbrev pub below_view : Below → AddedList
+below_view b =
+    record { allow_macros = b.allow_macros; source = b.source.now; base = option_copied b.base; buffer = b.buffer.now }
 
 -- the lists of a search, with names by number and without a selection
 abbrev pub state_by : List (List ℕ) → Search → EngineState
@@ -40,5 +45,6 @@ engine_view e =
     record {
       state = engine_state e;
       answers = if e.has_answers then Some (returned_by e.outcome) else None;
+      found = if e.has_answers then e.outcome.slots else [];
       dropped = e.dropped.items;
     }

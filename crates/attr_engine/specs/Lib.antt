@@ -1,4 +1,5 @@
 pub mod EngineStates
 pub mod EngineView
 pub mod Registration
+pub mod Told
 pub mod inner

@@ -1,13 +1,13 @@
 //! [`Engine`]: lists, selected names, and the answers to the last question.
 
-ghost use Rattle.std.specs.Prelude.{◌≡◌, ◌↔◌, ◌<◌, [], IfOk, IsTrue, None, OnErr, OnOk, Some, false, length, true, map, option_and_then, option_map, slice_get, unwrap_or};
-ghost use Rattle.attr_engine.specs.EngineStates.{path_setting, returned_answers, unasked, with_addition, with_selection, without_last};
-ghost use Rattle.attr_engine.specs.EngineView.{addition_view, state_by, started};
+ghost use Rattle.std.specs.Prelude.{◌≡◌, ◌↔◌, ◌<◌, [], IfOk, IsTrue, None, OnErr, OnOk, Some, false, length, true, map, option_and_then, option_map, slice_get, slice_index_or, string_bytes, unwrap_or};
+ghost use Rattle.attr_engine.specs.EngineStates.{AnswersTo, FindsFor, number_answered, unasked, with_addition, with_list_below, with_selection, without_answers, without_last};
+ghost use Rattle.attr_engine.specs.EngineView.{addition_view, below_view, state_by, started};
 ghost use Rattle.attr_engine.specs.Registration.{RegistersAlone};
 ghost use Rattle.attr_engine.specs.inner.SoundEngines.{IsCurrentFor};
 ghost use Rattle.gix_attributes.specs.Contents.{initial_content, names_selected};
-ghost use Rattle.gix_attributes.specs.Lookups.{OfTheOnlyTable};
 ghost use Rattle.gix_attributes.specs.Matches.{match_view};
+ghost use Rattle.gix_attributes.specs.Views.{base_bytes};
 ghost use Rattle.gix_attributes.specs.SearchViews.{Holds, list_ids_in, lists_in};
 
 use crate::answers::Answers;
@@ -15,6 +15,7 @@ use crate::specified::number_answers;
 use bstr::BStr;
 use gix_attributes::Search;
 use gix_attributes::glob::pattern::Case;
+use gix_attributes::glob::search::pattern::base_of;
 use gix_attributes::search::{AttributeId, Dropped, Match, MetadataCollection, Outcome};
 use std::alloc::{AllocError, Global};
 use std::marker::Model;
@@ -28,6 +29,20 @@ pub struct Addition<'a> {
     pub source: &'a str,
     /// The folder from which the file's folder is seen. Without one the patterns apply to all paths.
     pub root: Option<&'a str>,
+    /// The bytes of the file.
+    pub buffer: &'a [u8],
+}
+
+/// The list of an attributes file to add below a base.
+#[derive(Clone, Copy)]
+pub struct Below<'a> {
+    /// Whether the file may define macros.
+    pub allow_macros: bool,
+    /// What is told as the source of the list's answers.
+    pub source: &'a str,
+    /// What the paths begin with to which the patterns apply: a folder with a slash at its end, of any bytes. Without a base the
+    /// patterns apply to all paths.
+    pub base: Option<&'a [u8]>,
     /// The bytes of the file.
     pub buffer: &'a [u8],
 }
@@ -131,13 +146,51 @@ impl Engine {
         ensures refused { OnErr result (self.new ≡ self.old) }
     {
         let source = String::from_str(alloc, addition.source)?;
-        self.dropped = self.search.add_patterns_buffer(
+        let base = base_of(alloc, addition.source, addition.root)?;
+        self.add_list(alloc, addition.allow_macros, source, base, addition.buffer)
+    }
+
+    /// Adds the list of an attributes file as the last one, as [`Engine::add`] does, below a base of any bytes. The source says
+    /// nothing of where the list applies.
+    ///
+    /// # Errors
+    ///
+    /// If there is no memory. Nothing changes then.
+    pub fn add_below(&mut self, alloc: Global, list: Below<'_>) -> Result<(), AllocError>
+        ensures added { OnOk result (self.new ≡ with_list_below (below_view list.entry) self.old) }
+        ensures refused { OnErr result (self.new ≡ self.old) }
+    {
+        let source = String::from_str(alloc, list.source)?;
+        let base = match list.base {
+            Some(base) => Some(Vec::from_slice(alloc, base)?),
+            None => None,
+        };
+        self.add_list(alloc, list.allow_macros, source, base, list.buffer)
+    }
+
+    fn add_list(
+        &mut self,
+        alloc: Global,
+        allow_macros: bool,
+        source: String,
+        base: Option<Vec<u8>>,
+        buffer: &[u8],
+    ) -> Result<(), AllocError>
+        ensures added { OnOk result (self.new ≡ with_list_below (record {
+          allow_macros = allow_macros;
+          source = string_bytes source;
+          base = base_bytes base;
+          buffer = buffer.now;
+        }) self.old) }
+        ensures refused { OnErr result (self.new ≡ self.old) }
+    {
+        self.dropped = self.search.add_patterns_below(
             alloc,
-            addition.buffer,
+            buffer,
             source,
-            addition.root,
+            base,
             &mut self.collection,
-            addition.allow_macros,
+            allow_macros,
         )?;
         self.is_current = false;
         self.has_answers = false;
@@ -184,14 +237,13 @@ impl Engine {
     ///
     /// If there is no memory. No answers are left then, and nothing else changes.
     pub fn ask(&mut self, alloc: Global, question: Question<'_>) -> Result<usize, AllocError>
-        ensures answers { OnOk result (OfTheOnlyTable
-            (path_setting self.old.state question.entry.path.bytes.now
-            question.entry.case question.entry.is_dir)
-            (λ answers. self.new
-            ≡ record self.old { answers = Some (returned_answers self.old.state answers) })) }
+        ensures answers { OnOk result (AnswersTo question.entry.path.bytes.now
+            question.entry.case question.entry.is_dir self.old self.new) }
+        ensures found { OnOk result (FindsFor question.entry.path.bytes.now
+            question.entry.case question.entry.is_dir self.old self.new) }
         ensures count { IfOk result
             (λ count. option_map length self.new.answers ≡ Some count) }
-        ensures refused { OnErr result (self.new ≡ record self.old { answers = None }) }
+        ensures refused { OnErr result (self.new ≡ without_answers self.old) }
     {
         self.has_answers = false;
         prepare(alloc, &mut self.outcome, self.is_current, &self.collection)?;
@@ -224,6 +276,7 @@ impl Engine {
     }
 
     /// The answer with this number, from 0: none if there are no answers, or not so many.
+    #[inline(always)]
     pub fn answer(&self, number: usize) -> Option<Match<'_>>
         ensures { option_map match_view result
             ≡ option_and_then (λ answers. slice_get answers number) self.now.answers }
@@ -245,11 +298,48 @@ impl Engine {
         Answers::of(self)
     }
 
+    /// The answer to the last question for the attribute with this number, whatever is selected, and none after a change. An
+    /// attribute that a line sets to unspecified (`!x`) has an answer, and one that no line assigns has none.
+    ///
+    /// Without a selection it is there for each attribute that has one, and otherwise for the selected names and for each macro
+    /// that is the cause of an answer, of its cause's, and so on. For other attributes it may be missing, since a search stops
+    /// once the selected names have answers.
+    pub fn found(&self, id: AttributeId) -> Option<Match<'_>>
+        ensures { option_map match_view result ≡ slice_index_or self.now.found id.0 None }
+    {
+        if !self.has_answers {
+            return None;
+        }
+        self.outcome.match_by_id(id)
+    }
+
+    /// The number of the attribute that the answer with this index is for: that of the selected name, and without a selection
+    /// that of the answer's name. There is none if there is no such answer, or if the selected text is no name of the lists.
+    pub fn number_of(&self, answer: usize) -> Option<AttributeId>
+        ensures { option_map (λ id. id.0) result ≡ number_answered self.now answer }
+    {
+        if !self.has_answers {
+            return None;
+        }
+        if self.outcome.selected_len() > 0 {
+            return self.outcome.selected_number(answer);
+        }
+        let slot = self.numbers.get(answer)?;
+        Some(AttributeId(*slot))
+    }
+
     /// The lines that were dropped of the last list that was added.
     pub fn dropped(&self) -> &[Dropped]
         ensures { result.now ≡ self.now.dropped }
     {
         &self.dropped
+    }
+
+    /// How many names there are. Their numbers are those below.
+    pub fn num_names(&self) -> usize
+        ensures { result ≡ length self.now.state.names }
+    {
+        self.collection.len()
     }
 
     /// The name of an attribute or macro, as of the macro that is the cause of an answer. There is none if no name has this number.

@@ -16,7 +16,8 @@
 
 mod answers;
 mod engine;
+pub mod laws;
 mod specified;
 
 pub use crate::answers::Answers;
-pub use crate::engine::{Addition, Engine, Question};
+pub use crate::engine::{Addition, Below, Engine, Question};

@@ -238,6 +238,7 @@ impl RefMap {
     }
 
     /// The match with these parts, which have to be stored.
+    #[inline(always)]
     pub fn get(&self, found: MatchRef) -> Match<'_>
         requires { IsMatchRef self.now found }
         ensures { match_view result ≡ match_by_ref self.now found }
@@ -307,6 +308,7 @@ impl PatternStore {
         })
     }
 
+    #[inline(always)]
     fn get(&self, place: usize) -> &Pattern
         requires { place < length self.now }
         ensures { pattern_view result.now ≡ slice_index_or self.now place no_pattern }
@@ -422,6 +424,7 @@ impl SourceStore {
         })
     }
 
+    #[inline(always)]
     fn get(&self, place: usize) -> &str
         requires { place < length self.now }
         ensures { result.now ≡ slice_index_or self.now place [] }

@@ -210,6 +210,7 @@ impl SearchState {
     }
 
     /// The answer for the attribute with this number. None if its slot is free, or if there is no such slot.
+    #[inline(always)]
     pub fn get(&self, attribute: usize) -> Option<Match<'_>>
         ensures { option_map match_view result ≡ slice_index_or self.now.answers attribute None }
     {

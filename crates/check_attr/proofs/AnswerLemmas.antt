@@ -4,12 +4,12 @@ use Rattle.std.proofs.Common.{option_map, get_or, refl, sym, ap, ◌∙◌, subs
 use Rattle.std.specs.Prelude.{◌==◌, option_and_then, unwrap_or, if◌then◌else◌}
 use Rattle.std.specs.List.{cons_option, filter_map, flat_map, range_with_len}
 use Rattle.gix_attributes.specs.Contents.{reported_name, unspecified}
-use Rattle.gix_attributes.specs.Lookups.{OfTheOnlyTable, answers_by_number, attribute_state, named_answer, selected_answers}
+use Rattle.gix_attributes.specs.Lookups.{answers_by_number, attribute_state, named_answer, selected_answers}
 use Rattle.gix_attributes.specs.Numbers.{number_of}
 use Rattle.gix_attributes.specs.Setting.{Answer, Set, State, Unset, Unspecified, Value}
 use Rattle.gix_attributes.specs.Slots.{Matched, table_state}
 use Rattle.gix_attributes.specs.Table.{Slots}
-use Rattle.attr_engine.specs.EngineStates.{EngineContent, EngineState, is_specified, path_setting, returned_answers, specified_among}
+use Rattle.attr_engine.specs.EngineStates.{AnswersTo, EngineContent, EngineState, is_specified, specified_among}
 use Rattle.check_attr.specs.inner.MatchText.{answer_view, matched_text}
 use Rattle.check_attr.specs.Script.{Question}
 use Rattle.check_attr.specs.ScriptText.{IsAnswerText, entry_text, is_unspecified, selected_text, specified_text}
@@ -112,8 +112,7 @@ returned_text s q answers false e = all_selected q s.names answers s.selection
 
 -- the text of the answers that are returned is that of the only stable table
 pub answer_text_of : (q : Question) (before after : EngineContent)
-    → OfTheOnlyTable (path_setting before.state q.path q.case q.is_dir)
-    (λ answers. after ≡ record before { answers = Some (returned_answers before.state answers) })
+    → AnswersTo q.path q.case q.is_dir before after
     → IsAnswerText before.state q (flat_map (matched_text q after.state.names) (unwrap_or after.answers []))
 answer_text_of q before after found = (
   found.0.0,

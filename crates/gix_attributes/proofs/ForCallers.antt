@@ -9,7 +9,10 @@ pub use Rattle.gix_attributes.proofs.GlobalLemmas.{fails_later}
 pub use Rattle.gix_attributes.proofs.OutcomeLemmas.{emptied_again, reset_at_first, reset_searched}
 -- The answers of a lookup.
 -- `looked_up_answers`: they are those of the only stable table, with names, as the law `answers_are_of_the_only_table` says it.
-pub use Rattle.gix_attributes.proofs.LookupLemmas.{looked_up_answers}
+-- `looked_up_found`: what is found by number is of that table too. `all_named`: each of it has the name of its number.
+pub use Rattle.gix_attributes.proofs.LookupLemmas.{all_named, looked_up_answers, looked_up_found}
+-- Names. `number_at`: of names that differ, the one at a number has this number.
+pub use Rattle.attr_lists.proofs.ForCallers.{number_at}
 -- Lists that are registered.
 -- `bodies_registered`: the body of each name is its last definition in the lists that are registered.
 -- `bodies_have_names`: the items of each body have the numbers of their names.

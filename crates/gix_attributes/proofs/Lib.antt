@@ -1,6 +1,7 @@
 pub mod ReadLemmas
 pub mod HoldsLemmas
 pub mod KeepingLemmas
+pub mod CauseLemmas
 pub mod LookupLemmas
 pub mod SelectionLemmas
 pub mod OutcomeLemmas

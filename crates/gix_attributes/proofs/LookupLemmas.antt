@@ -25,11 +25,13 @@ use Rattle.attr_search.specs.Settings.{BodiesAreNamed, HeldAreNamed, LinesAreNam
 use Rattle.attr_search.specs.Slots.{Matched, table_answer, table_items, table_state}
 use Rattle.gix_attributes.specs.Contents.{Content, Wanted, found_in, has_number, initial_content}
 use Rattle.gix_attributes.specs.Contents.{is_wanted, looked_up, selected_in, unspecified, wanted_of}
-use Rattle.gix_attributes.specs.Lookups.{ArePartOf, IsLookedUp, IsSearchedFurther, Lookup, OfTheOnlyTable, ReturnsAnswers, SelectsNoMore}
+use Rattle.gix_attributes.specs.Lookups.{ArePartOf, FindsAnswers, IsFound, IsLookedUp, IsSearchedFurther, Lookup, OfTheOnlyTable}
+use Rattle.gix_attributes.specs.Lookups.{ReturnsAnswers, SelectsNoMore}
 use Rattle.gix_attributes.specs.Lookups.{answer_of_name, answers_by_number, attribute_state, named_answer, answer_for, selected_answers}
 use Rattle.gix_attributes.specs.Lookups.{setting_in, table_answers, with_lists_searched}
 use Rattle.gix_attributes.specs.Searching.{JoinsSearches, KeepsAllButAnswers, KeepsNames, answers_in, is_complete, setting_for}
-use Rattle.gix_attributes.proofs.SearchLaws.{all_wanted, answered_by, answered_or_not, empty_at}
+use Rattle.gix_attributes.proofs.CauseLemmas.{cause_seen}
+use Rattle.gix_attributes.proofs.SearchLaws.{all_wanted, answered_by, answered_or_not, cut_of, empty_at}
 use Rattle.gix_attributes.proofs.SearchLaws.{name_wanted, not_done, nothing_in, whole_from, whole_table}
 
 -- ---- lists
@@ -266,7 +268,7 @@ module _ (q : Lookup) (before after : Content) (looked : IsLookedUp q before aft
       whole_table (setting_in q) (wanted_of start) (answers_in start) (answers_in after) only.0 empty from.searched only.1 left number
       ∙ full_is (setting_in q) (only.0 number)
 
-  all_named : HeldAreNamed q.known.names after.slots
+  pub all_named : HeldAreNamed q.known.names after.slots
   all_named = from.named q.known.names looked.lists_named looked.bodies_named (nothing_named q.known.names q.known.names)
 
   counted : length start.slots ≡ length q.known.names
@@ -291,6 +293,50 @@ module _ (q : Lookup) (before after : Content) (looked : IsLookedUp q before aft
         (λ name number c e. answered number (asked_for name number c e)) part
         (λ none number lt. answered number (all_asked_for none number lt))
         (λ left number lt. whole (ap (λ wanted. is_done wanted (answers_in after)) (sym (wanted_kept start after from.kept)) ∙ left) number),
+  )
+
+  -- what is found is the answer, with its name
+  found_if : (number : ℕ) → answers_in after number ≡ answers number → IsFound q.known.names answers after.slots number
+  found_if number e =
+      named_again q.known.names number (get_or after.slots number None) (all_named number)
+      ∙ ap (option_map (named_answer (get_or q.known.names number []))) e
+
+  not_found_if : (number : ℕ) → answers_in after number ≡ None → get_or after.slots number None ≡ None
+  not_found_if number e =
+      named_again q.known.names number (get_or after.slots number None) (all_named number)
+      ∙ ap (option_map (named_answer (get_or q.known.names number []))) e
+
+  selected_found : (text : List ℕ) → Contains q.selected text → (o : Option ℕ) → number_of q.known.names text ≡ o →
+      MatchOption o ⊤ (IsFound q.known.names answers after.slots)
+  selected_found text c None e = tt
+  selected_found text c (Some number) e = found_if number (answered number (asked_for text number c e))
+
+  cause_found : (number : ℕ) (m : Matched) → get_or after.slots number None ≡ Some m → (o : Option ℕ) → m.cause ≡ o →
+      MatchOption o ⊤ (IsFound q.known.names answers after.slots)
+  cause_found number m here None e = tt
+  cause_found number m here (Some cause) e =
+      let cut = cut_of (setting_in q) (wanted_of start) (answers_in start) (answers_in after) only.0 empty from.searched only.1 in
+      found_if cause
+      (cause_seen (setting_in q) (wanted_of start) (answers_in after) only.0 only.1 cut number cause (table_answer number m)
+      (ap (option_map (table_answer number)) here) e
+      ∙ full_is (setting_in q) (only.0 cause))
+
+  causes_found : (number : ℕ) (slot : Option Matched) → get_or after.slots number None ≡ slot →
+      MatchOption slot ⊤ (λ m. MatchOption m.cause ⊤ (IsFound q.known.names answers after.slots))
+  causes_found number None here = tt
+  causes_found number (Some m) here = cause_found number m here m.cause refl
+
+  pub looked_up_found : OfTheOnlyTable (setting_in q) (λ answers. FindsAnswers q.known.names q.selected answers after.slots)
+  looked_up_found = (
+    only,
+    record {
+      part = λ number. ⊎_elim (λ none. inl (not_found_if number none)) (λ e. inr (found_if number e)) (part number);
+      all = λ none number lt. found_if number (answered number (all_asked_for none number lt));
+      selected = All-weaker (Contains q.selected)
+          (λ text. MatchOption (number_of q.known.names text) ⊤ (IsFound q.known.names answers after.slots))
+          (λ text c. selected_found text c (number_of q.known.names text) refl) q.selected (All-contains_itself q.selected);
+      causes = λ number. causes_found number (get_or after.slots number None) refl;
+    },
   )
 
   -- in an outcome for other names that was copied from this one

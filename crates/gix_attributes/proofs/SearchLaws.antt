@@ -83,7 +83,7 @@ name_wanted held name number selected e lt =
     ∙ or_true (length held.selection == 0))
 
 -- the table of a search from nothing is the only stable one
-cut_of : (s : Setting) (wanted : List ℕ) (before after : Slots) (table : Table) → before ≡ no_answers → IsSearched s wanted before after →
+pub cut_of : (s : Setting) (wanted : List ℕ) (before after : Slots) (table : Table) → before ≡ no_answers → IsSearched s wanted before after →
     IsStable s no_answers table → IsCut s no_answers table wanted after
 cut_of s wanted before after table nothing searched stable =
     let from = subst (λ start. IsSearched s wanted start after) nothing searched in
@@ -131,7 +131,7 @@ has_origin s (Inside parent place) i e = at (λ j h. has_origin s parent j h) (i
     at above None h d = absurd cc
     at above (Some j) h d = above j h
 
-has_answer : (s : Setting) (o : Occurrence) (i : Item) → item_at s o ≡ Some i → answer_at s o ≡ None → ⊥
+pub has_answer : (s : Setting) (o : Occurrence) (i : Item) → item_at s o ≡ Some i → answer_at s o ≡ None → ⊥
 has_answer s o i e none =
     let r = has_origin s o i e in
     let there : answer_at s o ≡ Some (answer_of s.bodies r.0 i (cause_at s o)) =

@@ -31,15 +31,14 @@ pub record RegisteredLists : Type 0 where
 abbrev pub registered_lists : Search → Collection → RegisteredLists
 registered_lists search known = record { lists = lists_in search; list_ids = list_ids_in search; known = known }
 
--- The list of a buffer, with the numbers of a collection: the lines that are kept of it, below the base that its source has as
--- it is seen from the root.
+-- the list of a buffer below a base, with the numbers of a collection: the lines that are kept of it
+abbrev pub list_below : List ℕ → Option (List ℕ) → Bool → List ℕ → Collection → Listed
+list_below source base allow_macros bytes known =
+    record { source = Some source; base = base; lines = numbered_lines known.names (kept_list_where allow_macros bytes) }
+
+-- the list of a buffer below the base that its source has as it is seen from the root
 abbrev pub buffer_list : List ℕ → Option (List ℕ) → Bool → List ℕ → Collection → Listed
-buffer_list source root allow_macros bytes known =
-    record {
-      source = Some source;
-      base = base_of source root;
-      lines = numbered_lines known.names (kept_list_where allow_macros bytes);
-    }
+buffer_list source root allow_macros bytes known = list_below source (base_of source root) allow_macros bytes known
 
 -- a buffer is added: its list comes after the others, and is registered under the least free list id
 abbrev pub with_buffer : List ℕ → Option (List ℕ) → Bool → List ℕ → RegisteredLists → RegisteredLists

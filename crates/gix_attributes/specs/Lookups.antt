@@ -81,6 +81,20 @@ answers_by_number names answers =
 abbrev pub ArePartOf : Slots → Slots → Type 0
 ArePartOf part whole = (number : ℕ) → (part number ≡ None) ⊎ (part number ≡ whole number)
 
+-- what is found for the attribute with this number is its answer, with the attribute's name
+abbrev pub IsFound : List (List ℕ) → Slots → List (Option Matched) → ℕ → Type 0
+IsFound names answers found number =
+    slice_index_or found number None ≡ option_map (named_answer (slice_index_or names number [])) (answers number)
+
+-- What is found by number are answers, and maybe not all of them. If no text is selected, there are those of all names, and
+-- otherwise those of the selected texts that are names; and there is that of each macro that is the cause of one that is there.
+pub record FindsAnswers (names texts : List (List ℕ)) (answers : Slots) (found : List (Option Matched)) : Type 0 where
+  pub part : (number : ℕ) → (slice_index_or found number None ≡ None) ⊎ IsFound names answers found number
+  pub all : length texts ≡ 0 → (number : ℕ) → number < length names → IsFound names answers found number
+  pub selected : All (λ text. MatchOption (number_of names text) ⊤ (IsFound names answers found)) texts
+  pub causes : (number : ℕ) → MatchOption (slice_index_or found number None) ⊤
+      (λ m. MatchOption m.cause ⊤ (IsFound names answers found))
+
 -- What an outcome returns of the answers: `iter_selected` (`selected_in`) the answer for each selected text, `iter` (`found_in`) what
 -- was found until the search stopped. That is all if nothing is selected, or if some selected name has no answer; and otherwise
 -- some of all, by number, with those for the selected names among them.

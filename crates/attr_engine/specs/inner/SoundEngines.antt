@@ -1,8 +1,9 @@
 -- What is true of each engine (own).
 use Rattle.std.specs.Prelude.{◌≡◌, ◌==◌, ℕ, Bool, true, false, List, map, length, Option, None, Some, slice_index_or}
 use Rattle.gix_attributes.specs.Collections.{Collection}
-use Rattle.gix_attributes.specs.Contents.{Content, found_in, initial_content, names_selected, reset_content}
+use Rattle.gix_attributes.specs.Contents.{Content, found_in, initial_content, looked_up, names_selected, reset_content}
 use Rattle.gix_attributes.specs.SearchViews.{Holds, list_ids_in, lists_in}
+use Rattle.gix_attributes.specs.Settings.{HeldAreNamed}
 use Rattle.gix_attributes.specs.Slots.{Matched}
 use Rattle.attr_engine.specs.EngineStates.{is_specified, specified_among}
 use Rattle.attr_engine.specs.Registration.{RegistersAlone}
@@ -26,9 +27,16 @@ AreNumbered held numbers =
 abbrev pub IsCurrentFor : Collection → Content → Type 0
 IsCurrentFor known held = reset_content held ≡ initial_content known (names_selected held.selection)
 
--- The collection registers the lists of the search alone; a current outcome can be reset; and the answers are numbered.
+-- an outcome has the numbers of the selected names, and each answer has the name of its number
+pub record IsOfNames (names : List (List ℕ)) (held : Content) : Type 0 where
+  pub selection : held.selection ≡ looked_up names (names_selected held.selection)
+  pub answers : HeldAreNamed names held.slots
+
+-- The collection registers the lists of the search alone; a current outcome can be reset; and the answers are numbered, and have
+-- the names of the collection.
 pub record IsSoundEngine (e : Inside) : Type 0 where
   pub held : Holds e.collection e.search
   pub known : RegistersAlone e.collection (list_ids_in e.search) (lists_in e.search)
   pub current : e.is_current ≡ true → IsCurrentFor e.collection e.outcome
   pub numbered : e.has_answers ≡ true → AreNumbered e.outcome e.numbers.items
+  pub named : e.has_answers ≡ true → IsOfNames e.collection.names e.outcome

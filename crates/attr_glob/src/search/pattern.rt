@@ -165,9 +165,18 @@ fn copy_of_bytes(alloc: Global, bytes: &Option<Vec<u8>>) -> Result<Option<Vec<u8
     }
 }
 
-// The base of a source.
-fn base_of(alloc: Global, source: &str, root: Option<&str>) -> Result<Option<Vec<u8>>, AllocError>
-    ensures { IfOk result (λ base.
+/// The base of a list that is read from this source: the folder of the file as it is seen from the root, with a slash after it
+/// (gitattributes page). There is none without a root, in the root itself, and if the folder isn't below the root.
+///
+/// # Errors
+///
+/// If memory runs out.
+pub fn base_of(
+    alloc: Global,
+    source: &str,
+    root: Option<&str>,
+) -> Result<Option<Vec<u8>>, AllocError>
+    ensures base { IfOk result (λ base.
         base_bytes base ≡ base_of source.now (option_copied root.entry)) }
 {
     let Some(root) = root else {

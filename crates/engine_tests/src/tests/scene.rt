@@ -1,5 +1,5 @@
 //! Steps of a test: an engine takes them one after the other, and what it returns is reported.
-use attr_engine::{Addition, Engine, Question};
+use attr_engine::{Addition, Below, Engine, Question};
 use bstr::BStr;
 use gix_attributes::glob::pattern::Case;
 use gix_attributes::search::{AttributeId, Match};
@@ -16,18 +16,30 @@ pub(super) enum Step<'a> {
     Add(&'a str, &'a str),
     /// Adds lines of a file that applies to all paths, and may define no macros.
     AddWithoutMacros(&'a str),
+    /// Adds lines below this folder, as those of the source `7`.
+    AddBelow(&'a [u8], &'a str),
+    /// Adds lines below this folder that may define no macros, as those of the source `8`.
+    AddBelowWithoutMacros(&'a [u8], &'a str),
     /// Removes the last list, and reports whether there was one.
     Pop,
     /// Selects these names, and all if there are none.
     Select(&'a [&'a str]),
     /// Asks for a path that is no folder, and reports the number of answers.
     Ask(&'a str, Case),
+    /// Asks for a path of any bytes that is no folder, and reports the number of answers.
+    AskBytes(&'a [u8]),
     /// Asks for a path that is a folder, and reports the number of answers.
     AskFolder(&'a str),
     /// Reports each answer with its line and the macro that it comes from.
     Rows,
     /// Reports the answer with this number, and `none` if there is none.
     Row(usize),
+    /// Reports what is found for the attribute with this number, and `none` if nothing is.
+    Found(usize),
+    /// Reports the number of the attribute that the answer with this index is for, and `none` if there is none.
+    Number(usize),
+    /// Reports how many names there are.
+    Names,
     /// Reports the lines that were dropped of the last list.
     Dropped,
     /// Reports the name with this number, and `none` if there is none.
@@ -95,12 +107,20 @@ fn take(
     match step {
         Step::Add(source, text) => engine.add(alloc, addition(source, text)),
         Step::AddWithoutMacros(text) => engine.add(alloc, addition_without_macros(text)),
+        Step::AddBelow(base, text) => engine.add_below(alloc, list_below("7", base, text, true)),
+        Step::AddBelowWithoutMacros(base, text) => {
+            engine.add_below(alloc, list_below("8", base, text, false))
+        }
         Step::Pop => pop(engine, out),
         Step::Select(names) => engine.select(alloc, names),
         Step::Ask(path, case) => ask(engine, alloc, question(path, case, false), out),
+        Step::AskBytes(path) => ask(engine, alloc, question_of(BStr::new(path)), out),
         Step::AskFolder(path) => ask(engine, alloc, question(path, Case::Sensitive, true), out),
         Step::Rows => push_rows(engine, alloc, out),
         Step::Row(number) => push_row_at(engine, alloc, number, out),
+        Step::Found(number) => push_found(engine, alloc, number, out),
+        Step::Number(answer) => push_number(engine, alloc, answer, out),
+        Step::Names => push_count(alloc, engine.num_names(), out),
         Step::Dropped => push_dropped(engine, alloc, out),
         Step::Name(number) => push_name(engine, alloc, number, out),
     }
@@ -121,6 +141,23 @@ fn addition_without_macros<'a>(text: &'a str) -> Addition<'a> {
         source: "info/attributes",
         root: None,
         buffer: text.as_bytes(),
+    }
+}
+
+fn list_below<'a>(source: &'a str, base: &'a [u8], text: &'a str, allow_macros: bool) -> Below<'a> {
+    Below {
+        allow_macros,
+        source,
+        base: Some(base),
+        buffer: text.as_bytes(),
+    }
+}
+
+fn question_of<'a>(path: BStr<'a>) -> Question<'a> {
+    Question {
+        path,
+        case: Case::Sensitive,
+        is_dir: Some(false),
     }
 }
 
@@ -180,6 +217,34 @@ fn push_row_at(
         Some(found) => push_row(engine, alloc, found, out),
         None => out.push_str("none\n"),
     }
+}
+
+fn push_found(
+    engine: &Engine,
+    alloc: Global,
+    number: usize,
+    out: &mut String,
+) -> Result<(), AllocError> {
+    match engine.found(AttributeId(number)) {
+        Some(found) => push_row(engine, alloc, found, out),
+        None => out.push_str("none\n"),
+    }
+}
+
+fn push_number(
+    engine: &Engine,
+    alloc: Global,
+    answer: usize,
+    out: &mut String,
+) -> Result<(), AllocError> {
+    match engine.number_of(answer) {
+        Some(id) => push_count(alloc, id.0, out),
+        None => out.push_str("none\n"),
+    }
+}
+
+fn push_count(alloc: Global, count: usize, out: &mut String) -> Result<(), AllocError> {
+    out.push_str(format!(in alloc; "{count}\n")?.as_str())
 }
 
 // `-diff .gitattributes:2 binary`: the assignment, the source and the line, and the macro that it comes from.

@@ -2,7 +2,6 @@
 
 ghost use Rattle.std.specs.Prelude.{◌≡◌, ◌≤◌, IsTrue, Ok, true, false, [], MatchOption, IfNone, IfSome, option_map, ◌∷◌, ◌++◌, IfOk, OnOk, OnErr, Some, length, filter, string_bytes, if◌then◌else◌};
 ghost use Rattle.std.specs.Option.{option_copied, option_to_list};
-ghost use Rattle.attr_glob.specs.Bases.{base_of};
 ghost use Rattle.attr_glob.specs.Views.{base_bytes};
 ghost use Rattle.attr_lists.specs.Definitions.{free_id};
 ghost use Rattle.attr_lists.specs.KeptLists.{defines_no_macro, kept_list_where, dropped_lines, macros_valid};
@@ -19,13 +18,13 @@ ghost use Rattle.attr_search.specs.Roots.{RootsAtMost};
 ghost use Rattle.gix_attributes.specs.Searching.{JoinsSearches, KeepsAllButAnswers, KeepsNames, answers_in, is_complete, setting_for};
 ghost use Rattle.attr_search.specs.Settings.{candidate_lines, is_found};
 ghost use Rattle.attr_lists.specs.Collections.{Collection};
-ghost use Rattle.gix_attributes.specs.Additions.{buffer_list, registered_lists, with_registered};
+ghost use Rattle.gix_attributes.specs.Additions.{buffer_list, list_below, registered_lists, with_registered};
 ghost use Rattle.gix_attributes.specs.Keeping.{Adds, Keeps, Removes};
 ghost use Rattle.gix_attributes.specs.SearchViews.{lists_in, list_ids_in, Holds, LosesLast, RemovesLast};
 
 use crate::search::{MetadataCollection, Outcome};
 use attr_glob::pattern::Case;
-use attr_glob::search::pattern::{List, Mapping};
+use attr_glob::search::pattern::{List, Mapping, base_of};
 use attr_index::indexed_list::IndexedList;
 use attr_index::indexed_lists::IndexedLists;
 use attr_index::path_query::PathQuery;
@@ -98,8 +97,46 @@ impl Search {
         ensures refused_list_ids { OnErr result (list_ids_in self.new ≡ list_ids_in self.old) }
         ensures unchanged { OnErr result (collection.new ≡ collection.old) }
     {
+        let base = base_of(alloc, source.as_str(), root)?;
+        self.add_patterns_below(alloc, bytes, source, base, collection, allow_macros)
+    }
+
+    /// Reads an attributes file's bytes as a list, as [`Search::add_patterns_buffer`] does, with a base of any bytes (own): the
+    /// list applies to the paths that begin with the base, and its patterns are matched against what follows it. A base ends
+    /// with a slash, as `sub/`. Without one the list applies to all paths. `source` is told with the list's answers, and says
+    /// nothing of where the list applies.
+    ///
+    /// # Errors
+    ///
+    /// If memory runs out. The search and the collection are unchanged then.
+    pub fn add_patterns_below(
+        &mut self,
+        alloc: Global,
+        bytes: &[u8],
+        source: String,
+        base: Option<Vec<u8>>,
+        collection: &mut MetadataCollection,
+        allow_macros: bool,
+    ) -> Result<Vec<Dropped>, AllocError>
+        ensures list { OnOk result (lists_in self.new ≡ lists_in self.old
+            ++ list_below (string_bytes source) (base_bytes base) allow_macros bytes.now
+            collection.new ∷ []) }
+        ensures collection { OnOk result (collection.new
+            ≡ with_registered (kept_list_where allow_macros bytes.now) collection.old) }
+        ensures list_ids { OnOk result (list_ids_in self.new
+            ≡ list_ids_in self.old ++ free_id collection.old.active ∷ []) }
+        ensures dropped { IfOk result (λ dropped. dropped.items ≡ dropped_lines bytes.now) }
+        ensures held { Holds collection.old self.old → Holds collection.new self.new }
+        ensures kept { OnOk result (Keeps (registered_lists self.old collection.old)
+            (registered_lists self.new collection.new)) }
+        ensures added { OnOk result (Adds (registered_lists self.old collection.old)
+            (registered_lists self.new collection.new)) }
+        ensures refused { OnErr result (lists_in self.new ≡ lists_in self.old) }
+        ensures refused_list_ids { OnErr result (list_ids_in self.new ≡ list_ids_in self.old) }
+        ensures unchanged { OnErr result (collection.new ≡ collection.old) }
+    {
         self.patterns.reserve()?;
-        let (list, dropped) = read_list(alloc, bytes, source, root, allow_macros)?;
+        let (list, dropped) = read_list(alloc, bytes, source, base, allow_macros)?;
         let indexed = collection.register(alloc, list)?;
         self.patterns.push_reserved(indexed);
         Ok(dropped)
@@ -222,24 +259,24 @@ impl Search {
     }
 }
 
-// The list of a buffer, without numbers so far, and its dropped lines.
+// The list of a buffer below a base, without numbers so far, and its dropped lines.
 fn read_list(
     alloc: Global,
     bytes: &[u8],
     source: String,
-    root: Option<&str>,
+    base: Option<Vec<u8>>,
     allow_macros: bool,
 ) -> Result<(List<Attributes>, Vec<Dropped>), AllocError>
     ensures lines { IfOk result (λ r.
         entries_view r.0.patterns.items ≡ kept_list_where allow_macros bytes.now) }
     ensures dropped { IfOk result (λ r. r.1.items ≡ dropped_lines bytes.now) }
     ensures source { IfOk result (λ r. r.0.source ≡ Some source) }
-    ensures base { IfOk result (λ r.
-        base_bytes r.0.base ≡ base_of (string_bytes source) (option_copied root.entry)) }
+    ensures base { IfOk result (λ r. base_bytes r.0.base ≡ base_bytes base) }
     ensures read { IfOk result (λ r. AreRead (entries_view r.0.patterns.items)) }
     ensures valid { IfOk result (λ r. macros_valid (entries_view r.0.patterns.items) ≡ true) }
 {
-    let (mut list, dropped) = List::from_bytes(alloc, bytes, source, root, Attributes)?;
+    let (mut list, dropped) = List::from_bytes(alloc, bytes, source, None, Attributes)?;
+    list.base = base;
     list.patterns = allowed(list.patterns, allow_macros);
     Ok((list, dropped))
 }

@@ -66,8 +66,8 @@ impl MetadataCollection {
         }
     }
 
-    // The number of names. The numbers of the names are those below it.
-    pub(crate) fn len(&self) -> usize
+    /// How many names there are. Their numbers are those below.
+    pub fn len(&self) -> usize
         ensures count { result ≡ length self.now.names }
         ensures sound { IsSoundCollection self.now }
     {

@@ -120,6 +120,7 @@ impl<'a> Iterator for Selected<'a> {
 
 /// The match of a name that no matching line assigns: unspecified (gitattributes page), with the empty pattern, no
 /// source and line 0 (own).
+#[inline(always)]
 pub(crate) fn unspecified<'a>(selected: &'a SelectedName, empty: &'a Pattern) -> Match<'a>
     requires { pattern_view empty.now ≡ no_pattern }
     ensures { match_view result ≡ unspecified (rc_str_bytes selected.now.name) }

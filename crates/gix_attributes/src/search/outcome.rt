@@ -1,6 +1,6 @@
 //! What searches find.
 
-ghost use Rattle.std.specs.Prelude.{◌≡◌, ◌↔◌, ◌<◌, [], All, None, IfOk, IsTrue, MatchOption, OnErr, OnOk, true, drop, length, map, option_map, slice_get, slice_index_or};
+ghost use Rattle.std.specs.Prelude.{◌≡◌, ◌↔◌, ◌<◌, [], All, None, IfOk, IsTrue, MatchOption, OnErr, OnOk, true, drop, length, map, option_and_then, option_map, slice_get, slice_index_or};
 ghost use Rattle.attr_table.specs.Cut.{is_done};
 ghost use Rattle.attr_glob.specs.Views.{pattern_view};
 ghost use Rattle.attr_lists.specs.ListViews.{entry_view};
@@ -209,6 +209,7 @@ impl Outcome {
     }
 
     /// The answer for the attribute with this number. None if no search found one, or if there is no such slot.
+    #[inline(always)]
     pub fn match_by_id(&self, id: AttributeId) -> Option<Match<'_>>
         ensures { option_map match_view result ≡ slice_index_or self.now.slots id.0 None }
     {
@@ -289,6 +290,7 @@ impl Outcome {
 
     /// The answer for the selected name at this place, from 0, as [`Outcome::iter_selected`] returns it there, and none past the
     /// last name.
+    #[inline(always)]
     pub fn selected_match(&self, place: usize) -> Option<Match<'_>>
         ensures { option_map match_view result
             ≡ slice_get (selected_in self.now.slots self.now.selection) place }
@@ -300,6 +302,17 @@ impl Outcome {
         }
     }
 
+    /// The number of the selected name at this place, from 0. There is none past the last name, and none of a text that was no
+    /// name of the collection when the outcome was initialised with it.
+    #[inline(always)]
+    pub fn selected_number(&self, place: usize) -> Option<AttributeId>
+        ensures { option_map (λ id. id.0) result
+            ≡ option_and_then (λ wanted. wanted.number) (slice_get self.now.selection place) }
+    {
+        let number = self.selected.get(place)?.number?;
+        Some(AttributeId(number))
+    }
+
     /// How many names are selected. If none is, all are looked for.
     pub fn selected_len(&self) -> usize
         ensures { result ≡ length self.now.selection }
@@ -307,6 +320,7 @@ impl Outcome {
         self.selected.len()
     }
 
+    #[inline(always)]
     pub(crate) fn selected_at(&self, place: usize) -> Match<'_>
         requires { place < length self.now.selection }
         ensures { match_view result ≡ selected_answer self.now.slots

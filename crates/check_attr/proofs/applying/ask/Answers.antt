@@ -1,8 +1,7 @@
-use Rattle.std.proofs.Common.{◌≡◌, [], Some, subst}
+use Rattle.std.proofs.Common.{[], subst}
 use Rattle.std.specs.Prelude.{unwrap_or}
 use Rattle.std.specs.List.{flat_map}
-use Rattle.gix_attributes.specs.Lookups.{OfTheOnlyTable}
-use Rattle.attr_engine.specs.EngineStates.{path_setting, returned_answers}
+use Rattle.attr_engine.specs.EngineStates.{AnswersTo}
 use Rattle.check_attr.specs.Script.{ask}
 use Rattle.check_attr.specs.inner.MatchText.{matched_text}
 use Rattle.check_attr.specs.inner.ScriptViews.{question_view}
@@ -24,8 +23,7 @@ returns-clause-text g c =
     let q = question_view c.args.question in
     let before = c.args.engine.now in
     let after = c.ask.new.self in
-    let found = subst (λ path. OfTheOnlyTable (path_setting before.state path q.case q.is_dir)
-    (λ answers. after ≡ record before { answers = Some (returned_answers before.state answers) })) c.from.ensures c.in_ok-ask.ensures.answers in (
+    let found = subst (λ path. AnswersTo path q.case q.is_dir before after) c.from.ensures c.in_ok-ask.ensures.answers in (
       flat_map (matched_text q after.state.names) (unwrap_or after.answers []),
       answer_text_of q before after found,
       c.pass_answers.ensures,

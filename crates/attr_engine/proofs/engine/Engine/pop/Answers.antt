@@ -13,4 +13,5 @@ invariant_of-self-2 c =
           popped.list_ids c.self.invariant.known;
       current = λ never. absurd (cc);
       numbered = λ never. absurd (cc);
+      named = λ never. absurd (cc);
     }

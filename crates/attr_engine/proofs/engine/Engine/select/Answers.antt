@@ -1,4 +1,4 @@
-use Rattle.std.proofs.Common.{List, ℕ, None, map, ap, ◌∙◌}
+use Rattle.std.proofs.Common.{List, [], ℕ, None, map, ap, ◌∙◌}
 use Rattle.gix_attributes.specs.Contents.{Content, names_selected}
 use Rattle.gix_attributes.specs.SearchViews.{lists_in}
 use Rattle.attr_engine.specs.EngineStates.{EngineContent, with_selection}
@@ -13,6 +13,7 @@ invariant_of-self-2 c =
       current = λ yes. current_at_first c.self.inside.collection _ c.initialize_with_selection.new.self
           c.in_ok-initialize_with_selection.ensures.ok;
       numbered = λ never. absurd (cc);
+      named = λ never. absurd (cc);
     }
 
 pub returns-clause-selected : goal.returns-clause-selected
@@ -22,6 +23,7 @@ returns-clause-selected c =
     let selecting : List (List ℕ) → EngineContent = λ selection. record {
       state = record { names = e.collection.names; lists = lists_in e.search; selection = selection };
       answers = None;
+      found = [];
       dropped = e.dropped.items;
     } in
     ap selecting

@@ -1,0 +1,81 @@
+-- After a search from nothing, the macro whose body has the item of an answer has its answer too.
+use Rattle.std.proofs.Common.{◌≡◌, ℕ, ◌⊎◌, List, [], Option, Some, None, refl, inl, inr, ⊎_elim, sym, ap, ◌∙◌, subst}
+use Rattle.std.specs.Prelude.{Contains, option_and_then, option_map}
+use Rattle.attr_table.specs.Setting.{Answer, Item, Origin, Setting}
+use Rattle.attr_table.specs.Table.{Inside, IsEarlier, IsStable, Occurrence, Root, Slots, Table, item_at, path}
+use Rattle.attr_table.specs.Cut.{IsCut, IsCutAt, IsKept, answer_at, answer_of, cause_at, full_answer, no_answers, origin_at}
+use Rattle.attr_table.proofs.ForCallers.{entry_is, seen_others}
+use Rattle.attr_table.proofs.Order.{first_beginning, first_trans}
+use Rattle.gix_attributes.proofs.SearchLaws.{has_answer}
+
+-- the cause of an answer is that of its occurrence
+cause_is : (s : Setting) (o : Occurrence) (x : Answer) → answer_at s o ≡ Some x → x.cause ≡ cause_at s o
+cause_is s o x h = at (origin_at s o) (item_at s o) h
+  where
+    at : (origin : Option Origin) (i : Option Item) →
+        option_and_then (λ origin. option_map (λ i. answer_of s.bodies origin i (cause_at s o)) i) origin ≡ Some x → x.cause ≡ cause_at s o
+    at None i h = absurd cc
+    at (Some origin) None h = absurd cc
+    at (Some origin) (Some i) h = let e : answer_of s.bodies origin i (cause_at s o) ≡ x = cc in sym (ap (λ (y : Answer). y.cause) e)
+
+-- what is inside a parent comes after it, so the parent is kept with it
+kept_parent : (table : Table) (wanted : List ℕ) (parent : Occurrence) (place : ℕ) → IsKept no_answers table wanted (Inside parent place) →
+    IsKept no_answers table wanted parent
+kept_parent table wanted parent place kept =
+    ⊎_elim
+    (λ (free : (w : ℕ) × Contains wanted w × (no_answers w ≡ None) × (table w ≡ None)). inl free)
+    (λ (k : (w : ℕ) × (p : Occurrence) × Contains wanted w × (table w ≡ Some p) × ((Inside parent place ≡ p) ⊎ IsEarlier (Inside parent place) p)).
+    inr (k.0, k.1, k.2, k.3, inr (earlier k.1 k.4)))
+    kept
+  where
+    above : IsEarlier parent (Inside parent place)
+    above = first_beginning (path parent) place []
+
+    earlier : (p : Occurrence) → (Inside parent place ≡ p) ⊎ IsEarlier (Inside parent place) p → IsEarlier parent p
+    earlier p c =
+        ⊎_elim
+        (λ (e : Inside parent place ≡ p). subst (λ o. IsEarlier parent o) e above)
+        (λ (later : IsEarlier (Inside parent place) p). first_trans (path parent) (path (Inside parent place)) (path p) above later)
+        c
+
+module _ (s : Setting) (wanted : List ℕ) (slots : Slots) (table : Table) (stable : IsStable s no_answers table)
+    (cut : IsCut s no_answers table wanted slots) where
+  cut_at : (a : ℕ) (o : Occurrence) → table a ≡ Some o → IsCutAt s no_answers table wanted (Some o) (slots a)
+  cut_at a o e = subst (λ entry. IsCutAt s no_answers table wanted entry (slots a)) e (cut a)
+
+  parent_seen : (parent : Occurrence) (place a above : ℕ) (i : Item) → item_at s parent ≡ Some i → table above ≡ Some parent →
+      table a ≡ Some (Inside parent place) → (slots a ≡ None → ⊥) → slots above ≡ full_answer s None (table above)
+  parent_seen parent place a above i item entry inside there =
+      ⊎_elim
+      (λ (none : slots above ≡ None). absurd (there ((cut_at a (Inside parent place) inside).1
+      (λ kept. has_answer s parent i item
+      (sym ((cut_at above parent entry).0 (kept_parent table wanted parent place kept)) ∙ none)))))
+      (λ (e : slots above ≡ full_answer s None (table above)). e)
+      (seen_others s no_answers wanted table slots above stable cut)
+
+  pub cause_seen : (a cause : ℕ) (x : Answer) → slots a ≡ Some x → x.cause ≡ Some cause → slots cause ≡ full_answer s None (table cause)
+  cause_seen a cause x here is_cause = by_entry (table a) refl
+    where
+      there : slots a ≡ None → ⊥
+      there none = absurd cc
+
+      by_occurrence : (o : Occurrence) → table a ≡ Some o → answer_at s o ≡ Some x → slots cause ≡ full_answer s None (table cause)
+      by_occurrence (Root list line item) e h =
+          let none : x.cause ≡ None = cause_is s (Root list line item) x h in absurd cc
+      by_occurrence (Inside parent place) e h =
+          let reached = (entry_is s no_answers table stable a (Inside parent place) e).0.1.reached in
+          let own : x.cause ≡ Some reached.0.attribute =
+          cause_is s (Inside parent place) x h ∙ ap (option_map (λ (i : Item). i.attribute)) reached.1 in
+          let same : reached.0.attribute ≡ cause = cc in
+          subst (λ n. slots n ≡ full_answer s None (table n)) same
+          (parent_seen parent place a reached.0.attribute reached.0 reached.1 reached.3 e there)
+
+      by_entry : (o : Option Occurrence) → table a ≡ o → slots cause ≡ full_answer s None (table cause)
+      by_entry None e =
+          let none : slots a ≡ None = subst (λ entry. IsCutAt s no_answers table wanted entry (slots a)) e (cut a) in absurd cc
+      by_entry (Some o) e =
+          ⊎_elim
+          (λ (none : slots a ≡ None). absurd cc)
+          (λ (full : slots a ≡ full_answer s None (table a)).
+          by_occurrence o e (sym (ap (full_answer s None) e) ∙ (sym full ∙ here)))
+          (seen_others s no_answers wanted table slots a stable cut)

@@ -1,0 +1,34 @@
+use Rattle.std.proofs.Common.{◌∙◌, sym, ap, subst, ◌++◌, ◌∷◌, []}
+use Rattle.std.specs.Cmp.{nat_eq_equiv}
+use Rattle.gix_attributes.specs.Additions.{with_registered}
+use Rattle.gix_attributes.specs.inner.HeldLists.{AreHeldLists}
+use Rattle.gix_attributes.proofs.HoldsLemmas.{held_more, held_lists, held_views}
+use Rattle.gix_attributes.proofs.KeepingLemmas.{adds_added, keeps_added}
+use Rattle.gix_attributes.proofs.search.attributes.Search.add_patterns_below.Goals as goal
+
+pub returns-clause-collection : goal.returns-clause-collection
+returns-clause-collection c =
+    c.in_ok-indexed.ensures.registered.added
+    ∙ ap (λ entries. with_registered entries c.args.collection.now) c.in_ok-list.ensures.lines
+
+pub returns-clause-held : goal.returns-clause-held
+returns-clause-held c held =
+    let registered = c.in_ok-indexed.ensures.registered in
+    let pushed = c.push_reserved.ensures ∙ ap (λ xs. xs ++ c.in_ok-indexed.indexed ∷ []) c.in_ok-reserve.ensures.lists in
+    held_views c.register.new.self c.push_reserved.new.self.lists.items (subst (AreHeldLists c.register.new.self) (sym pushed)
+    (held_more c.args.collection.now c.register.new.self _ c.in_ok-indexed.indexed nat_eq_equiv registered.others registered.holds
+    registered.fresh (held_lists c.args.collection.now c.args.self.now.patterns.lists.items held)))
+
+pub returns-clause-kept : goal.returns-clause-kept
+returns-clause-kept c =
+    let registered = c.in_ok-indexed.ensures.registered in
+    let pushed = c.push_reserved.ensures ∙ ap (λ xs. xs ++ c.in_ok-indexed.indexed ∷ []) c.in_ok-reserve.ensures.lists in
+    keeps_added c.args.collection.now c.register.new.self _ registered.added c.args.self.now.patterns.lists.items c.push_reserved.new.self.lists.items
+    c.in_ok-indexed.indexed pushed registered.list_id registered.lines registered.fresh registered.others
+
+pub returns-clause-added : goal.returns-clause-added
+returns-clause-added c =
+    let registered = c.in_ok-indexed.ensures.registered in
+    let pushed = c.push_reserved.ensures ∙ ap (λ xs. xs ++ c.in_ok-indexed.indexed ∷ []) c.in_ok-reserve.ensures.lists in
+    adds_added c.args.collection.now c.register.new.self _ registered.added c.args.self.now.patterns.lists.items c.push_reserved.new.self.lists.items
+    c.in_ok-indexed.indexed pushed registered.list_id registered.lines registered.fresh registered.others registered.sound
