@@ -111,6 +111,7 @@ tests/**/*.out -text
 
 TYPICAL_NAMES = ["text", "diff", "eol"]
 THREE_NAMES = ["text", "diff", "marker"]
+SEVEN_NAMES = ["text", "diff", "marker", "eol", "merge", "whitespace", "linguist-generated"]
 
 
 def item(place):
@@ -281,6 +282,29 @@ def monorepo(scale):
                 paths = [folder + base_name(chance) for _ in range(17 if place % 3 else 16)]
                 yield folder, of_folder(place) if place % 6 == 0 else None, paths
                 place += 1
+
+
+def below_files(count):
+    """1,201 folders, of which the top has a typical attributes file and each third other one a file of ten lines; and paths in them.
+
+    Gives the files, all folders, and the paths in the order of a tree.
+    """
+    chance = random.Random("below")
+    made = folders(chance, 1201)
+    files = [("", TYPICAL.encode()), *((folder, of_folder(place)) for place, folder in enumerate(made[1::3]))]
+    return files, made, sorted(chance.choice(made) + base_name(chance) for _ in range(count))
+
+
+def without_files(count):
+    """A typical attributes file at the top, folders without one three deep, and a path in each of them."""
+    chance = random.Random("without")
+    made = ["p%02d/m%02d/d%d/" % (place // 400, place // 20 % 20, place) for place in range(count)]
+    return [("", TYPICAL.encode())], made, [folder + base_name(chance) for folder in made]
+
+
+def shuffled(paths):
+    random.Random("shuffled").shuffle(paths)
+    return paths
 
 
 def known(count):

@@ -1,8 +1,9 @@
 #!/bin/sh
-# Builds the library for C, gathers it in a folder, and runs its clients: in C as gcc and clang compile them, in Python and in
-# Rust. Each script of examples/ and of crates/script_rows/data is played by calls, and gives the answers beside it. Each request
-# for memory is refused in turn, and 32 KB of stack have to be enough. What valgrind, clang or rustc would show is left out if the
-# machine lacks them.
+# Builds the library for C, gathers it in a folder, and runs its clients: in C as gcc and clang compile them, and in Python. Each
+# script of examples/ and of crates/script_rows/data is played by calls, and gives the answers beside it. Each request for memory is
+# refused in turn, and 32 KB of stack have to be enough. One engine goes round eight threads. Random calls give what their scripts
+# give, those of a work tree what git gives, and so do the clients that tell the paths of commits. What clang would show is left out
+# if the machine lacks it.
 # usage: c_library.sh [built]
 # With `built` the library is proved and built over those that `rt ci` has just built in this tree, in minutes: `rt lib` takes
 # none of these, and proves all crates below once more.
@@ -30,6 +31,35 @@ build_over_built() {
 build=$([ "${1:-}" = built ] && echo build_over_built || echo 'rt lib')
 (cd "$top/crates/yektrod" && $build >"$room/log" 2>&1) || { cat "$room/log" >&2; exit 1; }
 "$top/tools/c-library" "$room/yektrod"
+lib=$room/yektrod/lib
+
+# What the library shows is what the header declares, and what it needs of the C library is what docs/C.md lists.
+names() {
+    "${CC:-cc}" -E -P "$room/yektrod/include/yektrod.h" | grep -o 'yektrod_[a-z_]*(' | tr -d '(' | sort >"$room/declared"
+    nm -g --defined-only "$lib/libyektrod.a" | awk 'NF == 3 { print $3 }' | sort | diff "$room/declared" -
+    nm -D --defined-only "$lib/libyektrod.so" | awk '$2 != "A" { sub("@.*", "", $3); print $3 }' | sort | diff "$room/declared" -
+    sed -n '/functions of the C library, and nothing else:$/{n;n;p;}' "$top/docs/C.md" | tr -s ' ' '\n' | sed '/^$/d' | sort >"$room/listed"
+    nm -u "$lib/libyektrod.a" | awk 'NF == 2 { print $2 }' | sort | diff "$room/listed" -
+    nm -D -u "$lib/libyektrod.so" | awk '{ sub("@.*", "", $2); print $2 }' | sort | diff "$room/listed" -
+    readelf -dW "$lib/libyektrod.so" >"$room/dynamic"
+    for wanted in 'SONAME.*\[libyektrod\.so\.0\]' BIND_NOW; do grep -q "$wanted" "$room/dynamic"; done
+    echo "c_library: it shows $(wc -l <"$room/declared") functions, and needs $(wc -l <"$room/listed")"
+}
+
+# Nothing of the archive can be written but one byte, and that is neither read nor written: code takes its address alone, which
+# stands for a block that was refused. Tables of addresses (.data.rel.ro) are read-only once they are loaded.
+state() {
+    readelf -SW "$lib/libyektrod.a" | sed -n 's/^ *\[ *[0-9]*\] //p' |
+        awk '$(NF - 3) ~ /[WT]/ && $(NF - 5) !~ /^0+$/ && $1 !~ /^\.data\.rel\.ro/ { print $1, $(NF - 5) }' >"$room/written"
+    echo '.bss 000001' | diff - "$room/written"
+    nm "$lib/libyektrod.a" | awk '$2 ~ /^[bBcCdDgGsSuV]$/ { print $3 }' >"$room/written"
+    echo nothing | diff - "$room/written"
+    objdump -r "$lib/libyektrod.a" | grep -cE '[[:space:]](\.bss|nothing)[-+]' >"$room/uses"
+    objdump -dr "$lib/libyektrod.a" | grep -B 1 -E '[[:space:]](\.bss|nothing)[-+]' | grep -c "$(printf '\tlea ')" | diff "$room/uses" -
+    echo 'c_library: it has no state outside of engines'
+}
+names
+state
 printf 'text: set\neol: lf\n' >"$room/first.answers"
 
 # Plays the scripts that are named in pairs with their answers.
@@ -77,8 +107,33 @@ cuts() {
     echo 'c_library: scripts without their last bytes end as in the program'
 }
 
+# Passes an engine round threads: helgrind finds nothing where a lock orders the calls, and reports memory of the engine where none does.
+threads() {
+    "${CC:-cc}" $flags -pthread "$top/clients/c/threads.c" "$lib/libyektrod.a" -o "$room/threads"
+    "$room/threads"
+    if has valgrind 'an engine on many threads, as helgrind sees it'; then
+        valgrind -q --tool=helgrind --error-exitcode=9 "$room/threads" >"$room/said" 2>&1 || { cat "$room/said" >&2; exit 1; }
+        status=0; valgrind -q --tool=helgrind --error-exitcode=9 "$room/threads" pipes >"$room/said" 2>&1 || status=$?
+        [ $status = 9 ] && grep -q 'inside a block of size' "$room/said" ||
+            { echo 'c_library: helgrind reports no engine that is passed without a lock' >&2; exit 1; }
+        echo 'c_library: helgrind finds nothing with the lock, and reports the engine without it'
+    fi
+}
+
+# Compares random calls with the scripts of the same calls, and those of a made work tree with git.
+random_calls() {
+    for name in random worktree; do "${CC:-cc}" $flags "$top/clients/c/$name.c" "$lib/libyektrod.a" -o "$room/$name"; done
+    "$room/random" 1 100000
+    "$top/tests/c_worktree.py" "$room/worktree" 1
+    if has valgrind 'random calls, as memcheck sees them'; then
+        valgrind -q --leak-check=full --error-exitcode=9 "$room/random" 2 2000 >"$room/said" 2>&1 || { cat "$room/said" >&2; exit 1; }
+    fi
+}
+
 clients "${CC:-cc}"
 cuts
+threads
+random_calls
 if has valgrind 'reads and writes of memory that is not there, and leaks'; then
     for name in first statuses refused; do
         valgrind -q --leak-check=full --error-exitcode=9 "$room/$name" >"$room/said" 2>&1 || { cat "$room/said" >&2; exit 1; }
@@ -94,8 +149,5 @@ fi
 if has clang 'the clients as it compiles them'; then clients clang; fi
 YEKTROD_LIBRARY=$room/yektrod/lib/libyektrod.so PYTHONDONTWRITEBYTECODE=1 \
     python3 "$top/clients/python/test_yektrod.py" "$top/examples" "$top/crates/script_rows/data"
-if has rustc 'the client in Rust'; then
-    rustc -O --edition 2021 -o "$room/first_rust" -L "$room/yektrod/lib" -l static=yektrod "$top/clients/rust/first.rs"
-    "$room/first_rust" | diff "$room/first.answers" -
-    echo 'c_library: rust gives the answers'
-fi
+"$top/tests/trees.sh" "$room/yektrod"
+YEKTROD_DIRECTORY=$room/yektrod "$top/tests/docs.py" docs/C.md docs/PYTHON.md

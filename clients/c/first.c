@@ -8,17 +8,21 @@
 int main(void) {
     static const char *const states[] = {"unspecified", "set", "unset"};
     const yektrod_bytes names[] = {{BYTES("text")}, {BYTES("eol")}};
+    const yektrod_place place = {{BYTES("")}, {BYTES(".gitattributes")}};
+    const yektrod_question question = {{BYTES("script.sh")}, false, 0};
     yektrod y = {0};
-    size_t dropped, answers, needed;
-    if (yektrod_open(&y) || yektrod_add(&y, BYTES("*.sh text eol=lf\n"), BYTES(".gitattributes"), BYTES(""), true, true, &dropped) ||
-        yektrod_select(&y, names, 2) || yektrod_ask(&y, BYTES("script.sh"), false, 0, &answers))
+    yektrod_row rows[2];
+    uint8_t text[256];
+    yektrod_needed needed;
+    size_t list, dropped;
+    if (yektrod_open(&y) || yektrod_add_in(&y, BYTES("*.sh text eol=lf\n"), &place, true, &list, &dropped) ||
+        yektrod_select(&y, names, 2) || yektrod_ask_into(&y, &question, rows, 2, text, sizeof text, &needed))
         return 1;
-    for (size_t i = 0; i < answers; i++) {
-        yektrod_answer_t answer;
-        uint8_t name[16] = {0}, value[16] = {0};
-        if (yektrod_answer(&y, i, &answer) || yektrod_text(&y, i, YEKTROD_NAME, name, sizeof name - 1, &needed)) return 1;
-        if (answer.state == YEKTROD_HAS_VALUE && yektrod_text(&y, i, YEKTROD_VALUE, value, sizeof value - 1, &needed)) return 1;
-        printf("%s: %s\n", (char *)name, answer.state == YEKTROD_HAS_VALUE ? (char *)value : states[answer.state]);
+    for (size_t i = 0; i < needed.rows; i++) {
+        const char *name = (char *)text + rows[i].at, *value = name + rows[i].name_length;
+        printf("%.*s: ", (int)rows[i].name_length, name);
+        if (rows[i].state == YEKTROD_HAS_VALUE) printf("%.*s\n", (int)rows[i].value_length, value);
+        else puts(states[rows[i].state]);
     }
     yektrod_close(&y);
     return 0;

@@ -24,6 +24,12 @@ static yektrod y;
 static size_t count;
 static long refusals;
 
+static int32_t add_below(void) {
+    const yektrod_place place = {{BYTES("src")}, {BYTES("a\377")}};
+    size_t list;
+    return yektrod_add_in(&y, BYTES("file.c m -text\n* =\n"), &place, true, &list, &count);
+}
+
 static int32_t add(void) {
     return yektrod_add(&y, BYTES("[attr]m a -b c=d\n*.c m text\n\"/src/\\052.h\" eol=lf\n* =\n"), BYTES("src/.gitattributes"), BYTES(""), true,
                        true, &count);
@@ -36,6 +42,16 @@ static int32_t select_names(void) {
 
 static int32_t ask(void) {
     return yektrod_ask(&y, BYTES("src/file.c"), false, 0, &count);
+}
+
+/* Asks for rows and texts too. They take no memory of their own. */
+static int32_t ask_into(void) {
+    const yektrod_question question = {{BYTES("src/file.c")}, false, 0};
+    yektrod_row rows[5];
+    uint8_t text[256];
+    yektrod_needed needed;
+    int32_t status = yektrod_ask_into(&y, &question, rows, 5, text, sizeof text, &needed);
+    return status ? status : needed.rows == 5 && rows[4].at < needed.text ? YEKTROD_DONE : -1;
 }
 
 /* All that the engine answers for a path, as one text. */
@@ -71,32 +87,30 @@ static int32_t open_one(void) {
 }
 
 static int one(long nth, char *wanted) {
-    yektrod_answer_t answer;
+    yektrod_answer_t answer = {0};
     uint8_t to[64] = {0};
     size_t needed;
     y = (yektrod){0};
     left = nth;
-    if (!again(open_one) || !again(add) || count != 1 || !again(select_names)) return 1;
+    if (!again(open_one) || !again(add_below) || count != 1 || !again(add) || count != 1 || !again(select_names)) return 1;
     int32_t status = ask();
     if (status == YEKTROD_NO_MEMORY) {
         refusals++;
-        if (yektrod_answer(&y, 0, &answer) != YEKTROD_MISSING) return 2;
+        if (yektrod_answer(&y, 0, &answer) != YEKTROD_NOT_FOUND) return 2;
         status = ask();
     }
     if (status != YEKTROD_DONE || count != 5) return 3;
-    status = yektrod_text(&y, 0, YEKTROD_PATTERN, to, sizeof to, &needed);
-    if (status == YEKTROD_NO_MEMORY) {
-        refusals++;
-        if (to[0]) return 4;
-    } else if (status != YEKTROD_DONE || needed != 3 || memcmp(to, "*.c", 4)) return 5;
+    if (!again(ask_into)) return 4;
+    if (yektrod_text(&y, 0, YEKTROD_PATTERN, to, sizeof to, &needed) || needed != 3 || memcmp(to, "*.c", 4)) return 5;
     bool was_refused = left < 0;
     if (!*wanted) strcpy(wanted, answers());
     else if (strcmp(wanted, answers())) return 6;
     /* A refused addition and a refused selection leave the answers. */
-    for (int32_t i = 0; i < 2; i++) {
+    int32_t (*const calls[])(void) = {add, add_below, select_names};
+    for (size_t i = 0; i < 3; i++) {
         left = 0;
         size_t before = count;
-        if ((i ? select_names() : add()) != YEKTROD_NO_MEMORY || count != before || strcmp(wanted, answers())) return 7;
+        if (calls[i]() != YEKTROD_NO_MEMORY || count != before || strcmp(wanted, answers())) return 7;
     }
     left = -1;
     yektrod_close(&y);

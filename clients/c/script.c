@@ -94,50 +94,55 @@ static void select_names(yektrod *y, script *s) {
     free(names);
 }
 
-/* Writes a text of an answer. Most fit in the first room. */
-static void put_part(yektrod *y, size_t i, int32_t which) {
-    static uint8_t *to;
-    static size_t room;
-    size_t needed;
-    if (!to && !(to = calloc(1, room = 64))) fail("no memory");
-    int32_t status = yektrod_text(y, i, which, to, room, &needed);
-    if (status == YEKTROD_NO_ROOM) {
-        free(to);
-        if (!(to = calloc(1, room = needed))) fail("no memory");
-        status = yektrod_text(y, i, which, to, room, &needed);
-    }
-    want(status, "text");
-    put(to, needed);
+/* Writes a text of a row, and returns where the next one begins. */
+static const uint8_t *put_part(const uint8_t *at, size_t length) {
+    put(at, length);
+    return at + length;
 }
 
-static void put_origin(yektrod *y, size_t i, const yektrod_answer_t *answer) {
-    if (!answer->has_source) {
-        put_text("\t-\t-\t-");
-        return;
-    }
-    put_text("\t");
-    put_part(y, i, YEKTROD_SOURCE);
-    printf(":%zu\t", answer->line);
-    put_part(y, i, YEKTROD_PATTERN);
-    put_text("\t");
-    if (answer->has_cause) put_part(y, i, YEKTROD_CAUSE);
-    else put_text("-");
-}
-
-static void put_answer(yektrod *y, size_t i, const question *q) {
+static void put_answer(const yektrod_row *row, const uint8_t *text, const question *q) {
     static const char *const states[] = {"unspecified", "set", "unset"};
     const char *separator = q->form == 'z' ? "\0" : ": ";
     size_t separator_length = q->form == 'z' ? 1 : 2;
-    yektrod_answer_t answer;
-    want(yektrod_answer(y, i, &answer), "answer");
     put(q->path, q->length);
     put(separator, separator_length);
-    put_part(y, i, YEKTROD_NAME);
+    const uint8_t *at = put_part(text + row->at, row->name_length);
     put(separator, separator_length);
-    if (answer.state == YEKTROD_HAS_VALUE) put_part(y, i, YEKTROD_VALUE);
-    else put_text(states[answer.state]);
-    if (q->form == 'o') put_origin(y, i, &answer);
+    if (row->state == YEKTROD_HAS_VALUE) put(at, row->value_length);
+    else put_text(states[row->state]);
+    at += row->value_length;
+    if (q->form == 'o' && !(row->flags & YEKTROD_HAS_SOURCE)) put_text("\t-\t-\t-");
+    else if (q->form == 'o') {
+        put_text("\t");
+        at = put_part(at, row->source_length);
+        printf(":%zu\t", row->line);
+        at = put_part(at, row->pattern_length);
+        put_text("\t");
+        if (row->flags & YEKTROD_HAS_CAUSE) put(at, row->cause_length);
+        else put_text("-");
+    }
     put(q->form == 'z' ? "\0" : "\n", 1);
+}
+
+/* The rows of the last question, and their texts. */
+static yektrod_row *rows;
+static uint8_t *text;
+
+/* Asks, into buffers that are made anew when they are too small, and returns the number of rows. */
+static size_t ask_into(yektrod *y, const yektrod_question *asked) {
+    static yektrod_needed room;
+    yektrod_needed needed;
+    if (!rows && !((rows = malloc(sizeof *rows)) && (text = malloc(1)))) fail("no memory");
+    int32_t status = yektrod_ask_into(y, asked, rows, room.rows, text, room.text, &needed);
+    if (status == YEKTROD_BUFFER_TOO_SMALL) {
+        room = needed;
+        free(rows);
+        free(text);
+        if (!(rows = malloc((room.rows + 1) * sizeof *rows)) || !(text = malloc(room.text + 1))) fail("no memory");
+        status = yektrod_ask_into(y, asked, rows, room.rows, text, room.text, &needed);
+    }
+    want(status, "ask");
+    return needed.rows;
 }
 
 static void ask(yektrod *y, script *s) {
@@ -147,9 +152,9 @@ static void ask(yektrod *y, script *s) {
     char kind = *word(s);
     q.length = strtoul(word(s), 0, 10);
     q.path = take(s, q.length);
-    size_t answers;
-    want(yektrod_ask(y, q.path, q.length, fold, kind == 'd' ? 1 : kind == 'f' ? 0 : -1, &answers), "ask");
-    for (size_t i = 0; i < answers; i++) put_answer(y, i, &q);
+    yektrod_question asked = {{q.path, q.length}, fold, kind == 'd' ? 1 : kind == 'f' ? 0 : -1};
+    size_t count = ask_into(y, &asked);
+    for (size_t i = 0; i < count; i++) put_answer(rows + i, text, &q);
     take(s, 1);
 }
 
@@ -183,6 +188,8 @@ int main(void) {
     want(yektrod_open(&y), "open");
     play(&y, &s);
     yektrod_close(&y);
+    free(rows);
+    free(text);
     free(bytes);
     return 0;
 }

@@ -1,3 +1,7 @@
 pub mod BoxedEngine
-mod AskLemmas
+mod AnswerLemmas
+mod LabelLemmas
+mod LayLemmas
 mod RoomLemmas
+mod RowLemmas
+mod SourcedLemmas

@@ -1,14 +1,28 @@
 -- What a caller of C keeps: an engine with its contents, or nothing (own).
-use Rattle.std.specs.Prelude.{◌≡◌, ℕ, ℤ, List, [], Option, Some, None, if◌then◌else◌, option_and_then, option_map, slice_get}
+use Rattle.std.specs.Prelude.{◌≡◌, ℕ, ℤ, List, [], Option, Some, None, IfSome, MatchOption, if◌then◌else◌, option_and_then, option_map, slice_get, slice_index_or}
 use Rattle.gix_attributes.specs.Slots.{Matched}
 use Rattle.gix_attributes.specs.declared.search.Dropped.{Dropped}
 use Rattle.attr_engine.specs.EngineStates.{EngineContent}
 use Rattle.yektrod.specs.Rows.{text_numbered}
+use Rattle.yektrod.specs.Sourced.{told_content}
+use Rattle.yektrod.specs.SourcedContents.{SourcedContent}
 use Rattle.yektrod.specs.declared.slot.fields.Slot.{Slot}
+
+-- the contents of the engine, with labels as the sources of its lists, and the sources beside it, if there is an engine
+abbrev pub sourced : Slot → Option SourcedContent
+sourced slot = if slot.live then Some slot.handle.held else None
 
 -- the contents of the engine, if there is one
 abbrev pub held : Slot → Option EngineContent
-held slot = if slot.live then Some slot.handle.held else None
+held slot = option_map told_content (sourced slot)
+
+-- the same with labels as the sources
+abbrev pub labelled : Slot → Option EngineContent
+labelled slot = option_map (λ content. content.labelled) (sourced slot)
+
+-- an engine is held, and after a call one is held that stands to it in a relation
+abbrev pub Becomes : (EngineContent → EngineContent → Type 0) → Option EngineContent → Option EngineContent → Type 0
+Becomes R before after = IfSome before (λ content. MatchOption after ⊥ (R content))
 
 -- there is an engine, and it has no list
 abbrev pub HasNoList : Slot → Type 0
@@ -25,12 +39,17 @@ answer_in content i = option_and_then (λ answers. slice_get answers i) content.
 abbrev pub answer_held : Slot → ℕ → Option Matched
 answer_held slot i = option_and_then (λ content. answer_in content i) (held slot)
 
--- the text with this number of that answer
-abbrev pub text_held : Slot → ℕ → ℤ → Option (List ℕ)
-text_held slot i which =
-    option_and_then (λ content. option_and_then (λ answer. text_numbered content.state.names answer which) (answer_in content i))
-    (held slot)
+-- what is found for the attribute with this number
+abbrev pub found_held : Slot → ℕ → Option Matched
+found_held slot number = option_and_then (λ content. slice_index_or content.found number None) (held slot)
 
--- the same engine, without answers
-abbrev pub without_answers : EngineContent → EngineContent
-without_answers content = record content { answers = None }
+-- the text with this number of that answer
+abbrev pub text_in : EngineContent → ℕ → ℤ → Option (List ℕ)
+text_in content i which = option_and_then (λ answer. text_numbered content.state.names answer which) (answer_in content i)
+
+abbrev pub text_held : Slot → ℕ → ℤ → Option (List ℕ)
+text_held slot i which = option_and_then (λ content. text_in content i which) (held slot)
+
+-- the name with this number
+abbrev pub name_held : Slot → ℕ → Option (List ℕ)
+name_held slot number = option_and_then (λ content. slice_get content.state.names number) (held slot)

@@ -1,6 +1,13 @@
+pub mod Directories
 pub mod Held
 pub mod Owned
 pub mod Passed
+pub mod Places
 pub mod Played
 pub mod Rows
+pub mod RowsTold
+pub mod Sourced
+pub mod SourcedContents
 pub mod Statuses
+pub mod Told
+pub mod inner

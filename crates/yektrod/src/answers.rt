@@ -3,17 +3,21 @@
 ghost use Rattle.std.specs.Prelude.{◌≡◌, ◌⊎◌, ◌↔◌, ◌<◌, ◌++◌, IfSome, MatchOption, None, Some, drop, length, option_and_then, option_map, pos, slice_get};
 ghost use Rattle.gix_attributes.specs.Matches.{cause_of, match_view};
 ghost use Rattle.gix_attributes.specs.TextViews.{state_view};
-ghost use Rattle.yektrod.specs.Held.{answer_held, answer_in, held, text_held};
-ghost use Rattle.yektrod.specs.Rows.{answer_row, pattern_text, state_number, text_numbered};
-ghost use Rattle.yektrod.specs.Statuses.{status_done, status_missing, status_no_memory, status_no_room, status_shut};
+ghost use Rattle.yektrod.specs.Held.{answer_held, answer_in, held, sourced, text_held, text_in};
+ghost use Rattle.yektrod.specs.Rows.{answer_row, state_number};
+ghost use Rattle.yektrod.specs.Sourced.{told_content};
+ghost use Rattle.yektrod.specs.Told.{text_told};
+ghost use Rattle.yektrod.specs.inner.TextViews.{marked_text};
+ghost use Rattle.yektrod.specs.Statuses.{status_done, status_missing, status_no_room, status_shut};
 
-use crate::slot::{Slot, put, take};
-use crate::status::{DONE, MISSING, NO_MEMORY, SHUT};
-use crate::texts::copy_text;
+use crate::row::line_of;
+use crate::row_texts::MarkedText;
+use crate::slot::Slot;
+use crate::sourced::SourcedEngine;
+use crate::status::{DONE, MISSING, SHUT};
 use attr_engine::Engine;
 use gix_attributes::StateRef;
 use gix_attributes::search::{Match, MatchKind};
-use std::alloc::Global;
 
 /// An answer, without its texts.
 #[repr(C)]
@@ -33,27 +37,20 @@ pub struct AnswerRow {
 
 /// Tells an answer by its number, from 0.
 #[unsafe(no_mangle)]
-pub extern "C" fn yektrod_answer(
-    alloc: Global,
-    slot: &mut Slot,
-    i: usize,
-    answer: &mut AnswerRow,
-) -> i32
+pub extern "C" fn yektrod_answer(slot: &mut Slot, i: usize, answer: &mut AnswerRow) -> i32
     ensures done { result ≡ status_done →
         option_map answer_row (answer_held slot.old i) ≡ Some answer.new }
     ensures failed { ¬ (result ≡ status_done) → answer.new ≡ answer.old }
-    ensures same { held slot.new ≡ held slot.old }
+    ensures same { sourced slot.new ≡ sourced slot.old }
     ensures shut { result ≡ status_shut ↔ (held slot.old ≡ None) }
     ensures missing { result ≡ status_missing ↔ (¬ (held slot.old ≡ None)
         × (answer_held slot.old i ≡ None)) }
     ensures status { (result ≡ status_done) ⊎ (result ≡ status_shut) ⊎ (result ≡ status_missing) }
 {
-    let Some(engine) = take(alloc, slot) else {
+    if !slot.live {
         return SHUT;
-    };
-    let found = row_of(&engine, i);
-    put(slot, engine);
-    match found {
+    }
+    match row_of(slot.handle.engine(), i) {
         Some(row) => {
             *answer = row;
             DONE
@@ -66,7 +63,6 @@ pub extern "C" fn yektrod_answer(
 /// source, 3 for the pattern, and 4 for the macro whose body has the attribute.
 #[unsafe(no_mangle)]
 pub extern "C" fn yektrod_text(
-    alloc: Global,
     slot: &mut Slot,
     i: usize,
     which: i32,
@@ -79,48 +75,74 @@ pub extern "C" fn yektrod_text(
         (λ text. length to.old < length text) }
     ensures needed { (result ≡ status_done) ⊎ (result ≡ status_no_room) →
         option_map length (text_held slot.old i which) ≡ Some needed.new }
+    ensures kept { ¬ ((result ≡ status_done) ⊎ (result ≡ status_no_room)) →
+        needed.new ≡ needed.old }
     ensures failed { ¬ (result ≡ status_done) → to.new ≡ to.old }
-    ensures same { held slot.new ≡ held slot.old }
+    ensures same { sourced slot.new ≡ sourced slot.old }
     ensures shut { result ≡ status_shut ↔ (held slot.old ≡ None) }
     ensures missing { result ≡ status_missing ↔ (¬ (held slot.old ≡ None)
         × (text_held slot.old i which ≡ None)) }
-    ensures status { (result ≡ status_done) ⊎ (result ≡ status_no_memory) ⊎ (result ≡ status_shut)
-        ⊎ (result ≡ status_missing) ⊎ (result ≡ status_no_room) }
+    ensures status { (result ≡ status_done) ⊎ (result ≡ status_shut) ⊎ (result ≡ status_missing)
+        ⊎ (result ≡ status_no_room) }
 {
-    let Some(engine) = take(alloc, slot) else {
+    if !slot.live {
         return SHUT;
-    };
-    let status = match engine.answer(i) {
-        Some(found) if which == 3 => copy_pattern(alloc, found, to, needed),
-        Some(found) => match text_of(&engine, found, which) {
-            Some(text) => copy_text(text, to, needed),
-            None => MISSING,
-        },
+    }
+    match text_at(slot.handle.engine(), i, which) {
+        Some(text) => text.copy(to, needed),
         None => MISSING,
-    };
-    put(slot, engine);
-    status
+    }
 }
 
-fn row_of(engine: &Engine, i: usize) -> Option<AnswerRow>
-    ensures { result ≡ option_map answer_row (answer_in engine.now i) }
+// A text of an answer, if there is such an answer, and if it has the text.
+fn text_at<'a>(held: &'a SourcedEngine, i: usize, which: i32) -> Option<MarkedText<'a>>
+    ensures { option_map marked_text result ≡ text_in (told_content held.now) i which }
 {
-    let found = engine.answer(i)?;
-    let has_source = found.location.source.is_some();
-    Some(AnswerRow {
+    match held.labelled().answer(i) {
+        Some(found) => text_of_match(held, found, which),
+        None => None,
+    }
+}
+
+fn text_of_match<'a>(
+    held: &'a SourcedEngine,
+    found: Match<'a>,
+    which: i32,
+) -> Option<MarkedText<'a>>
+    ensures { option_map marked_text result ≡ text_told held.now (match_view found.entry) which }
+{
+    if which == 3 {
+        return MarkedText::of_pattern(found);
+    }
+    match text_of(held, found, which) {
+        Some(text) => Some(MarkedText::plain(text)),
+        None => None,
+    }
+}
+
+fn row_of(held: &SourcedEngine, i: usize) -> Option<AnswerRow>
+    ensures { result ≡ option_map answer_row (answer_in (told_content held.now) i) }
+{
+    match held.labelled().answer(i) {
+        Some(found) => Some(row_of_match(found)),
+        None => None,
+    }
+}
+
+fn row_of_match(found: Match<'_>) -> AnswerRow
+    ensures { result ≡ answer_row (match_view found.entry) }
+{
+    AnswerRow {
         state: number_of_state(found.assignment.state),
         is_macro: matches!(found.kind, MatchKind::Macro { .. }),
-        has_source,
+        has_source: found.location.source.is_some(),
         has_cause: found.kind.source_id().is_some(),
-        line: if has_source {
-            found.location.sequence_number
-        } else {
-            0
-        },
-    })
+        line: line_of(found.location),
+    }
 }
 
-fn number_of_state(state: StateRef<'_>) -> i32
+#[inline(always)]
+pub(crate) fn number_of_state(state: StateRef<'_>) -> i32
     ensures { result ≡ state_number (state_view state.entry) }
 {
     match state {
@@ -132,9 +154,10 @@ fn number_of_state(state: StateRef<'_>) -> i32
 }
 
 // A text of an answer of the engine, if it is not the pattern, and if the answer has it.
-fn text_of<'a>(engine: &'a Engine, found: Match<'a>, which: i32) -> Option<&'a [u8]>
+#[inline(always)]
+pub(crate) fn text_of<'a>(held: &'a SourcedEngine, found: Match<'a>, which: i32) -> Option<&'a [u8]>
     ensures { ¬ (which ≡ pos 3) → option_map (λ text. text.now) result
-        ≡ text_numbered engine.now.state.names (match_view found.entry) which }
+        ≡ text_told held.now (match_view found.entry) which }
 {
     match which {
         0 => Some(found.assignment.name.as_str().as_bytes()),
@@ -143,37 +166,16 @@ fn text_of<'a>(engine: &'a Engine, found: Match<'a>, which: i32) -> Option<&'a [
             None => None,
         },
         2 => match found.location.source {
-            Some(source) => Some(source.as_bytes()),
+            Some(label) => Some(held.source(label)),
             None => None,
         },
-        4 => cause_of_match(engine, found),
+        4 => cause_of_match(held.labelled(), found),
         _ => None,
     }
 }
 
-// Copies the pattern of an answer that has a source.
-fn copy_pattern(alloc: Global, found: Match<'_>, to: &mut [u8], needed: &mut usize) -> i32
-    ensures done { result ≡ status_done → to.new ≡ pattern_text (match_view found.entry)
-        ++ drop (length (pattern_text (match_view found.entry))) to.old }
-    ensures short { result ≡ status_no_room →
-        length to.old < length (pattern_text (match_view found.entry)) }
-    ensures needed { (result ≡ status_done) ⊎ (result ≡ status_no_room) →
-        needed.new ≡ length (pattern_text (match_view found.entry)) }
-    ensures failed { ¬ (result ≡ status_done) → to.new ≡ to.old }
-    ensures missing { result ≡ status_missing ↔ ((match_view found.entry).origin.source ≡ None) }
-    ensures status { (result ≡ status_done) ⊎ (result ≡ status_no_memory)
-        ⊎ (result ≡ status_missing) ⊎ (result ≡ status_no_room) }
-{
-    if found.location.source.is_none() {
-        return MISSING;
-    }
-    match found.pattern.write_text(alloc) {
-        Ok(text) => copy_text(&text, to, needed),
-        Err(_) => NO_MEMORY,
-    }
-}
-
 // The name of the macro whose body has the attribute, if one has.
+#[inline(always)]
 fn cause_of_match<'a>(engine: &'a Engine, found: Match<'_>) -> Option<&'a [u8]>
     ensures { option_map (λ name. name.now) result ≡ option_and_then
         (slice_get engine.now.state.names) (cause_of found.entry.kind) }

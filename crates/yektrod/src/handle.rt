@@ -1,12 +1,12 @@
 //! An engine on the heap, held as a pointer that C can keep.
 
 ghost use Rattle.std.specs.Prelude.{◌≡◌, Bool, true, false};
-ghost use Rattle.attr_engine.specs.EngineStates.{EngineContent};
-ghost use Rattle.yektrod.specs.Owned.{handle_owns};
+ghost use Rattle.std.specs.Borrow.{sem};
+ghost use Rattle.yektrod.specs.SourcedContents.{SourcedContent};
 
 mod parts;
 
-use attr_engine::Engine;
+use crate::sourced::SourcedEngine;
 use parts::Parts;
 use std::alloc::Global;
 use std::marker::Model;
@@ -14,21 +14,33 @@ use std::ptr::null_mut;
 
 /// What a box of an engine owns, behind a pointer that names no type, or nothing.
 #[repr(C)]
-#[derive(Drop)]
 pub struct Handle {
     ptr: *mut u8,
     alloc: Global,
     pub ghost is_open: { Bool },
-    pub ghost held: { EngineContent },
+    pub ghost held: { SourcedContent },
+}
+
+// A handle that has an engine can't be dropped: its memory would be lost.
+impl Drop for Handle {
+    fn drop(self)
+        requires { self.is_open ≡ false }
+    {
+        let Handle { ptr: _, alloc: _ } = self;
+    }
 }
 
 impl Model for Handle {
+    ghost use Rattle.yektrod.specs.Owned.{handle_owns};
+
     ghost also_owns = { λ h. handle_owns h.is_open h.alloc h.ptr h.held };
 }
 
 impl Handle {
+    ghost use Rattle.yektrod.specs.inner.Lent.{LendsEngine};
+
     /// The handle of an engine.
-    pub fn of(engine: Box<Engine>) -> Handle
+    pub fn of(engine: Box<SourcedEngine>) -> Handle
         ensures opened { result.is_open ≡ true }
         ensures held { result.held ≡ engine.value }
     {
@@ -36,11 +48,20 @@ impl Handle {
     }
 
     /// The engine of a handle that has one.
-    pub fn into_box(self) -> Box<Engine>
+    pub fn into_box(self) -> Box<SourcedEngine>
         requires { self.is_open ≡ true }
         ensures { result.value ≡ self.held }
     {
         self.into_parts().into_box()
+    }
+
+    /// The engine of a handle that has one, in place.
+    pub fn engine(&mut self) -> &mut SourcedEngine
+        requires { self.old.is_open ≡ true }
+        ensures* writes_back { sem 𝓛 (LendsEngine self.entry result) }
+        ensures value { result.now ≡ self.old.held }
+    {
+        unsafe { &mut *(self.ptr as *mut SourcedEngine) }
     }
 
     /// A handle without an engine.
@@ -53,7 +74,7 @@ impl Handle {
         }
     }
 
-    fn of_parts(parts: Parts<Engine, Global>) -> Handle
+    fn of_parts(parts: Parts<SourcedEngine, Global>) -> Handle
         ensures opened { result.is_open ≡ true }
         ensures held { result.held ≡ parts.value }
     {
@@ -64,13 +85,13 @@ impl Handle {
         }
     }
 
-    fn into_parts(self) -> Parts<Engine, Global>
+    fn into_parts(self) -> Parts<SourcedEngine, Global>
         requires { self.is_open ≡ true }
         ensures { result.value ≡ self.held }
     {
         let Handle { ptr, alloc } = self;
         Parts {
-            ptr: ptr as *mut Engine,
+            ptr: ptr as *mut SourcedEngine,
             alloc,
         }
     }

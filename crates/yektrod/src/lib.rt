@@ -4,12 +4,19 @@
 #![tactic(auto)]
 
 pub mod answers;
+mod directories;
 mod handle;
 pub mod lists;
+pub mod names;
 pub mod open;
 pub mod questions;
 mod room;
+pub mod row;
+mod row_texts;
+pub mod rows;
 pub mod script;
 pub mod slot;
+mod sourced;
 mod status;
 mod texts;
+pub mod version;

@@ -1,19 +1,26 @@
 //! Lists are added and removed.
 
-ghost use Rattle.std.specs.Prelude.{◌≡◌, ◌⊎◌, ◌↔◌, IsUtf8, IfSome, None, Some, [], length, option_map};
-ghost use Rattle.attr_engine.specs.EngineStates.{with_addition, without_last};
+ghost use Rattle.std.specs.Prelude.{◌≡◌, ◌⊎◌, ◌↔◌, IfOk, IsUtf8, IfSome, None, Some, [], false, length, option_map};
+ghost use Rattle.attr_engine.specs.EngineStates.{with_addition, with_list_below, without_last};
+ghost use Rattle.attr_glob.specs.Bases.{with_slash};
+ghost use Rattle.attr_glob.specs.Views.{base_bytes};
 ghost use Rattle.gix_attributes.specs.KeptLists.{dropped_lines};
-ghost use Rattle.yektrod.specs.Held.{HasNoList, dropped_held, held};
+ghost use Rattle.yektrod.specs.Held.{HasNoList, dropped_held, held, sourced};
+ghost use Rattle.yektrod.specs.Directories.{is_directory};
 ghost use Rattle.yektrod.specs.Passed.{ReadsRoot, passed_file};
+ghost use Rattle.yektrod.specs.Places.{passed_list};
 ghost use Rattle.yektrod.specs.Rows.{dropped_row, reason_code};
+ghost use Rattle.yektrod.specs.Sourced.{list_view};
 ghost use Rattle.yektrod.specs.Statuses.{status_done, status_missing, status_no_list, status_no_memory, status_shut, status_unreadable};
 
-use crate::slot::{Slot, put, take};
+use crate::directories::names_directory;
+use crate::slot::Slot;
+use crate::sourced::SourcedList;
 use crate::status::{DONE, MISSING, NO_LIST, NO_MEMORY, SHUT, UNREADABLE};
 use crate::texts::root_of;
-use attr_engine::Addition;
+use gix_attributes::glob::search::pattern::base_of;
 use gix_attributes::search::DropReason;
-use std::alloc::Global;
+use std::alloc::{AllocError, Global};
 
 /// A line that was dropped of the last list that was added.
 #[repr(C)]
@@ -40,7 +47,7 @@ pub extern "C" fn yektrod_add(
     ensures done { result ≡ status_done → held slot.new ≡ option_map (with_addition
         (passed_file bytes.now source.now root.now has_root allow_macros)) (held slot.old) }
     ensures dropped { result ≡ status_done → dropped.new ≡ length (dropped_lines bytes.now) }
-    ensures failed { ¬ (result ≡ status_done) → held slot.new ≡ held slot.old }
+    ensures failed { ¬ (result ≡ status_done) → sourced slot.new ≡ sourced slot.old }
     ensures kept { ¬ (result ≡ status_done) → dropped.new ≡ dropped.old }
     ensures shut { result ≡ status_shut ↔ (held slot.old ≡ None) }
     ensures unreadable { result ≡ status_unreadable ↔ (¬ (held slot.old ≡ None)
@@ -51,73 +58,153 @@ pub extern "C" fn yektrod_add(
     if !slot.live {
         return SHUT;
     }
-    let Ok(source) = str::from_utf8(source) else {
+    let Ok(text) = str::from_utf8(source) else {
         return UNREADABLE;
     };
     let Some(root) = root_of(root, has_root) else {
         return UNREADABLE;
     };
-    let Some(mut engine) = take(alloc, slot) else {
-        return SHUT;
+    let Ok(base) = base_of(alloc, text, root) else {
+        return NO_MEMORY;
     };
-    let addition = Addition {
-        allow_macros,
-        source,
-        root,
-        buffer: bytes,
-    };
-    let added = engine.add(alloc, addition);
-    let count = engine.dropped().len();
-    put(slot, engine);
-    match added {
+    let added = list_of(allow_macros, source, &base, bytes);
+    let held = slot.handle.engine();
+    match held.add(alloc, added) {
         Ok(()) => {
-            *dropped = count;
+            *dropped = held.labelled().dropped().len();
             DONE
         }
         Err(_) => NO_MEMORY,
     }
 }
 
+/// Where a list applies, and what is told as its source, as C passes them.
+#[repr(C)]
+#[derive(Clone, Copy)]
+pub struct Place<'a> {
+    /// The directory below which it applies, without a slash at either end. If it is empty, the list applies to all paths.
+    pub directory: &'a [u8],
+    /// What is told as its source.
+    pub source: &'a [u8],
+}
+
+/// Adds the list of an attributes file as the last one, below a directory of any bytes. Says its index, and how many lines were dropped
+/// of it.
+#[unsafe(no_mangle)]
+pub extern "C" fn yektrod_add_in(
+    alloc: Global,
+    slot: &mut Slot,
+    bytes: &[u8],
+    place: &Place<'_>,
+    allow_macros: bool,
+    list: &mut usize,
+    dropped: &mut usize,
+) -> i32
+    ensures done { result ≡ status_done → held slot.new ≡ option_map (with_list_below
+        (passed_list bytes.now place.now allow_macros)) (held slot.old) }
+    ensures list { result ≡ status_done →
+        option_map (λ content. length content.state.lists) (held slot.old) ≡ Some list.new }
+    ensures dropped { result ≡ status_done → dropped.new ≡ length (dropped_lines bytes.now) }
+    ensures failed { ¬ (result ≡ status_done) → sourced slot.new ≡ sourced slot.old }
+    ensures kept { ¬ (result ≡ status_done) →
+        (list.new ≡ list.old) × (dropped.new ≡ dropped.old) }
+    ensures shut { result ≡ status_shut ↔ (held slot.old ≡ None) }
+    ensures unreadable { result ≡ status_unreadable ↔ (¬ (held slot.old ≡ None)
+        × (is_directory place.now.directory.now ≡ false)) }
+    ensures status { (result ≡ status_done) ⊎ (result ≡ status_no_memory)
+        ⊎ (result ≡ status_shut) ⊎ (result ≡ status_unreadable) }
+{
+    if !slot.live {
+        return SHUT;
+    }
+    if !names_directory(place.directory) {
+        return UNREADABLE;
+    }
+    let Ok(base) = base_of_directory(alloc, place.directory) else {
+        return NO_MEMORY;
+    };
+    let added = list_of(allow_macros, place.source, &base, bytes);
+    let held = slot.handle.engine();
+    let index = held.num_lists();
+    match held.add(alloc, added) {
+        Ok(()) => {
+            *list = index;
+            *dropped = held.labelled().dropped().len();
+            DONE
+        }
+        Err(_) => NO_MEMORY,
+    }
+}
+
+fn list_of<'a>(
+    allow_macros: bool,
+    source: &'a [u8],
+    base: &'a Option<Vec<u8>>,
+    buffer: &'a [u8],
+) -> SourcedList<'a>
+    ensures { list_view result ≡ record {
+      allow_macros = allow_macros;
+      source = source.now;
+      base = base_bytes base.now;
+      buffer = buffer.now;
+    } }
+{
+    let base = base.as_deref();
+    SourcedList {
+        allow_macros,
+        source,
+        base,
+        buffer,
+    }
+}
+
+// The base of a list that applies below a directory: it with a slash after it, and none of the empty one.
+fn base_of_directory(alloc: Global, directory: &[u8]) -> Result<Option<Vec<u8>>, AllocError>
+    ensures { IfOk result (λ base. base_bytes base ≡ with_slash directory.now) }
+{
+    if directory.is_empty() {
+        return Ok(None);
+    }
+    let mut base = Vec::from_slice(alloc, directory)?;
+    base.push(b'/')?;
+    Ok(Some(base))
+}
+
 /// Removes the last list.
 #[unsafe(no_mangle)]
-pub extern "C" fn yektrod_pop(alloc: Global, slot: &mut Slot) -> i32
+pub extern "C" fn yektrod_pop(slot: &mut Slot) -> i32
     ensures done { result ≡ status_done → held slot.new ≡ option_map without_last (held slot.old) }
-    ensures failed { ¬ (result ≡ status_done) → held slot.new ≡ held slot.old }
+    ensures failed { ¬ (result ≡ status_done) → sourced slot.new ≡ sourced slot.old }
     ensures shut { result ≡ status_shut ↔ (held slot.old ≡ None) }
     ensures no_list { result ≡ status_no_list ↔ HasNoList slot.old }
     ensures status { (result ≡ status_done) ⊎ (result ≡ status_shut) ⊎ (result ≡ status_no_list) }
 {
-    let Some(mut engine) = take(alloc, slot) else {
+    if !slot.live {
         return SHUT;
-    };
-    let found = engine.pop();
-    put(slot, engine);
-    if found { DONE } else { NO_LIST }
+    }
+    if slot.handle.engine().pop() {
+        DONE
+    } else {
+        NO_LIST
+    }
 }
 
 /// Tells which line was dropped, by its number among those that were, from 0.
 #[unsafe(no_mangle)]
-pub extern "C" fn yektrod_dropped(
-    alloc: Global,
-    slot: &mut Slot,
-    i: usize,
-    line: &mut DroppedRow,
-) -> i32
+pub extern "C" fn yektrod_dropped(slot: &mut Slot, i: usize, line: &mut DroppedRow) -> i32
     ensures done { result ≡ status_done →
         option_map dropped_row (dropped_held slot.old i) ≡ Some line.new }
     ensures failed { ¬ (result ≡ status_done) → line.new ≡ line.old }
-    ensures same { held slot.new ≡ held slot.old }
+    ensures same { sourced slot.new ≡ sourced slot.old }
     ensures shut { result ≡ status_shut ↔ (held slot.old ≡ None) }
     ensures missing { result ≡ status_missing ↔ (¬ (held slot.old ≡ None)
         × (dropped_held slot.old i ≡ None)) }
     ensures status { (result ≡ status_done) ⊎ (result ≡ status_shut) ⊎ (result ≡ status_missing) }
 {
-    let Some(engine) = take(alloc, slot) else {
+    if !slot.live {
         return SHUT;
-    };
-    let found = engine.dropped().get(i).copied();
-    put(slot, engine);
-    let Some(dropped) = found else {
+    }
+    let Some(dropped) = slot.handle.engine().labelled().dropped().get(i).copied() else {
         return MISSING;
     };
     *line = DroppedRow {

@@ -3,19 +3,20 @@
 ghost use Rattle.std.specs.Prelude.{◌≡◌, ◌⊎◌, ◌↔◌, IfOk, None, Some};
 ghost use Rattle.attr_engine.specs.EngineStates.{unasked};
 ghost use Rattle.attr_engine.specs.EngineView.{started};
-ghost use Rattle.yektrod.specs.Held.{held};
+ghost use Rattle.yektrod.specs.Held.{held, sourced};
+ghost use Rattle.yektrod.specs.Sourced.{told_content};
 ghost use Rattle.yektrod.specs.Statuses.{status_done, status_no_memory, status_shut};
 
 use crate::slot::{Slot, put, take};
+use crate::sourced::SourcedEngine;
 use crate::status::{DONE, NO_MEMORY, SHUT};
-use attr_engine::Engine;
 use std::alloc::{AllocError, Global};
 
 /// Makes an engine with the built-in list, and without a selection. Returns 2 if the slot has one already.
 #[unsafe(no_mangle)]
 pub extern "C" fn yektrod_open(alloc: Global, slot: &mut Slot) -> i32
     ensures done { result ≡ status_done → held slot.new ≡ Some (unasked started) }
-    ensures failed { ¬ (result ≡ status_done) → held slot.new ≡ held slot.old }
+    ensures failed { ¬ (result ≡ status_done) → sourced slot.new ≡ sourced slot.old }
     ensures open_before { result ≡ status_shut ↔ ¬ (held slot.old ≡ None) }
     ensures status { (result ≡ status_done) ⊎ (result ≡ status_no_memory) ⊎ (result ≡ status_shut) }
 {
@@ -39,8 +40,8 @@ pub extern "C" fn yektrod_close(alloc: Global, slot: &mut Slot)
     let _engine = take(alloc, slot);
 }
 
-fn new_engine(alloc: Global) -> Result<Box<Engine>, AllocError>
-    ensures { IfOk result (λ engine. engine.value ≡ unasked started) }
+fn new_engine(alloc: Global) -> Result<Box<SourcedEngine>, AllocError>
+    ensures { IfOk result (λ engine. told_content engine.value ≡ unasked started) }
 {
-    Ok(Box::new(alloc, Engine::new(alloc)?)?)
+    Ok(Box::new(alloc, SourcedEngine::new(alloc)?)?)
 }

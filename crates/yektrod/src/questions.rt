@@ -1,13 +1,12 @@
 //! Names are selected, and paths are asked for.
 
 ghost use Rattle.std.specs.Prelude.{◌≡◌, ◌⊎◌, ◌↔◌, All, IfSome, IsUtf8, MatchOption, None, Some, length, map, option_and_then, option_map};
-ghost use Rattle.attr_engine.specs.EngineStates.{path_setting, returned_answers, with_selection};
-ghost use Rattle.gix_attributes.specs.Lookups.{OfTheOnlyTable};
-ghost use Rattle.yektrod.specs.Held.{held, without_answers};
+ghost use Rattle.attr_engine.specs.EngineStates.{AnswersTo, FindsFor, with_selection, without_answers};
+ghost use Rattle.yektrod.specs.Held.{Becomes, held, labelled, sourced};
 ghost use Rattle.yektrod.specs.Passed.{IsFolderNumber, folder_flag, passed_case};
 ghost use Rattle.yektrod.specs.Statuses.{status_done, status_no_memory, status_shut, status_unreadable};
 
-use crate::slot::{Slot, put, take};
+use crate::slot::Slot;
 use crate::status::{DONE, NO_MEMORY, SHUT, UNREADABLE};
 use crate::texts::{are_texts, names_of};
 use attr_engine::Question;
@@ -20,7 +19,7 @@ use std::alloc::Global;
 pub extern "C" fn yektrod_select(alloc: Global, slot: &mut Slot, names: &[&[u8]]) -> i32
     ensures done { result ≡ status_done → held slot.new
         ≡ option_map (with_selection (map (λ name. name.now) names.now)) (held slot.old) }
-    ensures failed { ¬ (result ≡ status_done) → held slot.new ≡ held slot.old }
+    ensures failed { ¬ (result ≡ status_done) → sourced slot.new ≡ sourced slot.old }
     ensures shut { result ≡ status_shut ↔ (held slot.old ≡ None) }
     ensures unreadable { result ≡ status_unreadable ↔ (¬ (held slot.old ≡ None)
         × ¬ All (λ name. IsUtf8 name.now) names.now) }
@@ -33,19 +32,14 @@ pub extern "C" fn yektrod_select(alloc: Global, slot: &mut Slot, names: &[&[u8]]
     if !are_texts(names) {
         return UNREADABLE;
     }
-    let Some(mut engine) = take(alloc, slot) else {
-        return SHUT;
-    };
-    let status = match names_of(alloc, names) {
-        Ok(Some(texts)) => match engine.select(alloc, &texts) {
+    match names_of(alloc, names) {
+        Ok(Some(texts)) => match slot.handle.engine().select(alloc, &texts) {
             Ok(()) => DONE,
             Err(_) => NO_MEMORY,
         },
         Ok(None) => UNREADABLE,
         Err(_) => NO_MEMORY,
-    };
-    put(slot, engine);
-    status
+    }
 }
 
 /// Looks a path up, and says how many answers there are.
@@ -58,16 +52,20 @@ pub extern "C" fn yektrod_ask(
     is_dir: i32,
     answers: &mut usize,
 ) -> i32
-    ensures done { result ≡ status_done → IfSome (held slot.old) (λ before. OfTheOnlyTable
-        (path_setting before.state path.now (passed_case fold) (folder_flag is_dir))
-        (λ found. held slot.new
-        ≡ Some (record before { answers = Some (returned_answers before.state found) }))) }
+    ensures done { result ≡ status_done → Becomes (AnswersTo path.now (passed_case fold)
+        (folder_flag is_dir)) (held slot.old) (held slot.new) }
+    ensures found { result ≡ status_done → Becomes (FindsFor path.now (passed_case fold)
+        (folder_flag is_dir)) (held slot.old) (held slot.new) }
+    ensures labelled { result ≡ status_done → Becomes (AnswersTo path.now (passed_case fold)
+        (folder_flag is_dir)) (labelled slot.old) (labelled slot.new) }
+    ensures found_labelled { result ≡ status_done → Becomes (FindsFor path.now (passed_case fold)
+        (folder_flag is_dir)) (labelled slot.old) (labelled slot.new) }
     ensures count { result ≡ status_done → option_map length
         (option_and_then (λ after. after.answers) (held slot.new)) ≡ Some answers.new }
     ensures refused { result ≡ status_no_memory →
         held slot.new ≡ option_map without_answers (held slot.old) }
     ensures failed { (result ≡ status_shut) ⊎ (result ≡ status_unreadable) →
-        held slot.new ≡ held slot.old }
+        sourced slot.new ≡ sourced slot.old }
     ensures kept { ¬ (result ≡ status_done) → answers.new ≡ answers.old }
     ensures shut { result ≡ status_shut ↔ (held slot.old ≡ None) }
     ensures unreadable { result ≡ status_unreadable ↔ (¬ (held slot.old ≡ None)
@@ -81,17 +79,12 @@ pub extern "C" fn yektrod_ask(
     let Some(is_dir) = folder_of(is_dir) else {
         return UNREADABLE;
     };
-    let Some(mut engine) = take(alloc, slot) else {
-        return SHUT;
-    };
     let question = Question {
         path: BStr::new(path),
         case: case_of(fold),
         is_dir,
     };
-    let asked = engine.ask(alloc, question);
-    put(slot, engine);
-    match asked {
+    match slot.handle.engine().ask(alloc, question) {
         Ok(count) => {
             *answers = count;
             DONE
@@ -100,14 +93,14 @@ pub extern "C" fn yektrod_ask(
     }
 }
 
-fn case_of(fold: bool) -> Case
+pub(crate) fn case_of(fold: bool) -> Case
     ensures { result ≡ passed_case fold }
 {
     if fold { Case::Fold } else { Case::Sensitive }
 }
 
 // Whether the path is a folder, if that is known: none if the number is out of range.
-fn folder_of(is_dir: i32) -> Option<Option<bool>>
+pub(crate) fn folder_of(is_dir: i32) -> Option<Option<bool>>
     ensures { MatchOption result (¬ IsFolderNumber is_dir) (λ flag.
         IsFolderNumber is_dir × (flag ≡ folder_flag is_dir)) }
 {

@@ -1,19 +1,20 @@
 //! What C keeps: an engine, or nothing.
 
 ghost use Rattle.std.specs.Prelude.{◌≡◌, None, Some, option_map};
-ghost use Rattle.yektrod.specs.Held.{held};
+ghost use Rattle.yektrod.specs.Held.{held, sourced};
 
 mod fields;
 
 use crate::handle::Handle;
-use attr_engine::Engine;
+use crate::sourced::SourcedEngine;
 pub use fields::Slot;
 use std::alloc::Global;
 use std::mem::replace;
 
-// Puts an engine into a slot.
-pub(crate) fn put(slot: &mut Slot, engine: Box<Engine>)
-    ensures { held slot.new ≡ Some engine.value }
+// Puts an engine into a slot that has none.
+pub(crate) fn put(slot: &mut Slot, engine: Box<SourcedEngine>)
+    requires { held slot.old ≡ None }
+    ensures { sourced slot.new ≡ Some engine.value }
 {
     *slot = Slot {
         handle: Handle::of(engine),
@@ -22,8 +23,8 @@ pub(crate) fn put(slot: &mut Slot, engine: Box<Engine>)
 }
 
 // Takes the engine out of a slot, if it has one.
-pub(crate) fn take(alloc: Global, slot: &mut Slot) -> Option<Box<Engine>>
-    ensures taken { option_map (λ engine. engine.value) result ≡ held slot.old }
+pub(crate) fn take(alloc: Global, slot: &mut Slot) -> Option<Box<SourcedEngine>>
+    ensures taken { option_map (λ engine. engine.value) result ≡ sourced slot.old }
     ensures left { held slot.new ≡ None }
 {
     if !slot.live {
@@ -33,6 +34,5 @@ pub(crate) fn take(alloc: Global, slot: &mut Slot) -> Option<Box<Engine>>
         handle: Handle::shut(alloc),
         live: false,
     };
-    let Slot { handle, live: _ } = replace(slot, nothing);
-    Some(handle.into_box())
+    Some(replace(slot, nothing).into_handle().into_box())
 }

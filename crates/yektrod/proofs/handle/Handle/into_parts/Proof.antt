@@ -19,7 +19,7 @@ use Rattle.std_alloc.proofs.BoxSteps.Form.{D, word, box_typed}
 use Rattle.std_alloc.proofs.BoxSteps.Steps.{box_out, box_in}
 use Rattle.std_heap.specs.contracts.Global as Global
 use Rattle.std_heap.specs.contracts.GlobalAllocator.TheImpl.{ghosts}
-use Rattle.attr_engine.specs.contracts.engine.Engine as Engine
+use Rattle.yektrod.specs.contracts.sourced.SourcedEngine as SourcedEngine
 use Rattle.yektrod.proofs.BoxedEngine.{engine_box, of_handle_type}
 use Rattle.yektrod.specs.contracts.handle.Handle as Handle
 use Rattle.yektrod.specs.contracts.handle.parts.Parts as Parts
@@ -33,7 +33,7 @@ stayed = (stay_dropped of_handle_type yes, tt)
 pub into_parts_spec : {M : Type 1} → statement M
 into_parts_spec 𝓤 𝓛 𝓜 𝓡 wired =
     let c = f.clauses 𝓛 𝓜.mem 𝓡.returns in let 𝓣 = tables 𝓤 𝓛.H 𝓜 𝓡 𝓡.env in
-    let Made = Parts.the_row Engine.the_row Global.the_row ghosts in
+    let Made = Parts.the_row SourcedEngine.the_row Global.the_row ghosts in
     proved_at 𝓛 f.ended stayed c 𝓜 𝓡 (Goes-dropped 𝓛 0 of_handle_type yes (λ κs x w. refl), tt)
     f.Key.name code.function (code.unfolded 𝓤 𝓛.H 𝓜 𝓡 wired) (λ y are.
     let handle = y.0.3.0 in let passed = y.0.4.0 in let post = (walk_of 𝓛 f.ended stayed c).post y in
