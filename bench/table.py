@@ -2,12 +2,14 @@
 """Measures what a path costs in check_attr, beside git.
 
 usage: table.py [PROGRAM] [--quick] [--only WORD,..] [--markdown] [--readme] [--scale F] [--runs N]
-                [--limit SECONDS]
+                [--limit SECONDS] [--stack PROGRAM] [--check-attr PROGRAM]
        table.py [PROGRAM] --curves [--quick]     writes path_cost.csv, which chart.py draws
 
 PROGRAM is crates/check_attr_cli/out/check_attr_cli if none is given. Each row is a workload: attributes files, three attributes
 to look up, and paths. Both programs have to print the same answers. Git runs with GIT_FLUSH=0: without it, it writes after every
-path. Columns:
+path. The rows stack-.. are of another program in the place of check_attr: the example `paths` of the Rust package, which reads
+the attributes files of the work tree itself, as `cargo build --release --examples` in clients/rust builds it. The rows
+check-attr-.. are of check-attr, as `make check-attr` builds it; all processes that it starts are counted. Columns:
 
   script         the size of the script that check_attr reads: the files and the paths
   time           processor time of the whole run, which reads the files too: medians of runs that take turns, and their ratio
@@ -17,6 +19,7 @@ path. Columns:
 import argparse
 import filecmp
 import math
+import os
 import subprocess
 import sys
 import tempfile
@@ -27,10 +30,12 @@ import measure
 from measure import Command, OverLimit, say
 
 CURVES = measure.BENCH / "path_cost.csv"
+STACK = measure.BENCH.parent / "clients/rust/target/release/examples/paths"
+CHECK_ATTR = measure.BENCH.parent / "clients/rust/target/release/check-attr"
 # So many paths are asked before those that are counted: by then what reading left to free is freed.
 FEW = 100
 HEAD = ("workload", "paths", "script, KB", "time, ms", "git", "ratio", "instructions a path", "git", "memory, KB", "git")
-WIDTHS = (-76, 10, 11, 10, 10, 8, 21, 13, 12, 11)
+WIDTHS = (-80, 10, 11, 10, 10, 8, 21, 13, 12, 11)
 
 
 class Workload:
@@ -38,6 +43,11 @@ class Workload:
 
     unit = "path"
     few = FEW
+    # Whether our program is the one that reads the files of the work tree itself, and the folders of that tree beside those of files.
+    reads_tree = False
+    is_counted = True
+    folders = ()
+    folders = ()
 
     def __init__(self, title, files, names, paths, counted):
         self.title, self.files, self.names, self.paths = title, files, names, paths
@@ -110,6 +120,57 @@ class Walk(Workload):
 
     def few_and_many(self):
         return (self.files, self.paths[:FEW]), (self.files, self.paths[:self.counted]), self.counted - FEW
+
+
+class Stack(Workload):
+    """Paths that a program looks up in a work tree, and the options of that program and of git."""
+
+    reads_tree = True
+    program = "stack"
+    words, git_words = (), ("--stdin",)
+
+    def __init__(self, title, files, folders, paths, counted):
+        super().__init__(title, files, inputs.THREE_NAMES, paths, counted)
+        self.folders = folders
+
+    def prepare(self, repository):
+        """Does what is left to do in a repository that has the files. Returns the folder to run in."""
+        return repository
+
+
+class CheckAttr(Stack):
+    """Paths that check-attr looks up in a work tree."""
+
+    program = "check-attr"
+    is_counted = False
+
+    def __init__(self, title, files, folders, paths, words=("--stdin",), names=inputs.SEVEN_NAMES, git_words=None):
+        super().__init__(title, files, folders, paths, 0)
+        self.words, self.names = words, names
+        self.git_words = git_words or words
+
+
+class CheckAttrOfIndex(CheckAttr):
+    """The same, of the index alone, of a tree in a bare repository, or where the work tree lacks some files."""
+
+    is_bare, missing = False, ()
+
+    def prepare(self, repository):
+        def git(*words, given=None):
+            return subprocess.run(["git", *words], cwd=repository, input=given, stdout=subprocess.PIPE, check=True).stdout
+
+        git("add", "--all")
+        blob = git("hash-object", "-w", "--stdin", given=b"").strip()
+        git("update-index", "--index-info", given=b"".join(b"100644 %s\t%s\n" % (blob, it.encode()) for it in self.paths))
+        made = git("-c", "user.name=x", "-c", "user.email=x", "commit-tree", "-m", "made", git("write-tree").strip())
+        git("update-ref", "HEAD", made.strip())
+        git("repack", "-a", "-d", "-q")
+        for folder in self.missing:
+            (repository / folder / ".gitattributes").unlink()
+        if not self.is_bare:
+            return repository
+        git("config", "core.bare", "true")
+        return repository / ".git"
 
 
 # How many paths are asked: fewer where git tries many lines for each.
@@ -187,6 +248,55 @@ def of_folders(names, quick):
     return Walk(title, steps, ["a1", "a2", "a3"], max(50, counted(names) // 4), unit="folder")
 
 
+def of_stack(quick, is_shuffled=False):
+    files, folders, paths = inputs.below_files(timed(1, quick))
+    title = f"stack: {len(files)} files in {len(folders):,} folders, paths {'shuffled' if is_shuffled else 'in order'}"
+    return Stack(title, files, folders, inputs.shuffled(paths) if is_shuffled else paths, 5 * counted(1, quick))
+
+
+def of_stack_without_files(quick):
+    files, folders, paths = inputs.without_files(20_000 // (5 if quick else 1))
+    return Stack(f"stack: {len(folders):,} folders without a file, a path each", files, folders, paths, 5 * counted(1, quick))
+
+
+def of_stack_monorepo(scale):
+    steps = list(inputs.monorepo(scale))
+    files = [(folder, text) for folder, text, _ in steps if text is not None]
+    paths = [path for _, _, below in steps for path in below]
+    return Stack("stack: " + monorepo_title(steps), files, [folder for folder, _, _ in steps], paths, 20_000)
+
+
+def of_check_attr(quick, make=CheckAttr, what="", is_shuffled=False, **more):
+    files, folders, paths = inputs.below_files(timed(1, quick))
+    title = f"check-attr{what}: {len(files)} files in {len(folders):,} folders, paths {'shuffled' if is_shuffled else 'in order'}"
+    return make(title, files, folders, inputs.shuffled(paths) if is_shuffled else paths, **more)
+
+
+def of_check_attr_bare(quick):
+    work = of_check_attr(quick, CheckAttrOfIndex, " --source, bare; git --cached", words=("--stdin", "--source=HEAD"),
+                         git_words=("--stdin", "--cached"))
+    work.is_bare = True
+    return work
+
+
+def of_check_attr_without_files(quick):
+    files, folders, paths = inputs.without_files(20_000 // (5 if quick else 1))
+    missing = folders[::len(folders) // 50]
+    title = f"check-attr: {len(folders):,} folders without a file, a path each, {len(missing)} files in the index alone"
+    files += [(folder, inputs.of_folder(0)) for folder in missing]
+    work = CheckAttrOfIndex(title, files, folders, paths, names=inputs.THREE_NAMES)
+    work.missing = missing
+    return work
+
+
+def of_check_attr_monorepo(scale):
+    steps = list(inputs.monorepo(scale))
+    files = [(folder, text) for folder, text, _ in steps if text is not None]
+    paths = [path for _, _, below in steps for path in below]
+    folders = [folder for folder, _, _ in steps]
+    return CheckAttr("check-attr: " + monorepo_title(steps), files, folders, paths, names=inputs.THREE_NAMES)
+
+
 def workloads(quick, scale):
     """The name of each row, and how its workload is made."""
     made = {"typical": lambda: of_typical(quick)}
@@ -205,6 +315,18 @@ def workloads(quick, scale):
     made["monorepo-standing"] = lambda: of_monorepo(scale)
     made["monorepo-walked"] = lambda: of_walk(scale)
     several("folders", (10, 1_000) if quick else (10, 100, 1_000, 10_000), of_folders)
+    made["stack-in-order"] = lambda: of_stack(quick)
+    made["stack-shuffled"] = lambda: of_stack(quick, is_shuffled=True)
+    made["stack-without-files"] = lambda: of_stack_without_files(quick)
+    made["stack-monorepo"] = lambda: of_stack_monorepo(scale)
+    made["check-attr-in-order"] = lambda: of_check_attr(quick)
+    made["check-attr-shuffled"] = lambda: of_check_attr(quick, is_shuffled=True)
+    made["check-attr-all"] = lambda: of_check_attr(quick, what=" -a", words=("--stdin", "-a"), names=())
+    made["check-attr-cached"] = lambda: of_check_attr(quick, CheckAttrOfIndex, " --cached", words=("--stdin", "--cached"))
+    made["check-attr-bare"] = lambda: of_check_attr_bare(quick)
+    made["check-attr-without-files"] = lambda: of_check_attr_without_files(quick)
+    made["check-attr-one-path"] = lambda: CheckAttr("check-attr: a path", [("", inputs.TYPICAL.encode())], [], ["src/main.c"])
+    made["check-attr-monorepo"] = lambda: of_check_attr_monorepo(scale)
     return made
 
 
@@ -214,12 +336,19 @@ class Bench:
     def __init__(self, program, room, options):
         self.program, self.room, self.runs, self.limit = program, Path(room), options.runs, options.limit
         self.git, self.valgrind, self.time = measure.has_git(), measure.has_valgrind(), measure.has_time()
+        self.others = {"stack": str(Path(options.stack).resolve()), "check-attr": str(Path(options.check_attr).resolve())}
         self.differ = []
 
-    def repository(self, files):
-        """A git repository with these files in its folders."""
+    def can(self, work):
+        """Whether a workload can be measured: what reads a work tree needs its program, and git for the work tree."""
+        return not work.reads_tree or self.git and os.access(self.others[work.program], os.X_OK)
+
+    def repository(self, files, folders=()):
+        """A git repository with these files in its folders, and with these folders."""
         folder = Path(tempfile.mkdtemp(dir=self.room))
         subprocess.run(["git", "init", "-q", str(folder)], check=True)
+        for below in folders:
+            (folder / below).mkdir(parents=True, exist_ok=True)
         for below, text in files:
             (folder / below).mkdir(parents=True, exist_ok=True)
             (folder / below / ".gitattributes").write_bytes(text)
@@ -230,18 +359,21 @@ class Bench:
         script = self.room / "script"
         before, work.files = work.files, files
         with open(script, "wb") as out:
-            out.writelines(work.script(paths))
+            out.writelines(() if work.reads_tree else work.script(paths))
         work.files = before
         ours = Command([self.program], script)
         if not repository:
             return ours, None
         asked = self.room / "paths"
         asked.write_text("".join(path + "\n" for path in paths))
-        return ours, Command(["git", "check-attr", "--stdin", *work.names], asked, repository)
+        if not work.reads_tree:
+            return ours, Command(["git", "check-attr", "--stdin", *work.names], asked, repository)
+        ours = Command([self.others[work.program], *work.words, *work.names], asked, repository)
+        return ours, Command(["git", "check-attr", *work.git_words, *work.names], asked, repository)
 
     def instructions(self, work):
         """The instructions of both programs for a path."""
-        if not self.valgrind:
+        if not self.valgrind or not work.is_counted:
             return None, None
         return self.difference(work, work.few_and_many(), 0), self.difference(work, work.few_and_many_of_git(), 1)
 
@@ -250,8 +382,8 @@ class Bench:
         few, many, divisor = few_and_many
         counts, repository = [], None
         for files, paths in (few, many):
-            if place and self.git and (repository is None or files is not few[0]):
-                repository = self.repository(files)
+            if (place or work.reads_tree) and self.git and (repository is None or files is not few[0]):
+                repository = self.repository(files, work.folders)
             counts.append(self.count(self.commands(work, files, paths, repository)[place]))
         return None if None in counts else (counts[1] - counts[0]) / divisor
 
@@ -277,7 +409,9 @@ class Bench:
 
     def row(self, name, work):
         counts = self.instructions(work)
-        repository = self.repository(work.files) if self.git else None
+        repository = self.repository(work.files, work.folders) if self.git else None
+        if work.reads_tree:
+            repository = work.prepare(repository)
         pair = self.commands(work, work.files, work.paths, repository)
         size = (self.room / "script").stat().st_size
         limits = [command and self.limit for command in pair]
@@ -304,7 +438,8 @@ class Row:
         times = [self.time(place) for place in (0, 1)]
         counts = [three_digits(count) for count in self.counts]
         peaks = ["" if peak is None else f"{peak:,}" for peak in self.peaks]
-        return (title, f"{len(self.work.paths):,}", f"{math.ceil(self.size / 1024):,}", *times, ratio, *counts, *peaks)
+        size = f"{math.ceil(self.size / 1024):,}" if self.size else ""
+        return (title, f"{len(self.work.paths):,}", size, *times, ratio, *counts, *peaks)
 
     def time(self, place):
         if self.times[place] is None:
@@ -330,8 +465,13 @@ def table(bench, options):
     report = measure.Report("table", options.markdown, options.readme)
     report.head(HEAD, WIDTHS)
     for name, make in rows.items():
-        if measure.is_wanted(name, options.only):
-            report.row(bench.row(name, make()).cells(), WIDTHS)
+        if not measure.is_wanted(name, options.only):
+            continue
+        work = make()
+        if bench.can(work):
+            report.row(bench.row(name, work).cells(), WIDTHS)
+        else:
+            say(f"{name} is left out: there is no git, or no program {bench.others[work.program]}")
     report.line()
     report.line(f"Measured {measure.machine()}.")
     report.end()
@@ -362,6 +502,8 @@ def main():
     options.add_argument("--scale", type=float, help="the size of the made monorepo: 1 is a million paths")
     options.add_argument("--runs", type=int, default=5, help="how many runs a median is of")
     options.add_argument("--limit", type=int, default=120, help="the seconds after which a run is ended")
+    options.add_argument("--stack", default=STACK, help="the program of the rows stack-.., clients/rust's example paths")
+    options.add_argument("--check-attr", default=CHECK_ATTR, help="the program of the rows check-attr-..")
     options.add_argument("--curves", action="store_true", help="write path_cost.csv")
     options = options.parse_args()
     with tempfile.TemporaryDirectory() as room:
