@@ -1,10 +1,9 @@
 #!/bin/sh
-# Compares tools/check-attr with `git check-attr` in repositories that it makes: what is printed, byte by byte, and the
-# status. The program has to be built before, by `rt ci` or by `rt run` in crates/check_attr_cli. It takes a minute at most, if the
-# machine has nothing else to do.
+# Compares the program check-attr with `git check-attr` in repositories that it makes: what is printed, byte by byte, and the
+# status. It is built here, over the library that is built in crates/yektrod or whose directory YEKTROD_LIB_DIR is, unless
+# CHECK_ATTR names it. It takes a minute at most, if the machine has nothing else to do.
 set -eu
 top=$(cd "$(dirname "$0")/.." && pwd)
-tool=$top/tools/check-attr
 room=$(mktemp -d)
 trap 'rm -rf "$room"' EXIT
 HOME=$room/home
@@ -12,11 +11,13 @@ GIT_CONFIG_NOSYSTEM=1
 GIT_ATTR_NOSYSTEM=1
 LC_ALL=C
 export HOME GIT_CONFIG_NOSYSTEM GIT_ATTR_NOSYSTEM LC_ALL
-unset XDG_CONFIG_HOME GIT_CONFIG_GLOBAL GIT_ATTR_SOURCE GIT_DIR GIT_WORK_TREE GIT_INDEX_FILE || true
+unset GIT_PREFIX GIT_FLUSH XDG_CONFIG_HOME GIT_CONFIG_GLOBAL GIT_ATTR_SOURCE GIT_DIR GIT_WORK_TREE GIT_INDEX_FILE || true
 mkdir "$HOME"
 git config --global user.name nobody
 git config --global user.email nobody@localhost
 git config --global init.defaultBranch main
+is_new=$(git check-attr -h | grep -q -e --source && echo yes || echo no)
+is_usual=$([ "$(readlink -f "$(command -v git)")" = /usr/bin/git ] && echo yes || echo no)
 count=0
 
 failed() {
@@ -27,6 +28,20 @@ failed() {
 quietly() {
     "$@" >"$room/said" 2>&1 || { cat "$room/said"; failed "$*"; }
 }
+
+# Builds the program, with Debian's compiler.
+build() {
+    if [ -z "${YEKTROD_LIB_DIR:-}" ]; then
+        quietly "$top/tools/c-library" "$room/yektrod"
+        YEKTROD_LIB_DIR=$room/yektrod/lib
+    fi
+    quietly env YEKTROD_LIB_DIR="$YEKTROD_LIB_DIR" CARGO_TARGET_DIR="$room/target" RUSTC=/usr/bin/rustc RUSTFLAGS='-D warnings' \
+        /usr/bin/cargo build --release --offline --locked --manifest-path "$top/clients/rust/Cargo.toml" -p check-attr
+    tool=$room/target/release/check-attr
+}
+part=build
+tool=${CHECK_ATTR:-}
+if [ -z "$tool" ]; then build; fi
 
 # Runs the tool on $room/input.
 ours() {
@@ -39,6 +54,11 @@ same() {
     theirs=0
     git check-attr "$@" <"$room/input" >"$room/git" 2>"$room/warnings" || theirs=$?
     ours "$@"
+    as_git "$@"
+}
+
+# Wants what git has printed, and its status.
+as_git() {
     if [ "$status" != "$theirs" ] || ! cmp -s "$room/git" "$room/ours"; then
         diff "$room/git" "$room/ours" | head -n 20
         cat "$room/errors"
@@ -46,6 +66,30 @@ same() {
     fi
     if [ "$status" != 0 ] && [ ! -s "$room/errors" ]; then failed "check-attr $* says nothing of status $status"; fi
     count=$((count + 1))
+}
+
+# The same for the index alone.
+cached() {
+    same --cached "$@"
+}
+
+# Wants of the tree $tree, named in each of three ways, what git prints of an index that has this tree.
+of_tree() {
+    theirs=0
+    GIT_INDEX_FILE=$room/index_of_tree git read-tree "$tree"
+    GIT_INDEX_FILE=$room/index_of_tree git check-attr --cached "$@" <"$room/input" >"$room/git" 2>"$room/warnings" || theirs=$?
+    ours --source="$tree" "$@"
+    as_git --source="$tree" "$@"
+    GIT_ATTR_SOURCE=$tree
+    export GIT_ATTR_SOURCE
+    ours "$@"
+    as_git "$@"
+    unset GIT_ATTR_SOURCE
+    GIT_CONFIG_COUNT=1 GIT_CONFIG_KEY_0=attr.tree GIT_CONFIG_VALUE_0=$tree
+    export GIT_CONFIG_COUNT GIT_CONFIG_KEY_0 GIT_CONFIG_VALUE_0
+    ours "$@"
+    as_git "$@"
+    unset GIT_CONFIG_COUNT
 }
 
 # Wants a status and this on standard error, and no answer.
@@ -59,18 +103,33 @@ refused() {
     count=$((count + 1))
 }
 
-# Forms for the paths of a file, which end with NUL, and for some of them, a line each in $room/some.
+# Wants a status and this text, as newer versions of git have them. Git 2.39.5 does something else, as docs/CHECK_ATTR.md says.
+newer() {
+    wanted=$1
+    printf "$2" >"$room/wanted"
+    shift 2
+    ours "$@"
+    if [ "$status" != "$wanted" ] || ! diff "$room/wanted" "$room/ours"; then
+        cat "$room/errors"
+        failed "check-attr $* in $PWD: status $status, not $wanted"
+    fi
+    if [ "$is_new" = yes ]; then same "$@"; else count=$((count + 1)); fi
+}
+
+# Forms for the paths of a file, which end with NUL, and for some of them, a line each in $room/some. What compares is `same`, or a
+# second word.
 each_form() {
+    compare=${2:-same}
     cp "$1" "$room/input"
-    same -z --stdin --all
+    $compare -z --stdin --all
     tr '\0' '\n' <"$1" >"$room/input"
-    same --stdin text eol m1
-    shift
+    $compare --stdin text eol m1
+    set --
     while IFS= read -r path; do
         set -- "$@" "$path"
     done <"$room/some"
-    same -a "$@"
-    same -z text diff binary -- "$@"
+    $compare -a "$@"
+    $compare -z text diff binary -- "$@"
 }
 
 : >"$room/input"
@@ -136,7 +195,7 @@ mkdir "$room/odd/$last"
 cd "$room/odd"
 same -a "$last/f.c"
 echo '* text' >"$last/.gitattributes"
-refused 128 'is not UTF-8' -a "$last/f.c"
+same -a "$last/f.c"
 # Names that look like what the program writes for a line that is left out, before another answer.
 git init -q "$room/left_out"
 cd "$room/left_out"
@@ -224,11 +283,21 @@ each_form "$room/paths"
 XDG_CONFIG_HOME=
 same -a f
 unset XDG_CONFIG_HOME
-for file in "$HOME/user" '~/user' sub/user "$room/none" ''; do
+for file in "$HOME/user" '~/user' '~' '~root/none' '~no-such-user/x' '%(prefix)/none' sub/user "$room/none" ''; do
     git config core.attributesFile "$file"
     each_form "$room/paths"
     (cd sub && same -a f deep/f.i)
 done
+for value in '' '~/user'; do
+    git config core.attributesFile "$value"
+    (unset HOME && GIT_CONFIG_GLOBAL=/dev/null same -a f)
+done
+git config core.attributesFile '~/user'
+git config --add core.attributesFile ":(optional)$room/none"
+newer 0 'f.i: u: config\nf.i: config: set\n' u config -- f.i
+git config --unset-all core.attributesFile
+git config core.attributesFile ":(optional)$HOME/user"
+newer 0 'f.i: u: user\nf.i: config: unspecified\n' u config -- f.i
 git config core.attributesFile '~/user'
 rm .git/info/attributes
 each_form "$room/paths"
@@ -242,11 +311,22 @@ printf '* s=%s\n* u\000 v\n\000* w\n* x\n' "$(head -c 2045 /dev/zero | tr '\0' a
 printf '* long=%s\n\n  * s=%s\r\n* t\n' "$(head -c 2045 /dev/zero | tr '\0' a)" "$(head -c 2040 /dev/zero | tr '\0' a)" >sub/.gitattributes
 printf '\357\273\277* mark\r\n  \r\n# no\r\n\t* text\r\n' >sub/deep/.gitattributes
 each_form "$room/paths"
-grep -q '^warning: sub/.gitattributes:1 is left out: it has 2,048 bytes or more$' "$room/errors" || failed 'a long line is not reported'
+grep -q '^warning: ignoring overly long attributes line 1$' "$room/errors" || failed 'a long line is not reported'
+: >"$room/input"
+# Byte order marks: git removes that of UTF-8 alone, once, and in files alone.
+mkdir marks
+for mark in '\357\273\277' '\357\273\277\357\273\277' '\377\376' '\376\377' '\000\000\376\377' '\377\376\000\000' '+/v8' '\303\274'; do
+    printf "$mark* a\n* b\n" >marks/.gitattributes
+    quietly git add -f marks
+    same a b -- marks/f "$(printf "marks/${mark%%\\000*}f")"
+    same --cached a b -- marks/f "$(printf "marks/${mark%%\\000*}f")"
+done
+quietly git rm -q -r --cached marks
 mkdir large
 printf '* a\n' >large/.gitattributes
-truncate -s 100000000 large/.gitattributes
-refused 128 'has 100,000,000 bytes or more' -a large/f
+truncate -s 104857600 large/.gitattributes
+same -a large/f
+grep '^warning: ignoring overly' "$room/errors" | diff "$room/warnings" - || failed 'a large file is reported otherwise'
 rm -r large
 # The system's file is one of a folder /etc of our own, if the machine lets us have it.
 cat >"$room/with_etc" <<'END'
@@ -330,14 +410,28 @@ printf 'README.md\n../../x\ndocs/a.c' >"$room/input"
 same --stdin text
 printf 'README.md\r\n\ndocs/a.c' >"$room/input"
 same --stdin text
+printf 'README.md\0x\n"docs/a.c\\000x"\n"docs\0/a.c"\nREADME.md\n' >"$room/input"
+same --stdin text
 printf 'README.md\0../made/docs/a.c\0\0docs/a.c' >"$room/input"
 same --stdin text
 same -z --stdin text
 : >"$room/input"
 same --stdin text
 same text README.md docs/a.c
-ours -h
-if [ "$status" != 129 ] || ! grep -q usage "$room/ours"; then failed '-h gives no usage'; fi
+# What prints a usage on standard output, with this status.
+usage() {
+    git check-attr "$@" <"$room/input" >"$room/git" 2>"$room/warnings" || theirs=$?
+    ours "$@"
+    if [ "$status" != "$theirs" ] || ! grep -q '^usage: ' "$room/git" || ! grep -q '^usage: ' "$room/ours"; then
+        failed "check-attr $*: status $status, git's is $theirs"
+    fi
+    count=$((count + 1))
+}
+usage -h
+usage -a -h
+usage -ah
+usage --no text README.md
+if [ "$is_new" = yes ]; then usage --s text README.md; fi
 cd "$room"
 mkdir -p none
 cd none
@@ -347,29 +441,283 @@ same text README.md
 same
 cd "$room/made/.git"
 same text README.md
-git init -q --bare "$room/bare"
-cd "$room/bare"
-refused 128 'bare repository' text README.md
 cd "$room/made"
-refused 129 '--cached is not supported' --cached text README.md
-refused 129 '--source is not supported' --source HEAD text README.md
-refused 129 '--source is not supported' --source=HEAD text README.md
-GIT_ATTR_SOURCE=HEAD
-export GIT_ATTR_SOURCE
-refused 128 'not supported' text README.md
-unset GIT_ATTR_SOURCE
-git config attr.tree HEAD
-refused 128 'not supported' text README.md
-git config --unset attr.tree
 git config core.ignoreCase maybe
 same text README.md
+same --unknown
 git config --unset core.ignoreCase
-YEKTROD_CHECK_ATTR=$room/nothing
-export YEKTROD_CHECK_ATTR
-refused 128 'there is no program' text README.md
-YEKTROD_CHECK_ATTR=false
-refused 128 'the program failed' text README.md
-unset YEKTROD_CHECK_ATTR
+for words in '--all=1 README.md' '--no-all=1 README.md' '-all' '-stdin text' '-sz' '--stdi text' \
+    '--al README.md' '--no-a text README.md' \
+ '-x-' '--all --' 'text -- --' '--all -- --all'; do
+    same $words
+done
+newer 0 'README.md: text: unspecified\n' --end-of-options text README.md
+newer 0 'README.md: text: unspecified\n' --end-of-options text -- README.md
+newer 255 '' --end-of-options -a README.md
+GIT_ATTR_NOSYSTEM=maybe
+same text README.md
+GIT_ATTR_NOSYSTEM=1
+GIT_FLUSH=maybe
+export GIT_FLUSH
+echo README.md >"$room/input"
+ours --stdin text
+[ "$status" = 128 ] && grep -q "^fatal: bad boolean environment value 'maybe' for 'GIT_FLUSH'$" "$room/errors" ||
+    failed 'a bad GIT_FLUSH is taken'
+: >"$room/input"
+unset GIT_FLUSH
+printf '[core' >"$room/broken"
+GIT_CONFIG_GLOBAL=$room/broken
+export GIT_CONFIG_GLOBAL
+same text README.md
+unset GIT_CONFIG_GLOBAL
+GIT_TEST_ASSUME_DIFFERENT_OWNER=1
+export GIT_TEST_ASSUME_DIFFERENT_OWNER
+same text README.md
+unset GIT_TEST_ASSUME_DIFFERENT_OWNER
+path=$PATH
+PATH=$room/none
+ours text README.md
+PATH=$path
+grep -q '^fatal: there is no git on PATH$' "$room/errors" && [ "$status" = 128 ] || failed 'a missing git is told otherwise'
+
+part='the environment'
+for trace in 1 2 "$room/trace"; do
+    GIT_TRACE=$trace
+    export GIT_TRACE
+    same text eol -- README.md docs/a.c
+    same text README.md ../x
+done
+unset GIT_TRACE
+GIT_CONFIG_COUNT=2 GIT_CONFIG_KEY_0=core.quotePath GIT_CONFIG_VALUE_0=true GIT_CONFIG_KEY_1=core.ignoreCase GIT_CONFIG_VALUE_1=1
+export GIT_CONFIG_COUNT GIT_CONFIG_KEY_0 GIT_CONFIG_VALUE_0 GIT_CONFIG_KEY_1 GIT_CONFIG_VALUE_1
+same -a DOCS/A.C docs/zürich.C README.MD
+unset GIT_CONFIG_COUNT
+LC_ALL=de_DE.UTF-8 LANGUAGE=de GIT_LITERAL_PATHSPECS=1
+export LANGUAGE GIT_LITERAL_PATHSPECS
+same -a docs/zürich.c nowhere/f
+same text ../x
+LC_ALL=C
+unset LANGUAGE GIT_LITERAL_PATHSPECS
+GIT_CONFIG=$room/none same -a docs/zürich.c
+# Git starts an alias at the top, and names the current directory.
+git config alias.ours "!'$tool'"
+cd docs
+git ours -a a.c ../README.md "$room/made/docs/a.c" >"$room/ours" 2>"$room/errors"
+git check-attr -a a.c ../README.md "$room/made/docs/a.c" 2>"$room/warnings" | diff - "$room/ours" ||
+    failed 'an alias answers otherwise'
+# So does a program of git on PATH where it is called.
+mkdir "$room/bin"
+ln -s "$tool" "$room/bin/git-yattr"
+PATH=$room/bin:$PATH git yattr -a a.c ../README.md "$room/made/docs/a.c" 2>"$room/errors" | diff "$room/ours" - ||
+    failed 'git yattr answers otherwise'
+GIT_TRACE=$room/trace
+export GIT_TRACE
+rm -f "$room/trace"
+# Git elsewhere is asked where the system's file is.
+if [ "$is_usual" = yes ]; then unset GIT_ATTR_NOSYSTEM; fi
+ours -a a.c nowhere/f
+[ "$(grep -c 'trace: built-in: git' "$room/trace")" = 3 ] ||
+    failed "one path takes more than three calls of git: $(cat "$room/trace")"
+unset GIT_TRACE
+GIT_ATTR_NOSYSTEM=1
+export GIT_ATTR_NOSYSTEM
+
+part='the index alone'
+cd "$room/index"
+each_form "$room/paths" cached
+cached -a a/f a/b/f "$line/x/f" links/f.c linked/f
+cd a
+cached -a f b/f ../f
+# Paths in variables are those of where it is called.
+mkdir -p "$room/index/away/deep"
+cd "$room/index/away/deep"
+GIT_DIR=../../.git GIT_WORK_TREE=../.. GIT_INDEX_FILE=.git/index
+export GIT_DIR GIT_WORK_TREE GIT_INDEX_FILE
+same -a f ../../a/f ../../a/b/f
+cached -a f ../../a/f ../../a/b/f
+GIT_WORK_TREE=..
+same -a f ../f ../a/f a/f
+cached -a ../a/f
+cd "$room"
+GIT_DIR=index/.git GIT_WORK_TREE=index
+same -a f a/f a/b/f
+cached -a f a/f a/b/f
+unset GIT_DIR GIT_WORK_TREE GIT_INDEX_FILE
+cd "$room/made"
+git ls-files -z >"$room/paths"
+git ls-files -- docs | awk 'NR % 9 == 1' >"$room/some"
+each_form "$room/paths" cached
+: >"$room/input"
+GIT_INDEX_FILE=$room/none/index
+export GIT_INDEX_FILE
+cached -a docs/a.c
+same -a docs/a.c
+unset GIT_INDEX_FILE
+cached --no-cached -a docs/a.c
+printf 'no index' >"$room/broken"
+GIT_INDEX_FILE=$room/broken cached -a docs/a.c
+
+part='odd directories in the index and in trees'
+git init -q "$room/entries"
+cd "$room/entries"
+missing=$(printf 'x missing\ny')
+for folder in 1:x 0: 2: ':0:' 'a b' -x "$line" ' missing' 'x missing' "$missing" HEAD: "$tab" 'é' "$last"; do
+    mkdir -p "./$folder/sub"
+    printf '* in=%s\n' "$(echo "$folder" | cksum | cut -d' ' -f1)" >"./$folder/.gitattributes"
+    printf '* sub\r\n*.c eol=crlf\r\n' >"./$folder/sub/.gitattributes"
+    : >"./$folder/sub/f.c"
+done
+mkdir link gitlink
+ln -s '* linked' link/.gitattributes
+printf '\357\273\277* marked\n* text\0 cut\n* behind\n' >gitlink/nul
+printf '* top\n[attr]m1 one\n' >.gitattributes
+quietly git add -A
+quietly git commit -q -m made
+quietly git update-index --add --cacheinfo "160000,$(git rev-parse HEAD),gitlink/.gitattributes"
+quietly git update-index --add --cacheinfo "160000,0000000000000000000000000000000000000001,sub/.gitattributes"
+quietly git update-index --add --cacheinfo "100644,$(git rev-parse HEAD:gitlink/nul),nul/.gitattributes"
+quietly git commit -q -m made
+git tag -a -m tag tagged
+git ls-files -z >"$room/paths"
+printf '%s\n' 1:x/f 0:/sub/f.c 2:/f :0:/f 'a b/f' -x/f ' missing/f' 'x missing/sub/f' HEAD:/f "$tab/f" é/f "$last/sub/f" \
+    link/f gitlink/f nul/f sub/f none/f >"$room/some"
+: >"$room/input"
+each_form "$room/paths"
+each_form "$room/paths" cached
+find . -name .gitattributes ! -path ./.gitattributes -exec rm {} +
+each_form "$room/paths"
+each_form "$room/paths" cached
+: >"$room/input"
+same -a "$line/f" "$missing/f"
+cached -a "$line/f" "$missing/f"
+for tree in HEAD HEAD~1 tagged 'HEAD^{tree}' HEAD: "HEAD:a b" "$(git rev-parse --short HEAD)" "$(git rev-parse 'HEAD^{tree}')"; do
+    of_tree -a "$line/f" "$missing/f" f sub/f
+done
+tree=HEAD
+each_form "$room/paths" of_tree
+: >"$room/input"
+cd 'a b'
+of_tree -a f ../f sub/f "$room/entries/é/f"
+cd ..
+for tree in HEAD:.gitattributes 0123456789012345678901234567890123456789; do
+    newer 0 'f: top: unspecified\n' --source="$tree" top f
+    GIT_ATTR_SOURCE=$tree
+    export GIT_ATTR_SOURCE
+    newer 0 'f: top: unspecified\n' top f
+    newer 0 'f: top: set\n' --cached top f
+    newer 0 'f: top: set\n' --source=HEAD top f
+    unset GIT_ATTR_SOURCE
+done
+for tree in none '' HEAD:none ':' "$line"; do
+    refused 128 'not a valid tree-ish source' --source "$tree" top f
+    refused 128 'not a valid tree-ish source' --source "$tree" --cached top f
+    GIT_ATTR_SOURCE=$tree
+    export GIT_ATTR_SOURCE
+    refused 128 'bad --attr-source or GIT_ATTR_SOURCE' top f
+    refused 128 'bad --attr-source or GIT_ATTR_SOURCE' --cached top f
+    newer 0 '' --stdin top
+    newer 0 'f: top: set\n' --source=HEAD top f
+    unset GIT_ATTR_SOURCE
+    git config attr.tree "$tree"
+    same top f
+    git config --unset attr.tree
+done
+
+part='bare repositories'
+quietly git clone -q --bare "$room/entries" "$room/bare"
+mkdir "$room/bare/info" 2>/dev/null || true
+cd "$room/bare"
+for contents in '' '* info\n[attr]m1 bare\n*.c m1\n'; do
+    printf "$contents" >info/attributes
+    same top -- f 'a b/f'
+    same -a f sub/f.c f/
+    printf 'f\n\nsub/f.c\n' >"$room/input"
+    same --stdin -a
+    : >"$room/input"
+    cached -a f sub/f.c
+    tree=HEAD
+    each_form "$room/paths" of_tree
+    : >"$room/input"
+    same text ../x
+    same text "$room/bare/f"
+done
+quietly git read-tree HEAD
+cached -a f 'a b/f' sub/f.c
+rm index
+cd refs
+same -a f.c
+tree=tagged
+of_tree -a f.c 'a b/f'
+cd "$room"
+GIT_DIR=$room/bare
+export GIT_DIR
+same -a f
+of_tree -a f.c 'a b/f'
+unset GIT_DIR
+
+part='sha256'
+git init -q --object-format=sha256 "$room/sha256"
+cd "$room/sha256"
+mkdir sub
+printf '* top\n' >.gitattributes
+printf '* sub\n' >sub/.gitattributes
+quietly git add -A
+quietly git commit -q -m made
+rm sub/.gitattributes
+same -a f sub/f
+cached -a f sub/f
+for tree in HEAD "$(git rev-parse HEAD)" HEAD:; do of_tree -a f sub/f; done
+newer 0 'f: top: unspecified\n' --source="$(git rev-parse HEAD | tr '[:alnum:]' 0)" top f
+
+part='sparse checkouts'
+git init -q "$room/sparse"
+cd "$room/sparse"
+mkdir -p in/sub out/sub
+for folder in . in in/sub out out/sub; do
+    printf '* %s\n' "$(echo "$folder" | tr './' 'ts')" >"$folder/.gitattributes"
+    : >"$folder/f"
+done
+quietly git add -A
+quietly git commit -q -m made
+git check-attr -a f in/f in/sub/f out/f out/sub/f out/none/f >"$room/whole"
+for form in '--cone' '--cone --sparse-index' '--no-cone'; do
+    quietly git sparse-checkout set $form in
+    [ ! -e out/f ] || failed 'the checkout is not sparse'
+    newer 0 "$(cat "$room/whole")\n" -a f in/f in/sub/f out/f out/sub/f out/none/f
+    newer 0 "$(cat "$room/whole")\n" --cached -a f in/f in/sub/f out/f out/sub/f out/none/f
+    newer 0 "$(cat "$room/whole")\n" --source=HEAD -a f in/f in/sub/f out/f out/sub/f out/none/f
+done
+
+part='submodules and modes'
+git init -q "$room/modes"
+cd "$room/modes"
+git init -q sub
+printf '* inner\n' >sub/.gitattributes
+git -C sub add .gitattributes
+quietly git -C sub commit -q -m made
+printf '* outer\n' >.gitattributes
+mkdir directory
+: >plain
+: >program
+chmod +x program
+ln -s plain link
+all='plain directory directory/ program link sub'
+newer 0 "$(for it in 100644:plain 040000:directory 040000:directory/ 100755:program 120000:link 160000:sub; do
+    echo "${it#*:}: builtin_objectmode: ${it%%:*}"
+done)\n" builtin_objectmode -- $all
+newer 0 'plain: builtin_objectmode: unspecified\nsub: builtin_objectmode: unspecified\n' --cached builtin_objectmode -- plain sub
+git add plain program link sub >"$room/said" 2>&1
+newer 0 "$(for it in 100644:plain unspecified:directory unspecified:directory/ 100755:program 120000:link 160000:sub; do
+    echo "${it#*:}: builtin_objectmode: ${it%%:*}"
+done)\n" --cached builtin_objectmode -- $all
+rm -rf sub/.git
+newer 0 'sub: outer: set\nsub: builtin_objectmode: 160000\n' outer builtin_objectmode -- sub
+newer 128 '' builtin_objectmode -- none
+newer 128 '' builtin_objectmode outer -- .
+newer 128 '' outer builtin_objectmode -- plain/
+newer 128 'plain: outer: set\nplain: builtin_objectmode: 100644\n' outer builtin_objectmode -- plain none
+same -a plain sub/f sub/none/f
+(cd sub && same -a f ../plain)
 
 part='a file beside a folder of its name'
 git init -q "$room/namesakes"
@@ -457,6 +805,9 @@ streams() {
 if [ -w /dev/full ]; then
     streams '-a f >/dev/full'
     streams '--stdin -z x <.gitattributes >/dev/full'
+    printf '!n x\n* x\n' >.gitattributes
+    streams '-a f 2>/dev/full'
+    printf '* x\n' >.gitattributes
 fi
 streams '-a f >&-'
 streams '-a f <&-'
@@ -465,6 +816,8 @@ streams '--stdin -a <&-'
 streams '-a f <&- >&- 2>&-'
 git check-attr -a f >"$room/git"
 for limit in 8 9 10 11 12 13 14 16; do
+    # A script in the place of git takes descriptors itself.
+    if [ "$is_usual" = no ]; then break; fi
     status=0
     (ulimit -n $limit && exec "$tool" -a f) >"$room/ours" 2>"$room/errors" || status=$?
     case $status in
@@ -475,17 +828,135 @@ for limit in 8 9 10 11 12 13 14 16; do
     count=$((count + 1))
 done
 
-part='code of the folder'
+part='JSON'
+cd "$room/odd"
+quietly git add -A
+printf '* x=\377\001"\\ü no\n' >>.git/info/attributes
+"$top/tests/check_attr_json.py" "$tool" "$room/odd" || failed 'JSON says something else'
+"$top/tests/check_attr_json.py" "$tool" "$room/made" || failed 'JSON says something else'
 cd "$room/top"
-for name in re getopt os signal shutil subprocess contextlib encodings; do
-    printf 'open("%s/ran", "w")\n' "$room" >$name.py
+ours --json x no -- f
+printf '{"path":"f","attributes":[{"name":"x","state":"set","source":".gitattributes","line":1,"pattern":"*","macro":null},' >"$room/wanted"
+printf '{"name":"no","state":"unspecified","source":null,"line":null,"pattern":null,"macro":null}]}\n' >>"$room/wanted"
+diff "$room/wanted" "$room/ours" || failed 'JSON is printed otherwise'
+rm .gitattributes
+XDG_CONFIG_HOME=$room/none
+export XDG_CONFIG_HOME
+ours --json -a f ''
+unset XDG_CONFIG_HOME
+printf '{"path":"f","attributes":[]}\n{"path":"","attributes":[]}\n' | diff - "$room/ours" || failed 'a path without attributes has no JSON'
+printf '* x\n' >.gitattributes
+for words in --help '--version' '-a --help'; do
+    ours $words
+    [ "$status" = 0 ] && [ -s "$room/ours" ] && [ ! -s "$room/errors" ] || failed "$words: status $status"
+    count=$((count + 1))
 done
-PYTHONPATH=:$room/nowhere
-PYTHONSTARTUP=$room/top/re.py
-export PYTHONPATH PYTHONSTARTUP
-same -a f
-unset PYTHONPATH PYTHONSTARTUP
-[ ! -e "$room/ran" ] || failed 'a file of the folder was run'
+if command -v groff >/dev/null; then
+    groff -man -ww -z "$top/clients/rust/check-attr/man/check-attr.1" 2>&1 | diff /dev/null - || failed 'groff warns of the man page'
+else
+    echo 'check_attr_tool: there is no groff here, so the man page is left out'
+fi
+
+part='a reader that has gone'
+cd "$room/made"
+git ls-files >"$room/many"
+for reader in 'head -n 1' true; do
+    for program in 'git check-attr' "$tool"; do
+        {
+            status=0
+            GIT_FLUSH=1 $program --stdin -a <"$room/many" 2>"$room/errors" || status=$?
+            echo $status >"$room/status"
+        } | $reader >/dev/null
+        [ "$(cat "$room/status")" = 141 ] || failed "$program ends with $(cat "$room/status") where its reader has gone"
+    done
+    [ "$(grep -v ' is left out: ' "$room/errors")" = '' ] || failed 'it says something where its reader has gone'
+done
+: >"$room/input"
+
+part='answers path by path'
+"$top/tests/check_attr_stream.py" "$tool" || failed 'a path is not answered before the next'
+
+part='no plain file'
+cd "$room/top"
+git init -q "$room/pipes"
+cd "$room/pipes"
+mkdir sub
+printf '* top\n' >.gitattributes
+printf '* sub\n' >sub/.gitattributes
+quietly git add -A
+rm sub/.gitattributes
+git config core.attributesFile "$room/none/attributes"
+same -a f sub/f
+cp "$room/git" "$room/wanted"
+mkfifo sub/.gitattributes .git/info/attributes
+git config core.attributesFile /dev/zero
+timeout 10 "$tool" -a f sub/f >"$room/ours" 2>"$room/errors" || failed 'it waits for a pipe'
+cmp "$room/wanted" "$room/ours" || failed 'a pipe is no missing file'
+count=$((count + 1))
+
+part='what may not be read'
+mkdir "$room/others"
+cp -R "$room/files" "$room/others/files"
+cp "$tool" "$room/others/check-attr"
+cd "$room/others/files"
+rm -f .git/info/attributes
+printf '* top\n' >.gitattributes
+printf '* deep\n' >sub/deep/.gitattributes
+printf '[safe]\n\tdirectory = *\n' >"$room/others/config"
+git config core.attributesFile "$room/others/files/user"
+printf '* user\n' >user
+printf '* info\n' >.git/info/attributes
+quietly git add -A
+chmod -R a+rX "$room/others"
+chmod 711 "$room"
+# Root may read all, so root runs both as the user 65534.
+if [ "$(id -u)" = 0 ]; then
+    plainly() { setpriv --reuid=65534 --regid=65534 --clear-groups "$@"; }
+else
+    plainly() { "$@"; }
+fi
+GIT_CONFIG_GLOBAL=$room/others/config
+export GIT_CONFIG_GLOBAL
+for place in user .git/info/attributes .gitattributes sub/deep/.gitattributes sub/deep sub; do
+    chmod 0 $place
+    theirs=0 status=0
+    plainly git check-attr -a f sub/f sub/deep/f >"$room/git" 2>"$room/warnings" || theirs=$?
+    plainly "$room/others/check-attr" -a f sub/f sub/deep/f >"$room/ours" 2>"$room/errors" || status=$?
+    as_git -a "without $place"
+    grep 'Permission denied' "$room/warnings" | sort -u >"$room/wanted"
+    [ -s "$room/wanted" ] || failed "$place can be read"
+    grep 'Permission denied' "$room/errors" | sort -u | diff "$room/wanted" - || failed "git warns otherwise of $place"
+    chmod 755 $place
+done
+unset GIT_CONFIG_GLOBAL
+
+part='no child is left'
+if [ -e /proc/$$/task/$$/children ]; then
+    cd "$room/index"
+    mkfifo "$room/questions"
+    GIT_FLUSH=1 "$tool" --stdin -a <"$room/questions" >"$room/ours" 2>"$room/errors" &
+    tool_id=$!
+    exec 3>"$room/questions"
+    printf 'a/f\na/b/f\n' >&3
+    # The process that answers from the index, once it runs.
+    child=
+    for tries in 1 2 3 4 5 6 7 8 9 10; do
+        child=$(cat "/proc/$tool_id/task/$tool_id/children")
+        if [ -n "$child" ] && grep -q a/b/f "$room/ours"; then break; fi
+        sleep 1
+    done
+    kill -KILL $tool_id
+    exec 3>&-
+    wait $tool_id 2>/dev/null || true
+    for tries in 1 2 3 4 5 6 7 8 9 10; do
+        if [ ! -e "/proc/${child% }" ]; then break; fi
+        sleep 1
+    done
+    if [ -z "$child" ] || [ -e "/proc/${child% }" ]; then failed "a child is left: $child"; fi
+    count=$((count + 1))
+else
+    echo 'check_attr_tool: there is no list of children in /proc, so this is left out: what a kill leaves'
+fi
 
 part='what is ours'
 git init -q "$room/ours_alone"
@@ -512,11 +983,11 @@ END
 ours --show-origin text eol diff -- a.c sub/b.c x.z "sub/q\"t${tab}1"
 diff "$room/wanted" "$room/ours" || failed '--show-origin says something else'
 cat >"$room/wanted" <<'END'
-warning: sub/.gitattributes:2 is left out: macros are allowed at the top only
 warning: .gitattributes:3 is left out: its pattern is negative
 warning: .gitattributes:5 is left out: an attribute has a bad name
 warning: .gitattributes:6 is left out: its macro has a bad name
 warning: .gitattributes:7 is left out: an attribute has a name that is reserved
+warning: sub/.gitattributes:2 is left out: macros are allowed at the top only
 END
 diff "$room/wanted" "$room/errors" || failed 'the lines that are left out are told otherwise'
 cat >"$room/wanted" <<'END'
