@@ -3,12 +3,13 @@
 
 An `sh` block is run by sh from the top of the repository, and has to end with status 0. If a `text` block follows in the same
 section, it is what the commands write to standard output. A `text` block without commands is the contents of a file
-examples/*.answers. A `rust` block is a part of a program examples/*.rt.in, which examples/run.sh runs. Links lead to files
-and headings that are there, and the README has at most 150 lines of at most 120 columns.
+examples/*.answers. A `rust` block is a part of a program examples/*.rt.in, which examples/run.sh runs, or of an example of the Rust
+package. Links lead to files and headings that are there, and the README has at most 150 lines of at most 120 columns.
 
-Folders below /tmp are made in a folder of their own for each page. Nothing is proved: `rt run < stdin` is answered by the program
-that the gate has built, and blocks with other commands that prove are left out, which is reported. The pages are read side by
-side, in some two minutes: `rt try` takes most of that.
+Folders below /tmp are made in a folder of their own for each page. There /tmp/yektrod is the directory of tools/c-library that
+YEKTROD_DIRECTORY names; without it blocks that use the library are left out, which is reported. Nothing is proved: `rt run <
+stdin` is answered by the program that the gate has built, and blocks with other commands that prove are left out, which is
+reported. The pages are read side by side, in some two minutes: `rt try` takes most of that.
 
 usage: docs.py [PAGE..], all pages without any
 """
@@ -24,11 +25,13 @@ import textwrap
 
 TOP = os.path.realpath(os.path.join(os.path.dirname(os.path.abspath(__file__)), '..'))
 PROGRAM = 'crates/check_attr_cli/out/check_attr_cli'
+RUST = 'clients/rust/yektrod/examples'
 WITH_COMMANDS = ['README.md', 'CONTRIBUTING.md', 'docs/SCRIPT.md', 'docs/LIBRARY.md', 'docs/FROM_GITOXIDE.md',
-                 'docs/CHECK_ATTR.md', 'examples/README.md']
+                 'docs/CHECK_ATTR.md', 'docs/C.md', 'docs/PYTHON.md', 'docs/RUST.md', 'examples/README.md']
 # What proves, and so takes too long here. The gate itself runs all but the wrong bodies.
 PROVES = re.compile(r'\brt (run|ci|check|test|lib|verdict|all|must-fail|plant|tidy|names)\b|\.ci/run|wrong_bodies\.sh')
 SECONDS = 900
+LIBRARY = os.environ.get('YEKTROD_DIRECTORY')
 
 
 class Block:
@@ -59,9 +62,9 @@ def read(path):
         return file.read()
 
 
-def examples(ending):
-    names = sorted(it for it in os.listdir(os.path.join(TOP, 'examples')) if it.endswith(ending))
-    return {name: read('examples/' + name) for name in names}
+def examples(ending, folder='examples'):
+    names = sorted(it for it in os.listdir(os.path.join(TOP, folder)) if it.endswith(ending))
+    return {name: read(os.path.join(folder, name)) for name in names}
 
 
 class Checks:
@@ -76,6 +79,8 @@ class Checks:
 
     def page(self, page):
         room, last = tempfile.mkdtemp(), None
+        if LIBRARY:
+            os.symlink(os.path.realpath(LIBRARY), os.path.join(room, 'yektrod'))
         for block in blocks_of(page):
             if block.language == 'sh':
                 self.run(page, block, room)
@@ -91,8 +96,10 @@ class Checks:
         block.output = None
         commands = block.text.replace('rt run < stdin', 'out/check_attr_cli < stdin')
         if PROVES.search(commands):
-            self.left_out += 1
-            print('docs: %s:%d is left out, since it proves: %s' % (page, block.line, commands.strip().split('\n')[0]))
+            self.leave_out(page, block, 'it proves')
+            return
+        if not LIBRARY and '/tmp/yektrod/' in commands:
+            self.leave_out(page, block, 'YEKTROD_DIRECTORY names no library for C')
             return
         try:
             done = subprocess.run(['sh', '-c', commands.replace('/tmp/', room + '/')], cwd=TOP, env=environment(room),
@@ -106,6 +113,10 @@ class Checks:
         if done.returncode != 0:
             self.fail(page, block.line, 'status %d\n%s%s' % (done.returncode, block.output, block.errors))
 
+    def leave_out(self, page, block, why):
+        self.left_out += 1
+        print('docs: %s:%d is left out, since %s: %s' % (page, block.line, why, block.text.split('\n')[0]))
+
     def text(self, page, block, commands):
         if commands is None or commands.heading != block.heading:
             if block.text not in examples('.answers').values():
@@ -117,7 +128,7 @@ class Checks:
 
     def code(self, page, block):
         wanted = textwrap.dedent(block.text).rstrip('\n').split('\n')
-        for program in examples('.rt.in').values():
+        for program in [*examples('.rt.in').values(), *examples('.rs', RUST).values()]:
             lines = program.split('\n')
             for start in range(len(lines) - len(wanted) + 1):
                 part = '\n'.join(lines[start:start + len(wanted)])
@@ -159,16 +170,19 @@ def anchors(page):
 
 
 def environment(room):
-    """That of a user without attributes files and configuration of their own."""
+    """That of a user without attributes files and configuration of their own. A cargo of rustup finds its toolchains."""
     kept = {name: value for name, value in os.environ.items() if not name.startswith(('GIT_', 'XDG_', 'YEKTROD_'))}
     home = os.path.join(room, 'home')
     os.makedirs(home, exist_ok=True)
-    return {**kept, 'HOME': home, 'GIT_CONFIG_NOSYSTEM': '1', 'GIT_ATTR_NOSYSTEM': '1', 'LC_ALL': 'C'}
+    rust = {'RUSTUP_HOME': os.environ.get('RUSTUP_HOME', os.path.expanduser('~/.rustup')), 'CARGO_NET_OFFLINE': 'true',
+            'CARGO_TARGET_DIR': os.path.join(room, 'target')}
+    return {**kept, **rust, 'HOME': home, 'GIT_CONFIG_NOSYSTEM': '1', 'GIT_ATTR_NOSYSTEM': '1', 'LC_ALL': 'C',
+            'PYTHONDONTWRITEBYTECODE': '1'}
 
 
 def main():
     os.chdir(TOP)
-    if not os.access(PROGRAM, os.X_OK):
+    if not sys.argv[1:] and not os.access(PROGRAM, os.X_OK):
         sys.exit('docs: there is no program %s: build it by `rt ci`, or by `rt run` in its crate' % PROGRAM)
     checks = Checks()
     checks.readme()
