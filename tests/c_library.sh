@@ -150,4 +150,4 @@ if has clang 'the clients as it compiles them'; then clients clang; fi
 YEKTROD_LIBRARY=$room/yektrod/lib/libyektrod.so PYTHONDONTWRITEBYTECODE=1 \
     python3 "$top/clients/python/test_yektrod.py" "$top/examples" "$top/crates/script_rows/data"
 "$top/tests/trees.sh" "$room/yektrod"
-YEKTROD_DIRECTORY=$room/yektrod "$top/tests/docs.py" docs/C.md docs/PYTHON.md
+YEKTROD_DIRECTORY=$room/yektrod "$top/tests/docs.py" docs/C.md docs/PYTHON.md docs/RUST.md
