@@ -2,12 +2,12 @@
 # Tells the attributes of all paths of made commits by clients/c/tree.c, clients/python/tree.py and a stack in Python, and
 # compares them with `git check-attr --cached` over an index that `git read-tree` makes of the commit. Then it runs
 # clients/python/test_stack.py.
-# usage: trees.sh DIRECTORY [FILES], a directory of tools/c-library, and how many files the largest commit has (2000). With more,
-# there are also files of 100 MB.
+# usage: trees.sh DIRECTORY [large]
+# DIRECTORY is one of tools/c-library. The largest commit has ten thousand files; with `large` there are also files of 100 MB.
 set -eu
 top=$(cd "$(dirname "$0")/.." && pwd)
 library=$(cd "$1" && pwd)
-files=${2:-2000}
+large=${2:-}
 room=$(mktemp -d)
 trap 'rm -rf "$room"' EXIT
 GIT_ATTR_NOSYSTEM=1
@@ -67,7 +67,7 @@ committer a <a@b.c> 1000000000 +0000
 data 0
 '
 
-"$top/tests/made_tree.py" 1 "$files" | bare "$room/many.git"
+"$top/tests/made_tree.py" 1 10000 | bare "$room/many.git"
 cd "$room/many.git"
 compare 'bare'
 mkdir -p info
@@ -104,7 +104,7 @@ grep -q 'overly long attributes line 2' "$room/warnings" && grep -q 'overly long
     ! grep -q 'line [135]' "$room/warnings" || fail 'the lines are not near the limit'
 
 # A file of 104,857,599 bytes is read, and one of 104,857,600 is not.
-if [ "$files" -gt 2000 ]; then
+if [ "$large" = large ]; then
     {
         echo "$head"
         for size in 104857599 104857600; do
