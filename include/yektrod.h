@@ -165,6 +165,7 @@ int32_t yektrod_add(yektrod *y, const uint8_t *bytes, size_t length, const uint8
 
 /* Adds the list of an attributes file as the last one, as yektrod_add does, below a directory of any bytes. `list` gets its index,
    and `dropped` the number of lines that were dropped.
+   No path lies below a directory that is INVALID, so its list is not needed.
    Returns DONE, NO_MEMORY, CLOSED, INVALID (the directory begins or ends with a slash, or has `//` or a part `.` or `..`). */
 int32_t yektrod_add_in(yektrod *y, const uint8_t *bytes, size_t length, const yektrod_place *place, bool allow_macros,
                        size_t *list, size_t *dropped);
@@ -209,8 +210,8 @@ int32_t yektrod_answer(yektrod *y, size_t i, yektrod_answer_t *answer);
    Returns DONE, CLOSED, NOT_FOUND (also if `which` is none of the five), BUFFER_TOO_SMALL. */
 int32_t yektrod_text(yektrod *y, size_t i, int32_t which, uint8_t *to, size_t room, size_t *needed);
 
-/* The answer to the last question for the attribute with this number, whatever is selected, with its texts at the front of `text`. It
-   is there for each selected name, and for each macro that is the cause of an answer, of its cause, and so on; without a selection for
+/* The answer to the last question for the attribute with this number, whatever is selected, with its texts at the front of `text`,
+   which so is another room than that of answers which are still read. It is there for each selected name, and for each macro that is the cause of an answer, of its cause, and so on; without a selection for
    all. For another attribute it may be NOT_FOUND. An attribute that a line sets to unspecified (`!x`) has an answer with a source; one
    that no line names is NOT_FOUND. `needed` gets the length of the texts, with BUFFER_TOO_SMALL too, and the row is zero then.
    Returns DONE, CLOSED, NOT_FOUND, BUFFER_TOO_SMALL. */
