@@ -1,45 +1,113 @@
 #!/usr/bin/env python3
-# Checks that every wrong body still applies: each `old:` text of the edits in crates/*/must-fail and
-# crates/*/wrong-bodies occurs exactly once in its file (that of a later pair in what the earlier ones made), and no
-# `new:` text is its `old:` text. It takes a second and proves nothing: `rt ci` and tests/wrong_bodies.sh do.
+"""The wrong bodies: edits that the prover must refuse, those of crates/*/must-fail/*.edit and crates/*/wrong-bodies.edits.
+
+usage: edits.py                        checks that each edit still applies; it takes a second and proves nothing
+       edits.py split CRATE FOLDER     writes the edits of the crate's wrong-bodies.edits to FOLDER, a file NAME.edit for each
+
+A file of edits has the text of each below a line `== NAME`, with an empty line between two of them, in the order of their
+names. The text of an edit is that of a file of must-fail: a line `file: src/..`, and pairs of lines `old: ..` and
+`new: ..`. Each `old:` text has to stand exactly once in its file (that of a later pair in what the earlier ones made),
+and no `new:` text may be its `old:` text.
+"""
 import glob
 import os
+import re
 import sys
 
+TOP = os.path.join(os.path.dirname(os.path.abspath(__file__)), '..')
+MORE = 'wrong-bodies.edits'
 
-def faults(path):
+
+def read(path):
+    with open(path, encoding='utf-8', newline='') as file:
+        return file.read()
+
+
+def split(text):
+    """The edits of such a file: pairs of a name and a text."""
+    parts = re.split('^== (.*)\n', text, flags=re.MULTILINE)[1:]
+    return [(name, body.rstrip('\n') + '\n') for name, body in zip(parts[::2], parts[1::2])]
+
+
+def joined(edits):
+    """The file of these edits."""
+    return '\n'.join('== %s\n%s' % edit for edit in edits)
+
+
+def faults_of_file(text):
+    """What is wrong with a file of edits, a sentence each."""
+    names = [name for name, _ in split(text)]
+    if joined(split(text)) != text:
+        yield 'it is not edits below lines `== NAME`, with an empty line between two of them'
+    for name in names:
+        if not re.fullmatch('[a-z0-9_]+', name):
+            yield 'this is no name of an edit: ' + name
+    for before, after in zip(names, names[1:]):
+        if not before < after:
+            yield '%s does not stand before %s' % (after, before)
+
+
+def faults(crate, edit):
     """What is wrong with an edit, a sentence each."""
-    crate = os.path.dirname(os.path.dirname(path))
-    text = old = None
-    for line in open(path, encoding='utf-8').read().split('\n'):
+    text = old = target = None
+    pairs = 0
+    for line in edit.split('\n'):
         if line.startswith('file: '):
             target = os.path.join(crate, line[len('file: '):].strip())
             if not os.path.exists(target):
                 yield 'there is no file ' + target
                 return
-            text = open(target, encoding='utf-8').read()
-        elif line.startswith('old:'):
+            text = read(target)
+        elif line.startswith('old: ') and text is not None:
             old = line[len('old: '):]
             if text.count(old) != 1:
                 yield 'this text occurs %d times in %s: %s' % (text.count(old), target, old.strip())
-        elif line.startswith('new:'):
+        elif line.startswith('new:') and old is not None:
             new = line[len('new: '):]
             if new.strip() == old.strip():
                 yield 'the new text is the old one: ' + new.strip()
             text = text.replace(old, new, 1)
+            old, pairs = None, pairs + 1
+        elif line:
+            yield 'this line has no place in an edit: ' + line
+    if old is not None or not pairs:
+        yield 'it does not end with a pair of `old:` and `new:`'
 
 
-def main():
-    os.chdir(os.path.join(os.path.dirname(os.path.abspath(__file__)), '..'))
-    edits = sorted(glob.glob('crates/*/must-fail/*.edit') + glob.glob('crates/*/wrong-bodies/*.edit'))
-    bad = 0
-    for path in edits:
-        for fault in faults(path):
-            bad += 1
-            print('edits: %s: %s' % (path, fault))
-    if bad or not edits:
+def check():
+    count = bad = 0
+    for crate in sorted(glob.glob('crates/*')):
+        kept = os.path.join(crate, MORE)
+        edits = [(path, read(path)) for path in sorted(glob.glob(crate + '/must-fail/*.edit'))]
+        told = []
+        if os.path.exists(kept):
+            edits += [('%s: %s' % (kept, name), text) for name, text in split(read(kept))]
+            told = [(kept, fault) for fault in faults_of_file(read(kept))]
+        told += [(name, fault) for name, text in edits for fault in faults(crate, text)]
+        for name, fault in told:
+            print('edits: %s: %s' % (name, fault))
+        count += len(edits)
+        bad += len(told)
+    if bad or not count:
         sys.exit(1)
-    print('edits: all %d apply' % len(edits))
+    print('edits: all %d apply' % count)
 
 
-main()
+def write_split(crate, folder):
+    kept = os.path.join(TOP, 'crates', crate, MORE)
+    for name, text in split(read(kept)) if os.path.exists(kept) else []:
+        with open(os.path.join(folder, name + '.edit'), 'w', encoding='utf-8', newline='') as file:
+            file.write(text)
+
+
+def main(words):
+    if not words:
+        os.chdir(TOP)
+        check()
+    elif words[0] == 'split' and len(words) == 3:
+        write_split(*words[1:])
+    else:
+        sys.exit('usage: edits.py [split CRATE FOLDER]')
+
+
+main(sys.argv[1:])

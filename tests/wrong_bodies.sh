@@ -1,6 +1,6 @@
 #!/bin/sh
-# Tries the wrong bodies in crates/*/wrong-bodies: the prover must refuse each. They are edits like those in
-# crates/*/must-fail, which the gate tries, but there are more than a gate has time for.
+# Tries the wrong bodies in crates/*/wrong-bodies.edits: the prover must refuse each. They are edits like those in
+# crates/*/must-fail, which the gate tries, but there are more than a gate has time for. tests/edits.py has their layout.
 # usage: wrong_bodies.sh [CRATE [NAME..]]
 # Without arguments those of all crates are tried, which takes hours. With a crate its own are tried, and with
 # names only these, in minutes; a name may be in the crate's must-fail too. What `rt check` kept of the libraries below
@@ -15,6 +15,28 @@ wrong() {
     exit 1
 }
 
+# Puts edits of a crate where `rt must-fail` finds them: those that are named, or else all in its wrong-bodies.edits.
+put_edits() {
+    crate=$1
+    shift
+    [ -d "$top/crates/$crate" ] || wrong "there is no crate $crate"
+    to=$room/crates/$crate/must-fail
+    mkdir "$to" "$room/edits"
+    "$top/tests/edits.py" split "$crate" "$room/edits"
+    [ $# != 0 ] || mv "$room/edits"/* "$to" 2>"$room/errors" || wrong "$crate has no wrong-bodies.edits"
+    for name in "$@"; do
+        name=${name%.edit}
+        cp "$room/edits/$name.edit" "$to" 2>"$room/errors" || cp "$top/crates/$crate/must-fail/$name.edit" "$to" 2>"$room/errors" ||
+            wrong "$crate has no edit $name in wrong-bodies.edits or must-fail"
+    done
+    rm -r "$room/edits"
+}
+
+# `rt must-fail`, and afterwards its status in a file.
+try() {
+    (cd "$room" && rt must-fail "$@") || echo $? >"$room/status"
+}
+
 "$top/tests/copy_crates.sh" "$room"
 for crate in "$top"/crates/*/; do
     if [ -d "$crate/out/rlib" ]; then
@@ -23,28 +45,14 @@ for crate in "$top"/crates/*/; do
     fi
 done
 if [ $# = 0 ]; then
-    for edits in "$top"/crates/*/wrong-bodies; do
-        cp -r "$edits" "$room/crates/$(basename "$(dirname "$edits")")/must-fail"
+    for edits in "$top"/crates/*/wrong-bodies.edits; do
+        put_edits "$(basename "$(dirname "$edits")")"
     done
 else
-    crate=$1
-    shift
-    from=$top/crates/$crate
-    to=$room/crates/$crate/must-fail
-    [ -d "$from" ] || wrong "there is no crate $crate"
-    mkdir "$to"
-    for name in "$@"; do
-        name=${name%.edit}
-        cp "$from/wrong-bodies/$name.edit" "$to" 2>"$room/errors" || cp "$from/must-fail/$name.edit" "$to" 2>"$room/errors" ||
-            wrong "$crate has no edit $name in wrong-bodies or must-fail"
-    done
-    if [ $# = 0 ]; then
-        cp "$from"/wrong-bodies/*.edit "$to" 2>"$room/errors" || wrong "$crate has no edits in wrong-bodies"
-    fi
-    set -- "$crate"
+    put_edits "$@"
+    set -- "$1"
 fi
-cd "$room"
-{ rt must-fail "$@" || echo $? >"$room/status"; } | tee "$room/said"
+try "$@" | tee "$room/said"
 
 # The edits of which a line says this.
 told() {
