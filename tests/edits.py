@@ -3,6 +3,7 @@
 
 usage: edits.py                        checks that each edit still applies; it takes a second and proves nothing
        edits.py split CRATE FOLDER     writes the edits of the crate's wrong-bodies.edits to FOLDER, a file NAME.edit for each
+       edits.py draw SEED              draws three edits of each of two crates by the text SEED: a line `CRATE NAME NAME NAME` each
 
 A file of edits has the text of each below a line `== NAME`, with an empty line between two of them, in the order of their
 names. The text of an edit is that of a file of must-fail: a line `file: src/..`, and pairs of lines `old: ..` and
@@ -10,12 +11,16 @@ names. The text of an edit is that of a file of must-fail: a line `file: src/..`
 and no `new:` text may be its `old:` text.
 """
 import glob
+import hashlib
 import os
 import re
 import sys
 
 TOP = os.path.join(os.path.dirname(os.path.abspath(__file__)), '..')
 MORE = 'wrong-bodies.edits'
+# Crates that are quick to prove, so that the first proofs of two and three edits of each fit in six minutes on two processors.
+# Those of attr_glob take six minutes of a busy processor, those of attr_keys six and a half.
+QUICK = ['attr_engine', 'attr_index', 'attr_table', 'worktree']
 
 
 def read(path):
@@ -93,11 +98,23 @@ def check():
     print('edits: all %d apply' % count)
 
 
-def write_split(crate, folder):
+def edits_of(crate):
     kept = os.path.join(TOP, 'crates', crate, MORE)
-    for name, text in split(read(kept)) if os.path.exists(kept) else []:
+    return split(read(kept)) if os.path.exists(kept) else []
+
+
+def write_split(crate, folder):
+    for name, text in edits_of(crate):
         with open(os.path.join(folder, name + '.edit'), 'w', encoding='utf-8', newline='') as file:
             file.write(text)
+
+
+def draw(seed):
+    def rank(name):
+        return hashlib.sha256((seed + ' ' + name).encode()).digest()
+
+    for crate in sorted(QUICK, key=rank)[:2]:
+        print(crate, *sorted([name for name, _ in edits_of(crate)], key=rank)[:3])
 
 
 def main(words):
@@ -106,8 +123,10 @@ def main(words):
         check()
     elif words[0] == 'split' and len(words) == 3:
         write_split(*words[1:])
+    elif words[0] == 'draw' and len(words) == 2:
+        draw(words[1])
     else:
-        sys.exit('usage: edits.py [split CRATE FOLDER]')
+        sys.exit('usage: edits.py [split CRATE FOLDER | draw SEED]')
 
 
 main(sys.argv[1:])
