@@ -7,6 +7,8 @@ set -eu
 top=$(cd "$(dirname "$0")/.." && pwd)
 room=$(mktemp -d)
 trap 'rm -rf "$room"' EXIT
+# The comparison runs git as another user, too.
+chmod 711 "$room"
 mkdir "$room/lists" "$room/cache" "$room/bin" "$room/root"
 key=/usr/share/keyrings/debian-archive-keyring.gpg
 echo "deb [signed-by=$key] http://deb.debian.org/debian unstable main" >"$room/sources"
