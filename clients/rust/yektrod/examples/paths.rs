@@ -24,7 +24,8 @@ impl Reader for Directories {
         self.path.clear();
         self.path.push(OsStr::from_bytes(directory));
         self.path.push(".gitattributes");
-        match fs::read(&self.path) {
+        // Most directories have none, and a look costs less than an open that fails.
+        match fs::metadata(&self.path).and_then(|_| fs::read(&self.path)) {
             Ok(contents) => Ok(Some(contents)),
             Err(error) if is_missing(&error) => Ok(None),
             Err(error) => Err(error),

@@ -112,8 +112,10 @@ pub struct Stack<R> {
     lists: Lists,
     /// How many bytes the lists may take that don't apply to the last path. It grows with each list that is added again.
     spare: usize,
-    /// The directory whose lists stand, if they do: that of the last path.
-    directory: Option<Vec<u8>>,
+    /// The directory that was entered last.
+    directory: Vec<u8>,
+    /// Whether the lists of that directory stand.
+    stands: bool,
 }
 
 impl<R: Reader> Stack<R> {
@@ -151,7 +153,7 @@ impl<R: Reader> Stack<R> {
             limits.lists = 0;
         }
         let lists = Lists::new(system.into_iter().chain(user), info)?;
-        Ok(Stack { reader, case, limits, tree: Tree::default(), lists, spare: 0, directory: None })
+        Ok(Stack { reader, case, limits, tree: Tree::default(), lists, spare: 0, directory: Vec::new(), stands: false })
     }
 
     /// Selects the names that are looked up, as [`Engine::select`](crate::Engine::select) does.
@@ -185,7 +187,7 @@ impl<R: Reader> Stack<R> {
             _ => (path, is_dir),
         };
         let directory = tree::directory_of(path).ok_or(AskError::InvalidPath)?;
-        if self.directory.as_deref() != Some(directory) {
+        if !self.stands || self.directory != directory {
             self.enter(directory)?;
         }
         Ok(self.lists.engine.ask(path, self.case, is_dir)?)
@@ -219,12 +221,12 @@ impl<R: Reader> Stack<R> {
 
     /// Brings the lists of a directory to the engine.
     fn enter(&mut self, directory: &[u8]) -> Result<(), AskError> {
-        let mut kept = self.directory.take().unwrap_or_default();
+        self.stands = false;
         let nearest = self.nearest(directory)?;
         self.stand(nearest)?;
-        kept.clear();
-        kept.extend_from_slice(directory);
-        self.directory = Some(kept);
+        self.directory.clear();
+        self.directory.extend_from_slice(directory);
+        self.stands = true;
         Ok(())
     }
 
