@@ -669,6 +669,53 @@ cached -a f sub/f
 for tree in HEAD "$(git rev-parse HEAD)" HEAD:; do of_tree -a f sub/f; done
 newer 0 'f: top: unspecified\n' --source="$(git rev-parse HEAD | tr '[:alnum:]' 0)" top f
 
+part='corrupt objects'
+git init -q "$room/corrupt"
+cd "$room/corrupt"
+mkdir -p sub/deep
+printf '* top\n' >.gitattributes
+printf '* sub\n' >sub/.gitattributes
+: >sub/deep/f
+quietly git add -A
+quietly git commit -q -m made
+rm sub/.gitattributes
+# Writes bytes in the place of a loose object: what follows the two words, compressed, or without them nothing of an object.
+spoil() {
+    python3 -c '
+import os, sys, zlib
+path = ".git/objects/%s/%s" % (sys.argv[1][:2], sys.argv[1][2:])
+os.chmod(path, 0o644)
+with open(path, "wb") as out:
+    out.write(zlib.compress(os.fsencode("%s %s" % (*sys.argv[2:4],)) + b"\0* sub\n") if len(sys.argv) > 2 else b"broken")
+' "$@"
+}
+blob=$(git rev-parse :sub/.gitattributes)
+tree=$(git rev-parse HEAD:sub)
+spoil "$blob"
+same -a f sub/f f
+cached -a sub/f f
+newer 128 'f: top: set\n' --source=HEAD top -- f sub/f f
+# Git doesn't see all of these.
+for size in 2 7 60 90000000 104857599; do
+    spoil "$blob" blob $size
+    ours top -- f sub/f
+    echo 'f: top: set' | diff - "$room/ours" || failed "a blob that isn't $size long is taken"
+    [ "$status" = 128 ] && grep -q "^fatal: object $blob is corrupt$" "$room/errors" || failed "a blob that isn't $size long is taken"
+    count=$((count + 1))
+done
+spoil "$blob" blob 200000000000
+ours -a f sub/f
+[ "$status" = 0 ] && grep -q "^warning: ignoring overly large gitattributes blob 'sub/.gitattributes'$" "$room/errors" ||
+    failed 'an overly large blob is read'
+spoil "$blob" tree 40
+same -a f sub/f
+spoil "$tree"
+newer 128 'f: top: set\n' --source=HEAD top -- f sub/f
+for size in 6 200000000000 20000000000000000000; do
+    spoil "$tree" tree $size
+    newer 128 'f: top: set\n' --source=HEAD top -- f sub/f
+done
+
 part='sparse checkouts'
 git init -q "$room/sparse"
 cd "$room/sparse"

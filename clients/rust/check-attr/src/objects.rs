@@ -1,8 +1,10 @@
-//! Objects of the repository, read by one `git cat-file --batch`.
+//! Objects of the repository, read by one `git cat-file`.
 
-use crate::failure::Failure;
+use crate::failure::{reason, shown, Failure};
 use crate::git::Git;
-use std::io::{self, BufRead, BufReader, ErrorKind, Read, Write};
+use std::ffi::OsStr;
+use std::io::{self, BufRead, BufReader, ErrorKind, Write};
+use std::os::unix::ffi::OsStrExt;
 use std::process::{Child, ChildStdin, ChildStdout};
 
 /// The objects of the repository. Git is started for the first of them.
@@ -39,32 +41,45 @@ impl Objects {
     /// [`Failure::Fatal`] if git can't be started, or has ended.
     pub fn find(&mut self, name: &[u8]) -> Result<Option<Found>, Failure> {
         let running = self.running()?;
-        let found = running.ask(name)?;
-        if let Some(found) = &found {
-            running.pass(found.size)?;
-        }
-        Ok(found)
+        running.ask(&[b"info ", name, b"\0"])?;
+        running.answer(name)
     }
 
-    /// What an object of this kind holds if it has fewer bytes than this. `None` if there is none of this kind and name.
+    /// What the object with this number holds if it has fewer bytes than this. `None` if there is none of this kind.
     ///
     /// # Errors
     ///
-    /// Those of [`Objects::find`].
-    pub fn contents(&mut self, name: &[u8], kind: &[u8], too_large: u64) -> Result<Option<Contents>, Failure> {
+    /// Those of [`Objects::find`], and [`Failure::Fatal`] if the object is corrupt.
+    pub fn contents(&mut self, id: &[u8], kind: &[u8], too_large: u64) -> Result<Option<Contents>, Failure> {
         let running = self.running()?;
-        let found = match running.ask(name)? {
+        // The answer to the second question marks the end of the contents, however long git says that they are.
+        running.ask(&[b"contents ", id, b"\0info ", id, b"\0"])?;
+        let found = match running.answer(id)? {
             Some(found) => found,
-            None => return Ok(None),
+            None => {
+                running.answer(id)?;
+                return self.refuse_corrupt(id).map(|()| None);
+            }
         };
         if found.kind != kind || found.size >= too_large {
-            running.pass(found.size)?;
+            // What is not wanted is not read: another git is started for the next object.
+            self.running = None;
             return Ok((found.kind == kind).then_some(Contents::TooLarge));
         }
-        let mut contents = vec![0; usize::try_from(found.size).map_err(|_| ended())?];
-        running.answers.read_exact(&mut contents).map_err(|_| ended())?;
-        running.pass(0)?;
-        Ok(Some(Contents::Whole(contents)))
+        match read_contents(&mut running.answers, &found) {
+            Ok(contents) => Ok(Some(Contents::Whole(contents))),
+            Err(error) if error.kind() == ErrorKind::InvalidData => Err(corrupt(id)),
+            Err(error) => Err(ended(error)),
+        }
+    }
+
+    /// Refuses an object that git tells as missing since it can't be read.
+    fn refuse_corrupt(&self, id: &[u8]) -> Result<(), Failure> {
+        let asked = self.git.output(&["cat-file".as_ref(), "-e".as_ref(), OsStr::from_bytes(id)])?;
+        if asked.status.success() {
+            return Err(corrupt(id));
+        }
+        Ok(())
     }
 
     fn running(&mut self) -> Result<&mut CatFile, Failure> {
@@ -76,43 +91,45 @@ impl Objects {
     }
 }
 
-/// A running `git cat-file --batch`. It ends when its input does.
+/// A running `git cat-file --batch-command`. It ends when its pipes are closed, so these are dropped before it is waited for.
 #[derive(Debug)]
 struct CatFile {
-    child: Child,
-    questions: Option<ChildStdin>,
+    questions: ChildStdin,
     answers: BufReader<ChildStdout>,
+    _child: Awaited,
+}
+
+/// A child that is waited for, however it ends.
+#[derive(Debug)]
+struct Awaited(Child);
+
+impl Drop for Awaited {
+    fn drop(&mut self) {
+        // It has nothing left to do.
+        let _ = self.0.wait();
+    }
 }
 
 impl CatFile {
     fn start(git: &Git) -> Result<CatFile, Failure> {
-        let mut child = git.start(&["cat-file", "--batch", "-z"])?;
-        let questions = child.stdin.take();
-        let answers = BufReader::new(child.stdout.take().ok_or_else(ended)?);
-        Ok(CatFile { child, questions, answers })
-    }
-
-    /// Asks for an object, and reads all but its contents.
-    fn ask(&mut self, name: &[u8]) -> Result<Option<Found>, Failure> {
-        let questions = self.questions.as_mut().ok_or_else(ended)?;
-        questions.write_all(&[name, b"\0"].concat()).map_err(|_| ended())?;
-        read_answer(&mut self.answers, name).map_err(|_| ended())
-    }
-
-    /// Passes over so many bytes, and the LF behind them.
-    fn pass(&mut self, size: u64) -> Result<(), Failure> {
-        match io::copy(&mut (&mut self.answers).take(size + 1), &mut io::sink()) {
-            Ok(passed) if passed == size + 1 => Ok(()),
-            _ => Err(ended()),
+        let mut child = git.start(&["cat-file", "--batch-command", "-z"])?;
+        let (questions, answers) = (child.stdin.take(), child.stdout.take());
+        match (questions, answers) {
+            (Some(questions), Some(answers)) => {
+                Ok(CatFile { questions, answers: BufReader::new(answers), _child: Awaited(child) })
+            }
+            _ => Err(ended(ErrorKind::BrokenPipe.into())),
         }
     }
-}
 
-impl Drop for CatFile {
-    fn drop(&mut self) {
-        drop(self.questions.take());
-        // It has nothing left to do, however it ends.
-        let _ = self.child.wait();
+    /// Asks for what stands in these parts together.
+    fn ask(&mut self, parts: &[&[u8]]) -> Result<(), Failure> {
+        self.questions.write_all(&parts.concat()).map_err(ended)
+    }
+
+    /// Reads the first line of the answer for an object of this name.
+    fn answer(&mut self, name: &[u8]) -> Result<Option<Found>, Failure> {
+        read_answer(&mut self.answers, name).map_err(ended)
     }
 }
 
@@ -138,10 +155,11 @@ fn read_answer(answers: &mut impl BufRead, name: &[u8]) -> io::Result<Option<Fou
 
 /// Appends a line with its LF.
 fn read_line(answers: &mut impl BufRead, line: &mut Vec<u8>) -> io::Result<()> {
-    answers.read_until(b'\n', line)?;
-    match line.ends_with(b"\n") {
-        true => Ok(()),
-        false => Err(ErrorKind::UnexpectedEof.into()),
+    let read = answers.read_until(b'\n', line)?;
+    if read > 0 && line.ends_with(b"\n") {
+        Ok(())
+    } else {
+        Err(ErrorKind::UnexpectedEof.into())
     }
 }
 
@@ -154,13 +172,33 @@ fn found(line: &[u8]) -> Option<Found> {
     (is_id(id) && is_kind && words.next().is_none()).then(|| Found { id: id.to_vec(), kind: kind.to_vec(), size })
 }
 
+/// Reads what an object holds: behind it stand an LF, and its first line once more. Of a corrupt object these come early.
+fn read_contents(answers: &mut impl BufRead, object: &Found) -> io::Result<Vec<u8>> {
+    let end = [b"\n", &object.id[..], b" ", &object.kind, b" ", object.size.to_string().as_bytes(), b"\n"].concat();
+    let size = usize::try_from(object.size).map_err(|_| ErrorKind::OutOfMemory)?;
+    let mut contents = Vec::new();
+    contents.try_reserve_exact(size.saturating_add(end.len())).map_err(|_| ErrorKind::OutOfMemory)?;
+    while contents.len() < size + end.len() && !contents.ends_with(&end) {
+        read_line(answers, &mut contents)?;
+    }
+    if contents.len() != size + end.len() || !contents.ends_with(&end) {
+        return Err(ErrorKind::InvalidData.into());
+    }
+    contents.truncate(size);
+    Ok(contents)
+}
+
 /// Whether a text is the whole number of an object.
 pub fn is_id(text: &[u8]) -> bool {
     matches!(text.len(), 40 | 64) && text.iter().all(u8::is_ascii_hexdigit)
 }
 
-fn ended() -> Failure {
-    Failure::Fatal("git cat-file failed".to_string())
+fn corrupt(id: &[u8]) -> Failure {
+    Failure::Fatal(format!("object {} is corrupt", shown(id)))
+}
+
+fn ended(error: io::Error) -> Failure {
+    Failure::Fatal(format!("git cat-file failed: {}", reason(&error)))
 }
 
 #[cfg(test)]
@@ -185,6 +223,19 @@ mod tests {
         assert_eq!(read("other missing\n", "name"), Err(ErrorKind::InvalidData));
         assert_eq!(read("", "name"), Err(ErrorKind::UnexpectedEof));
         assert_eq!(read("name missing", "name"), Err(ErrorKind::UnexpectedEof));
+        assert_eq!(read("a\n", "a\nb"), Err(ErrorKind::UnexpectedEof));
+    }
+
+    #[test]
+    fn contents_end_where_the_first_line_comes_again() {
+        let object = |size| Found { id: ID.as_bytes().to_vec(), kind: b"blob".to_vec(), size };
+        let read = |text: String, size| read_contents(&mut text.as_bytes(), &object(size)).map_err(|error| error.kind());
+        assert_eq!(read(format!("* a\n\n{ID} blob 4\n"), 4), Ok(b"* a\n".to_vec()));
+        assert_eq!(read(format!("\n{ID} blob 0\n"), 0), Ok(Vec::new()));
+        assert_eq!(read(format!("* a\n\n{ID} blob 400\n"), 400), Err(ErrorKind::InvalidData));
+        assert_eq!(read(format!("* a\n\n{ID} blob 3\n"), 3), Err(ErrorKind::InvalidData));
+        assert_eq!(read("* a\n".to_string(), 4), Err(ErrorKind::UnexpectedEof));
+        assert_eq!(read(String::new(), u64::MAX), Err(ErrorKind::OutOfMemory));
     }
 
     #[test]

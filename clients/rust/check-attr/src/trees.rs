@@ -1,6 +1,6 @@
 //! Attributes files in a tree of the repository.
 
-use crate::failure::Failure;
+use crate::failure::{shown, Failure};
 use crate::objects::{Contents, Objects};
 use std::collections::HashMap;
 
@@ -35,7 +35,7 @@ impl Trees {
     ///
     /// # Errors
     ///
-    /// [`Failure::Fatal`] if git has ended.
+    /// [`Failure::Fatal`] if git has ended, or a tree is malformed or corrupt.
     pub fn attributes_file(&mut self, directory: &[u8], objects: &mut Objects) -> Result<Option<Vec<u8>>, Failure> {
         if directory.is_empty() {
             // Whoever begins at the top again enters all directories again.
@@ -50,16 +50,16 @@ impl Trees {
             None => return Ok(None),
         };
         match objects.contents(id, b"tree", u64::MAX)? {
-            Some(Contents::Whole(tree)) => Ok(self.enter(directory, &tree)),
+            Some(Contents::Whole(tree)) => self.enter(directory, &tree),
             Some(Contents::TooLarge) | None => Ok(None),
         }
     }
 
     /// Keeps the directories of a tree, and returns the number of its attributes file.
-    fn enter(&mut self, directory: &[u8], tree: &[u8]) -> Option<Vec<u8>> {
+    fn enter(&mut self, directory: &[u8], tree: &[u8]) -> Result<Option<Vec<u8>>, Failure> {
         let mut found = None;
-        let entries = Entries { rest: tree, id_length: self.top.len() / 2 };
-        for entry in entries {
+        let mut entries = Entries { rest: tree, id_length: self.top.len() / 2 };
+        for entry in entries.by_ref() {
             if entry.mode == OF_DIRECTORY {
                 let path = if directory.is_empty() { entry.name.to_vec() } else { [directory, b"/", entry.name].concat() };
                 self.below.entry(path).or_insert_with(|| digits(entry.id));
@@ -67,7 +67,10 @@ impl Trees {
                 found = Some(digits(entry.id));
             }
         }
-        found
+        if !entries.rest.is_empty() {
+            return Err(Failure::Fatal(format!("malformed tree of '{}/'", shown(directory))));
+        }
+        Ok(found)
     }
 }
 
@@ -116,21 +119,24 @@ mod tests {
             entry("160000", "module", 4),
         ];
         let mut trees = Trees::new(b"00".repeat(20));
-        assert_eq!(trees.enter(b"x", &tree.concat()), Some(b"1f".repeat(20)));
+        assert_eq!(trees.enter(b"x", &tree.concat()).unwrap(), Some(b"1f".repeat(20)));
         assert_eq!(trees.below.len(), 1);
         assert_eq!(trees.below.get(&b"x/a b"[..]), Some(&b"a0".repeat(20)));
         for mode in ["40000", "160000"] {
-            assert_eq!(trees.enter(b"", &entry(mode, ".gitattributes", 1)), None);
+            assert_eq!(trees.enter(b"", &entry(mode, ".gitattributes", 1)).unwrap(), None);
         }
-        assert_eq!(trees.enter(b"", &entry("120000", ".gitattributes", 1)), Some(b"01".repeat(20)));
+        assert_eq!(trees.enter(b"", &entry("120000", ".gitattributes", 1)).unwrap(), Some(b"01".repeat(20)));
     }
 
     #[test]
-    fn a_malformed_tree_ends_early() {
+    fn a_malformed_tree_is_refused() {
+        let mut trees = Trees::new(b"00".repeat(20));
         let whole = entry("100644", "f", 7);
-        for end in 0..whole.len() {
-            assert_eq!(Entries { rest: &whole[..end], id_length: 20 }.count(), 0);
+        assert_eq!(trees.enter(b"", b"").unwrap(), None);
+        assert_eq!(trees.enter(b"", &whole).unwrap(), None);
+        for end in 1..whole.len() {
+            assert!(trees.enter(b"", &whole[..end]).is_err());
+            assert!(trees.enter(b"", &[&whole, &whole[..end]].concat()).is_err());
         }
-        assert_eq!(Entries { rest: &whole, id_length: 20 }.count(), 1);
     }
 }
