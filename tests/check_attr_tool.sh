@@ -542,7 +542,17 @@ cd "$room"
 GIT_DIR=index/.git GIT_WORK_TREE=index
 same -a f a/f a/b/f
 cached -a f a/f a/b/f
-unset GIT_DIR GIT_WORK_TREE GIT_INDEX_FILE
+unset GIT_INDEX_FILE
+mkdir alternate
+mv index/.git/objects/?? alternate
+for names in ../alternate ../none:../alternate "$room/alternate" alternate; do
+    GIT_ALTERNATE_OBJECT_DIRECTORIES=$names
+    export GIT_ALTERNATE_OBJECT_DIRECTORIES
+    same -a f a/f a/b/f
+    cached -a f a/f a/b/f
+done
+unset GIT_DIR GIT_WORK_TREE GIT_ALTERNATE_OBJECT_DIRECTORIES
+mv alternate/* index/.git/objects
 cd "$room/made"
 git ls-files -z >"$room/paths"
 git ls-files -- docs | awk 'NR % 9 == 1' >"$room/some"

@@ -30,7 +30,7 @@ pub fn run(arguments: Result<Arguments, Failure>) -> Result<(), Failure> {
     let mut git = Git::from_here()?;
     let repository = Repository::enter(&git)?;
     if let Some(top) = &repository.top {
-        git = git.with_index_below(top);
+        git = git.with_paths_below(top);
     }
     let configuration = Configuration::read(&git)?;
     let arguments = arguments?;
@@ -107,7 +107,8 @@ impl Checker {
         let given = before_nul(given);
         let path = self.base.inside(given)?;
         if !self.has_begun {
-            // Git reads the top's file and `info/attributes` before others, and tells answers in the order in which it reads names.
+            // Git reads the top's file and `info/attributes` before others, and tells answers in the order in which it reads
+            // names.
             self.stack.ask(b"", Some(true)).map_err(of_stack)?;
             self.has_begun = true;
         }

@@ -2,7 +2,7 @@
 
 use crate::failure::{reason, Failure};
 use std::env;
-use std::ffi::OsStr;
+use std::ffi::{OsStr, OsString};
 use std::io::{self, ErrorKind, Write};
 use std::os::unix::ffi::OsStrExt;
 use std::path::{Path, PathBuf};
@@ -12,12 +12,16 @@ use std::process::{Child, Command, ExitStatus, Output, Stdio};
 const WITHOUT: [&str; 5] =
     ["GIT_LITERAL_PATHSPECS", "GIT_GLOB_PATHSPECS", "GIT_NOGLOB_PATHSPECS", "GIT_ICASE_PATHSPECS", "GIT_CONFIG"];
 
+/// Variables that name paths from the top of the work tree.
+const INDEX_FILE: &str = "GIT_INDEX_FILE";
+const ALTERNATES: &str = "GIT_ALTERNATE_OBJECT_DIRECTORIES";
+
 /// Calls git from the directory where the run began, from which variables may name paths.
 #[derive(Clone, Debug)]
 pub struct Git {
     directory: PathBuf,
-    /// `GIT_INDEX_FILE`, if it is changed.
-    index_file: Option<PathBuf>,
+    /// Variables that are changed.
+    variables: Vec<(&'static str, OsString)>,
 }
 
 impl Git {
@@ -28,14 +32,20 @@ impl Git {
     /// [`Failure::Fatal`] if there is no current directory.
     pub fn from_here() -> Result<Git, Failure> {
         let words = |error| Failure::Fatal(format!("Unable to read current working directory: {}", reason(&error)));
-        Ok(Git { directory: env::current_dir().map_err(words)?, index_file: None })
+        Ok(Git { directory: env::current_dir().map_err(words)?, variables: Vec::new() })
     }
 
-    /// Has `GIT_INDEX_FILE` name a path from the top of the work tree, as it does for `git check-attr`. For other commands it does
-    /// if the run began in the work tree.
-    pub fn with_index_below(mut self, top: &[u8]) -> Git {
-        let named = env::var_os("GIT_INDEX_FILE").filter(|name| !name.is_empty());
-        self.index_file = named.map(|name| Path::new(OsStr::from_bytes(top)).join(name));
+    /// Has variables name paths from the top of the work tree, as they do for `git check-attr`. For other commands they do if the
+    /// run began in the work tree. A list of directories that has quotes, or can't have the top in it, stays.
+    pub fn with_paths_below(mut self, top: &[u8]) -> Git {
+        let top = Path::new(OsStr::from_bytes(top));
+        if let Some(name) = value(INDEX_FILE) {
+            self.variables.push((INDEX_FILE, top.join(name).into()));
+        }
+        let plain = value(ALTERNATES).filter(|names| !names.as_bytes().contains(&b'"'));
+        if let Some(Ok(names)) = plain.map(|names| env::join_paths(env::split_paths(&names).map(|name| top.join(name)))) {
+            self.variables.push((ALTERNATES, names));
+        }
         self
     }
 
@@ -69,11 +79,14 @@ impl Git {
         for name in WITHOUT {
             command.env_remove(name);
         }
-        if let Some(index_file) = &self.index_file {
-            command.env("GIT_INDEX_FILE", index_file);
-        }
+        command.envs(self.variables.iter().map(|(name, value)| (name, value)));
         command
     }
+}
+
+/// What a variable says, if it is not empty.
+fn value(name: &str) -> Option<OsString> {
+    env::var_os(name).filter(|value| !value.is_empty())
 }
 
 /// Ends the run as a call of git ended that failed: with its words, and its status.
