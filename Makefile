@@ -1,9 +1,28 @@
-# make check-attr: builds clients/rust/target/release/check-attr over the library for C, which is proved and built before if it is
-# not there: that takes some 40 minutes.
+# The front door, for GNU make: `make` says what there is. What proves needs the kit, whose command is `rt`.
+PREFIX = /usr/local
+release = dist/yektrod-$(shell cat VERSION)-x86_64-linux
 archive = crates/yektrod/out/libyektrod.a
 library = clients/rust/target/yektrod
 
-.PHONY: check-attr
+.PHONY: help try prove check-attr test gate dist dist-aarch64 install clean
+help:
+	@echo 'make try            plays a script by the program, unproved: a minute'
+	@echo 'make prove          proves all crates, and builds the library for C: some 40 minutes the first time'
+	@echo 'make check-attr     builds clients/rust/target/release/check-attr over the library, which is proved first if it is not there'
+	@echo 'make test           checks what needs no proof: a minute'
+	@echo 'make gate           proves and tests everything from nothing: an hour and a quarter'
+	@echo 'make dist           packs a release of what the gate proved, in dist/'
+	@echo 'make dist-aarch64   packs the library for aarch64'
+	@echo 'make install        copies the release to DESTDIR and PREFIX ($(PREFIX))'
+	@echo 'make clean          deletes what make has built, and keeps proofs'
+
+try:
+	cd crates/check_attr_cli && rt try < stdin
+
+prove:
+	rt all check
+	cd crates/yektrod && rt lib
+
 check-attr: $(library)/lib/libyektrod.a
 	cd clients/rust && CARGO_TARGET_DIR=target YEKTROD_LIB_DIR=$(CURDIR)/$(library)/lib \
 	    cargo build --quiet --release --offline --locked -p check-attr
@@ -13,3 +32,30 @@ $(library)/lib/libyektrod.a: $(archive)
 
 $(archive):
 	cd crates/yektrod && rt lib
+
+test:
+	tests/version.sh
+	tests/layout.sh
+	tests/reach.py
+	tests/edits.py
+	tests/hostile_rows.py
+	tests/made_rows.py
+
+gate:
+	.ci/run
+
+dist:
+	tools/dist
+
+dist-aarch64:
+	tools/release/aarch64
+
+install: $(release).tar.gz
+	tar -x -z -C dist -f $(release).tar.gz
+	$(MAKE) -s -C $(release) install PREFIX=$(PREFIX) DESTDIR=$(DESTDIR)
+
+$(release).tar.gz:
+	tools/dist
+
+clean:
+	rm -rf dist clients/rust/target

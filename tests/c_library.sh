@@ -1,35 +1,23 @@
 #!/bin/sh
-# Builds the library for C, gathers it in a folder, and runs its clients: in C as gcc and clang compile them, and in Python. Each
-# script of examples/ and of crates/script_rows/data is played by calls, and gives the answers beside it. Each request for memory is
-# refused in turn, and 32 KB of stack have to be enough. One engine goes round eight threads. Random calls give what their scripts
-# give, those of a work tree what git gives, and so do the clients that tell the paths of commits. What clang would show is left out
-# if the machine lacks it.
+# Gathers the library for C in a folder, and runs its clients: in C as gcc and clang compile them, and in Python. Each
+# script of examples/ and of crates/script_rows/data is played by calls, and gives the answers beside it. Each request
+# for memory is refused in turn, and 32 KB of stack have to be enough. One engine goes round eight threads. Random calls
+# give what their scripts give, those of a work tree what git gives, and so do the clients that tell the paths of
+# commits. What clang would show is left out if the machine lacks it.
 # usage: c_library.sh [built]
-# With `built` the library is proved and built over those that `rt ci` has just built in this tree, in minutes: `rt lib` takes
-# none of these, and proves all crates below once more.
+# With `built` the library is the one that tools/prove or tools/archive has built; without, it is proved and built here,
+# with all crates below.
 set -eu
 top=$(cd "$(dirname "$0")/.." && pwd)
 room=$(mktemp -d)
 trap 'rm -rf "$room"' EXIT
 has() { command -v "$1" >/dev/null || { echo "c_library: there is no $1 here, so this is left out: $2"; false; }; }
 
-# The same call of the prover as that of `rt lib`, but for the libraries.
-build_over_built() {
-    kit=$(dirname "$(rt doc | head -n 1)")
-    set -- --crate-name yektrod --crate-type staticlib --backend llvm --toolchain "$kit/toolchain" --jobs 2 \
-        --antt-project "$kit/rattle/logic/antt-project.json" --logic-built "$kit/logic_built" -L "dependency=$kit/rlibs"
-    for name in std $(sed -n 's/^yektrod staticlib: *//p' "$top/crates.txt"); do
-        from=$kit/rlibs
-        if [ -d "$top/crates/$name" ]; then from=$top/crates/$name/out/rlib; fi
-        set -- "$@" --extern "$name=$from/$name.rlib"
-    done
-    for from in "$top"/crates/*/out/rlib; do set -- "$@" -L "dependency=$from"; done
-    mkdir -p out
-    "$kit/bin/rattle" build "$@" -o out/libyektrod.a src/lib.rt
-}
-
-build=$([ "${1:-}" = built ] && echo build_over_built || echo 'rt lib')
-(cd "$top/crates/yektrod" && $build >"$room/log" 2>&1) || { cat "$room/log" >&2; exit 1; }
+if [ "${1:-}" = built ]; then
+    [ -f "$top/crates/yektrod/out/libyektrod.a" ] || { echo 'c_library: the library is not built' >&2; exit 1; }
+else
+    (cd "$top/crates/yektrod" && rt lib >"$room/log" 2>&1) || { cat "$room/log" >&2; exit 1; }
+fi
 "$top/tools/c-library" "$room/yektrod"
 lib=$room/yektrod/lib
 
@@ -107,7 +95,8 @@ cuts() {
     echo 'c_library: scripts without their last bytes end as in the program'
 }
 
-# Passes an engine round threads: helgrind finds nothing where a lock orders the calls, and reports memory of the engine where none does.
+# Passes an engine round threads: helgrind finds nothing where a lock orders the calls, and reports memory of the engine
+# where none does.
 threads() {
     "${CC:-cc}" $flags -pthread "$top/clients/c/threads.c" "$lib/libyektrod.a" -o "$room/threads"
     "$room/threads"

@@ -4,15 +4,17 @@
 An `sh` block is run by sh from the top of the repository, and has to end with status 0. If a `text` block follows in the same
 section, it is what the commands write to standard output. A `text` block without commands is the contents of a file
 examples/*.answers. A `rust` block is a part of a program examples/*.rt.in, which examples/run.sh runs, or of an example of the Rust
-package. Links lead to files and headings that are there, and the README has at most 150 lines of at most 120 columns.
+package. Links lead to files and headings that are there, and the README has at most 130 lines of at most 120 columns.
 
 Folders below /tmp are made in a folder of their own for each page. There /tmp/yektrod is the directory of tools/c-library that
 YEKTROD_DIRECTORY names; without it blocks that use the library are left out, which is reported. Nothing is proved: `rt run <
 stdin` is answered by the program that the gate has built, and blocks with other commands that prove are left out, which is
 reported. The pages are read side by side, in some two minutes: `rt try` takes most of that.
 
-usage: docs.py [PAGE..], all pages without any
+usage: docs.py [--top DIRECTORY] [PAGE..], all pages without any
+With --top the pages are those of a directory, as of a release, and begin there.
 """
+import argparse
 import concurrent.futures
 import glob
 import os
@@ -23,7 +25,12 @@ import sys
 import tempfile
 import textwrap
 
-TOP = os.path.realpath(os.path.join(os.path.dirname(os.path.abspath(__file__)), '..'))
+OURS = os.path.realpath(os.path.join(os.path.dirname(os.path.abspath(__file__)), '..'))
+PARSER = argparse.ArgumentParser(usage=__doc__)
+PARSER.add_argument('--top', default=OURS)
+PARSER.add_argument('pages', nargs='*')
+ARGUMENTS = PARSER.parse_args()
+TOP = os.path.realpath(ARGUMENTS.top)
 PROGRAM = 'crates/check_attr_cli/out/check_attr_cli'
 RUST = 'clients/rust/yektrod/examples'
 WITH_COMMANDS = ['README.md', 'CONTRIBUTING.md', 'docs/SCRIPT.md', 'docs/LIBRARY.md', 'docs/FROM_GITOXIDE.md',
@@ -98,6 +105,9 @@ class Checks:
         if PROVES.search(commands):
             self.leave_out(page, block, 'it proves')
             return
+        if 'dist/yektrod-' in commands and not glob.glob('dist/yektrod-*'):
+            self.leave_out(page, block, 'there is no release in dist')
+            return
         if not LIBRARY and '/tmp/yektrod/' in commands:
             self.leave_out(page, block, 'YEKTROD_DIRECTORY names no library for C')
             return
@@ -152,8 +162,8 @@ class Checks:
 
     def readme(self):
         lines = read('README.md').rstrip('\n').split('\n')
-        if len(lines) > 150:
-            self.fail('README.md', len(lines), 'it has more than 150 lines')
+        if len(lines) > 130:
+            self.fail('README.md', len(lines), 'it has more than 130 lines')
         for number, line in enumerate(lines, 1):
             if len(line) > 120:
                 self.fail('README.md', number, 'the line has more than 120 columns')
@@ -182,14 +192,15 @@ def environment(room):
 
 def main():
     os.chdir(TOP)
-    if not sys.argv[1:] and not os.access(PROGRAM, os.X_OK):
+    if not ARGUMENTS.pages and not os.access(PROGRAM, os.X_OK):
         sys.exit('docs: there is no program %s: build it by `rt ci`, or by `rt run` in its crate' % PROGRAM)
     checks = Checks()
-    checks.readme()
+    if TOP == OURS:
+        checks.readme()
     for page in sorted(glob.glob('*.md') + glob.glob('*/*.md')):
         checks.links(page)
     with concurrent.futures.ThreadPoolExecutor(4) as pool:
-        for done in [pool.submit(checks.page, page) for page in sys.argv[1:] or WITH_COMMANDS]:
+        for done in [pool.submit(checks.page, page) for page in ARGUMENTS.pages or WITH_COMMANDS]:
             done.result()
     if checks.wrong:
         sys.exit('docs: %d places are wrong' % len(checks.wrong))
