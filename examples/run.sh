@@ -14,7 +14,7 @@ done
 programs='first ask walk lines engine'
 "$here/../tests/copy_crates.sh" "$room"
 for name in $programs; do
-    echo "$name: attr_engine gix_attributes bstr anyhow" >>"$room/crates.txt"
+    echo "$name: gix_attributes bstr anyhow" >>"$room/crates.txt"
     mkdir -p "$room/crates/$name/src"
     cp "$here/$name.rt.in" "$room/crates/$name/src/main.rt"
 done

@@ -10,7 +10,7 @@ follows the names. It fails, with a line for each, if
 
 It starts at the clauses (`requires`, `ensures`) of public functions and of functions of public traits, and at the ghost
 members (`view`, `next_gives`, `reads`, ..) of public traits and of impls of public types. Public is what `pub mod` and
-`pub use` show from the top of attr_wildmatch, attr_glob, attr_text, gix_attributes, attr_engine or check_attr; so a type of
+`pub use` show from the top of attr_wildmatch, attr_glob, attr_text, gix_attributes or check_attr; so a type of
 attr_lists is public if gix_attributes shows it, and a `pub fn` of a private module is not. A view looks into the fields of its type, so the
 definitions that are their contents (`Value` of their types) are a start too.
 
@@ -32,7 +32,7 @@ import re
 import sys
 
 TOP = os.path.join(os.path.dirname(os.path.abspath(__file__)), "..")
-PUBLIC_CRATES = ["attr_wildmatch", "attr_glob", "attr_text", "gix_attributes", "attr_engine", "yektrod", "check_attr"]
+PUBLIC_CRATES = ["attr_wildmatch", "attr_glob", "attr_text", "gix_attributes", "yektrod", "check_attr"]
 TEST_CRATES = ["attr_vectors", "engine_tests", "glob_tests", "list_tests", "script_rows", "search_tests", "small_settings", "worktree"]
 READING = "docs/READING.md"
 # The members that say what a type contains, and what memory it owns beside its fields.

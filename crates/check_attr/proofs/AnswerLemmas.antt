@@ -9,7 +9,7 @@ use Rattle.gix_attributes.specs.Numbers.{number_of}
 use Rattle.gix_attributes.specs.Setting.{Answer, Set, State, Unset, Unspecified, Value}
 use Rattle.gix_attributes.specs.Slots.{Matched, table_state}
 use Rattle.gix_attributes.specs.Table.{Slots}
-use Rattle.attr_engine.specs.EngineStates.{AnswersTo, EngineContent, EngineState, is_specified, specified_among}
+use Rattle.gix_attributes.specs.EngineStates.{AnswersTo, EngineContent, EngineState, is_specified, specified_among}
 use Rattle.check_attr.specs.inner.MatchText.{answer_view, matched_text}
 use Rattle.check_attr.specs.Script.{Question}
 use Rattle.check_attr.specs.ScriptText.{IsAnswerText, entry_text, is_unspecified, selected_text, specified_text}

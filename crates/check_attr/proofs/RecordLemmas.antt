@@ -4,7 +4,7 @@ use Rattle.std.proofs.Common.{append_assoc}
 use Rattle.std.proofs.lemmas.List.{append-nil}
 use Rattle.check_attr.specs.Script.{Record, spelled, script_of, CanBeWritten, BeginsWithRecord}
 use Rattle.check_attr.specs.ScriptText.{IsRecordText, IsTextOfRecords, EndsAt, Writes, WritesRecords, ends, breaks, goes_on}
-use Rattle.attr_engine.specs.EngineStates.{EngineState}
+use Rattle.gix_attributes.specs.EngineStates.{EngineState}
 use Rattle.check_attr.specs.ScriptStates.{next_state}
 use Rattle.check_attr.proofs.SpellingLemmas.{first_of, others_of, all_with, one_record, shorter}
 

@@ -4,7 +4,7 @@ use Rattle.std.proofs.Common.{◌≡◌, ◌≢◌, ℕ, ◌+◌, List, [], ◌�
 use Rattle.std.proofs.lemmas.List.{append-nil}
 use Rattle.check_attr.specs.Script.{Record, BeginsWithRecord, IsMalformed}
 use Rattle.check_attr.specs.ScriptText.{IsRecordText, Writes, ends, breaks, goes_on}
-use Rattle.attr_engine.specs.EngineStates.{EngineState}
+use Rattle.gix_attributes.specs.EngineStates.{EngineState}
 use Rattle.check_attr.specs.ScriptStates.{next_state}
 
 -- one more record is applied

@@ -12,7 +12,7 @@ use Rattle.gix_attributes.specs.declared.glob.pattern.Case.TheVariants.{Sensitiv
 use Rattle.gix_attributes.specs.LinesJoined.{line_feed}
 use Rattle.check_attr.specs.declared.script.Form.{Form}
 use Rattle.check_attr.specs.declared.script.Form.TheVariants.{Line, Zero, Origin}
-use Rattle.attr_engine.specs.EngineStates.{AddedFile}
+use Rattle.gix_attributes.specs.EngineStates.{AddedFile}
 use Rattle.check_attr.specs.Script.{Question, Record, add, pop, names, ask, space, header, macros_word, root_word, form_word, case_word}
 use Rattle.check_attr.specs.Script.{folder_word}
 use Rattle.check_attr.specs.Script.{ended_line, spelled, IsHeaderNumber, IsShortText, IsNameLine, CanBeWritten, BeginsWithRecord, IsMalformed}

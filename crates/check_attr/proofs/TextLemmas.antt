@@ -7,7 +7,7 @@ use Rattle.attr_table.proofs.ForCallers.{OneTable-of}
 use Rattle.check_attr.specs.Script.{Question, Record, add, pop, names, ask, BeginsWithRecord}
 use Rattle.check_attr.specs.inner.ScriptParts.{IsFirstRecord, record_of}
 use Rattle.check_attr.specs.ScriptText.{IsRecordText, OneText, Writes, answers_text, asked_setting, ends, breaks, goes_on}
-use Rattle.attr_engine.specs.EngineStates.{EngineState}
+use Rattle.gix_attributes.specs.EngineStates.{EngineState}
 use Rattle.check_attr.specs.ScriptStates.{next_state}
 use Rattle.check_attr.proofs.SpellingLemmas.{first_record, one_record, shorter}
 

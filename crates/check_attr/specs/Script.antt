@@ -7,7 +7,7 @@ use Rattle.std.specs.Str.{IsUtf8}
 use Rattle.gix_attributes.specs.declared.glob.pattern.Case.{Case}
 use Rattle.gix_attributes.specs.declared.glob.pattern.Case.TheVariants.{Sensitive, Fold}
 use Rattle.gix_attributes.specs.LinesJoined.{line_feed, IsLine}
-use Rattle.attr_engine.specs.EngineStates.{AddedFile}
+use Rattle.gix_attributes.specs.EngineStates.{AddedFile}
 use Rattle.check_attr.specs.declared.script.Form.{Form}
 use Rattle.check_attr.specs.declared.script.Form.TheVariants.{Line, Zero, Origin}
 

@@ -2,7 +2,7 @@
 use Rattle.std.specs.Prelude.{ℕ, List, []}
 use Rattle.gix_attributes.specs.declared.search.Dropped.{Dropped}
 use Rattle.gix_attributes.specs.ListView.{Listed}
-use Rattle.attr_engine.specs.EngineStates.{EngineState, state_selecting, state_with_list, state_without_last}
+use Rattle.gix_attributes.specs.EngineStates.{EngineState, state_selecting, state_with_list, state_without_last}
 use Rattle.check_attr.specs.Script.{Record, add, pop, names, ask}
 
 -- the state before a script: the names and the lists of global files, and for each of these files the lines that it leaves out

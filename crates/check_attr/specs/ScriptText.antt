@@ -15,7 +15,7 @@ use Rattle.gix_attributes.specs.Setting.{State, Set, Unset, Value, Unspecified, 
 use Rattle.gix_attributes.specs.Table.{Slots, Table, IsStable}
 use Rattle.gix_attributes.specs.Cut.{answer_at, no_answers}
 use Rattle.gix_attributes.specs.Contents.{reported_name}
-use Rattle.attr_engine.specs.EngineStates.{EngineState, path_setting}
+use Rattle.gix_attributes.specs.EngineStates.{EngineState, path_setting}
 use Rattle.check_attr.specs.Script.{Question, Record, add, pop, names, ask, CanBeWritten, BeginsWithRecord, IsMalformed}
 use Rattle.check_attr.specs.Script.{script_of}
 use Rattle.check_attr.specs.Failures.{AppendsFront}

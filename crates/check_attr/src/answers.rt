@@ -15,7 +15,7 @@ use crate::held::Held;
 use crate::pieces::write_full;
 use crate::script::{Form, Question};
 use crate::writing::Push;
-use attr_engine::Engine;
+use gix_attributes::engine::Engine;
 use gix_attributes::search::{AttributeId, Match, MatchKind};
 use gix_attributes::{AssignmentRef, StateRef};
 use std::alloc::AllocError;

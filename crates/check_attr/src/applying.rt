@@ -3,8 +3,8 @@
 ghost use Rattle.std.specs.Prelude.{◌≡◌, ◌++◌, OnOk};
 ghost use Rattle.std.specs.List.{flat_map};
 ghost use Rattle.gix_attributes.specs.KeptLists.{dropped_lines};
-ghost use Rattle.attr_engine.specs.EngineStates.{state_with_list};
-ghost use Rattle.attr_engine.specs.EngineView.{addition_view};
+ghost use Rattle.gix_attributes.specs.EngineStates.{state_with_list};
+ghost use Rattle.gix_attributes.specs.EngineView.{addition_view};
 ghost use Rattle.check_attr.specs.inner.PassedText.{PassesAnswers, PassesRecord};
 ghost use Rattle.check_attr.specs.inner.Pieces.{Passes};
 ghost use Rattle.check_attr.specs.ScriptText.{dropped_text};
@@ -17,8 +17,8 @@ use crate::fault::Fault;
 use crate::held::Held;
 use crate::script::{Question, Record};
 use crate::writing::Push;
-use attr_engine::{Addition, Engine};
 use bstr::BStr;
+use gix_attributes::engine::{Addition, Engine};
 use std::alloc::Global;
 
 /// Applies a record, and passes on the text that it writes, after what is held.
@@ -82,7 +82,7 @@ fn ask<W: Push>(
         (question_view question.entry) writer.old writer.new
         held.old held.new result }
 {
-    let asked = attr_engine::Question {
+    let asked = gix_attributes::engine::Question {
         path: BStr::from(question.path),
         case: question.case,
         is_dir: question.is_dir,

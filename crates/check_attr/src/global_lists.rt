@@ -5,12 +5,12 @@ ghost use Rattle.gix_attributes.specs.Additions.{IsIo};
 ghost use Rattle.gix_attributes.specs.Failures.{Fails};
 ghost use Rattle.gix_attributes.specs.SearchViews.{Holds, lists_in, list_ids_in};
 ghost use Rattle.gix_attributes.specs.FileReads.{FileRead, ReadInOrder};
-ghost use Rattle.attr_engine.specs.Registration.{RegistersAlone};
+ghost use Rattle.gix_attributes.specs.Registration.{RegistersAlone};
 ghost use Rattle.check_attr.specs.ScriptStates.{initial_state};
 ghost use Rattle.check_attr.specs.GlobalFiles.{ReadsNames, RefusedAt, loaded_from};
 
-use attr_engine::Engine;
 use gix_attributes::Search;
+use gix_attributes::engine::Engine;
 use gix_attributes::files::Files;
 use gix_attributes::search::{AddError, Dropped, MetadataCollection};
 use std::alloc::Global;

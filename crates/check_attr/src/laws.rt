@@ -2,7 +2,7 @@
 
 ghost use Rattle.std.specs.Prelude.{◌≡◌, ℕ, List, Option, None, All};
 ghost use Rattle.check_attr.specs.Script.{Record, CanBeWritten, BeginsWithRecord, script_of};
-ghost use Rattle.attr_engine.specs.EngineStates.{EngineState};
+ghost use Rattle.gix_attributes.specs.EngineStates.{EngineState};
 ghost use Rattle.check_attr.specs.ScriptText.{IsTextOfRecords, OneText, Writes, WritesRecords};
 
 /// From each state a script writes exactly one text, and has one first malformed record, or none.

@@ -7,10 +7,10 @@ ghost use Rattle.std.specs.Option.{option_copied};
 ghost use Rattle.std.specs.Str.{is_utf8};
 ghost use Rattle.gix_attributes.specs.LinesJoined.{line_feed};
 ghost use Rattle.check_attr.specs.inner.ScriptParts.{IsFirstRecord, IsNumberBefore, strip_prefix, choice_of, cases, folder_flags, forms, macro_flags, split_once, split_at, if_text, is_number, digits_value, digit_zero, most_digits, number_before, root_length, root_of, add_header, addition_of, add_record, names_record, ask_record, text_lines, ask_header, question_of, ◌then◌};
-ghost use Rattle.attr_engine.specs.EngineView.{addition_view};
+ghost use Rattle.gix_attributes.specs.EngineView.{addition_view};
 ghost use Rattle.check_attr.specs.inner.ScriptViews.{add_header_view, ask_header_view, lines_view, part_view, question_view, record_view, with_rest};
 
-use attr_engine::Addition;
+use gix_attributes::engine::Addition;
 use gix_attributes::glob::pattern::Case;
 use std::alloc::{AllocError, Global};
 use std::str;

@@ -13,7 +13,7 @@ use crate::held::Held;
 use crate::reading::{Pull, read_all};
 use crate::script::record_of;
 use crate::writing::{Push, write_all};
-use attr_engine::Engine;
+use gix_attributes::engine::Engine;
 use std::alloc::Global;
 
 /// Runs a script over global lists: adds and removes lists, selects names, and looks up paths. The

@@ -1,4 +1,4 @@
-//! Tests of `attr_engine`: lists that are added and removed, selections, questions and their answers.
+//! Tests of `gix_attributes::engine`: lists that are added and removed, selections, questions and their answers.
 #![tactic(auto)]
 
 #[cfg(test)]

@@ -1,5 +1,7 @@
 -- The lemmas that crates above may cite, beside the contracts.
-
+use denote.Param.Laws.{Laws}
+use Rattle.gix_attributes.specs.contracts.engine.Engine as Engine
+use Rattle.gix_attributes.proofs.engine.Engine.TheLaws.{the_row_laws}
 -- Counts of failures.
 -- `fails_later`: a count that rises after some time has risen over each earlier count.
 pub use Rattle.gix_attributes.proofs.GlobalLemmas.{fails_later}
@@ -19,3 +21,17 @@ pub use Rattle.attr_lists.proofs.ForCallers.{number_at}
 -- `left_alone`: a collection that registers the lists of a search alone registers what a pop leaves of them.
 -- `lists_with_ids`: lists with their list ids are these lists.
 pub use Rattle.gix_attributes.proofs.KeepingLemmas.{bodies_have_names, bodies_registered, left_alone, lists_with_ids}
+-- Engines.
+-- `alone_first`: lists that are added to a collection without lists are registered there alone.
+pub use Rattle.gix_attributes.proofs.RegistrationLemmas.{alone_first}
+-- Sources that are told in place of labels, as the law `sources_only_tell` says it. `answers_to_told`, `finds_for_told`: what a question
+-- leaves. `added_told`, `popped_told`: lists are added and removed. `number_told`: the numbers of answers stay.
+pub use Rattle.gix_attributes.proofs.ToldLemmas.{added_told, answers_to_told, finds_for_told, number_told, popped_told}
+-- Labels. `label_digits`, `label_value`: a label is its index in digits. `source_at_label`: it stands for the source with this index.
+-- `label_below`: an index below a count has such a label. `source_at-more`, `state_told-more`: sources that are appended change nothing
+-- of what is labelled below them.
+pub use Rattle.gix_attributes.proofs.LabelLemmas.{label_below, label_digits, label_value, source_at-more, source_at_label, state_told-more}
+
+-- what proofs about a box of an engine ask of the type
+abbrev pub engine_laws : Laws Engine.the_row
+engine_laws = the_row_laws

@@ -10,4 +10,8 @@ pub mod SearchLaws
 pub mod FileLemmas
 pub mod GlobalLemmas
 pub mod SourceLemmas
+pub mod RegistrationLemmas
+pub mod AnswerLemmas
+pub mod LabelLemmas
+pub mod ToldLemmas
 pub mod ForCallers

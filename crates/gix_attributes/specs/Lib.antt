@@ -4,6 +4,8 @@ pub mod ContentView
 pub mod Contents
 pub mod Covered
 pub mod DiskReads
+pub mod EngineStates
+pub mod EngineView
 pub mod Failures
 pub mod FileReads
 pub mod Globals
@@ -12,10 +14,12 @@ pub mod Lookups
 pub mod MemoryFiles
 pub mod MemoryView
 pub mod Registers
+pub mod Registration
 pub mod SearchViews
 pub mod Searching
 pub mod Selection
 pub mod Sources
+pub mod Told
 pub mod inner
 pub use Rattle.attr_glob.specs.BaseNames
 pub use Rattle.attr_glob.specs.Bases

@@ -4,3 +4,4 @@ pub mod BodiesMade
 pub mod Consistency
 pub mod HeldLists
 pub mod Registering
+pub mod SoundEngines

@@ -22,10 +22,12 @@
 //!   items assign.
 //! - [`glob`]: patterns and how they match paths.
 //! - [`search`]: searches, the collection of attributes, and outcomes.
+//! - [`engine`]: an engine that a caller holds: lists, selected names, and the answers to the last question.
 //! - [`files`]: sources of files, from which a search reads its lists.
 //! - [`Source`]: the paths of the attributes files outside a worktree.
 #![tactic(auto)]
 
+pub mod engine;
 pub mod files;
 pub mod search;
 mod source;

@@ -5,8 +5,8 @@ use Rattle.std.proofs.lemmas.List.{flat_map_more, take_more}
 use Rattle.std.proofs.lemmas.Option.{get_or_from_slice_get, slice_get-map, slice_get_cases}
 use Rattle.gix_attributes.specs.Slots.{Matched}
 use Rattle.gix_attributes.specs.declared.glob.pattern.Case.{Case}
-use Rattle.attr_engine.specs.EngineStates.{EngineContent, number_answered}
-use Rattle.attr_engine.specs.Told.{match_told}
+use Rattle.gix_attributes.specs.EngineStates.{EngineContent, number_answered}
+use Rattle.gix_attributes.specs.Told.{match_told}
 use Rattle.gix_attributes.specs.Contents.{unspecified}
 use Rattle.yektrod.specs.Held.{Becomes, answer_in, text_in}
 use Rattle.yektrod.specs.RowsTold.{AnswerTexts, answer_at, answers_of, found_in, joined, row_at, row_with, text_of, texts_told}

@@ -1,6 +1,6 @@
 -- A box of an engine as the kit's steps on boxes take it, and the types that a handle is made of.
 use mathlib.Core.List.{[]}
-use Rattle.attr_engine.specs.EngineStates.{unasked}
+use Rattle.gix_attributes.specs.EngineStates.{unasked}
 use mir.Syntax.{impl, tnil, dnil}
 use denote.Signature.{Slot, plain}
 use Rattle.std_alloc.proofs.BoxSteps.Form.{Bx}

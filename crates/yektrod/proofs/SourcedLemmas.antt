@@ -7,9 +7,9 @@ use Rattle.std.proofs.lemmas.List.{get_or_append_left, get_or-append-add, get_or
 use Rattle.std.proofs.lemmas.List.FromFn.{map-range_with_len_more, take-map-range_with_len}
 use Rattle.gix_attributes.specs.ListView.{Listed}
 use Rattle.gix_attributes.specs.Globals.{built_in_source}
-use Rattle.attr_engine.specs.EngineStates.{AddedList, EngineContent, unasked, with_list_below, without_last}
-use Rattle.attr_engine.specs.EngineView.{started}
-use Rattle.attr_engine.specs.Told.{addition_told, content_told, list_told}
+use Rattle.gix_attributes.specs.EngineStates.{AddedList, EngineContent, unasked, with_list_below, without_last}
+use Rattle.gix_attributes.specs.EngineView.{started}
+use Rattle.gix_attributes.specs.Told.{addition_told, content_told, list_told}
 use Rattle.yektrod.specs.Sourced.{index_labelled, list_number, source_in}
 use Rattle.yektrod.proofs.LabelLemmas.{list_number-decimal}
 

@@ -2,7 +2,7 @@
 use Rattle.std.specs.Prelude.{◌≡◌, ℕ, ℤ, List, [], Option, Some, None, IfSome, MatchOption, if◌then◌else◌, option_and_then, option_map, slice_get, slice_index_or}
 use Rattle.gix_attributes.specs.Slots.{Matched}
 use Rattle.gix_attributes.specs.declared.search.Dropped.{Dropped}
-use Rattle.attr_engine.specs.EngineStates.{EngineContent}
+use Rattle.gix_attributes.specs.EngineStates.{EngineContent}
 use Rattle.yektrod.specs.Rows.{text_numbered}
 use Rattle.yektrod.specs.Sourced.{told_content}
 use Rattle.yektrod.specs.SourcedContents.{SourcedContent}

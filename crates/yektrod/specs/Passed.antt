@@ -3,7 +3,7 @@ use Rattle.std.specs.Prelude.{◌≡◌, ◌⊎◌, ℕ, ℤ, pos, negsuc, zero,
 use Rattle.std.specs.Prelude.{if◌then◌else◌}
 use Rattle.gix_attributes.specs.declared.glob.pattern.Case.{Case}
 use Rattle.gix_attributes.specs.declared.glob.pattern.Case.TheVariants.{Sensitive, Fold}
-use Rattle.attr_engine.specs.EngineStates.{AddedFile}
+use Rattle.gix_attributes.specs.EngineStates.{AddedFile}
 
 -- the root counts only with its flag
 abbrev pub passed_root : Bool → List ℕ → Option (List ℕ)

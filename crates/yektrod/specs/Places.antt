@@ -1,7 +1,7 @@
 -- The list that C adds below a directory (own).
 use Rattle.std.specs.Prelude.{ℕ, Bool, List}
 use Rattle.gix_attributes.specs.Bases.{with_slash}
-use Rattle.attr_engine.specs.EngineStates.{AddedList}
+use Rattle.gix_attributes.specs.EngineStates.{AddedList}
 use Rattle.yektrod.specs.declared.lists.Place.{Place}
 
 abbrev pub passed_list : (bytes : List ℕ) → Place → (allow_macros : Bool) → AddedList

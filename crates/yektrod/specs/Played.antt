@@ -1,6 +1,6 @@
 -- What C gets of a whole script: its text, as far as there is room, and the length of it (own).
 use Rattle.std.specs.Prelude.{◌≡◌, ℕ, ◌-◌, ◌^◌, List, ◌++◌, length, take, drop, min, Option}
-use Rattle.attr_engine.specs.EngineView.{started}
+use Rattle.gix_attributes.specs.EngineView.{started}
 use Rattle.check_attr.specs.ScriptText.{Writes}
 
 -- the length of a text, which stops at the largest `size_t`

@@ -4,7 +4,7 @@ use Rattle.std.specs.Prelude.{slice_index_or, unwrap_or, if◌then◌else◌}
 use Rattle.std.specs.List.{range_with_len}
 use Rattle.gix_attributes.specs.Contents.{unspecified}
 use Rattle.gix_attributes.specs.Slots.{Matched}
-use Rattle.attr_engine.specs.EngineStates.{number_answered}
+use Rattle.gix_attributes.specs.EngineStates.{number_answered}
 use Rattle.yektrod.specs.Played.{counted_length}
 use Rattle.yektrod.specs.Told.{text_told}
 use Rattle.yektrod.specs.Rows.{state_number}

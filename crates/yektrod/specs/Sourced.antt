@@ -7,8 +7,8 @@ use Rattle.std.specs.Str.{all_ascii_digits}
 use Rattle.std.specs.Str.Parse.{digits_value, without_leading_plus}
 use Rattle.gix_attributes.specs.ListView.{Listed}
 use Rattle.gix_attributes.specs.Slots.{Matched}
-use Rattle.attr_engine.specs.EngineStates.{AddedList, EngineContent}
-use Rattle.attr_engine.specs.Told.{content_told, match_told}
+use Rattle.gix_attributes.specs.EngineStates.{AddedList, EngineContent}
+use Rattle.gix_attributes.specs.Told.{content_told, match_told}
 use Rattle.yektrod.specs.SourcedContents.{SourcedContent}
 use Rattle.yektrod.specs.declared.sourced.SourcedList.{SourcedList}
 

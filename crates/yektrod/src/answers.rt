@@ -15,8 +15,8 @@ use crate::row_texts::MarkedText;
 use crate::slot::Slot;
 use crate::sourced::SourcedEngine;
 use crate::status::{DONE, MISSING, SHUT};
-use attr_engine::Engine;
 use gix_attributes::StateRef;
+use gix_attributes::engine::Engine;
 use gix_attributes::search::{Match, MatchKind};
 
 /// An answer, without its texts.

@@ -1,7 +1,7 @@
 //! Lists are added and removed.
 
 ghost use Rattle.std.specs.Prelude.{◌≡◌, ◌⊎◌, ◌↔◌, IfOk, IsUtf8, IfSome, None, Some, [], false, length, option_map};
-ghost use Rattle.attr_engine.specs.EngineStates.{with_addition, with_list_below, without_last};
+ghost use Rattle.gix_attributes.specs.EngineStates.{with_addition, with_list_below, without_last};
 ghost use Rattle.attr_glob.specs.Bases.{with_slash};
 ghost use Rattle.attr_glob.specs.Views.{base_bytes};
 ghost use Rattle.gix_attributes.specs.KeptLists.{dropped_lines};

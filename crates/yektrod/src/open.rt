@@ -1,8 +1,8 @@
 //! An engine is made, and freed.
 
 ghost use Rattle.std.specs.Prelude.{◌≡◌, ◌⊎◌, ◌↔◌, IfOk, None, Some};
-ghost use Rattle.attr_engine.specs.EngineStates.{unasked};
-ghost use Rattle.attr_engine.specs.EngineView.{started};
+ghost use Rattle.gix_attributes.specs.EngineStates.{unasked};
+ghost use Rattle.gix_attributes.specs.EngineView.{started};
 ghost use Rattle.yektrod.specs.Held.{held, sourced};
 ghost use Rattle.yektrod.specs.Sourced.{told_content};
 ghost use Rattle.yektrod.specs.Statuses.{status_done, status_no_memory, status_shut};

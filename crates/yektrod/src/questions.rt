@@ -1,7 +1,7 @@
 //! Names are selected, and paths are asked for.
 
 ghost use Rattle.std.specs.Prelude.{◌≡◌, ◌⊎◌, ◌↔◌, All, IfSome, IsUtf8, MatchOption, None, Some, length, map, option_and_then, option_map};
-ghost use Rattle.attr_engine.specs.EngineStates.{AnswersTo, FindsFor, with_selection, without_answers};
+ghost use Rattle.gix_attributes.specs.EngineStates.{AnswersTo, FindsFor, with_selection, without_answers};
 ghost use Rattle.yektrod.specs.Held.{Becomes, held, labelled, sourced};
 ghost use Rattle.yektrod.specs.Passed.{IsFolderNumber, folder_flag, passed_case};
 ghost use Rattle.yektrod.specs.Statuses.{status_done, status_no_memory, status_shut, status_unreadable};
@@ -9,8 +9,8 @@ ghost use Rattle.yektrod.specs.Statuses.{status_done, status_no_memory, status_s
 use crate::slot::Slot;
 use crate::status::{DONE, NO_MEMORY, SHUT, UNREADABLE};
 use crate::texts::{are_texts, names_of};
-use attr_engine::Question;
 use bstr::BStr;
+use gix_attributes::engine::Question;
 use gix_attributes::glob::pattern::Case;
 use std::alloc::Global;
 

@@ -1,7 +1,7 @@
 //! All answers at once, as rows and texts.
 
 ghost use Rattle.std.specs.Prelude.{◌≡◌, ◌⊎◌, ◌↔◌, ◌<◌, ◌≤◌, ◌++◌, ◌-◌, IfSome, IfNone, MatchOption, None, Some, [], drop, length, map, min, nat_lt, option_map, slice_set, if◌then◌else◌};
-ghost use Rattle.attr_engine.specs.EngineStates.{AnswersTo, FindsFor, without_answers};
+ghost use Rattle.gix_attributes.specs.EngineStates.{AnswersTo, FindsFor, without_answers};
 ghost use Rattle.yektrod.specs.Held.{Becomes, found_held, held, labelled, sourced};
 ghost use Rattle.yektrod.specs.inner.Laid.{IsLaid, IsLaidBehind};
 ghost use Rattle.yektrod.specs.Passed.{IsFolderNumber, folder_flag, passed_case};
@@ -16,8 +16,8 @@ use crate::row_texts::RowTexts;
 use crate::slot::Slot;
 use crate::sourced::SourcedEngine;
 use crate::status::{DONE, MISSING, NO_MEMORY, NO_ROOM, SHUT, UNREADABLE};
-use attr_engine::Question;
 use bstr::BStr;
+use gix_attributes::engine::Question;
 use gix_attributes::search::AttributeId;
 use std::alloc::Global;
 

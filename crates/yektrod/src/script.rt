@@ -6,8 +6,8 @@ ghost use Rattle.yektrod.specs.Statuses.{status_done, status_malformed, status_n
 
 use crate::room::Room;
 use crate::status::{DONE, MALFORMED, NO_MEMORY, NO_ROOM};
-use attr_engine::Engine;
 use check_attr::{Fault, play};
+use gix_attributes::engine::Engine;
 use std::alloc::Global;
 
 /// Plays a script over an engine of its own, and puts what fits of its text to the front of `out`. `written` gets the length of the

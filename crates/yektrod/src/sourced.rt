@@ -2,12 +2,12 @@
 
 ghost use Rattle.std.specs.Prelude.{◌≡◌, ◌↔◌, ◌<◌, IfOk, IsTrue, OnErr, OnOk, Some, false, length, map, option_map, string_bytes};
 ghost use Rattle.std.specs.Fmt.{decimal};
-ghost use Rattle.attr_engine.specs.EngineStates.{AnswersTo, FindsFor, unasked, with_list_below, with_selection, without_answers, without_last};
-ghost use Rattle.attr_engine.specs.EngineView.{started};
+ghost use Rattle.gix_attributes.specs.EngineStates.{AnswersTo, FindsFor, unasked, with_list_below, with_selection, without_answers, without_last};
+ghost use Rattle.gix_attributes.specs.EngineView.{started};
 ghost use Rattle.yektrod.specs.Sourced.{AreLabelled, told_content, list_number, list_view, source_in};
 
-use attr_engine::laws::sources_only_tell;
-use attr_engine::{Below, Engine, Question};
+use gix_attributes::engine::laws::sources_only_tell;
+use gix_attributes::engine::{Below, Engine, Question};
 use std::alloc::{AllocError, Global};
 use std::marker::Model;
 

@@ -3,8 +3,8 @@
 //! A function that owns devices takes long to prove, once more for each place where it can end. So one function owns
 //! those of a run, and compares all that is left at once.
 use crate::devices::{Sink, Source};
-use attr_engine::{Addition, Engine};
 use check_attr::{Fault, Globals, Pull, Push, globals, lines, play, run};
+use gix_attributes::engine::{Addition, Engine};
 use gix_attributes::files::Memory;
 use gix_attributes::search::AddError;
 use std::alloc::{AllocError, Global};

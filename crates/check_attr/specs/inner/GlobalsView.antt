@@ -1,6 +1,6 @@
 -- What is true of global lists (own).
 use Rattle.gix_attributes.specs.SearchViews.{Holds, lists_in, list_ids_in}
-use Rattle.attr_engine.specs.Registration.{RegistersAlone}
+use Rattle.gix_attributes.specs.Registration.{RegistersAlone}
 use Rattle.check_attr.specs.declared.global_lists.Globals.TheInside.{Inside}
 
 -- the collection registers the lists of the search alone

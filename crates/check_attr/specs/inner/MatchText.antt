@@ -2,7 +2,7 @@
 use Rattle.std.specs.Prelude.{ℕ, List, Some}
 use Rattle.gix_attributes.specs.Setting.{Answer}
 use Rattle.gix_attributes.specs.Slots.{Matched, table_answer}
-use Rattle.attr_engine.specs.EngineStates.{EngineContent}
+use Rattle.gix_attributes.specs.EngineStates.{EngineContent}
 use Rattle.check_attr.specs.Script.{Question}
 use Rattle.check_attr.specs.ScriptText.{entry_text}
 use Rattle.check_attr.specs.inner.ScriptViews.{question_view}

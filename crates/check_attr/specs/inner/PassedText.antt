@@ -1,6 +1,6 @@
 -- What records and scripts pass on (own).
 use Rattle.std.specs.Prelude.{◌≡◌, ℕ, List, ◌++◌, Option, Result, IfOk}
-use Rattle.attr_engine.specs.EngineStates.{EngineState}
+use Rattle.gix_attributes.specs.EngineStates.{EngineState}
 use Rattle.check_attr.specs.Script.{Question, Record}
 use Rattle.check_attr.specs.ScriptText.{IsAnswerText, IsRecordText, Writes}
 use Rattle.check_attr.specs.inner.Pieces.{Passes}

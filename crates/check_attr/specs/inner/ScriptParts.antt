@@ -9,7 +9,7 @@ use Rattle.std.specs.Str.{is_utf8}
 use Rattle.gix_attributes.specs.declared.glob.pattern.Case.{Case}
 use Rattle.gix_attributes.specs.declared.glob.pattern.Case.TheVariants.{Sensitive, Fold}
 use Rattle.gix_attributes.specs.LinesJoined.{line_feed}
-use Rattle.attr_engine.specs.EngineStates.{AddedFile}
+use Rattle.gix_attributes.specs.EngineStates.{AddedFile}
 use Rattle.check_attr.specs.Script.{Question, Record, add, pop, names, ask, space, IsHeaderNumber, BeginsWithRecord}
 use Rattle.check_attr.specs.Script.{IsMalformed}
 use Rattle.check_attr.specs.declared.script.Form.{Form}

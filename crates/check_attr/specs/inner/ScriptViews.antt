@@ -2,7 +2,7 @@
 use Rattle.std.specs.Prelude.{ℕ, List, Vec, map}
 use Rattle.std.specs.Borrow.{Bor}
 use Rattle.std.specs.Global.{Global}
-use Rattle.attr_engine.specs.EngineView.{addition_view}
+use Rattle.gix_attributes.specs.EngineView.{addition_view}
 use Rattle.check_attr.specs.Script.{Question as ReadQuestion}
 use Rattle.check_attr.specs.Script.{Record as ReadRecord, add, pop, names, ask}
 use Rattle.check_attr.specs.inner.ScriptParts.{AddHeader as ReadAddHeader, AskHeader as ReadAskHeader}

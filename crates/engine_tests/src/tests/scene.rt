@@ -1,6 +1,6 @@
 //! Steps of a test: an engine takes them one after the other, and what it returns is reported.
-use attr_engine::{Addition, Below, Engine, Question};
 use bstr::BStr;
+use gix_attributes::engine::{Addition, Below, Engine, Question};
 use gix_attributes::glob::pattern::Case;
 use gix_attributes::search::{AttributeId, Match};
 use std::alloc::{AllocError, Global};

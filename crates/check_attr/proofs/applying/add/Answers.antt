@@ -1,6 +1,6 @@
 use Rattle.std.proofs.Common.{◌++◌, ap, ◌∙◌, subst}
 use Rattle.std.specs.List.{flat_map}
-use Rattle.attr_engine.specs.EngineStates.{EngineContent}
+use Rattle.gix_attributes.specs.EngineStates.{EngineContent}
 use Rattle.check_attr.specs.ScriptText.{dropped_text}
 use Rattle.check_attr.specs.inner.Pieces.{Passes}
 use Rattle.check_attr.proofs.applying.add.Goals as goal

@@ -2,7 +2,7 @@
 use Rattle.std.proofs.Common.{[], refl, subst, sym}
 use Rattle.std.specs.List.{flat_map}
 use Rattle.gix_attributes.specs.KeptLists.{dropped_lines}
-use Rattle.attr_engine.specs.EngineView.{addition_view}
+use Rattle.gix_attributes.specs.EngineView.{addition_view}
 use Rattle.check_attr.specs.ScriptText.{IsRecordText, dropped_text}
 use Rattle.check_attr.specs.inner.ScriptViews.{record_view}
 use Rattle.check_attr.proofs.PieceLemmas.{passes_nothing, refused_at_once}

@@ -1,7 +1,7 @@
 use Rattle.std.proofs.Common.{[], subst}
 use Rattle.std.specs.Prelude.{unwrap_or}
 use Rattle.std.specs.List.{flat_map}
-use Rattle.attr_engine.specs.EngineStates.{AnswersTo}
+use Rattle.gix_attributes.specs.EngineStates.{AnswersTo}
 use Rattle.check_attr.specs.Script.{ask}
 use Rattle.check_attr.specs.inner.MatchText.{matched_text}
 use Rattle.check_attr.specs.inner.ScriptViews.{question_view}

@@ -1,5 +1,5 @@
 use Rattle.gix_attributes.specs.Additions.{registered_lists}
-use Rattle.attr_engine.proofs.ForCallers.{alone_first}
+use Rattle.gix_attributes.proofs.ForCallers.{alone_first}
 use Rattle.check_attr.proofs.global_lists.read_globals.Goals as goal
 
 pub of-requires-clause-known : goal.of-requires-clause-known

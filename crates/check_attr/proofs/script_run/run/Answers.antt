@@ -1,7 +1,7 @@
 -- What was read is the script that is played, over the engine with the global lists.
 use Rattle.std.proofs.Common.{◌≡◌, ◌≢◌, ℕ, List, Option, Some, None, Result, Ok, Err, refl, subst}
 use Rattle.std.specs.Prelude.{IfSome}
-use Rattle.attr_engine.specs.EngineStates.{EngineState}
+use Rattle.gix_attributes.specs.EngineStates.{EngineState}
 use Rattle.check_attr.specs.Outcomes.{CountsReads}
 use Rattle.check_attr.specs.ScriptStates.{GlobalLists, initial_state}
 use Rattle.check_attr.specs.ScriptText.{AppendsFrontFrom, AppendsText, AppendsTextFrom, AppendsTextFront, WritesText, WritesTextFront}

@@ -1,6 +1,6 @@
 use Rattle.std.proofs.Common.{ap, ◌∙◌}
 use Rattle.std.specs.Prelude.{Some, option_map}
-use Rattle.attr_engine.specs.EngineStates.{EngineContent}
+use Rattle.gix_attributes.specs.EngineStates.{EngineContent}
 use Rattle.yektrod.specs.Held.{answer_in}
 use Rattle.yektrod.specs.Rows.{answer_row}
 use Rattle.yektrod.proofs.AnswerLemmas.{none_there, row_there}

@@ -1,7 +1,7 @@
 use Rattle.std.proofs.Common.{ap, ◌∙◌}
 use Rattle.std.specs.Prelude.{option_and_then}
 use Rattle.std.proofs.Math.Facts.{to_z-of_z}
-use Rattle.attr_engine.specs.EngineStates.{EngineContent}
+use Rattle.gix_attributes.specs.EngineStates.{EngineContent}
 use Rattle.yektrod.specs.Held.{answer_in, text_in}
 use Rattle.yektrod.specs.Rows.{text_numbered}
 use Rattle.yektrod.specs.Sourced.{told_content}

@@ -1,6 +1,6 @@
 use Rattle.std.proofs.Common.{ap, ◌∙◌}
 use Rattle.std.proofs.Math.Facts.{to_z-of_z}
-use Rattle.attr_engine.specs.EngineStates.{AnswersTo, FindsFor}
+use Rattle.gix_attributes.specs.EngineStates.{AnswersTo, FindsFor}
 use Rattle.yektrod.specs.Passed.{folder_flag}
 use Rattle.yektrod.specs.Sourced.{told_content}
 use Rattle.yektrod.specs.SourcedContents.{SourcedContent}

@@ -4,7 +4,7 @@ use Rattle.std.proofs.lemmas.List.{take_all}
 use Rattle.std.proofs.lemmas.List.FromFn.{get_or-map-range_with_len, length-map-range_with_len}
 use Rattle.gix_attributes.specs.Contents.{unspecified}
 use Rattle.gix_attributes.specs.Slots.{Matched}
-use Rattle.attr_engine.specs.EngineStates.{EngineContent}
+use Rattle.gix_attributes.specs.EngineStates.{EngineContent}
 use Rattle.yektrod.specs.inner.Laid.{IsLaid}
 use Rattle.yektrod.specs.RowsTold.{answers_of, place_of, row_at, rows_of, text_of}
 use Rattle.yektrod.proofs.AnswerLemmas.{texts_more}

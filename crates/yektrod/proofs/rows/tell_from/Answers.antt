@@ -1,6 +1,6 @@
 use Rattle.std.proofs.Common.{◌≡◌, ◌<◌, ◌-◌, ◌+◌, List, [], ap, ◌∙◌, sym, arith, length, drop, unwrap_or, length-drop, get_or-drop}
 use Rattle.std.proofs.lemmas.List.FromFn.{get_or-map-range_with_len, length-map-range_with_len}
-use Rattle.attr_engine.specs.EngineStates.{EngineContent}
+use Rattle.gix_attributes.specs.EngineStates.{EngineContent}
 use Rattle.yektrod.specs.RowsTold.{answers_of, row_at, rows_alone}
 use Rattle.yektrod.specs.declared.row.Row.{Row}
 use Rattle.yektrod.proofs.RowLemmas.{laid_in_room_end, laid_in_room_next, laid_in_room_none}

@@ -1,4 +1,4 @@
-use Rattle.attr_engine.specs.EngineStates.{AnswersTo, FindsFor}
+use Rattle.gix_attributes.specs.EngineStates.{AnswersTo, FindsFor}
 use Rattle.yektrod.specs.Sourced.{told_content}
 use Rattle.yektrod.specs.SourcedContents.{SourcedContent}
 use Rattle.yektrod.proofs.AnswerLemmas.{asked}

@@ -4,8 +4,8 @@ use Rattle.std.specs.Fmt.{decimal}
 use Rattle.std.specs.Global.{Global}
 use Rattle.std.specs.Option.{option_copied}
 use Rattle.std.proofs.lemmas.List.{length-map, map-append}
-use Rattle.attr_engine.specs.EngineStates.{AddedList, EngineContent, with_list_below}
-use Rattle.attr_engine.specs.Told.{content_told}
+use Rattle.gix_attributes.specs.EngineStates.{AddedList, EngineContent, with_list_below}
+use Rattle.gix_attributes.specs.Told.{content_told}
 use Rattle.yektrod.specs.Sourced.{list_view, source_in, told_content}
 use Rattle.yektrod.specs.SourcedContents.{SourcedContent}
 use Rattle.yektrod.proofs.SourcedLemmas.{labels_added, told_added}

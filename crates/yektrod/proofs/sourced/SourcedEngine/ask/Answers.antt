@@ -1,6 +1,6 @@
 use Rattle.std.proofs.Common.{List, ℕ, OnOk, map, subst}
-use Rattle.attr_engine.specs.EngineStates.{AnswersTo, FindsFor}
-use Rattle.attr_engine.specs.Told.{content_told}
+use Rattle.gix_attributes.specs.EngineStates.{AnswersTo, FindsFor}
+use Rattle.gix_attributes.specs.Told.{content_told}
 use Rattle.yektrod.specs.Sourced.{source_in, told_content}
 use Rattle.yektrod.specs.SourcedContents.{SourcedContent}
 use Rattle.yektrod.proofs.SourcedLemmas.{on_ok}

@@ -3,8 +3,8 @@ use Rattle.std.specs.Prelude.{Vec}
 use Rattle.std.specs.List.{range_with_len}
 use Rattle.std.specs.Global.{Global}
 use Rattle.gix_attributes.specs.Globals.{built_in_source}
-use Rattle.attr_engine.specs.EngineStates.{EngineContent}
-use Rattle.attr_engine.specs.Told.{content_told}
+use Rattle.gix_attributes.specs.EngineStates.{EngineContent}
+use Rattle.gix_attributes.specs.Told.{content_told}
 use Rattle.yektrod.specs.Sourced.{index_labelled, source_in}
 use Rattle.yektrod.proofs.SourcedLemmas.{labels_started, started_told}
 use Rattle.yektrod.proofs.sourced.SourcedEngine.new.Goals as goal

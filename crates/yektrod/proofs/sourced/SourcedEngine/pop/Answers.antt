@@ -1,7 +1,7 @@
 use Rattle.std.proofs.Common.{◌≡◌, ap, ◌∙◌, refl, sym, arith, length, ◌-◌}
 use Rattle.std.proofs.lemmas.List.{length-map, length-take-le}
-use Rattle.attr_engine.specs.EngineStates.{EngineContent, without_last}
-use Rattle.attr_engine.specs.Told.{content_told}
+use Rattle.gix_attributes.specs.EngineStates.{EngineContent, without_last}
+use Rattle.gix_attributes.specs.Told.{content_told}
 use Rattle.yektrod.specs.Sourced.{source_in, told_content}
 use Rattle.yektrod.specs.SourcedContents.{SourcedContent}
 use Rattle.yektrod.proofs.SourcedLemmas.{count_popped, labels_popped, sources_popped, told_popped}

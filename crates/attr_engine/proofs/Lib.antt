@@ -1,5 +1,0 @@
-mod RegistrationLemmas
-mod AnswerLemmas
-mod LabelLemmas
-mod ToldLemmas
-pub mod ForCallers

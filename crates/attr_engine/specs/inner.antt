@@ -1,2 +1,0 @@
--- Relations between inner functions (own). No contract of a public call reaches them, so nothing here has to be believed.
-pub mod SoundEngines

@@ -1,0 +1,261 @@
+-- The answers of an engine after a search: those of the only stable table, and where they are.
+use Rattle.std.proofs.Common.{◌≡◌, ℕ, ◌+◌, ◌<◌, ◌≤◌, Bool, true, false, List, [], ◌∷◌, length, drop, map, Option, Some, None}
+use Rattle.std.proofs.Common.{◌⊎◌, ⊎_elim, MatchOption, option_map, slice_get, get_or, refl, sym, ap, ◌∙◌, arith, subst, eqb-true}
+use Rattle.std.specs.Prelude.{◌==◌, ⊤, bytes_eq, if◌then◌else◌, option_and_then, unwrap_or}
+use Rattle.std.specs.List.{IsDistinct}
+use Rattle.std.proofs.lemmas.List.{length-map, drop_more, drop_all}
+use Rattle.std.proofs.lemmas.Option.{get_or_from_slice_get, slice_get_cases, slice_get_within}
+use Rattle.attr_lists.specs.Collections.{Collection}
+use Rattle.gix_attributes.specs.Contents.{Content, Wanted, found_in, initial_content, looked_up, names_selected, reset_content, selected_in}
+use Rattle.gix_attributes.specs.Contents.{wanted_of}
+use Rattle.attr_table.specs.Cut.{IsSearched}
+use Rattle.gix_attributes.specs.Lookups.{FindsAnswers, IsLookedUp, Lookup, OfTheOnlyTable, answers_by_number, selected_answers}
+use Rattle.attr_lists.specs.Numbers.{number_of}
+use Rattle.gix_attributes.specs.Searching.{KeepsAllButAnswers, KeepsNames, answers_in, setting_for}
+use Rattle.attr_search.specs.Settings.{HeldAreNamed, setting_of}
+use Rattle.attr_search.specs.Slots.{Matched}
+use Rattle.attr_table.specs.Table.{Slots}
+use Rattle.attr_lists.proofs.ForCallers.{number_at}
+use Rattle.gix_attributes.proofs.KeepingLemmas.{bodies_have_names}
+use Rattle.gix_attributes.proofs.LookupLemmas.{all_named, looked_up_answers, looked_up_found}
+use Rattle.gix_attributes.proofs.OutcomeLemmas.{emptied_again}
+use Rattle.gix_attributes.proofs.OutcomeLemmas.{reset_at_first, reset_searched}
+use Rattle.gix_attributes.specs.EngineStates.{EngineState, is_specified, path_setting, returned_answers, specified_among, texts_answered}
+use Rattle.gix_attributes.specs.EngineView.{returned_by}
+use Rattle.gix_attributes.specs.Registration.{RegistersAlone}
+use Rattle.gix_attributes.specs.inner.SoundEngines.{AreNumbered, ArePlacesOf, IsCurrentFor, IsOfNames, is_slot_specified}
+use Rattle.std.proofs.lemmas.Option.{slice_get-map}
+use Rattle.gix_attributes.proofs.RegistrationLemmas.{bodies_registered}
+
+-- ---- selected names
+
+-- names stay what they are where they are looked up
+pub names_again : (names selected : List (List ℕ)) → names_selected (looked_up names selected) ≡ selected
+names_again names [] = refl
+names_again names (name ∷ selected) = ap (λ all. name ∷ all) (names_again names selected)
+
+-- an outcome that is initialised is current
+pub current_at_first : (known : Collection) (selected : List (List ℕ)) (held : Content) → held ≡ initial_content known selected
+    → IsCurrentFor known held
+current_at_first known selected held e =
+    ap reset_content e
+    ∙ (reset_at_first known selected
+    ∙ ap (initial_content known) (sym (ap (λ (h : Content). names_selected h.selection) e ∙ names_again known.names selected)))
+
+-- and stays so by searches and resets, for the names and the selection stay
+pub current_searched : (known : Collection) (before after : Content) → KeepsAllButAnswers before after → IsCurrentFor known before
+    → IsCurrentFor known after
+current_searched known before after kept current =
+    reset_searched before after kept
+    ∙ (current ∙ ap (λ selection. initial_content known (names_selected selection)) (sym (ap (λ (h : Content). h.selection) kept.rest)))
+
+pub current_reset : (known : Collection) (before after : Content) → after ≡ reset_content before → IsCurrentFor known before
+    → IsCurrentFor known after
+current_reset known before after e current =
+    ap reset_content e
+    ∙ (emptied_again before
+    ∙ (current ∙ ap (λ (h : Content). initial_content known (names_selected h.selection)) (sym e)))
+
+-- an outcome that is initialised or searched has the selection that it is initialised with
+pub selection_kept : (known : Collection) (selected : List (List ℕ)) (before after : Content) → before ≡ initial_content known selected
+    → KeepsAllButAnswers before after → after.selection ≡ looked_up known.names selected
+selection_kept known selected before after fresh kept =
+    ap (λ (h : Content). h.selection) kept.rest ∙ ap (λ (h : Content). h.selection) fresh
+
+-- ---- answers
+
+if_true : {X : Type 0} (b : Bool) (x y : X) → b ≡ true → (if b then x else y) ≡ x
+if_true true x y e = refl
+if_true false x y e = absurd (cc)
+
+if_false : {X : Type 0} (b : Bool) (x y : X) → b ≡ false → (if b then x else y) ≡ y
+if_false true x y e = absurd (cc)
+if_false false x y e = refl
+
+module _ (q : Lookup) (list_ids : List ℕ) (before after : Content)
+    (same : length list_ids ≡ length q.lists) (knows : RegistersAlone q.known list_ids q.lists) (fresh : before ≡ initial_content q.known q.selected)
+    (searched : IsSearched (setting_for q.lists before q.path q.case q.is_dir) (wanted_of before) (answers_in before) (answers_in after))
+    (keeps : KeepsNames q.lists before after) (kept : KeepsAllButAnswers before after) where
+  abbrev state : EngineState
+  state = record { names = q.known.names; lists = q.lists; selection = q.selected }
+
+  looked : IsLookedUp q before after
+  looked =
+      record {
+        initialized = fresh;
+        lists_named = knows.named;
+        bodies_named = bodies_have_names q.known knows.exactly.sound;
+        searched = searched;
+        named = keeps;
+        kept = kept;
+      }
+
+  -- an outcome selects as many names as are selected
+  count : length after.selection ≡ length q.selected
+  count = ap length (selection_kept q.known q.selected before after fresh kept) ∙ length-map q.selected _
+
+  returned : (answers : Slots) (b : Bool) → (length q.selected == 0) ≡ b
+      → (length q.selected ≡ 0 → found_in after.slots ≡ answers_by_number q.known.names answers)
+      → selected_in after.slots after.selection ≡ selected_answers q.known.names answers q.selected
+      → returned_by after ≡ returned_answers state answers
+  returned answers true e all selected =
+      if_true (length after.selection == 0) _ _ (ap (λ n. n == 0) count ∙ e)
+      ∙ (ap specified_among (all (eqb-true (length q.selected) 0 e))
+      ∙ sym (if_true (length q.selected == 0) _ _ e))
+  returned answers false e all selected =
+      if_false (length after.selection == 0) _ _ (ap (λ n. n == 0) count ∙ e)
+      ∙ (selected ∙ sym (if_false (length q.selected == 0) _ _ e))
+
+  -- the answers that are returned are those of the only stable table of the lists
+  pub answered : OfTheOnlyTable (path_setting state q.path q.case q.is_dir) (λ answers. returned_by after ≡ returned_answers state answers)
+  answered =
+      let found = looked_up_answers q before after looked in
+      subst
+      (λ bodies. OfTheOnlyTable (setting_of q.lists bodies q.path q.case q.is_dir)
+      (λ answers. returned_by after ≡ returned_answers state answers))
+      (bodies_registered q.known list_ids q.lists q.selected same knows)
+      (found.0, returned _ (length q.selected == 0) refl found.1.all found.1.selected)
+
+  -- and so is what is found by number
+  pub found : OfTheOnlyTable (path_setting state q.path q.case q.is_dir) (λ answers. FindsAnswers q.known.names q.selected answers after.slots)
+  found =
+      subst
+      (λ bodies. OfTheOnlyTable (setting_of q.lists bodies q.path q.case q.is_dir)
+      (λ answers. FindsAnswers q.known.names q.selected answers after.slots))
+      (bodies_registered q.known list_ids q.lists q.selected same knows)
+      (looked_up_found q before after looked)
+
+  -- with the names of the collection
+  pub of_names : IsOfNames q.known.names after
+  of_names =
+      let selection = selection_kept q.known q.selected before after fresh kept in
+      record {
+        selection = selection
+            ∙ ap (looked_up q.known.names) (sym (ap names_selected selection ∙ names_again q.known.names q.selected));
+        answers = all_named q before after looked;
+      }
+
+-- ---- where the answers are, if nothing is selected
+
+kept_one : (m : Matched) (ms : List Matched) → is_specified m.assignment.state ≡ true → specified_among (m ∷ ms) ≡ m ∷ specified_among ms
+kept_one m ms e = if_true (is_specified m.assignment.state) _ _ e
+
+left_out : (m : Matched) (ms : List Matched) → is_specified m.assignment.state ≡ false → specified_among (m ∷ ms) ≡ specified_among ms
+left_out m ms e = if_false (is_specified m.assignment.state) _ _ e
+
+-- what is left to be numbered from a number on
+abbrev pub left_from : List (Option Matched) → ℕ → List (Option Matched)
+left_from slots i = map Some (specified_among (found_in (drop i slots)))
+
+-- a slot with a specified match is numbered
+pub numbers_one : (slots : List (Option Matched)) (i : ℕ) → i < length slots → is_slot_specified (get_or slots i None) ≡ true
+    → left_from slots i ≡ get_or slots i None ∷ left_from slots (i + 1)
+numbers_one slots i lt e = ap (λ l. map Some (specified_among (found_in l))) (drop_more slots i None lt) ∙ at (get_or slots i None) e
+  where
+    rest : List (Option Matched)
+    rest = drop (i + 1) slots
+
+    at : (o : Option Matched) → is_slot_specified o ≡ true
+        → map Some (specified_among (found_in (o ∷ rest))) ≡ o ∷ map Some (specified_among (found_in rest))
+    at None e = absurd (cc)
+    at (Some m) e = ap (map Some) (kept_one m (found_in rest) e)
+
+-- and each other slot is passed over
+pub passes_one : (slots : List (Option Matched)) (i : ℕ) → i < length slots → is_slot_specified (get_or slots i None) ≡ false
+    → left_from slots i ≡ left_from slots (i + 1)
+passes_one slots i lt e = ap (λ l. map Some (specified_among (found_in l))) (drop_more slots i None lt) ∙ at (get_or slots i None) e
+  where
+    rest : List (Option Matched)
+    rest = drop (i + 1) slots
+
+    at : (o : Option Matched) → is_slot_specified o ≡ false
+        → map Some (specified_among (found_in (o ∷ rest))) ≡ map Some (specified_among (found_in rest))
+    at None e = refl
+    at (Some m) e = ap (map Some) (left_out m (found_in rest) e)
+
+-- after the last slot nothing is left
+pub none_left : (slots : List (Option Matched)) (i : ℕ) → length slots ≤ i → left_from slots i ≡ []
+none_left slots i le = ap (λ l. map Some (specified_among (found_in l))) (drop_all i slots le)
+
+-- as many numbers as answers
+pub same_length : (slots : List (Option Matched)) (matches : List Matched) (numbers : List ℕ) → ArePlacesOf slots matches numbers
+    → length numbers ≡ length matches
+same_length slots matches numbers places =
+    sym (length-map numbers (λ number. get_or slots number None)) ∙ (ap length places ∙ length-map matches (λ m. Some m))
+
+some_of_some : {X : Type 0} (o p : Option X) → Some o ≡ option_map (λ y. Some y) p → o ≡ p
+some_of_some o None e = absurd (cc)
+some_of_some o (Some y) e = cc
+
+-- the answer at a place is in the slot with the number there
+pub at_place : (slots : List (Option Matched)) (matches : List Matched) (numbers : List ℕ) (i n : ℕ) → ArePlacesOf slots matches numbers
+    → slice_get numbers i ≡ Some n → get_or slots n None ≡ slice_get matches i
+at_place slots matches numbers i n places here =
+    some_of_some (get_or slots n None) (slice_get matches i)
+    (ap (option_map (λ number. get_or slots number None)) (sym here)
+    ∙ (sym (slice_get-map (λ number. get_or slots number None) numbers i)
+    ∙ (ap (λ l. slice_get l i) places ∙ slice_get-map (λ m. Some m) matches i)))
+
+-- without a selection, the answer with a number is the match in the slot there
+pub answer_in_slot : (has : Bool) (held : Content) (numbers : List ℕ) (i n : ℕ) (o : Option Matched) → has ≡ true → length held.selection ≡ 0
+    → (has ≡ true → AreNumbered held numbers) → slice_get numbers i ≡ Some n → o ≡ get_or held.slots n None
+    → o ≡ option_and_then (λ answers. slice_get answers i) (if has then Some (returned_by held) else None)
+answer_in_slot has held numbers i n o given none numbered here o_is =
+    let no_selection : (length held.selection == 0) ≡ true = ap (λ k. k == 0) none in
+    let read : Option (List Matched) → Option Matched = option_and_then (λ answers. slice_get answers i) in
+    o_is
+    ∙ (at_place held.slots (specified_among (found_in held.slots)) numbers i n (numbered given no_selection) here
+    ∙ sym (ap read (if_true has (Some (returned_by held)) None given)
+    ∙ ap (λ answers. slice_get answers i) (if_true (length held.selection == 0) _ _ no_selection)))
+
+-- ---- the numbers of the attributes that answers are for
+
+-- what is read at an index of the answers
+abbrev texts_of : List (List ℕ) → List (List ℕ) → List Matched → List (List ℕ)
+texts_of names selected answers = texts_answered (record { names = names; lists = []; selection = selected }) answers
+
+abbrev Numbered : List (List ℕ) → List (List ℕ) → Option (List Matched) → ℕ → Option ℕ → Type 0
+Numbered names selected answers i o =
+    o ≡ option_and_then (λ ms. option_and_then (number_of names) (slice_get (texts_of names selected ms) i)) answers
+
+-- the number of a slot whose match has the name of the number
+number_of_slot : (names : List (List ℕ)) (slots : List (Option Matched)) (n : ℕ) (m : Matched) → IsDistinct bytes_eq names
+    → HeldAreNamed names slots → get_or slots n None ≡ Some m → number_of names m.assignment.name ≡ Some n
+number_of_slot names slots n m distinct named here =
+    let own : slice_get names n ≡ Some m.assignment.name =
+    subst (λ o. MatchOption o ⊤ (λ (x : Matched). slice_get names n ≡ Some x.assignment.name)) here (named n) in
+    let below : n < length names = slice_get_within names n m.assignment.name own in
+    ap (number_of names) (sym (get_or_from_slice_get names n m.assignment.name [] own)) ∙ number_at names n distinct below
+
+-- without a selection, the number at an index is that of the answer's name
+pub answer_number : (names : List (List ℕ)) (has : Bool) (held : Content) (numbers : List ℕ) (i n : ℕ) → IsDistinct bytes_eq names
+    → has ≡ true → length held.selection ≡ 0 → (has ≡ true → AreNumbered held numbers) → (has ≡ true → IsOfNames names held)
+    → slice_get numbers i ≡ Some n
+    → Numbered names (names_selected held.selection) (if has then Some (returned_by held) else None) i (Some n)
+answer_number names has held numbers i n distinct given none numbered named here =
+    let no_selection : (length held.selection == 0) ≡ true = ap (λ k. k == 0) none in
+    let no_texts : (length (names_selected held.selection) == 0) ≡ true =
+    ap (λ k. k == 0) (length-map held.selection (λ (w : Wanted). w.name)) ∙ no_selection in
+    let places = numbered given no_selection in
+    let matches = specified_among (found_in held.slots) in
+    let within = slice_get_within numbers i n here in
+    let count = same_length held.slots matches numbers places in
+    ⊎_elim
+    (λ (r : (m : Matched) × (i < length matches) × (slice_get matches i ≡ Some m) × (get_or matches i m ≡ m)).
+    sym (ap (option_and_then (number_of names)) (slice_get-map (λ (m : Matched). m.assignment.name) matches i
+    ∙ ap (option_map (λ (m : Matched). m.assignment.name)) r.2)
+    ∙ number_of_slot names held.slots n r.0 distinct (named given).answers (at_place held.slots matches numbers i n places here ∙ r.2)))
+    (λ (past : (length matches ≤ i) × (slice_get matches i ≡ None)). absurd (omega (arith, past.0, within, count)))
+    (slice_get_cases matches i).1
+    ∙ (ap (λ l. option_and_then (number_of names) (slice_get l i))
+    (sym (if_true (length (names_selected held.selection) == 0) (map (λ (m : Matched). m.assignment.name) matches) _ no_texts))
+    ∙ sym (ap (option_and_then (λ ms. option_and_then (number_of names) (slice_get (texts_of names (names_selected held.selection) ms) i)))
+    (if_true has (Some (returned_by held)) None given
+    ∙ ap Some (if_true (length held.selection == 0) matches _ no_selection))))
+
+-- the answers from a number on begin with the one that has the number
+pub next_answer : {X : Type 0} (answers : Option (List X)) (i : ℕ) (x : X) → Some x ≡ option_and_then (λ xs. slice_get xs i) answers
+    → drop i (unwrap_or answers []) ≡ x ∷ drop (i + 1) (unwrap_or answers [])
+next_answer None i x e = absurd (cc)
+next_answer (Some xs) i x e =
+    drop_more xs i x (slice_get_within xs i x (sym e)) ∙ ap (λ y. y ∷ drop (i + 1) xs) (get_or_from_slice_get xs i x x (sym e))

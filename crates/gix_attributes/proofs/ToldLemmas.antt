@@ -1,0 +1,331 @@
+-- Sources only tell: lists that differ in their sources alone have the same answers, but for the sources of these.
+use Rattle.std.proofs.Common.{◌≡◌, ℕ, zero, suc, ◌-◌, ◌⊎◌, inl, inr, ⊎_elim, ◌==◌, Bool, true, false, List, [], ◌∷◌, ◌++◌, length, map, take}
+use Rattle.std.proofs.Common.{Option, Some, None, MatchOption, option_map, slice_get, unwrap_or, refl, sym, ap, ◌∙◌, subst, get_or}
+use Rattle.std.proofs.Math.Path.{fun_ext}
+use Rattle.std.specs.Prelude.{⊤, option_and_then, if◌then◌else◌}
+use Rattle.std.specs.List.{cons_option, filter_map, range_with_len}
+use Rattle.std.proofs.lemmas.List.{length-map, map-append, take-map}
+use Rattle.std.proofs.lemmas.List.Elements.{All-weaker}
+use Rattle.std.proofs.lemmas.Option.{slice_get-map}
+use Rattle.attr_table.specs.Cut.{answer_at, answer_of, cause_at, no_answers, origin_at}
+use Rattle.gix_attributes.specs.Contents.{unspecified}
+use Rattle.attr_index.specs.ListView.{Listed, rest_for}
+use Rattle.attr_lists.specs.ListViews.{Entry}
+use Rattle.gix_attributes.specs.Lookups.{FindsAnswers, IsFound, OfTheOnlyTable, answer_for, answers_by_number, named_answer}
+use Rattle.gix_attributes.specs.Lookups.{selected_answers, table_answers}
+use Rattle.attr_lists.specs.Numbers.{number_of}
+use Rattle.gix_attributes.specs.Registers.{definitions_in}
+use Rattle.attr_lists.specs.Definitions.{bodies_named}
+use Rattle.attr_table.specs.Setting.{Answer, Item, Line, Origin, Setting, body_of}
+use Rattle.attr_search.specs.Settings.{line_of, lines_of}
+use Rattle.attr_search.specs.Slots.{Matched, table_items}
+use Rattle.attr_table.specs.Table.{Inside, IsEarliest, IsLive, IsReached, IsStable, Occurrence, Root, Slots, Table, item_at, line_at}
+use Rattle.attr_wildmatch.specs.declared.case.Case.{Case}
+use Rattle.gix_attributes.specs.EngineStates.{AddedList, AnswersTo, EngineContent, EngineState, FindsFor, bodies_by, is_specified, number_answered}
+use Rattle.gix_attributes.specs.EngineStates.{path_setting, returned_answers, specified_among, with_list_below, without_last}
+use Rattle.gix_attributes.specs.Told.{addition_told, content_told, list_told, match_told, origin_told, state_told}
+
+-- ---- settings with the same items have the same stable tables
+
+reached_same : (s t : Setting) → ((o : Occurrence) → item_at s o ≡ item_at t o) → (table : Table) (o : Occurrence) → IsReached s table o →
+    IsReached t table o
+reached_same s t same table (Root list line item) h = h
+reached_same s t same table (Inside parent place) h = (h.0, sym (same parent) ∙ h.1, h.2, h.3)
+
+live_same : (s t : Setting) → ((o : Occurrence) → item_at s o ≡ item_at t o) → (table : Table) (o : Occurrence) (i : Item) →
+    IsLive s table o i → IsLive t table o i
+live_same s t same table o i live =
+    record { item = sym (same o) ∙ live.item; reached = reached_same s t same table o live.reached }
+
+earliest_same : (s t : Setting) → ((o : Occurrence) → item_at s o ≡ item_at t o) → (table : Table) (a : ℕ) (entry : Option Occurrence) →
+    IsEarliest s table a entry → IsEarliest t table a entry
+earliest_same s t same table a None none = λ o i live. none o i (live_same t s (λ p. sym (same p)) table o i live)
+earliest_same s t same table a (Some o) first = (
+  (first.0.0, live_same s t same table o first.0.0 first.0.1, first.0.2),
+  λ p i live e. first.1 p i (live_same t s (λ q. sym (same q)) table p i live) e,
+)
+
+stable_same : (s t : Setting) → ((o : Occurrence) → item_at s o ≡ item_at t o) → (table : Table) → IsStable s no_answers table →
+    IsStable t no_answers table
+stable_same s t same table stable a = earliest_same s t same table a (table a) (stable a)
+
+module _ (told : List ℕ → List ℕ) where
+  -- ---- a setting whose lines tell other sources
+
+  abbrev line_told : Line → Line
+  line_told l = record { origin = origin_told told l.origin; items = l.items }
+
+  abbrev setting_told : Setting → Setting
+  setting_told s = record { lists = map (map line_told) s.lists; bodies = s.bodies }
+
+  abbrev answer_told : Answer → Answer
+  answer_told x = record { origin = origin_told told x.origin; assignment = x.assignment; is_macro = x.is_macro; cause = x.cause }
+
+  abbrev answers_told : Slots → Slots
+  answers_told answers number = option_map answer_told (answers number)
+
+  line_same : (s : Setting) (list line : ℕ) → line_at (setting_told s) list line ≡ option_map line_told (line_at s list line)
+  line_same s list line =
+      ap (option_and_then (λ lines. slice_get lines line)) (slice_get-map (map line_told) s.lists list) ∙ at (slice_get s.lists list)
+    where
+      at : (o : Option (List Line)) → option_and_then (λ lines. slice_get lines line) (option_map (map line_told) o)
+          ≡ option_map line_told (option_and_then (λ lines. slice_get lines line) o)
+      at None = refl
+      at (Some lines) = slice_get-map line_told lines line
+
+  item_same : (s : Setting) (o : Occurrence) → item_at (setting_told s) o ≡ item_at s o
+  item_same s (Root list line item) =
+      ap (option_and_then (λ (l : Line). slice_get l.items item)) (line_same s list line) ∙ at (line_at s list line)
+    where
+      at : (o : Option Line) → option_and_then (λ (l : Line). slice_get l.items item) (option_map line_told o)
+          ≡ option_and_then (λ (l : Line). slice_get l.items item) o
+      at None = refl
+      at (Some l) = refl
+  item_same s (Inside parent place) =
+      ap (option_and_then (λ (i : Item). slice_get (body_of s.bodies i.attribute) place)) (item_same s parent)
+
+  origin_same : (s : Setting) (o : Occurrence) → origin_at (setting_told s) o ≡ option_map (origin_told told) (origin_at s o)
+  origin_same s (Root list line item) = ap (option_map (λ (l : Line). l.origin)) (line_same s list line) ∙ at (line_at s list line)
+    where
+      at : (o : Option Line) → option_map (λ (l : Line). l.origin) (option_map line_told o)
+          ≡ option_map (origin_told told) (option_map (λ (l : Line). l.origin) o)
+      at None = refl
+      at (Some l) = refl
+  origin_same s (Inside parent place) = origin_same s parent
+
+  cause_same : (s : Setting) (o : Occurrence) → cause_at (setting_told s) o ≡ cause_at s o
+  cause_same s (Root list line item) = refl
+  cause_same s (Inside parent place) = ap (option_map (λ (i : Item). i.attribute)) (item_same s parent)
+
+  -- its answers tell the other sources
+  answer_same : (s : Setting) (o : Occurrence) → answer_at (setting_told s) o ≡ option_map answer_told (answer_at s o)
+  answer_same s o =
+      ap (λ origin. By origin (item_at (setting_told s) o) (cause_at (setting_told s) o)) (origin_same s o)
+      ∙ (ap (λ item. By (option_map (origin_told told) (origin_at s o)) item (cause_at (setting_told s) o)) (item_same s o)
+      ∙ (ap (By (option_map (origin_told told) (origin_at s o)) (item_at s o)) (cause_same s o)
+      ∙ at (origin_at s o) (item_at s o)))
+    where
+      By : Option Origin → Option Item → Option ℕ → Option Answer
+      By origin item cause = option_and_then (λ origin. option_map (λ i. answer_of s.bodies origin i cause) item) origin
+
+      at : (origin : Option Origin) (item : Option Item) →
+          By (option_map (origin_told told) origin) item (cause_at s o) ≡ option_map answer_told (By origin item (cause_at s o))
+      at None item = refl
+      at (Some origin) None = refl
+      at (Some origin) (Some i) = refl
+
+  answers_same : (s : Setting) (table : Table) → table_answers (setting_told s) table ≡ answers_told (table_answers s table)
+  answers_same s table = fun_ext (λ number. at (table number))
+    where
+      at : (o : Option Occurrence) → option_and_then (answer_at (setting_told s)) o ≡ option_map answer_told (option_and_then (answer_at s) o)
+      at None = refl
+      at (Some o) = answer_same s o
+
+  only_told : (s : Setting) (Holds HoldsTold : Slots → Type 0) → ((answers : Slots) → Holds answers → HoldsTold (answers_told answers)) →
+      OfTheOnlyTable s Holds → OfTheOnlyTable (setting_told s) HoldsTold
+  only_told s Holds HoldsTold from (one, holds) = (
+    (
+      one.0,
+      stable_same s (setting_told s) (λ o. sym (item_same s o)) one.0 one.1,
+      λ other stable. one.2 other (stable_same (setting_told s) s (item_same s) other stable),
+    ),
+    subst HoldsTold (sym (answers_same s one.0)) (from (table_answers s one.0) holds),
+  )
+
+  -- ---- lists with other sources
+
+  lines_same : (case : Case) (is_dir : Option Bool) (source rest : Option (List ℕ)) (lines : List Entry) →
+      map (line_of case is_dir (option_map told source) rest) lines ≡ map line_told (map (line_of case is_dir source rest) lines)
+  lines_same case is_dir source rest [] = refl
+  lines_same case is_dir source rest (line ∷ lines) =
+      ap (λ ls. line_of case is_dir (option_map told source) rest line ∷ ls) (lines_same case is_dir source rest lines)
+
+  lists_same : (case : Case) (is_dir : Option Bool) (path : List ℕ) (lists : List Listed) →
+      map (lines_of case is_dir path) (map (list_told told) lists) ≡ map (map line_told) (map (lines_of case is_dir path) lists)
+  lists_same case is_dir path [] = refl
+  lists_same case is_dir path (list ∷ lists) =
+      ap (λ ls. ls ∷ map (lines_of case is_dir path) (map (list_told told) lists))
+      (lines_same case is_dir list.source (rest_for case path list) list.lines)
+      ∙ ap (λ ls. map line_told (lines_of case is_dir path list) ∷ ls) (lists_same case is_dir path lists)
+
+  definitions_same : (lists : List Listed) (name : List ℕ) → definitions_in (map (list_told told) lists) name ≡ definitions_in lists name
+  definitions_same [] name = refl
+  definitions_same (list ∷ lists) name = ap (λ ds. bodies_named name list.lines ++ ds) (definitions_same lists name)
+
+  bodies_same : (s : EngineState) → bodies_by (state_told told s) ≡ bodies_by s
+  bodies_same s =
+      ap (λ last. map last s.names)
+      (fun_ext (λ name. ap (λ bodies. unwrap_or (slice_get bodies (length bodies - 1)) []) (definitions_same s.lists name)))
+
+  setting_same : (s : EngineState) (path : List ℕ) (case : Case) (is_dir : Option Bool) →
+      setting_told (path_setting s path case is_dir) ≡ path_setting (state_told told s) path case is_dir
+  setting_same s path case is_dir =
+      let make : List (List Line) → List (List Item) → Setting = λ lists bodies. record { lists = lists; bodies = bodies } in
+      ap (λ lists. make lists (map table_items (bodies_by s))) (sym (lists_same case is_dir path s.lists))
+      ∙ ap (λ bodies. make (map (lines_of case is_dir path) (map (list_told told) s.lists)) (map table_items bodies)) (sym (bodies_same s))
+
+  -- ---- what is returned
+
+  selected_same : (names : List (List ℕ)) (answers : Slots) (selected : List (List ℕ)) →
+      selected_answers names (answers_told answers) selected ≡ map (match_told told) (selected_answers names answers selected)
+  selected_same names answers [] = refl
+  selected_same names answers (text ∷ texts) =
+      ap (λ m. m ∷ selected_answers names (answers_told answers) texts) (at (number_of names text))
+      ∙ ap (λ ms. match_told told (answer_for names answers text) ∷ ms) (selected_same names answers texts)
+    where
+      by_answer : (x : Option Answer) → unwrap_or (option_map (named_answer text) (option_map answer_told x)) (unspecified text)
+          ≡ match_told told (unwrap_or (option_map (named_answer text) x) (unspecified text))
+      by_answer None = refl
+      by_answer (Some x) = refl
+
+      at : (o : Option ℕ) → unwrap_or (option_map (named_answer text) (option_and_then (answers_told answers) o)) (unspecified text)
+          ≡ match_told told (unwrap_or (option_map (named_answer text) (option_and_then answers o)) (unspecified text))
+      at None = refl
+      at (Some number) = by_answer (answers number)
+
+  named_same : (names : List (List ℕ)) (answers : Slots) (numbers : List ℕ) →
+      filter_map (λ number. option_map (named_answer (get_or names number [])) (answers_told answers number)) numbers
+      ≡ map (match_told told) (filter_map (λ number. option_map (named_answer (get_or names number [])) (answers number)) numbers)
+  named_same names answers [] = refl
+  named_same names answers (number ∷ numbers) = at (answers number) (named_same names answers numbers)
+    where
+      named : Option Answer → Option Matched
+      named x = option_map (named_answer (get_or names number [])) x
+
+      left : Slots → List Matched
+      left answers = filter_map (λ number. option_map (named_answer (get_or names number [])) (answers number)) numbers
+
+      at : (x : Option Answer) → left (answers_told answers) ≡ map (match_told told) (left answers) →
+          cons_option (named (option_map answer_told x)) (left (answers_told answers))
+          ≡ map (match_told told) (cons_option (named x) (left answers))
+      at None rest = rest
+      at (Some x) rest = ap (λ ms. match_told told (named_answer (get_or names number []) x) ∷ ms) rest
+
+  specified_same : (ms : List Matched) → specified_among (map (match_told told) ms) ≡ map (match_told told) (specified_among ms)
+  specified_same [] = refl
+  specified_same (m ∷ ms) = at (is_specified m.assignment.state) (specified_same ms)
+    where
+      at : (b : Bool) → specified_among (map (match_told told) ms) ≡ map (match_told told) (specified_among ms) →
+          (if b then match_told told m ∷ specified_among (map (match_told told) ms) else specified_among (map (match_told told) ms))
+          ≡ map (match_told told) (if b then m ∷ specified_among ms else specified_among ms)
+      at true rest = ap (λ xs. match_told told m ∷ xs) rest
+      at false rest = rest
+
+  returned_same : (s : EngineState) (answers : Slots) →
+      map (match_told told) (returned_answers s answers) ≡ returned_answers (state_told told s) (answers_told answers)
+  returned_same s answers = at (length s.selection == 0)
+    where
+      all : specified_among (answers_by_number s.names (answers_told answers))
+          ≡ map (match_told told) (specified_among (answers_by_number s.names answers))
+      all =
+          ap specified_among (named_same s.names answers (range_with_len 0 (length s.names)))
+          ∙ specified_same (answers_by_number s.names answers)
+
+      at : (b : Bool) → map (match_told told)
+          (if b then specified_among (answers_by_number s.names answers) else selected_answers s.names answers s.selection)
+          ≡ (if b then specified_among (answers_by_number s.names (answers_told answers))
+          else selected_answers s.names (answers_told answers) s.selection)
+      at true = sym all
+      at false = sym (selected_same s.names answers s.selection)
+
+  -- ---- what is found
+
+  slot_same : (found : List (Option Matched)) (number : ℕ) →
+      get_or (map (option_map (match_told told)) found) number None ≡ option_map (match_told told) (get_or found number None)
+  slot_same [] number = refl
+  slot_same (slot ∷ found) zero = refl
+  slot_same (slot ∷ found) (suc number) = slot_same found number
+
+  found_same : (names : List (List ℕ)) (answers : Slots) (found : List (Option Matched)) (number : ℕ) → IsFound names answers found number →
+      IsFound names (answers_told answers) (map (option_map (match_told told)) found) number
+  found_same names answers found number e =
+      slot_same found number ∙ (ap (option_map (match_told told)) e ∙ at (answers number))
+    where
+      at : (x : Option Answer) → option_map (match_told told) (option_map (named_answer (get_or names number [])) x)
+          ≡ option_map (named_answer (get_or names number [])) (option_map answer_told x)
+      at None = refl
+      at (Some x) = refl
+
+  finds_same : (names selected : List (List ℕ)) (answers : Slots) (found : List (Option Matched)) → FindsAnswers names selected answers found →
+      FindsAnswers names selected (answers_told answers) (map (option_map (match_told told)) found)
+  finds_same names selected answers found finds =
+      record {
+        part = λ number. ⊎_elim (λ none. inl (slot_same found number ∙ ap (option_map (match_told told)) none))
+            (λ e. inr (found_same names answers found number e)) (finds.part number);
+        all = λ none number lt. found_same names answers found number (finds.all none number lt);
+        selected = All-weaker (λ text. MatchOption (number_of names text) ⊤ (IsFound names answers found))
+            (λ text. MatchOption (number_of names text) ⊤ IsTold) (λ text h. by_number (number_of names text) h) selected finds.selected;
+        causes = λ number. subst (λ slot. MatchOption slot ⊤ (λ m. MatchOption m.cause ⊤ IsTold)) (sym (slot_same found number))
+            (by_slot (get_or found number None) (finds.causes number));
+      }
+    where
+      IsTold : ℕ → Type 0
+      IsTold number = IsFound names (answers_told answers) (map (option_map (match_told told)) found) number
+
+      by_number : (o : Option ℕ) → MatchOption o ⊤ (IsFound names answers found) → MatchOption o ⊤ IsTold
+      by_number None h = tt
+      by_number (Some number) h = found_same names answers found number h
+
+      by_slot : (slot : Option Matched) → MatchOption slot ⊤ (λ m. MatchOption m.cause ⊤ (IsFound names answers found)) →
+          MatchOption (option_map (match_told told) slot) ⊤ (λ m. MatchOption m.cause ⊤ IsTold)
+      by_slot None h = tt
+      by_slot (Some m) h = by_number m.cause h
+
+  -- ---- engines
+
+  pub answers_to_told : (path : List ℕ) (case : Case) (is_dir : Option Bool) (before after : EngineContent) →
+      AnswersTo path case is_dir before after → AnswersTo path case is_dir (content_told told before) (content_told told after)
+  answers_to_told path case is_dir before after answered =
+      subst (λ s. OfTheOnlyTable s IsTold) (setting_same before.state path case is_dir)
+      (only_told (path_setting before.state path case is_dir) Is IsTold
+      (λ answers e. ap (content_told told) e ∙ ap with_answers (returned_same before.state answers)) answered)
+    where
+      Is : Slots → Type 0
+      Is answers = after ≡ record before { answers = Some (returned_answers before.state answers); found = after.found }
+
+      IsTold : Slots → Type 0
+      IsTold answers = content_told told after ≡ record (content_told told before) {
+        answers = Some (returned_answers (state_told told before.state) answers);
+        found = (content_told told after).found;
+      }
+
+      with_answers : List Matched → EngineContent
+      with_answers answers = record (content_told told before) { answers = Some answers; found = (content_told told after).found }
+
+  pub finds_for_told : (path : List ℕ) (case : Case) (is_dir : Option Bool) (before after : EngineContent) →
+      FindsFor path case is_dir before after → FindsFor path case is_dir (content_told told before) (content_told told after)
+  finds_for_told path case is_dir before after finds =
+      subst (λ s. OfTheOnlyTable s (λ answers. FindsAnswers before.state.names before.state.selection answers
+      (map (option_map (match_told told)) after.found))) (setting_same before.state path case is_dir)
+      (only_told (path_setting before.state path case is_dir)
+      (λ answers. FindsAnswers before.state.names before.state.selection answers after.found)
+      (λ answers. FindsAnswers before.state.names before.state.selection answers (map (option_map (match_told told)) after.found))
+      (λ answers h. finds_same before.state.names before.state.selection answers after.found h) finds)
+
+  pub added_told : (a : AddedList) (held : EngineContent) →
+      content_told told (with_list_below a held) ≡ with_list_below (addition_told told a) (content_told told held)
+  added_told a held =
+      ap (λ lists. let made = with_list_below (addition_told told a) (content_told told held) in
+      record made { state = record made.state { lists = lists } })
+      (map-append (list_told told) held.state.lists ((with_list_below a (record held { state = record held.state { lists = [] } })).state.lists))
+
+  pub popped_told : (held : EngineContent) → content_told told (without_last held) ≡ without_last (content_told told held)
+  popped_told held =
+      ap (λ lists. let made = without_last (content_told told held) in record made { state = record made.state { lists = lists } })
+      (sym (take-map (list_told told) (length held.state.lists - 1) held.state.lists)
+      ∙ ap (λ n. take (n - 1) (map (list_told told) held.state.lists)) (sym (length-map held.state.lists (list_told told))))
+
+  pub number_told : (held : EngineContent) (index : ℕ) → number_answered (content_told told held) index ≡ number_answered held index
+  number_told held index = at held.answers
+    where
+      names_same : (ms : List Matched) →
+          map (λ (m : Matched). m.assignment.name) (map (match_told told) ms) ≡ map (λ (m : Matched). m.assignment.name) ms
+      names_same [] = refl
+      names_same (m ∷ ms) = ap (λ names. m.assignment.name ∷ names) (names_same ms)
+
+      at : (o : Option (List Matched)) → number_answered (content_told told (record held { answers = o })) index
+          ≡ number_answered (record held { answers = o }) index
+      at None = refl
+      at (Some ms) =
+          ap (λ names. option_and_then (number_of held.state.names)
+          (slice_get (if length held.state.selection == 0 then names else held.state.selection) index)) (names_same ms)

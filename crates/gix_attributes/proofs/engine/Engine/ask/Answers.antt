@@ -1,0 +1,141 @@
+-- A search from nothing answers by the only stable table, and leaves an outcome that can be reset.
+use Rattle.std.proofs.Common.{◌≡◌, ℕ, List, [], Option, None, Some, length, sym, ap, ◌∙◌, subst, Result, Ok, Err, OnErr}
+use Rattle.std.proofs.lemmas.List.{length-map}
+use Rattle.gix_attributes.specs.Contents.{Content, names_selected}
+use Rattle.gix_attributes.specs.Covered.{ListsAreCovered}
+use Rattle.gix_attributes.specs.Lookups.{FindsAnswers, Lookup, OfTheOnlyTable}
+use Rattle.gix_attributes.specs.SearchViews.{list_ids_in, lists_in}
+use Rattle.attr_search.specs.Slots.{Matched}
+use Rattle.gix_attributes.specs.EngineStates.{EngineContent, path_setting, returned_answers, without_answers}
+use Rattle.gix_attributes.specs.EngineView.{engine_view, returned_by}
+use Rattle.gix_attributes.proofs.AnswerLemmas.{answered, current_at_first, current_reset, current_searched, found, names_again, of_names}
+use Rattle.gix_attributes.proofs.RegistrationLemmas.{same_count}
+use Rattle.gix_attributes.specs.declared.engine.Engine.TheInside.{Inside}
+use Rattle.gix_attributes.specs.declared.engine.Question.{Question}
+use Rattle.gix_attributes.proofs.engine.Engine.ask.Goals as goal
+
+-- what is looked up for a question
+abbrev looked_for : Inside → List (List ℕ) → Question → Lookup
+looked_for e selected question =
+    record {
+      known = e.collection;
+      selected = selected;
+      lists = lists_in e.search;
+      path = question.path.bytes.now;
+      case = question.case;
+      is_dir = question.is_dir;
+    }
+
+-- an outcome that is initialised has a slot for each name
+pub pattern_matching_relative_path-requires-clause-covered : goal.pattern_matching_relative_path-requires-clause-covered
+pattern_matching_relative_path-requires-clause-covered c =
+    let made = ap (λ (held : Content). length held.slots) c.in_ok-prepare.ensures.ready ∙ length-map c.self.inside.collection.names _ in
+    subst (λ n. ListsAreCovered n (lists_in c.self.inside.search)) (sym made) c.self.invariant.known.covered
+
+pub invariant_of-self-in_err-pattern_matching_relative_path : goal.invariant_of-self-in_err-pattern_matching_relative_path
+invariant_of-self-in_err-pattern_matching_relative_path c = record {
+  held = c.self.invariant.held;
+  known = c.self.invariant.known;
+  current = λ yes. current_reset c.self.inside.collection c.prepare.new.outcome c.pattern_matching_relative_path.new.out
+      c.in_err-pattern_matching_relative_path.ensures.refused
+      (current_at_first c.self.inside.collection _ c.prepare.new.outcome c.in_ok-prepare.ensures.ready);
+  numbered = λ never. absurd (cc);
+  named = λ never. absurd (cc);
+}
+
+pub invariant_of-self-in_err-number_answers : goal.invariant_of-self-in_err-number_answers
+invariant_of-self-in_err-number_answers c = record {
+  held = c.self.invariant.held;
+  known = c.self.invariant.known;
+  current = λ yes. current_searched c.self.inside.collection c.prepare.new.outcome c.pattern_matching_relative_path.new.out
+      c.in_ok-pattern_matching_relative_path.ensures.kept
+      (current_at_first c.self.inside.collection _ c.prepare.new.outcome c.in_ok-prepare.ensures.ready);
+  numbered = λ never. absurd (cc);
+  named = λ never. absurd (cc);
+}
+
+pub invariant_of-self-2 : goal.invariant_of-self-2
+invariant_of-self-2 c = record {
+  held = c.self.invariant.held;
+  known = c.self.invariant.known;
+  current = λ yes. current_searched c.self.inside.collection c.prepare.new.outcome c.pattern_matching_relative_path.new.out
+      c.in_ok-pattern_matching_relative_path.ensures.kept
+      (current_at_first c.self.inside.collection _ c.prepare.new.outcome c.in_ok-prepare.ensures.ready);
+  numbered = λ yes. c.in_ok-number_answers.ensures;
+  named = λ yes.
+      let e = c.self.inside in
+      let searched = c.in_ok-pattern_matching_relative_path.ensures in
+      of_names (looked_for e (names_selected e.outcome.selection) c.args.question) (list_ids_in e.search) c.prepare.new.outcome
+      c.pattern_matching_relative_path.new.out (same_count e.search) c.self.invariant.known c.in_ok-prepare.ensures.ready
+      searched.searched searched.named searched.kept;
+}
+
+-- what is seen of an engine, by the selection of its outcome, the answers and what is found
+abbrev Seen : (old : EngineContent) → List (List ℕ) → Option (List Matched) → List (Option Matched) → EngineContent
+Seen old selection answers found =
+    record {
+      state = record { names = old.state.names; lists = old.state.lists; selection = selection };
+      answers = answers;
+      found = found;
+      dropped = old.dropped;
+    }
+
+-- an engine without answers, if the selection stays
+unanswered : {T E : Type 0} (r : Result T E) (before now : EngineContent) (selection : List (List ℕ)) → selection ≡ before.state.selection
+    → before ≡ now → OnErr r (Seen before selection None [] ≡ without_answers now)
+unanswered (Ok x) before now selection same is_now = tt
+unanswered (Err e) before now selection same is_now =
+    ap (λ s. Seen before s None []) same ∙ ap without_answers is_now
+
+pub returns-in_err-pattern_matching_relative_path-clause-refused : goal.returns-in_err-pattern_matching_relative_path-clause-refused
+returns-in_err-pattern_matching_relative_path-clause-refused c =
+    let e = c.self.inside in
+    unanswered c.from_residual-in_err-pattern_matching_relative_path.result (engine_view e) c.args.self.now _
+    (ap (λ (h : Content). names_selected h.selection) c.in_err-pattern_matching_relative_path.ensures.refused
+    ∙ (ap (λ (h : Content). names_selected h.selection) c.in_ok-prepare.ensures.ready
+    ∙ names_again e.collection.names (names_selected e.outcome.selection)))
+    c.self.view_is
+
+pub returns-in_err-number_answers-clause-refused : goal.returns-in_err-number_answers-clause-refused
+returns-in_err-number_answers-clause-refused c =
+    let e = c.self.inside in
+    unanswered c.from_residual-in_err-number_answers.result (engine_view e) c.args.self.now _
+    (ap (λ (h : Content). names_selected h.selection) c.in_ok-pattern_matching_relative_path.ensures.kept.rest
+    ∙ (ap (λ (h : Content). names_selected h.selection) c.in_ok-prepare.ensures.ready
+    ∙ names_again e.collection.names (names_selected e.outcome.selection)))
+    c.self.view_is
+
+pub returns-clause-answers : goal.returns-clause-answers
+returns-clause-answers c =
+    let e = c.self.inside in
+    let after = c.pattern_matching_relative_path.new.out in
+    let searched = c.in_ok-pattern_matching_relative_path.ensures in
+    let question = c.args.question in
+    let seen = answered (looked_for e (names_selected e.outcome.selection) question) (list_ids_in e.search) c.prepare.new.outcome after
+    (same_count e.search) c.self.invariant.known c.in_ok-prepare.ensures.ready searched.searched searched.named searched.kept in
+    let selection : names_selected after.selection ≡ names_selected e.outcome.selection =
+    ap (λ (h : Content). names_selected h.selection) searched.kept.rest
+    ∙ (ap (λ (h : Content). names_selected h.selection) c.in_ok-prepare.ensures.ready
+    ∙ names_again e.collection.names (names_selected e.outcome.selection)) in
+    subst
+    (λ (held : EngineContent). OfTheOnlyTable (path_setting held.state question.path.bytes.now question.case question.is_dir)
+    (λ answers. Seen (engine_view e) (names_selected after.selection) (Some (returned_by after)) after.slots
+    ≡ record held { answers = Some (returned_answers held.state answers); found = after.slots }))
+    c.self.view_is (
+      seen.0,
+      ap (λ s. Seen (engine_view e) s (Some (returned_by after)) after.slots) selection
+          ∙ ap (λ answers. Seen (engine_view e) (names_selected e.outcome.selection) (Some answers) after.slots) seen.1,
+    )
+
+pub returns-clause-found : goal.returns-clause-found
+returns-clause-found c =
+    let e = c.self.inside in
+    let after = c.pattern_matching_relative_path.new.out in
+    let searched = c.in_ok-pattern_matching_relative_path.ensures in
+    let question = c.args.question in
+    subst
+    (λ (held : EngineContent). OfTheOnlyTable (path_setting held.state question.path.bytes.now question.case question.is_dir)
+    (λ answers. FindsAnswers held.state.names held.state.selection answers after.slots))
+    c.self.view_is
+    (found (looked_for e (names_selected e.outcome.selection) question) (list_ids_in e.search) c.prepare.new.outcome after
+    (same_count e.search) c.self.invariant.known c.in_ok-prepare.ensures.ready searched.searched searched.named searched.kept)

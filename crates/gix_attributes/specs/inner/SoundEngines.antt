@@ -1,0 +1,42 @@
+-- What is true of each engine (own).
+use Rattle.std.specs.Prelude.{◌≡◌, ◌==◌, ℕ, Bool, true, false, List, map, length, Option, None, Some, slice_index_or}
+use Rattle.attr_lists.specs.Collections.{Collection}
+use Rattle.gix_attributes.specs.Contents.{Content, found_in, initial_content, looked_up, names_selected, reset_content}
+use Rattle.gix_attributes.specs.SearchViews.{Holds, list_ids_in, lists_in}
+use Rattle.attr_search.specs.Settings.{HeldAreNamed}
+use Rattle.attr_search.specs.Slots.{Matched}
+use Rattle.gix_attributes.specs.EngineStates.{is_specified, specified_among}
+use Rattle.gix_attributes.specs.Registration.{RegistersAlone}
+use Rattle.gix_attributes.specs.declared.engine.Engine.TheInside.{Inside}
+
+-- the slots with these numbers have these matches
+abbrev pub ArePlacesOf : List (Option Matched) → List Matched → List ℕ → Type 0
+ArePlacesOf slots matches numbers = map (λ number. slice_index_or slots number None) numbers ≡ map Some matches
+
+-- a slot has a match, and that is not unspecified
+abbrev pub is_slot_specified : Option Matched → Bool
+is_slot_specified None = false
+is_slot_specified (Some m) = is_specified m.assignment.state
+
+-- without a selection these are the numbers of the answers
+abbrev pub AreNumbered : Content → List ℕ → Type 0
+AreNumbered held numbers =
+    (length held.selection == 0) ≡ true → ArePlacesOf held.slots (specified_among (found_in held.slots)) numbers
+
+-- a reset leaves the outcome as it is initialised with the collection
+abbrev pub IsCurrentFor : Collection → Content → Type 0
+IsCurrentFor known held = reset_content held ≡ initial_content known (names_selected held.selection)
+
+-- an outcome has the numbers of the selected names, and each answer has the name of its number
+pub record IsOfNames (names : List (List ℕ)) (held : Content) : Type 0 where
+  pub selection : held.selection ≡ looked_up names (names_selected held.selection)
+  pub answers : HeldAreNamed names held.slots
+
+-- The collection registers the lists of the search alone; a current outcome can be reset; and the answers are numbered, and have
+-- the names of the collection.
+pub record IsSoundEngine (e : Inside) : Type 0 where
+  pub held : Holds e.collection e.search
+  pub known : RegistersAlone e.collection (list_ids_in e.search) (lists_in e.search)
+  pub current : e.is_current ≡ true → IsCurrentFor e.collection e.outcome
+  pub numbered : e.has_answers ≡ true → AreNumbered e.outcome e.numbers.items
+  pub named : e.has_answers ≡ true → IsOfNames e.collection.names e.outcome
