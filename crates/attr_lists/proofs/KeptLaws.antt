@@ -10,9 +10,9 @@ use Rattle.attr_wildmatch.specs.Bytes.{number_sign}
 use Rattle.attr_glob.specs.Patterns.{Reading, reading, is_negated}
 use Rattle.attr_text.specs.Names.{is_valid_name, is_reserved_name}
 use Rattle.attr_text.specs.Items.{invalid_name, reserved, checked_name, after_blanks}
-use Rattle.attr_text.specs.LineResults.{Target, pattern, macro, LineResult, RefusedLine, Given, macro_name, negative_pattern, macro_prefix}
-use Rattle.attr_text.specs.LineResults.{is_macro_definition, macro_of, pattern_of, target_of, parts_of, with_items, result_of_text, result_of}
-use Rattle.attr_text.specs.LineResults.{results_from, results_of, lines_in}
+use Rattle.attr_lists.specs.LineResults.{Target, pattern, macro, LineResult, RefusedLine, Given, macro_name, negative_pattern, macro_prefix}
+use Rattle.attr_lists.specs.LineResults.{is_macro_definition, macro_of, pattern_of, target_of, parts_of, with_items, result_of_text, result_of}
+use Rattle.attr_lists.specs.LineResults.{results_from, results_of, lines_in}
 use Rattle.attr_lists.specs.declared.types.TrackedAssignment.{TrackedAssignment}
 use Rattle.attr_lists.specs.declared.types.Dropped.{Dropped}
 use Rattle.attr_lists.specs.declared.types.DropReason.{DropReason}

@@ -3,6 +3,8 @@ pub mod EntryLemmas
 pub mod FreeIdLemmas
 pub mod KeptLaws
 pub mod KeptLemmas
+pub mod LineLemmas
+pub mod LineLaws
 pub mod ListDefinitions
 pub mod ListLemmas
 pub mod MacroLemmas

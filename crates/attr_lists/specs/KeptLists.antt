@@ -8,7 +8,7 @@ use Rattle.attr_glob.specs.declared.search.pattern.Mapping.{Mapping}
 use Rattle.attr_glob.specs.Patterns.{Reading, no_sub_dir, ends_with, must_be_dir, negative, absolute}
 use Rattle.attr_text.specs.Names.{is_valid_name}
 use Rattle.attr_text.specs.Items.{Refusal, invalid_name, reserved}
-use Rattle.attr_text.specs.LineResults.{Target, pattern, macro, LineResult, macro_name, negative_pattern, results_of}
+use Rattle.attr_lists.specs.LineResults.{Target, pattern, macro, LineResult, macro_name, negative_pattern, results_of}
 use Rattle.attr_text.specs.declared.assignment.Assignment.{Assignment}
 use Rattle.attr_lists.specs.declared.types.AttributeId.{AttributeId}
 use Rattle.attr_lists.specs.declared.types.TrackedAssignment.{TrackedAssignment}

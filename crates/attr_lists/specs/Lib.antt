@@ -4,4 +4,7 @@ pub mod ListViews
 pub mod NameViews
 pub mod Collections
 pub mod Numbers
+pub mod LineResults
+pub mod LineViews
+pub mod LinesJoined
 pub mod inner

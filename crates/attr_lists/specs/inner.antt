@@ -8,4 +8,5 @@ pub mod NameSets
 pub mod NameSteps
 pub mod NameTableView
 pub mod Registered
+pub mod ParseSteps
 pub mod LineSteps

@@ -4,6 +4,7 @@
 mod known_texts;
 pub mod laws;
 pub mod name_table;
+pub mod parse;
 pub mod parser;
 mod text_place;
 pub mod types;

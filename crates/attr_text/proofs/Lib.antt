@@ -4,6 +4,4 @@ pub mod WordLaws
 pub mod ItemLemmas
 pub mod ItemLaws
 pub mod PrintedLaws
-pub mod LineLemmas
-pub mod LineLaws
 pub mod ForCallers

@@ -4,7 +4,6 @@ use Rattle.std.specs.Prelude.{Option, Some, None, Result, Ok, Err, if◌then◌e
 use Rattle.std.specs.List.{before_first, slice_split, position_or_len}
 use Rattle.bstr.specs.Utf8.{lossy_chars}
 use Rattle.attr_wildmatch.specs.Bytes.{exclamation_mark, hyphen}
-use Rattle.attr_text.specs.LinesJoined.{carriage_return}
 use Rattle.attr_text.specs.Names.{is_valid_name, is_reserved_name}
 use Rattle.attr_text.specs.declared.state.State.{State}
 use Rattle.attr_text.specs.declared.state.State.TheVariants.{Set, Unset, Value, Unspecified}
@@ -21,6 +20,9 @@ blank_space = 32
 -- a horizontal tab
 abbrev pub tab : ℕ
 tab = 9
+
+abbrev pub carriage_return : ℕ
+carriage_return = 13
 
 -- a space, a tab or a carriage return
 abbrev pub is_blank : ℕ → Bool

@@ -4,7 +4,4 @@ pub mod States
 pub mod Items
 pub mod ItemForms
 pub mod Words
-pub mod LineResults
-pub mod LinesJoined
 pub mod TextViews
-pub mod inner

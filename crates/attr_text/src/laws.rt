@@ -6,8 +6,6 @@ ghost use Rattle.attr_text.specs.Names.{is_valid_name, is_reserved_name};
 ghost use Rattle.attr_text.specs.Items.{words, is_blank, Refusal, item_of, items_of, printed};
 ghost use Rattle.attr_text.specs.ItemForms.{IsItem};
 ghost use Rattle.attr_text.specs.Words.{AreWords, IsPlain};
-ghost use Rattle.attr_text.specs.LineResults.{byte_order_marks, without_front, lines_in};
-ghost use Rattle.attr_text.specs.LinesJoined.{AreLines};
 ghost use Rattle.attr_text.specs.declared.assignment.Assignment.{Assignment};
 
 /// The words of a text are its longest runs of bytes that are not blanks, and no other list is.
@@ -36,13 +34,4 @@ pub fn printed_reads_as_itself()
         words (printed a) ≡ printed a ∷ [] }
     ensures read { (a : Assignment) → IsTrue (is_valid_name a.name) →
         is_reserved_name a.name ≡ false → IsPlain a.state → items_of (printed a) ≡ Ok a ∷ [] }
-{}
-
-/// The bytes after the byte order mark are the lines joined by their ends, and no other lines join to them.
-#[tactic(auto, using(crate::proofs::LineLaws::lines_are_joined, crate::proofs::LineLaws::joined_are_lines))]
-pub fn lines_join_to_the_buffer()
-    ensures holds { (bytes : List ℕ) →
-        AreLines (without_front byte_order_marks bytes) (lines_in bytes) }
-    ensures only { (bytes : List ℕ) (lines : List (List ℕ)) →
-        AreLines (without_front byte_order_marks bytes) lines → lines ≡ lines_in bytes }
 {}

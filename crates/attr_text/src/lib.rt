@@ -5,7 +5,6 @@
 mod assignment;
 pub mod laws;
 pub mod name;
-pub mod parse;
 pub mod state;
 
 pub use crate::assignment::{Assignment, AssignmentRef};

@@ -9,7 +9,7 @@ ghost use Rattle.std.specs.Cmp.Rules.{hashing};
 ghost use Rattle.std.specs.Rc.{rc_str_bytes};
 ghost use Rattle.std.proofs.Common.{rules};
 ghost use Rattle.bstr.specs.BStr.{bstr_bytes};
-ghost use Rattle.attr_text.specs.Names.{is_name_byte, is_valid_name, is_reserved_name};
+ghost use Rattle.attr_text.specs.Names.{is_name_byte, is_valid_name};
 
 use bstr::{BStr, ByteSlice};
 use std::alloc::{AllocError, Global};
@@ -84,14 +84,6 @@ fn is_valid(bytes: &[u8]) -> bool
         return false;
     }
     is_all_name_bytes(bytes)
-}
-
-/// Whether the name is reserved for built-in attributes: it begins with `builtin_` (gitattributes). Most names are told apart by
-/// their first byte, without a comparison of slices.
-pub(crate) fn is_reserved(name: &[u8]) -> bool
-    ensures { result ≡ is_reserved_name name.now }
-{
-    !name.is_empty() && name[0] == b'b' && name.starts_with(b"builtin_")
 }
 
 impl<'a> NameRef<'a> {

@@ -3,7 +3,7 @@ ghost use Rattle.std.specs.Prelude.{◌≡◌, ◌≢◌, ℕ, ◌++◌, codes, 
 ghost use Rattle.std.specs.Io.KnownBytes.{IsAtEnd};
 ghost use Rattle.std.specs.Fmt.{decimal};
 ghost use Rattle.std.specs.List.{flat_map};
-ghost use Rattle.gix_attributes.specs.TextViews.{item_view, line_view};
+ghost use Rattle.gix_attributes.specs.LineViews.{item_view, line_view};
 ghost use Rattle.check_attr.specs.Outcomes.{CountsReads, CountsWrites, ReadsInputFirst};
 ghost use Rattle.check_attr.specs.LinesText.{WritesLines, WritesLinesFront, item_text, line_text, lines_text};
 

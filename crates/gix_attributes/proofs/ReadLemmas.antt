@@ -10,9 +10,9 @@ use Rattle.attr_glob.specs.Patterns.{Reading, reading, read_rest, is_negated, wi
 use Rattle.attr_wildmatch.specs.Slashes.{is_slash, ends_in_slash}
 use Rattle.attr_glob.specs.Patterns.{is_suffix, first, set_where, has_flag, no_sub_dir, ends_with, must_be_dir, negative, absolute}
 use Rattle.attr_text.specs.Items.{Refusal, checked_name, after_blanks}
-use Rattle.attr_text.specs.LineResults.{Target, pattern, macro, LineResult, RefusedLine, Given, macro_name, negative_pattern, macro_prefix}
-use Rattle.attr_text.specs.LineResults.{is_macro_definition, macro_of, pattern_of, target_of, parts_of, with_items, result_of_text, result_of}
-use Rattle.attr_text.specs.LineResults.{results_from, results_of, lines_in}
+use Rattle.attr_lists.specs.LineResults.{Target, pattern, macro, LineResult, RefusedLine, Given, macro_name, negative_pattern, macro_prefix}
+use Rattle.attr_lists.specs.LineResults.{is_macro_definition, macro_of, pattern_of, target_of, parts_of, with_items, result_of_text, result_of}
+use Rattle.attr_lists.specs.LineResults.{results_from, results_of, lines_in}
 use Rattle.attr_lists.specs.declared.types.TrackedAssignment.{TrackedAssignment}
 use Rattle.attr_lists.specs.declared.types.Dropped.{Dropped}
 use Rattle.attr_lists.specs.declared.types.DropReason.{DropReason}

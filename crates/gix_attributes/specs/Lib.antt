@@ -36,6 +36,9 @@ pub use Rattle.attr_index.specs.ListView
 pub use Rattle.attr_lists.specs.Collections
 pub use Rattle.attr_lists.specs.Definitions
 pub use Rattle.attr_lists.specs.KeptLists
+pub use Rattle.attr_lists.specs.LineResults
+pub use Rattle.attr_lists.specs.LineViews
+pub use Rattle.attr_lists.specs.LinesJoined
 pub use Rattle.attr_lists.specs.ListViews
 pub use Rattle.attr_lists.specs.NameViews
 pub use Rattle.attr_lists.specs.Numbers
@@ -48,8 +51,6 @@ pub use Rattle.attr_table.specs.Setting
 pub use Rattle.attr_table.specs.Table
 pub use Rattle.attr_table.specs.Work
 pub use Rattle.attr_text.specs.Items
-pub use Rattle.attr_text.specs.LineResults
-pub use Rattle.attr_text.specs.LinesJoined
 pub use Rattle.attr_text.specs.NameText
 pub use Rattle.attr_text.specs.Names
 pub use Rattle.attr_text.specs.States

@@ -35,6 +35,5 @@ mod source;
 pub use crate::search::Search;
 pub use crate::source::{Prefixes, Source};
 pub use attr_glob as glob;
-pub use attr_text::{
-    Assignment, AssignmentRef, Name, NameRef, State, StateRef, name, parse, state,
-};
+pub use attr_lists::parse;
+pub use attr_text::{Assignment, AssignmentRef, Name, NameRef, State, StateRef, name, state};

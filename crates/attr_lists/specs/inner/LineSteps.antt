@@ -3,10 +3,10 @@ use Rattle.std.specs.Prelude.{◌≡◌, ℕ, List, Option, MatchOption, Result}
 use Rattle.std.specs.Result.{result_map_both}
 use Rattle.attr_glob.specs.declared.search.pattern.Mapping.{Mapping}
 use Rattle.attr_text.specs.Items.{Refusal}
-use Rattle.attr_text.specs.LineResults.{LineResult, Given}
-use Rattle.attr_text.specs.TextViews.{target_view}
+use Rattle.attr_lists.specs.LineResults.{LineResult, Given}
+use Rattle.attr_lists.specs.LineViews.{target_view}
 use Rattle.attr_text.specs.declared.assignment.Assignment.{Assignment}
-use Rattle.attr_text.specs.declared.parse.Kind.{Kind}
+use Rattle.attr_lists.specs.declared.parse.Kind.{Kind}
 use Rattle.attr_lists.specs.declared.types.Dropped.{Dropped}
 use Rattle.attr_lists.specs.declared.types.Value.{Value}
 use Rattle.attr_lists.specs.ListViews.{Entry, entry_view}

@@ -2,8 +2,8 @@
 //!
 //! A function that owns a text or a line takes long to prove, once more for each place where it can end. So the tests
 //! hold plain rows, and most helpers borrow.
+use attr_lists::parse::{AttrError, Error, Iter, Kind, Lines, parse};
 use attr_text::AssignmentRef;
-use attr_text::parse::{AttrError, Error, Iter, Kind, Lines, parse};
 use bstr::BStr;
 use std::alloc::{AllocError, Global};
 use std::fmt::Write;

@@ -1,12 +1,10 @@
 -- The lines of a buffer (own): a line ends at a line feed, and a carriage return directly before it belongs to the end.
 use Rattle.std.specs.Prelude.{◌≡◌, ◌≢◌, ℕ, ◌-◌, ◌<◌, true, not, ◌==◌, ◌⊎◌, List, [], ◌∷◌, ◌++◌, length, slice_index}
 use Rattle.std.specs.List.{list_all}
+use Rattle.attr_text.specs.Items.{carriage_return}
 
 abbrev pub line_feed : ℕ
 line_feed = 10
-
-abbrev pub carriage_return : ℕ
-carriage_return = 13
 
 -- no line feed is in it
 abbrev pub IsLine : List ℕ → Type 0

@@ -2,8 +2,8 @@
 use Rattle.std.proofs.Common.{◌≡◌, true, false, Some, option_map, sym, ap, ◌∙◌, refl}
 use Rattle.attr_glob.specs.Patterns.{reading, is_negated, has_flag, negative}
 use Rattle.attr_glob.specs.Views.{pattern_view}
-use Rattle.attr_text.proofs.LineLemmas.{target-pattern}
-use Rattle.attr_text.proofs.parse.kind_of.Goals as goal
+use Rattle.attr_lists.proofs.LineLemmas.{target-pattern}
+use Rattle.attr_lists.proofs.parse.kind_of.Goals as goal
 
 pub returns-then-is_negative : goal.returns-then-is_negative
 returns-then-is_negative c =

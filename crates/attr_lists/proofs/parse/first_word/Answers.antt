@@ -1,8 +1,8 @@
 -- The first word is the text before the first blank, after the blanks in front.
 use Rattle.std.proofs.Common.{◌≡◌, ◌<◌, length, sym, arith}
 use Rattle.std.proofs.lemmas.Bool.{eqb-true, eqb-false}
-use Rattle.attr_text.proofs.WordLemmas.{words-step, words-end}
-use Rattle.attr_text.proofs.parse.first_word.Goals as goal
+use Rattle.attr_text.proofs.ForCallers.{words-step, words-end}
+use Rattle.attr_lists.proofs.parse.first_word.Goals as goal
 
 pub returns-then-is_empty-clause-word : goal.returns-then-is_empty-clause-word
 returns-then-is_empty-clause-word c =

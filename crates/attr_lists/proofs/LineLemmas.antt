@@ -2,9 +2,9 @@
 use Rattle.std.proofs.Common.{◌≡◌, ℕ, false, List, ◌∷◌, ◌++◌, Option, Some, None, refl, ap, ◌∙◌, subst}
 use Rattle.std.specs.Bool.{⊤}
 use Rattle.std.specs.Option.{MatchOption, option_to_list}
-use Rattle.attr_text.specs.LineResults.{LineResult, is_macro_definition, pattern_of, target_of}
-use Rattle.attr_text.specs.TextViews.{ParsedLine, line_view}
-use Rattle.attr_text.specs.inner.LineSteps.{ReadsLine, ReadsFirst}
+use Rattle.attr_lists.specs.LineResults.{LineResult, is_macro_definition, pattern_of, target_of}
+use Rattle.attr_lists.specs.LineViews.{ParsedLine, line_view}
+use Rattle.attr_lists.specs.inner.ParseSteps.{ReadsLine, ReadsFirst}
 use Rattle.attr_glob.specs.Patterns.{Reading, reading}
 
 -- the target of a pattern text that defines no macro and reads as this

@@ -2,11 +2,11 @@
 use Rattle.std.specs.Prelude.{◌≡◌, List, [], ◌∷◌, ◌++◌, Option, Some, None, MatchOption, option_map, Result, Ok, Err}
 use Rattle.std.specs.Bool.{⊤}
 use Rattle.std.specs.Option.{option_to_list}
-use Rattle.attr_text.specs.declared.parse.Kind.{Kind}
-use Rattle.attr_text.specs.declared.parse.Error.{Error}
-use Rattle.attr_text.specs.declared.parse.Error.TheVariants as errors
-use Rattle.attr_text.specs.LineResults.{Target, RefusedLine, LineResult, macro_name, negative_pattern}
-use Rattle.attr_text.specs.TextViews.{target_view, ParsedLine, line_view}
+use Rattle.attr_lists.specs.declared.parse.Kind.{Kind}
+use Rattle.attr_lists.specs.declared.parse.Error.{Error}
+use Rattle.attr_lists.specs.declared.parse.Error.TheVariants as errors
+use Rattle.attr_lists.specs.LineResults.{Target, RefusedLine, LineResult, macro_name, negative_pattern}
+use Rattle.attr_lists.specs.LineViews.{target_view, ParsedLine, line_view}
 
 -- the kind is that of the expected target, unless memory ran out
 abbrev pub ReportsKind : Result (Option Kind) Error → Option (Result Target RefusedLine) → Type 0

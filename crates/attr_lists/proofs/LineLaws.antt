@@ -9,8 +9,9 @@ use Rattle.std.proofs.lemmas.List.Folds.{list_all-append}
 use Rattle.std.proofs.lemmas.Bool.{cases_Bool, cases_eq, and_parts, and_from, not-true, eqb-true, eqb-false, ne_eqb, lt-ltb}
 use Rattle.bstr.specs.Text.{line_len, lines_of, no_cr, without_terminator}
 use Rattle.bstr.proofs.lemmas.LineLemmas.{line_len-at, line_len-none, lines-step, lines-nil}
-use Rattle.attr_text.specs.LineResults.{byte_order_marks, without_front, lines_in}
-use Rattle.attr_text.specs.LinesJoined.{line_feed, carriage_return, IsLine, EndsNoReturn, AreLines}
+use Rattle.attr_lists.specs.LineResults.{byte_order_marks, without_front, lines_in}
+use Rattle.attr_text.specs.Items.{carriage_return}
+use Rattle.attr_lists.specs.LinesJoined.{line_feed, IsLine, EndsNoReturn, AreLines}
 
 -- the lines of some bytes, without their ends
 abbrev stripped : List ℕ → List (List ℕ)

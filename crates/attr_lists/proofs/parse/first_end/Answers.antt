@@ -1,6 +1,6 @@
 use Rattle.std.proofs.Common.{◌+◌, sym, ap, ◌∙◌}
-use Rattle.attr_text.proofs.WordLemmas.{blank-from_slice, equals-before_blank, no_equals}
-use Rattle.attr_text.proofs.parse.first_end.Goals as goal
+use Rattle.attr_text.proofs.ForCallers.{blank-from_slice, equals-before_blank, no_equals}
+use Rattle.attr_lists.proofs.parse.first_end.Goals as goal
 
 pub returns-then-stop-end-clause-end : goal.returns-then-stop-end-clause-end
 returns-then-stop-end-clause-end c =

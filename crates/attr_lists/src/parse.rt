@@ -7,14 +7,16 @@ ghost use Rattle.std.specs.Option.{ForSome};
 ghost use Rattle.std.specs.Result.{result_map_both};
 ghost use Rattle.bstr.specs.BStr.{bstr_bytes};
 ghost use Rattle.attr_text.specs.Items.{is_blank, is_equals, after_blanks, checked_name, with_state, state_from, words, item_of, items_of};
-ghost use Rattle.attr_text.specs.LineResults.{byte_order_marks, without_front, is_macro_definition, macro_of, target_of, parts_of, result_of, results_of};
-ghost use Rattle.attr_text.specs.TextViews.{name_text, state_view, refusal_view, item_view, target_view, line_view, IsOver, Yields};
-ghost use Rattle.attr_text.specs.inner.LineSteps.{Reports, ReportsKind, ReadsLine, ReadsFirst};
+ghost use Rattle.attr_lists.specs.LineResults.{byte_order_marks, without_front, is_macro_definition, macro_of, target_of, parts_of, result_of, results_of};
+ghost use Rattle.attr_text.specs.Names.{is_reserved_name};
+ghost use Rattle.attr_text.specs.TextViews.{name_text, state_view};
+ghost use Rattle.attr_lists.specs.LineViews.{refusal_view, item_view, target_view, line_view, IsOver, Yields};
+ghost use Rattle.attr_lists.specs.inner.ParseSteps.{Reports, ReportsKind, ReadsLine, ReadsFirst};
 
-use crate::state::ValueRef;
-use crate::{AssignmentRef, Name, NameRef, StateRef, name};
 use attr_glob::Pattern;
 use attr_glob::quote::ansi_c::{UndoError, undo};
+use attr_text::state::ValueRef;
+use attr_text::{AssignmentRef, Name, NameRef, StateRef, name};
 use bstr::{BStr, ByteSlice};
 use std::alloc::{AllocError, Global};
 use std::borrow::CowSlice;
@@ -54,7 +56,7 @@ pub enum Error {
 }
 
 impl From<AllocError> for Error {
-    ghost use Rattle.attr_text.specs.declared.parse.Error.TheVariants.{OutOfMemory};
+    ghost use Rattle.attr_lists.specs.declared.parse.Error.TheVariants.{OutOfMemory};
 
     ghost from_gives = { λ _ e. e ≡ OutOfMemory };
 
@@ -187,7 +189,7 @@ fn position_of_stop(text: &[u8]) -> Option<usize>
     text.iter().position(|b| is_blank(*b) || *b == b'=')
 }
 
-#[tactic(auto, using(crate::proofs::WordLemmas::place_of_first, crate::proofs::WordLemmas::place_in_text))]
+#[tactic(auto, using(attr_text::proofs::ForCallers::place_of_first, attr_text::proofs::ForCallers::place_in_text))]
 fn first_stop(text: &[u8]) -> usize
     ensures place { result ≡ position_or_len (λ b. is_blank b || is_equals b) text.now }
     ensures inside { result ≤ length text.now }
@@ -214,7 +216,7 @@ fn position_of_blank(text: &[u8]) -> Option<usize>
     text.iter().position(|b| is_blank(*b))
 }
 
-#[tactic(auto, using(crate::proofs::WordLemmas::place_of_first, crate::proofs::WordLemmas::place_in_text))]
+#[tactic(auto, using(attr_text::proofs::ForCallers::place_of_first, attr_text::proofs::ForCallers::place_in_text))]
 fn first_not_blank(text: &[u8]) -> usize
     ensures place { result ≡ position_or_len (λ b. not (is_blank b)) text.now }
     ensures inside { result ≤ length text.now }
@@ -222,7 +224,7 @@ fn first_not_blank(text: &[u8]) -> usize
     position_of_other(text).unwrap_or(text.len())
 }
 
-#[tactic(auto, using(crate::proofs::WordLemmas::place_of_first, crate::proofs::WordLemmas::place_in_text))]
+#[tactic(auto, using(attr_text::proofs::ForCallers::place_of_first, attr_text::proofs::ForCallers::place_in_text))]
 fn first_blank(text: &[u8]) -> usize
     ensures place { result ≡ position_or_len is_blank text.now }
     ensures inside { result ≤ length text.now }
@@ -276,13 +278,21 @@ pub(crate) fn check_attr<'a>(attr: &'a [u8]) -> Result<NameRef<'a>, AttrError<'a
     match NameRef::try_from(BStr::new(attr)) {
         Err(name::Error::InvalidName(input)) => Err(AttrError::InvalidName(input)),
         Ok(name) => {
-            if name::is_reserved(attr) {
+            if is_reserved(attr) {
                 Err(AttrError::Reserved(BStr::new(attr)))
             } else {
                 Ok(name)
             }
         }
     }
+}
+
+/// Whether the name is reserved for built-in attributes: it begins with `builtin_` (gitattributes). Most names are told apart by
+/// their first byte, without a comparison of slices.
+fn is_reserved(name: &[u8]) -> bool
+    ensures { result ≡ is_reserved_name name.now }
+{
+    !name.is_empty() && name[0] == b'b' && name.starts_with(b"builtin_")
 }
 
 /// The lines of an attributes file, in order (gitattributes). A byte order mark at the start is skipped. Blank lines
@@ -295,7 +305,7 @@ pub fn parse(alloc: Global, bytes: &[u8]) -> Lines<'_>
 
 impl<'a> Model for Lines<'a> {
     ghost use Rattle.std.specs.Prelude.{◌+◌, ◌^◌, ◌<◌, length};
-    ghost use Rattle.attr_text.specs.LineResults.{Unread, unread_from};
+    ghost use Rattle.attr_lists.specs.LineResults.{Unread, unread_from};
 
     ghost Value = { Unread };
 
