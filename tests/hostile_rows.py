@@ -1,12 +1,12 @@
 #!/usr/bin/env python3
-# Makes the rows of crates/script_rows/data whose names begin with `hostile`: inputs that are to make a reader slow or
+# Makes the rows of crates/rows/data/scripts whose names begin with `hostile`: inputs that are to make a reader slow or
 # wrong. What each must write follows from the pages of git by a rule of a line or two, which stands beside it here.
 # usage: hostile_rows.py [--write]
 # Without --write it compares the rows that are there with those that it makes.
 import os
 import sys
 
-DATA = os.path.join(os.path.dirname(os.path.abspath(__file__)), '..', 'crates', 'script_rows', 'data')
+DATA = os.path.join(os.path.dirname(os.path.abspath(__file__)), '..', 'crates', 'rows', 'data', 'scripts')
 
 
 def add(contents, source=b'.gitattributes', macros=b'm'):

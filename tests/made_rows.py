@@ -1,5 +1,5 @@
 #!/usr/bin/env python3
-# Makes the rows of crates/script_rows/data whose names begin with `made`: scripts over attributes files that are made by
+# Makes the rows of crates/rows/data/scripts whose names begin with `made`: scripts over attributes files that are made by
 # numbers, with the answers of `git check-attr`. The same rows are made each time.
 # usage: made_rows.py [--write]
 # Without --write it compares the rows that are there with those that it makes, so it shows that git still answers so.
@@ -9,7 +9,7 @@ import subprocess
 import sys
 import tempfile
 
-DATA = os.path.join(os.path.dirname(os.path.abspath(__file__)), '..', 'crates', 'script_rows', 'data')
+DATA = os.path.join(os.path.dirname(os.path.abspath(__file__)), '..', 'crates', 'rows', 'data', 'scripts')
 COUNT = 150
 
 NAMES = ['a', 'b', 'text', 'eol', 'diff', 'm', 'n', 'binary', 'x.y', '_z', 'w-1']

@@ -33,7 +33,7 @@ import sys
 
 TOP = os.path.join(os.path.dirname(os.path.abspath(__file__)), "..")
 PUBLIC_CRATES = ["attr_wildmatch", "attr_glob", "attr_text", "gix_attributes", "yektrod", "check_attr"]
-TEST_CRATES = ["attr_vectors", "engine_tests", "glob_tests", "list_tests", "script_rows", "search_tests", "small_settings", "worktree"]
+TEST_CRATES = ["attr_vectors", "glob_tests", "list_tests", "rows", "search_tests", "small_settings", "worktree"]
 READING = "docs/READING.md"
 # The members that say what a type contains, and what memory it owns beside its fields.
 CONTENTS = ("Value", "also_owns")

@@ -1,14 +1,15 @@
 #!/bin/sh
 # Refuses the first request for memory of a run, then the second, and so on, until a run makes no more. Each time the
 # program must end with status 1 and the words for it, having written nothing, or with --lines a beginning of its lines;
-# or it can do without, and answers the same. Each test tests::memory::without_memory_* must pass. The program and the
-# tests have to be built before, as the gate does.
+# or it can do without, and answers the same. Each test tests::memory::without_memory_* must pass, and so must the rows of
+# crates/rows/data/memory. The programs and the tests have to be built before, as the gate does.
 set -eu
 here=$(cd "$(dirname "$0")" && pwd)
 crates=$(cd "$here/../crates" && pwd)
 program=$crates/check_attr_cli/out/check_attr_cli
-test_crates='glob_tests list_tests search_tests engine_tests attr_vectors'
-for built in "$program" $(for it in $test_crates; do echo "$crates/$it/out/${it}_tests"; done); do
+rows=$crates/rows/out/rows
+test_crates='glob_tests list_tests search_tests attr_vectors'
+for built in "$program" "$rows" $(for it in $test_crates; do echo "$crates/$it/out/${it}_tests"; done); do
     if [ ! -x "$built" ]; then
         echo "refused_memory: there is no program $built: build it by \`rt ci\` (or \`rt run\` and \`rt test\` in its crate)" >&2
         exit 1
@@ -73,6 +74,12 @@ answers_a_beginning() {
     cmp -s -n "$(wc -c <"$room/said")" "$room/said" "$room/answers" || failed "something else was written"
 }
 
+# Each step that found no memory was taken again and was right, or what reads the rows found none.
+agrees() {
+    answers_the_same && return
+    [ "$status" = 1 ] && [ "$(cat "$room/errors")" = 'rows: out of memory' ] || failed "status $status"
+}
+
 passes() {
     [ "$status" = 0 ] || failed "the test failed"
 }
@@ -90,6 +97,12 @@ cp "$here/../examples/all.script" "$room/input"
 "$program" "$room/global" "$room/missing" <"$room/input" >"$room/answers" 2>"$room/errors"
 each_of "global files" answers_whole "$program" "$room/global" "$room/missing"
 : >"$room/input"
+(
+    cd "$crates/rows/data"
+    rows_of_memory=$(find memory -type f | sort)
+    "$rows" $rows_of_memory >"$room/answers"
+    each_of rows agrees "$rows" $rows_of_memory
+)
 for crate in $test_crates; do
     tests=$crates/$crate/out/${crate}_tests
     "$tests" --list >"$room/list"

@@ -1,5 +1,4 @@
-//! The tests of `check_attr`: worked rows, hostile inputs, and devices in memory of which a chosen
-//! call fails.
+//! The tests of `check_attr`: devices in memory of which a chosen call fails, and refused memory.
 #![tactic(auto)]
 
 pub mod devices;

@@ -1,4 +1,4 @@
-//! The tests of `attr_glob` and `attr_table`: worked rows of quotes, patterns, lists of patterns, and the table.
+//! The tests of `attr_glob` and `attr_keys`: keys, kept tokens, the plain matcher, lists of patterns and their index.
 #![tactic(auto)]
 
 #[cfg(test)]

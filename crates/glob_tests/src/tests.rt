@@ -1,11 +1,9 @@
-//! Worked rows, crate by crate.
+//! What no row says of patterns and their lists.
 mod key_index;
 mod matchers;
 mod memory;
 mod pattern_lists;
 mod patterns;
-mod quotes;
 mod repeated;
 mod short_texts;
-mod table;
 mod wildmatch;

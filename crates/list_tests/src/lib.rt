@@ -1,4 +1,4 @@
-//! The tests of `attr_text` and `attr_lists`: worked rows of names, lines, and lists of lines.
+//! The tests of `attr_text` and `attr_lists`: copies, order, and refused memory.
 #![tactic(auto)]
 
 #[cfg(test)]

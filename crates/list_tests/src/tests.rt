@@ -1,7 +1,6 @@
-//! Worked rows, crate by crate.
+//! What no row says of names, lines and lists.
 mod kept_lists;
 mod lines;
 mod memory;
 mod names;
-mod numbers;
 mod search_types;

@@ -1,4 +1,4 @@
-//! Tests of `gix_attributes`: tables of lists, searches, outcomes, removed lists, files and sources, with expected answers.
+//! Tests of `gix_attributes`: files and devices, lists that come and go, and refused memory.
 #![tactic(auto)]
 
 #[cfg(test)]

@@ -1,37 +1,23 @@
 //! Calls that answer rightly when they are made again, whichever request for memory is refused.
 //!
 //! `tests/refused_memory.sh` refuses one request of a test in turn; what is called again then finds memory.
-use super::pattern_lists::{Lines, boxed, candidates, expect_list, index_of, listed, read};
+use super::pattern_lists::{Lines, boxed, candidates, index_of, listed, read};
 use attr_glob::Pattern;
 use attr_glob::pattern::{Case, Mode, base_name, base_name_place};
 use attr_glob::quote::ansi_c::{UndoError, undo};
 use attr_glob::search::pattern::{IndexBuffers, List};
 use attr_glob::token::Tokens;
-use attr_glob::wildmatch::{MatchBuffers, count};
+use attr_glob::wildmatch::MatchBuffers;
 use bitflags::Flags;
 use bstr::BStr;
 use std::alloc::{AllocError, Global};
 use std::borrow::CowSlice;
 use std::process::Abort;
 
-fn undone(alloc: Global, text: &[u8]) -> Result<Vec<u8>, AllocError> {
-    match undo(alloc, BStr::new(text)) {
-        Ok((plain, _)) => Vec::from_slice(alloc, plain.as_slice()),
-        Err(UndoError::OutOfMemory) => Err(AllocError),
-        Err(UndoError::NotQuoted | UndoError::Unclosed | UndoError::BadEscape(_)) => {
-            Ok(Vec::new(alloc))
-        }
-    }
-}
-
-fn undone_again(alloc: Global, text: &[u8]) -> Result<Vec<u8>, AllocError> {
-    undone(alloc, text).or_else(|_| undone(alloc, text))
-}
-
 #[test]
-fn without_memory_quotes_are_undone_again(rt: HostRuntime) -> Result<(), AllocError> {
-    let plain = undone_again(rt.alloc(), b"\"a\\tb\\101\"x")?;
-    assert_eq!(rt; plain.as_slice(), b"a\tbA".as_slice());
+fn want_of_memory_has_its_text(rt: HostRuntime) -> Result<(), AllocError> {
+    let text = format!(in rt.alloc(); "{}", UndoError::OutOfMemory)?;
+    assert_eq!(rt; text.as_str(), "out of memory");
     Ok(())
 }
 
@@ -68,30 +54,6 @@ fn without_memory_plain_quotes_are_undone(rt: HostRuntime) {
     }
 }
 
-// Read, copied and written.
-fn written(alloc: Global, text: &[u8]) -> Result<Vec<u8>, AllocError> {
-    match Pattern::from_bytes(alloc, text)? {
-        Some(pattern) => pattern.clone(alloc)?.write_text(alloc),
-        None => Ok(Vec::new(alloc)),
-    }
-}
-
-fn written_again(alloc: Global, text: &[u8]) -> Result<Vec<u8>, AllocError> {
-    written(alloc, text).or_else(|_| written(alloc, text))
-}
-
-fn expect_written(rt: &impl Abort, alloc: Global, text: &[u8]) -> Result<(), AllocError> {
-    let again = written_again(alloc, text)?;
-    assert_eq!(rt; again.as_slice(), text);
-    Ok(())
-}
-
-#[test]
-fn without_memory_patterns_are_written_again(rt: HostRuntime) -> Result<(), AllocError> {
-    expect_written(&rt, rt.alloc(), b"!/a/")?;
-    expect_written(&rt, rt.alloc(), b"*.rs")
-}
-
 fn matches(alloc: Global, text: &[u8], path: &[u8], case: Case) -> Result<bool, AllocError> {
     let Some(pattern) = Pattern::from_bytes(alloc, text)? else {
         return Ok(false);
@@ -124,15 +86,6 @@ fn expect_matched(
 #[test]
 fn without_memory_paths_are_matched_again(rt: HostRuntime) -> Result<(), AllocError> {
     expect_matched(&rt, rt.alloc(), b"a/**/[b]", MATCHED)
-}
-
-#[test]
-fn without_memory_pairs_are_counted_again(rt: HostRuntime) -> Result<(), AllocError> {
-    let (alloc, text, value) = (rt.alloc(), b"*a*b", b"aaab");
-    let first = count(alloc, text, value, Case::Sensitive);
-    let (matched, pairs) = first.or_else(|_| count(alloc, text, value, Case::Sensitive))?;
-    assert!(rt; matched && pairs <= 25);
-    Ok(())
 }
 
 const DECIDED_BY_BYTES: &[(&str, &str, bool)] = &[
@@ -203,17 +156,6 @@ fn without_memory_candidates_are_found_again(rt: HostRuntime) -> Result<(), Allo
 fn based(alloc: Global) -> Result<Box<List<Lines>>, AllocError> {
     let (list, _) = read(alloc, b"x\n\ny", "a/b/.gitattributes", Some("a"))?;
     boxed(alloc, list.clone(alloc)?)
-}
-
-fn based_again(alloc: Global) -> Result<Box<List<Lines>>, AllocError> {
-    based(alloc).or_else(|_| based(alloc))
-}
-
-#[test]
-fn without_memory_bases_are_read_again(rt: HostRuntime) -> Result<(), AllocError> {
-    let list = based_again(rt.alloc())?;
-    expect_list(&rt, &list, "a/b/.gitattributes", Some(b"b/"));
-    Ok(())
 }
 
 // The calls below take no memory. What they are called on is made before, or the test is over.

@@ -1,4 +1,4 @@
-//! Worked rows: lists of patterns, their bases, and their index.
+//! Lists of a parser of their own, and their index.
 ghost use Rattle.std.specs.Prelude.{◌≡◌, [], ◌∷◌, IfOk, map, string_bytes};
 
 use attr_glob::pattern::{Case, base_name_place};
@@ -121,106 +121,16 @@ pub(super) fn read(
     Ok((boxed(alloc, list)?, dropped))
 }
 
-pub(super) fn expect_list(rt: &impl Abort, list: &List<Lines>, source: &str, base: Option<&[u8]>) {
+fn expect_list(rt: &impl Abort, list: &List<Lines>, source: &str, base: Option<&[u8]>) {
     assert!(rt; list.patterns.len() == 2 && list.source.as_deref() == Some(source));
     assert!(rt; list.base.as_deref() == base, "{source}");
 }
 
-// Expects the list of a file, below this root, to have this base.
-fn expect_base(
-    rt: &impl Abort,
-    alloc: Global,
-    source: &str,
-    root: Option<&str>,
-    base: Option<&[u8]>,
-) -> Result<(), AllocError> {
-    let (list, dropped) = read(alloc, b"x\n\ny", source, root)?;
-    expect_list(rt, &list, source, base);
+#[test]
+fn what_the_parser_drops_is_returned(rt: HostRuntime) -> Result<(), AllocError> {
+    let (list, dropped) = read(rt.alloc(), b"x\n\ny", "a/b/.gitattributes", Some("a"))?;
+    expect_list(&rt, &list, "a/b/.gitattributes", Some(b"b/"));
     assert_eq!(rt; dropped.as_slice(), [1].as_slice());
-    Ok(())
-}
-
-// Files, the roots that they are below, and the bases of their lists.
-const BELOW: &[(&str, &str, &[u8])] = &[
-    ("a/b/.gitattributes", "a", b"b/"),
-    ("a/b/.gitattributes", "a/", b"b/"),
-    ("/x/.gitattributes", "/", b"x/"),
-    ("sub/.gitattributes", "", b"sub/"),
-    ("a//b/.gitattributes", "a//", b"b/"),
-];
-
-#[test]
-fn bases_of_sources(rt: HostRuntime) -> Result<(), AllocError> {
-    for &(source, root, base) in BELOW {
-        expect_base(&rt, rt.alloc(), source, Some(root), Some(base))?;
-    }
-    Ok(())
-}
-
-// Files that stand in their root or elsewhere, or have none.
-const NOT_BELOW: &[(&str, Option<&str>)] = &[
-    ("a/b/.gitattributes", Some("a/b")),
-    ("a/b/.gitattributes", Some("ab")),
-    ("a/b/.gitattributes", Some("/")),
-    (".gitattributes", Some("")),
-    ("a/b/.gitattributes", Some("a//")),
-    ("a.b/c/.gitattributes", Some("a")),
-    ("a/b/.gitattributes", None),
-];
-
-#[test]
-fn sources_without_bases(rt: HostRuntime) -> Result<(), AllocError> {
-    for &(source, root) in NOT_BELOW {
-        expect_base(&rt, rt.alloc(), source, root, None)?;
-    }
-    Ok(())
-}
-
-fn stripped<'a>(
-    list: &List<Lines>,
-    path: &'a [u8],
-    case: Case,
-) -> Option<(&'a [u8], Option<usize>)> {
-    let place = base_name_place(path);
-    let (rest, place) = list.strip_base_handle_recompute_basename_pos(
-        BStr::new(path),
-        place,
-        case,
-    )?;
-    Some((rest.as_bytes(), place))
-}
-
-const STRIPPED: &[(&[u8], Case, Option<(&[u8], Option<usize>)>)] = &[
-    (b"sub/x", Case::Sensitive, Some((b"x", None))),
-    (b"sub/d/x", Case::Sensitive, Some((b"d/x", Some(2)))),
-    (b"SUB/X", Case::Fold, Some((b"X", None))),
-    (b"SUB/X", Case::Sensitive, None),
-    (b"x", Case::Sensitive, None),
-    (b"subway", Case::Sensitive, None),
-];
-
-fn expect_stripped(
-    rt: &impl Abort,
-    list: &List<Lines>,
-    rows: &[(&[u8], Case, Option<(&[u8], Option<usize>)>)],
-) {
-    for &(path, case, below) in rows {
-        assert_eq!(rt; stripped(list, path, case), below);
-    }
-}
-
-#[test]
-fn strips_bases(rt: HostRuntime) -> Result<(), AllocError> {
-    let (list, _) = read(rt.alloc(), b"/x", "sub/.gitattributes", Some(""))?;
-    expect_stripped(&rt, &list, STRIPPED);
-    Ok(())
-}
-
-#[test]
-fn a_list_without_a_base_strips_nothing(rt: HostRuntime) -> Result<(), AllocError> {
-    let (list, _) = read(rt.alloc(), b"/x", "", None)?;
-    let below = stripped(&list, b"d/x", Case::Fold);
-    assert_eq!(rt; below, Some((b"d/x".as_slice(), Some(2))));
     Ok(())
 }
 

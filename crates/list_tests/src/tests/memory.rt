@@ -4,17 +4,15 @@
 //!
 //! A function that owns a value takes long to prove, once more for each place where it can end. So what compares
 //! borrows, and what owns ends in few places.
-use super::lines::{are_kinds_copied, lines_of};
+use super::lines::are_kinds_copied;
 use super::names::{
     is_assignment_copied, is_name_copied, is_state_copied, is_value_copied, name_of, refused,
 };
-use super::numbers::{add, copied as copied_table, first_number, push_names, remove, table};
 use super::search_types::is_item_copied;
 use attr_glob::search::Pattern as _;
 use attr_glob::search::pattern::Mapping;
 use attr_lists::name_table::NameTable;
 use attr_lists::parse::{AttrError, Error, Iter, Kind, Lines, parse};
-use attr_lists::parser::{macros_valid, without_macros};
 use attr_lists::types::{AttributeId, Attributes, MatchKind, Metadata, Value as Line};
 use attr_text::state::ValueRef;
 use attr_text::{AssignmentRef, NameRef, StateRef};
@@ -38,18 +36,6 @@ fn without_memory_items_are_copied_again(rt: HostRuntime) -> Result<(), Fail> {
     let borrowed = AssignmentRef { name, state };
     assert!(rt; is_copied(alloc, borrowed).or_else(|_| is_copied(alloc, borrowed))?);
     assert!(rt; is_value_copied(alloc, "lf").or_else(|_| is_value_copied(alloc, "lf"))?);
-    Ok(())
-}
-
-#[test]
-fn without_memory_lines_are_read_again(rt: HostRuntime) -> Result<(), AllocError> {
-    let (alloc, text) = (rt.alloc(), b"\"a\\tb\" x\n!a b\n[attr]m y\n* z");
-    let lines = lines_of(alloc, text).or_else(|_| lines_of(alloc, text))?;
-    assert_eq!(rt;
-        lines.as_str(),
-        "1 pattern a\tb [x];Line 2 has a negative pattern, for literal characters use \\! (!a);\
-         3 macro m [y];4 pattern * [z];"
-    );
     Ok(())
 }
 
@@ -89,129 +75,6 @@ fn without_memory_numbered_items_are_copied_again(rt: HostRuntime) -> Result<(),
     Ok(())
 }
 
-// The list of a file, none of whose lines is dropped.
-fn read(alloc: Global, text: &[u8]) -> Result<Vec<Mapping<Line>>, AllocError> {
-    let (list, dropped) = Attributes.bytes_to_patterns(alloc, text, "")?;
-    if dropped.is_empty() {
-        Ok(list)
-    } else {
-        Ok(Vec::new(alloc))
-    }
-}
-
-fn expect_text_in_quotes(rt: &impl Abort, list: &[Mapping<Line>]) {
-    assert_eq!(rt; list.len(), 2);
-    assert_eq!(rt; list[0].pattern.text.as_slice(), b"a\tb".as_slice());
-}
-
-#[test]
-fn without_memory_lists_have_the_text_in_quotes(rt: HostRuntime) -> Result<(), AllocError> {
-    let (alloc, text) = (rt.alloc(), b"\"a\\tb\" x\n* y");
-    let list = read(alloc, text).or_else(|_| read(alloc, text))?;
-    expect_text_in_quotes(&rt, &list);
-    Ok(())
-}
-
-fn has_copy(
-    alloc: Global,
-    table: &NameTable,
-    list_id: usize,
-    list: &[Mapping<Line>],
-) -> Result<bool, AllocError> {
-    let copy = copied_table(alloc, table)?;
-    Ok(copy.holds(list_id, list) && copy.number_of("x") == Some(1))
-}
-
-// Adds a list to a table, and returns whether a copy of the table has the list.
-fn is_numbered(alloc: Global, text: &str) -> Result<bool, AllocError> {
-    let mut table = table(alloc)?;
-    let (list_id, list) = add(alloc, &mut table, text)?;
-    has_copy(alloc, &table, list_id, &list)
-}
-
-#[test]
-fn without_memory_lists_are_numbered_again(rt: HostRuntime) -> Result<(), AllocError> {
-    let (alloc, text) = (rt.alloc(), "[attr]m x y=1 z w\n* m x");
-    assert!(rt; is_numbered(alloc, text).or_else(|_| is_numbered(alloc, text))?);
-    Ok(())
-}
-
-// Whether no line of a list and no item has a number.
-fn are_without_numbers(list: &[Mapping<Line>]) -> bool {
-    let none = AttributeId::default();
-    for mapping in list {
-        let items = match &mapping.value {
-            Line::MacroAssignments { id, assignments } if *id == none => assignments,
-            Line::MacroAssignments { .. } => return false,
-            Line::Assignments(assignments) => assignments,
-        };
-        for item in items {
-            if item.id != none {
-                return false;
-            }
-        }
-    }
-    true
-}
-
-fn names_of(alloc: Global, table: &NameTable) -> Result<String, AllocError> {
-    let mut out = String::new(alloc);
-    push_names(&mut out, table)?;
-    Ok(out)
-}
-
-fn expect_names(
-    rt: &impl Abort,
-    alloc: Global,
-    table: &NameTable,
-    names: &str,
-) -> Result<(), AllocError> {
-    let found = names_of(alloc, table).or_else(|_| names_of(alloc, table))?;
-    assert_eq!(rt; found.as_str(), names);
-    Ok(())
-}
-
-// An addition that was refused changes no name, no body and no list.
-fn expect_added(
-    rt: &impl Abort,
-    alloc: Global,
-    table: &mut NameTable,
-    list: &mut [Mapping<Line>],
-    (before, after): (&str, &str),
-) -> Result<(), AllocError> {
-    assert!(rt; macros_valid(list));
-    if table.add(alloc, list).is_err() {
-        expect_names(rt, alloc, table, before)?;
-        assert!(rt; are_without_numbers(list) && macros_valid(list));
-        let _ = table.add(alloc, list)?;
-    }
-    expect_names(rt, alloc, table, after)
-}
-
-fn expect_both_added(
-    rt: &impl Abort,
-    alloc: Global,
-    table: &mut NameTable,
-    first: &mut [Mapping<Line>],
-    second: &mut [Mapping<Line>],
-) -> Result<(), AllocError> {
-    expect_added(rt, alloc, table, first, ("", "m 1;x;"))?;
-    expect_added(rt, alloc, table, second, ("m 1;x;", "m 2 3;x;y;z;n 0;"))
-}
-
-#[test]
-fn without_memory_names_and_bodies_stay(rt: HostRuntime) -> Result<(), AllocError> {
-    let alloc = rt.alloc();
-    let (Ok(mut table), Ok(mut first), Ok(mut second)) = (
-        table(alloc),
-        read(alloc, b"[attr]m x\n* m"),
-        read(alloc, b"[attr]m y z\n[attr]n m"),
-    ) else {
-        return Ok(());
-    };
-    expect_both_added(&rt, alloc, &mut table, &mut first, &mut second)
-}
-
 fn are_lines_copied(alloc: Global, list: &[Mapping<Line>]) -> Result<bool, AllocError> {
     for mapping in list {
         if mapping.value.clone(alloc)? != mapping.value {
@@ -231,8 +94,9 @@ fn are_bodies_copied(alloc: Global, table: &NameTable) -> Result<bool, AllocErro
 }
 
 fn are_copied(alloc: Global, text: &str) -> Result<bool, AllocError> {
-    let mut table = table(alloc)?;
-    let (_, list) = add(alloc, &mut table, text)?;
+    let mut table = Box::new(alloc, NameTable::new(alloc))?;
+    let (mut list, _) = Attributes.bytes_to_patterns(alloc, text.as_bytes(), "")?;
+    table.add(alloc, &mut list)?;
     Ok(are_lines_copied(alloc, &list)? && are_bodies_copied(alloc, &table)?)
 }
 
@@ -393,13 +257,6 @@ fn without_memory_lines_are_counted(rt: HostRuntime) {
     }
 }
 
-fn is_without_numbers_if_read(alloc: Global, text: &[u8]) -> bool {
-    match read(alloc, text) {
-        Ok(list) => are_without_numbers(&list),
-        Err(_) => true,
-    }
-}
-
 fn expect_new_metadata(rt: &impl Abort, alloc: Global) {
     let metadata = Metadata::of(alloc, AttributeId(2));
     assert_eq!(rt;
@@ -409,8 +266,7 @@ fn expect_new_metadata(rt: &impl Abort, alloc: Global) {
 }
 
 #[test]
-fn without_memory_numbers_answer(rt: HostRuntime) {
-    assert!(rt; is_without_numbers_if_read(rt.alloc(), b"[attr]m x\n* m"));
+fn numbers_answer(rt: HostRuntime) {
     expect_new_metadata(&rt, rt.alloc());
     assert_eq!(rt; AttributeId::default().0, 18_446_744_073_709_551_615);
     let id = Some(AttributeId(5));
@@ -429,39 +285,4 @@ fn without_memory_numbers_answer(rt: HostRuntime) {
         ),
         (id, id, None)
     );
-}
-
-// Expects the names `m` and `x`, and this first number in the body of `m`.
-fn expect_m_and_x(rt: &impl Abort, table: &NameTable, first: Option<usize>) {
-    assert_eq!(rt; (table.number_of("x"), table.len()), (Some(1), 2));
-    assert_eq!(rt;
-        (first_number(table, "m"), first_number(table, "x")),
-        (first, None)
-    );
-}
-
-fn expect_removed(rt: &impl Abort, table: &mut NameTable, list_id: usize, list: &[Mapping<Line>]) {
-    expect_m_and_x(rt, table, Some(1));
-    remove(rt, table, list_id, list);
-    expect_m_and_x(rt, table, None);
-    assert!(rt; !table.holds(list_id, list));
-}
-
-fn expect_added_and_removed(rt: &impl Abort, alloc: Global, table: &mut NameTable) {
-    assert!(rt; table.len() == 0 && table.iter().next().is_none());
-    let Ok(mut list) = read(alloc, b"[attr]m x\n* m") else {
-        return;
-    };
-    assert!(rt; macros_valid(&list));
-    if let Ok(list_id) = table.add(alloc, &mut list) {
-        expect_removed(rt, table, list_id, &list);
-        assert_eq!(rt; without_macros(list).len(), 1);
-    }
-}
-
-#[test]
-fn without_memory_lists_are_removed(rt: HostRuntime) {
-    if let Ok(mut table) = table(rt.alloc()) {
-        expect_added_and_removed(&rt, rt.alloc(), &mut table);
-    }
 }

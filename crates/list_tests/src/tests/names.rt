@@ -23,24 +23,6 @@ pub(super) fn refused(text: &[u8]) -> Option<BStr<'_>> {
     }
 }
 
-const VALID: &[&[u8]] = &[b"a", b"Az9-._", b"builtin_x"];
-
-const INVALID: &[&[u8]] = &[b"", b"-a", b"a b", b"\xFF"];
-
-#[test]
-fn valid_names(rt: HostRuntime) {
-    for text in VALID {
-        assert_eq!(rt; refused(text), None);
-    }
-}
-
-#[test]
-fn a_refusal_has_its_input(rt: HostRuntime) {
-    for text in INVALID {
-        assert_eq!(rt; refused(text), Some(BStr::new(text)));
-    }
-}
-
 #[test]
 fn a_refusal_has_its_text(rt: HostRuntime) -> Result<(), AllocError> {
     let text = format!(in rt.alloc(); "{}", name::Error::InvalidName(BStr::from("-a")))?;

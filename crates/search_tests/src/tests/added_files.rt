@@ -1,9 +1,8 @@
 //! Files that are added, and global lists.
 //!
 //! The reports are pushed to a text that is borrowed, since a function that owns what can be dropped takes long to prove.
-use super::indexed::times;
-use super::lists::Registered;
-use super::scene::{new_collection, push_lines};
+use super::files::times;
+use super::lists::{Registered, new_collection, push_lines};
 use bstr::BStr;
 use gix_attributes::Search;
 use gix_attributes::files::{Disk, Files, Memory};

@@ -1,5 +1,4 @@
 //! Reads of real files, and of files in memory.
-use super::indexed::times;
 use gix_attributes::files::{Disk, Files, Memory, ReadError};
 use std::alloc::{AllocError, Global};
 use std::fmt::Write;
@@ -10,6 +9,15 @@ use std::process::Abort;
 use std::rt::Files as HostFiles;
 use std::test::Fail;
 use std::{env, fs, io, process};
+
+/// A text that is repeated.
+pub(super) fn times(alloc: Global, part: &str, count: usize) -> Result<String, AllocError> {
+    let mut out = String::new(alloc);
+    for _ in 0..count {
+        out.push_str(part)?;
+    }
+    Ok(out)
+}
 
 // A file and a link to it.
 fn write_files<R: HostFiles>(rt: &R, alloc: Global, folder: Path<'_>) -> Result<(), Fail> {

@@ -1,0 +1,153 @@
+//! Steps of an engine: lists are added and removed, names are selected, paths are asked for, and what it returns is reported.
+
+use crate::fault::NoAnswer;
+use crate::row::Row;
+use bstr::BStr;
+use gix_attributes::engine::{Addition, Below, Engine, Question};
+use gix_attributes::glob::pattern::Case;
+use gix_attributes::search::{AttributeId, Match};
+use std::alloc::{AllocError, Global};
+use std::fmt::Write;
+
+/// Takes a step, and reports what it has to.
+///
+/// # Errors
+/// [`NoAnswer::NotARow`] if there is no such step; memory is refused.
+pub(crate) fn take(
+    engine: &mut Engine,
+    alloc: Global,
+    step: &Row,
+    out: &mut String,
+) -> Result<(), NoAnswer> {
+    match step.text(0) {
+        // `add | SOURCE | FILE` adds the lines of a file, which is seen from the top directory.
+        "add" => engine.add(alloc, addition(step, Some(""), true))?,
+        // `add_without_macros | SOURCE | FILE` adds lines that apply to all paths, and may define no macros.
+        "add_without_macros" => engine.add(alloc, addition(step, None, false))?,
+        // `add_below | SOURCE | DIRECTORY | FILE`
+        "add_below" => engine.add_below(alloc, list_below(step, true))?,
+        "add_below_without_macros" => engine.add_below(alloc, list_below(step, false))?,
+        // Removes the last list, and reports whether there was one.
+        "pop" => pop(engine, out)?,
+        // `select | NAME | ..` selects these names, and all if there are none.
+        "select" => select(engine, alloc, step)?,
+        // `ask | PATH | CASE` reports the number of answers for a path that is no directory.
+        "ask" => ask(engine, alloc, question(step, step.case(2)?, false), out)?,
+        "ask_directory" => ask(engine, alloc, question(step, Case::Sensitive, true), out)?,
+        _ => return report(engine, step, out),
+    }
+    Ok(())
+}
+
+fn report(engine: &Engine, step: &Row, out: &mut String) -> Result<(), NoAnswer> {
+    match step.text(0) {
+        // Each answer with its line and the macro that it comes from.
+        "rows" => push_rows(engine, out)?,
+        // `row | INDEX`: that answer.
+        "row" => push_found(engine, engine.answer(step.number(1)?), out)?,
+        // `found | NUMBER`: what is found for the attribute with that number.
+        "found" => push_found(engine, engine.found(AttributeId(step.number(1)?)), out)?,
+        // `number | INDEX`: the number of the attribute of that answer.
+        "number" => push_number(engine, step.number(1)?, out)?,
+        // How many names there are.
+        "names" => write!(out, "{}\n", engine.num_names())?,
+        // `name | NUMBER`
+        "name" => push_name(engine, step.number(1)?, out)?,
+        // The lines that were dropped of the last list.
+        "dropped" => push_dropped(engine, out)?,
+        _ => return Err(NoAnswer::NotARow),
+    }
+    Ok(())
+}
+
+fn addition<'a>(step: &'a Row, root: Option<&'a str>, allow_macros: bool) -> Addition<'a> {
+    Addition {
+        allow_macros,
+        source: step.text(1),
+        root,
+        buffer: step.bytes(2),
+    }
+}
+
+fn list_below(step: &Row, allow_macros: bool) -> Below<'_> {
+    Below {
+        allow_macros,
+        source: step.text(1),
+        base: Some(step.bytes(2)),
+        buffer: step.bytes(3),
+    }
+}
+
+fn question(step: &Row, case: Case, is_dir: bool) -> Question<'_> {
+    Question {
+        path: BStr::new(step.bytes(1)),
+        case,
+        is_dir: Some(is_dir),
+    }
+}
+
+fn pop(engine: &mut Engine, out: &mut String) -> Result<(), AllocError> {
+    out.reserve(6)?;
+    out.push_str(if engine.pop() { "true\n" } else { "false\n" })
+}
+
+fn select(engine: &mut Engine, alloc: Global, step: &Row) -> Result<(), AllocError> {
+    let names = step.texts(alloc, 1)?;
+    engine.select(alloc, &names)
+}
+
+fn ask(
+    engine: &mut Engine,
+    alloc: Global,
+    question: Question<'_>,
+    out: &mut String,
+) -> Result<(), AllocError> {
+    // The report gets its memory first, so that only the question can be refused.
+    out.reserve(8)?;
+    let count = engine.ask(alloc, question)?;
+    write!(out, "{count}\n")
+}
+
+fn push_rows(engine: &Engine, out: &mut String) -> Result<(), AllocError> {
+    for found in engine.answers() {
+        push_found(engine, Some(found), out)?;
+    }
+    Ok(())
+}
+
+// `-diff .gitattributes:2 binary`: the assignment, the source and the line, and the macro that it comes from.
+fn push_found(
+    engine: &Engine,
+    found: Option<Match<'_>>,
+    out: &mut String,
+) -> Result<(), AllocError> {
+    let Some(found) = found else {
+        return out.push_str("none\n");
+    };
+    let source = found.location.source.unwrap_or("-");
+    let line = found.location.sequence_number;
+    let cause = match found.kind.source_id() {
+        Some(id) => engine.name_of(id).unwrap_or("?"),
+        None => "-",
+    };
+    write!(out, "{} {source}:{line} {cause}\n", found.assignment)
+}
+
+fn push_number(engine: &Engine, index: usize, out: &mut String) -> Result<(), AllocError> {
+    match engine.number_of(index) {
+        Some(id) => write!(out, "{}\n", id.0),
+        None => out.push_str("none\n"),
+    }
+}
+
+fn push_name(engine: &Engine, number: usize, out: &mut String) -> Result<(), AllocError> {
+    let name = engine.name_of(AttributeId(number)).unwrap_or("none");
+    write!(out, "{name}\n")
+}
+
+fn push_dropped(engine: &Engine, out: &mut String) -> Result<(), AllocError> {
+    for dropped in engine.dropped() {
+        write!(out, "{} {:?}\n", dropped.line, dropped.reason)?;
+    }
+    Ok(())
+}
