@@ -159,18 +159,20 @@ impl<'a> Answer<'a> {
         let mut texts = Texts(&text[row.at..]);
         let name = texts.next(row.name_length);
         let value = texts.next(row.value_length);
-        let source = texts.next(row.source_length);
-        let pattern = texts.next(row.pattern_length);
-        let cause = texts.next(row.cause_length);
         let has = |flag| row.flags & flag != 0;
-        let via = has(sys::HAS_CAUSE).then_some(Macro { name: cause, number: row.cause });
-        let origin = Origin { source, list: row.list, line: row.line, pattern, via };
         Answer {
             name,
             number: (row.name != sys::NONE).then_some(row.name),
             state: State::new(row.state, value),
             is_macro: has(sys::IS_MACRO),
-            origin: has(sys::HAS_SOURCE).then_some(origin),
+            // The other texts are there only if a line decides.
+            origin: has(sys::HAS_SOURCE).then(|| {
+                let source = texts.next(row.source_length);
+                let pattern = texts.next(row.pattern_length);
+                let cause = texts.next(row.cause_length);
+                let via = has(sys::HAS_CAUSE).then_some(Macro { name: cause, number: row.cause });
+                Origin { source, list: row.list, line: row.line, pattern, via }
+            }),
         }
     }
 }
