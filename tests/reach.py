@@ -16,7 +16,8 @@ definitions that are their contents (`Value` of their types) are a start too.
 
 Two things are no start: a `ghost invariant`, and a `ghost` fact of a struct's field. Each function that makes a value
 proves them, and no clause promises more because of them: a wrong one could only make a proof fail. Neither is the view
-of a type that is not public: its content is seen only through calls of public types.
+of a type that is not public, nor what a type says as an impl of a trait that is not public: both are seen only through
+calls of public types.
 
 Names are resolved by the imports of each file. A name that is imported counts as cited wherever it occurs, also if it is
 a bound variable there: too much may be reached by that, never too little. The types that the prover derives from the code
@@ -188,14 +189,14 @@ class Source:
         self.fields = {}
         # Each with the type or function that shows it, a word on where it is, its text and its imports.
         self.contracts = []
-        self.scan(0, len(self.text), Imports(), None, False)
+        self.scan(0, len(self.text), Imports(), None, None)
         folder = os.path.dirname(file) if self is self.top else file[:-len(".rt")]
         for name, (public, target) in list(self.names.items()):
             if target == "mod":
                 path = os.path.join(folder, name + ".rt")
                 self.names[name] = (public, Source(crates, crate, path, self) if os.path.exists(path) else None)
 
-    def scan(self, i, end, imports, type_, of_trait):
+    def scan(self, i, end, imports, type_, trait):
         """Goes through the items between two places, of the file or of an impl or trait of this type."""
         public = False
         while m := self.ITEM.search(self.text, i, end):
@@ -207,21 +208,21 @@ class Source:
             elif m["member"]:
                 close = self.closing(i)
                 if m["member"] != "invariant":
-                    self.contracts.append((type_, m["member"], self.text[i:close], imports))
+                    self.contracts.append((type_, trait, m["member"], self.text[i:close], imports))
                 i = close
             elif m["mod"]:
                 self.names[m["mod"]] = (public, "mod")
             elif m["fn"]:
                 if type_ is None:
                     self.names[m["fn"]] = (public, "item")
-                i = self.scan_function(m["fn"], i, imports, type_, public or of_trait)
+                i = self.scan_function(m["fn"], i, imports, (type_, trait), public or trait)
             elif m["trait"] or m["impl"]:
                 open_ = self.text.index("{", i)
-                name, traits = (m["trait"], True) if m["trait"] else implemented(self.text[i:open_])
+                name, of_trait = (m["trait"], m["trait"]) if m["trait"] else implemented(self.text[i:open_])
                 if m["trait"]:
                     self.names[name] = (public, "item")
                 i = self.closing(open_)
-                self.scan(open_ + 1, i, Imports(imports), name, traits)
+                self.scan(open_ + 1, i, Imports(imports), name, of_trait)
             elif m["item"]:
                 if type_ is None:
                     self.names[m["item"]] = (public, "item")
@@ -234,7 +235,8 @@ class Source:
             # Only a bare `pub` makes the next item public.
             public = m[0] == "pub"
 
-    def scan_function(self, name, i, imports, type_, shown):
+    def scan_function(self, name, i, imports, of, shown):
+        type_, trait = of
         while m := self.PART.search(self.text, i):
             i = m.end()
             if m["body"]:
@@ -244,7 +246,8 @@ class Source:
             if m["clause"] is not None:
                 close = self.closing(i)
                 if shown:
-                    self.contracts.append((type_ or name, "%s %s" % (name, m["clause"]), self.text[i:close], imports))
+                    where = "%s %s" % (name, m["clause"])
+                    self.contracts.append((type_ or name, trait, where, self.text[i:close], imports))
                 i = close
 
     def closing(self, i):
@@ -309,18 +312,23 @@ def used(text, front=()):
 
 
 def implemented(head):
-    """The type of an impl, or its trait if it is one for all types, and whether it is the impl of a trait."""
+    """The type of an impl, or its trait if it is one for all types, and the trait that it is an impl of."""
     generics = re.match(r"\s*<((?:[^<>]|<[^<>]*>|->)*)>", head)
     head = head[generics.end():] if generics else head
     names = re.match(r"\s*([\w:]+)(?:<.*?>)?(?:\s+for\s+([\w:]+))?", head, re.S)
     parameters = re.findall(r"(?:^|,)\s*(\w+)", generics[1]) if generics else []
-    return (names[2] if names[2] and names[2] not in parameters else names[1]), names[2] is not None
+    return (names[2] if names[2] and names[2] not in parameters else names[1]), names[1] if names[2] else None
 
 
 def blanked(text):
     """The text with blanks in place of comments and of what is in quotes."""
     pattern = re.compile(r"//[^\n]*|b?\"(?:[^\"\\]|\\.)*\"|b?'(?:[^'\\]|\\.[^']*)'", re.S)
     return pattern.sub(lambda m: re.sub(r"[^\n]", " ", m[0]), text)
+
+
+def is_shown(found, items):
+    """Whether an item is public. What is not found is of a crate of the kit, and public."""
+    return found is None or found in items
 
 
 def public_roots(specs):
@@ -334,12 +342,12 @@ def public_roots(specs):
     for crate in PUBLIC_CRATES:
         crates[crate].show(modules, items)
     contracts = [(source, source.find(name.split("::")), where, text, imports)
-        for crate in crates.values() for source in crate.all() for name, where, text, imports in source.contracts]
+        for crate in crates.values() for source in crate.all() for name, trait, where, text, imports in source.contracts
+        if trait is None or is_shown(source.find(trait.split("::")), items)]
     contents = contents_of_fields(items, {found for _, found, where, _, _ in contracts if where in CONTENTS})
     roots = {}
     for source, found, where, text, imports in contracts:
-        # What is not found is of a crate of the kit, and public.
-        if found is None or found in items or found in contents and where in CONTENTS:
+        if is_shown(found, items) or found in contents and where in CONTENTS:
             for definition in sorted(specs.cited(text, imports), key=in_order):
                 roots.setdefault(definition, (where.strip(), source.file))
     return roots

@@ -4,7 +4,8 @@
 # compare with git.
 # usage: rust_crate.sh [FOLDER]
 # FOLDER is one that tools/c-library made. Without it the directory YEKTROD_LIB_DIR has the archive, or the folder is made here, of
-# the library that is built in crates/yektrod.
+# the library that is built in crates/yektrod. The crate gix-attributes is built of the crates in the directory YEKTROD_CRATES, which
+# tests/gitoxide.sh leaves, or else left out.
 set -eu
 top=$(cd "$(dirname "$0")/.." && pwd)
 room=$(mktemp -d)
@@ -70,6 +71,22 @@ finds_the_archive() {
         { cat "$room/said" >&2; fail 'no line says what is missing'; }
 }
 
+# The crate gix-attributes, in a workspace of its own, as it needs crates of gitoxide.
+for_gitoxide() {
+    if [ -z "${YEKTROD_CRATES:-}" ]; then
+        echo 'rust_crate: YEKTROD_CRATES names no crates of tests/gitoxide.sh, so this is left out: the crate gix-attributes'
+        return
+    fi
+    CARGO_TARGET_DIR=$room/target-gitoxide
+    export CARGO_TARGET_DIR
+    cd "$room/rust/gix-attributes"
+    for what in test 'doc --no-deps'; do
+        quiet "$1" --config "$YEKTROD_CRATES/config.toml" $what --offline
+    done
+    quiet "$1" fmt --check
+    echo 'rust_crate: the crate gix-attributes is built, and its tests pass'
+}
+
 RUSTC=/usr/bin/rustc RUSTDOC=/usr/bin/rustdoc
 export RUSTC RUSTDOC
 try /usr/bin/cargo debian
@@ -84,3 +101,4 @@ if [ "$(readlink -f "$other")" != "$(readlink -f /usr/bin/cargo)" ]; then
         echo 'rust_crate: there is no rustfmt here, so this is left out: the layout'
     fi
 fi
+for_gitoxide "$other"

@@ -3,8 +3,10 @@ use Rattle.std.proofs.Common.{◌≡◌, ℕ, zero, suc, List, [], ◌∷◌, �
 use Rattle.std.proofs.Common.{Result, Ok, Err, OnOk}
 use Rattle.std.specs.Prelude.{is_none, is_ok, slice_get, if◌then◌else◌}
 use Rattle.attr_keys.specs.declared.key.Subject.TheVariants.{Name}
+use Rattle.attr_keys.specs.inner.Candidates.{candidate_of}
 use Rattle.attr_keys.specs.inner.LineKeys.{candidate_content}
-use Rattle.attr_keys.specs.KeyContents.{KeyContent}
+use Rattle.attr_keys.proofs.ForCallers.{candidate_of_line}
+use Rattle.attr_keys.specs.inner.KeyContents.{KeyContent}
 use Rattle.attr_keys.specs.inner.Meeting.{content_met, content_met_at}
 use Rattle.attr_keys.specs.inner.Rows.{has_row, IsFalling}
 use Rattle.attr_wildmatch.specs.declared.case.Case.{Case}
@@ -12,7 +14,7 @@ use Rattle.attr_glob.specs.Candidates.{has_macro_mode, matches_base_name, is_can
 use Rattle.attr_glob.specs.Patterns.{Reading, has_flag, ends_with}
 use Rattle.attr_glob.specs.declared.pattern.Pattern.{Pattern}
 use Rattle.attr_glob.specs.Views.{pattern_view}
-use Rattle.attr_glob.specs.inner.LineShapes.{folds, shape_reading}
+use Rattle.attr_glob.specs.inner.LineShapes.{folds, key_of_pattern, shape_reading}
 use Rattle.attr_wildmatch.proofs.ForCallers.{by_test}
 use Rattle.attr_glob.proofs.FallingPlaces.{falling_places, passes}
 use Rattle.attr_glob.proofs.KeyTexts.{whole_met, end_met}
@@ -50,11 +52,11 @@ pub appended : {T E : Type 0} (r : Result T E) (new old more wanted : List ℕ) 
 appended (Ok x) new old more wanted e same = e ∙ ap (λ l. old ++ l) same
 appended (Err x) new old more wanted e same = tt
 
--- the keys of patterns
-abbrev pub key_of_pattern : Pattern → KeyContent
-key_of_pattern pattern = candidate_content (shape_reading (pattern_view pattern))
-
-pub keys_of_views : (patterns : List Pattern) → map key_of_pattern patterns
+-- the keys of patterns, as far as base names alone tell
+pub keys_of_views : (patterns : List Pattern) → map candidate_of (map key_of_pattern patterns)
     ≡ map (λ line. candidate_content (shape_reading line)) (map pattern_view patterns)
 keys_of_views [] = refl
-keys_of_views (p ∷ ps) = ap (λ l. key_of_pattern p ∷ l) (keys_of_views ps)
+keys_of_views (p ∷ ps) =
+    let first = candidate_of_line (shape_reading (pattern_view p)) in
+    let rest = keys_of_views ps in
+    cc (first, rest)

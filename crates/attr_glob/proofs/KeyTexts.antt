@@ -10,8 +10,8 @@ use Rattle.std.proofs.lemmas.List.{length-reverse, length-drop, reverse-append, 
 use Rattle.attr_keys.specs.declared.key.Subject.{Subject}
 use Rattle.attr_keys.specs.declared.key.Subject.TheVariants.{End}
 use Rattle.attr_keys.specs.inner.Codes.{byte_code}
-use Rattle.attr_keys.specs.inner.LineKeys.{whole_text, turned_end}
-use Rattle.attr_keys.specs.KeyContents.{KeyContent}
+use Rattle.attr_keys.specs.inner.LineKeys.{whole_text, reversed_end}
+use Rattle.attr_keys.specs.inner.KeyContents.{KeyContent}
 use Rattle.attr_keys.specs.inner.Meeting.{has_content}
 use Rattle.attr_wildmatch.specs.declared.case.Case.{Case}
 use Rattle.attr_wildmatch.specs.declared.case.Case.TheVariants.{Sensitive, Fold}
@@ -140,9 +140,9 @@ turned_front n text = elim (sides n (length text)) [ inl le ↦ inside le | inr 
     sides (suc a) zero = inr (omega arith)
     sides (suc a) (suc b) = elim (sides a b) [ inl l ↦ inl (omega arith) | inr l ↦ inr (omega arith) ]
 
--- an end, turned round
+-- an end, from its last byte on
 pub end_met : (case : Case) (base end : List ℕ) →
-    has_content (folds case) (reverse base) (turned_end end) ≡ ends_with nat_eq (folded case base) (folded case end)
+    has_content (folds case) (reverse base) (reversed_end end) ≡ ends_with nat_eq (folded case base) (folded case end)
 end_met case base end =
     let n = length end in
     let m = length base - n in

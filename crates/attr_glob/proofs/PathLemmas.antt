@@ -9,6 +9,7 @@ use Rattle.attr_glob.specs.Patterns.{Reading, reading, read_rest, is_space, is_w
 use Rattle.attr_wildmatch.specs.Slashes.{is_slash, ends_in_slash}
 use Rattle.attr_glob.specs.Patterns.{without_root, without_end, first, has_flag, ends_with, must_be_dir, negative}
 use Rattle.attr_wildmatch.specs.Deciding.{text_matches}
+use Rattle.attr_wildmatch.specs.Matching.{TextMatches}
 use Rattle.attr_glob.specs.Paths.{matched_part, is_directory, PathMatches, path_matches}
 use Rattle.attr_glob.specs.BaseNames.{base_name, base_name_place}
 use Rattle.attr_wildmatch.proofs.ForCallers.{by_test, and_parts, and_both, or_left, or_right, reverse-cons}
@@ -108,6 +109,13 @@ path_answer case r path part is_dir answer kind same told =
       (λ t. path_match_of_test case r path is_dir (and_both kind_test text_test kind (sym exact ∙ t))),
       (λ m. let w = and_parts kind_test text_test (test_of_path_match case r path is_dir m) in exact ∙ w.1),
     )
+
+-- an answer that is yes exactly for a match is that of the test
+pub answer_of_match : (case : Case) (text value : List ℕ) (answer : Bool) → (answer ≡ true → TextMatches case text value) →
+    (TextMatches case text value → answer ≡ true) → answer ≡ text_matches case text value
+answer_of_match case text value answer there back = by_test answer
+    (λ t. t ∙ sym (test_of_text_match case text value (there t)))
+    (λ f. by_test (text_matches case text value) (λ y. back (text_match_of_test case text value y) ∙ sym y) (λ n. f ∙ sym n))
 
 list_any-at : (p : ℕ → Bool) (xs : List ℕ) (k : ℕ) → k < length xs → p (get_or xs k 0) ≡ true → list_any p xs ≡ true
 list_any-at p [] k l h = absurd (omega arith)

@@ -6,3 +6,5 @@ pub use Rattle.attr_index.proofs.KeyedLemmas.{below_or}
 pub use Rattle.attr_index.proofs.PlacedLemmas.{lines_patterns, entry_is}
 -- of lines that define macros none is tried
 pub use Rattle.attr_index.proofs.TryingLemmas.{idle_tried}
+-- lists compare one by one as what is compared of each
+pub use Rattle.attr_index.proofs.CompareLemmas.{equal_alone, ordered_alone}

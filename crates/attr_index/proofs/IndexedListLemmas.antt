@@ -9,9 +9,7 @@ use Rattle.std.proofs.lemmas.List.Elements.{All-nil, All-cons, All-head, All-tai
 use Rattle.attr_glob.specs.declared.search.pattern.Mapping.{Mapping}
 use Rattle.attr_glob.specs.declared.search.pattern.List.{List as PatternList}
 use Rattle.attr_glob.specs.Clones.{AreMappingClones, IsMappingClone}
-use Rattle.attr_glob.specs.KeptTokens.{kept_tokens}
 use Rattle.attr_glob.specs.Patterns.{Reading}
-use Rattle.attr_wildmatch.specs.Tokens.{Token}
 use Rattle.attr_glob.specs.Views.{base_bytes, pattern_view, patterns_of}
 use Rattle.attr_lists.specs.declared.parser.Attributes.{Attributes}
 use Rattle.attr_lists.specs.declared.types.Dropped.{Dropped}
@@ -20,47 +18,50 @@ use Rattle.attr_lists.specs.declared.types.Value.TheVariants.{MacroAssignments, 
 use Rattle.attr_lists.specs.ListViews.{Entry, SameValue, entry_view, entries_view, items_in, macro_id}
 use Rattle.attr_lists.specs.Numbers.{numbered, numbered_lines}
 use Rattle.attr_index.specs.ListView.{list_view}
-use Rattle.attr_index.specs.inner.LineTokens.{unboxed}
+use Rattle.attr_index.specs.declared.indexed_line.IndexedLine.{IndexedLine}
+use Rattle.attr_index.specs.inner.LineIndexes.{NumberedPattern, indexed_keys, indexed_line, indexed_lines, lines_in}
+use Rattle.attr_glob.specs.inner.LineShapes.{key_of_line, key_of_pattern}
+use Rattle.attr_index.specs.inner.PlacedLines.{entry_at, no_entry}
 use Rattle.attr_index.specs.inner.ReadLines.{IsRead, AreRead}
 
--- the tokens of one more pattern
-pub kept_more : {V Y : Type 0} (tokens : List (Option (Box (List Token) Y))) (mappings : List (Mapping V)) (i : ℕ) (d : Mapping V)
-    (more : List (Option (Box (List Token) Y))) (kept : Option (Box (List Token) Y)) (mapping : Mapping V) → i < length mappings →
-    mapping ≡ get_or mappings i d → map unboxed tokens ≡ map kept_tokens (patterns_of (take i mappings)) → more ≡ tokens ++ kept ∷ [] →
-    unboxed kept ≡ kept_tokens (pattern_view mapping.pattern) → map unboxed more ≡ map kept_tokens (patterns_of (take (i + 1) mappings))
-kept_more tokens mappings i d more kept mapping lt is before pushed read =
-    let fronts = patterns_of (take i mappings) in
-    let next = pattern_view (get_or mappings i d).pattern in
-    let whole : patterns_of (take (i + 1) mappings) ≡ fronts ++ next ∷ [] =
-    ap patterns_of (take_more mappings i d lt) ∙ map-append (λ m. pattern_view m.pattern) (take i mappings) (get_or mappings i d ∷ []) in
-    ap (map unboxed) pushed
-    ∙ (map-append unboxed tokens (kept ∷ [])
-    ∙ (ap (λ r. r ++ unboxed kept ∷ []) before
-    ∙ (ap (λ r. map kept_tokens fronts ++ r ∷ []) (read ∙ ap (λ m. kept_tokens (pattern_view m.pattern)) is)
-    ∙ sym (ap (map kept_tokens) whole ∙ map-append kept_tokens fronts (next ∷ [])))))
+map_map : {X Y Z : Type 0} (g : Y → Z) (f : X → Y) (xs : List X) → map g (map f xs) ≡ map (λ x. g (f x)) xs
+map_map g f [] = refl
+map_map g f (x ∷ xs) = ap (λ l. g (f x) ∷ l) (map_map g f xs)
 
--- as many tokens are kept as there are lines
-pub kept_length : {V Y : Type 0} (tokens : List (Option (Box (List Token) Y))) (mappings : List (Mapping V)) →
-    map unboxed tokens ≡ map kept_tokens (patterns_of mappings) → length tokens ≡ length mappings
-kept_length tokens mappings e =
-    sym (length-map tokens unboxed) ∙ (ap length e
-    ∙ (length-map (patterns_of mappings) kept_tokens ∙ length-map mappings (λ m. pattern_view m.pattern)))
+-- one more line of an index
+pub lines_more : {V : Type 0} (lines : List IndexedLine) (mappings : List (Mapping V)) (i : ℕ) (d : Mapping V) (more : List IndexedLine)
+    (line : IndexedLine) (mapping : Mapping V) → i < length mappings → mapping ≡ get_or mappings i d →
+    indexed_lines lines ≡ lines_in (take i mappings) → more ≡ lines ++ line ∷ [] →
+    pattern_view line.pattern ≡ pattern_view mapping.pattern → line.number ≡ mapping.sequence_number →
+    indexed_lines more ≡ lines_in (take (i + 1) mappings)
+lines_more {V} lines mappings i d more line mapping lt is before pushed pattern number =
+    let numbered : Mapping V → NumberedPattern = λ m. record { pattern = pattern_view m.pattern; number = m.sequence_number } in
+    let here : indexed_line line ≡ numbered mapping = cc (pattern, number) in
+    ap indexed_lines pushed ∙ map-append indexed_line lines (line ∷ [])
+    ∙ ap (λ r. r ++ indexed_line line ∷ []) before
+    ∙ ap (λ r. lines_in (take i mappings) ++ r ∷ []) (here ∙ ap numbered is)
+    ∙ sym (ap lines_in (take_more mappings i d lt) ∙ map-append numbered (take i mappings) (get_or mappings i d ∷ []))
 
--- the tokens at the place of a line are those of its pattern
-pub kept_at : {V Y : Type 0} (tokens : List (Option (Box (List Token) Y))) (mappings : List (Mapping V)) (place : ℕ)
-    (kept : Option (Box (List Token) Y)) (mapping : Mapping V) → map unboxed tokens ≡ map kept_tokens (patterns_of mappings) →
-    place < length mappings → kept ≡ get_or tokens place kept → mapping ≡ get_or mappings place mapping →
-    unboxed kept ≡ kept_tokens (pattern_view mapping.pattern)
-kept_at tokens mappings place kept mapping e lt is here =
-    let same = kept_length tokens mappings e in
-    let long = length-map mappings (λ m. pattern_view m.pattern) in
-    let d = pattern_view mapping.pattern in
-    ap unboxed is
-    ∙ (sym (get_or-map unboxed tokens place kept (kept_tokens d) (omega (arith, same, lt)))
-    ∙ (ap (λ ts. get_or ts place (kept_tokens d)) e
-    ∙ (get_or-map kept_tokens (patterns_of mappings) place d (kept_tokens d) (omega (arith, long, lt))
-    ∙ (ap kept_tokens (get_or-map (λ m. pattern_view m.pattern) mappings place mapping d lt)
-    ∙ ap (λ m. kept_tokens (pattern_view m.pattern)) (sym here)))))
+-- the keys of an index are those of its list
+pub keys_same : (lines : List IndexedLine) (mappings : List (Mapping Value)) → indexed_lines lines ≡ lines_in mappings →
+    indexed_keys lines ≡ map (λ m. key_of_pattern m.pattern) mappings
+keys_same lines mappings e =
+    sym (map_map (λ (n : NumberedPattern). key_of_line n.pattern) indexed_line lines) ∙ ap (map (λ (n : NumberedPattern). key_of_line n.pattern)) e
+    ∙ map_map (λ (n : NumberedPattern). key_of_line n.pattern)
+    (λ (m : Mapping Value). record { pattern = pattern_view m.pattern; number = m.sequence_number }) mappings
+
+-- and those of its patterns
+pub keys_read : (lines : List IndexedLine) (mappings : List (Mapping Value)) → indexed_lines lines ≡ lines_in mappings →
+    indexed_keys lines ≡ map key_of_line (patterns_of mappings)
+keys_read lines mappings e =
+    keys_same lines mappings e ∙ sym (map_map key_of_line (λ (m : Mapping Value). pattern_view m.pattern) mappings)
+
+-- as many lines
+pub lines_length : {V : Type 0} (lines : List IndexedLine) (mappings : List (Mapping V)) → indexed_lines lines ≡ lines_in mappings →
+    length lines ≡ length mappings
+lines_length {V} lines mappings e =
+    sym (length-map lines indexed_line) ∙ ap length e
+    ∙ length-map mappings (λ (m : Mapping V). record { pattern = pattern_view m.pattern; number = m.sequence_number })
 
 -- the patterns of a list, as its lines have them
 patterns_in : List Entry → List Reading
@@ -81,6 +82,44 @@ pub numbered_lines_read : (names : List (List ℕ)) (before after : List (Mappin
     (entries_view before) → patterns_of after ≡ patterns_of before
 numbered_lines_read names before after e =
     lines-patterns after ∙ ap patterns_in e ∙ numbered-patterns names (entries_view before) ∙ sym (lines-patterns before)
+
+-- and so have the numbers of its lines
+abbrev numbered_pattern : Entry → NumberedPattern
+numbered_pattern e = record { pattern = e.pattern; number = e.line }
+
+lines-entries : (mappings : List (Mapping Value)) → lines_in mappings ≡ map numbered_pattern (entries_view mappings)
+lines-entries [] = refl
+lines-entries (m ∷ ms) = ap (λ r. record { pattern = pattern_view m.pattern; number = m.sequence_number } ∷ r) (lines-entries ms)
+
+numbered-entries : (names : List (List ℕ)) (entries : List Entry) → map numbered_pattern (numbered_lines names entries)
+    ≡ map numbered_pattern entries
+numbered-entries names [] = refl
+numbered-entries names (e ∷ es) = ap (λ r. numbered_pattern e ∷ r) (numbered-entries names es)
+
+-- the pattern of the line with an index is that of the line of the list there
+pub entry_pattern : (lines : List IndexedLine) (ms : List (Mapping Value)) (place : ℕ) (line : IndexedLine) →
+    indexed_lines lines ≡ lines_in ms → place < length ms → line ≡ get_or lines place line →
+    (entry_at (entries_view ms) place).pattern ≡ pattern_view line.pattern
+entry_pattern lines ms place line e lt is =
+    let same = lines_length lines ms e in
+    let n = length-map ms entry_view in
+    let d = indexed_line line in
+    ap (λ (x : NumberedPattern). x.pattern)
+    (sym (get_or-map numbered_pattern (entries_view ms) place no_entry d (omega (arith, n, lt)))
+    ∙ (ap (λ ns. get_or ns place d) (sym (e ∙ lines-entries ms))
+    ∙ (get_or-map indexed_line lines place line d (omega (arith, same, lt)) ∙ ap indexed_line (sym is))))
+
+-- lists that have the same lines
+pub same_lines : (before after : List (Mapping Value)) → entries_view after ≡ entries_view before → lines_in after ≡ lines_in before
+same_lines before after e = lines-entries after ∙ ap (map numbered_pattern) e ∙ sym (lines-entries before)
+
+pub same_patterns : (before after : List (Mapping Value)) → entries_view after ≡ entries_view before → patterns_of after ≡ patterns_of before
+same_patterns before after e = lines-patterns after ∙ ap patterns_in e ∙ sym (lines-patterns before)
+
+pub numbered_lines_in : (names : List (List ℕ)) (before after : List (Mapping Value)) → entries_view after ≡ numbered_lines names
+    (entries_view before) → lines_in after ≡ lines_in before
+numbered_lines_in names before after e =
+    lines-entries after ∙ ap (map numbered_pattern) e ∙ numbered-entries names (entries_view before) ∙ sym (lines-entries before)
 
 entry-numbered : (names : List (List ℕ)) (pattern : Reading) (items : List _) (line : ℕ) (macro : Option _)
     → IsRead (record { pattern = pattern; macro = macro; items = items; line = line }) → IsRead

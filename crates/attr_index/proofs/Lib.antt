@@ -1,3 +1,4 @@
+pub mod CompareLemmas
 pub mod IndexedListLemmas
 pub mod FolderLemmas
 pub mod KeyedLemmas

@@ -9,7 +9,7 @@ use Rattle.attr_wildmatch.specs.declared.case.Case.{Case}
 use Rattle.attr_glob.specs.declared.search.pattern.Mapping.{Mapping}
 use Rattle.attr_wildmatch.specs.Deciding.{text_matches}
 use Rattle.attr_glob.specs.Paths.{matched_part, is_directory, path_matches}
-use Rattle.attr_glob.specs.Patterns.{reading, has_flag, negative, must_be_dir}
+use Rattle.attr_glob.specs.Patterns.{Reading, reading, has_flag, negative, must_be_dir}
 use Rattle.attr_glob.specs.Views.{pattern_view, patterns_of}
 use Rattle.attr_lists.specs.declared.types.Value.{Value}
 use Rattle.attr_lists.specs.ListViews.{Entry, entry_view, entries_view}
@@ -32,29 +32,25 @@ pub entry_is : (ms : List (Mapping Value)) (place : ℕ) (m : Mapping Value) →
 entry_is ms place m lt is = get_or-map entry_view ms place m no_entry lt ∙ ap entry_view (sym is)
 
 -- a pattern that wants a directory matches no other path
-pub other_kind : (ms : List (Mapping Value)) (place : ℕ) (m : Mapping Value) (case : Case) (path : List ℕ) (is_dir : Option Bool) →
-    place < length ms → m ≡ get_or ms place m →
-    (not (has_flag (pattern_view m.pattern).mode must_be_dir) || is_directory is_dir) ≡ false →
-    false ≡ path_matches case (entry_at (entries_view ms) place).pattern path is_dir
-other_kind ms place m case path is_dir lt is kind = rw (entry_is ms place m lt is, kind) refl
+pub other_kind : (entry : Entry) (r : Reading) (case : Case) (path : List ℕ) (is_dir : Option Bool) → entry.pattern ≡ r →
+    (not (has_flag r.mode must_be_dir) || is_directory is_dir) ≡ false → false ≡ path_matches case entry.pattern path is_dir
+other_kind entry r case path is_dir same kind = rw (same, kind) refl
 
 -- else the answer for the matched part is the test of the line
-pub matched_answer : {E : Type 0} (ms : List (Mapping Value)) (place : ℕ) (m : Mapping Value) (case : Case) (path part : List ℕ)
+pub matched_answer : {E : Type 0} (ms : List (Mapping Value)) (place : ℕ) (r : Reading) (case : Case) (path part : List ℕ)
     (is_dir : Option Bool) (result : Result Bool E) →
-    ∥ AreRead (entries_view ms) ∥₁ → place < length ms → (entry_at (entries_view ms) place).macro ≡ None → m ≡ get_or ms place m →
-    (not (has_flag (pattern_view m.pattern).mode must_be_dir) || is_directory is_dir) ≡ true →
-    part ≡ matched_part (pattern_view m.pattern) path →
-    IfOk result (λ answer. (text : List ℕ) → reading text ≡ Some (pattern_view m.pattern) →
-    answer ≡ text_matches case (pattern_view m.pattern).text part) →
+    ∥ AreRead (entries_view ms) ∥₁ → place < length ms → (entry_at (entries_view ms) place).macro ≡ None →
+    (entry_at (entries_view ms) place).pattern ≡ r →
+    (not (has_flag r.mode must_be_dir) || is_directory is_dir) ≡ true →
+    part ≡ matched_part r path →
+    IfOk result (λ answer. (text : List ℕ) → reading text ≡ Some r → answer ≡ text_matches case r.text part) →
     IfOk result (λ answer. answer ≡ path_matches case (entry_at (entries_view ms) place).pattern path is_dir)
-matched_answer ms place m case path part is_dir (Err e) read lt none is kind same told = tt
-matched_answer ms place m case path part is_dir (Ok answer) read lt none is kind same told =
-    let here = entry_is ms place m lt is in
+matched_answer ms place r case path part is_dir (Err e) read lt none here kind same told = tt
+matched_answer ms place r case path part is_dir (Ok answer) read lt none here kind same told =
     let n = length-map ms entry_view in
-    let r = pattern_view m.pattern in
     let test : text_matches case r.text (matched_part r path) ≡ path_matches case (entry_at (entries_view ms) place).pattern path is_dir =
     rw (here, kind) refl in
     ∥∥₁_elim read (Bool-set answer (path_matches case (entry_at (entries_view ms) place).pattern path is_dir))
     (λ lines. let known = read_at (entries_view ms) place lines (omega arith) none in
-    told known.0 (known.1 ∙ ap (λ (x : Entry). Some x.pattern) here)
+    told known.0 (known.1 ∙ ap Some here)
     ∙ (ap (text_matches case r.text) same ∙ test))

@@ -5,8 +5,8 @@ use Rattle.std.proofs.Common.{cond, Result, Ok, Err, OnOk}
 use Rattle.std.specs.Prelude.{is_none, slice_get}
 use Rattle.std.specs.List.{list_all, starts_with}
 use Rattle.attr_keys.specs.declared.key.Subject.TheVariants.{Name, Path}
-use Rattle.attr_keys.specs.inner.LineKeys.{front_of}
-use Rattle.attr_keys.specs.KeyContents.{KeyContent}
+use Rattle.attr_keys.specs.inner.LineKeys.{prefix_of}
+use Rattle.attr_keys.specs.inner.KeyContents.{KeyContent}
 use Rattle.attr_keys.specs.inner.Meeting.{content_met, content_met_at}
 use Rattle.attr_keys.specs.inner.Rows.{has_row, IsFalling}
 use Rattle.attr_wildmatch.specs.declared.case.Case.{Case}
@@ -21,7 +21,8 @@ use Rattle.attr_glob.proofs.ForCallers.{matching_line_is_candidate, reading-wild
 use Rattle.attr_wildmatch.proofs.ForCallers.{by_test, and_parts}
 use Rattle.attr_glob.proofs.ForCallers.{text_matches-front}
 use Rattle.attr_glob.proofs.ForCallers.{whole_met, front_met, end_met, bytewise, falling_places, passes}
-use Rattle.attr_index.specs.inner.Trying.{AreTried, key_of_line}
+use Rattle.attr_glob.specs.inner.LineShapes.{key_of_line}
+use Rattle.attr_index.specs.inner.Trying.{AreTried}
 
 -- a line that is tried is a candidate
 tried_is_candidate : (case : Case) (path : List ℕ) (line : Reading) → is_tried case path line ≡ true → is_candidate case (base_name path) line ≡ true
@@ -45,7 +46,7 @@ begins_so case text value n at m =
     (λ f. let e : true ≡ false = sym m ∙ text_matches-front case text value n at f in absurd cc)
 
 name_front : (case : Case) (text name path : List ℕ) (wildcard : Option ℕ) → wildcard ≡ position is_wildcard text →
-    text_matches case text name ≡ true → content_met (folds case) name path (front_of Name text wildcard) ≡ true
+    text_matches case text name ≡ true → content_met (folds case) name path (prefix_of Name text wildcard) ≡ true
 name_front case text name path None at m =
     whole_met case Name text name ∙ (sym (bytewise case text name) ∙ (sym (text_matches-literal case text name (no_wildcard text (sym at))) ∙ m))
 name_front case text name path (Some n) at m =
@@ -54,7 +55,7 @@ name_front case text name path (Some n) at m =
     (λ z. rw z (front_met case Name (take n text) name ∙ begins_so case text name n (sym at) m))
 
 path_front : (case : Case) (text name path : List ℕ) (wildcard : Option ℕ) → wildcard ≡ position is_wildcard text →
-    text_matches case text path ≡ true → content_met (folds case) name path (front_of Path text wildcard) ≡ true
+    text_matches case text path ≡ true → content_met (folds case) name path (prefix_of Path text wildcard) ≡ true
 path_front case text name path None at m =
     whole_met case Path text path ∙ (sym (bytewise case text path) ∙ (sym (text_matches-literal case text path (no_wildcard text (sym at))) ∙ m))
 path_front case text name path (Some n) at m =

@@ -1,14 +1,12 @@
-//! A list of a search, with the keys and tokens of its patterns, which are made once.
+//! A list of a search, with the index of its lines, which is made once.
 
-ghost use Rattle.std.specs.Prelude.{◌≡◌, ◌<◌, None, length, true, false, IfOk, OnOk, OnErr, map};
-ghost use Rattle.std.specs.Option.{option_copied};
+ghost use Rattle.std.specs.Prelude.{◌≡◌, ◌<◌, None, length, true, false, IfOk, OnOk, OnErr, option_map, string_bytes};
 ghost use Rattle.bstr.specs.BStr.{bstr_bytes};
 ghost use Rattle.std.specs.List.{list_all};
 ghost use Rattle.attr_glob.specs.Candidates.{has_macro_mode};
-ghost use Rattle.attr_glob.specs.KeptTokens.{kept_tokens};
 ghost use Rattle.attr_glob.specs.Paths.{path_matches};
 ghost use Rattle.attr_index.specs.inner.PlacedLines.{entry_at};
-ghost use Rattle.attr_index.specs.inner.Trying.{AreTried, key_of_line};
+ghost use Rattle.attr_index.specs.inner.Trying.{AreTried};
 ghost use Rattle.attr_glob.specs.Views.{base_bytes, patterns_of};
 ghost use Rattle.attr_index.specs.inner.FolderKeys.{base_key as key_of_base};
 ghost use Rattle.attr_lists.specs.Definitions.{free_id, is_active, with_list, HoldsList, IsSoundCollection};
@@ -16,21 +14,21 @@ ghost use Rattle.attr_lists.specs.KeptLists.{macros_valid};
 ghost use Rattle.attr_lists.specs.ListViews.{entries_view};
 ghost use Rattle.attr_lists.specs.Numbers.{numbered_lines};
 ghost use Rattle.attr_index.specs.inner.ReadLines.{AreRead};
-ghost use Rattle.attr_index.specs.inner.LineIndexes.{IsIndexOf};
-ghost use Rattle.attr_index.specs.inner.LineTokens.{unboxed};
+ghost use Rattle.attr_index.specs.inner.LineIndexes.{indexed_lines, lines_in};
 ghost use Rattle.attr_lists.specs.inner.Keeping.{StayRegistered};
 
 use crate::folder_keys::base_key;
-use crate::line_keys::{are_macros, folds, line_keys};
+use crate::line_index::LineIndex;
+use crate::line_keys::{are_macros, folds};
 use crate::path_query::PathQuery;
 use attr_glob::pattern::base_name;
-use attr_glob::search::pattern::{List, Mapping};
-use attr_glob::token::Tokens;
+use attr_glob::search::pattern::List;
 use attr_glob::wildmatch::MatchBuffers;
-use attr_keys::key_index::{KeyIndex, Texts};
+use attr_keys::key_index::Texts;
 use attr_lists::name_table::NameTable;
-use attr_lists::types::{Attributes, Value};
+use attr_lists::types::Attributes;
 use std::alloc::{AllocError, Global};
+use std::rc::Rc;
 
 /// A list of a search, with the keys of its lines. It compares as the list.
 #[derive(Drop)]
@@ -38,12 +36,9 @@ use std::alloc::{AllocError, Global};
 pub struct IndexedList {
     /// The lines, their source, and the base below which they apply.
     pub list: List<Attributes>,
-    /// The keys of the lines, by which a search finds the lines that may match a path.
+    /// The lines as searches read them, which is shared with the outcomes that have answers of the list.
     #[derive_where(skip)]
-    pub keys: KeyIndex,
-    /// The tokens of each line's pattern, where a match may need them.
-    #[derive_where(skip)]
-    pub tokens: Vec<Option<Box<Tokens>>>,
+    pub index: Rc<LineIndex>,
     /// The list id under which the list is registered in its collection.
     #[derive_where(skip)]
     pub list_id: usize,
@@ -53,20 +48,11 @@ pub struct IndexedList {
     /// Whether each line defines a macro, so that none matches a path.
     #[derive_where(skip)]
     pub is_idle: bool,
-    ghost keyed: { keys ≡ map key_of_line (patterns_of list.patterns.items) },
-    ghost kept: { map unboxed tokens.items ≡ map kept_tokens (patterns_of list.patterns.items) },
+    ghost lines: { indexed_lines index.value.lines.items ≡ lines_in list.patterns.items },
+    ghost source: { option_map string_bytes index.value.source ≡ option_map string_bytes list.source },
     ghost based: { base_key ≡ key_of_base (base_bytes list.base) },
     ghost idle: { is_idle ≡ list_all has_macro_mode (patterns_of list.patterns.items) },
     ghost read: { ∥ AreRead (entries_view list.patterns.items) ∥₁ },
-}
-
-// What is made of a list's lines and base once, for its searches.
-#[derive(Drop)]
-struct LineIndex {
-    keys: KeyIndex,
-    tokens: Vec<Option<Box<Tokens>>>,
-    base_key: u64,
-    is_idle: bool,
 }
 
 impl IndexedList {
@@ -99,9 +85,17 @@ impl IndexedList {
         ensures sound { OnOk result (IsSoundCollection names.new) }
         ensures refused { OnErr result (names.new ≡ names.old) }
     {
-        let index = LineIndex::of(alloc, &list)?;
+        let index = Rc::new(alloc, LineIndex::of(alloc, &list)?)?;
+        let base_key = base_key(alloc, &list.base)?;
         let list_id = names.add(alloc, &mut list.patterns)?;
-        Ok(index.with(list, list_id))
+        let is_idle = are_macros(&list.patterns);
+        Ok(IndexedList {
+            list,
+            index,
+            list_id,
+            base_key,
+            is_idle,
+        })
     }
 
     /// Finds the places of the lines that may match what is left of a path, the greatest first. A place is the index
@@ -126,7 +120,8 @@ impl IndexedList {
             path,
             fold: folds(rest.case),
         };
-        self.keys.find(texts, turned, places)
+        let index = self.index.as_ref();
+        index.keys.find(&index.lines, texts, turned, places)
     }
 
     /// Whether the pattern of the line at a place matches what is left of a path. The line defines no macro.
@@ -147,12 +142,15 @@ impl IndexedList {
             (entry_at (entries_view self.now.list.patterns.items) place).pattern
             (bstr_bytes rest.entry.path) rest.entry.is_dir) }
     {
-        let pattern = &self.list.patterns[place].pattern;
-        if !pattern.takes_kind(rest.is_dir) {
+        let line = &self.index.lines[place];
+        if !line.pattern.takes_kind(rest.is_dir) {
             return Ok(false);
         }
-        let part = pattern.matched_part(rest.path.as_bytes(), rest.name_place);
-        pattern.matches_part(lent(&self.tokens[place]), part, rest.case, buffers)
+        let part = line
+            .pattern
+            .matched_part(rest.path.as_bytes(), rest.name_place);
+        line.pattern
+            .matches_part(line.tokens(), part, rest.case, buffers)
     }
 
     /// A copy, with the same list id.
@@ -165,80 +163,13 @@ impl IndexedList {
         ensures list_id { IfOk result (λ copy. copy.list_id ≡ self.now.list_id) }
     {
         let list = self.list.clone(alloc)?;
-        let index = LineIndex::of(alloc, &list)?;
-        Ok(index.with(list, self.list_id))
-    }
-}
-
-impl LineIndex {
-    fn of(alloc: Global, list: &List<Attributes>) -> Result<LineIndex, AllocError>
-        ensures { IfOk result (IsIndexOf
-            (patterns_of list.now.patterns.items) (base_bytes list.now.base)) }
-    {
-        let keys = line_keys(alloc, &list.patterns)?;
-        let tokens = kept_tokens(alloc, &list.patterns)?;
-        let base_key = base_key(alloc, &list.base)?;
-        Ok(LineIndex {
-            keys,
-            tokens,
-            base_key,
-            is_idle: are_macros(&list.patterns),
-        })
-    }
-
-    // The list with its index.
-    fn with(self, list: List<Attributes>, list_id: usize) -> IndexedList
-        requires index { IsIndexOf (patterns_of list.patterns.items) (base_bytes list.base) self }
-        requires read { ∥ AreRead (entries_view list.patterns.items) ∥₁ }
-        ensures list { result.list ≡ list }
-        ensures list_id { result.list_id ≡ list_id }
-    {
-        let LineIndex {
-            keys,
-            tokens,
-            base_key,
-            is_idle,
-        } = self;
-        IndexedList {
+        let index = self.index.clone()?;
+        Ok(IndexedList {
             list,
-            keys,
-            tokens,
-            list_id,
-            base_key,
-            is_idle,
-        }
-    }
-}
-
-// The tokens that are kept of the mappings' patterns, at the places of the mappings.
-fn kept_tokens(
-    alloc: Global,
-    mappings: &[Mapping<Value>],
-) -> Result<Vec<Option<Box<Tokens>>>, AllocError>
-    ensures { IfOk result (λ kept.
-        map unboxed kept.items ≡ map kept_tokens (patterns_of mappings.now)) }
-{
-    let mut kept = Vec::with_capacity(alloc, mappings.len())?;
-    for mapping in mappings {
-        kept.push(boxed(alloc, mapping.pattern.kept_tokens(alloc)?)?)?;
-    }
-    Ok(kept)
-}
-
-fn boxed(alloc: Global, tokens: Option<Tokens>) -> Result<Option<Box<Tokens>>, AllocError>
-    ensures { IfOk result (λ kept. unboxed kept ≡ tokens) }
-{
-    match tokens {
-        Some(tokens) => Ok(Some(Box::new(alloc, tokens)?)),
-        None => Ok(None),
-    }
-}
-
-fn lent(kept: &Option<Box<Tokens>>) -> Option<&Tokens>
-    ensures { option_copied result ≡ unboxed kept.now }
-{
-    match kept {
-        Some(tokens) => Some(&**tokens),
-        None => None,
+            index,
+            list_id: self.list_id,
+            base_key: self.base_key,
+            is_idle: self.is_idle,
+        })
     }
 }

@@ -3,8 +3,11 @@
 #![tactic(auto)]
 
 mod folder_keys;
+pub mod indexed_line;
 pub mod indexed_list;
 pub mod indexed_lists;
+pub mod laws;
+pub mod line_index;
 mod line_keys;
 pub mod numbers_by_key;
 pub mod path_query;

@@ -11,15 +11,14 @@ use Rattle.std.proofs.Math.ListN.{get_or-append}
 use Rattle.std.proofs.lemmas.Bool.{eqb-true}
 use Rattle.std.proofs.lemmas.List.{length-drop, get_or-drop, get_or_push}
 use Rattle.attr_keys.specs.declared.hashed.HashedRow.{HashedRow}
-use Rattle.attr_keys.specs.declared.hashed.HashedRows.TheInside.{Inside}
-use Rattle.attr_keys.specs.inner.Hashes.{AreBuckets, IsBucketStart}
+use Rattle.attr_keys.specs.inner.Hashes.{AreStarts, IsBucketStart}
 use Rattle.attr_keys.proofs.Narrowing.{filter_drop}
 use Rattle.attr_keys.proofs.RowLemmas.{by_test}
 
-pub div_rises : (x y w : ℕ) → 0 < w → x ≤ y → x / w ≤ y / w
+div_rises : (x y w : ℕ) → 0 < w → x ≤ y → x / w ≤ y / w
 div_rises x y w some le = let below = div-mul-le_self x w in le-div (x / w) y w some (omega arith)
 
--- what is passed from a place on is not taken
+-- what is passed from an index on is not taken
 filter_front : {X : Type 0} (p : X → Bool) (d : X) (j : ℕ) (xs : List X) → ((k : ℕ) → j ≤ k → k < length xs → p (get_or xs k d) ≡ false) →
     filter p xs ≡ filter p (take j xs)
 filter_front p d zero [] out = refl
@@ -31,7 +30,7 @@ filter_front p d (suc j) (x ∷ xs) out =
     by_test (p x) (λ t. rw t (ap (λ l. x ∷ l) rest)) (λ f. rw f rest)
 
 -- a bucket ends where the next one starts
-pub starts_rise : (width bucket start end : ℕ) (rows : List HashedRow) → IsBucketStart width rows bucket start →
+starts_rise : (width bucket start end : ℕ) (rows : List HashedRow) → IsBucketStart width rows bucket start →
     IsBucketStart width rows (bucket + 1) end → start ≤ end
 starts_rise width bucket start end rows first second =
     by_test (leb start end)
@@ -53,7 +52,7 @@ apart : (a b : ℕ) → a ≢ b → eqb a b ≡ false
 apart a b ne = grind (arith, nat_tests)
 
 -- the rows of a hash are in its bucket
-pub in_bucket : (width hash start end : ℕ) (rows : List HashedRow) → IsBucketStart width rows (hash / width) start →
+in_bucket : (width hash start end : ℕ) (rows : List HashedRow) → IsBucketStart width rows (hash / width) start →
     IsBucketStart width rows (hash / width + 1) end →
     filter (λ h. eqb h.hash hash) (take (end - start) (drop start rows)) ≡ filter (λ h. eqb h.hash hash) rows
 in_bucket width hash start end rows first second =
@@ -77,7 +76,7 @@ same_there [] i d e lt = absurd (omega arith)
 same_there (x ∷ xs) zero d e lt = refl
 same_there (x ∷ xs) (suc i) d e lt = same_there xs i d e (omega arith)
 
--- the rows before a place are of earlier buckets, and the one there isn't
+-- the rows before an index are of earlier buckets, and the one there isn't
 pub start_here : (width bucket start : ℕ) (rows : List HashedRow) → 0 < width → IsNonDecreasingBy (λ h. h.hash) rows → start ≤ length rows →
     AllWithin (λ (h : HashedRow). h.hash / width < bucket) rows 0 start →
     (e : HashedRow) → start < length rows → bucket ≤ (get_or rows start e).hash / width → IsBucketStart width rows bucket start
@@ -94,19 +93,19 @@ start_here width bucket start rows some order bound before e inside here =
     }
 
 -- one more start
-pub starts_more : (width place start : ℕ) (rows : List HashedRow) (starts starts' : List ℕ) → starts' ≡ starts ++ start ∷ [] → length starts ≡ place →
-    ((bucket : ℕ) → bucket < length starts → IsBucketStart width rows bucket (get_or starts bucket 0)) → IsBucketStart width rows place start →
+pub starts_more : (width index start : ℕ) (rows : List HashedRow) (starts starts' : List ℕ) → starts' ≡ starts ++ start ∷ [] → length starts ≡ index →
+    ((bucket : ℕ) → bucket < length starts → IsBucketStart width rows bucket (get_or starts bucket 0)) → IsBucketStart width rows index start →
     (bucket : ℕ) → bucket < length starts' → IsBucketStart width rows bucket (get_or starts' bucket 0)
-starts_more width place start rows starts starts' is count known more bucket lt =
+starts_more width index start rows starts starts' is count known more bucket lt =
     let long = ap length is ∙ length-append starts (start ∷ []) in
     subst (λ l. IsBucketStart width rows bucket (get_or l bucket 0)) (sym is)
-    (by_test (eqb bucket place)
+    (by_test (eqb bucket index)
     (λ t.
-    let e = eqb-true bucket place t in
+    let e = eqb-true bucket index t in
     let at = get_or_push starts start 0 bucket (count ∙ sym e) in
     subst (λ n. IsBucketStart width rows bucket n) (sym at) (subst (λ n. IsBucketStart width rows n start) (sym e) more))
     (λ f.
-    let less : bucket < place = below bucket place f (omega arith) in
+    let less : bucket < index = below bucket index f (omega arith) in
     let inside : bucket < length starts = omega arith in
     let at = get_or-append starts (start ∷ []) 0 bucket inside in
     subst (λ n. IsBucketStart width rows bucket n) (sym at) (known bucket inside)))
@@ -114,23 +113,29 @@ starts_more width place start rows starts starts' is count known more bucket lt 
     below : (b p : ℕ) → eqb b p ≡ false → b ≤ p → b < p
     below b p f le = grind (arith, nat_tests)
 
+-- each hash has a bucket
+pub bucket_within : (width : ℕ) (rows : List HashedRow) (starts : List ℕ) → 2 ≤ width → AreStarts width rows starts →
+    (hash index : ℕ) → hash < 2 ^ 64 → index ≡ hash / width → index + 1 < length starts
+bucket_within width rows starts wide are hash index fits is =
+    let last = div_rises hash (2 ^ 64 - 1) width (omega (arith, wide)) (omega (arith, fits)) in
+    omega (arith, last, is, are.count)
+
 -- the rows of a hash lie between two starts
-pub between_starts : (table : Inside) → AreBuckets table → (hash place start end : ℕ) → hash < 2 ^ 64 → place ≡ hash / table.width →
-    start ≡ get_or table.starts.items place start → end ≡ get_or table.starts.items (place + 1) end →
-    (start ≤ end) × (end ≤ length table.rows.items)
-    × (filter (λ h. eqb h.hash hash) (take (end - start) (drop start table.rows.items)) ≡ filter (λ h. eqb h.hash hash) table.rows.items)
-between_starts table are hash place start end fits is from to =
-    let last = div_rises hash (2 ^ 64 - 1) table.width (omega (arith, are.width)) (omega (arith, fits)) in
-    let inside : place + 1 < length table.starts.items = omega (arith, last, is, are.count) in
-    let first = start_of place start (omega arith) from in
-    let second = start_of (place + 1) end inside to in (
-      starts_rise table.width place start end table.rows.items first second,
+pub between_starts : (width : ℕ) (rows : List HashedRow) (starts : List ℕ) → 2 ≤ width → AreStarts width rows starts →
+    (hash index start end : ℕ) → hash < 2 ^ 64 → index ≡ hash / width → start ≡ get_or starts index start →
+    end ≡ get_or starts (index + 1) end → (start ≤ end) × (end ≤ length rows)
+    × (filter (λ h. eqb h.hash hash) (take (end - start) (drop start rows)) ≡ filter (λ h. eqb h.hash hash) rows)
+between_starts width rows starts wide are hash index start end fits is from to =
+    let inside = bucket_within width rows starts wide are hash index fits is in
+    let first = start_of index start (omega arith) from in
+    let second = start_of (index + 1) end inside to in (
+      starts_rise width index start end rows first second,
       second.bound,
-      in_bucket table.width hash start end table.rows.items
-          (subst (λ n. IsBucketStart table.width table.rows.items n start) is first)
-          (subst (λ n. IsBucketStart table.width table.rows.items (n + 1) end) is second),
+      in_bucket width hash start end rows
+          (subst (λ n. IsBucketStart width rows n start) is first)
+          (subst (λ n. IsBucketStart width rows (n + 1) end) is second),
     )
   where
-    start_of : (p n : ℕ) → p < length table.starts.items → n ≡ get_or table.starts.items p n → IsBucketStart table.width table.rows.items p n
+    start_of : (p n : ℕ) → p < length starts → n ≡ get_or starts p n → IsBucketStart width rows p n
     start_of p n lt at =
-        subst (λ m. IsBucketStart table.width table.rows.items p m) (sym (at ∙ same_there table.starts.items p n 0 lt)) (are.starts p lt)
+        subst (λ m. IsBucketStart width rows p m) (sym (at ∙ same_there starts p n 0 lt)) (are.each p lt)

@@ -4,12 +4,12 @@ use Rattle.std.proofs.Common.{take, get_or, map, refl, sym, ap, ◌∙◌, arith
 use Rattle.std.specs.List.{starts_with}
 use Rattle.std.proofs.lemmas.Bool.{eqb-true}
 use Rattle.std.proofs.lemmas.Bool.Decides.{nat_tests}
-use Rattle.std.proofs.lemmas.List.{get_or-map, length-map, take_more}
+use Rattle.std.proofs.lemmas.List.{length-map, take_more}
 use Rattle.std.proofs.lemmas.List.Folds.{list_any-append}
-use Rattle.attr_keys.specs.KeyContents.{KeyContent}
+use Rattle.attr_keys.specs.inner.KeyContents.{KeyContent}
 use Rattle.attr_keys.specs.inner.Codes.{codes_of, key_codes}
 use Rattle.attr_keys.specs.inner.Rows.{has_row}
-use Rattle.attr_keys.proofs.Fronts.{or_none}
+use Rattle.attr_keys.proofs.RowLemmas.{or_none}
 
 -- each first code has its number
 pub first_within : (codes : ℕ → List ℕ) (rows firsts : List ℕ) (i : ℕ) → firsts ≡ map (λ row. get_or (codes row) 0 0) rows → i < length firsts →
@@ -17,12 +17,6 @@ pub first_within : (codes : ℕ → List ℕ) (rows firsts : List ℕ) (i : ℕ)
 first_within codes rows firsts i are lt =
     let len : length firsts ≡ length rows = ap length are ∙ length-map rows (λ row. get_or (codes row) 0 0) in
     omega arith
-
--- the first code at a place is that of the key with the number there
-pub first_there : (codes : ℕ → List ℕ) (rows firsts : List ℕ) (i : ℕ) → firsts ≡ map (λ row. get_or (codes row) 0 0) rows →
-    i < length firsts → get_or firsts i 0 ≡ get_or (codes (get_or rows i 0)) 0 0
-first_there codes rows firsts i are lt =
-    ap (λ l. get_or l i 0) are ∙ get_or-map (λ row. get_or (codes row) 0 0) rows i 0 0 (first_within codes rows firsts i are lt)
 
 -- a key of another first code isn't had
 pub first_apart : (text key : List ℕ) → get_or key 0 0 ≢ 0 → get_or key 0 0 ≢ get_or text 0 0 → starts_with nat_eq text key ≡ false

@@ -1,22 +1,23 @@
--- Whole keys, by the hashes of their texts.
-use Rattle.std.proofs.Common.{◌≡◌, ℕ, suc, ◌<◌, Bool, true, false, ◌&&◌, ◌||◌, List, [], ◌∷◌, ◌++◌, length, get_or, Some, refl, sym, ap, subst}
+-- Whole keys and extensions, by the hashes of their texts.
+use Rattle.std.proofs.Common.{◌≡◌, ℕ, zero, suc, ◌<◌, Bool, true, false, not, ◌&&◌, ◌||◌, List, [], ◌∷◌, ◌++◌, length, get_or, reverse, Option, None, Some, refl, sym, ap, subst}
 use Rattle.std.proofs.Common.{◌∙◌, arith, eqb, nat_eq}
-use Rattle.std.specs.Prelude.{All, filter, slice_get}
+use Rattle.std.specs.Prelude.{All, filter, option_map, slice_get, unwrap_or}
 use Rattle.std.specs.List.{starts_with}
 use Rattle.std.specs.List.Sorted.{IsPermutation}
 use Rattle.std.proofs.lemmas.List.Sorted.{IsPermutation-map, list_any-IsPermutation}
 use Rattle.std.proofs.lemmas.Bool.{eqb-true}
 use Rattle.std.proofs.lemmas.Bool.Decides.{nat_tests}
-use Rattle.attr_keys.specs.KeyContents.{KeyContent}
+use Rattle.attr_keys.specs.inner.KeyContents.{KeyContent}
 use Rattle.attr_keys.specs.declared.hashed.HashedRow.{HashedRow}
 use Rattle.attr_keys.specs.inner.Codes.{codes_of, key_codes, row_codes}
-use Rattle.attr_keys.specs.inner.Hashes.{AreAmong, IsHashOfKey, hashed_rows, quick_hash, rows_of_hash}
-use Rattle.attr_keys.specs.declared.key.Subject.{Subject}
-use Rattle.attr_keys.specs.inner.Meeting.{is_kind, same_subject}
+use Rattle.attr_keys.specs.inner.Extensions.{is_hashed, is_reversed_extension}
+use Rattle.attr_keys.specs.inner.Meeting.{directed}
+use Rattle.attr_keys.specs.inner.Hashes.{AreAmong, IsHashOfKey, hash_of_row, hashed_part, hashed_rows, quick_hash, rows_of_hash, text_of}
 use Rattle.attr_keys.specs.inner.Rows.{has_row}
-use Rattle.attr_keys.proofs.Fronts.{and_none}
+use Rattle.attr_keys.proofs.Cuts.{begin_below}
+use Rattle.attr_keys.proofs.ExtensionTexts.{extension_of_begun}
 use Rattle.attr_keys.proofs.Parts.{no_byte, no_end, shifted}
-use Rattle.attr_keys.proofs.RowLemmas.{by_test}
+use Rattle.attr_keys.proofs.RowLemmas.{and_none, by_test}
 
 -- a text that has a whole key is the key
 whole_same : (text key : List ℕ) → starts_with nat_eq (codes_of false text true) (codes_of false key true) ≡ true → key ≡ text
@@ -28,12 +29,47 @@ whole_same (b ∷ bs) (k ∷ ks) h =
     (λ t. ap (λ x. x ∷ ks) (eqb-true k b t) ∙ ap (λ l. b ∷ l) (whole_same bs ks (rw (shifted k b, t) at h)))
     (λ f. let no : false ≡ true = rw (shifted k b, f) at h in absurd cc)
 
-pub hash_of_whole : (keys : List KeyContent) (h : HashedRow) (key : KeyContent) → slice_get keys h.row ≡ Some key → key.is_whole ≡ true →
-    h.hash ≡ quick_hash key.text → IsHashOfKey keys h
-hash_of_whole keys h key at whole hashed text has =
-    let same : row_codes keys h.row ≡ codes_of false key.text true =
-    ap key_codes at ∙ ap (codes_of false key.text) whole in
-    hashed ∙ ap quick_hash (whole_same text key.text (sym (ap (starts_with nat_eq (codes_of false text true)) same) ∙ has))
+-- the hash of a key finds it
+hash_finds : (from_end : Bool) (keys : List KeyContent) (h : HashedRow) (key : Option KeyContent) → slice_get keys h.row ≡ key →
+    is_hashed from_end key ≡ true → h.hash ≡ quick_hash (text_of from_end key) → (text : List ℕ) →
+    starts_with nat_eq (codes_of false (directed from_end text) true) (row_codes keys h.row) ≡ true →
+    option_map quick_hash (hashed_part from_end text) ≡ Some h.hash
+hash_finds from_end keys h None at is hashed text has = let no : false ≡ true = is in absurd cc
+hash_finds false keys h (Some key) at is hashed text has =
+    let same : row_codes keys h.row ≡ codes_of false key.text true = ap key_codes at ∙ ap (codes_of false key.text) is in
+    let whole = whole_same text key.text (sym (ap (starts_with nat_eq (codes_of false text true)) same) ∙ has) in
+    ap (λ l. Some (quick_hash l)) (sym whole) ∙ ap Some (sym hashed)
+hash_finds true keys h (Some key) at is hashed text has =
+    let parts = both key.is_whole (is_reversed_extension key.text) is in
+    let same : row_codes keys h.row ≡ codes_of false key.text false = ap key_codes at ∙ ap (codes_of false key.text) parts.0 in
+    let begins = begin_below (reverse text) key.text true false
+    (sym (ap (starts_with nat_eq (codes_of false (reverse text) true)) same) ∙ has) in
+    ap (option_map quick_hash) (extension_of_begun text key.text parts.1 begins) ∙ ap Some (sym hashed)
+  where
+    both : (w e : Bool) → not w && e ≡ true → (w ≡ false) × (e ≡ true)
+    both false e h = (refl, h)
+    both true e h = absurd cc
+
+has_own : (hashed : List HashedRow) (k : ℕ) (d : HashedRow) → k < length hashed → has_row (hashed_rows hashed) (get_or hashed k d).row ≡ true
+has_own [] k d lt = absurd (omega arith)
+has_own (h ∷ hs) zero d lt = ap (λ b. b || has_row (hashed_rows hs) h.row) (equal h.row)
+  where
+    equal : (a : ℕ) → eqb a a ≡ true
+    equal a = grind (arith, nat_tests)
+has_own (h ∷ hs) (suc k) d lt = ap (λ b. eqb h.row (get_or hs k d).row || b) (has_own hs k d (omega arith)) ∙ or_true (eqb h.row (get_or hs k d).row)
+  where
+    or_true : (a : Bool) → a || true ≡ true
+    or_true true = refl
+    or_true false = refl
+
+-- the hashes of keys that are found by them
+pub all_find : (from_end : Bool) (keys : List KeyContent) (rows : List ℕ) (hashed : List HashedRow) → hashed_rows hashed ≡ rows →
+    ((row : ℕ) → has_row rows row ≡ true → is_hashed from_end (slice_get keys row) ≡ true) →
+    All (λ (h : HashedRow). h.hash ≡ hash_of_row from_end keys h.row) hashed → All (IsHashOfKey from_end keys) hashed
+all_find from_end keys rows hashed are kinds hashes k d lt =
+    let h = get_or hashed k d in
+    let kind = kinds h.row (ap (λ l. has_row l h.row) (sym are) ∙ has_own hashed k d lt) in
+    record { kind = kind; finds = hash_finds from_end keys h (slice_get keys h.row) refl kind (hashes k d lt) }
 
 -- rows of a number are kept
 kept_rows : (row : ℕ) (test : HashedRow → Bool) (rows : List HashedRow) → ((k : ℕ) (d : HashedRow) → k < length rows →
@@ -87,12 +123,15 @@ pub rows_push : (hashed : List HashedRow) (h : HashedRow) → hashed_rows (hashe
 rows_push [] h = refl
 rows_push (g ∷ gs) h = ap (λ l. g.row ∷ l) (rows_push gs h)
 
-pub whole_kind : (subject : Subject) (key : KeyContent) → is_kind subject true (Some key) ≡ true → key.is_whole ≡ true
-whole_kind subject key h = both (same_subject subject key.subject) key.is_whole h
-  where
-    both : (a w : Bool) → a && w ≡ true → w ≡ true
-    both true w h = h
-    both false w h = let no : false ≡ true = h in absurd cc
+-- the hash of the part of a text that has one
+pub hash_of_part : (part : Option (List ℕ)) (text : List ℕ) (hash : ℕ) → part ≡ Some text → option_map quick_hash part ≡ Some hash →
+    hash ≡ quick_hash text
+hash_of_part part text hash is hashed = ap (λ o. unwrap_or o hash) (sym hashed ∙ ap (option_map quick_hash) is)
+
+pub no_part : (part : Option (List ℕ)) (hash : ℕ) → part ≡ None → option_map quick_hash part ≡ Some hash → ⊥
+no_part part hash is hashed =
+    let no : None ≡ Some hash = sym (ap (option_map quick_hash) is) ∙ hashed in
+    absurd cc
 
 -- in another order there are the same numbers
 pub rows_moved : (rows moved : List HashedRow) → IsPermutation rows moved → (row : ℕ) →

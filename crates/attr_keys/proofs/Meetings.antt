@@ -2,45 +2,48 @@
 use Rattle.std.proofs.Common.{◌≡◌, ◌≢◌, ℕ, zero, suc, ◌+◌, ◌<◌, Bool, true, false, ◌&&◌, ◌||◌, List, [], ◌∷◌, ◌++◌, length, take, get_or, reverse}
 use Rattle.std.proofs.Common.{map, refl}
 use Rattle.std.proofs.Common.{sym, ap, ◌∙◌, arith, eqb, nat_eq, add-one, Option, Some, None}
-use Rattle.std.specs.Char.{to_ascii_lowercase}
 use Rattle.std.specs.List.{starts_with}
-use Rattle.std.specs.Prelude.{slice_get}
-use Rattle.std.proofs.lemmas.List.{reverse-append}
+use Rattle.std.specs.Prelude.{option_map, slice_get}
+use Rattle.std.proofs.lemmas.List.{take_more}
 use Rattle.std.proofs.lemmas.Bool.{eqb-true}
 use Rattle.std.proofs.lemmas.Bool.Decides.{nat_tests}
 use Rattle.std.proofs.lemmas.List.Folds.{list_any-append}
 use Rattle.attr_keys.specs.declared.key.Key.{Key}
 use Rattle.attr_keys.specs.declared.key.Subject.{Subject}
 use Rattle.attr_keys.specs.declared.key.Subject.TheVariants.{Name, End, Path, Anything, Nothing}
-use Rattle.attr_keys.specs.KeyContents.{KeyContent}
+use Rattle.attr_keys.specs.inner.KeyContents.{KeyContent}
 use Rattle.attr_keys.specs.inner.Codes.{codes_of}
-use Rattle.attr_keys.specs.inner.Cases.{in_case, content_in_case, key_contents}
-use Rattle.attr_keys.specs.inner.Meeting.{same_subject, is_about, has_content, key_content, content_met_at, content_met_by}
-use Rattle.attr_keys.specs.inner.Orders.{gathered}
+use Rattle.attr_keys.specs.inner.Cases.{in_case, content_in_case}
+use Rattle.attr_keys.specs.declared.kinds.Kind.{Kind}
+use Rattle.attr_keys.specs.inner.Kinds.{is_of, kind_of, rows_with, same_kind}
+use Rattle.attr_keys.specs.inner.Meeting.{directed, is_end, same_subject, is_about, has_content, key_content, content_met_at, content_met_by}
+use Rattle.attr_keys.specs.inner.Candidates.{candidate_by, candidate_of}
+use Rattle.attr_keys.specs.inner.LineKeys.{no_text}
+use Rattle.attr_keys.specs.inner.Orders.{gathered, may_have}
 use Rattle.attr_keys.specs.inner.Rows.{has_row}
-use Rattle.attr_keys.proofs.Cases.{codes_in_case}
-use Rattle.attr_keys.proofs.Fronts.{or_none}
-use Rattle.attr_keys.proofs.RowLemmas.{by_test}
+use Rattle.attr_keys.proofs.SeenTexts.{codes_in_case, directed_in_case}
+use Rattle.attr_keys.proofs.RowLemmas.{by_test, or_none}
 
-get_here : (keys : List Key) (i : ℕ) (d : Key) → i < length keys →
-    slice_get (key_contents (take (suc i) keys)) i ≡ Some (key_content (get_or keys i d))
-get_here [] i d lt = absurd (omega arith)
-get_here (k ∷ ks) zero d lt = refl
-get_here (k ∷ ks) (suc i) d lt = get_here ks i d (omega arith)
+get_here : {K : Type 0} (content : K → KeyContent) (lines : List K) (i : ℕ) (d : K) → i < length lines →
+    slice_get (map content (take (suc i) lines)) i ≡ Some (content (get_or lines i d))
+get_here content [] i d lt = absurd (omega arith)
+get_here content (l ∷ ls) zero d lt = refl
+get_here content (l ∷ ls) (suc i) d lt = get_here content ls i d (omega arith)
 
-get_past : (keys : List Key) (i : ℕ) → slice_get (key_contents (take i keys)) i ≡ None
-get_past [] zero = refl
-get_past [] (suc i) = refl
-get_past (k ∷ ks) zero = refl
-get_past (k ∷ ks) (suc i) = get_past ks i
+get_past : {K : Type 0} (content : K → KeyContent) (lines : List K) (i : ℕ) → slice_get (map content (take i lines)) i ≡ None
+get_past content [] zero = refl
+get_past content [] (suc i) = refl
+get_past content (l ∷ ls) zero = refl
+get_past content (l ∷ ls) (suc i) = get_past content ls i
 
-get_other : (keys : List Key) (i r : ℕ) → i ≢ r → slice_get (key_contents (take (suc i) keys)) r ≡ slice_get (key_contents (take i keys)) r
-get_other [] zero r apart = refl
-get_other [] (suc i) r apart = refl
-get_other (k ∷ ks) zero zero apart = absurd (apart refl)
-get_other (k ∷ ks) zero (suc r) apart = refl
-get_other (k ∷ ks) (suc i) zero apart = refl
-get_other (k ∷ ks) (suc i) (suc r) apart = get_other ks i r (λ e. apart (ap suc e))
+get_other : {K : Type 0} (content : K → KeyContent) (lines : List K) (i r : ℕ) → i ≢ r →
+    slice_get (map content (take (suc i) lines)) r ≡ slice_get (map content (take i lines)) r
+get_other content [] zero r apart = refl
+get_other content [] (suc i) r apart = refl
+get_other content (l ∷ ls) zero zero apart = absurd (apart refl)
+get_other content (l ∷ ls) zero (suc r) apart = refl
+get_other content (l ∷ ls) (suc i) zero apart = refl
+get_other content (l ∷ ls) (suc i) (suc r) apart = get_other content ls i r (λ e. apart (ap suc e))
 
 or_true : (a : Bool) → a || true ≡ true
 or_true true = refl
@@ -49,55 +52,84 @@ or_true false = refl
 unequal : (a b : ℕ) → eqb a b ≡ false → a ≢ b
 unequal a b f e = grind (arith, nat_tests)
 
-map_snoc : (f : ℕ → ℕ) (l : List ℕ) (c : ℕ) → map f (l ++ c ∷ []) ≡ map f l ++ f c ∷ []
-map_snoc f [] c = refl
-map_snoc f (d ∷ l) c = ap (λ m. f d ∷ m) (map_snoc f l c)
-
-map_reverse : (f : ℕ → ℕ) (x : List ℕ) → map f (reverse x) ≡ reverse (map f x)
-map_reverse f [] = refl
-map_reverse f (b ∷ bs) =
-    ap (map f) (reverse-append (b ∷ []) bs) ∙ (map_snoc f (reverse bs) b ∙ (ap (λ l. l ++ f b ∷ []) (map_reverse f bs)
-    ∙ sym (reverse-append (f b ∷ []) (map f bs))))
-
 -- one more key passes a test
-pub about_more : (test : Option KeyContent → Bool) (keys : List Key) (rows : List ℕ) (i : ℕ) (key : Key) → i < length keys → key ≡ get_or keys i key →
-    test (Some (key_content key)) ≡ true → ((r : ℕ) → has_row rows r ≡ test (slice_get (key_contents (take i keys)) r)) →
-    (r : ℕ) → has_row (rows ++ i ∷ []) r ≡ test (slice_get (key_contents (take (i + 1) keys)) r)
-about_more test keys rows i key lt at passes known r =
+about_more : {K : Type 0} (content : K → KeyContent) (test : Option KeyContent → Bool) (lines : List K) (rows : List ℕ) (i : ℕ) (line : K) →
+    i < length lines → line ≡ get_or lines i line → test (Some (content line)) ≡ true →
+    ((r : ℕ) → has_row rows r ≡ test (slice_get (map content (take i lines)) r)) →
+    (r : ℕ) → has_row (rows ++ i ∷ []) r ≡ test (slice_get (map content (take (i + 1) lines)) r)
+about_more content test lines rows i line lt at passes known r =
     list_any-append (λ n. eqb n r) rows (i ∷ [])
     ∙ by_test (eqb i r)
     (λ t.
     let e = eqb-true i r t in
     ap (λ b. has_row rows r || (b || false)) t
     ∙ (or_true (has_row rows r)
-    ∙ sym (ap (λ n. test (slice_get (key_contents (take n keys)) r)) (add-one i)
-    ∙ (ap (λ n. test (slice_get (key_contents (take (suc i) keys)) n)) (sym e)
-    ∙ (ap test (get_here keys i key lt ∙ ap (λ k. Some (key_content k)) (sym at)) ∙ passes)))))
+    ∙ sym (ap (λ n. test (slice_get (map content (take n lines)) r)) (add-one i)
+    ∙ (ap (λ n. test (slice_get (map content (take (suc i) lines)) n)) (sym e)
+    ∙ (ap test (get_here content lines i line lt ∙ ap (λ l. Some (content l)) (sym at)) ∙ passes)))))
     (λ f.
     ap (λ b. has_row rows r || (b || false)) f
     ∙ (or_none (has_row rows r)
     ∙ (known r
-    ∙ sym (ap (λ n. test (slice_get (key_contents (take n keys)) r)) (add-one i)
-    ∙ ap test (get_other keys i r (unequal i r f))))))
+    ∙ sym (ap (λ n. test (slice_get (map content (take n lines)) r)) (add-one i)
+    ∙ ap test (get_other content lines i r (unequal i r f))))))
 
 -- one more key doesn't
-pub about_less : (test : Option KeyContent → Bool) (keys : List Key) (rows : List ℕ) (i : ℕ) (key : Key) → i < length keys → key ≡ get_or keys i key →
-    test None ≡ false → test (Some (key_content key)) ≡ false → ((r : ℕ) → has_row rows r ≡ test (slice_get (key_contents (take i keys)) r)) →
-    (r : ℕ) → has_row rows r ≡ test (slice_get (key_contents (take (i + 1) keys)) r)
-about_less test keys rows i key lt at nothing fails known r =
+about_less : {K : Type 0} (content : K → KeyContent) (test : Option KeyContent → Bool) (lines : List K) (rows : List ℕ) (i : ℕ) (line : K) →
+    i < length lines → line ≡ get_or lines i line → test None ≡ false → test (Some (content line)) ≡ false →
+    ((r : ℕ) → has_row rows r ≡ test (slice_get (map content (take i lines)) r)) →
+    (r : ℕ) → has_row rows r ≡ test (slice_get (map content (take (i + 1) lines)) r)
+about_less content test lines rows i line lt at nothing fails known r =
     known r
     ∙ by_test (eqb i r)
     (λ t.
     let e = eqb-true i r t in
-    ap (λ n. test (slice_get (key_contents (take i keys)) n)) (sym e)
-    ∙ (ap test (get_past keys i)
+    ap (λ n. test (slice_get (map content (take i lines)) n)) (sym e)
+    ∙ (ap test (get_past content lines i)
     ∙ (nothing
-    ∙ sym (ap (λ n. test (slice_get (key_contents (take n keys)) r)) (add-one i)
-    ∙ (ap (λ n. test (slice_get (key_contents (take (suc i) keys)) n)) (sym e)
-    ∙ (ap test (get_here keys i key lt ∙ ap (λ k. Some (key_content k)) (sym at)) ∙ fails))))))
+    ∙ sym (ap (λ n. test (slice_get (map content (take n lines)) r)) (add-one i)
+    ∙ (ap (λ n. test (slice_get (map content (take (suc i) lines)) n)) (sym e)
+    ∙ (ap test (get_here content lines i line lt ∙ ap (λ l. Some (content l)) (sym at)) ∙ fails))))))
     (λ f.
-    sym (ap (λ n. test (slice_get (key_contents (take n keys)) r)) (add-one i)
-    ∙ ap test (get_other keys i r (unequal i r f))))
+    sym (ap (λ n. test (slice_get (map content (take n lines)) r)) (add-one i)
+    ∙ ap test (get_other content lines i r (unequal i r f))))
+
+-- one more line among those of a kind
+pub kinds_more : {K : Type 0} (content : K → KeyContent) (k : Kind) (lines : List K) (rows : List ℕ) (i : ℕ) (line : K) →
+    i < length lines → line ≡ get_or lines i line → ((r : ℕ) → has_row rows r ≡ is_of k (slice_get (map content (take i lines)) r)) →
+    (r : ℕ) → has_row (rows_with (kind_of (content line)) i k rows) r ≡ is_of k (slice_get (map content (take (i + 1) lines)) r)
+kinds_more content k lines rows i line lt at known r =
+    by_test (same_kind k (kind_of (content line)))
+    (λ t. rw t (about_more content (is_of k) lines rows i line lt at t known r))
+    (λ f. rw f (about_less content (is_of k) lines rows i line lt at refl f known r))
+
+-- one more key without a capital letter
+pub lower_more : {K : Type 0} (content : K → KeyContent) (lines : List K) (i : ℕ) (line : K) → i < length lines → line ≡ get_or lines i line →
+    content_in_case true (content line) ≡ content line →
+    map (content_in_case true) (map content (take i lines)) ≡ map content (take i lines) →
+    map (content_in_case true) (map content (take (i + 1) lines)) ≡ map content (take (i + 1) lines)
+lower_more content lines i line lt at lower known =
+    let low = content_in_case true in
+    let before = take i lines in
+    let more = take_more lines i line lt ∙ ap (λ l. before ++ l ∷ []) (sym at) in
+    ap (λ l. map low (map content l)) more
+    ∙ (ap (map low) (snoc content before line)
+    ∙ (snoc low (map content before) (content line)
+    ∙ (ap (λ l. l ++ low (content line) ∷ []) known
+    ∙ (ap (λ k. map content before ++ k ∷ []) lower ∙ (sym (snoc content before line) ∙ ap (map content) (sym more))))))
+  where
+    snoc : {A B : Type 0} (f : A → B) (xs : List A) (x : A) → map f (xs ++ x ∷ []) ≡ map f xs ++ f x ∷ []
+    snoc f [] x = refl
+    snoc f (y ∷ xs) x = ap (λ l. f y ∷ l) (snoc f xs x)
+
+-- a key's text without a capital letter
+pub lower_content : (key : Key) → in_case true key.text.now ≡ key.text.now → content_in_case true (key_content key) ≡ key_content key
+lower_content key same =
+    let e = is_end key.subject in
+    ap (λ t. with_text t) (sym (directed_in_case e true key.text.now) ∙ ap (directed e) same)
+  where
+    with_text : List ℕ → KeyContent
+    with_text t = record { subject = key.subject; text = t; is_whole = key.is_whole }
 
 -- a key of each subject
 gathered_or_any : (name path : List ℕ) (key : Option KeyContent) → gathered name path key || is_about Anything key
@@ -118,10 +150,6 @@ gathered_or_any name path (Some key) = by_subject key.subject
     by_subject Anything = refl
     by_subject Nothing = refl
 
-reverse_in_case : (fold : Bool) (text : List ℕ) → reverse (in_case fold text) ≡ in_case fold (reverse text)
-reverse_in_case false text = refl
-reverse_in_case true text = sym (map_reverse to_ascii_lowercase text)
-
 has_in_case : (fold : Bool) (text : List ℕ) (key : KeyContent) → has_content false (in_case fold text) (content_in_case fold key)
     ≡ has_content fold text key
 has_in_case fold text key =
@@ -138,7 +166,7 @@ met_in_case fold name path (key ∷ keys) zero = by_subject key.subject
     by_subject : (subject : Subject) → content_met_by false (in_case fold name) (in_case fold path) subject (content_in_case fold key)
         ≡ content_met_by fold name path subject key
     by_subject Name = has_in_case fold name key
-    by_subject End = ap (λ l. has_content false l (content_in_case fold key)) (reverse_in_case fold name) ∙ has_in_case fold (reverse name) key
+    by_subject End = ap (λ l. has_content false l (content_in_case fold key)) (directed_in_case true fold name) ∙ has_in_case fold (reverse name) key
     by_subject Path = has_in_case fold path key
     by_subject Anything = refl
     by_subject Nothing = refl
@@ -160,3 +188,54 @@ met_of_gathered fold name path keys cased row same =
     ap (λ l. gathered name' path' (slice_get l row) || is_about Anything (slice_get keys row)) same
     ∙ (ap (λ b. gathered name' path' lower || b) (sym (any_in_case fold keys row))
     ∙ (gathered_or_any name' path' lower ∙ met_in_case fold name path keys row))
+
+-- a key by what base names alone can tell
+may_or_any : (name : List ℕ) (key : Option KeyContent) → may_have name key || is_about Anything key
+    ≡ content_met_at false name name (option_map candidate_of key)
+may_or_any name None = refl
+may_or_any name (Some key) = by_parts key.subject key.is_whole key.text
+  where
+    with_parts : Subject → Bool → List ℕ → KeyContent
+    with_parts s w t = record { subject = s; text = t; is_whole = w }
+
+    has : List ℕ → Bool → List ℕ → Bool
+    has text w t = starts_with nat_eq (codes_of false text true) (codes_of false t w)
+
+    by_parts : (s : Subject) (w : Bool) (t : List ℕ) → may_have name (Some (with_parts s w t)) || is_about Anything (Some (with_parts s w t))
+        ≡ content_met_at false name name (Some (candidate_of (with_parts s w t)))
+    by_parts Name true t = or_none ((has name true t || false) || false) ∙ (or_none (has name true t || false) ∙ or_none (has name true t))
+    by_parts Name false t = refl
+    by_parts End w t = or_none (has (reverse name) w t || false) ∙ or_none (has (reverse name) w t)
+    by_parts Path w t = refl
+    by_parts Anything w t = refl
+    by_parts Nothing w t = refl
+
+candidate_in_case : (fold : Bool) (keys : List KeyContent) (row : ℕ) →
+    option_map candidate_of (slice_get (map (content_in_case fold) keys) row) ≡ slice_get (map (content_in_case fold) (map candidate_of keys)) row
+candidate_in_case fold [] row = refl
+candidate_in_case fold (key ∷ keys) (suc row) = candidate_in_case fold keys row
+candidate_in_case fold (key ∷ keys) zero = ap Some (by_subject key.subject key.is_whole)
+  where
+    nothing : (f : Bool) → no_text Anything ≡ content_in_case f (no_text Anything)
+    nothing false = refl
+    nothing true = refl
+
+    by_subject : (s : Subject) (w : Bool) → candidate_by s w (content_in_case fold key) ≡ content_in_case fold (candidate_by s w key)
+    by_subject Name true = refl
+    by_subject Name false = nothing fold
+    by_subject End w = refl
+    by_subject Path w = nothing fold
+    by_subject Anything w = nothing fold
+    by_subject Nothing w = refl
+
+-- the keys that base names alone leave, in their case
+pub met_of_may_have : (fold : Bool) (name : List ℕ) (keys cased : List KeyContent) (row : ℕ) → cased ≡ map (content_in_case fold) keys →
+    may_have (in_case fold name) (slice_get cased row) || is_about Anything (slice_get keys row)
+    ≡ content_met_at fold name name (slice_get (map candidate_of keys) row)
+met_of_may_have fold name keys cased row same =
+    let name' = in_case fold name in
+    let lower = slice_get (map (content_in_case fold) keys) row in
+    ap (λ l. may_have name' (slice_get l row) || is_about Anything (slice_get keys row)) same
+    ∙ (ap (λ b. may_have name' lower || b) (sym (any_in_case fold keys row))
+    ∙ (may_or_any name' lower
+    ∙ (ap (content_met_at false name' name') (candidate_in_case fold keys row) ∙ met_in_case fold name name (map candidate_of keys) row)))

@@ -10,7 +10,7 @@ use Rattle.std.specs.Ordering.{nat_cmp, is_lt}
 use Rattle.std.specs.declared.cmp.Ordering.{Ordering}
 use Rattle.std.proofs.lemmas.Fn.{always_returns_same}
 use Rattle.std.proofs.lemmas.List.Sorted.{list_any-IsPermutation, ranks_by}
-use Rattle.attr_keys.specs.KeyContents.{KeyContent}
+use Rattle.attr_keys.specs.inner.KeyContents.{KeyContent}
 use Rattle.attr_keys.specs.inner.Codes.{row_codes}
 use Rattle.attr_keys.specs.inner.Rows.{has_row, AreInOrder}
 

@@ -1,16 +1,17 @@
 -- The codes of a text and whether it is whole.
 use Rattle.std.proofs.Common.{◌≡◌, ◌≢◌, ◌⊎◌, inl, inr, ℕ, suc, ◌+◌, Bool, true, false, not, ◌&&◌, ◌||◌, List, [], ◌∷◌, length}
-use Rattle.std.proofs.Common.{reverse, refl, sym, ap, ◌∙◌, arith, eqb, nat_eq}
+use Rattle.std.proofs.Common.{refl, sym, ap, ◌∙◌, arith, eqb, nat_eq}
 use Rattle.std.specs.Cmp.Lexicographic.{slice_cmp}
 use Rattle.std.specs.List.{starts_with}
 use Rattle.std.specs.Ordering.{nat_cmp, bool_cmp, ordering_then}
 use Rattle.std.specs.declared.cmp.Ordering.{Ordering}
 use Rattle.std.specs.declared.cmp.Ordering.TheVariants.{Less, Equal, Greater}
 use Rattle.std.proofs.lemmas.Bool.Decides.{nat_tests}
-use Rattle.std.proofs.lemmas.List.{length-reverse}
-use Rattle.attr_keys.specs.inner.Cases.{in_case}
+use Rattle.attr_keys.specs.declared.key.View.{View}
+use Rattle.attr_keys.specs.inner.Cases.{in_case, seen_text}
 use Rattle.attr_keys.specs.inner.Codes.{codes_of}
-use Rattle.attr_keys.proofs.Cases.{codes_in_case, length-in_case}
+use Rattle.attr_keys.specs.inner.Meeting.{directed}
+use Rattle.attr_keys.proofs.SeenTexts.{codes_in_case, length-directed, length-in_case}
 
 end_below : (b : ℕ) → nat_cmp 1 (b + 2) ≡ Less
 end_below b = grind (arith, nat_tests)
@@ -45,8 +46,8 @@ and_assoc : (a b c : Bool) → a && (b && c) ≡ (a && b) && c
 and_assoc true b c = refl
 and_assoc false b c = refl
 
--- codes are ordered xs the texts are, and a whole text comes after one that isn't
-pub codes_order : (x y : List ℕ) (w v : Bool) → slice_cmp nat_cmp (codes_of false x w) (codes_of false y v)
+-- codes are ordered as the texts are, and a whole text comes after one that isn't
+codes_order : (x y : List ℕ) (w v : Bool) → slice_cmp nat_cmp (codes_of false x w) (codes_of false y v)
     ≡ ordering_then (slice_cmp nat_cmp x y) (bool_cmp w v)
 codes_order [] [] true true = refl
 codes_order [] [] true false = refl
@@ -60,9 +61,18 @@ codes_order (a ∷ xs) (b ∷ bs) w v =
     ap (λ o. ordering_then o (slice_cmp nat_cmp (codes_of false xs w) (codes_of false bs v))) (shifted_order a b)
     ∙ (ap (ordering_then (nat_cmp a b)) (codes_order xs bs w v) ∙ then_then (nat_cmp a b) (slice_cmp nat_cmp xs bs) (bool_cmp w v))
 
--- a text has a key if it begins with it, and is xs long if the key is whole
-pub codes_begin : (text front : List ℕ) (w : Bool) → starts_with nat_eq (codes_of false text true) (codes_of false front w)
-    ≡ starts_with nat_eq text front && (not w || eqb (length front) (length text))
+-- the same of codes as they are read
+pub order_seen : (view other : View) (x y : List ℕ) (w v : Bool) (cs ds : List ℕ) → codes_of view.fold (directed view.from_end x) w ≡ cs →
+    codes_of other.fold (directed other.from_end y) v ≡ ds →
+    ordering_then (slice_cmp nat_cmp (seen_text view x) (seen_text other y)) (bool_cmp w v) ≡ slice_cmp nat_cmp cs ds
+order_seen view other x y w v cs ds first second =
+    sym (codes_order (seen_text view x) (seen_text other y) w v)
+    ∙ (ap (λ l. slice_cmp nat_cmp l (codes_of false (seen_text other y) v)) (codes_in_case view.fold (directed view.from_end x) w ∙ first)
+    ∙ ap (slice_cmp nat_cmp cs) (codes_in_case other.fold (directed other.from_end y) v ∙ second))
+
+-- a text has a key if it begins with it, and is as long if the key is whole
+codes_begin : (text part : List ℕ) (w : Bool) → starts_with nat_eq (codes_of false text true) (codes_of false part w)
+    ≡ starts_with nat_eq text part && (not w || eqb (length part) (length text))
 codes_begin text [] false = refl
 codes_begin [] [] true = refl
 codes_begin (b ∷ bs) [] true = ap (λ t. t && true) (no_byte b) ∙ sym (longer (length bs))
@@ -74,22 +84,28 @@ codes_begin (b ∷ bs) (c ∷ cs) w =
     ∙ (and_assoc (nat_eq c b) (starts_with nat_eq bs cs) (not w || eqb (length cs) (length bs))
     ∙ ap (λ t. (nat_eq c b && starts_with nat_eq bs cs) && (not w || t)) (sym (both_longer (length cs) (length bs)))))
 
--- the same of a front in its case
-begin_in_case : (fold : Bool) (text front : List ℕ) (w : Bool) → starts_with nat_eq (codes_of false text true) (codes_of fold front w)
-    ≡ starts_with nat_eq text (in_case fold front) && (not w || eqb (length front) (length text))
-begin_in_case fold text front w =
-    ap (starts_with nat_eq (codes_of false text true)) (sym (codes_in_case fold front w))
-    ∙ (codes_begin text (in_case fold front) w
-    ∙ ap (λ n. starts_with nat_eq text (in_case fold front) && (not w || eqb n (length text))) (length-in_case fold front))
+-- the same of a part of a line as it is read
+begin_in_case : (fold from_end : Bool) (text part : List ℕ) (w : Bool) →
+    starts_with nat_eq (codes_of false (directed from_end text) true) (codes_of fold (directed from_end part) w)
+    ≡ starts_with nat_eq (directed from_end text) (in_case fold (directed from_end part)) && (not w || eqb (length part) (length text))
+begin_in_case fold from_end text part w =
+    let text' = directed from_end text in
+    let part' = directed from_end part in
+    let begins = starts_with nat_eq text' (in_case fold part') in
+    ap (starts_with nat_eq (codes_of false text' true)) (sym (codes_in_case fold part' w))
+    ∙ (codes_begin text' (in_case fold part') w
+    ∙ (ap (λ n. begins && (not w || eqb n (length text'))) (length-in_case fold part' ∙ length-directed from_end part)
+    ∙ ap (λ n. begins && (not w || eqb (length part) n)) (length-directed from_end text)))
 
 -- a whole key is as long as the text, or another one is asked for
-pub has_if_long : (fold : Bool) (text front codes : List ℕ) (w : Bool) → codes_of fold front w ≡ codes →
-    ((w ≡ true) × (length front ≡ length text)) ⊎ (w ≡ false) →
-    starts_with nat_eq text (in_case fold front) ≡ starts_with nat_eq (codes_of false text true) codes
-has_if_long fold text front codes w is long =
-    sym (ap (starts_with nat_eq (codes_of false text true)) (sym is)
-    ∙ (begin_in_case fold text front w
-    ∙ (ap (λ b. starts_with nat_eq text (in_case fold front) && b) (fits long) ∙ and_all (starts_with nat_eq text (in_case fold front)))))
+pub has_if_long : (fold from_end : Bool) (text part codes : List ℕ) (w : Bool) → codes_of fold (directed from_end part) w ≡ codes →
+    ((w ≡ true) × (length part ≡ length text)) ⊎ (w ≡ false) →
+    starts_with nat_eq (directed from_end text) (in_case fold (directed from_end part))
+    ≡ starts_with nat_eq (codes_of false (directed from_end text) true) codes
+has_if_long fold from_end text part codes w is long =
+    let begins = starts_with nat_eq (directed from_end text) (in_case fold (directed from_end part)) in
+    sym (ap (starts_with nat_eq (codes_of false (directed from_end text) true)) (sym is)
+    ∙ (begin_in_case fold from_end text part w ∙ (ap (λ b. begins && b) (fits long) ∙ and_all begins)))
   where
     and_all : (a : Bool) → a && true ≡ a
     and_all true = refl
@@ -102,21 +118,21 @@ has_if_long fold text front codes w is long =
     or_true true = refl
     or_true false = refl
 
-    fits : ((w ≡ true) × (length front ≡ length text)) ⊎ (w ≡ false) → not w || eqb (length front) (length text) ≡ true
-    fits (inl e) = ap (λ b. not w || b) (equal (length front) (length text) e.1) ∙ or_true (not w)
-    fits (inr e) = ap (λ b. not b || eqb (length front) (length text)) e
+    fits : ((w ≡ true) × (length part ≡ length text)) ⊎ (w ≡ false) → not w || eqb (length part) (length text) ≡ true
+    fits (inl e) = ap (λ b. not w || b) (equal (length part) (length text) e.1) ∙ or_true (not w)
+    fits (inr e) = ap (λ b. not b || eqb (length part) (length text)) e
 
 -- a whole key of another length
-pub lacks_if_other : (fold : Bool) (text front codes : List ℕ) (w : Bool) → codes_of fold front w ≡ codes → w ≡ true → length front ≢ length text →
-    false ≡ starts_with nat_eq (codes_of false text true) codes
-lacks_if_other fold text front codes w is whole other =
-    sym (ap (starts_with nat_eq (codes_of false text true)) (sym is)
-    ∙ (begin_in_case fold text front w
-    ∙ (ap (λ b. begins && (not b || eqb (length front) (length text))) whole
-    ∙ (ap (λ b. begins && b) (apart (length front) (length text) other) ∙ and_none begins))))
+pub lacks_if_other : (fold from_end : Bool) (text part codes : List ℕ) (w : Bool) → codes_of fold (directed from_end part) w ≡ codes →
+    w ≡ true → length part ≢ length text → false ≡ starts_with nat_eq (codes_of false (directed from_end text) true) codes
+lacks_if_other fold from_end text part codes w is whole other =
+    sym (ap (starts_with nat_eq (codes_of false (directed from_end text) true)) (sym is)
+    ∙ (begin_in_case fold from_end text part w
+    ∙ (ap (λ b. begins && (not b || eqb (length part) (length text))) whole
+    ∙ (ap (λ b. begins && b) (apart (length part) (length text) other) ∙ and_none begins))))
   where
     begins : Bool
-    begins = starts_with nat_eq text (in_case fold front)
+    begins = starts_with nat_eq (directed from_end text) (in_case fold (directed from_end part))
 
     apart : (a b : ℕ) → a ≢ b → eqb a b ≡ false
     apart a b ne = grind (arith, nat_tests)
@@ -124,12 +140,3 @@ lacks_if_other fold text front codes w is whole other =
     and_none : (a : Bool) → a && false ≡ false
     and_none true = refl
     and_none false = refl
-
-pub has_if_long_turned : (fold : Bool) (text front codes : List ℕ) (w : Bool) → codes_of fold front w ≡ codes →
-    ((w ≡ true) × (length text ≡ length front)) ⊎ (w ≡ false) →
-    starts_with nat_eq (reverse text) (in_case fold front) ≡ starts_with nat_eq (codes_of false (reverse text) true) codes
-has_if_long_turned fold text front codes w is long = has_if_long fold (reverse text) front codes w is (turned long)
-  where
-    turned : ((w ≡ true) × (length text ≡ length front)) ⊎ (w ≡ false) → ((w ≡ true) × (length front ≡ length (reverse text))) ⊎ (w ≡ false)
-    turned (inl e) = inl (e.0, sym e.1 ∙ sym (length-reverse text))
-    turned (inr e) = inr e

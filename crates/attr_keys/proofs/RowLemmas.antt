@@ -1,5 +1,5 @@
 -- Numbers that are among others, after edits.
-use Rattle.std.proofs.Common.{◌≡◌, ℕ, ◌+◌, ◌-◌, Bool, true, false, ◌||◌, List, [], ◌∷◌, length, reverse, refl, sym, ap, ◌∙◌, arith}
+use Rattle.std.proofs.Common.{◌≡◌, ℕ, ◌+◌, ◌-◌, Bool, true, false, ◌&&◌, ◌||◌, List, [], ◌∷◌, length, reverse, refl, sym, ap, ◌∙◌, arith}
 use Rattle.std.proofs.Common.{eqb}
 use Rattle.std.specs.List.{dedup, dedup_from}
 use Rattle.std.specs.List.Sorted.{IsStrictlyIncreasing}
@@ -10,6 +10,14 @@ use Rattle.attr_keys.specs.inner.Rows.{has_row, IsFalling}
 pub by_test : {G : Type 0} (b : Bool) → (b ≡ true → G) → (b ≡ false → G) → G
 by_test true t f = t refl
 by_test false t f = f refl
+
+pub and_none : (a : Bool) → a && false ≡ false
+and_none true = refl
+and_none false = refl
+
+pub or_none : (a : Bool) → a || false ≡ a
+or_none true = refl
+or_none false = refl
 
 twice : (a b : Bool) → a || b ≡ a || (a || b)
 twice true b = refl
@@ -27,7 +35,7 @@ pub has_dedup : (row : ℕ) (xs : List ℕ) → has_row (dedup eqb xs) row ≡ h
 has_dedup row [] = refl
 has_dedup row (x ∷ xs) = has_dedup_from row x xs
 
--- a list that rises, turned round
+-- a list that rises, reversed
 pub falling_reverse : (xs : List ℕ) → IsStrictlyIncreasing xs → IsFalling (reverse xs)
 falling_reverse xs up k lt =
     let len = length-reverse xs in

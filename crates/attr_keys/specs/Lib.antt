@@ -1,2 +1,1 @@
-pub mod KeyContents
 pub mod inner

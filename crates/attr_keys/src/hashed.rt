@@ -1,21 +1,20 @@
 //! Numbers of keys, found by hashes.
 
-ghost use Rattle.std.specs.Prelude.{◌≡◌, ◌==◌, ◌-◌, ◌/◌, ◌<◌, ◌≤◌, IfOk, drop, length, take};
+ghost use Rattle.std.specs.Prelude.{◌≡◌, ◌==◌, ◌-◌, ◌/◌, ◌<◌, ◌≤◌, [], IfOk, OnOk, drop, length, take};
 ghost use Rattle.std.specs.List.{AllWithin};
 ghost use Rattle.std.specs.List.Sorted.{IsNonDecreasingBy, IsPermutation};
-ghost use Rattle.attr_keys.specs.inner.Hashes.{IsBucketStart, eights_hash, mixed, packed, quick_hash, rows_of_hash, text_hash};
+ghost use Rattle.attr_keys.specs.inner.Hashes.{AreStarts, IsBucketStart, eights_hash, mixed, packed, quick_hash, rows_of_hash};
 
 use std::alloc::{AllocError, Global};
-use std::hash::{DefaultHasher, Hasher};
 use std::marker::Model;
 
-/// So few keys, or rows of a bucket, are compared one by one.
-pub const FEW: usize = 8;
+// So few rows, of all or of a bucket, are compared one by one.
+const FEW: usize = 8;
 
 /// The number of a key, and a hash.
 #[derive(Clone, Copy, Debug)]
 pub struct HashedRow {
-    /// The hash of what has the key.
+    /// The hash of the key.
     pub hash: u64,
     /// The number of the key.
     pub row: usize,
@@ -24,11 +23,11 @@ pub struct HashedRow {
 /// Numbers of keys, which are found by their hashes in a time that does not depend on how many there are.
 #[derive(Debug, Drop)]
 pub struct HashedRows {
-    // In the order of the hashes.
+    // In the order of the hashes, if they are not few.
     rows: Vec<HashedRow>,
     // How many hashes a bucket has: that of a hash is its quotient.
     width: u64,
-    // The place in `rows` where each bucket starts, and after the last bucket the number of rows.
+    // The index in `rows` where each bucket starts, and after the last bucket the number of rows. Nothing of few rows.
     starts: Vec<usize>,
 }
 
@@ -45,25 +44,10 @@ impl Model for HashedRows {
     ghost invariant = { AreBuckets };
 }
 
-// Texts of so few bytes are hashed by these, which a number has. So no more than two of them share a hash.
-const SHORT: usize = 8;
-
 // An odd number, so that numbers that differ give different hashes, and that each byte changes the first bits.
 const SPREAD: u64 = 0x9e37_79b9_7f4a_7c15;
 
-/// The hash of a text. Its keys are known, so that each look-up finds the same.
-pub fn text_hash(text: &[u8]) -> u64
-    ensures { result ≡ text_hash text.now }
-{
-    if text.len() <= SHORT {
-        return packed(text).wrapping_mul(SPREAD);
-    }
-    let mut state = DefaultHasher::new();
-    state.write(text);
-    state.finish()
-}
-
-// The bytes of a short text, after a one by which shorter texts of different lengths differ.
+// The bytes of a text of fewer than eight, after a one by which texts of different lengths differ.
 fn packed(text: &[u8]) -> u64
     ensures { result ≡ packed 1 text.now }
 {
@@ -107,7 +91,7 @@ fn mixed(hash: u64, number: u64) -> u64
 }
 
 impl HashedRows {
-    /// The rows, with about as many buckets.
+    /// The rows. Few are found one by one, and others in about as many buckets.
     ///
     /// # Errors
     ///
@@ -115,15 +99,17 @@ impl HashedRows {
     pub fn of(alloc: Global, mut rows: Vec<HashedRow>) -> Result<HashedRows, AllocError>
         ensures { IfOk result (λ hashed. IsPermutation rows.items hashed) }
     {
+        let mut starts = Vec::new(alloc);
+        if rows.len() <= FEW {
+            return Ok(HashedRows {
+                rows,
+                width: 0,
+                starts,
+            });
+        }
         rows.sort_unstable_by_key(|row| row.hash);
         let width = bucket_width(&rows);
-        let count = bucket(u64::MAX, width) + 2;
-        let mut starts = Vec::with_capacity(alloc, count)?;
-        let mut start = 0;
-        for place in 0..count {
-            start = bucket_start(&rows, width, place, start);
-            starts.push(start)?;
-        }
+        push_starts(&rows, width, &mut starts)?;
         Ok(HashedRows {
             rows,
             width,
@@ -131,7 +117,7 @@ impl HashedRows {
         })
     }
 
-    /// All rows, in the order of their hashes.
+    /// All rows. More than a few are in the order of their hashes.
     pub fn all(&self) -> &[HashedRow]
         ensures { result.now ≡ self.now }
     {
@@ -142,13 +128,33 @@ impl HashedRows {
     pub fn of_hash(&self, hash: u64) -> &[HashedRow]
         ensures { rows_of_hash hash result.now ≡ rows_of_hash hash self.now }
     {
-        let place = bucket(hash, self.width);
-        let rows = between(&self.rows, self.starts[place], self.starts[place + 1]);
+        if self.starts.is_empty() {
+            return &self.rows;
+        }
+        let index = bucket(hash, self.width);
+        let rows = between(&self.rows, self.starts[index], self.starts[index + 1]);
         if rows.len() <= FEW {
             return rows;
         }
         halved(rows, hash)
     }
+}
+
+// Appends where each bucket starts, and the number of rows.
+fn push_starts(rows: &[HashedRow], width: u64, starts: &mut Vec<usize>) -> Result<(), AllocError>
+    requires width { 2 ≤ width }
+    requires order { IsNonDecreasingBy (λ h. h.hash) rows.now }
+    requires starts { starts.old.items ≡ [] }
+    ensures { OnOk result (AreStarts width rows.now starts.new.items) }
+{
+    let count = bucket(u64::MAX, width) + 2;
+    starts.reserve(count)?;
+    let mut start = 0;
+    for index in 0..count {
+        start = bucket_start(rows, width, index, start);
+        starts.push(start)?;
+    }
+    Ok(())
 }
 
 // How many hashes a bucket has, if there are about as many buckets as rows.
@@ -166,22 +172,22 @@ fn bucket(hash: u64, width: u64) -> usize
     (hash / width) as usize
 }
 
-// Where a bucket starts, if it does not start before this place and the hashes don't fall.
-fn bucket_start(rows: &[HashedRow], width: u64, place: usize, from: usize) -> usize
+// Where a bucket starts, if it does not start before `from` and the hashes don't fall.
+fn bucket_start(rows: &[HashedRow], width: u64, index: usize, from: usize) -> usize
     requires width { 2 ≤ width }
     requires order { IsNonDecreasingBy (λ h. h.hash) rows.now }
     requires from { from ≤ length rows.now }
-    requires before { AllWithin (λ h. h.hash / width < place) rows.now 0 from }
-    ensures { IsBucketStart width rows.now place result }
+    requires before { AllWithin (λ h. h.hash / width < index) rows.now 0 from }
+    ensures { IsBucketStart width rows.now index result }
 {
     let mut start = from;
-    while start < rows.len() && bucket(rows[start].hash, width) < place {
+    while start < rows.len() && bucket(rows[start].hash, width) < index {
         start += 1;
     }
     start
 }
 
-// The rows from a place to another one.
+// The rows from an index to another one.
 fn between(rows: &[HashedRow], start: usize, end: usize) -> &[HashedRow]
     requires start { start ≤ end }
     requires end { end ≤ length rows.now }

@@ -1,13 +1,16 @@
-//! Keys, and the codes by which they are sorted: 0 past the end of a text, 1 at the end of a whole text, and else the
-//! value of a byte plus 2.
+//! Keys of lines, and the codes by which they are sorted: 0 past the end of a text, 1 at the end of a whole text, and else
+//! the value of a byte plus 2.
 
-ghost use Rattle.std.specs.Prelude.{◌≡◌, ◌≤◌, Bool, length, Some, map, true, nat_eq, reverse, slice_get, slice_index};
+ghost use Rattle.std.specs.Prelude.{◌≡◌, ◌≢◌, ◌↔◌, ◌<◌, ◌≤◌, Bool, IsTrue, false, length, map, true, nat_eq, slice_get, slice_index, take};
 ghost use Rattle.std.specs.Cmp.Lexicographic.{slice_cmp};
+ghost use Rattle.std.specs.Bool.{OnFalse};
 ghost use Rattle.std.specs.List.{starts_with};
 ghost use Rattle.std.specs.Ordering.{nat_cmp};
-ghost use Rattle.attr_keys.specs.inner.Cases.{byte_in_case, content_in_case, in_case, key_contents, keys_in_case};
+ghost use Rattle.attr_keys.specs.inner.Cases.{byte_in_case, in_case, keys_seen, seen_keys, seen_text, text_standing};
 ghost use Rattle.attr_keys.specs.inner.Codes.{codes_of, row_codes};
-ghost use Rattle.attr_keys.specs.inner.Meeting.{is_kind, key_content, same_subject, text_has};
+ghost use Rattle.attr_keys.specs.inner.Hashes.{text_of_row};
+ghost use Rattle.attr_keys.specs.inner.Meeting.{directed, is_whole_row, text_has};
+ghost use Rattle.attr_keys.specs.inner.Rows.{IsCommon, is_up_to};
 
 use std::cmp::Ordering;
 
@@ -16,7 +19,7 @@ use std::cmp::Ordering;
 pub enum Subject {
     /// The base name of the path: what follows its last slash.
     Name,
-    /// The base name, reversed.
+    /// The base name, from its last byte on.
     End,
     /// The whole path.
     Path,
@@ -26,56 +29,63 @@ pub enum Subject {
     Nothing,
 }
 
-/// A text that is looked up. Another text has the key if it begins with this text or, if `is_whole` is set, is this
-/// text.
-#[derive(Debug, Drop)]
-pub struct Key {
+/// What a path needs if a line may match it: its subject begins with the key's text or, if `is_whole` is set, is this text. With
+/// the subject `End` it ends with the text.
+#[derive(Clone, Copy, Debug)]
+pub struct Key<'a> {
     /// The text of a path that has to have the key.
     pub subject: Subject,
-    /// The bytes that the subject begins with.
-    pub text: Vec<u8>,
+    /// The bytes that the subject begins with or, of an `End`, ends with.
+    pub text: &'a [u8],
     /// Whether the subject has no other bytes.
     pub is_whole: bool,
 }
 
-/// The keys of lines as they are looked up: as they are, or in lower case.
+/// A line, by its key.
+pub trait Keyed {
+    ghost use Rattle.attr_keys.specs.inner.KeyContents.{KeyContent};
+    ghost use Rattle.attr_keys.specs.inner.Meeting.{key_content};
+
+    // What the key of the line says.
+    ghost content: { Self → KeyContent };
+
+    /// The key of the line, which borrows its text from there.
+    fn key(&self) -> Key<'_>
+        ensures { key_content result ≡ content self.now };
+}
+
+/// How texts are read.
 #[derive(Clone, Copy)]
-pub struct Keys<'a> {
-    /// The keys, as they are.
-    pub all: &'a [Key],
-    /// Whether they are looked up in lower case.
+pub struct View {
+    /// Whether letters are taken in lower case.
     pub fold: bool,
+    /// Whether texts are read from their last bytes on.
+    pub from_end: bool,
 }
 
-/// Whether the subjects are the same.
-pub fn is_same(subject: Subject, other: Subject) -> bool
-    ensures { result ≡ same_subject subject other }
-{
-    match (subject, other) {
-        (Subject::Name, Subject::Name) => true,
-        (Subject::End, Subject::End) => true,
-        (Subject::Path, Subject::Path) => true,
-        (Subject::Anything, Subject::Anything) => true,
-        (Subject::Nothing, Subject::Nothing) => true,
-        _ => false,
-    }
+/// Lines, and how the texts of their keys are read.
+#[derive_where(Clone, Copy)]
+pub struct Keys<'a, K> {
+    /// The lines.
+    pub lines: &'a [K],
+    /// How the texts of their keys are read.
+    pub view: View,
 }
 
-/// Whether the key is of this subject, and whole or not.
-pub fn is_kind(subject: Subject, is_whole: bool, key: &Key) -> bool
-    ensures { result ≡ is_kind subject is_whole (Some (key_content key.now)) }
-{
-    is_same(subject, key.subject) && key.is_whole == is_whole
-}
-
-// The text of the key with this number, as it is, and whether it is whole. Without such a key there is no text.
+// The text of the key of a line, as it stands there, and whether it is whole. Without such a line there is no text.
 #[inline(always)]
-fn parts(keys: &[Key], row: usize) -> (&[u8], bool)
-    ensures { (fold : Bool) → codes_of fold result.0.now result.1
-        ≡ row_codes (map (content_in_case fold) (key_contents keys.now)) row }
+fn parts<K: Keyed>(lines: &[K], row: usize) -> (&[u8], bool)
+    ensures text { result.0.now ≡ text_standing (slice_get (map K.content lines.now) row) }
+    ensures is_whole { result.1 ≡ is_whole_row (slice_get (map K.content lines.now) row) }
+    ensures codes { (fold from_end : Bool) →
+        codes_of fold (directed from_end result.0.now) result.1
+        ≡ row_codes (seen_keys fold from_end (map K.content lines.now)) row }
 {
-    match keys.get(row) {
-        Some(key) => (&key.text, key.is_whole),
+    match lines.get(row) {
+        Some(line) => {
+            let key = line.key();
+            (key.text, key.is_whole)
+        }
         None => (&[], false),
     }
 }
@@ -91,124 +101,238 @@ fn in_case(fold: bool, byte: u8) -> u8
     }
 }
 
-/// The code of a text at a place, counted from 0, and 0 past its last code. A whole text has one more code than bytes.
-/// The text is in lower case if `fold` is set.
-pub fn code(fold: bool, text: &[u8], is_whole: bool, place: usize) -> u16
-    ensures { result ≡ slice_index (codes_of fold text.now is_whole) place }
-{
-    match text.get(place) {
-        Some(byte) => u16::from(in_case(fold, *byte)) + 2,
-        None if is_whole && place == text.len() => 1,
-        None => 0,
-    }
-}
-
-/// The code at a place of the key with the index `row`, and 0 if there is no such key.
-pub fn row_code(keys: Keys<'_>, row: usize, place: usize) -> u16
-    ensures { result ≡ slice_index (row_codes (keys_in_case keys.entry) row) place }
-{
-    let (text, is_whole) = parts(keys.all, row);
-    code(keys.fold, text, is_whole, place)
-}
-
-/// How the codes of two keys are ordered.
-pub fn row_order(keys: &[Key], row: usize, other: usize) -> Ordering
-    ensures { result ≡ slice_cmp nat_cmp (row_codes (key_contents keys.now) row)
-        (row_codes (key_contents keys.now) other) }
-{
-    let (text, is_whole) = parts(keys, row);
-    let (other_text, other_is_whole) = parts(keys, other);
-    text.cmp(other_text).then(is_whole.cmp(&other_is_whole))
-}
-
-/// Whether a text has the key with this number.
+// The byte at an offset, from the end if `from_end` is set.
 #[inline(always)]
-pub fn has_row_key(keys: Keys<'_>, row: usize, text: &[u8]) -> bool
-    ensures { result ≡ text_has text.now (slice_get (keys_in_case keys.entry) row) }
+fn byte_at(from_end: bool, text: &[u8], offset: usize) -> u8
+    requires { offset < length text.now }
+    ensures { result ≡ slice_index (directed from_end text.now) offset }
 {
-    let (front, is_whole) = parts(keys.all, row);
-    if is_whole && front.len() != text.len() {
-        return false;
-    }
-    begins_in_case(keys.fold, text, front)
-}
-
-// Whether a text begins with these bytes, which are in lower case if `fold` is set.
-#[inline(never)]
-fn begins_in_case(fold: bool, text: &[u8], front: &[u8]) -> bool
-    ensures { result ≡ starts_with nat_eq text.now (in_case fold front.now) }
-{
-    if fold {
-        begins_with_lower(text, front)
+    if from_end {
+        text[text.len() - 1 - offset]
     } else {
-        begins_with(text, front)
+        text[offset]
     }
 }
 
-// Whether a text begins with these bytes. Most keys differ at their first byte, which is compared alone.
-fn begins_with(text: &[u8], front: &[u8]) -> bool
-    ensures { result ≡ starts_with nat_eq text.now front.now }
+/// The first code of a text, and 0 if it has none. A whole text has one more code than bytes.
+#[inline(always)]
+pub fn first_code(view: View, text: &[u8], is_whole: bool) -> u16
+    ensures { result
+        ≡ slice_index (codes_of view.fold (directed view.from_end text.now) is_whole) 0 }
 {
-    if text.len() < front.len() {
-        return false;
+    if !text.is_empty() {
+        return u16::from(seen_byte(view, text, 0)) + 2;
     }
-    if !front.is_empty() && front[0] != text[0] {
-        return false;
-    }
-    front == &text[..front.len()]
+    if is_whole { 1 } else { 0 }
 }
 
-// Whether a text begins with these bytes in lower case.
-fn begins_with_lower(text: &[u8], front: &[u8]) -> bool
-    ensures { result ≡ starts_with nat_eq text.now (in_case true front.now) }
+/// Whether the key of a line is whole.
+pub fn is_row_whole<K: Keyed>(keys: Keys<'_, K>, row: usize) -> bool
+    ensures { result ≡ is_whole_row (slice_get (keys_seen K.content keys.entry) row) }
 {
-    if text.len() < front.len() {
-        return false;
-    }
-    for (place, byte) in front.iter().enumerate() {
-        if text[place] != byte.to_ascii_lowercase() {
-            return false;
+    parts(keys.lines, row).1
+}
+
+/// The text of the key of a line, as it stands there, and no text if there is no such line.
+pub fn row_text<K: Keyed>(keys: Keys<'_, K>, row: usize) -> &[u8]
+    ensures { in_case keys.entry.view.fold result.now
+        ≡ text_of_row keys.entry.view.from_end (keys_seen K.content keys.entry) row }
+{
+    parts(keys.lines, row).0
+}
+
+/// The first code of the key of a line, and 0 if there is no such line.
+pub fn first_row_code<K: Keyed>(keys: Keys<'_, K>, row: usize) -> u16
+    ensures { result ≡ slice_index (row_codes (keys_seen K.content keys.entry) row) 0 }
+{
+    let (text, is_whole) = parts(keys.lines, row);
+    first_code(keys.view, text, is_whole)
+}
+
+/// How the codes of the keys of two lines are ordered.
+pub fn row_order<K: Keyed>(keys: Keys<'_, K>, row: usize, other: usize) -> Ordering
+    ensures { result ≡ slice_cmp nat_cmp (row_codes (keys_seen K.content keys.entry) row)
+        (row_codes (keys_seen K.content keys.entry) other) }
+{
+    let (text, is_whole) = parts(keys.lines, row);
+    let (other_text, other_is_whole) = parts(keys.lines, other);
+    text_order(keys.view, text, keys.view, other_text).then(is_whole.cmp(&other_is_whole))
+}
+
+/// Whether the codes of the key of a line are not after those of a text.
+pub fn is_row_up_to<K: Keyed>(
+    keys: Keys<'_, K>,
+    row: usize,
+    text: &[u8],
+    is_text_whole: bool,
+) -> bool
+    ensures { result ≡ is_up_to
+        (codes_of false (directed keys.entry.view.from_end text.now) is_text_whole)
+        (row_codes (keys_seen K.content keys.entry) row) }
+{
+    let (part, is_whole) = parts(keys.lines, row);
+    let order = text_order(exact(keys.view), text, keys.view, part);
+    !order.then(is_text_whole.cmp(&is_whole)).is_lt()
+}
+
+/// The bytes of a text that the key of a line has in common with it, up to the first that differs. The text doesn't have the key.
+pub fn common<'a, K: Keyed>(keys: Keys<'_, K>, row: usize, text: &'a [u8]) -> &'a [u8]
+    requires { text_has (directed keys.view.from_end text.now)
+        (slice_get (keys_seen K.content keys) row) ≡ false }
+    ensures { IsCommon (directed keys.entry.view.from_end text.now)
+        (row_codes (keys_seen K.content keys.entry) row)
+        (directed keys.entry.view.from_end result.now) }
+{
+    let (part, _) = parts(keys.lines, row);
+    cut(keys.view.from_end, text, common_len(keys.view, text, part))
+}
+
+// How many bytes a text and a part of a line have in common, as they are read.
+fn common_len(view: View, text: &[u8], part: &[u8]) -> usize
+    ensures text { result ≤ length text.now }
+    ensures part { result ≤ length part.now }
+    ensures same { take result (directed view.from_end text.now)
+        ≡ take result (seen_text view part.now) }
+    ensures apart { result < length text.now → result < length part.now
+        → slice_index (directed view.from_end text.now) result
+        ≢ slice_index (seen_text view part.now) result }
+{
+    let mut len = 0;
+    while len < text.len() && len < part.len() {
+        if byte_at(view.from_end, text, len) != seen_byte(view, part, len) {
+            return len;
         }
+        len += 1;
     }
-    true
+    len
 }
 
-/// Whether a text, reversed, has the key with this number.
+/// How texts are read in the same direction, as they are.
 #[inline(always)]
-pub fn has_turned_row_key(keys: Keys<'_>, row: usize, text: &[u8]) -> bool
-    ensures { result ≡ text_has (reverse text.now)
-        (slice_get (keys_in_case keys.entry) row) }
+pub fn exact(view: View) -> View
+    ensures fold { result.fold ≡ false }
+    ensures from_end { result.from_end ≡ view.from_end }
 {
-    let (front, is_whole) = parts(keys.all, row);
-    if is_whole && text.len() != front.len() {
-        return false;
+    View {
+        fold: false,
+        from_end: view.from_end,
     }
-    ends_in_case(keys.fold, text, front)
 }
 
-// Whether a text, reversed, begins with these bytes, which are in lower case if `fold` is set. Most keys differ from it at
-// its last byte, which is compared before the others are read.
+// How two texts are ordered, each as it is read.
 #[inline(always)]
-fn ends_in_case(fold: bool, text: &[u8], front: &[u8]) -> bool
-    ensures { result ≡ starts_with nat_eq (reverse text.now) (in_case fold front.now) }
+fn text_order(view: View, text: &[u8], other_view: View, other: &[u8]) -> Ordering
+    ensures { result ≡ slice_cmp nat_cmp (seen_text view text.now)
+        (seen_text other_view other.now) }
 {
-    if front.len() > text.len() {
-        return false;
+    if is_plain(view) && is_plain(other_view) {
+        return text.cmp(other);
     }
-    if !front.is_empty() && text[text.len() - 1] != in_case(fold, front[0]) {
-        return false;
-    }
-    ends_with_turned(fold, text, front)
+    seen_order(view, text, other_view, other)
+}
+
+#[inline(always)]
+fn is_plain(view: View) -> bool
+    ensures fold { IsTrue result → view.fold ≡ false }
+    ensures from_end { IsTrue result → view.from_end ≡ false }
+{
+    !view.fold && !view.from_end
 }
 
 // The same, byte by byte.
 #[inline(never)]
-fn ends_with_turned(fold: bool, text: &[u8], front: &[u8]) -> bool
-    requires { length front.now ≤ length text.now }
-    ensures { result ≡ starts_with nat_eq (reverse text.now) (in_case fold front.now) }
+fn seen_order(view: View, text: &[u8], other_view: View, other: &[u8]) -> Ordering
+    ensures { result ≡ slice_cmp nat_cmp (seen_text view text.now)
+        (seen_text other_view other.now) }
 {
-    for (place, byte) in front.iter().enumerate() {
-        if text[text.len() - 1 - place] != in_case(fold, *byte) {
+    for offset in 0..text.len().min(other.len()) {
+        let byte = seen_byte(view, text, offset);
+        let other_byte = seen_byte(other_view, other, offset);
+        if byte != other_byte {
+            return byte.cmp(&other_byte);
+        }
+    }
+    text.len().cmp(&other.len())
+}
+
+// The byte at an offset of a text, as it is read.
+#[inline(always)]
+fn seen_byte(view: View, text: &[u8], offset: usize) -> u8
+    requires { offset < length text.now }
+    ensures { result ≡ slice_index (seen_text view text.now) offset }
+{
+    in_case(view.fold, byte_at(view.from_end, text, offset))
+}
+
+/// Whether the key of a line begins with that of another one. It may also say so of another key.
+pub fn may_begin_with<K: Keyed>(keys: Keys<'_, K>, row: usize, other: usize) -> bool
+    ensures { OnFalse result (starts_with nat_eq (row_codes (keys_seen K.content keys.entry) row)
+        (row_codes (keys_seen K.content keys.entry) other) ≡ false) }
+{
+    let (text, _) = parts(keys.lines, row);
+    let (part, _) = parts(keys.lines, other);
+    if text.len() < part.len() {
+        return false;
+    }
+    let own = cut(keys.view.from_end, text, part.len());
+    if keys.view.fold {
+        own.eq_ignore_ascii_case(part)
+    } else {
+        part == own
+    }
+}
+
+// So many first bytes of a text, or last ones.
+#[inline(always)]
+fn cut(from_end: bool, text: &[u8], len: usize) -> &[u8]
+    requires { len ≤ length text.now }
+    ensures { directed from_end result.now ≡ take len (directed from_end text.now) }
+{
+    if from_end {
+        &text[text.len() - len..]
+    } else {
+        &text[..len]
+    }
+}
+
+/// Whether a text has the key of a line.
+#[inline(always)]
+pub fn has_row_key<K: Keyed>(keys: Keys<'_, K>, row: usize, text: &[u8]) -> bool
+    ensures { result ≡ text_has (directed keys.entry.view.from_end text.now)
+        (slice_get (keys_seen K.content keys.entry) row) }
+{
+    let (part, is_whole) = parts(keys.lines, row);
+    if is_whole && part.len() != text.len() {
+        return false;
+    }
+    has_part(keys.view, text, part)
+}
+
+// Whether a text begins with another one or, if it is read from its end, ends with it. The other one is in lower case if
+// `fold` is set.
+#[inline(never)]
+fn has_part(view: View, text: &[u8], part: &[u8]) -> bool
+    ensures { result ≡ starts_with nat_eq (directed view.from_end text.now)
+        (in_case view.fold (directed view.from_end part.now)) }
+{
+    if text.len() < part.len() {
+        return false;
+    }
+    let own = cut(view.from_end, text, part.len());
+    if view.fold {
+        is_lower_of(own, part)
+    } else {
+        part == own
+    }
+}
+
+// Whether a text is another one of its length in lower case.
+fn is_lower_of(text: &[u8], other: &[u8]) -> bool
+    requires { length text.now ≡ length other.now }
+    ensures { IsTrue result ↔ (text.now ≡ in_case true other.now) }
+{
+    for (offset, byte) in other.iter().enumerate() {
+        if text[offset] != byte.to_ascii_lowercase() {
             return false;
         }
     }

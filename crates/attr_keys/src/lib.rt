@@ -2,14 +2,14 @@
 //!
 //! A key is a text that a path needs if a line may match it: the path or its base name begins with the key, or the base
 //! name ends with it. Whole texts and extensions are looked up by their hashes. Other keys are sorted, and looked up byte by
-//! byte: each byte narrows the keys by a binary search.
+//! byte: each byte narrows the keys by a binary search. The texts of keys stand in the lines, which each look-up is given.
 #![tactic(auto)]
 
-mod extension;
-mod few;
+mod by_hash;
 mod hashed;
 pub mod key;
 pub mod key_index;
+mod kinds;
 pub mod line_key;
 mod order;
-mod whole;
+mod prefixes;

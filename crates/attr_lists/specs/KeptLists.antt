@@ -1,11 +1,11 @@
 -- The entries that a list keeps of an attributes file, as gix-attributes has it: those of the lines whose items are all valid.
 -- Any other line is left out whole.
-use Rattle.std.specs.Prelude.{◌≡◌, ℕ, ◌+◌, Bool, true, ◌||◌, List, [], ◌∷◌, map, filter, Some, None, is_none, Result, Ok, Err}
+use Rattle.std.specs.Prelude.{◌≡◌, ℕ, Bool, true, ◌||◌, List, [], ◌∷◌, map, filter, Some, None, is_none, Result, Ok, Err}
 use Rattle.std.specs.Prelude.{if◌then◌else◌}
 use Rattle.std.specs.List.{filter_map, list_all}
 use Rattle.std.specs.Result.{result_ok, result_err, result_map_both}
 use Rattle.attr_glob.specs.declared.search.pattern.Mapping.{Mapping}
-use Rattle.attr_glob.specs.Patterns.{Reading, no_sub_dir, ends_with, must_be_dir, negative, absolute}
+use Rattle.attr_glob.specs.Patterns.{Reading, all_flags}
 use Rattle.attr_text.specs.Names.{is_valid_name}
 use Rattle.attr_text.specs.Items.{Refusal, invalid_name, reserved}
 use Rattle.attr_lists.specs.LineResults.{Target, pattern, macro, LineResult, macro_name, negative_pattern, results_of}
@@ -41,13 +41,9 @@ unless_refused (refusal ∷ others) assignments = Err (reason_of refusal)
 abbrev pub items_read : List (Result Assignment Refusal) → Result (List TrackedAssignment) DropReason
 items_read items = unless_refused (filter_map result_err items) (map tracked (filter_map result_ok items))
 
--- all five flags, as in the pattern of a line that defines a macro (own)
-abbrev pub macro_mode : ℕ
-macro_mode = no_sub_dir + ends_with + must_be_dir + negative + absolute
-
--- the pattern of a line that defines the macro of this name
+-- the pattern of a line that defines the macro of this name (own: it has all flags)
 abbrev pub macro_pattern : List ℕ → Reading
-macro_pattern name = record { text = name; mode = macro_mode; wildcard = None }
+macro_pattern name = record { text = name; mode = all_flags; wildcard = None }
 
 -- the entry of a line with this target, number and assignments
 abbrev pub entry_for : Target → ℕ → List TrackedAssignment → Entry

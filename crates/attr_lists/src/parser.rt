@@ -3,12 +3,13 @@
 ghost use Rattle.std.specs.Prelude.{◌≡◌, ◌++◌, true, Ok, IfOk, OnOk, MatchOption, filter};
 ghost use Rattle.std.specs.Option.{option_to_list};
 ghost use Rattle.std.specs.Result.{result_ok, result_err, result_map_both};
+ghost use Rattle.attr_glob.specs.Patterns.{all_flags};
 ghost use Rattle.attr_glob.specs.Views.{mode_bits, pattern_view};
 ghost use Rattle.attr_text.specs.Names.{is_valid_name};
 ghost use Rattle.attr_lists.specs.LineViews.{item_view, target_view, line_view};
 ghost use Rattle.attr_lists.specs.inner.LineSteps.{given_by, IsLineRead, kept_line_view};
 ghost use Rattle.attr_lists.specs.ListViews.{entry_view, entries_view};
-ghost use Rattle.attr_lists.specs.KeptLists.{tracked, reason_of, items_read, macro_mode, macro_pattern, entry_for, line_read, defines_no_macro, macro_valid, macros_valid};
+ghost use Rattle.attr_lists.specs.KeptLists.{tracked, reason_of, items_read, macro_pattern, entry_for, line_read, defines_no_macro, macro_valid, macros_valid};
 
 use crate::known_texts::KnownTexts;
 use crate::parse::{AttrError, Error, Iter, Kind, parse};
@@ -190,7 +191,7 @@ fn macro_pattern(alloc: Global, name: &str) -> Result<attr_glob::Pattern, AllocE
 const ALL_BITS: u32 = 0b1_1111;
 
 fn macro_mode() -> Mode
-    ensures { mode_bits result ≡ macro_mode }
+    ensures { mode_bits result ≡ all_flags }
 {
     Mode::from_bits_retain(ALL_BITS)
 }

@@ -17,7 +17,7 @@ use Rattle.attr_table.proofs.ForCallers.{backwards-append}
 use Rattle.attr_table.proofs.ForCallers.{length-tasks_in}
 use Rattle.attr_table.proofs.ForCallers.{top, length-free, row_searched, taken_skip, taken_closed, taken_open, left_in-less, left_in-open}
 use Rattle.attr_table.proofs.ForCallers.{tasks_push, tasks_pass}
-use Rattle.attr_search.specs.declared.matching_line.PendingItem.{PendingItem}
+use Rattle.attr_search.specs.declared.pending_item.PendingItem.{PendingItem}
 use Rattle.attr_search.specs.Slots.{Matched, table_item, table_items, table_answer, table_state, slots_of}
 use Rattle.attr_search.specs.inner.SlotContents.{SlotContents, wanted_numbers}
 use Rattle.attr_search.specs.Settings.{HaveSlots, BodiesAreNamed, HeldAreNamed}

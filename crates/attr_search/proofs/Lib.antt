@@ -1,4 +1,4 @@
-pub mod RefLemmas
+pub mod PartLemmas
 pub mod SlotLemmas
 pub mod FillingLemmas
 pub mod LineLemmas

@@ -1,10 +1,10 @@
 -- The lines of a list, of which a search goes through the candidates alone.
 use Rattle.std.proofs.Common.{◌≡◌, ℕ, ◌+◌, ◌<◌, Bool, true, false, ◌&&◌, List, [], ◌∷◌, ◌++◌, length, get_or, take, drop, Option, Some, None}
-use Rattle.std.proofs.Common.{refl, sym, ap, subst, ◌∙◌, arith}
-use Rattle.std.specs.Prelude.{All, is_none}
+use Rattle.std.proofs.Common.{refl, sym, ap, subst, map, ◌∙◌, arith}
+use Rattle.std.specs.Prelude.{All, is_none, option_map, string_bytes}
 use Rattle.std.specs.List.{flat_map, list_any}
 use Rattle.std.proofs.lemmas.Bool.{or_parts}
-use Rattle.std.proofs.lemmas.List.{length-map, append-nil, take_more, take-append-drop}
+use Rattle.std.proofs.lemmas.List.{length-map, append-nil, get_or-map, take_more, take-append-drop}
 use Rattle.std.proofs.lemmas.Grind.{flat_map-append}
 use Rattle.attr_wildmatch.specs.declared.case.Case.{Case}
 use Rattle.attr_glob.specs.declared.search.pattern.Mapping.{Mapping}
@@ -15,15 +15,19 @@ use Rattle.attr_lists.specs.declared.types.Value.{Value}
 use Rattle.attr_lists.specs.declared.types.AttributeId.{AttributeId}
 use Rattle.attr_lists.specs.declared.types.TrackedAssignment.{TrackedAssignment}
 use Rattle.attr_lists.specs.ListViews.{Entry, entry_view, entries_view, items_in, macro_id}
-use Rattle.attr_table.specs.Setting.{Item}
+use Rattle.attr_table.specs.Setting.{Item, Origin}
 use Rattle.attr_table.specs.Table.{Slots}
 use Rattle.attr_table.specs.Cut.{is_done}
 use Rattle.attr_table.specs.inner.Walk.{Task, Searches, free_items, tasks_in}
 use Rattle.attr_table.proofs.ForCallers.{nothing_taken, done_taken, row_filled, then_searches}
+use Rattle.attr_glob.specs.Views.{pattern_view}
+use Rattle.attr_index.specs.declared.indexed_line.IndexedLine.{IndexedLine}
+use Rattle.attr_index.specs.declared.line_index.LineIndex.{LineIndex}
+use Rattle.attr_index.specs.inner.LineIndexes.{NumberedPattern, indexed_line, indexed_lines, lines_in}
 use Rattle.attr_index.specs.inner.PlacedLines.{no_entry, entry_at}
 use Rattle.attr_index.proofs.ForCallers.{entry_is}
 use Rattle.attr_search.specs.Slots.{table_items}
-use Rattle.attr_search.specs.inner.Slotted.{origin_of}
+use Rattle.attr_search.specs.inner.Slotted.{indexed_origin, no_origin, origin_at, origin_of}
 use Rattle.attr_search.specs.inner.SlotContents.{wanted_numbers}
 use Rattle.attr_search.specs.Settings.{HaveSlots, LinesAreNamed, gives, origin_in}
 use Rattle.attr_lists.specs.Numbers.{AreNamed}
@@ -93,18 +97,48 @@ some_free ms place m items slots lt is given some none =
 
 -- a line that matches
 pub line_matched : (bodies : List (List Item)) (wanted : List ℕ) (case : Case) (is_dir : Option Bool) (source : Option (List ℕ)) (rest : List ℕ)
-    (ms : List (Mapping Value)) (place : ℕ) (m : Mapping Value) (items : List TrackedAssignment) (before after : Slots) (a b : ℕ) (answer : Bool) →
-    place < length ms → m ≡ get_or ms place m → items ≡ items_in m.value → macro_id m.value ≡ None →
-    answer ≡ path_matches case (entry_at (entries_view ms) place).pattern rest is_dir → answer ≡ true →
-    Searches bodies wanted (tasks_in (origin_of source m) None (table_items items)) before after a b →
+    (ms : List (Mapping Value)) (place : ℕ) (m : Mapping Value) (items : List TrackedAssignment) (before after : Slots) (a b : ℕ) (answer : Bool)
+    (origin : Origin) → place < length ms → m ≡ get_or ms place m → items ≡ items_in m.value → macro_id m.value ≡ None →
+    answer ≡ path_matches case (entry_at (entries_view ms) place).pattern rest is_dir → answer ≡ true → origin ≡ origin_of source m →
+    Searches bodies wanted (tasks_in origin None (table_items items)) before after a b →
     Searches bodies wanted (entry_tasks case is_dir source rest (entry_at (entries_view ms) place)) before after a b
-line_matched bodies wanted case is_dir source rest ms place m items before after a b answer lt is given plain told same p =
+line_matched bodies wanted case is_dir source rest ms place m items before after a b answer origin lt is given plain told same there p =
     let e = entry_is ms place m lt is in
     let match : path_matches case (entry_view m).pattern rest is_dir ≡ true =
     ap (λ (x : Entry). path_matches case x.pattern rest is_dir) (sym e) ∙ (sym told ∙ same) in
     let gives_it : gives case is_dir (Some rest) (entry_view m) ≡ true =
     ap (λ (o : Option AttributeId). is_none o && path_matches case (entry_view m).pattern rest is_dir) plain ∙ match in
-    rw (e, gives_it) (rw given at p)
+    rw (e, gives_it) (rw given at (rw there at p))
+
+-- a line of an index is where that of its list is
+map_map : {X Y Z : Type 0} (g : Y → Z) (f : X → Y) (xs : List X) → map g (map f xs) ≡ map (λ x. g (f x)) xs
+map_map g f [] = refl
+map_map g f (x ∷ xs) = ap (λ l. g (f x) ∷ l) (map_map g f xs)
+
+placed_origin : Option (List ℕ) → NumberedPattern → Origin
+placed_origin source n =
+    record { text = n.pattern.text; mode = n.pattern.mode; wildcard = n.pattern.wildcard; source = source; line = n.number }
+
+indexed_origins : (source : Option (List ℕ)) (lines : List IndexedLine) → map (indexed_origin source) lines
+    ≡ map (placed_origin source) (indexed_lines lines)
+unfolding placed_origin
+indexed_origins source lines = sym (map_map (placed_origin source) indexed_line lines)
+
+listed_origins : (source : Option (List ℕ)) (ms : List (Mapping Value)) → map (placed_origin source) (lines_in ms) ≡ map (origin_of source) ms
+unfolding placed_origin
+listed_origins source ms =
+    map_map (placed_origin source) (λ (m : Mapping Value). record { pattern = pattern_view m.pattern; number = m.sequence_number }) ms
+
+pub origin_is : (index : LineIndex) (source : Option (List ℕ)) (ms : List (Mapping Value)) (place : ℕ) (m : Mapping Value) →
+    indexed_lines index.lines.items ≡ lines_in ms → option_map string_bytes index.source ≡ source → place < length ms → m ≡ get_or ms place m →
+    origin_at index place ≡ origin_of source m
+origin_is index source ms place m lines e lt is =
+    ap (λ s. get_or (map (indexed_origin s) index.lines.items) place no_origin) e
+    ∙ ap (λ os. get_or os place no_origin) (indexed_origins source index.lines.items)
+    ∙ ap (λ ns. get_or (map (placed_origin source) ns) place no_origin) lines
+    ∙ ap (λ os. get_or os place no_origin) (listed_origins source ms)
+    ∙ get_or-map (origin_of source) ms place m no_origin lt
+    ∙ ap (origin_of source) (sym is)
 
 -- what is known of the line at a place
 pub slots_at : (n : ℕ) (ms : List (Mapping Value)) (place : ℕ) (m : Mapping Value) (items : List TrackedAssignment) →

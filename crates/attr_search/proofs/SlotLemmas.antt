@@ -5,31 +5,36 @@ use Rattle.std.proofs.Common.{take, map, Option, Some, None, is_some, option_map
 use Rattle.std.proofs.Common.{length-take}
 use Rattle.std.specs.Bool.{⊤}
 use Rattle.std.specs.List.{list_all, list_any}
+use Rattle.std.proofs.Common.{slice_get}
+use Rattle.std.proofs.Math.Seq.{get_or-append_seam}
 use Rattle.std.specs.Result.{OnErr, OnOk}
 use mir.Val.{bool_byte}
 use Rattle.std.proofs.Common.{drop, get_or, subst, replicate, length-append}
 use Rattle.std.proofs.lemmas.Bool.Decides.{nat_tests}
 use Rattle.std.proofs.lemmas.List.{drop_all, drop_more, get_or-set_other, get_or-set_same, get_or-take, length-map, length-replicate, length-set}
-use Rattle.std.proofs.lemmas.List.{take_more, map-set}
+use Rattle.std.proofs.lemmas.List.{get_or_default, take_more, map-set}
 use Rattle.std.proofs.lemmas.List.Elements.{All-set, All-weaker, All-head, All-tail, All-same, All-map, All-nil, All-push}
 use Rattle.std.proofs.lemmas.List.Folds.{list_any-append}
 use Rattle.attr_table.specs.Cut.{is_done}
 use Rattle.attr_table.specs.Setting.{Origin}
 use Rattle.attr_search.specs.inner.SlotContents.{AreListed, count_remaining, remaining_at, wanted_numbers}
 use Rattle.attr_search.specs.Matches.{cause_of}
-use Rattle.attr_search.specs.inner.Refs.{HasAssignment, IsOriginRef, RefersTo, IsMatchRef, AreMatchRefs, assignment_at, origin_by_ref, match_by_ref}
-use Rattle.attr_search.specs.inner.Refs.{matches_by_ref}
-use Rattle.attr_search.specs.Slots.{Matched, slots_of, table_answer}
-use Rattle.attr_search.specs.inner.RefMapParts.{RefMapParts, KeepsRefs, Grows, no_pattern, no_assignment}
+use Rattle.attr_search.specs.inner.AnswerRefs.{HasAssignment, KeepsAnswer, RefersTo, IsMatchRef, AreMatchRefs, assignment_at, line_by_ref, match_by_ref}
+use Rattle.attr_search.specs.inner.AnswerRefs.{matches_by_ref}
+use Rattle.attr_search.specs.Slots.{Matched, filled_in, slots_of, table_answer}
+use Rattle.attr_search.specs.inner.PartsContents.{PartsContent, KeepsOneMore, KeepsParts, no_assignment}
 use Rattle.std.specs.Prelude.{Vec}
 use Rattle.std.specs.Global.{Global}
 use Rattle.attr_lists.specs.declared.types.TrackedAssignment.{TrackedAssignment}
-use Rattle.attr_search.specs.declared.matching_line.PendingItem.{PendingItem}
-use Rattle.attr_search.specs.inner.Pending.{pending_item}
-use Rattle.attr_search.specs.inner.Slotted.{bodies_view}
-use Rattle.attr_search.specs.declared.refmap.OriginRef.{OriginRef}
-use Rattle.attr_search.specs.declared.refmap.MatchRef.{MatchRef}
-use Rattle.attr_search.proofs.RefLemmas.{grows_at, grows_length}
+use Rattle.attr_text.specs.declared.assignment.Assignment.{Assignment}
+use Rattle.attr_lists.specs.declared.types.MatchKind.{MatchKind}
+use Rattle.attr_search.specs.declared.matching_line.MatchingLine.{MatchingLine}
+use Rattle.attr_search.specs.declared.pending_item.PendingItem.{PendingItem}
+use Rattle.attr_search.specs.inner.Pending.{items_beside, line_origin, no_item, pending_item}
+use Rattle.attr_search.specs.inner.Slotted.{bodies_view, no_origin}
+use Rattle.attr_search.specs.declared.answer_parts.MatchRef.{MatchRef}
+use Rattle.std.proofs.lemmas.Option.{get_or_from_slice_get, slice_get_within}
+use Rattle.attr_search.proofs.PartLemmas.{grows_at, grows_found, grows_length}
 
 -- a fact that holds anyway holds on a value, and on an error
 pub on_ok : {T E F : Type 0} (r : Result T E) → F → OnOk r F
@@ -70,7 +75,7 @@ left_done (false ∷ flags) (o ∷ slots) found e same =
     ∙ sym (all_mapped (λ v. is_some (found v)) suc (wanted_numbers flags))
 
 -- a slot is seen as filled where it is filled
-pub seen_filled : (store : RefMapParts) (slots : List (Option MatchRef)) (a : ℕ) → is_some (slots_of (matches_by_ref store slots) a) ≡ is_some
+pub seen_filled : (store : PartsContent) (slots : List (Option MatchRef)) (a : ℕ) → is_some (slots_of (matches_by_ref store slots) a) ≡ is_some
     (get_or slots a None)
 seen_filled store [] a = refl
 seen_filled store (o ∷ slots) zero = is_some_map (table_answer 0) (option_map (match_by_ref store) o) ∙ is_some_map (match_by_ref store) o
@@ -78,7 +83,7 @@ seen_filled store (o ∷ slots) (suc a) =
     is_some_map (table_answer (suc a)) (get_or (matches_by_ref store slots) a None) ∙ sym
     (is_some_map (table_answer a) (get_or (matches_by_ref store slots) a None)) ∙ seen_filled store slots a
 
-pub is_done_left : (flags : List Bool) (store : RefMapParts) (slots : List (Option MatchRef)) (left : ℕ) → length flags ≡ length slots → left ≡
+pub is_done_left : (flags : List Bool) (store : PartsContent) (slots : List (Option MatchRef)) (left : ℕ) → length flags ≡ length slots → left ≡
     count_remaining flags slots →
     nat_eq left 0 ≡ is_done (wanted_numbers flags) (slots_of (matches_by_ref store slots))
 is_done_left flags store slots left same counted =
@@ -131,22 +136,13 @@ all_empty (o ∷ slots) (y ∷ old) e empty =
     let rest = all_empty slots old (omega arith) (λ k lt. empty (suc k) (omega arith)) in
     cc
 
-source_stays : (sources more : List (List ℕ)) (place : Option ℕ) → Grows sources more → MatchOption place ⊤ (λ s. s < length sources) →
-    MatchOption place ⊤ (λ s. s < length more) × (option_map (λ s. get_or more s []) place ≡ option_map (λ s. get_or sources s []) place)
-source_stays sources more None grows within = (tt, refl)
-source_stays sources more (Some s) grows within = (omega (arith, grows_length sources more grows), ap Some (grows_at sources more s [] grows within))
-
--- a stored line stays what it is
-pub line_stays : (old new : RefMapParts) (l : OriginRef) → KeepsRefs old new → IsOriginRef old l → RefersTo new l (origin_by_ref old l)
+-- a kept line stays what it is
+pub line_stays : (old new : PartsContent) (l : ℕ) → KeepsParts old new → l < length old.lines →
+    (l < length new.lines) × (line_by_ref new l ≡ line_by_ref old l)
 line_stays old new l extends within =
-    let pattern = grows_at old.patterns new.patterns l.pattern no_pattern extends.patterns within.pattern in
-    let source = source_stays old.sources new.sources l.source extends.sources within.source in
-    record {
-      within = record { pattern = omega (arith, grows_length old.patterns new.patterns extends.patterns, within.pattern); source = source.0 };
-      same = cc (pattern, source.1);
-    }
+    (omega (arith, grows_length old.lines new.lines extends.lines, within), grows_at old.lines new.lines l no_origin extends.lines within)
 
-assignment_stays : (old new : RefMapParts) (cause : Option ℕ) (place : ℕ) → KeepsRefs old new → HasAssignment old cause place →
+assignment_stays : (old new : PartsContent) (cause : Option ℕ) (place : ℕ) → KeepsParts old new → HasAssignment old cause place →
     HasAssignment new cause place × (assignment_at new cause place ≡ assignment_at old cause place)
 assignment_stays old new None place extends within = (
   omega (arith, grows_length old.assignments new.assignments extends.assignments, within),
@@ -155,16 +151,16 @@ assignment_stays old new None place extends within = (
 assignment_stays old new (Some cause) place extends within = (rw extends.bodies within, rw extends.bodies refl)
 
 -- and a stored match
-pub match_stays : (old new : RefMapParts) (m : MatchRef) → KeepsRefs old new → IsMatchRef old m → IsMatchRef new m ×
+pub match_stays : (old new : PartsContent) (m : MatchRef) → KeepsParts old new → IsMatchRef old m → IsMatchRef new m ×
     (match_by_ref new m ≡ match_by_ref old m)
 match_stays old new m extends within =
     let line = line_stays old new m.line extends within.line in
     let assignment = assignment_stays old new (cause_of m.kind) m.assignment extends within.assignment in (
-      record { line = line.within; assignment = assignment.0 },
-      cc (line.same, assignment.1),
+      record { line = line.0; assignment = assignment.0 },
+      cc (line.1, assignment.1),
     )
 
-slot_stays : (old new : RefMapParts) (o : Option MatchRef) → KeepsRefs old new → MatchOption o ⊤ (IsMatchRef old) →
+slot_stays : (old new : PartsContent) (o : Option MatchRef) → KeepsParts old new → MatchOption o ⊤ (IsMatchRef old) →
     MatchOption o ⊤ (IsMatchRef new) × (option_map (match_by_ref new) o ≡ option_map (match_by_ref old) o)
 slot_stays old new None extends within = (tt, refl)
 slot_stays old new (Some m) extends within =
@@ -172,12 +168,12 @@ slot_stays old new (Some m) extends within =
     (stays.0, ap Some stays.1)
 
 -- and what all slots hold
-pub slots_stay : (old new : RefMapParts) (slots : List (Option MatchRef)) → KeepsRefs old new → AreMatchRefs old slots → AreMatchRefs new slots
+pub slots_stay : (old new : PartsContent) (slots : List (Option MatchRef)) → KeepsParts old new → AreMatchRefs old slots → AreMatchRefs new slots
 slots_stay old new slots extends within =
     All-weaker (λ o. MatchOption o ⊤ (IsMatchRef old)) (λ o. MatchOption o ⊤ (IsMatchRef new)) (λ o w. (slot_stays old new o extends w).0) slots
     within
 
-pub matches_stay : (old new : RefMapParts) (slots : List (Option MatchRef)) → KeepsRefs old new → AreMatchRefs old slots → matches_by_ref new slots ≡
+pub matches_stay : (old new : PartsContent) (slots : List (Option MatchRef)) → KeepsParts old new → AreMatchRefs old slots → matches_by_ref new slots ≡
     matches_by_ref old slots
 matches_stay old new [] extends within = refl
 matches_stay old new (o ∷ slots) extends within =
@@ -187,12 +183,12 @@ matches_stay old new (o ∷ slots) extends within =
     cc (first, rest)
 
 -- one slot is filled in
-pub slots_filled : (old new : RefMapParts) (slots : List (Option MatchRef)) (i : ℕ) (m : MatchRef) → KeepsRefs old new → AreMatchRefs old slots →
+pub slots_filled : (old new : PartsContent) (slots : List (Option MatchRef)) (i : ℕ) (m : MatchRef) → KeepsParts old new → AreMatchRefs old slots →
     IsMatchRef new m → AreMatchRefs new (set slots i (Some m))
 slots_filled old new slots i m extends within here =
     All-set (λ o. MatchOption o ⊤ (IsMatchRef new)) slots i (Some m) here (slots_stay old new slots extends within)
 
-pub matches_filled : (old new : RefMapParts) (slots : List (Option MatchRef)) (i : ℕ) (m : MatchRef) (x : Matched) → KeepsRefs old new → AreMatchRefs
+pub matches_filled : (old new : PartsContent) (slots : List (Option MatchRef)) (i : ℕ) (m : MatchRef) (x : Matched) → KeepsParts old new → AreMatchRefs
     old slots → match_by_ref new m ≡ x →
     matches_by_ref new (set slots i (Some m)) ≡ set (matches_by_ref old slots) i (Some x)
 matches_filled old new slots i m x extends within here =
@@ -205,18 +201,18 @@ map_map g f [] = refl
 map_map g f (x ∷ xs) = ap (λ l. g (f x) ∷ l) (map_map g f xs)
 
 -- empty slots hold no match
-pub empty_within : {X : Type 0} (store : RefMapParts) (slots : List (Option MatchRef)) (xs : List X) → slots ≡ map (λ x. None) xs → AreMatchRefs store
+pub empty_within : {X : Type 0} (store : PartsContent) (slots : List (Option MatchRef)) (xs : List X) → slots ≡ map (λ x. None) xs → AreMatchRefs store
     slots
 empty_within store slots xs e =
     let P : Option MatchRef → Type 0 = λ o. MatchOption o ⊤ (IsMatchRef store) in
     All-same P slots (map (λ x. None) xs) e (All-map P (λ x. None) xs (λ k d lt. tt))
 
-pub empty_seen : {X : Type 0} (store : RefMapParts) (slots : List (Option MatchRef)) (xs : List X) → slots ≡ map (λ x. None) xs → matches_by_ref store
+pub empty_seen : {X : Type 0} (store : PartsContent) (slots : List (Option MatchRef)) (xs : List X) → slots ≡ map (λ x. None) xs → matches_by_ref store
     slots ≡ map (λ x. None) xs
 empty_seen store slots xs e = ap (matches_by_ref store) e ∙ map_map (λ o. option_map (match_by_ref store) o) (λ x. None) xs
 
 -- emptied slots are seen as such, whatever is stored then
-pub emptied_seen : (store store' : RefMapParts) (slots slots' : List (Option MatchRef)) (held : List (Option Matched)) →
+pub emptied_seen : (store store' : PartsContent) (slots slots' : List (Option MatchRef)) (held : List (Option Matched)) →
     matches_by_ref store slots ≡ held →
     slots' ≡ map (λ o. None) slots →
     matches_by_ref store' slots' ≡ map (λ o. None) held
@@ -244,26 +240,30 @@ pub item_is : (line : List TrackedAssignment) (top : PendingItem) (item : Tracke
     item ≡ pending_item line seen top
 item_is line top item given bodies seen is same e = is ∙ ap (λ bs. pending_item line bs top) (same ∙ e)
 
-pub line_kept : (store : RefMapParts) (origin : Origin) (l : Option OriginRef) → MatchOption l ⊤ (λ s. RefersTo store s origin) → MatchOption l ⊤
-    (IsOriginRef store)
+pub line_kept : (store : PartsContent) (origin : Origin) (l : Option ℕ) → MatchOption l ⊤ (λ s. RefersTo store s origin) → MatchOption l ⊤
+    (λ s. s < length store.lines)
 line_kept store origin None h = tt
-line_kept store origin (Some l) h = h.within
+line_kept store origin (Some l) h = slice_get_within store.lines l origin h
 
--- and still refers to its origin once more is stored
-pub line_still : (old new : RefMapParts) (origin : Origin) (l : Option OriginRef) → KeepsRefs old new →
+-- it is seen there
+pub line_seen : (store : PartsContent) (origin : Origin) (l : Option ℕ) → MatchOption l ⊤ (λ s. RefersTo store s origin) →
+    MatchOption (option_map (line_by_ref store) l) ⊤ (λ o. o ≡ origin)
+line_seen store origin None h = tt
+line_seen store origin (Some l) h = get_or_from_slice_get store.lines l origin no_origin h
+
+-- and still refers to its origin once more is kept
+pub line_still : (old new : PartsContent) (origin : Origin) (l : Option ℕ) → KeepsParts old new →
     MatchOption l ⊤ (λ s. RefersTo old s origin) → MatchOption l ⊤ (λ s. RefersTo new s origin)
 line_still old new origin None extends h = tt
-line_still old new origin (Some l) extends h =
-    let stays = line_stays old new l extends h.within in
-    record { within = stays.within; same = stays.same ∙ h.same }
+line_still old new origin (Some l) extends h = grows_found old.lines new.lines l origin extends.lines h
 
 -- answers that are seen are as many as the slots that hold them
-remaining_at-seen : (store : RefMapParts) (w : Bool) (slot : Option MatchRef) → remaining_at w slot ≡ remaining_at w
+remaining_at-seen : (store : PartsContent) (w : Bool) (slot : Option MatchRef) → remaining_at w slot ≡ remaining_at w
     (option_map (match_by_ref store) slot)
 remaining_at-seen store w None = refl
 remaining_at-seen store w (Some m) = refl
 
-pub left_seen : (flags : List Bool) (store : RefMapParts) (slots : List (Option MatchRef)) → count_remaining flags slots ≡ count_remaining flags
+pub left_seen : (flags : List Bool) (store : PartsContent) (slots : List (Option MatchRef)) → count_remaining flags slots ≡ count_remaining flags
     (matches_by_ref store slots)
 left_seen [] store slots = refl
 left_seen (w ∷ flags) store [] = refl
@@ -356,8 +356,59 @@ pub listed_same : {X : Type 0} (slots slots' : List (Option X)) (numbers numbers
     AreListed slots' numbers' → AreListed slots numbers
 listed_same slots slots' numbers numbers' e f listed = rw (e, f) listed
 
-pub refs_same : (store store' : RefMapParts) (slots slots' : List (Option MatchRef)) → store ≡ store' → slots ≡ slots' → AreMatchRefs store' slots' →
+pub refs_same : (store store' : PartsContent) (slots slots' : List (Option MatchRef)) → store ≡ store' → slots ≡ slots' → AreMatchRefs store' slots' →
     AreMatchRefs store slots
 refs_same store store' slots slots' e f within =
     let own : AreMatchRefs store slots' = subst (λ s. AreMatchRefs s slots') (sym e) within in
     All-same (λ o. MatchOption o ⊤ (IsMatchRef store)) slots slots' f own
+
+-- how many slots are filled
+pub filled_set : {X : Type 0} (slots : List (Option X)) (i : ℕ) (x : X) → i < length slots → is_some (get_or slots i None) ≡ false →
+    length (filled_in (set slots i (Some x))) ≡ length (filled_in slots) + 1
+filled_set [] i x lt free = absurd (omega arith)
+filled_set (None ∷ slots) zero x lt free = omega arith
+filled_set (Some y ∷ slots) zero x lt free = absurd cc
+filled_set (None ∷ slots) (suc i) x lt free = filled_set slots i x (omega arith) free
+filled_set (Some y ∷ slots) (suc i) x lt free = let rest = filled_set slots i x (omega arith) free in omega arith
+
+pub filled_seen : (store : PartsContent) (slots : List (Option MatchRef)) → length (filled_in (matches_by_ref store slots)) ≡ length (filled_in slots)
+filled_seen store [] = refl
+filled_seen store (None ∷ slots) = filled_seen store slots
+filled_seen store (Some m ∷ slots) = ap suc (filled_seen store slots)
+
+-- an answer is kept whose line and assignment are
+pub answer_kept : (line : MatchingLine) (top : PendingItem) (kind : MatchKind) (before after : PartsContent) (l i : ℕ) →
+    cause_of kind ≡ top.cause → KeepsParts before after → KeepsOneMore before after → after.line ≡ Some l →
+    slice_get after.lines l ≡ Some (line_origin line) → HasAssignment after top.cause i →
+    assignment_at after top.cause i ≡ (pending_item line.items.now before.bodies top).inner →
+    KeepsAnswer line top kind before after (record { line = l; assignment = i; kind = kind })
+answer_kept line top kind before after l i cause extends more handed found has same =
+    let origin : line_by_ref after l ≡ line_origin line = get_or_from_slice_get after.lines l (line_origin line) no_origin found in
+    let own : assignment_at after (cause_of kind) i ≡ (pending_item line.items.now before.bodies top).inner = rw cause same in
+    record {
+      extends = extends;
+      more = more;
+      at_hand = rw handed found;
+      within = record { line = slice_get_within after.lines l (line_origin line) found; assignment = rw cause has };
+      found = cc (origin, own);
+    }
+
+-- an item of a body is there
+pub body_has : (items : List TrackedAssignment) (after : PartsContent) (cause : Option ℕ) (place : ℕ) → is_some cause ≡ true →
+    place < length (items_beside items after.bodies cause) → HasAssignment after cause place ×
+    (assignment_at after cause place ≡ (get_or (items_beside items after.bodies cause) place no_item).inner)
+body_has items after None place some placed = absurd cc
+body_has items after (Some a) place some placed = (placed, refl)
+
+-- and an item of the line that was kept
+pub own_has : (items : List TrackedAssignment) (bodies : List (List TrackedAssignment)) (after : PartsContent) (cause : Option ℕ) (place : ℕ)
+    (item : TrackedAssignment) (own : Assignment) (before : List Assignment) → is_some cause ≡ false →
+    place < length (items_beside items bodies cause) → item ≡ get_or items place item → own ≡ item.inner →
+    after.assignments ≡ before ++ own ∷ [] → HasAssignment after cause (length before) ×
+    (assignment_at after cause (length before) ≡ (get_or (items_beside items bodies cause) place no_item).inner)
+own_has items bodies after (Some a) place item own before none placed is same pushed = absurd cc
+own_has items bodies after None place item own before none placed is same pushed = (
+  omega (arith, ap length pushed, length-append before (own ∷ [])),
+  ap (λ l. get_or l (length before) no_assignment) pushed ∙ get_or-append_seam before own [] no_assignment ∙ same
+      ∙ ap (λ (t : TrackedAssignment). t.inner) (is ∙ get_or_default items place item no_item placed),
+)

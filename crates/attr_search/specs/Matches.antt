@@ -1,5 +1,6 @@
 -- What clauses see of a match: its content, and not where it is in memory (own).
-use Rattle.std.specs.Prelude.{ℕ, Bool, true, false, Option, option_map}
+use Rattle.std.specs.Prelude.{ℕ, Bool, true, false, [], Option, None, option_map}
+use Rattle.attr_glob.specs.Patterns.{Reading}
 use Rattle.attr_glob.specs.Views.{pattern_view}
 use Rattle.attr_text.specs.TextViews.{assignment_view}
 use Rattle.attr_lists.specs.ListViews.{source_id_of}
@@ -34,3 +35,7 @@ match_view m =
       is_macro = is_macro_kind m.kind;
       cause = cause_of m.kind;
     }
+
+-- the empty pattern, of no mode and without a wildcard
+abbrev pub no_pattern : Reading
+no_pattern = record { text = []; mode = 0; wildcard = None }

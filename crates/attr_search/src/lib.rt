@@ -2,11 +2,10 @@
 //! attribute, and where the answers are stored.
 #![tactic(auto)]
 
+pub mod answer_parts;
 pub mod bodies;
 pub mod matching_line;
-mod noted_places;
-mod recent_places;
-pub mod refmap;
+pub mod pending_item;
 pub mod search_state;
 pub mod slot_filler;
 pub mod slots;

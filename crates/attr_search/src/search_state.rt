@@ -1,6 +1,6 @@
 //! The state of a search over lists: slots that are filled by the lines that match a path.
 
-ghost use Rattle.std.specs.Prelude.{◌≡◌, ◌+◌, ◌<◌, ◌≤◌, [], length, map, All, OnErr, OnOk, IfOk, IfSome, IsNone, MatchOption, is_none, false, true, Ok, None, option_map, slice_index_or};
+ghost use Rattle.std.specs.Prelude.{◌≡◌, ◌+◌, ◌*◌, ◌<◌, ◌≤◌, [], length, map, All, OnErr, OnOk, IfOk, IfSome, IsNone, MatchOption, is_none, false, true, Ok, None, option_map, slice_index_or};
 ghost use Rattle.bstr.specs.BStr.{bstr_bytes};
 ghost use Rattle.attr_glob.specs.Views.{patterns_of};
 ghost use Rattle.attr_lists.specs.ListViews.{items_in, macro_id};
@@ -13,7 +13,7 @@ ghost use Rattle.attr_index.specs.inner.PlacedLines.{entry_at};
 ghost use Rattle.attr_index.specs.inner.Trying.{AreTried};
 ghost use Rattle.attr_search.specs.Matches.{match_view};
 ghost use Rattle.attr_search.specs.Settings.{candidates_in, is_found};
-ghost use Rattle.attr_search.specs.Slots.{AreFreeFrom, IsNextFilled};
+ghost use Rattle.attr_search.specs.Slots.{AreFreeFrom, IsNextFilled, filled_in};
 ghost use Rattle.attr_search.specs.inner.BodyChanges.{changed_bodies, sized_bodies};
 ghost use Rattle.attr_search.specs.inner.Slotted.{BodiesHaveSlots, LinesHaveSlots, ListsHaveSlots};
 ghost use Rattle.attr_search.specs.inner.Slotted.{bodies_view};
@@ -231,6 +231,13 @@ impl SearchState {
         ensures len { length result.now ≡ length self.now.answers }
     {
         self.filler.slots.bodies()
+    }
+
+    /// How many lines and assignments are kept for the answers: at most one of each for an answer.
+    pub fn kept(&self) -> usize
+        ensures { result ≤ 2 * length (filled_in self.now.answers) }
+    {
+        self.filler.slots.kept()
     }
 
     /// How many items the last search took off its stack.
@@ -535,9 +542,8 @@ impl SearchState {
             return Ok(());
         }
         let line = MatchingLine {
-            mapping,
-            list: list.list_id,
-            source: &list.list.source,
+            index: &list.index,
+            line: place,
             items,
         };
         self.filler.fill_attributes(alloc, line)

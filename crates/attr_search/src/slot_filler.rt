@@ -8,7 +8,8 @@ ghost use Rattle.attr_search.specs.Slots.{slots_of, table_items, table_state};
 ghost use Rattle.attr_search.specs.inner.Filling.{AtLine, CanFill, Fills, FillsNamed, KeepsFiller, Processes, most_left, stack_tasks};
 ghost use Rattle.attr_search.specs.inner.Pending.{IsPlaced, PushesFree, PushesPlaced, line_origin};
 
-use crate::matching_line::{MatchingLine, PendingItem, body_of};
+use crate::matching_line::MatchingLine;
+use crate::pending_item::{PendingItem, body_of};
 use crate::slots::AnswerSlots;
 use attr_lists::types::TrackedAssignment;
 use attr_text::State;

@@ -1,23 +1,22 @@
 //! What a search fills: a slot for each attribute. A slot has the answer for its attribute, or is free. The wanted
 //! slots are those that a search looks for.
 
-ghost use Rattle.std.specs.Prelude.{◌≡◌, ◌<◌, ◌-◌, ◌++◌, ◌&&◌, ⊤, All, false, None, Some, [], IfOk, OnErr, OnOk, MatchOption, is_none, is_some, length, map, not, option_map, replicate, set, slice_index_or};
+ghost use Rattle.std.specs.Prelude.{◌≡◌, ◌<◌, ◌≤◌, ◌*◌, ◌-◌, ◌++◌, ◌&&◌, ⊤, All, false, None, Some, [], IfOk, OnErr, OnOk, MatchOption, is_none, is_some, length, map, not, option_map, replicate, set, slice_index_or};
 ghost use Rattle.std.specs.List.{list_any};
 ghost use Rattle.attr_table.specs.Cut.{is_done};
 ghost use Rattle.attr_search.specs.Matches.{cause_of, match_view};
 ghost use Rattle.attr_search.specs.Settings.{HaveSlots};
 ghost use Rattle.std.specs.List.Sorted.{IsNonDecreasing};
-ghost use Rattle.attr_search.specs.Slots.{AreFreeFrom, IsNextFilled, slots_of};
+ghost use Rattle.attr_search.specs.Slots.{AreFreeFrom, IsNextFilled, filled_in, slots_of};
 ghost use Rattle.attr_search.specs.inner.BodyChanges.{changed_bodies, sized_bodies};
 ghost use Rattle.attr_search.specs.inner.Pending.{IsPlaced, item_match, line_origin, pending_item};
-ghost use Rattle.attr_search.specs.inner.RefMapParts.{IsSmall, KeepsRefs};
-ghost use Rattle.attr_search.specs.inner.Refs.{AreMatchRefs, RefersTo, IsMatchRef, match_by_ref, matches_by_ref};
 ghost use Rattle.attr_search.specs.inner.Slotted.{bodies_view};
 ghost use Rattle.attr_search.specs.inner.SlotContents.{AreListed, SlotContents, count_remaining, empty_slots, wanted_numbers};
 
+use crate::answer_parts::{AnswerParts, MatchRef};
 use crate::bodies::BodyChange;
-use crate::matching_line::{MatchingLine, PendingItem};
-use crate::refmap::{MatchRef, OriginRef, RefMap};
+use crate::matching_line::MatchingLine;
+use crate::pending_item::PendingItem;
 use crate::wanted::WantedFlags;
 use attr_lists::types::{Match, MatchKind, TrackedAssignment};
 use std::alloc::{AllocError, Global};
@@ -34,15 +33,8 @@ pub struct AnswerSlots {
     wanted: WantedFlags,
     // How many wanted slots are free.
     remaining: usize,
-    matches: MatchStore,
-}
-
-// What the matches in slots refer to.
-#[derive(Drop)]
-struct MatchStore {
-    refs: RefMap,
-    // The places at which the current line is stored. None until it has filled a slot.
-    line: Option<OriginRef>,
+    // What the answers in slots refer to.
+    parts: AnswerParts,
 }
 
 impl Model for AnswerSlots {
@@ -68,12 +60,11 @@ impl AnswerSlots {
             is_ordered: true,
             wanted: WantedFlags::new(alloc),
             remaining: 0,
-            matches: MatchStore::of(RefMap::new(alloc)),
+            parts: AnswerParts::new(alloc),
         }
     }
 
-    /// Makes an empty slot for each flag in place of its own, keeps or makes a body for each, and changes some of these. What
-    /// was stored is forgotten. It costs what was filled and what is changed, and takes memory for more slots only.
+    /// Makes an empty slot for each flag in place of its own, keeps or makes a body for each, and changes some of these. It costs what was filled and what is changed, and takes memory for more slots only.
     ///
     /// # Errors
     ///
@@ -91,7 +82,7 @@ impl AnswerSlots {
     {
         let (before, count) = (self.slots.len(), wanted.len());
         grow(&mut self.slots, count)?;
-        if self.matches.set_up(alloc, count, changes).is_err() {
+        if self.parts.set_up(alloc, count, changes).is_err() {
             self.slots.truncate(before);
             return Err(AllocError);
         }
@@ -108,7 +99,7 @@ impl AnswerSlots {
     pub fn bodies(&self) -> &[Vec<TrackedAssignment>]
         ensures { bodies_view result.now ≡ self.now.bodies }
     {
-        self.matches.refs.bodies()
+        self.parts.bodies()
     }
 
     /// How many wanted slots are free.
@@ -125,11 +116,11 @@ impl AnswerSlots {
     /// If memory runs out.
     pub fn copy(&self, alloc: Global, wanted: WantedFlags) -> Result<AnswerSlots, AllocError>
         requires { length wanted ≡ length self.now.answers }
-        ensures { IfOk result (λ slots. slots ≡ record self.now { wanted = wanted; line = None }) }
+        ensures { IfOk result (λ slots. slots ≡ record self.now { wanted = wanted }) }
     {
         let slots = Vec::from_slice(alloc, &self.slots)?;
         let filled = Vec::from_slice(alloc, &self.filled)?;
-        let refs = self.matches.refs.clone(alloc)?;
+        let parts = self.parts.clone(alloc)?;
         let remaining = count_remaining(&wanted, &slots);
         Ok(AnswerSlots {
             slots,
@@ -137,7 +128,7 @@ impl AnswerSlots {
             is_ordered: self.is_ordered,
             wanted,
             remaining,
-            matches: MatchStore::of(refs),
+            parts,
         })
     }
 
@@ -147,7 +138,7 @@ impl AnswerSlots {
     ///
     /// If memory runs out.
     pub fn clone(&self, alloc: Global) -> Result<AnswerSlots, AllocError>
-        ensures { IfOk result (λ slots. slots ≡ record self.now { line = None }) }
+        ensures { IfOk result (λ slots. slots ≡ self.now) }
     {
         let wanted = self.wanted.clone()?;
         self.copy(alloc, wanted)
@@ -193,7 +184,7 @@ impl AnswerSlots {
     pub fn begin_line(&mut self)
         ensures { self.new ≡ record self.old { line = None } }
     {
-        self.matches.line = None;
+        self.parts.begin_line();
     }
 
     /// Fills a free slot with an item of the line, or of a macro's body to which the line expands.
@@ -224,13 +215,21 @@ impl AnswerSlots {
         ensures bodies { self.new.bodies ≡ self.old.bodies }
         ensures line { MatchOption self.new.line ⊤ (λ o. o ≡ line_origin line.entry) }
     {
-        let attribute = top.item(line.items, self.matches.refs.bodies()).id.0;
+        let attribute = top.item(line.items, self.parts.bodies()).id.0;
+        self.filled.reserve(1)?;
+        let found = self.parts.keep(alloc, line, top, kind)?;
         self.is_ordered = false;
-        self.filled.push(attribute)?;
-        let found = self.matches.store(alloc, line, top, kind)?;
+        self.filled.push_reserved(attribute);
         self.remaining -= usize::from(self.wanted.has(attribute));
         self.slots[attribute] = Some(found);
         Ok(())
+    }
+
+    /// How many lines and assignments are kept for the answers: at most one of each for an answer.
+    pub fn kept(&self) -> usize
+        ensures { result ≤ 2 * length (filled_in self.now.answers) }
+    {
+        self.parts.kept()
     }
 
     /// Puts the numbers of the filled slots in their order if all are wanted, so that the next one is found by halving.
@@ -255,8 +254,7 @@ impl AnswerSlots {
         }
     }
 
-    /// Empties the slots, which costs what was filled. Patterns and sources stay stored for later matches,
-    /// unless they are many.
+    /// Empties the slots, which costs what was filled. Nothing of the answers is kept.
     pub fn reset(&mut self)
         ensures { self.new ≡ record self.old
             { answers = map (λ a. None) self.old.answers; line = None } }
@@ -265,7 +263,7 @@ impl AnswerSlots {
         self.filled.clear();
         self.is_ordered = true;
         self.remaining = self.wanted.count();
-        self.matches.release();
+        self.parts.keep_none();
     }
 
     /// The answer for the attribute with this number. None if its slot is free, or if there is no such slot.
@@ -274,91 +272,9 @@ impl AnswerSlots {
         ensures { option_map match_view result ≡ slice_index_or self.now.answers attribute None }
     {
         match self.slots.get(attribute) {
-            Some(Some(found)) => Some(self.matches.refs.get(*found)),
+            Some(Some(found)) => Some(self.parts.get(*found)),
             _ => None,
         }
-    }
-}
-
-impl MatchStore {
-    fn of(refs: RefMap) -> MatchStore
-        ensures refs { result.refs ≡ refs }
-        ensures line { result.line ≡ None }
-    {
-        MatchStore { refs, line: None }
-    }
-
-    // Forgets the line, and what is stored of matches alone. No slot has a match any more.
-    fn release(&mut self)
-        ensures line { self.new.line ≡ None }
-        ensures bodies { self.new.refs.bodies ≡ self.old.refs.bodies }
-        ensures assignments { self.new.refs.assignments ≡ [] }
-        ensures small { IsSmall self.new.refs }
-    {
-        self.line = None;
-        self.refs.release();
-    }
-
-    // Forgets what is stored, and keeps or makes a body for each number below a count, of which some are changed.
-    fn set_up(
-        &mut self,
-        alloc: Global,
-        count: usize,
-        changes: Vec<BodyChange>,
-    ) -> Result<(), AllocError>
-        requires { All (λ change. change.number < count) changes.items }
-        ensures bodies { OnOk result (self.new.refs.bodies
-            ≡ changed_bodies changes.items (sized_bodies count self.old.refs.bodies)) }
-        ensures line { OnOk result (self.new.line ≡ None) }
-        ensures refused { OnErr result (self.new ≡ self.old) }
-    {
-        self.refs.set_up(alloc, count, changes)?;
-        self.line = None;
-        Ok(())
-    }
-
-    // Stores an item that is not of a body, and the current line if it is not stored yet.
-    fn store(
-        &mut self,
-        alloc: Global,
-        line: MatchingLine<'_>,
-        top: PendingItem,
-        kind: MatchKind,
-    ) -> Result<MatchRef, AllocError>
-        requires placed { IsPlaced line.items.now self.old.refs.bodies top }
-        requires cause { cause_of kind ≡ top.cause }
-        requires line { MatchOption self.old.line ⊤
-            (λ l. RefersTo self.old.refs l (line_origin line)) }
-        ensures extends { KeepsRefs self.old.refs self.new.refs }
-        ensures line { MatchOption self.new.line ⊤
-            (λ l. RefersTo self.new.refs l (line_origin line.entry)) }
-        ensures within { IfOk result (IsMatchRef self.new.refs) }
-        ensures found { IfOk result (λ m. match_by_ref self.new.refs m ≡ item_match line.entry
-            (pending_item line.entry.items.now self.old.refs.bodies top) kind) }
-    {
-        let origin = self.store_line(alloc, line)?;
-        let assignment = self.refs.assignment(alloc, line.items, top)?;
-        Ok(MatchRef {
-            line: origin,
-            assignment,
-            kind,
-        })
-    }
-
-    fn store_line(&mut self, alloc: Global, line: MatchingLine<'_>) -> Result<OriginRef, AllocError>
-        requires { MatchOption self.old.line ⊤
-            (λ l. RefersTo self.old.refs l (line_origin line)) }
-        ensures extends { KeepsRefs self.old.refs self.new.refs }
-        ensures line { MatchOption self.new.line ⊤
-            (λ l. RefersTo self.new.refs l (line_origin line.entry)) }
-        ensures found { IfOk result (λ l. RefersTo self.new.refs l (line_origin line.entry)) }
-    {
-        if let Some(origin) = self.line {
-            return Ok(origin);
-        }
-        let origin = self.refs.line(alloc, line)?;
-        self.line = Some(origin);
-        Ok(origin)
     }
 }
 

@@ -1,8 +1,8 @@
 //! Runs over devices in memory that fail, and statuses.
 mod calls;
 mod failing;
-mod global_names;
 mod memory;
+mod order;
 mod pieces;
 mod plays;
 mod runs;

@@ -434,6 +434,8 @@ pub fn count(
         AreTokens true text.now ts → length ts ≤ r.1) }
     ensures missed { IfOk result (λ r. IsFalse r.0 → (ts : List Meaning) →
         AreTokens true text.now ts → ReachedAtMost case ts value.now r.1) }
+    ensures malformed { IfOk result (λ r. ((ts : List Meaning) → AreTokens true text.now ts → ⊥)
+        → r ≡ (false, 0)) }
 {
     let Some(tokens) = Tokens::read(alloc, text)? else {
         return Ok((false, 0));

@@ -11,15 +11,16 @@ use Rattle.check_attr.specs.declared.fault.Fault.{Fault}
 use Rattle.check_attr.specs.declared.fault.Fault.TheVariants.{Record, Read, Write, OutOfMemory}
 
 -- what a call that writes a text returns, as one fact
-pub Prints-written : {T E : Type 0} (contents : E → Option (List ℕ)) (failed stalled : E → ℕ) (r : Result T Fault) (old new : E) (text : List ℕ)
-    → OnOk r (Appends (contents old) (contents new) text) → OnErr r (AppendsFront (contents old) (contents new) text)
+pub Prints-written : {T E : Type 0} (contents : E → Option (List ℕ)) (failed stalled : E → ℕ) (Flushed : E → Type 0) (r : Result T Fault) (old new : E)
+    (text : List ℕ) → OnOk r (Appends (contents old) (contents new) text) → OnOk r (Flushed new)
+    → OnErr r (AppendsFront (contents old) (contents new) text)
     → CountsWrites r (failed old) (failed new) (stalled old) (stalled new) → IfErr r (λ fault. fault ≡ Write)
-    → Prints contents failed stalled old new text
-Prints-written contents failed stalled (Ok x) old new text whole front counts only = inl whole
-Prints-written contents failed stalled (Err (Record k)) old new text whole front counts only = absurd cc
-Prints-written contents failed stalled (Err Read) old new text whole front counts only = absurd cc
-Prints-written contents failed stalled (Err Write) old new text whole front counts only = inr (counts, front)
-Prints-written contents failed stalled (Err OutOfMemory) old new text whole front counts only = absurd cc
+    → Prints contents failed stalled Flushed old new text
+Prints-written contents failed stalled Flushed (Ok x) old new text whole flushed front counts only = inl (whole, flushed)
+Prints-written contents failed stalled Flushed (Err (Record k)) old new text whole flushed front counts only = absurd cc
+Prints-written contents failed stalled Flushed (Err Read) old new text whole flushed front counts only = absurd cc
+Prints-written contents failed stalled Flushed (Err Write) old new text whole flushed front counts only = inr (counts, front)
+Prints-written contents failed stalled Flushed (Err OutOfMemory) old new text whole flushed front counts only = absurd cc
 
 -- a beginning of a text is one of a longer text
 front_fits : (n : ℕ) (xs ys : List ℕ) → (m : ℕ) × (take n xs ≡ take m (xs ++ ys))

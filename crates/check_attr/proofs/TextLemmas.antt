@@ -1,19 +1,24 @@
 -- A script writes one text.
 use Rattle.std.proofs.Common.{◌≡◌, ◌≢◌, ℕ, zero, suc, ◌+◌, ◌≤◌, List, [], ◌∷◌, ◌++◌, length, Option, Some, None, refl, sym, ap, ◌∙◌, subst, arith}
-use Rattle.std.specs.Prelude.{option_and_then}
+use Rattle.std.specs.List.{flat_map}
 use Rattle.gix_attributes.specs.Table.{Table}
-use Rattle.gix_attributes.specs.Cut.{answer_at, no_answers}
+use Rattle.gix_attributes.specs.Cut.{no_answers}
 use Rattle.attr_table.proofs.ForCallers.{OneTable-of}
 use Rattle.check_attr.specs.Script.{Question, Record, add, pop, names, ask, BeginsWithRecord}
 use Rattle.check_attr.specs.inner.ScriptParts.{IsFirstRecord, record_of}
-use Rattle.check_attr.specs.ScriptText.{IsRecordText, OneText, Writes, answers_text, asked_setting, ends, breaks, goes_on}
-use Rattle.gix_attributes.specs.EngineStates.{EngineState}
+use Rattle.check_attr.specs.ScriptText.{IsRecordText, OneText, Writes, entry_text, ends, breaks, goes_on}
+use Rattle.gix_attributes.specs.EngineStates.{EngineState, path_setting, returned_answers}
+use Rattle.gix_attributes.specs.Lookups.{table_answers}
+use Rattle.gix_attributes.specs.Setting.{Setting}
 use Rattle.check_attr.specs.ScriptStates.{next_state}
 use Rattle.check_attr.proofs.SpellingLemmas.{first_record, one_record, shorter}
 
+abbrev asked_setting : EngineState → Question → Setting
+asked_setting s q = path_setting s q.path q.case q.is_dir
+
 -- the answers to a question, by a table
 abbrev answers_by : EngineState → Question → Table → List ℕ
-answers_by s q table = answers_text s q (λ number. option_and_then (answer_at (asked_setting s q)) (table number))
+answers_by s q table = flat_map (entry_text q.form s.names q.path) (returned_answers s (table_answers (asked_setting s q) table))
 
 -- each record writes something
 pub some_record_text : (s : EngineState) (r : Record) → (text : List ℕ) × IsRecordText s r text
@@ -22,7 +27,7 @@ some_record_text s pop = (_, refl)
 some_record_text s (names selected) = (_, refl)
 some_record_text s (ask q) =
     let one = OneTable-of (asked_setting s q) no_answers in
-    (answers_by s q one.0, (one.0, one.1, refl))
+    (answers_by s q one.0, (one, refl))
 
 -- and nothing else
 one_record_text : (s : EngineState) (r : Record) (text other : List ℕ) → IsRecordText s r text → IsRecordText s r other → text ≡ other
@@ -31,8 +36,8 @@ one_record_text s pop text other is is_other = is ∙ sym is_other
 one_record_text s (names selected) text other is is_other = is ∙ sym is_other
 one_record_text s (ask q) text other is is_other =
     let one = OneTable-of (asked_setting s q) no_answers in
-    let tables : is.0 ≡ is_other.0 = one.2 is.0 is.1 ∙ sym (one.2 is_other.0 is_other.1) in
-    is.2 ∙ (ap (answers_by s q) tables ∙ sym is_other.2)
+    let tables : is.0.0 ≡ is_other.0.0 = one.2 is.0.0 is.0.1 ∙ sym (one.2 is_other.0.0 is_other.0.1) in
+    is.1 ∙ (ap (answers_by s q) tables ∙ sym is_other.1)
 
 abbrev HasText : EngineState → ℕ → List ℕ → Type 0
 HasText s number script = (malformed : Option ℕ) × (text : List ℕ) × Writes s number script malformed text

@@ -41,17 +41,18 @@ abbrev pub refusal_line : AddError → List ℕ
 refusal_line (Io e) = codes "check_attr: cannot read a global file\n"
 refusal_line NoMemory = codes "check_attr: out of memory\n"
 
--- A text was printed whole; or a beginning of it, and then a call of the writer failed, or a write took no byte of some. The
--- writer is seen by its contents and its counts of failures and of stalls.
-abbrev pub Prints : {E : Type 0} → (E → Option (List ℕ)) → (E → ℕ) → (E → ℕ) → E → E → List ℕ → Type 0
-Prints contents failed stalled old new text =
-    Appends (contents old) (contents new) text
+-- A text was printed whole and flushed; or a beginning of it, and then a call of the writer failed, or a write took no byte of
+-- some. The writer is seen by its contents, its counts of failures and of stalls, and whether it is flushed.
+abbrev pub Prints : {E : Type 0} → (E → Option (List ℕ)) → (E → ℕ) → (E → ℕ) → (E → Type 0) → E → E → List ℕ → Type 0
+Prints contents failed stalled Flushed old new text =
+    (Appends (contents old) (contents new) text × Flushed new)
     ⊎ (CountsOneEnd (failed old) (failed new) (stalled old) (stalled new) × AppendsFront (contents old) (contents new) text)
 
 -- nothing is printed for a run that succeeded, and a line for one that ended early
-abbrev pub PrintsOutcome : {T E : Type 0} → (E → Option (List ℕ)) → (E → ℕ) → (E → ℕ) → E → E → Result T Fault → Type 0
-PrintsOutcome contents failed stalled old new (Ok x) = new ≡ old
-PrintsOutcome contents failed stalled old new (Err fault) = Prints contents failed stalled old new (fault_line fault)
+abbrev pub PrintsOutcome : {T E : Type 0} → (E → Option (List ℕ)) → (E → ℕ) → (E → ℕ) → (E → Type 0) → E → E → Result T Fault
+    → Type 0
+PrintsOutcome contents failed stalled Flushed old new (Ok x) = new ≡ old
+PrintsOutcome contents failed stalled Flushed old new (Err fault) = Prints contents failed stalled Flushed old new (fault_line fault)
 
 -- the lines text that was written, by the outcome of the run; there is no record
 abbrev pub WritesLinesOutcome : {T : Type 0} → Option (List ℕ) → Option (List ℕ) → Option (List ℕ) → Result T Fault → Type 0

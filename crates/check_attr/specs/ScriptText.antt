@@ -1,21 +1,20 @@
 -- The text that a script writes (own): the lines that its lists leave out, and for each question the answers of the only stable
 -- table. The form of answers is that of the git-check-attr page; the form with the place of a pattern is own.
-use Rattle.std.specs.Prelude.{◌≡◌, ◌≢◌, ℕ, ◌+◌, ◌==◌, Bool, true, false, List, [], ◌∷◌, ◌++◌, length, if◌then◌else◌}
-use Rattle.std.specs.Prelude.{Option, Some, None, IfSome, option_and_then, slice_index_or, codes, All}
-use Rattle.std.specs.List.{flat_map, range_with_len}
+use Rattle.std.specs.Prelude.{◌≡◌, ◌≢◌, ℕ, ◌+◌, List, [], ◌∷◌, ◌++◌, length, Option, Some, None, IfSome, slice_index_or, codes, All}
+use Rattle.std.specs.List.{flat_map}
 use Rattle.std.specs.Fmt.{decimal}
 use Rattle.std.specs.Io.KnownBytes.{Appends}
 use Rattle.gix_attributes.specs.Patterns.{written}
-use Rattle.gix_attributes.specs.Numbers.{number_of}
 use Rattle.gix_attributes.specs.KeptLists.{dropped_lines}
 use Rattle.gix_attributes.specs.declared.search.Dropped.{Dropped}
 use Rattle.gix_attributes.specs.declared.search.DropReason.{DropReason}
 use Rattle.gix_attributes.specs.declared.search.DropReason.TheVariants.{MacroName, NegativePattern, InvalidName, Reserved}
-use Rattle.gix_attributes.specs.Setting.{State, Set, Unset, Value, Unspecified, Origin, Setting, Answer}
-use Rattle.gix_attributes.specs.Table.{Slots, Table, IsStable}
-use Rattle.gix_attributes.specs.Cut.{answer_at, no_answers}
-use Rattle.gix_attributes.specs.Contents.{reported_name}
-use Rattle.gix_attributes.specs.EngineStates.{EngineState, path_setting}
+use Rattle.gix_attributes.specs.declared.State.{State}
+use Rattle.gix_attributes.specs.declared.State.TheVariants.{Set, Unset, Value, Unspecified}
+use Rattle.gix_attributes.specs.Setting.{Origin}
+use Rattle.gix_attributes.specs.Slots.{Matched}
+use Rattle.gix_attributes.specs.Lookups.{OfTheOnlyTable}
+use Rattle.gix_attributes.specs.EngineStates.{EngineState, path_setting, returned_answers}
 use Rattle.check_attr.specs.Script.{Question, Record, add, pop, names, ask, CanBeWritten, BeginsWithRecord, IsMalformed}
 use Rattle.check_attr.specs.Script.{script_of}
 use Rattle.check_attr.specs.Failures.{AppendsFront}
@@ -35,11 +34,6 @@ abbrev pub dropped_text : List ℕ → Dropped → List ℕ
 dropped_text source dropped =
     codes "dropped: " ++ source ++ codes ":" ++ decimal dropped.line ++ codes ": " ++ reason_word dropped.reason ++ codes "\n"
 
--- the state of an attribute
-abbrev pub state_of : Option Answer → State
-state_of None = Unspecified
-state_of (Some answer) = answer.assignment.state
-
 -- the state as the page writes it
 abbrev pub info : State → List ℕ
 info Set = codes "set"
@@ -47,18 +41,12 @@ info Unset = codes "unset"
 info (Value bytes) = bytes
 info Unspecified = codes "unspecified"
 
-abbrev pub is_unspecified : State → Bool
-is_unspecified Set = false
-is_unspecified Unset = false
-is_unspecified (Value bytes) = false
-is_unspecified Unspecified = true
-
 -- the name of the macro whose body gave an answer, or `-` if the line itself gave it
 abbrev pub cause_text : List (List ℕ) → Option ℕ → List ℕ
 cause_text known None = codes "-"
 cause_text known (Some number) = slice_index_or known number []
 
--- the place of an answer: its source and line number, its pattern, and the macro
+-- the place that an answer comes from: its source and line number, its pattern, and the macro; an answer without a line has none
 abbrev pub place_text : List (List ℕ) → Origin → Option ℕ → Option (List ℕ) → List ℕ
 place_text known origin cause None = codes "-\t-\t-"
 place_text known origin cause (Some source) =
@@ -66,49 +54,23 @@ place_text known origin cause (Some source) =
     ++ written (record { text = origin.text; mode = origin.mode; wildcard = origin.wildcard }) ++ codes "\t"
     ++ cause_text known cause
 
--- the place that an answer comes from; an attribute without a line has none
-abbrev pub origin_text : List (List ℕ) → Option Answer → List ℕ
-origin_text known None = codes "-\t-\t-"
-origin_text known (Some answer) = place_text known answer.origin answer.cause answer.origin.source
-
 -- a path, a name and its state
 abbrev pub answer_text : List ℕ → List ℕ → List ℕ → State → List ℕ
 answer_text path separator name state = path ++ separator ++ name ++ separator ++ info state
 
--- the same as a line, with NUL after each part, or as a line with the place
-abbrev pub entry_text : Form → List (List ℕ) → List ℕ → List ℕ → Option Answer → List ℕ
-entry_text forms.Line known path name answer = answer_text path (codes ": ") name (state_of answer) ++ codes "\n"
-entry_text forms.Zero known path name answer = answer_text path (codes "\0") name (state_of answer) ++ codes "\0"
-entry_text forms.Origin known path name answer =
-    answer_text path (codes ": ") name (state_of answer) ++ codes "\t" ++ origin_text known answer ++ codes "\n"
+-- an answer as a line, with NUL after each part, or as a line with the place
+abbrev pub entry_text : Form → List (List ℕ) → List ℕ → Matched → List ℕ
+entry_text forms.Line known path m = answer_text path (codes ": ") m.assignment.name m.assignment.state ++ codes "\n"
+entry_text forms.Zero known path m = answer_text path (codes "\0") m.assignment.name m.assignment.state ++ codes "\0"
+entry_text forms.Origin known path m =
+    answer_text path (codes ": ") m.assignment.name m.assignment.state ++ codes "\t" ++ place_text known m.origin m.cause m.origin.source
+    ++ codes "\n"
 
--- without a selection, unspecified attributes are left out
-abbrev pub specified_text : Question → List (List ℕ) → List ℕ → Option Answer → List ℕ
-specified_text q known name answer =
-    if is_unspecified (state_of answer) then [] else entry_text q.form known q.path name answer
-
--- with one, a name without an answer is unspecified, and a text that is no name is reported as `invalid`
-abbrev pub selected_text : Question → List (List ℕ) → List ℕ → Option Answer → List ℕ
-selected_text q known name None = entry_text q.form known q.path (reported_name name) None
-selected_text q known name (Some answer) = entry_text q.form known q.path name (Some answer)
-
--- an entry for each name by number, or for each selected text
-abbrev pub answers_text : EngineState → Question → Slots → List ℕ
-answers_text s q answers =
-    if length s.selection == 0
-    then flat_map (λ number. specified_text q s.names (slice_index_or s.names number []) (answers number))
-    (range_with_len 0 (length s.names))
-    else flat_map (λ name. selected_text q s.names name (option_and_then answers (number_of s.names name))) s.selection
-
-abbrev pub asked_setting : EngineState → Question → Setting
-asked_setting s q = path_setting s q.path q.case q.is_dir
-
--- the answers for a path are those of the only stable table
+-- an entry for each answer that an engine in this state returns, which are those of the only stable table
 abbrev pub IsAnswerText : EngineState → Question → List ℕ → Type 0
 IsAnswerText s q text =
-    let setting = asked_setting s q in
-    (table : Table) × IsStable setting no_answers table
-    × (text ≡ answers_text s q (λ number. option_and_then (answer_at setting) (table number)))
+    OfTheOnlyTable (path_setting s q.path q.case q.is_dir)
+    (λ answers. text ≡ flat_map (entry_text q.form s.names q.path) (returned_answers s answers))
 
 -- the text that a record writes
 abbrev pub IsRecordText : EngineState → Record → List ℕ → Type 0

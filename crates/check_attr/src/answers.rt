@@ -1,13 +1,12 @@
 //! The text of the answers for a path, in the form of its question. It is written in pieces.
 
-ghost use Rattle.std.specs.Prelude.{◌≡◌, ◌≢◌, ◌++◌, OnOk, [], Some, codes, slice_index_or, unwrap_or};
+ghost use Rattle.std.specs.Prelude.{◌≡◌, ◌≢◌, ◌++◌, OnOk, [], codes, slice_index_or, unwrap_or};
 ghost use Rattle.std.specs.List.{flat_map};
 ghost use Rattle.gix_attributes.specs.TextViews.{state_view};
 ghost use Rattle.gix_attributes.specs.Matches.{match_view, cause_of};
-ghost use Rattle.gix_attributes.specs.Slots.{table_state};
-ghost use Rattle.check_attr.specs.inner.Pieces.{Passes};
-ghost use Rattle.check_attr.specs.inner.MatchText.{answer_view, match_entry};
-ghost use Rattle.check_attr.specs.ScriptText.{info, cause_text, origin_text, answer_text};
+ghost use Rattle.check_attr.specs.inner.Pieces.{FillsNoPiece, Passes};
+ghost use Rattle.check_attr.specs.inner.MatchText.{match_entry};
+ghost use Rattle.check_attr.specs.ScriptText.{info, cause_text, place_text, answer_text};
 
 use crate::buffer::{push_bytes, push_number, push_text};
 use crate::fault::Fault;
@@ -32,9 +31,11 @@ pub fn pass_answers<W: Push>(
     question: Question<'_>,
     engine: &Engine,
 ) -> Result<(), Fault>
-    ensures { Passes W.contents W.failed W.stalled writer.old writer.new held.new
+    requires { FillsNoPiece held.old }
+    ensures passed { Passes W.contents W.failed W.stalled writer.old writer.new held.new
         (held.old ++ flat_map (match_entry question.entry engine.now)
         (unwrap_or engine.now.answers [])) result }
+    ensures unfilled { OnOk result (FillsNoPiece held.new) }
 {
     for one in engine.answers() {
         push_entry(held, question, engine, one)?;
@@ -43,12 +44,14 @@ pub fn pass_answers<W: Push>(
     Ok(())
 }
 
+// Appends an entry, before which less than a piece is held. So no more is held at any time than a piece and one entry.
 fn push_entry(
     held: &mut Held,
     question: Question<'_>,
     engine: &Engine,
     one: Match<'_>,
 ) -> Result<(), AllocError>
+    requires { FillsNoPiece held.old }
     ensures { OnOk result (held.new
         ≡ held.old ++ match_entry question.entry engine.now (match_view one.entry)) }
 {
@@ -87,7 +90,7 @@ fn push_fields(
 fn push_line(held: &mut Held, path: &[u8], assignment: AssignmentRef<'_>) -> Result<(), AllocError>
     ensures { OnOk result (held.new
         ≡ held.old ++ answer_text path.now (codes ": ") assignment.entry.name.text.now
-        (table_state (state_view assignment.entry.state)) ++ codes "\n") }
+        (state_view assignment.entry.state) ++ codes "\n") }
 {
     held.push(path)?;
     held.push(b": ")?;
@@ -117,7 +120,7 @@ fn push_answer(
 ) -> Result<(), AllocError>
     ensures { OnOk result (out.new.items
         ≡ out.old.items ++ answer_text path.now separator.now assignment.entry.name.text.now
-        (table_state (state_view assignment.entry.state))) }
+        (state_view assignment.entry.state)) }
 {
     push_bytes(out, path)?;
     push_text(out, separator)?;
@@ -128,7 +131,7 @@ fn push_answer(
 
 fn push_info(out: &mut Vec<u8>, state: StateRef<'_>) -> Result<(), AllocError>
     ensures { OnOk result (out.new.items
-        ≡ out.old.items ++ info (table_state (state_view state.entry))) }
+        ≡ out.old.items ++ info (state_view state.entry)) }
 {
     match state {
         StateRef::Set => push_text(out, "set"),
@@ -140,8 +143,8 @@ fn push_info(out: &mut Vec<u8>, state: StateRef<'_>) -> Result<(), AllocError>
 
 // The source, line and pattern that decided, and the macro. An attribute that no line assigns has none of these.
 fn push_origin(out: &mut Vec<u8>, engine: &Engine, one: Match<'_>) -> Result<(), AllocError>
-    ensures { OnOk result (out.new.items ≡ out.old.items
-        ++ origin_text engine.now.state.names (Some (answer_view (match_view one.entry)))) }
+    ensures { let m = match_view one.entry in OnOk result (out.new.items
+        ≡ out.old.items ++ place_text engine.now.state.names m.origin m.cause m.origin.source) }
 {
     let Some(source) = one.location.source else {
         return push_text(out, "-\t-\t-");

@@ -6,7 +6,7 @@ ghost use Rattle.gix_attributes.specs.KeptLists.{dropped_lines};
 ghost use Rattle.gix_attributes.specs.EngineStates.{state_with_list};
 ghost use Rattle.gix_attributes.specs.EngineView.{addition_view};
 ghost use Rattle.check_attr.specs.inner.PassedText.{PassesAnswers, PassesRecord};
-ghost use Rattle.check_attr.specs.inner.Pieces.{Passes};
+ghost use Rattle.check_attr.specs.inner.Pieces.{FillsNoPiece, Passes};
 ghost use Rattle.check_attr.specs.ScriptText.{dropped_text};
 ghost use Rattle.check_attr.specs.inner.ScriptViews.{question_view, record_view};
 ghost use Rattle.check_attr.specs.ScriptStates.{next_state};
@@ -34,8 +34,10 @@ pub fn apply<W: Push>(
     writer: &mut W,
     held: &mut Held,
 ) -> Result<(), Fault>
+    requires { FillsNoPiece held.old }
     ensures state { OnOk result (engine.new.state
         ≡ next_state (record_view next.entry) engine.old.state) }
+    ensures unfilled { OnOk result (FillsNoPiece held.new) }
     ensures text { PassesRecord W.contents W.failed W.stalled engine.old.state
         (record_view next.entry) writer.old writer.new held.old held.new result }
 {
@@ -60,8 +62,10 @@ fn add<W: Push>(
     writer: &mut W,
     held: &mut Held,
 ) -> Result<(), Fault>
+    requires { FillsNoPiece held.old }
     ensures state { OnOk result (engine.new.state
         ≡ state_with_list (addition_view addition.entry) engine.old.state) }
+    ensures unfilled { OnOk result (FillsNoPiece held.new) }
     ensures text { Passes W.contents W.failed W.stalled writer.old writer.new held.new
         (held.old ++ flat_map (dropped_text addition.entry.source.now)
         (dropped_lines addition.entry.buffer.now)) result }
@@ -77,7 +81,9 @@ fn ask<W: Push>(
     writer: &mut W,
     held: &mut Held,
 ) -> Result<(), Fault>
+    requires { FillsNoPiece held.old }
     ensures state { OnOk result (engine.new.state ≡ engine.old.state) }
+    ensures unfilled { OnOk result (FillsNoPiece held.new) }
     ensures text { PassesAnswers W.contents W.failed W.stalled engine.old.state
         (question_view question.entry) writer.old writer.new
         held.old held.new result }

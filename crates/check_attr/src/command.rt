@@ -43,7 +43,7 @@ pub fn program<F: Files, R: Pull, W: Push, E: Push>(
         (W.contents writer.old) (W.contents writer.new) outcome
         × UsesReader R.remaining R.failed reader.old reader.new outcome
         × UsesWriter W.failed W.stalled W.Flushed writer.old writer.new outcome
-        × PrintsOutcome E.contents E.failed E.stalled errors.old errors.new outcome }
+        × PrintsOutcome E.contents E.failed E.stalled E.Flushed errors.old errors.new outcome }
 
     // If the device fails or memory runs out, the global files are not read, nor is the script.
     // Else the lines that they leave out are printed, and the script runs over their lists.
@@ -51,17 +51,17 @@ pub fn program<F: Files, R: Pull, W: Push, E: Push>(
         ((e : AddError) × (result ≡ 1) × (reader.new ≡ reader.old) × (writer.new ≡ writer.old)
         × RefusesNames F.reads (map string_bytes args.now) files.old files.new e
         × (IsIo e → Fails (F.failed files.old) (F.failed files.new))
-        × Prints E.contents E.failed E.stalled errors.old errors.new (refusal_line e))
+        × Prints E.contents E.failed E.stalled E.Flushed errors.old errors.new (refusal_line e))
         ⊎ ((read : List FileRead)
         × ReadsNames F.reads (map string_bytes args.now) files.old read files.new
-        × (warned : E) × Prints E.contents E.failed E.stalled errors.old warned
+        × (warned : E) × Prints E.contents E.failed E.stalled E.Flushed errors.old warned
         (all_dropped_text (names_read read) (loaded_from read).dropped)
         × (outcome : Result ⊤ Fault) × (result ≡ status_after outcome)
         × WritesOutcome (loaded_from read) (R.remaining reader.old)
         (W.contents writer.old) (W.contents writer.new) outcome
         × UsesReader R.remaining R.failed reader.old reader.new outcome
         × UsesWriter W.failed W.stalled W.Flushed writer.old writer.new outcome
-        × PrintsOutcome E.contents E.failed E.stalled warned errors.new outcome) }
+        × PrintsOutcome E.contents E.failed E.stalled E.Flushed warned errors.new outcome) }
     ensures first { ReadsInputFirst (R.remaining reader.new) writer.old writer.new }
     ensures count { F.failed files.old ≤ F.failed files.new }
 {
@@ -139,7 +139,7 @@ fn status_of(fault: &Fault) -> u8
 // Prints why a run ended early, if it did, and returns the status.
 fn finish<E: Push>(errors: &mut E, outcome: &Result<(), Fault>) -> u8
     ensures status { result ≡ status_after outcome.now }
-    ensures printed { PrintsOutcome E.contents E.failed E.stalled
+    ensures printed { PrintsOutcome E.contents E.failed E.stalled E.Flushed
         errors.old errors.new outcome.now }
 {
     match outcome {
@@ -153,7 +153,8 @@ fn finish<E: Push>(errors: &mut E, outcome: &Result<(), Fault>) -> u8
 
 // Prints why a run ended early. It takes no memory, since there may be none.
 fn print_fault<E: Push>(errors: &mut E, fault: &Fault)
-    ensures { Prints E.contents E.failed E.stalled errors.old errors.new (fault_line fault.now) }
+    ensures { Prints E.contents E.failed E.stalled E.Flushed errors.old errors.new
+        (fault_line fault.now) }
 {
     match fault {
         Fault::Record(number) => print_malformed(errors, *number),
@@ -164,7 +165,7 @@ fn print_fault<E: Push>(errors: &mut E, fault: &Fault)
 }
 
 fn print_malformed<E: Push>(errors: &mut E, number: usize)
-    ensures { Prints E.contents E.failed E.stalled errors.old errors.new
+    ensures { Prints E.contents E.failed E.stalled E.Flushed errors.old errors.new
         (fault_line (Fault.Record number)) }
 {
     let _ = write_malformed(errors, number);
@@ -173,6 +174,7 @@ fn print_malformed<E: Push>(errors: &mut E, number: usize)
 fn write_malformed<E: Push>(errors: &mut E, number: usize) -> Result<(), Fault>
     ensures ok { OnOk result (Appends (E.contents errors.old) (E.contents errors.new)
         (fault_line (Fault.Record number))) }
+    ensures flushed { OnOk result (E.Flushed errors.new) }
     ensures front { OnErr result (AppendsFront (E.contents errors.old) (E.contents errors.new)
         (fault_line (Fault.Record number))) }
     ensures writes { CountsWrites result (E.failed errors.old) (E.failed errors.new)
@@ -187,7 +189,8 @@ fn write_malformed<E: Push>(errors: &mut E, number: usize) -> Result<(), Fault>
 
 // Prints why the global files are not read.
 fn print_refusal<E: Push>(errors: &mut E, error: &AddError)
-    ensures { Prints E.contents E.failed E.stalled errors.old errors.new (refusal_line error.now) }
+    ensures { Prints E.contents E.failed E.stalled E.Flushed errors.old errors.new
+        (refusal_line error.now) }
 {
     match error {
         AddError::Io(_) => print(errors, b"check_attr: cannot read a global file\n"),
@@ -197,7 +200,7 @@ fn print_refusal<E: Push>(errors: &mut E, error: &AddError)
 
 // Prints a text. A failure of `errors` is ignored, since there is no other place to report it.
 fn print<E: Push>(errors: &mut E, text: &[u8])
-    ensures { Prints E.contents E.failed E.stalled errors.old errors.new text.now }
+    ensures { Prints E.contents E.failed E.stalled E.Flushed errors.old errors.new text.now }
 {
     let _ = write_all(errors, text);
 }

@@ -2,7 +2,7 @@
 
 ghost use Rattle.std.specs.Prelude.{◌≡◌, ◌++◌, OnOk};
 ghost use Rattle.std.specs.List.{flat_map};
-ghost use Rattle.check_attr.specs.inner.Pieces.{Passes};
+ghost use Rattle.check_attr.specs.inner.Pieces.{FillsNoPiece, Passes};
 ghost use Rattle.check_attr.specs.ScriptText.{dropped_text, reason_word};
 
 use crate::buffer::{push_number, push_text};
@@ -41,8 +41,10 @@ pub fn pass_dropped<W: Push>(
     source: &str,
     dropped: &[Dropped],
 ) -> Result<(), Fault>
-    ensures { Passes W.contents W.failed W.stalled writer.old writer.new held.new
+    requires { FillsNoPiece held.old }
+    ensures passed { Passes W.contents W.failed W.stalled writer.old writer.new held.new
         (held.old ++ flat_map (dropped_text source.now) dropped.now) result }
+    ensures unfilled { OnOk result (FillsNoPiece held.new) }
 {
     for line in dropped {
         hold_line(held, source, *line)?;
@@ -51,7 +53,9 @@ pub fn pass_dropped<W: Push>(
     Ok(())
 }
 
+// Appends a line, before which less than a piece is held.
 fn hold_line(held: &mut Held, source: &str, dropped: Dropped) -> Result<(), AllocError>
+    requires { FillsNoPiece held.old }
     ensures { OnOk result (held.new ≡ held.old ++ dropped_text source.now dropped) }
 {
     let mut out = held.take();

@@ -4,12 +4,20 @@ use Rattle.std.specs.List.{AllZip, IsDistinct}
 use Rattle.attr_lists.specs.Collections.{Collection}
 use Rattle.attr_lists.specs.Definitions.{without_list, HoldsList}
 use Rattle.attr_index.specs.ListView.{Listed}
-use Rattle.attr_index.specs.IndexedLists.{lists_view, list_ids_of}
+use Rattle.attr_glob.specs.declared.search.pattern.List.{List as PatternList}
+use Rattle.attr_lists.specs.declared.types.Value.{Value}
+use Rattle.attr_lists.specs.declared.types.Dropped.{Dropped}
+use Rattle.attr_lists.specs.declared.parser.Attributes.{Attributes}
+use Rattle.attr_index.specs.IndexedLists.{lists_view, list_ids_of, pattern_lists}
 use Rattle.gix_attributes.specs.declared.search.attributes.Search.{Search}
 
 -- the lists of a search, in the order of their addition
 abbrev pub lists_in : Search → List Listed
 lists_in search = lists_view search.patterns.lists.items
+
+-- the same as they were read, which is what searches compare by
+abbrev pub pattern_lists_in : Search → List (PatternList Attributes Value Dropped)
+pattern_lists_in search = pattern_lists search.patterns.lists.items
 
 -- the list ids under which a collection has registered them
 abbrev pub list_ids_in : Search → List ℕ

@@ -3,5 +3,6 @@
 pub mod BodiesMade
 pub mod Consistency
 pub mod HeldLists
+pub mod MissingFiles
 pub mod Registering
 pub mod SoundEngines

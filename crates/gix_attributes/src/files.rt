@@ -1,7 +1,9 @@
 //! Sources of files: the trait [`Files`], the real disk ([`Disk`]) and files in memory ([`Memory`]).
-ghost use Rattle.std.specs.Prelude.{◌≡◌, ◌≤◌, ℕ, List, [], false, IfErr};
+ghost use Rattle.std.specs.Prelude.{◌≡◌, ◌≤◌, ◌↔◌, ℕ, List, [], true, false, Ok, Err, IfErr, IsErrAnd, IsOk, IsTrue};
+ghost use Rattle.std.specs.IoError.{error_kind};
 ghost use Rattle.gix_attributes.specs.Answers.{ReadAnswer, read_answer, IsDevice};
 ghost use Rattle.gix_attributes.specs.Failures.{Fails};
+ghost use Rattle.gix_attributes.specs.inner.MissingFiles.{IsOfNoFile, TellsNoFile};
 ghost use Rattle.gix_attributes.specs.declared.files.ReadError.TheVariants.{OutOfMemory};
 
 mod memory;
@@ -119,6 +121,29 @@ fn read_file<R: HostFiles>(rt: &R, path: &str, buf: &mut Vec<u8>) -> Result<(), 
     Err(ReadError::Device(io::Error::from(ErrorKind::Interrupted)))
 }
 
+// Whether an error says that there is no such file: nothing has its path, a part of that is no folder, or it is a folder.
+fn is_missing(error: &io::Error) -> bool
+    ensures { IsTrue result ↔ IsOfNoFile (error_kind error.now) }
+{
+    matches!(
+        error.kind(),
+        ErrorKind::NotFound | ErrorKind::NotADirectory | ErrorKind::IsADirectory
+    )
+}
+
+// Whether a file exists, by a read of it.
+fn exists(read: Result<(), ReadError>) -> Result<bool, ReadError>
+    ensures found { result ≡ Ok true ↔ IsOk read }
+    ensures missing { result ≡ Ok false ↔ IsErrAnd read TellsNoFile }
+    ensures refused { IfErr result (λ e. read ≡ Err e) }
+{
+    match read {
+        Ok(()) => Ok(true),
+        Err(ReadError::Device(error)) if is_missing(&error) => Ok(false),
+        Err(error) => Err(error),
+    }
+}
+
 impl<'a, R: HostFiles> Files for Disk<'a, R> {
     ghost use Rattle.gix_attributes.specs.DiskReads.{DiskReads};
 
@@ -127,23 +152,14 @@ impl<'a, R: HostFiles> Files for Disk<'a, R> {
     ghost failed = { λ counts. counts.failures };
 
     fn read_into(&mut self, path: &str, buf: &mut Vec<u8>) -> Result<bool, ReadError> {
-        match read_file(self.rt, path, buf) {
-            Ok(()) => {
-                self.files_read = self.files_read.saturating_add(1);
-                Ok(true)
-            }
-            Err(ReadError::OutOfMemory) => Err(ReadError::OutOfMemory),
-            Err(ReadError::Device(error)) => match error.kind() {
-                ErrorKind::NotFound | ErrorKind::NotADirectory | ErrorKind::IsADirectory => {
-                    buf.clear();
-                    Ok(false)
-                }
-                _ => {
-                    self.failures = self.failures.saturating_add(1);
-                    Err(ReadError::Device(error))
-                }
-            },
+        let answer = exists(read_file(self.rt, path, buf));
+        match &answer {
+            Ok(true) => self.files_read = self.files_read.saturating_add(1),
+            Ok(false) => buf.clear(),
+            Err(ReadError::Device(_)) => self.failures = self.failures.saturating_add(1),
+            Err(ReadError::OutOfMemory) => {}
         }
+        answer
     }
 
     fn failures(&self) -> u64 {

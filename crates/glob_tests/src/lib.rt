@@ -1,4 +1,4 @@
-//! The tests of `attr_glob` and `attr_keys`: keys, kept tokens, the plain matcher, lists of patterns and their index.
+//! The tests of `attr_glob` and `attr_keys`: keys, kept matchers, modes, and a parser of its own.
 #![tactic(auto)]
 
 #[cfg(test)]

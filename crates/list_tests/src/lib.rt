@@ -1,4 +1,4 @@
-//! The tests of `attr_text` and `attr_lists`: copies, order, and refused memory.
+//! The tests of `attr_text` and `attr_lists`: printed forms, order, and lists that are rid of their macros.
 #![tactic(auto)]
 
 #[cfg(test)]

@@ -1,6 +1,5 @@
 //! What no row says of names, lines and lists.
 mod kept_lists;
-mod lines;
-mod memory;
 mod names;
+mod order;
 mod search_types;

@@ -1,7 +1,15 @@
 //! What a row's call answers, field by field.
 
+use crate::report::push_number;
 use crate::row::Row;
 use std::alloc::{AllocError, Global};
+
+/// Whether the call of a row may take memory.
+#[derive(Clone, Copy, PartialEq, Eq)]
+pub(crate) enum Memory {
+    Taken,
+    NotTaken,
+}
 
 /// The fields of an answer, each with a bar behind it.
 #[derive(Drop)]
@@ -33,6 +41,11 @@ impl Answer {
         Ok(())
     }
 
+    /// What gives its memory.
+    pub(crate) fn allocator(&self) -> Global {
+        self.alloc
+    }
+
     /// The fields as one text.
     pub(crate) fn as_slice(&self) -> &[u8] {
         self.fields.as_slice()
@@ -56,8 +69,7 @@ impl Answer {
 
     /// Adds a field with a number.
     pub(crate) fn number(&mut self, number: usize) -> Result<(), AllocError> {
-        let text = format!(in self.alloc; "{number}")?;
-        self.bytes(text.as_bytes())
+        self.numbers(&[number])
     }
 
     /// Adds a field with an index, or a hyphen.
@@ -66,6 +78,16 @@ impl Answer {
             Some(index) => self.number(index),
             None => self.text("-"),
         }
+    }
+
+    /// Adds a field with numbers, between which are blanks.
+    pub(crate) fn numbers(&mut self, numbers: &[usize]) -> Result<(), AllocError> {
+        let mut text = String::new(self.alloc);
+        for number in numbers {
+            push_number(*number, &mut text)?;
+            text.push(' ')?;
+        }
+        self.bytes(text.trim_ascii().as_bytes())
     }
 
     /// Adds a field with some bytes, or a hyphen.

@@ -1,13 +1,13 @@
 //! Steps of an engine: lists are added and removed, names are selected, paths are asked for, and what it returns is reported.
 
 use crate::fault::NoAnswer;
+use crate::report::{push_debug_line, push_flag_line, push_number, push_number_line, push_shown};
 use crate::row::Row;
 use bstr::BStr;
 use gix_attributes::engine::{Addition, Below, Engine, Question};
 use gix_attributes::glob::pattern::Case;
 use gix_attributes::search::{AttributeId, Match};
 use std::alloc::{AllocError, Global};
-use std::fmt::Write;
 
 /// Takes a step, and reports what it has to.
 ///
@@ -48,9 +48,9 @@ fn report(engine: &Engine, step: &Row, out: &mut String) -> Result<(), NoAnswer>
         // `found | NUMBER`: what is found for the attribute with that number.
         "found" => push_found(engine, engine.found(AttributeId(step.number(1)?)), out)?,
         // `number | INDEX`: the number of the attribute of that answer.
-        "number" => push_number(engine, step.number(1)?, out)?,
+        "number" => push_number_of(engine, step.number(1)?, out)?,
         // How many names there are.
-        "names" => write!(out, "{}\n", engine.num_names())?,
+        "names" => push_number_line(engine.num_names(), out)?,
         // `name | NUMBER`
         "name" => push_name(engine, step.number(1)?, out)?,
         // The lines that were dropped of the last list.
@@ -88,7 +88,7 @@ fn question(step: &Row, case: Case, is_dir: bool) -> Question<'_> {
 
 fn pop(engine: &mut Engine, out: &mut String) -> Result<(), AllocError> {
     out.reserve(6)?;
-    out.push_str(if engine.pop() { "true\n" } else { "false\n" })
+    push_flag_line(engine.pop(), out)
 }
 
 fn select(engine: &mut Engine, alloc: Global, step: &Row) -> Result<(), AllocError> {
@@ -105,7 +105,7 @@ fn ask(
     // The report gets its memory first, so that only the question can be refused.
     out.reserve(8)?;
     let count = engine.ask(alloc, question)?;
-    write!(out, "{count}\n")
+    push_number_line(count, out)
 }
 
 fn push_rows(engine: &Engine, out: &mut String) -> Result<(), AllocError> {
@@ -124,30 +124,36 @@ fn push_found(
     let Some(found) = found else {
         return out.push_str("none\n");
     };
-    let source = found.location.source.unwrap_or("-");
-    let line = found.location.sequence_number;
-    let cause = match found.kind.source_id() {
+    push_shown(&found.assignment, out)?;
+    out.push(' ')?;
+    out.push_str(found.location.source.unwrap_or("-"))?;
+    out.push(':')?;
+    push_number(found.location.sequence_number, out)?;
+    out.push(' ')?;
+    out.push_str(match found.kind.source_id() {
         Some(id) => engine.name_of(id).unwrap_or("?"),
         None => "-",
-    };
-    write!(out, "{} {source}:{line} {cause}\n", found.assignment)
+    })?;
+    out.push('\n')
 }
 
-fn push_number(engine: &Engine, index: usize, out: &mut String) -> Result<(), AllocError> {
+fn push_number_of(engine: &Engine, index: usize, out: &mut String) -> Result<(), AllocError> {
     match engine.number_of(index) {
-        Some(id) => write!(out, "{}\n", id.0),
+        Some(id) => push_number_line(id.0, out),
         None => out.push_str("none\n"),
     }
 }
 
 fn push_name(engine: &Engine, number: usize, out: &mut String) -> Result<(), AllocError> {
-    let name = engine.name_of(AttributeId(number)).unwrap_or("none");
-    write!(out, "{name}\n")
+    out.push_str(engine.name_of(AttributeId(number)).unwrap_or("none"))?;
+    out.push('\n')
 }
 
 fn push_dropped(engine: &Engine, out: &mut String) -> Result<(), AllocError> {
     for dropped in engine.dropped() {
-        write!(out, "{} {:?}\n", dropped.line, dropped.reason)?;
+        push_number(dropped.line, out)?;
+        out.push(' ')?;
+        push_debug_line(&dropped.reason, out)?;
     }
     Ok(())
 }

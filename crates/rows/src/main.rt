@@ -10,9 +10,11 @@ mod answer;
 mod engines;
 mod fault;
 mod lines;
+mod matches;
 mod numbers;
 mod patterns;
 mod plain;
+mod report;
 mod row;
 mod scenes;
 mod scripts;
@@ -23,7 +25,7 @@ mod tables;
 use crate::fault::Fault;
 use crate::scenes::{PLAYS, Play, compare_scenes};
 use crate::scripts::{MANIFEST, compare_files};
-use crate::tables::{TABLES, Table, compare_table};
+use crate::tables::{About, MEMORY_TABLES, TABLES, Table, compare_table};
 use gix_attributes::files::Disk;
 use std::env;
 use std::process::ExitCode;
@@ -34,6 +36,7 @@ fn run(rt: &HostRuntime) -> Result<(), Fault> {
     let chosen: Vec<String> = arguments.collect(rt.alloc())?;
     let mut differences = String::new(rt.alloc());
     compare_tables(rt, &chosen, &mut differences)?;
+    compare_memory_tables(rt, &chosen, &mut differences)?;
     compare_plays(rt, &chosen, &mut differences)?;
     compare_scripts(rt, &chosen, &mut differences)?;
     if differences.is_empty() {
@@ -53,8 +56,25 @@ fn compare_tables(
     chosen: &[String],
     differences: &mut String,
 ) -> Result<(), Fault> {
+    compare_each(rt, chosen, TABLES, differences)
+}
+
+fn compare_memory_tables(
+    rt: &HostRuntime,
+    chosen: &[String],
+    differences: &mut String,
+) -> Result<(), Fault> {
+    compare_each(rt, chosen, MEMORY_TABLES, differences)
+}
+
+fn compare_each(
+    rt: &HostRuntime,
+    chosen: &[String],
+    tables: &[(&'static str, usize, About)],
+    differences: &mut String,
+) -> Result<(), Fault> {
     let mut disk = Disk::new(rt);
-    for &(file, asked, about) in TABLES {
+    for &(file, asked, about) in tables {
         if is_chosen(chosen, file) {
             let table = Table { file, asked, about };
             let compared = compare_table(rt.alloc(), &mut disk, table, differences)?;

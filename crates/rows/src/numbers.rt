@@ -1,13 +1,14 @@
 //! Steps of a table of names: lists are added and removed, and the numbers and bodies of names are reported.
 
 use crate::fault::NoAnswer;
+use crate::lines::are_copied;
+use crate::report::{push_debug_line, push_flag_line, push_number, push_number_line};
 use crate::row::Row;
 use attr_glob::search::Pattern;
 use attr_glob::search::pattern::Mapping;
 use attr_lists::name_table::NameTable;
-use attr_lists::types::{AttributeId, Attributes, TrackedAssignment, Value};
+use attr_lists::types::{AttributeId, Attributes, Metadata, TrackedAssignment, Value};
 use std::alloc::{AllocError, Global};
-use std::fmt::Write;
 use std::mem;
 
 /// A table, another one, and the lists that were added, each with its id.
@@ -55,12 +56,14 @@ impl Numbering {
             // The names, each with the numbers of its body.
             "names" => push_names(&self.table, out)?,
             // How many names there are.
-            "len" => write!(out, "{}\n", self.table.len())?,
+            "len" => push_number_line(self.table.len(), out)?,
             // `name | NUMBER`
-            "name" => write!(out, "{:?}\n", self.table.name(step.number(1)?))?,
+            "name" => push_debug_line(&self.table.name(step.number(1)?), out)?,
             // `first | NAME`: the number of the first item in the body of a name.
-            "first" => write!(out, "{:?}\n", first_number(&self.table, step.text(1)))?,
-            "show" => write!(out, "{:?}\n", self.table)?,
+            "first" => push_debug_line(&first_number(&self.table, step.text(1)), out)?,
+            "show" => push_debug_line(&*self.table, out)?,
+            // Whether copies of the last list's lines, with their numbers, and of the bodies are equal to them.
+            "copies" => self.push_copied(alloc, out)?,
             _ => return Err(NoAnswer::NotARow),
         }
         Ok(())
@@ -80,7 +83,7 @@ impl Numbering {
         match self.table.add(alloc, &mut list) {
             Ok(list_id) => {
                 self.added.push((list_id, list))?;
-                write!(out, "{list_id}\n")?;
+                push_number_line(list_id, out)?;
                 Ok(())
             }
             Err(_) if are_without_numbers(&list) => Err(NoAnswer::OutOfMemory),
@@ -108,9 +111,17 @@ impl Numbering {
 
     fn push_held(&self, alloc: Global, step: &Row, out: &mut String) -> Result<(), NoAnswer> {
         let list_id = step.number(1)?;
-        let is_held = is_held(alloc, &self.table, list_id, step.bytes(2))?;
-        write!(out, "{is_held}\n")?;
+        push_flag_line(is_held(alloc, &self.table, list_id, step.bytes(2))?, out)?;
         Ok(())
+    }
+
+    fn push_copied(&self, alloc: Global, out: &mut String) -> Result<(), AllocError> {
+        let are_lines_copied = match self.added.last() {
+            Some((_, list)) => are_copied(alloc, list)?,
+            None => true,
+        };
+        let are_bodies_copied = are_bodies_copied(alloc, &self.table)?;
+        push_flag_line(are_lines_copied && are_bodies_copied, out)
     }
 
     fn push_last(&self, out: &mut String) -> Result<(), AllocError> {
@@ -142,7 +153,7 @@ fn remove_if_held(
     if is_held {
         table.remove(list_id, list);
     }
-    write!(out, "{is_held}\n")
+    push_flag_line(is_held, out)
 }
 
 // Whether the list of a file is held, with the numbers that the table has for its names.
@@ -156,6 +167,18 @@ fn is_held(
     let (mut list, _) = Attributes.bytes_to_patterns(alloc, bytes, "")?;
     copy.add(alloc, &mut list)?;
     Ok(table.holds(list_id, &list))
+}
+
+fn are_bodies_copied(alloc: Global, table: &NameTable) -> Result<bool, AllocError> {
+    let mut all = true;
+    for (_, metadata) in table.iter() {
+        all &= is_body_copied(alloc, metadata)?;
+    }
+    Ok(all)
+}
+
+fn is_body_copied(alloc: Global, metadata: &Metadata) -> Result<bool, AllocError> {
+    Ok(metadata.clone(alloc)? == *metadata)
 }
 
 // Whether no line of a list and no item has a number.
@@ -195,7 +218,8 @@ fn push_list(list: &[Mapping<Value>], out: &mut String) -> Result<(), AllocError
 
 fn push_numbers(items: &[TrackedAssignment], out: &mut String) -> Result<(), AllocError> {
     for item in items {
-        write!(out, " {}", item.id.0)?;
+        out.push(' ')?;
+        push_number(item.id.0, out)?;
     }
     out.push_str(";")
 }

@@ -1,13 +1,12 @@
-//! The answers of rows about patterns: their parts, the texts that they match, quotes, and the bases of lists.
+//! The answers of rows about patterns: their parts, quotes, and the bases of lists.
 
-use crate::answer::Answer;
+use crate::answer::{Answer, Memory};
 use crate::fault::NoAnswer;
 use crate::row::Row;
 use attr_glob::Pattern;
 use attr_glob::pattern::{base_name, base_name_place};
 use attr_glob::quote::ansi_c::{UndoError, undo};
 use attr_glob::search::pattern::List;
-use attr_glob::wildmatch::count;
 use attr_lists::types::Attributes;
 use bitflags::Flags;
 use bstr::BStr;
@@ -51,30 +50,17 @@ pub(crate) fn base_name_of(row: &Row, answer: &mut Answer) -> Result<(), NoAnswe
     Ok(())
 }
 
-/// Whether a pattern's text matches a value.
-pub(crate) fn wildmatch(alloc: Global, row: &Row, answer: &mut Answer) -> Result<(), NoAnswer> {
-    let (matched, _) = count(alloc, row.bytes(0), row.bytes(1), row.case(2)?)?;
-    answer.flag(matched)?;
-    Ok(())
-}
-
-/// Whether a pattern's text matches a value, and the number of pairs that are visited if that is less than the least or more than
-/// the most.
-pub(crate) fn pairs(alloc: Global, row: &Row, answer: &mut Answer) -> Result<(), NoAnswer> {
-    let (least, most) = (row.number(3)? as u128, row.number(4)? as u128);
-    let (matched, pairs) = count(alloc, row.bytes(0), row.bytes(1), row.case(2)?)?;
-    answer.flag(matched)?;
-    if pairs < least || most < pairs {
-        answer.bytes(format!(in alloc; "{pairs}")?.as_bytes())?;
-    }
-    Ok(())
-}
-
-/// Of a quoted text: whether it is lent or copied, its plain bytes, and how many bytes are taken; or why it is refused.
-pub(crate) fn quote(alloc: Global, row: &Row, answer: &mut Answer) -> Result<(), NoAnswer> {
+/// Of a quoted text: whether it is lent or copied, its plain bytes, and how many bytes are taken; or why it is refused. A text
+/// without a backslash takes no memory, so want of memory is an answer that such a row does not have.
+pub(crate) fn quote(
+    alloc: Global,
+    memory: Memory,
+    row: &Row,
+    answer: &mut Answer,
+) -> Result<(), NoAnswer> {
     match undo(alloc, BStr::new(row.bytes(0))) {
         Ok((plain, taken)) => push_plain(&plain, taken, answer)?,
-        Err(UndoError::OutOfMemory) => return Err(NoAnswer::OutOfMemory),
+        Err(UndoError::OutOfMemory) if memory == Memory::Taken => return Err(NoAnswer::OutOfMemory),
         Err(refused) => answer.bytes(format!(in alloc; "{refused}")?.as_bytes())?,
     }
     Ok(())
@@ -93,20 +79,31 @@ fn push_plain(
     answer.number(taken)
 }
 
-// The list of a source below a root, in a box: a proof drops a box by one call.
-fn list_of(
+/// The list of a source below a root, in a box: a proof drops a box by one call.
+pub(crate) fn list_of(
     alloc: Global,
+    bytes: &[u8],
     source: &str,
     root: Option<&str>,
 ) -> Result<Box<List<Attributes>>, AllocError> {
     let source = String::from_str(alloc, source)?;
-    let (list, _) = List::from_bytes(alloc, b"x\n\ny", source, root, Attributes)?;
+    let (list, _) = List::from_bytes(alloc, bytes, source, root, Attributes)?;
     Ok(Box::new(alloc, list)?)
 }
 
-/// Of a source and its root: the source and the base of the list.
+fn is_copied(alloc: Global, list: &List<Attributes>) -> Result<bool, AllocError> {
+    let copy = Box::new(alloc, list.clone(alloc)?)?;
+    Ok(*copy == *list)
+}
+
+const LINES: &[u8] = b"x\n\ny";
+
+/// Of a source and its root: the source and the base of the list. A copy is made, which has to be equal.
 pub(crate) fn base(alloc: Global, row: &Row, answer: &mut Answer) -> Result<(), NoAnswer> {
-    let list = list_of(alloc, row.text(0), row.optional(1))?;
+    let list = list_of(alloc, LINES, row.text(0), row.optional(1))?;
+    if !is_copied(alloc, &list)? {
+        answer.text("another copy")?;
+    }
     answer.text(list.source.as_deref().unwrap_or("-"))?;
     answer.optional(list.base.as_deref())?;
     Ok(())
@@ -114,7 +111,7 @@ pub(crate) fn base(alloc: Global, row: &Row, answer: &mut Answer) -> Result<(), 
 
 /// Of a path below the base of a list: what is behind the base, and the index of the base name in that.
 pub(crate) fn below_base(alloc: Global, row: &Row, answer: &mut Answer) -> Result<(), NoAnswer> {
-    let list = list_of(alloc, row.text(0), row.optional(1))?;
+    let list = list_of(alloc, LINES, row.text(0), row.optional(1))?;
     let (path, case) = (row.bytes(2), row.case(3)?);
     let place = base_name_place(path);
     match list.strip_base_handle_recompute_basename_pos(BStr::new(path), place, case) {

@@ -4,13 +4,13 @@
 use crate::engines;
 use crate::fault::{Fault, NoAnswer};
 use crate::numbers::Numbering;
+use crate::report::push_number_line;
 use crate::row::{Row, push_decoded};
 use crate::searches::Scene;
 use crate::tables::read;
 use gix_attributes::engine::Engine;
 use gix_attributes::files::Files;
 use std::alloc::{AllocError, Global};
-use std::fmt::Write;
 
 /// What takes the steps of a scene.
 #[derive(Clone, Copy)]
@@ -74,18 +74,30 @@ fn compare_scene(
     scene: &str,
     differences: &mut String,
 ) -> Result<(), AllocError> {
-    let (file, mut reported, mut wanted) = (play.file, String::new(alloc), Vec::new(alloc));
+    let (mut reported, mut wanted) = (String::new(alloc), Vec::new(alloc));
     let name = scene.split_once('\n').map_or(scene, |(name, _)| name);
     match take_all(alloc, play, scene, &mut reported, &mut wanted) {
         Ok(()) if reported.as_bytes() == wanted.as_slice() => Ok(()),
-        Ok(()) => write!(differences, "{file}: {name}\n{reported}"),
+        Ok(()) => push_difference(play.file, name, &reported, differences),
         Err(NoAnswer::OutOfMemory) => Err(AllocError),
-        Err(NoAnswer::NotARow) => write!(differences, "{file}: {name}\nis no scene\n"),
-        Err(NoAnswer::Changed) => write!(
-            differences,
-            "{file}: {name}\na refused step changed it\n"
-        ),
+        Err(NoAnswer::NotARow) => push_difference(play.file, name, "is no scene\n", differences),
+        Err(NoAnswer::Changed) => {
+            push_difference(play.file, name, "a refused step changed it\n", differences)
+        }
     }
+}
+
+fn push_difference(
+    file: &str,
+    name: &str,
+    difference: &str,
+    differences: &mut String,
+) -> Result<(), AllocError> {
+    differences.push_str(file)?;
+    differences.push_str(": ")?;
+    differences.push_str(name)?;
+    differences.push('\n')?;
+    differences.push_str(difference)
 }
 
 fn take_all(
@@ -166,10 +178,10 @@ impl Stage {
     fn push_state(&self, step: &Row, out: &mut String) -> Result<(), AllocError> {
         match self {
             Stage::Search(scene) => scene.push_state(step, out),
-            Stage::Engine(engine) => write!(out, "{} answers", engine.num_answers()),
+            Stage::Engine(engine) => push_number_line(engine.num_answers(), out),
             Stage::Numbers(numbering) => numbering.push_state(out),
         }
     }
 }
 
-const NO_ANSWERS: &str = "0 answers";
+const NO_ANSWERS: &str = "0\n";

@@ -4,12 +4,11 @@ use crate::answer::Answer;
 use crate::fault::{Fault, NoAnswer};
 use crate::row::Row;
 use crate::tables::{read, read_bytes};
-use check_attr::{Globals, Pull, Reader, Writer, globals, play, run};
+use check_attr::{Globals, Pull, Reader, Writer, globals, play, program, run};
 use gix_attributes::engine::{Addition, Engine};
 use gix_attributes::files::{Files, Memory};
 use gix_attributes::search::AddError;
 use std::alloc::{AllocError, Global};
-use std::fmt::Write;
 use std::io;
 use std::io::Read;
 
@@ -110,6 +109,43 @@ pub(crate) fn played(alloc: Global, row: &Row, answer: &mut Answer) -> Result<()
     Ok(())
 }
 
+/// Of the arguments of the program, and its input: its status, and what it writes to standard output and to standard error.
+pub(crate) fn call<F: Files>(
+    alloc: Global,
+    files: &mut F,
+    row: &Row,
+    answer: &mut Answer,
+) -> Result<(), NoAnswer> {
+    let words = arguments(alloc, row.text(0))?;
+    let (mut written, mut errors) = (Vec::new(alloc), Vec::new(alloc));
+    let status = {
+        let (mut reader, mut writer) = (Reader::new(row.bytes(1)), Writer::new(&mut written));
+        program(
+            alloc,
+            files,
+            &words,
+            &mut reader,
+            &mut writer,
+            &mut Writer::new(&mut errors),
+        )
+    };
+    answer.number(status as usize)?;
+    answer.bytes(&written)?;
+    answer.bytes(&errors)?;
+    Ok(())
+}
+
+// Words between blanks; `''` is the empty one.
+fn arguments(alloc: Global, text: &str) -> Result<Vec<String>, AllocError> {
+    let mut words = Vec::new(alloc);
+    for word in text.split(' ') {
+        if !word.is_empty() {
+            words.push(String::from_str(alloc, if word == "''" { "" } else { word })?)?;
+        }
+    }
+    Ok(words)
+}
+
 fn engine(alloc: Global) -> Result<Engine, AllocError> {
     let mut engine = Engine::new(alloc)?;
     let list = Addition {
@@ -140,11 +176,17 @@ pub(crate) fn compare_files<F: Files>(
         if let Some((kind, name)) = line.split_once(' ') {
             compared = compared.saturating_add(1);
             if !agrees(alloc, files, kind, name)? {
-                write!(differences, "scripts/{name} differs\n")?;
+                push_difference(name, differences)?;
             }
         }
     }
     Ok(compared)
+}
+
+fn push_difference(name: &str, differences: &mut String) -> Result<(), AllocError> {
+    differences.push_str("scripts/")?;
+    differences.push_str(name)?;
+    differences.push_str(" differs\n")
 }
 
 // Whether a script writes the text beside it, and ends as its kind wants.

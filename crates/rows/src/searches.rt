@@ -1,13 +1,19 @@
 //! Steps of searches: lists are added and removed, outcomes are initialised and searched, and what they have is reported.
 
 use crate::fault::NoAnswer;
+use crate::report::{
+    push_debug, push_debug_line, push_flag_line, push_number, push_number_line, push_shown,
+};
 use crate::row::Row;
 use bstr::BStr;
 use gix_attributes::Search;
 use gix_attributes::files::Memory;
-use gix_attributes::search::{AttributeId, Dropped, Match, MatchKind, MetadataCollection, Outcome};
+use gix_attributes::glob::Pattern;
+use gix_attributes::glob::search::pattern::List;
+use gix_attributes::search::{
+    AttributeId, Attributes, Dropped, Match, MatchKind, MetadataCollection, Outcome,
+};
 use std::alloc::{AllocError, Global};
-use std::fmt::Write;
 use std::mem;
 
 /// Two collections, two searches and two outcomes, of which steps use one each. They are in boxes: a proof drops a box by one
@@ -28,11 +34,13 @@ struct Others {
     outcome: Box<Outcome>,
 }
 
-fn new_collection(alloc: Global) -> Result<Box<MetadataCollection>, AllocError> {
+/// A collection in a box.
+pub(crate) fn new_collection(alloc: Global) -> Result<Box<MetadataCollection>, AllocError> {
     Ok(Box::new(alloc, MetadataCollection::new(alloc))?)
 }
 
-fn new_search(alloc: Global) -> Result<Box<Search>, AllocError> {
+/// A search in a box.
+pub(crate) fn new_search(alloc: Global) -> Result<Box<Search>, AllocError> {
     Ok(Box::new(alloc, Search::new(alloc))?)
 }
 
@@ -83,6 +91,10 @@ impl Scene {
             "globals" => self.read_globals(alloc)?,
             // Removes the last list, and reports whether there was one.
             "pop" => self.pop(out)?,
+            // `again | COUNT | FILE` adds and removes the list of a file so often.
+            "again" => self.add_and_remove(alloc, step)?,
+            // Removes the last list, and reports the names of a new collection with that list alone.
+            "move" => self.push_moved(alloc, out)?,
             // Changes to clones of the collection and of the search.
             "clone_lists" => self.clone_lists(alloc, out)?,
             // Changes to the other collection, or to the other search over the same collection.
@@ -123,15 +135,15 @@ impl Scene {
     fn report(&self, step: &Row, out: &mut String) -> Result<(), NoAnswer> {
         match step.text(0) {
             // Whether the collection holds the search.
-            "held" => write!(out, "{}\n", self.collection.holds(&self.search))?,
+            "held" => push_flag_line(self.collection.holds(&self.search), out)?,
             // The names by number, each with its body.
             "names" => push_known(&self.collection, out)?,
             // `name | NUMBER`
             "name" => self.push_name(step.number(1)?, out)?,
             // The number of lists.
-            "lists" => write!(out, "{}\n", self.search.num_pattern_lists())?,
+            "lists" => push_number_line(self.search.num_pattern_lists(), out)?,
             // The outcome as `Debug` prints it.
-            "show" => write!(out, "{:?}\n", self.outcome)?,
+            "show" => push_debug_line(&*self.outcome, out)?,
             // Whether the outcome is done, and how many items were taken and patterns tested; `count | LEAST` reports no fewer.
             "count" => self.count(step, out)?,
             // Whether the outcome covers the search, and whether it is current.
@@ -141,7 +153,7 @@ impl Scene {
             // The source, the line and the pattern of the match of each selected name.
             "places" => push_places(&self.outcome, out)?,
             // Which of the first eight numbers have a match.
-            "numbers" => push_numbers(&self.outcome, out)?,
+            "numbers" => push_answered(&self.outcome, out)?,
             _ => return Err(NoAnswer::NotARow),
         }
         Ok(())
@@ -150,8 +162,8 @@ impl Scene {
     /// What a step that finds no memory has to leave as it was: the lists, the names with the bodies of macros, and the answers.
     /// But a search leaves an outcome that is reset, and a copy for names may have initialised the other outcome.
     pub(crate) fn push_state(&self, step: &Row, out: &mut String) -> Result<(), AllocError> {
-        let (search, other_search) = (&self.search, &self.others.search);
-        write!(out, "{search:?} {other_search:?}\n")?;
+        push_debug_line(&*self.search, out)?;
+        push_debug_line(&*self.others.search, out)?;
         push_known(&self.collection, out)?;
         if step.text(0) != "find" {
             push_answers(&self.outcome, out)?;
@@ -204,17 +216,37 @@ impl Scene {
     }
 
     fn pop(&mut self, out: &mut String) -> Result<(), NoAnswer> {
+        out.reserve(8)?;
+        let is_popped = self.removed()?.is_some();
+        out.push_str(if is_popped { "removed\n" } else { "no list\n" })?;
+        Ok(())
+    }
+
+    fn removed(&mut self) -> Result<Option<List<Attributes>>, NoAnswer> {
         if !self.collection.holds(&self.search) {
             return Err(NoAnswer::NotARow);
         }
-        out.reserve(8)?;
-        let popped = self.search.pop_pattern_list(&mut self.collection);
-        out.push_str(if popped.is_some() {
-            "removed\n"
-        } else {
-            "no list\n"
-        })?;
+        Ok(self.search.pop_pattern_list(&mut self.collection))
+    }
+
+    fn add_and_remove(&mut self, alloc: Global, step: &Row) -> Result<(), NoAnswer> {
+        for _ in 0..step.number(1)? {
+            self.add(alloc, ".gitattributes", step.bytes(2), true)?;
+            if self.removed()?.is_none() {
+                return Err(NoAnswer::Changed);
+            }
+        }
         Ok(())
+    }
+
+    // The report gets its memory before the list is removed.
+    fn push_moved(&mut self, alloc: Global, out: &mut String) -> Result<(), NoAnswer> {
+        let mut collection = new_collection(alloc)?;
+        out.reserve(64)?;
+        match self.removed()? {
+            Some(mut list) => push_numbered(alloc, &mut list, &mut collection, out),
+            None => Err(NoAnswer::NotARow),
+        }
     }
 
     fn clone_lists(&mut self, alloc: Global, out: &mut String) -> Result<(), AllocError> {
@@ -290,8 +322,7 @@ impl Scene {
     }
 
     fn push_name(&self, number: usize, out: &mut String) -> Result<(), AllocError> {
-        let name = self.collection.name_of(AttributeId(number));
-        write!(out, "{name:?}\n")
+        push_debug_line(&self.collection.name_of(AttributeId(number)), out)
     }
 
     fn count(&self, step: &Row, out: &mut String) -> Result<(), NoAnswer> {
@@ -299,20 +330,23 @@ impl Scene {
             return Err(NoAnswer::NotARow);
         }
         let state = if self.outcome.is_done() {
-            "done"
+            "done "
         } else {
-            "open"
+            "open "
         };
         let least = step.number_or_zero(1)? as u128;
-        let (taken, tested) = (self.outcome.taken(), self.outcome.tested().max(least));
-        write!(out, "{state} {taken} {tested}\n")?;
+        out.push_str(state)?;
+        push_shown(&self.outcome.taken(), out)?;
+        out.push(' ')?;
+        push_shown(&self.outcome.tested().max(least), out)?;
+        out.push('\n')?;
         Ok(())
     }
 
     fn fit(&self, out: &mut String) -> Result<(), AllocError> {
         let covers = self.outcome.covers(&self.search);
-        let is_current = self.outcome.is_current(&self.collection);
-        write!(out, "{covers} {is_current}\n")
+        out.push_str(if covers { "true " } else { "false " })?;
+        push_flag_line(self.outcome.is_current(&self.collection), out)
     }
 }
 
@@ -330,15 +364,17 @@ fn push_rows(outcome: &Outcome, first: usize, out: &mut String) -> Result<(), Al
 
 // `x=1 macro 0 2`: the assignment, the kind, the number of the macro that it comes from, and the line.
 fn push_row(out: &mut String, found: Match<'_>) -> Result<(), AllocError> {
-    let kind = match found.kind {
-        MatchKind::Attribute { macro_id: _ } => "attribute",
-        MatchKind::Macro { parent_macro_id: _ } => "macro",
-    };
-    let line = found.location.sequence_number;
+    push_shown(&found.assignment, out)?;
+    out.push_str(match found.kind {
+        MatchKind::Attribute { macro_id: _ } => " attribute ",
+        MatchKind::Macro { parent_macro_id: _ } => " macro ",
+    })?;
     match found.kind.source_id() {
-        Some(id) => write!(out, "{} {kind} {} {line}\n", found.assignment, id.0),
-        None => write!(out, "{} {kind} - {line}\n", found.assignment),
+        Some(id) => push_number(id.0, out)?,
+        None => out.push('-')?,
     }
+    out.push(' ')?;
+    push_number_line(found.location.sequence_number, out)
 }
 
 fn push_places(outcome: &Outcome, out: &mut String) -> Result<(), AllocError> {
@@ -349,16 +385,23 @@ fn push_places(outcome: &Outcome, out: &mut String) -> Result<(), AllocError> {
 }
 
 fn push_place(out: &mut String, found: Match<'_>) -> Result<(), AllocError> {
-    let source = found.location.source.unwrap_or("-");
-    let line = found.location.sequence_number;
-    let pattern = found.pattern.write_text(*out.allocator())?;
-    write!(out, "{source}:{line}:{}\n", BStr::new(pattern.as_slice()))
+    out.push_str(found.location.source.unwrap_or("-"))?;
+    out.push(':')?;
+    push_number(found.location.sequence_number, out)?;
+    out.push(':')?;
+    push_pattern(found.pattern, out)?;
+    out.push('\n')
 }
 
-fn push_numbers(outcome: &Outcome, out: &mut String) -> Result<(), AllocError> {
+fn push_pattern(pattern: &Pattern, out: &mut String) -> Result<(), AllocError> {
+    let text = pattern.write_text(*out.allocator())?;
+    push_shown(&BStr::new(text.as_slice()), out)
+}
+
+fn push_answered(outcome: &Outcome, out: &mut String) -> Result<(), AllocError> {
     for number in 0..8 {
         if outcome.match_by_id(AttributeId(number)).is_some() {
-            write!(out, "{number}\n")?;
+            push_number_line(number, out)?;
         }
     }
     Ok(())
@@ -366,23 +409,48 @@ fn push_numbers(outcome: &Outcome, out: &mut String) -> Result<(), AllocError> {
 
 fn push_known(collection: &MetadataCollection, out: &mut String) -> Result<(), AllocError> {
     for (name, metadata) in collection.iter() {
-        write!(out, "{name}:")?;
+        out.push_str(name)?;
+        out.push(':')?;
         for item in metadata.macro_attributes.iter() {
-            write!(out, " {}", item.inner.as_ref())?;
+            out.push(' ')?;
+            push_shown(&item.inner.as_ref(), out)?;
         }
         out.push('\n')?;
     }
     Ok(())
 }
 
+// A call that finds no memory is made again, and the names before that are reported, too: there are none.
+fn push_numbered(
+    alloc: Global,
+    list: &mut List<Attributes>,
+    collection: &mut MetadataCollection,
+    out: &mut String,
+) -> Result<(), NoAnswer> {
+    if !MetadataCollection::macros_valid(list) {
+        return Err(NoAnswer::NotARow);
+    }
+    if collection.update_from_list(alloc, list).is_err() {
+        push_known(collection, out)?;
+        collection.update_from_list(alloc, list)?;
+    }
+    push_known(collection, out)?;
+    Ok(())
+}
+
 fn push_answers(outcome: &Outcome, out: &mut String) -> Result<(), AllocError> {
-    let (taken, tested) = (outcome.taken(), outcome.tested());
-    write!(out, "{outcome:?} {taken} {tested}\n")
+    push_debug(outcome, out)?;
+    out.push(' ')?;
+    push_shown(&outcome.taken(), out)?;
+    out.push(' ')?;
+    push_debug_line(&outcome.tested(), out)
 }
 
 fn push_lines(dropped: &[Dropped], out: &mut String) -> Result<(), AllocError> {
     for line in dropped {
-        write!(out, "{}:{:?}\n", line.line, line.reason)?;
+        push_number(line.line, out)?;
+        out.push(':')?;
+        push_debug_line(&line.reason, out)?;
     }
     Ok(())
 }

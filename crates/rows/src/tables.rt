@@ -1,14 +1,14 @@
 //! Tables: files of which each line is a row. What is asked comes first in a row, and then the answer.
 
-use crate::answer::Answer;
+use crate::answer::{Answer, Memory};
 use crate::fault::{Fault, NoAnswer};
+use crate::report::{push_number, push_shown};
 use crate::row::Row;
 use crate::scripts::Input;
-use crate::{lines, patterns, plain, scripts, sources};
+use crate::{lines, matches, patterns, plain, scripts, sources};
 use bstr::BStr;
 use gix_attributes::files::{Files, ReadError};
 use std::alloc::{AllocError, Global};
-use std::fmt::Write;
 
 /// What the rows of a table are about.
 #[derive(Clone, Copy)]
@@ -16,17 +16,26 @@ pub(crate) enum About {
     Patterns,
     BaseNames,
     Wildmatch,
+    ShortValues,
     Pairs,
-    Quotes,
+    Tokens,
+    Paths(Memory),
+    Candidates,
+    Indexes,
+    Quotes(Memory),
     Bases,
     BelowBases,
     Names,
     Items,
-    Lines,
+    States,
+    Lines(Memory),
     Kept,
     KeptCounts,
     Plain,
     Locations,
+    Globals,
+    Added,
+    Calls,
     Scripts,
     Plays,
     Reports,
@@ -40,31 +49,57 @@ pub(crate) struct Table {
     pub(crate) about: About,
 }
 
-/// The tables of the folder `data`: file, asked fields, and what they are about.
+/// The tables of the folder `data`: file, asked fields, and what they are about. The prover takes the square of a slice's values,
+/// so those of `memory` are a slice of their own.
 pub(crate) const TABLES: &[(&str, usize, About)] = &[
     ("patterns/parts", 1, About::Patterns),
     ("patterns/base_names", 1, About::BaseNames),
     ("patterns/wildmatch", 3, About::Wildmatch),
+    ("patterns/short_values", 1, About::ShortValues),
     ("patterns/pairs", 5, About::Pairs),
-    ("patterns/quotes", 1, About::Quotes),
+    ("patterns/tokens", 1, About::Tokens),
+    ("patterns/candidates", 3, About::Candidates),
+    ("patterns/indexes", 2, About::Indexes),
+    ("patterns/quotes", 1, About::Quotes(Memory::Taken)),
     ("patterns/bases", 2, About::Bases),
     ("patterns/below_bases", 4, About::BelowBases),
     ("lines/names", 1, About::Names),
     ("lines/items", 1, About::Items),
-    ("lines/lines", 1, About::Lines),
+    ("lines/states", 1, About::States),
+    ("lines/lines", 1, About::Lines(Memory::Taken)),
     ("lines/kept", 1, About::Kept),
     ("lines/kept_counts", 1, About::KeptCounts),
     ("plain/answers", 4, About::Plain),
     ("sources/locations", 3, About::Locations),
+    ("sources/globals", 1, About::Globals),
+    ("sources/added", 1, About::Added),
+    ("scripts/calls", 2, About::Calls),
     ("scripts/short", 1, About::Scripts),
     ("scripts/plays", 1, About::Plays),
     ("scripts/reports", 1, About::Reports),
+];
+
+/// The tables of the folder `memory`, whose rows are right whichever request for memory is refused.
+pub(crate) const MEMORY_TABLES: &[(&str, usize, About)] = &[
     ("memory/parts", 1, About::Patterns),
     ("memory/pairs", 5, About::Pairs),
-    ("memory/quotes", 1, About::Quotes),
+    ("memory/tokens", 1, About::Tokens),
+    ("memory/paths", 3, About::Paths(Memory::Taken)),
+    ("memory/plain_paths", 3, About::Paths(Memory::NotTaken)),
+    ("memory/candidates", 3, About::Candidates),
+    ("memory/indexes", 2, About::Indexes),
+    ("memory/quotes", 1, About::Quotes(Memory::Taken)),
+    ("memory/plain_quotes", 1, About::Quotes(Memory::NotTaken)),
     ("memory/bases", 2, About::Bases),
-    ("memory/lines", 1, About::Lines),
+    ("memory/below_bases", 4, About::BelowBases),
+    ("memory/names", 1, About::Names),
+    ("memory/items", 1, About::Items),
+    ("memory/states", 1, About::States),
+    ("memory/lines", 1, About::Lines(Memory::Taken)),
+    ("memory/plain_lines", 1, About::Lines(Memory::NotTaken)),
     ("memory/kept", 1, About::Kept),
+    ("memory/globals", 1, About::Globals),
+    ("memory/added", 1, About::Added),
 ];
 
 /// Compares each row of a table, describes those that differ, and reports how many rows there are. Empty lines and lines that
@@ -84,55 +119,83 @@ pub(crate) fn compare_table<F: Files>(
     for (index, line) in contents.split('\n').enumerate() {
         if !line.is_empty() && !line.starts_with('#') {
             compared = compared.saturating_add(1);
-            compare_row(alloc, table, line, index, differences)?;
+            compare_line(alloc, files, table, (index, line), differences)?;
         }
     }
     Ok(compared)
 }
 
-fn compare_row(
+fn compare_line<F: Files>(
     alloc: Global,
+    files: &mut F,
     table: Table,
-    line: &str,
-    index: usize,
+    (index, line): (usize, &str),
     differences: &mut String,
 ) -> Result<(), AllocError> {
-    let (file, number) = (table.file, index.saturating_add(1));
+    let mut difference = String::new(alloc);
+    compare_row(alloc, files, table, line, &mut difference)?;
+    if difference.is_empty() {
+        return Ok(());
+    }
+    push_difference(table.file, index, &difference, differences)
+}
+
+fn push_difference(
+    file: &str,
+    index: usize,
+    difference: &str,
+    differences: &mut String,
+) -> Result<(), AllocError> {
+    differences.push_str(file)?;
+    differences.push(':')?;
+    push_number(index.saturating_add(1), differences)?;
+    differences.push(' ')?;
+    differences.push_str(difference)?;
+    differences.push('\n')
+}
+
+// Describes how a row differs, if it does.
+fn compare_row<F: Files>(
+    alloc: Global,
+    files: &mut F,
+    table: Table,
+    line: &str,
+    difference: &mut String,
+) -> Result<(), AllocError> {
     let mut answer = Answer::new(alloc);
-    let mut answered = is_answered(alloc, table, line, &mut answer);
+    let mut answered = is_answered(alloc, files, table, line, &mut answer);
     if let Err(NoAnswer::OutOfMemory) = answered {
         answer.clear();
-        answered = is_answered(alloc, table, line, &mut answer);
+        answered = is_answered(alloc, files, table, line, &mut answer);
     }
     match answered {
         Ok(true) => Ok(()),
         Ok(false) => {
-            let answer = BStr::new(answer.as_slice());
-            write!(differences, "{file}:{number} answers {answer}\n")
+            difference.push_str("answers ")?;
+            push_shown(&BStr::new(answer.as_slice()), difference)
         }
-        Err(NoAnswer::NotARow | NoAnswer::Changed) => write!(
-            differences,
-            "{file}:{number} is no row\n"
-        ),
+        Err(NoAnswer::NotARow | NoAnswer::Changed) => difference.push_str("is no row"),
         Err(NoAnswer::OutOfMemory) => Err(AllocError),
     }
 }
 
 // Whether a row has the answer that it has to have.
-fn is_answered(
+fn is_answered<F: Files>(
     alloc: Global,
+    files: &mut F,
     table: Table,
     line: &str,
     answer: &mut Answer,
 ) -> Result<bool, NoAnswer> {
     let row = Row::read(alloc, line)?;
-    push_answer(alloc, table.about, &row, answer)?;
+    push_answer(alloc, files, table.about, &row, answer)?;
     let wanted = Answer::wanted(alloc, &row, table.asked)?;
     Ok(answer.as_slice() == wanted.as_slice())
 }
 
-fn push_answer(
+fn push_answer<F: Files>(
     alloc: Global,
+    files: &mut F,
     about: About,
     row: &Row,
     answer: &mut Answer,
@@ -140,18 +203,27 @@ fn push_answer(
     match about {
         About::Patterns => patterns::pattern(alloc, row, answer),
         About::BaseNames => patterns::base_name_of(row, answer),
-        About::Wildmatch => patterns::wildmatch(alloc, row, answer),
-        About::Pairs => patterns::pairs(alloc, row, answer),
-        About::Quotes => patterns::quote(alloc, row, answer),
+        About::Wildmatch => matches::wildmatch(alloc, row, answer),
+        About::ShortValues => matches::short_values(alloc, row, answer),
+        About::Pairs => matches::pairs(alloc, row, answer),
+        About::Tokens => matches::token_count(alloc, row, answer),
+        About::Paths(memory) => matches::path(alloc, memory, row, answer),
+        About::Candidates => matches::candidates(alloc, row, answer),
+        About::Indexes => matches::is_of_list(alloc, row, answer),
+        About::Quotes(memory) => patterns::quote(alloc, memory, row, answer),
         About::Bases => patterns::base(alloc, row, answer),
         About::BelowBases => patterns::below_base(alloc, row, answer),
-        About::Names => lines::name(row, answer),
+        About::Names => lines::name(alloc, row, answer),
         About::Items => lines::items(alloc, row, answer),
-        About::Lines => lines::lines(alloc, row, answer),
+        About::States => lines::states(row, answer),
+        About::Lines(memory) => lines::lines(alloc, memory, row, answer),
         About::Kept => lines::kept(alloc, row, answer),
         About::KeptCounts => lines::kept_counts(alloc, row, answer),
         About::Plain => plain::search(alloc, row, answer),
         About::Locations => sources::location(alloc, row, answer),
+        About::Globals => sources::globals(alloc, files, row, answer),
+        About::Added => sources::additions(alloc, files, row, answer),
+        About::Calls => scripts::call(alloc, files, row, answer),
         About::Scripts => scripts::run_twice(alloc, Input::Script, row, answer),
         About::Plays => scripts::played(alloc, row, answer),
         About::Reports => scripts::run_twice(alloc, Input::Lines, row, answer),

@@ -1,4 +1,4 @@
-//! Tests of `gix_attributes`: files and devices, lists that come and go, and refused memory.
+//! Tests of `gix_attributes`: files and devices, and refused memory.
 #![tactic(auto)]
 
 #[cfg(test)]

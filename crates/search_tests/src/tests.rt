@@ -1,6 +1,6 @@
-//! Files that are added, lists that come and go, and the same calls with one request for memory refused.
+//! Files that are read and added, and the same calls with one request for memory refused.
 mod added_files;
 mod files;
-mod lists;
 mod memory;
+mod order;
 mod sources;

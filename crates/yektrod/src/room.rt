@@ -1,6 +1,6 @@
 //! A writer that holds what fits into the room of a caller, and counts the rest.
 
-ghost use Rattle.std.specs.Prelude.{◌≡◌, ◌++◌, ℕ, List, IfOk, IsTrue, OnErr, Some, [], length, take};
+ghost use Rattle.std.specs.Prelude.{◌≡◌, ◌≤◌, ◌++◌, ℕ, List, IfOk, IsTrue, OnErr, Some, [], length, take};
 ghost use Rattle.yektrod.specs.Played.{counted_length, laid_in};
 
 mod taken;
@@ -21,6 +21,7 @@ pub struct Room {
     needed: usize,
     is_flushed: bool,
     pub(crate) taken: Taken,
+    ghost bound: { length held.items ≤ size },
     ghost front: { held.items ≡ take (length held.items) taken.text },
     ghost counted: { needed ≡ counted_length taken.text },
 }
@@ -28,7 +29,8 @@ pub struct Room {
 impl Room {
     /// A writer for a room of this length, to which nothing was written so far. It takes no memory.
     pub fn new(alloc: Global, size: usize) -> Room
-        ensures { result.taken.text ≡ [] }
+        ensures size { result.size ≡ size }
+        ensures nothing { result.taken.text ≡ [] }
     {
         Room {
             size,
@@ -91,7 +93,9 @@ impl Push for Room {
 
 // Holds what fits of these bytes beside what is held of the text before them, unless some of that was left out.
 fn hold(held: &mut Vec<u8>, needed: usize, size: usize, bytes: &[u8])
-    ensures { (text : List ℕ) → held.old.items ≡ take (length held.old.items) text →
+    requires { length held.old.items ≤ size }
+    ensures bound { length held.new.items ≤ size }
+    ensures front { (text : List ℕ) → held.old.items ≡ take (length held.old.items) text →
         needed ≡ counted_length text →
         held.new.items ≡ take (length held.new.items) (text ++ bytes.now) }
 {

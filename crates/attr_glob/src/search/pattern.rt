@@ -12,6 +12,7 @@ ghost use Rattle.attr_glob.specs.Views.{base_bytes};
 use crate::pattern::{Case, same_text, without_end};
 use crate::search;
 pub use crate::search::pattern::index::{Index, IndexBuffers};
+use attr_keys::key::{Key, Keyed};
 use bstr::BStr;
 use std::alloc::{AllocError, Global};
 
@@ -43,6 +44,17 @@ impl<V: Clone> Mapping<V> {
             value: self.value.clone()?,
             sequence_number: self.sequence_number,
         })
+    }
+}
+
+impl<V> Keyed for Mapping<V> {
+    ghost use Rattle.attr_glob.specs.inner.LineShapes.{key_of_pattern};
+
+    ghost content = { λ mapping. key_of_pattern mapping.pattern };
+
+    #[inline]
+    fn key(&self) -> Key<'_> {
+        self.pattern.key()
     }
 }
 

@@ -1,17 +1,28 @@
--- What is made of the lines of a list, and of its base (own).
-use Rattle.std.specs.Prelude.{◌≡◌, ℕ, List, Option, map}
-use Rattle.std.specs.List.{list_all}
-use Rattle.attr_glob.specs.Candidates.{has_macro_mode}
-use Rattle.attr_glob.specs.KeptTokens.{kept_tokens}
+-- What an index has of the lines of a list (own).
+use Rattle.std.specs.Prelude.{ℕ, List, map}
+use Rattle.attr_glob.specs.declared.search.pattern.Mapping.{Mapping}
+use Rattle.attr_keys.specs.inner.KeyContents.{KeyContent}
+use Rattle.attr_glob.specs.inner.LineShapes.{key_of_pattern}
 use Rattle.attr_glob.specs.Patterns.{Reading}
-use Rattle.attr_index.specs.declared.indexed_list.LineIndex.{LineIndex}
-use Rattle.attr_index.specs.inner.FolderKeys.{base_key}
-use Rattle.attr_index.specs.inner.LineTokens.{unboxed}
-use Rattle.attr_index.specs.inner.Trying.{key_of_line}
+use Rattle.attr_glob.specs.Views.{pattern_view}
+use Rattle.attr_index.specs.declared.indexed_line.IndexedLine.{IndexedLine}
 
--- keys and tokens of these lines, the key of this base, and whether each line defines a macro
-pub record IsIndexOf (lines : List Reading) (base : Option (List ℕ)) (index : LineIndex) : Type 0 where
-  pub keyed : index.keys ≡ map key_of_line lines
-  pub kept : map unboxed index.tokens.items ≡ map kept_tokens lines
-  pub based : index.base_key ≡ base_key base
-  pub idle : index.is_idle ≡ list_all has_macro_mode lines
+-- a line without what it assigns: its pattern, and its number in its file
+pub record NumberedPattern : Type 0 where
+  pub pattern : Reading
+  pub number : ℕ
+
+-- the lines of an index
+abbrev pub indexed_line : IndexedLine → NumberedPattern
+indexed_line l = record { pattern = pattern_view l.pattern; number = l.number }
+
+abbrev pub indexed_lines : List IndexedLine → List NumberedPattern
+indexed_lines lines = map indexed_line lines
+
+-- and their keys
+abbrev pub indexed_keys : List IndexedLine → List KeyContent
+indexed_keys lines = map (λ l. key_of_pattern l.pattern) lines
+
+-- the lines of a list
+abbrev pub lines_in : {V : Type 0} → List (Mapping V) → List NumberedPattern
+lines_in mappings = map (λ m. record { pattern = pattern_view m.pattern; number = m.sequence_number }) mappings

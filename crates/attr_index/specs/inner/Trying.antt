@@ -1,17 +1,10 @@
 -- Which lines of a list a search tries (own): some test decides, between the lines that match and the candidates.
 use Rattle.std.specs.Prelude.{◌≡◌, ℕ, Bool, true, false, List, reverse, Option, Some}
-use Rattle.attr_keys.specs.inner.LineKeys.{line_content}
-use Rattle.attr_keys.specs.KeyContents.{KeyContent}
 use Rattle.attr_wildmatch.specs.declared.case.Case.{Case}
 use Rattle.attr_glob.specs.BaseNames.{base_name}
 use Rattle.attr_glob.specs.Candidates.{has_macro_mode, is_candidate, places_where}
 use Rattle.attr_glob.specs.Paths.{path_matches}
 use Rattle.attr_glob.specs.Patterns.{Reading, reading}
-use Rattle.attr_glob.specs.inner.LineShapes.{shape_reading}
-
--- the key by which a line is found
-abbrev pub key_of_line : Reading → KeyContent
-key_of_line line = line_content (shape_reading line)
 
 -- each line that matches the path passes the test, of those that were read and define no macro
 abbrev pub TakesMatching : Case → List ℕ → (Reading → Bool) → Type 0

@@ -1,10 +1,10 @@
--- Texts and keys, in lower case if case doesn't matter (own).
-use Rattle.std.specs.Prelude.{ℕ, Bool, List, map, if◌then◌else◌}
+-- Texts and keys as they are read: in lower case if case doesn't matter, and from their last bytes on if ends are compared (own).
+use Rattle.std.specs.Prelude.{ℕ, Bool, List, [], map, Option, None, Some, if◌then◌else◌}
 use Rattle.std.specs.Char.{to_ascii_lowercase}
-use Rattle.attr_keys.specs.declared.key.Key.{Key}
 use Rattle.attr_keys.specs.declared.key.Keys.{Keys}
-use Rattle.attr_keys.specs.KeyContents.{KeyContent}
-use Rattle.attr_keys.specs.inner.Meeting.{key_content}
+use Rattle.attr_keys.specs.declared.key.View.{View}
+use Rattle.attr_keys.specs.inner.KeyContents.{KeyContent}
+use Rattle.attr_keys.specs.inner.Meeting.{directed, is_end}
 
 abbrev pub byte_in_case : Bool → ℕ → ℕ
 byte_in_case fold b = if fold then to_ascii_lowercase b else b
@@ -15,10 +15,25 @@ in_case fold text = if fold then map to_ascii_lowercase text else text
 abbrev pub content_in_case : Bool → KeyContent → KeyContent
 content_in_case fold key = record { subject = key.subject; text = in_case fold key.text; is_whole = key.is_whole }
 
--- the contents of keys
-abbrev pub key_contents : List Key → List KeyContent
-key_contents keys = map key_content keys
+-- a text, as it is read
+abbrev pub seen_text : View → List ℕ → List ℕ
+seen_text view text = in_case view.fold (directed view.from_end text)
 
--- the contents of keys, in the case in which they are looked up
-abbrev pub keys_in_case : Keys → List KeyContent
-keys_in_case keys = map (content_in_case keys.fold) (key_contents keys.all.now)
+-- the text of a key, as it stands in its line
+abbrev pub natural : KeyContent → List ℕ
+natural key = directed (is_end key.subject) key.text
+
+abbrev pub text_standing : Option KeyContent → List ℕ
+text_standing None = []
+text_standing (Some key) = natural key
+
+-- a key whose text is read like this
+abbrev pub seen : Bool → Bool → KeyContent → KeyContent
+seen fold from_end key = record { subject = key.subject; text = in_case fold (directed from_end (natural key)); is_whole = key.is_whole }
+
+abbrev pub seen_keys : Bool → Bool → List KeyContent → List KeyContent
+seen_keys fold from_end keys = map (seen fold from_end) keys
+
+-- the keys of lines, as they are read
+abbrev pub keys_seen : {K : Type 0} → (K → KeyContent) → Keys K → List KeyContent
+keys_seen content keys = seen_keys keys.view.fold keys.view.from_end (map content keys.lines.now)

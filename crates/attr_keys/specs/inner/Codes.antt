@@ -1,7 +1,7 @@
 -- The codes of keys and of texts (own): a key's codes begin those of each text that has the key.
 use Rattle.std.specs.Prelude.{ℕ, ◌+◌, Bool, false, List, [], ◌∷◌, ◌++◌, map, Option, Some, None, slice_get, if◌then◌else◌}
 use Rattle.std.specs.Char.{to_ascii_lowercase}
-use Rattle.attr_keys.specs.KeyContents.{KeyContent}
+use Rattle.attr_keys.specs.inner.KeyContents.{KeyContent}
 
 -- the code of a byte, above those of an end
 abbrev pub byte_code : Bool → ℕ → ℕ

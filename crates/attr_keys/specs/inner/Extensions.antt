@@ -1,9 +1,6 @@
 -- Extensions of names (own): a last dot and what follows it.
 use Rattle.std.specs.Prelude.{ℕ, Bool, false, not, ◌&&◌, ◌==◌, List, [], ◌∷◌, length, Option, Some, None, if◌then◌else◌}
-use Rattle.attr_keys.specs.KeyContents.{KeyContent}
-use Rattle.attr_keys.specs.declared.key.Subject.{Subject}
-use Rattle.attr_keys.specs.declared.key.Subject.TheVariants.{End}
-use Rattle.attr_keys.specs.inner.Meeting.{is_kind}
+use Rattle.attr_keys.specs.inner.KeyContents.{KeyContent}
 
 abbrev pub dot_byte : ℕ
 dot_byte = 46
@@ -19,15 +16,11 @@ extension [] = None
 extension (b ∷ bs) = or_from_dot (extension bs) b bs
 
 -- there is a dot, and the first one is the last byte: so an end is an extension, reversed
-abbrev pub is_turned_extension : List ℕ → Bool
-is_turned_extension [] = false
-is_turned_extension (b ∷ bs) = if b == dot_byte then length bs == 0 else is_turned_extension bs
+abbrev pub is_reversed_extension : List ℕ → Bool
+is_reversed_extension [] = false
+is_reversed_extension (b ∷ bs) = if b == dot_byte then length bs == 0 else is_reversed_extension bs
 
--- there is a key, which names with one extension have
-abbrev pub is_extension_key : Option KeyContent → Bool
-is_extension_key None = false
-is_extension_key (Some key) = is_kind End false (Some key) && is_turned_extension key.text
-
--- there is a key of this subject, neither whole nor an extension
-abbrev pub is_front : Subject → Option KeyContent → Bool
-is_front subject key = is_kind subject false key && not (is_extension_key key)
+-- the hash of a text tells whether it has the key: this is whole, or read from the end and an extension
+abbrev pub is_hashed : Bool → Option KeyContent → Bool
+is_hashed from_end None = false
+is_hashed from_end (Some key) = if from_end then not key.is_whole && is_reversed_extension key.text else key.is_whole

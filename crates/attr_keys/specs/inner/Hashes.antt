@@ -1,16 +1,14 @@
 -- Numbers of keys by hashes (own).
-use Rattle.std.specs.Prelude.{◌≡◌, ◌==◌, drop, ℕ, ◌+◌, ◌-◌, ◌*◌, ◌<◌, ◌≤◌, ◌/◌, ◌%◌, ◌^◌, true, false, if◌then◌else◌, List, [], ◌∷◌, length, map, nat_eq, slice_index, slice_index_or, nat_le, Some, option_map}
-use Rattle.std.specs.Hash.DefaultHasher as sip
+use Rattle.std.specs.Prelude.{◌≡◌, ◌==◌, drop, ℕ, ◌+◌, ◌-◌, ◌*◌, ◌<◌, ◌≤◌, ◌/◌, ◌%◌, ◌^◌, true, false, if◌then◌else◌, List, [], ◌∷◌, length, map, nat_eq, slice_index, slice_index_or, nat_le, bit_xor, Bool, Option, None, Some, option_map, slice_get}
 use Rattle.std.specs.Int.{from_le_bytes, rotate_left, w64}
-use Rattle.std.specs.Prelude.{bit_xor}
-use Rattle.std.specs.Prelude.{reverse}
 use Rattle.std.specs.List.{filter, starts_with}
 use Rattle.std.specs.List.Sorted.{IsNonDecreasingBy, IsPartitionPoint}
 use Rattle.attr_keys.specs.declared.hashed.HashedRow.{HashedRow}
 use Rattle.attr_keys.specs.declared.hashed.HashedRows.TheInside.{Inside}
-use Rattle.attr_keys.specs.KeyContents.{KeyContent}
+use Rattle.attr_keys.specs.inner.KeyContents.{KeyContent}
 use Rattle.attr_keys.specs.inner.Codes.{codes_of, row_codes}
-use Rattle.attr_keys.specs.inner.Extensions.{extension}
+use Rattle.attr_keys.specs.inner.Extensions.{extension, is_hashed}
+use Rattle.attr_keys.specs.inner.Meeting.{directed}
 
 -- the bytes of a text after a number, in 64 bits
 abbrev pub packed : ℕ → List ℕ → ℕ
@@ -19,10 +17,6 @@ packed number (b ∷ bs) = packed ((number * 256 % 2 ^ 64 + b) % 2 ^ 64) bs
 
 abbrev pub spread : ℕ
 spread = 11400714819323198485
-
--- the hash of a text: of a short one by its bytes
-abbrev pub text_hash : List ℕ → ℕ
-text_hash text = if nat_le (length text) 8 then packed 1 text * spread % 2 ^ 64 else sip.finish (sip.write sip.initial text)
 
 -- a number that both numbers change
 abbrev pub mixed : ℕ → ℕ → ℕ
@@ -54,26 +48,39 @@ AreAmong some all =
 abbrev pub hashed_view : Inside → List HashedRow
 hashed_view table = table.rows.items
 
--- the rows before this place are of earlier buckets, the others are not
+-- the rows before this index are of earlier buckets, the others are not
 pub record IsBucketStart (width : ℕ) (rows : List HashedRow) (bucket start : ℕ) : Type 0 where
   pub bound : start ≤ length rows
   pub point : IsPartitionPoint (λ h. h.hash / width < bucket) (λ h. bucket ≤ h.hash / width) rows start
 
--- The hashes don't fall, and each bucket, of so many hashes, has its start. One more start is the end of the last bucket.
+-- Each bucket, of so many hashes, has its start. One more start is the end of the last bucket.
+pub record AreStarts (width : ℕ) (rows : List HashedRow) (starts : List ℕ) : Type 0 where
+  pub count : length starts ≡ (2 ^ 64 - 1) / width + 2
+  pub each : (bucket : ℕ) → bucket < length starts → IsBucketStart width rows bucket (slice_index starts bucket)
+
+-- if there are buckets, the hashes don't fall
 pub record AreBuckets (table : Inside) : Type 0 where
-  pub order : IsNonDecreasingBy (λ h. h.hash) table.rows.items
-  pub width : 2 ≤ table.width
-  pub count : length table.starts.items ≡ (2 ^ 64 - 1) / table.width + 2
-  pub starts : (bucket : ℕ) → bucket < length table.starts.items →
-      IsBucketStart table.width table.rows.items bucket (slice_index table.starts.items bucket)
+  pub width : 0 < length table.starts.items → 2 ≤ table.width
+  pub order : 0 < length table.starts.items → IsNonDecreasingBy (λ h. h.hash) table.rows.items
+  pub starts : 0 < length table.starts.items → AreStarts table.width table.rows.items table.starts.items
 
--- each text that has the key has its hash
-abbrev pub IsHashOfKey : List KeyContent → HashedRow → Type 0
-IsHashOfKey keys h =
-    (text : List ℕ) → starts_with nat_eq (codes_of false text true) (row_codes keys h.row) ≡ true → h.hash ≡ quick_hash text
+-- the part of a text whose hash finds the keys that it has
+abbrev pub hashed_part : Bool → List ℕ → Option (List ℕ)
+hashed_part from_end text = if from_end then extension text else Some text
 
--- each name that, reversed, has the key has an extension of its hash
-abbrev pub IsHashOfExtension : List KeyContent → HashedRow → Type 0
-IsHashOfExtension keys h =
-    (name : List ℕ) → starts_with nat_eq (codes_of false (reverse name) true) (row_codes keys h.row) ≡ true →
-    option_map text_hash (extension name) ≡ Some h.hash
+abbrev pub text_of : Bool → Option KeyContent → List ℕ
+text_of from_end None = []
+text_of from_end (Some key) = directed from_end key.text
+
+-- the text of the key with this number, as it stands in its line
+abbrev pub text_of_row : Bool → List KeyContent → ℕ → List ℕ
+text_of_row from_end keys row = text_of from_end (slice_get keys row)
+
+abbrev pub hash_of_row : Bool → List KeyContent → ℕ → ℕ
+hash_of_row from_end keys row = quick_hash (text_of_row from_end keys row)
+
+-- the key is one that is found by its hash: each text that has the key has this hash, by a part of it
+pub record IsHashOfKey (from_end : Bool) (keys : List KeyContent) (h : HashedRow) : Type 0 where
+  pub kind : is_hashed from_end (slice_get keys h.row) ≡ true
+  pub finds : (text : List ℕ) → starts_with nat_eq (codes_of false (directed from_end text) true) (row_codes keys h.row) ≡ true →
+      option_map quick_hash (hashed_part from_end text) ≡ Some h.hash

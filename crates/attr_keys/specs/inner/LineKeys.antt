@@ -3,9 +3,9 @@ use Rattle.std.specs.Prelude.{ℕ, Bool, false, true, not, ◌==◌, List, [], d
 use Rattle.attr_keys.specs.declared.key.Subject.{Subject}
 use Rattle.attr_keys.specs.declared.key.Subject.TheVariants.{Name, End, Path, Anything, Nothing}
 use Rattle.attr_keys.specs.declared.line_key.Shape.{Shape}
-use Rattle.attr_keys.specs.KeyContents.{KeyContent}
+use Rattle.attr_keys.specs.inner.KeyContents.{KeyContent}
 
--- what a key needs of a line: its text, the place of the first wildcard, that it defines a macro, that it is matched against
+-- what a key needs of a line: its text, the offset of the first wildcard, that it defines a macro, that it is matched against
 -- base names, and that it is a star and an end
 pub record ShapeContent : Type 0 where
   pub text : List ℕ
@@ -30,8 +30,8 @@ no_text subject = record { subject = subject; text = []; is_whole = false }
 abbrev pub whole_text : Subject → List ℕ → KeyContent
 whole_text subject text = record { subject = subject; text = text; is_whole = true }
 
-abbrev pub turned_end : List ℕ → KeyContent
-turned_end end = record { subject = End; text = reverse end; is_whole = false }
+abbrev pub reversed_end : List ℕ → KeyContent
+reversed_end end = record { subject = End; text = reverse end; is_whole = false }
 
 -- a line that defines a macro, or names a base name or its end
 abbrev pub name_content : ShapeContent → Option KeyContent
@@ -39,21 +39,21 @@ name_content line =
     if line.is_macro then Some (no_text Nothing)
     else if not line.asks_name then None
     else if is_none line.wildcard then Some (whole_text Name line.text)
-    else if line.is_end then Some (turned_end (drop 1 line.text))
+    else if line.is_end then Some (reversed_end (drop 1 line.text))
     else None
 
 -- what stands before the first wildcard
-abbrev pub front_of : Subject → List ℕ → Option ℕ → KeyContent
-front_of subject text None = whole_text subject text
-front_of subject text (Some n) =
+abbrev pub prefix_of : Subject → List ℕ → Option ℕ → KeyContent
+prefix_of subject text None = whole_text subject text
+prefix_of subject text (Some n) =
     if n == 0 then no_text Anything else record { subject = subject; text = take n text; is_whole = false }
 
-abbrev pub front_content : ShapeContent → KeyContent
-front_content line = front_of (if line.asks_name then Name else Path) line.text line.wildcard
+abbrev pub prefix_content : ShapeContent → KeyContent
+prefix_content line = prefix_of (if line.asks_name then Name else Path) line.text line.wildcard
 
 -- what a base name needs, and what a path needs
 abbrev pub candidate_content : ShapeContent → KeyContent
 candidate_content line = unwrap_or (name_content line) (no_text Anything)
 
 abbrev pub line_content : ShapeContent → KeyContent
-line_content line = unwrap_or (name_content line) (front_content line)
+line_content line = unwrap_or (name_content line) (prefix_content line)

@@ -1,10 +1,10 @@
 -- Which keys the texts of a path have (own).
-use Rattle.std.specs.Prelude.{ℕ, Bool, true, false, not, ◌&&◌, if◌then◌else◌, List, reverse, Option, Some, None, nat_eq}
+use Rattle.std.specs.Prelude.{ℕ, Bool, true, false, if◌then◌else◌, List, reverse, Option, Some, None, nat_eq}
 use Rattle.std.specs.List.{starts_with}
 use Rattle.attr_keys.specs.declared.key.Key.{Key}
 use Rattle.attr_keys.specs.declared.key.Subject.{Subject}
 use Rattle.attr_keys.specs.declared.key.Subject.TheVariants.{Name, End, Path, Anything, Nothing}
-use Rattle.attr_keys.specs.KeyContents.{KeyContent}
+use Rattle.attr_keys.specs.inner.KeyContents.{KeyContent}
 use Rattle.attr_keys.specs.inner.Codes.{codes_of, key_codes}
 
 abbrev pub same_subject : Subject → Subject → Bool
@@ -20,18 +20,26 @@ abbrev pub is_about : Subject → Option KeyContent → Bool
 is_about subject None = false
 is_about subject (Some key) = same_subject subject key.subject
 
--- there is a key, of this subject, which is whole or isn't
-abbrev pub is_kind : Subject → Bool → Option KeyContent → Bool
-is_kind subject whole None = false
-is_kind subject whole (Some key) = same_subject subject key.subject && (if whole then key.is_whole else not key.is_whole)
-
 -- the text has the key
 abbrev pub text_has : List ℕ → Option KeyContent → Bool
 text_has text key = starts_with nat_eq (codes_of false text true) (key_codes key)
 
+-- keys of this subject are compared with base names from the last byte on
+abbrev pub is_end : Subject → Bool
+is_end End = true
+is_end _ = false
+
+-- a text, or the text from its last byte on
+abbrev pub directed : Bool → List ℕ → List ℕ
+directed from_end text = if from_end then reverse text else text
+
+abbrev pub is_whole_row : Option KeyContent → Bool
+is_whole_row None = false
+is_whole_row (Some key) = key.is_whole
+
 -- the content of a key
 abbrev pub key_content : Key → KeyContent
-key_content key = record { subject = key.subject; text = key.text.items; is_whole = key.is_whole }
+key_content key = record { subject = key.subject; text = directed (is_end key.subject) key.text.now; is_whole = key.is_whole }
 
 -- the text has a key of this content
 abbrev pub has_content : Bool → List ℕ → KeyContent → Bool

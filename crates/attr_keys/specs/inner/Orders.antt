@@ -1,48 +1,55 @@
 -- The numbers of each subject's keys, in their orders (own).
-use Rattle.std.specs.Prelude.{◌≡◌, ℕ, Bool, ◌&&◌, ◌||◌, List, All, not, reverse, Option, slice_get}
+use Rattle.std.specs.Prelude.{◌≡◌, ℕ, Bool, not, ◌&&◌, ◌||◌, List, All, map, reverse, Option, slice_get}
 use Rattle.attr_keys.specs.declared.key.Subject.{Subject}
 use Rattle.attr_keys.specs.declared.key.Subject.TheVariants.{Name, End, Path}
 use Rattle.attr_keys.specs.declared.key_index.KeyRows.{KeyRows}
+use Rattle.attr_keys.specs.declared.key_index.Sorted.{Sorted}
 use Rattle.attr_keys.specs.declared.key_index.SubjectRows.{SubjectRows}
-use Rattle.attr_keys.specs.KeyContents.{KeyContent}
-use Rattle.attr_keys.specs.declared.hashed.HashedRow.{HashedRow}
-use Rattle.attr_keys.specs.inner.Extensions.{is_extension_key}
-use Rattle.attr_keys.specs.inner.Hashes.{IsHashOfExtension, IsHashOfKey, hashed_rows}
-use Rattle.attr_keys.specs.inner.Meeting.{is_about, text_has}
-use Rattle.attr_keys.specs.inner.Rows.{AreFirsts, AreInOrder, has_row}
+use Rattle.attr_keys.specs.inner.KeyContents.{KeyContent}
+use Rattle.attr_keys.specs.inner.Cases.{content_in_case, seen_keys}
+use Rattle.attr_keys.specs.inner.Hashes.{IsHashOfKey, hashed_rows}
+use Rattle.attr_keys.specs.inner.Meeting.{is_about, is_end, is_whole_row, text_has}
+use Rattle.attr_keys.specs.inner.Rows.{ArePrefixes, has_row}
 
 -- the number is of a subject's key
 abbrev pub has_subject_row : SubjectRows → ℕ → Bool
-has_subject_row rows row = has_row rows.fronts.items row || has_row (hashed_rows rows.wholes) row
+has_subject_row rows row = has_row rows.prefixes.rows.items row || has_row (hashed_rows rows.hashed) row
 
--- there is a key of this subject, and it is no extension
-abbrev pub is_other : Subject → Option KeyContent → Bool
-is_other subject key = is_about subject key && not (is_extension_key key)
+-- rows by which keys are found
+pub record AreFindable (from_end : Bool) (keys : List KeyContent) (rows : SubjectRows) : Type 0 where
+  pub prefixes : ArePrefixes keys rows.prefixes
+  pub hashed : All (IsHashOfKey from_end keys) rows.hashed
 
--- the numbers of a subject's keys that are no extensions, in their orders
-pub record AreSubjectRows (subject : Subject) (keys : List KeyContent) (rows : SubjectRows) : Type 0 where
-  pub has : (row : ℕ) → has_subject_row rows row ≡ is_other subject (slice_get keys row)
-  pub fronts : AreInOrder keys rows.fronts.items
-  pub firsts : AreFirsts keys rows.fronts.items rows.firsts.items
-  pub wholes : All (IsHashOfKey keys) rows.wholes
+-- the numbers of a subject's keys
+pub record AreSubjectRows (subject : Subject) (fold : Bool) (keys : List KeyContent) (rows : SubjectRows) : Type 0 where
+  pub has : (row : ℕ) → has_subject_row rows row ≡ is_about subject (slice_get keys row)
+  pub found : AreFindable (is_end subject) (seen_keys fold (is_end subject) keys) rows
 
--- the numbers of the extensions
-pub record AreExtensions (keys : List KeyContent) (rows : List HashedRow) : Type 0 where
-  pub has : (row : ℕ) → has_row (hashed_rows rows) row ≡ is_extension_key (slice_get keys row)
-  pub hashes : All (IsHashOfExtension keys) rows
+pub record AreSorted (fold : Bool) (keys : List KeyContent) (rows : KeyRows) : Type 0 where
+  pub names : AreSubjectRows Name fold keys rows.names
+  pub ends : AreSubjectRows End fold keys rows.ends
+  pub paths : AreSubjectRows Path fold keys rows.paths
 
-pub record AreSorted (keys : List KeyContent) (rows : KeyRows) : Type 0 where
-  pub names : AreSubjectRows Name keys rows.names
-  pub extensions : AreExtensions keys rows.extensions
-  pub ends : AreSubjectRows End keys rows.ends
-  pub paths : AreSubjectRows Path keys rows.paths
+-- the keys of lines, in the case of their rows
+abbrev pub sorted_keys : {K : Type 0} → (K → KeyContent) → Sorted K → List KeyContent
+sorted_keys content sorted = map (content_in_case sorted.fold) (map content sorted.lines.now)
 
--- the key is a name's, and no extension, or it is an extension, and the base name has it
+-- the key is of a name or an end, and the base name has it
 abbrev pub has_by_name : List ℕ → Option KeyContent → Bool
-has_by_name name key = (is_other Name key && text_has name key) || (is_extension_key key && text_has (reverse name) key)
+has_by_name name key = (is_about Name key && text_has name key) || (is_about End key && text_has (reverse name) key)
 
--- the key is of a name, an end or a path, which has it
+-- the key is of a path, which has it
+abbrev pub has_by_path : List ℕ → Option KeyContent → Bool
+has_by_path path key = is_about Path key && text_has path key
+
 abbrev pub gathered : List ℕ → List ℕ → Option KeyContent → Bool
-gathered name path key =
-    (is_about Name key && text_has name key) || (is_about End key && text_has (reverse name) key)
-    || (is_about Path key && text_has path key)
+gathered name path key = has_by_name name key || has_by_path path key
+
+-- the key is not a whole one that the text doesn't have
+abbrev pub has_unless_other : List ℕ → Option KeyContent → Bool
+has_unless_other text key = not (is_whole_row key) || text_has text key
+
+-- the key is one that a path may have, as far as its base name tells
+abbrev pub may_have : List ℕ → Option KeyContent → Bool
+may_have name key =
+    (is_about Name key && has_unless_other name key) || (is_about End key && text_has (reverse name) key) || is_about Path key

@@ -5,7 +5,7 @@ use Rattle.attr_table.specs.Table.{Slots}
 use Rattle.attr_table.specs.Cut.{is_done}
 use Rattle.attr_table.specs.inner.Walk.{Task, Searches, left_in}
 use Rattle.attr_search.specs.declared.matching_line.MatchingLine.{MatchingLine}
-use Rattle.attr_search.specs.declared.matching_line.PendingItem.{PendingItem}
+use Rattle.attr_search.specs.declared.pending_item.PendingItem.{PendingItem}
 use Rattle.attr_search.specs.declared.slot_filler.SlotFiller.{SlotFiller}
 use Rattle.attr_search.specs.Settings.{BodiesAreNamed, HaveSlots, HeldAreNamed}
 use Rattle.attr_lists.specs.Numbers.{AreNamed}

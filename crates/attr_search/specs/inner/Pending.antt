@@ -1,20 +1,20 @@
 -- What waits on the stack of a search (own). Nothing here has to be believed.
-use Rattle.std.specs.Prelude.{◌≡◌, ℕ, ◌<◌, List, [], ◌∷◌, ◌++◌, map, length, All, Option, Some, None, slice_index_or, option_map, string_bytes}
+use Rattle.std.specs.Prelude.{◌≡◌, ℕ, ◌<◌, List, [], ◌∷◌, ◌++◌, map, length, All, Option, Some, None, slice_index_or}
 use Rattle.attr_text.specs.declared.state.State.TheVariants.{Unspecified}
 use Rattle.attr_lists.specs.declared.types.MatchKind.{MatchKind}
 use Rattle.attr_lists.specs.declared.types.TrackedAssignment.{TrackedAssignment}
 use Rattle.attr_table.specs.Setting.{Origin, Item}
 use Rattle.attr_table.specs.Table.{Slots}
 use Rattle.attr_table.specs.inner.Walk.{Task, backwards, tasks_in, free_items}
-use Rattle.attr_search.specs.declared.matching_line.PendingItem.{PendingItem}
+use Rattle.attr_search.specs.declared.pending_item.PendingItem.{PendingItem}
 use Rattle.attr_search.specs.declared.matching_line.MatchingLine.{MatchingLine}
 use Rattle.attr_search.specs.Matches.{is_macro_kind, cause_of}
 use Rattle.attr_search.specs.Slots.{Matched, table_item, table_items}
-use Rattle.attr_search.specs.inner.Slotted.{origin_of}
+use Rattle.attr_search.specs.inner.Slotted.{origin_at}
 
 -- the line that a match refers to
 abbrev pub line_origin : MatchingLine → Origin
-line_origin line = origin_of (option_map string_bytes line.source.now) line.mapping.now
+line_origin line = origin_at line.index.now.value line.line
 
 -- the match by an item of a line, or of a body that the line leads to
 abbrev pub item_match : MatchingLine → TrackedAssignment → MatchKind → Matched

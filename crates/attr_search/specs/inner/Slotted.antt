@@ -1,5 +1,5 @@
 -- Which attributes have slots, and views of lines and of bodies (own).
-use Rattle.std.specs.Prelude.{ℕ, List, map, All, Option, Vec}
+use Rattle.std.specs.Prelude.{ℕ, List, [], map, All, Option, None, Vec, option_map, slice_index_or, string_bytes}
 use Rattle.std.specs.Global.{Global}
 use Rattle.attr_glob.specs.declared.search.pattern.Mapping.{Mapping}
 use Rattle.attr_glob.specs.Views.{pattern_view}
@@ -8,6 +8,8 @@ use Rattle.attr_lists.specs.declared.types.TrackedAssignment.{TrackedAssignment}
 use Rattle.attr_lists.specs.declared.types.Value.{Value as LineValue}
 use Rattle.attr_table.specs.Setting.{Origin}
 use Rattle.attr_index.specs.ListView.{Listed}
+use Rattle.attr_index.specs.declared.line_index.LineIndex.{LineIndex}
+use Rattle.attr_index.specs.declared.indexed_line.IndexedLine.{IndexedLine}
 use Rattle.attr_search.specs.Settings.{HaveSlots}
 
 -- the items of all bodies, and of all lines of lists, have slots
@@ -30,6 +32,25 @@ origin_of source m =
       source = source;
       line = m.sequence_number;
     }
+
+-- where a line of an index is
+abbrev pub indexed_origin : Option (List ℕ) → IndexedLine → Origin
+indexed_origin source l =
+    record {
+      text = (pattern_view l.pattern).text;
+      mode = (pattern_view l.pattern).mode;
+      wildcard = (pattern_view l.pattern).wildcard;
+      source = source;
+      line = l.number;
+    }
+
+-- where the line past the last one is
+abbrev pub no_origin : Origin
+no_origin = record { text = []; mode = 0; wildcard = None; source = None; line = 0 }
+
+abbrev pub origin_at : LineIndex → ℕ → Origin
+origin_at index line =
+    slice_index_or (map (indexed_origin (option_map string_bytes index.source)) index.lines.items) line no_origin
 
 -- the bodies by number
 abbrev pub bodies_view : List (Vec TrackedAssignment Global) → List (List TrackedAssignment)

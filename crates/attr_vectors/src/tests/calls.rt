@@ -77,7 +77,7 @@ fn in_memory(alloc: Global, call: Call<'_>) -> Result<Memory, AllocError> {
     Ok(files)
 }
 
-/// Expects a call over its files in memory to leave this.
+/// Expects a call to leave this. Standard error moves as many bytes a call as standard output.
 pub(super) fn expect_printed(
     rt: &impl Abort,
     alloc: Global,
@@ -85,22 +85,18 @@ pub(super) fn expect_printed(
     wanted: Printed<'_>,
 ) -> Result<(), AllocError> {
     let mut files = in_memory(alloc, call)?;
-    expect_printed_over(rt, alloc, &mut files, call, wanted)
-}
-
-/// Expects a call over these files to leave this. Standard error moves as many bytes a call as standard output.
-pub(super) fn expect_printed_over<F: Files>(
-    rt: &impl Abort,
-    alloc: Global,
-    files: &mut F,
-    call: Call<'_>,
-    wanted: Printed<'_>,
-) -> Result<(), AllocError> {
     let args = arguments(alloc, call.args)?;
     let mut source = call.devices.source();
     let mut writer = call.devices.sink(alloc);
     let mut errors = call.devices.writes.sink(alloc);
-    let status = program(alloc, files, &args, &mut source, &mut writer, &mut errors);
+    let status = program(
+        alloc,
+        &mut files,
+        &args,
+        &mut source,
+        &mut writer,
+        &mut errors,
+    );
     let printed = Printed {
         status,
         errors: errors.bytes(),

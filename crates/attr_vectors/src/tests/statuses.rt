@@ -45,17 +45,20 @@ fn each_byte_alone_succeeds(rt: HostRuntime) {
     }
 }
 
-// Other arguments, which name no file that exists: the input is read as a script.
-const NAMES_OF_FILES: &[&[&str]] = &[&[], &["--lines", "--lines"], &["--line"], &[""]];
-
+// Nothing is read of the script.
 #[test]
-fn other_arguments_are_names_of_files(rt: HostRuntime) -> Result<(), AllocError> {
-    for args in NAMES_OF_FILES {
-        let call = call(args, Devices::at_once(INPUT));
-        let wanted = Printed::flushed(2, b"check_attr: malformed record 1\n", b"");
-        expect_printed(&rt, rt.alloc(), call, wanted)?;
-    }
-    Ok(())
+fn a_failed_file_ends_the_program(rt: HostRuntime) -> Result<(), AllocError> {
+    let call = Call {
+        files: &[("g1", b"* a\n!b c\n"), ("g3", b"* d\n")],
+        failing_file: 2,
+        ..call(&["g1", "g3"], Devices::at_once(b"ask l s f 1\nf\n"))
+    };
+    let wanted = Printed {
+        unread: 14,
+        failed_files: 1,
+        ..Printed::failed(b"check_attr: cannot read a global file\n")
+    };
+    expect_printed(&rt, rt.alloc(), call, wanted)
 }
 
 #[test]

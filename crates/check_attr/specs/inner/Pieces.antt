@@ -1,9 +1,13 @@
 -- What is written of a text, and what is held of it to be written later (own).
-use Rattle.std.specs.Prelude.{◌≡◌, ℕ, List, ◌++◌, Option, Result, Ok, Err}
+use Rattle.std.specs.Prelude.{◌≡◌, ◌<◌, ℕ, List, ◌++◌, length, Option, Result, Ok, Err}
 use Rattle.std.specs.Io.KnownBytes.{Appends}
 use Rattle.check_attr.specs.Failures.{AppendsFront, CountsOneEnd}
 use Rattle.check_attr.specs.declared.fault.Fault.{Fault}
 use Rattle.check_attr.specs.declared.fault.Fault.TheVariants.{Record, Read, Write, OutOfMemory}
+
+-- less than a piece is held: 65,536 bytes
+abbrev pub FillsNoPiece : List ℕ → Type 0
+FillsNoPiece held = length held < 65536
 
 -- a beginning of the text is written, and the rest of it is held
 abbrev pub IsWrittenOrHeld : Option (List ℕ) → Option (List ℕ) → List ℕ → List ℕ → Type 0

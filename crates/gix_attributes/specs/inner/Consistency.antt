@@ -4,7 +4,7 @@ use Rattle.std.specs.BTreeSet.{BTreeSet, contains}
 use Rattle.std.specs.List.{range_with_len}
 use Rattle.std.specs.Ordering.{nat_cmp}
 use Rattle.attr_glob.specs.Views.{pattern_view}
-use Rattle.attr_search.specs.inner.RefMapParts.{no_pattern}
+use Rattle.attr_search.specs.Matches.{no_pattern}
 use Rattle.gix_attributes.specs.Contents.{Wanted, is_wanted}
 use Rattle.gix_attributes.specs.Selection.{selection_view}
 use Rattle.attr_lists.specs.declared.types.TrackedAssignment.{TrackedAssignment}

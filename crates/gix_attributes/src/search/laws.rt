@@ -14,8 +14,14 @@ ghost use Rattle.gix_attributes.specs.Lookups.{IsLookedUp, IsSearchedFurther, Lo
 ghost use Rattle.gix_attributes.specs.Searching.{KeepsAllButAnswers, answers_in, is_complete, setting_for};
 ghost use Rattle.attr_index.specs.ListView.{Listed, rest_for};
 ghost use Rattle.attr_search.specs.Settings.{gives, setting_of};
+ghost use Rattle.std.specs.Cmp.Lexicographic.{pointwise, slice_cmp};
+ghost use Rattle.gix_attributes.specs.SearchViews.{pattern_lists_in};
 
 pub mod registers;
+
+use crate::search::Search;
+use attr_glob::search::pattern::List as PatternList;
+use attr_lists::types::Attributes;
 
 /// The answers of a search are those of the only stable table of its lists, each with its name: `iter_selected` returns
 /// the answer for each selected name, and `iter` all of them without a selection. Stopping early changes no answer.
@@ -68,4 +74,15 @@ pub fn silent_lists_change_nothing()
         (let all = setting_of (earlier ++ silent ∷ later) bodies path case is_dir in
         let others = setting_of (earlier ++ later) bodies path case is_dir in
         IsSearched all wanted before after ↔ IsSearched others wanted before after) }
+{}
+
+/// Searches compare by their lists alone, one by one in the order of their addition. The list ids under which a collection has
+/// registered them, and what a search keeps to find lists and lines, take no part.
+pub fn searches_compare_by_their_lists(one: &Search, other: &Search)
+    ensures equal { ⟦<Search as PartialEq>⟧.eq one.now other.now
+        ≡ pointwise ⟦<PatternList<Attributes> as PartialEq>⟧.eq
+        (pattern_lists_in one.now) (pattern_lists_in other.now) }
+    ensures order { ⟦<Search as Ord>⟧.cmp one.now other.now
+        ≡ slice_cmp ⟦<PatternList<Attributes> as Ord>⟧.cmp
+        (pattern_lists_in one.now) (pattern_lists_in other.now) }
 {}

@@ -6,7 +6,7 @@ ghost use Rattle.std.specs.Iterator.{YieldsFirstBy, item_count};
 ghost use Rattle.attr_glob.specs.Views.{pattern_view};
 ghost use Rattle.gix_attributes.specs.Contents.{found_in, selected_in, unspecified};
 ghost use Rattle.attr_search.specs.Matches.{match_view};
-ghost use Rattle.attr_search.specs.inner.RefMapParts.{no_pattern};
+ghost use Rattle.attr_search.specs.Matches.{no_pattern};
 
 use crate::search::outcome::Outcome;
 use crate::search::selected_name::SelectedName;

@@ -1,6 +1,6 @@
 //! What searches find.
 
-ghost use Rattle.std.specs.Prelude.{◌≡◌, ◌↔◌, ◌<◌, [], All, None, IfOk, IsTrue, MatchOption, OnErr, OnOk, true, drop, length, map, option_and_then, option_map, slice_get, slice_index_or};
+ghost use Rattle.std.specs.Prelude.{◌≡◌, ◌↔◌, ◌<◌, ◌≤◌, ◌*◌, [], All, None, IfOk, IsTrue, MatchOption, OnErr, OnOk, true, drop, length, map, option_and_then, option_map, slice_get, slice_index_or};
 ghost use Rattle.attr_table.specs.Cut.{is_done};
 ghost use Rattle.attr_glob.specs.Views.{pattern_view};
 ghost use Rattle.attr_lists.specs.ListViews.{entry_view};
@@ -13,7 +13,7 @@ ghost use Rattle.attr_search.specs.Settings.{HaveSlots};
 ghost use Rattle.attr_search.specs.Matches.{match_view};
 ghost use Rattle.gix_attributes.specs.Selection.{selection_view};
 ghost use Rattle.attr_search.specs.Slots.{slots_of};
-ghost use Rattle.attr_search.specs.inner.RefMapParts.{no_pattern};
+ghost use Rattle.attr_search.specs.Matches.{no_pattern};
 
 use crate::Search;
 use crate::search::collection::MetadataCollection;
@@ -88,7 +88,8 @@ impl Outcome {
     }
 
     /// Makes an empty slot for each name of a collection, and looks the selected names up again. It has to be called
-    /// whenever the collection has changed. What is as it was takes no memory anew.
+    /// whenever the collection has changed. Of the bodies only those that have changed are copied; the selection and
+    /// the set of macros are made anew.
     ///
     /// # Errors
     ///
@@ -246,6 +247,14 @@ impl Outcome {
             return false;
         }
         selection::are_bodies_of(self.state.bodies(), collection)
+    }
+
+    /// How many lines and assignments are kept for the answers (own): at most one of each for an answer, so none after
+    /// [`Outcome::reset`]. A line keeps the index of its list, which a removed list's answers outlive.
+    pub fn kept(&self) -> usize
+        ensures { result ≤ 2 * length (found_in self.now.slots) }
+    {
+        self.state.kept()
     }
 
     /// How many items the last search popped from its stack. It stops at `u128::MAX`.

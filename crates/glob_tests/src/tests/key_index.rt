@@ -1,8 +1,7 @@
 //! Lines that are found by their keys.
 
-use attr_keys::key::Key;
 use attr_keys::key_index::{KeyIndex, Texts};
-use attr_keys::line_key::{Shape, candidate_key, line_key};
+use attr_keys::line_key::Shape;
 use std::alloc::{AllocError, Global};
 use std::process::Abort;
 
@@ -58,25 +57,6 @@ macro_rules! definition {
     };
 }
 
-fn push_keys(alloc: Global, shapes: &[Shape<'_>], keys: &mut Vec<Key>) -> Result<(), AllocError> {
-    for shape in shapes {
-        keys.push(line_key(alloc, *shape)?)?;
-    }
-    Ok(())
-}
-
-// An index in a box: a proof drops the box by one call, and an index field by field, wherever it can end.
-fn boxed(alloc: Global, keys: Vec<Key>) -> Result<Box<KeyIndex>, AllocError> {
-    let index = KeyIndex::of(alloc, keys)?;
-    Ok(Box::new(alloc, index)?)
-}
-
-fn index_of(alloc: Global, shapes: &[Shape<'_>]) -> Result<Box<KeyIndex>, AllocError> {
-    let mut keys = Vec::new(alloc);
-    push_keys(alloc, shapes, &mut keys)?;
-    boxed(alloc, keys)
-}
-
 /// A look-up, and the lines that it finds.
 #[derive(Clone, Copy)]
 struct LookUp<'a> {
@@ -110,27 +90,28 @@ macro_rules! folded {
     };
 }
 
-fn found(alloc: Global, keys: &KeyIndex, lookup: LookUp<'_>) -> Result<Vec<usize>, AllocError> {
+fn found(alloc: Global, lines: &[Shape<'_>], lookup: LookUp<'_>) -> Result<Vec<usize>, AllocError> {
     let texts = Texts {
         name: lookup.name,
         path: lookup.path,
         fold: lookup.fold,
     };
-    let mut turned = Vec::new(alloc);
+    let keys = KeyIndex::of(alloc, lines)?;
+    let mut buffer = Vec::new(alloc);
     let mut found = Vec::new(alloc);
-    keys.find(texts, &mut turned, &mut found)?;
+    keys.find(lines, texts, &mut buffer, &mut found)?;
     Ok(found)
 }
 
 fn expect(
     rt: &impl Abort,
     alloc: Global,
-    keys: &KeyIndex,
+    lines: &[Shape<'_>],
     lookups: &[LookUp<'_>],
 ) -> Result<(), AllocError> {
     for lookup in lookups {
-        let lines = found(alloc, keys, *lookup)?;
-        assert_eq!(rt; lines.as_slice(), lookup.lines);
+        let found = found(alloc, lines, *lookup)?;
+        assert_eq!(rt; found.as_slice(), lookup.lines);
     }
     Ok(())
 }
@@ -159,8 +140,7 @@ const EACH_KEY: &[LookUp<'static>] = &[
 
 #[test]
 fn lines_of_each_key(rt: HostRuntime) -> Result<(), AllocError> {
-    let keys = index_of(rt.alloc(), SHAPES)?;
-    expect(&rt, rt.alloc(), &keys, EACH_KEY)
+    expect(&rt, rt.alloc(), SHAPES, EACH_KEY)
 }
 
 const LAST_BYTES: &[LookUp<'static>] = &[
@@ -170,8 +150,7 @@ const LAST_BYTES: &[LookUp<'static>] = &[
 
 #[test]
 fn ends_are_told_by_their_last_bytes(rt: HostRuntime) -> Result<(), AllocError> {
-    let keys = index_of(rt.alloc(), SHAPES)?;
-    expect(&rt, rt.alloc(), &keys, LAST_BYTES)
+    expect(&rt, rt.alloc(), SHAPES, LAST_BYTES)
 }
 
 const CANDIDATES: &[Shape<'static>] = &[
@@ -180,39 +159,46 @@ const CANDIDATES: &[Shape<'static>] = &[
     placed!(b"src/lib.rs", None),
 ];
 
-fn candidates(alloc: Global) -> Result<Box<KeyIndex>, AllocError> {
-    let mut keys: Vec<Key> = Vec::new(alloc);
-    for shape in CANDIDATES {
-        keys.push(candidate_key(alloc, *shape)?)?;
-    }
-    boxed(alloc, keys)
+fn found_candidates(
+    alloc: Global,
+    lines: &[Shape<'_>],
+    name: &[u8],
+) -> Result<Vec<usize>, AllocError> {
+    let texts = Texts {
+        name,
+        path: b"",
+        fold: false,
+    };
+    let keys = KeyIndex::of(alloc, lines)?;
+    let mut buffer = Vec::new(alloc);
+    let mut found = Vec::new(alloc);
+    keys.find_candidates(lines, texts, &mut buffer, &mut found)?;
+    Ok(found)
 }
 
 #[test]
-fn candidates_know_no_fronts(rt: HostRuntime) -> Result<(), AllocError> {
-    let keys = candidates(rt.alloc())?;
-    expect(&rt, rt.alloc(), &keys, &[exact!(b"x", b"x", &[2, 0])])
+fn candidates_know_no_prefixes(rt: HostRuntime) -> Result<(), AllocError> {
+    let found = found_candidates(rt.alloc(), CANDIDATES, b"x")?;
+    assert_eq!(&rt; found.as_slice(), [2, 0].as_slice());
+    Ok(())
 }
 
-fn push_letter(alloc: Global, letter: u8, keys: &mut Vec<Key>) -> Result<(), AllocError> {
-    let text = [letter, b'/', b'x', letter];
-    let (end, front) = ([b'*', b'.', letter], [letter, b'/', b'*']);
-    let shapes = [
-        named!(&text[2..], None),
-        ending!(&end),
-        placed!(&front, Some(2)),
-        placed!(&text, None),
-    ];
-    push_keys(alloc, &shapes, keys)
-}
+// For each of twelve letters the texts of an end, a path and a base name in one.
+const TEXTS: &[&[u8]] = &[
+    b"*.a/xa", b"*.b/xb", b"*.c/xc", b"*.d/xd", b"*.e/xe", b"*.f/xf", b"*.g/xg", b"*.h/xh",
+    b"*.i/xi", b"*.j/xj", b"*.k/xk", b"*.l/xl",
+];
 
-// For each of twelve letters the keys of the name xa, *.a, a/* and a/xa, and so on.
-fn many_keys(alloc: Global) -> Result<Box<KeyIndex>, AllocError> {
-    let mut keys = Vec::new(alloc);
-    for letter in b"abcdefghijkl" {
-        push_letter(alloc, *letter, &mut keys)?;
+// For each of twelve letters the lines of the name xa, *.a, a/* and a/xa, and so on.
+fn letter_lines(alloc: Global) -> Result<Vec<Shape<'static>>, AllocError> {
+    let mut lines = Vec::new(alloc);
+    for text in TEXTS {
+        lines.push(named!(&text[4..], None))?;
+        lines.push(ending!(&text[..3]))?;
+        lines.push(placed!(&text[2..], Some(2)))?;
+        lines.push(placed!(&text[2..], None))?;
     }
-    boxed(alloc, keys)
+    Ok(lines)
 }
 
 const LETTERS: &[LookUp<'static>] = &[
@@ -225,31 +211,66 @@ const LETTERS: &[LookUp<'static>] = &[
 
 #[test]
 fn many_keys_are_looked_up(rt: HostRuntime) -> Result<(), AllocError> {
-    let keys = many_keys(rt.alloc())?;
-    expect(&rt, rt.alloc(), &keys, LETTERS)
+    let lines = letter_lines(rt.alloc())?;
+    expect(&rt, rt.alloc(), &lines, LETTERS)
 }
 
-// The keys of a*, aa* and so on, up to twelve letters.
-fn fronts(alloc: Global) -> Result<Box<KeyIndex>, AllocError> {
-    let text = b"aaaaaaaaaaaa*";
-    let mut keys = Vec::new(alloc);
-    for front in 1..13 {
-        let shape = named!(&text[12 - front..], Some(front));
-        keys.push(line_key(alloc, shape)?)?;
+const TWELVE_PREFIXES: &[&[u8]] = &[
+    b"a*",
+    b"aa*",
+    b"aaa*",
+    b"aaaa*",
+    b"aaaaa*",
+    b"aaaaaa*",
+    b"aaaaaaa*",
+    b"aaaaaaaa*",
+    b"aaaaaaaaa*",
+    b"aaaaaaaaaa*",
+    b"aaaaaaaaaaa*",
+    b"aaaaaaaaaaaa*",
+];
+
+const EIGHT_MORE: &[&[u8]] = &[
+    b"aaaaaaaaaaaaa*",
+    b"aaaaaaaaaaaaaa*",
+    b"aaaaaaaaaaaaaaa*",
+    b"aaaaaaaaaaaaaaaa*",
+    b"aaaaaaaaaaaaaaaaa*",
+    b"aaaaaaaaaaaaaaaaaa*",
+    b"aaaaaaaaaaaaaaaaaaa*",
+    b"aaaaaaaaaaaaaaaaaaaa*",
+];
+
+// The star of each text is its last byte.
+fn push_prefix_lines(
+    texts: &[&'static [u8]],
+    lines: &mut Vec<Shape<'static>>,
+) -> Result<(), AllocError> {
+    for text in texts {
+        lines.push(named!(text, text.len().checked_sub(1)))?;
     }
-    boxed(alloc, keys)
+    Ok(())
 }
 
-const FRONTS: &[LookUp<'static>] = &[
+const PREFIXES: &[LookUp<'static>] = &[
     exact!(b"aaab", b"aaab", &[2, 1, 0]),
     exact!(b"aaaaaaaaaaa", b"x", &[10, 9, 8, 7, 6, 5, 4, 3, 2, 1, 0]),
     folded!(b"ba", b"ba", &[]),
 ];
 
 #[test]
-fn fronts_of_fronts_are_found(rt: HostRuntime) -> Result<(), AllocError> {
-    let keys = fronts(rt.alloc())?;
-    expect(&rt, rt.alloc(), &keys, FRONTS)
+fn prefixes_of_prefixes_are_found(rt: HostRuntime) -> Result<(), AllocError> {
+    let mut lines = Vec::new(rt.alloc());
+    push_prefix_lines(TWELVE_PREFIXES, &mut lines)?;
+    expect(&rt, rt.alloc(), &lines, PREFIXES)
+}
+
+#[test]
+fn many_prefixes_of_prefixes_are_found(rt: HostRuntime) -> Result<(), AllocError> {
+    let mut lines = Vec::new(rt.alloc());
+    push_prefix_lines(TWELVE_PREFIXES, &mut lines)?;
+    push_prefix_lines(EIGHT_MORE, &mut lines)?;
+    expect(&rt, rt.alloc(), &lines, PREFIXES)
 }
 
 // Names for which a hash by multiplications, of eight bytes at once and then of the last eight, is the same.
@@ -276,33 +297,33 @@ const CROWD: &[&[u8]] = &[
     b"tHieMgf1y\xE1C\xC8|I\x1EjAAAAAAAA",
 ];
 
-fn crowded(alloc: Global) -> Result<Box<KeyIndex>, AllocError> {
-    let mut keys = Vec::new(alloc);
+fn crowded_lines(alloc: Global) -> Result<Vec<Shape<'static>>, AllocError> {
+    let mut lines = Vec::new(alloc);
     for name in CROWD {
-        keys.push(line_key(alloc, named!(name, None))?)?;
+        lines.push(named!(name, None))?;
     }
-    boxed(alloc, keys)
+    Ok(lines)
 }
 
-fn expect_crowd(rt: &impl Abort, alloc: Global, keys: &KeyIndex) -> Result<(), AllocError> {
+fn expect_crowd(rt: &impl Abort, alloc: Global, lines: &[Shape<'_>]) -> Result<(), AllocError> {
     for (line, name) in CROWD.iter().enumerate() {
-        expect(rt, alloc, keys, &[exact!(name, name, &[line])])?;
+        expect(rt, alloc, lines, &[exact!(name, name, &[line])])?;
     }
     Ok(())
 }
 
 #[test]
 fn names_that_share_a_hash_are_told_apart(rt: HostRuntime) -> Result<(), AllocError> {
-    let keys = crowded(rt.alloc())?;
-    expect_crowd(&rt, rt.alloc(), &keys)
+    let lines = crowded_lines(rt.alloc())?;
+    expect_crowd(&rt, rt.alloc(), &lines)
 }
 
-fn twenty_equal_keys(alloc: Global) -> Result<Box<KeyIndex>, AllocError> {
-    let mut keys = Vec::new(alloc);
+fn twenty_equal_lines(alloc: Global) -> Result<Vec<Shape<'static>>, AllocError> {
+    let mut lines = Vec::new(alloc);
     for _ in 0..20 {
-        keys.push(line_key(alloc, named!(b"same", None))?)?;
+        lines.push(named!(b"same", None))?;
     }
-    boxed(alloc, keys)
+    Ok(lines)
 }
 
 const TWENTY_LINES: &[usize] = &[
@@ -311,11 +332,11 @@ const TWENTY_LINES: &[usize] = &[
 
 #[test]
 fn a_name_of_many_lines(rt: HostRuntime) -> Result<(), AllocError> {
-    let keys = twenty_equal_keys(rt.alloc())?;
+    let lines = twenty_equal_lines(rt.alloc())?;
     expect(
         &rt,
         rt.alloc(),
-        &keys,
+        &lines,
         &[exact!(b"same", b"same", TWENTY_LINES)],
     )
 }

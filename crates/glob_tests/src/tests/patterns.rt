@@ -1,7 +1,16 @@
-//! The modes of patterns, and the order of modes and cases.
+//! The modes of patterns, the order of modes and cases, and the text of a refusal.
 use attr_glob::pattern::{Case, Mode};
+use attr_glob::quote::ansi_c::UndoError;
 use bitflags::Flags;
+use std::alloc::AllocError;
 use std::process::Abort;
+
+#[test]
+fn want_of_memory_has_its_text(rt: HostRuntime) -> Result<(), AllocError> {
+    let text = format!(in rt.alloc(); "{}", UndoError::OutOfMemory)?;
+    assert_eq!(rt; text.as_str(), "out of memory");
+    Ok(())
+}
 
 #[test]
 fn orders_modes_and_cases(rt: HostRuntime) {
@@ -47,6 +56,12 @@ fn modes_have_names(rt: HostRuntime) {
 
 #[test]
 fn modes_change(rt: HostRuntime) {
+    let mut mode = Mode::NO_SUB_DIR.union(Mode::NEGATIVE);
+    expect_bits(&rt, mode, 9);
+    assert!(rt; mode.contains(Mode::NEGATIVE));
+    mode.insert(Mode::ABSOLUTE);
+    mode.remove(Mode::NEGATIVE);
+    expect_bits(&rt, mode, 17);
     let mut mode = Mode::from_bits_retain(33);
     mode.insert(Mode::NEGATIVE);
     expect_bits(&rt, mode, 41);

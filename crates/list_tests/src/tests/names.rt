@@ -1,9 +1,10 @@
-//! Names, states and assignments: conversions, comparisons and printed forms.
+//! Names and states: conversions, order and printed forms.
 //!
 //! A function that owns a copy takes long to prove, once more for each place where it can end. So the functions that
 //! own one end in few places.
+use attr_lists::parse;
 use attr_text::state::{Value, ValueRef};
-use attr_text::{AssignmentRef, Name, NameRef, StateRef, name};
+use attr_text::{Name, NameRef, StateRef, name};
 use bstr::BStr;
 use std::alloc::{AllocError, Global};
 use std::process::Abort;
@@ -15,29 +16,16 @@ pub(super) fn name_of(text: &str) -> Result<NameRef<'_>, Fail> {
     Ok(NameRef::try_from(BStr::from(text))?)
 }
 
-/// What the refusal of a name says is refused, or none if the name is valid.
-pub(super) fn refused(text: &[u8]) -> Option<BStr<'_>> {
-    match NameRef::try_from(BStr::new(text)) {
-        Ok(_) => None,
-        Err(name::Error::InvalidName(input)) => Some(input),
-    }
-}
-
 #[test]
-fn a_refusal_has_its_text(rt: HostRuntime) -> Result<(), AllocError> {
+fn refusals_have_their_texts(rt: HostRuntime) -> Result<(), AllocError> {
     let text = format!(in rt.alloc(); "{}", name::Error::InvalidName(BStr::from("-a")))?;
     assert_eq!(rt;
         text.as_str(),
         "Attribute has non-ascii characters or starts with '-'"
     );
+    let text = format!(in rt.alloc(); "{}", parse::Error::OutOfMemory)?;
+    assert_eq!(rt; text.as_str(), "out of memory");
     Ok(())
-}
-
-/// Whether an owned name and its copy are equal to the borrowed one.
-pub(super) fn is_name_copied(alloc: Global, borrowed: NameRef<'_>) -> Result<bool, AllocError> {
-    let owned = borrowed.to_owned(alloc)?;
-    let copy = owned.clone(alloc)?;
-    Ok((owned.as_ref() == borrowed) & (copy == owned))
 }
 
 fn printed(alloc: Global, borrowed: NameRef<'_>) -> Result<String, AllocError> {
@@ -77,61 +65,23 @@ fn names_compare_as_their_text(rt: HostRuntime) -> Result<(), Fail> {
 }
 
 #[test]
+fn a_value_is_made_of_a_text(rt: HostRuntime) -> Result<(), AllocError> {
+    let value = Value::from_str_in(rt.alloc(), "true")?;
+    assert!(rt; value.as_ref() == ValueRef::from("true"));
+    Ok(())
+}
+
+#[test]
 fn a_state_of_bytes_is_a_value(rt: HostRuntime) {
     let value = StateRef::from_bytes(b"true");
     assert!(rt; value == StateRef::Value(ValueRef::from("true")));
     assert!(rt; value == StateRef::Value(ValueRef::from_bytes(b"true")));
     assert!(rt; ValueRef::from("true").as_bstr() == BStr::from("true"));
+    let lf = ValueRef::from("lf");
+    assert!(rt; ValueRef::from_bytes(b"lf") == lf && lf.as_bstr() == BStr::from("lf"));
     assert!(rt; value.is_set());
     assert!(rt; !value.is_unset());
     assert!(rt; !value.is_unspecified());
     assert!(rt; value.as_bstr() == Some(BStr::from("true")));
     assert!(rt; StateRef::Set.as_bstr().is_none());
-}
-
-/// Whether an owned state and its copy are equal to the borrowed one.
-pub(super) fn is_state_copied(alloc: Global, borrowed: StateRef<'_>) -> Result<bool, AllocError> {
-    let owned = borrowed.to_owned(alloc)?;
-    let copy = owned.clone(alloc)?;
-    Ok((owned.as_ref() == borrowed) & (copy == owned))
-}
-
-/// Whether a value of this text, an owned one, and a copy are equal.
-pub(super) fn is_value_copied(alloc: Global, text: &str) -> Result<bool, AllocError> {
-    let value = Value::from_str_in(alloc, text)?;
-    let owned = ValueRef::from(text).to_owned(alloc)?;
-    let copy = value.clone(alloc)?;
-    Ok((value.as_ref() == ValueRef::from(text)) & (owned == value) & (copy == value))
-}
-
-/// Whether an owned assignment and its copy are equal to the borrowed one.
-pub(super) fn is_assignment_copied(
-    alloc: Global,
-    borrowed: AssignmentRef<'_>,
-) -> Result<bool, AllocError> {
-    let owned = borrowed.to_owned(alloc)?;
-    let copy = owned.clone(alloc)?;
-    Ok((owned.as_ref() == borrowed) & (copy == owned))
-}
-
-#[test]
-fn copies_are_equal(rt: HostRuntime) -> Result<(), Fail> {
-    let (name, state) = (name_of("eol")?, StateRef::from_bytes(b"lf"));
-    assert!(rt; is_name_copied(rt.alloc(), name_of("diff")?)?);
-    assert!(rt; is_state_copied(rt.alloc(), StateRef::from_bytes(b"true"))?);
-    assert!(rt; is_value_copied(rt.alloc(), "true")?);
-    assert!(rt; is_assignment_copied(rt.alloc(), AssignmentRef { name, state })?);
-    Ok(())
-}
-
-fn printed_assignment(alloc: Global, borrowed: AssignmentRef<'_>) -> Result<String, AllocError> {
-    format!(in alloc; "{borrowed}")
-}
-
-#[test]
-fn assignments_are_printed(rt: HostRuntime) -> Result<(), Fail> {
-    let (name, state) = (name_of("eol")?, StateRef::from_bytes(b"lf"));
-    let text = printed_assignment(rt.alloc(), AssignmentRef { name, state })?;
-    assert_eq!(rt; text.as_str(), "eol=lf");
-    Ok(())
 }

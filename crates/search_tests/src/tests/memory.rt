@@ -1,20 +1,15 @@
-//! Lists and files return the right answer when a call is repeated, whichever request for memory was refused.
+//! Files return the right answer when a call is repeated, whichever request for memory was refused.
 //!
 //! `tests/refused_memory.sh` refuses one request of a test in turn. The repeated call gets its memory.
-use super::added_files::{push_globals_of_two_files, push_two_added_files};
-use super::lists::push_moved;
 use gix_attributes::files::{Files, Memory};
 use gix_attributes::{Prefixes, Source};
 use std::alloc::{AllocError, Global};
 use std::fmt::Write;
 use std::process::Abort;
 
-/// What is reported once more if it finds no memory.
+// What is reported once more if it finds no memory.
 #[derive(Clone, Copy)]
 enum Report {
-    Moved,
-    Globals,
-    AddedFiles,
     Replaced,
     FileOfUser,
 }
@@ -22,9 +17,6 @@ enum Report {
 impl Report {
     fn push(self, alloc: Global, out: &mut String) -> Result<(), AllocError> {
         match self {
-            Report::Moved => push_moved(alloc, out),
-            Report::Globals => push_globals_of_two_files(alloc, out),
-            Report::AddedFiles => push_two_added_files(alloc, out),
             Report::Replaced => push_replaced(alloc, out),
             Report::FileOfUser => push_file_of_user(alloc, out),
         }
@@ -44,23 +36,6 @@ fn expect_report(
     }
     assert_eq!(rt; out.as_str(), answer);
     Ok(())
-}
-
-#[test]
-fn without_memory_lists_are_numbered_again(rt: HostRuntime) -> Result<(), AllocError> {
-    expect_report(&rt, rt.alloc(), Report::Moved, "y:\nm: x y\nx:\n")
-}
-
-#[test]
-fn without_memory_globals_are_read_again(rt: HostRuntime) -> Result<(), AllocError> {
-    let answer = "2 true 2:NegativePattern ; ; binary diff merge text a ";
-    expect_report(&rt, rt.alloc(), Report::Globals, answer)
-}
-
-#[test]
-fn without_memory_files_are_added_again(rt: HostRuntime) -> Result<(), AllocError> {
-    let answer = "added 2:NegativePattern ; missing ; added ; 2 true a d | * d\n";
-    expect_report(&rt, rt.alloc(), Report::AddedFiles, answer)
 }
 
 const OLD: &[u8] = b"* a\n";

@@ -11,8 +11,9 @@ ghost use Rattle.attr_glob.specs.inner.LineShapes.{folds, shape_reading};
 use crate::pattern::{Case, Mode, base_name};
 use crate::search::pattern::List;
 use crate::{Pattern, search};
+use attr_keys::key::{Key, Keyed};
 use attr_keys::key_index::{KeyIndex, Texts};
-use attr_keys::line_key::{Shape, candidate_key};
+use attr_keys::line_key::{Shape, line_key};
 use bitflags::Flags;
 use bstr::BStr;
 use std::alloc::{AllocError, Global};
@@ -79,14 +80,8 @@ impl Index {
     fn from_patterns(alloc: Global, patterns: Vec<Pattern>) -> Result<Index, AllocError>
         ensures { IfOk result (λ index. index ≡ map pattern_view patterns.items) }
     {
-        let mut keys = Vec::with_capacity(alloc, patterns.len())?;
-        for pattern in &patterns {
-            keys.push(candidate_key(alloc, shape_of(pattern))?)?;
-        }
-        Ok(Index {
-            patterns,
-            keys: KeyIndex::of(alloc, keys)?,
-        })
+        let keys = KeyIndex::of(alloc, &patterns)?;
+        Ok(Index { patterns, keys })
     }
 
     /// Whether the index was made of a list with the same patterns in the same order.
@@ -152,8 +147,12 @@ impl Index {
             path: base_name,
             fold: folds(case),
         };
-        self.keys
-            .find(texts, &mut buffers.turned, &mut buffers.found)?;
+        self.keys.find_candidates(
+            &self.patterns,
+            texts,
+            &mut buffers.turned,
+            &mut buffers.found,
+        )?;
         places.extend_from_slice(&buffers.found)
     }
 }
@@ -164,8 +163,19 @@ fn is_same_pattern(x: &Pattern, y: &Pattern) -> bool
     x == y
 }
 
-// Whether letters of different case are the same.
-fn folds(case: Case) -> bool
+impl Keyed for Pattern {
+    ghost use Rattle.attr_glob.specs.inner.LineShapes.{key_of_pattern};
+
+    ghost content = { key_of_pattern };
+
+    #[inline]
+    fn key(&self) -> Key<'_> {
+        line_key(shape_of(self))
+    }
+}
+
+/// Whether letters of different case are the same.
+pub fn folds(case: Case) -> bool
     ensures { result ≡ folds case }
 {
     match case {
@@ -175,6 +185,7 @@ fn folds(case: Case) -> bool
 }
 
 // The parts of the pattern that decide its key.
+#[inline]
 fn shape_of(pattern: &Pattern) -> Shape<'_>
     ensures { shape_content result ≡ shape_reading (pattern_view pattern.now) }
 {

@@ -2,15 +2,16 @@ use Rattle.std.proofs.Common.{◌∙◌}
 use Rattle.attr_keys.proofs.Parts.{has_if_long, lacks_if_other}
 use Rattle.attr_keys.proofs.key.has_row_key.Goals as goal
 
-pub returns-then-front-text : goal.returns-then-front-text
-returns-then-front-text c =
-    let fold = c.args.keys.fold in
+pub returns-then-part-text : goal.returns-then-part-text
+returns-then-part-text g c =
+    let view = c.args.keys.view in
     let key = c.parts-is_whole.result in
-    lacks_if_other fold c.args.text.now key.0.now _ key.1 (c.parts-is_whole.ensures fold) c.if-is_whole.true c.if-front-text.true
+    lacks_if_other view.fold view.from_end c.args.text.now key.0.now _ key.1 (c.parts-is_whole.ensures.codes view.fold view.from_end) c.if-is_whole.true
+    c.if-part-text.true
 
 pub returns : goal.returns
-returns c =
-    let fold = c.args.keys.fold in
+returns g c =
+    let view = c.args.keys.view in
     let key = c.parts-is_whole.result in
-    c.begins_in_case.ensures
-    ∙ has_if_long fold c.args.text.now key.0.now _ key.1 (c.parts-is_whole.ensures fold) c.else-is_whole.either
+    c.has_part.ensures
+    ∙ has_if_long view.fold view.from_end c.args.text.now key.0.now _ key.1 (c.parts-is_whole.ensures.codes view.fold view.from_end) c.else-is_whole.either

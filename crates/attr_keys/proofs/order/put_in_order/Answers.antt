@@ -1,11 +1,12 @@
 use Rattle.std.proofs.Common.{rules}
-use Rattle.attr_keys.specs.inner.Cases.{key_contents}
+use Rattle.attr_keys.specs.inner.Cases.{keys_seen}
 use Rattle.attr_keys.proofs.Ordering.{same_rows, sorted_by_codes}
 use Rattle.attr_keys.proofs.order.put_in_order.Goals as goal
 
 pub returns-clause-rows : goal.returns-clause-rows
-returns-clause-rows c = λ row. same_rows c.args.rows.now.items c.sort_unstable_by.new.self.items row c.sort_unstable_by.ensures.permutation
+returns-clause-rows g c = λ row. same_rows c.args.rows.now.items c.sort_unstable_by.new.self.items row c.sort_unstable_by.ensures.permutation
 
 pub returns-clause-order : goal.returns-clause-order
-returns-clause-order c =
-    sorted_by_codes (key_contents c.args.keys.now) c.sort_unstable_by.new.self.items c.sort_unstable_by.ensures.sorted (λ a r q k. search rules)
+returns-clause-order g c =
+    sorted_by_codes (keys_seen g.K.Keyed.content c.args.keys) c.sort_unstable_by.new.self.items c.sort_unstable_by.ensures.sorted
+    (λ a r q k. search rules)

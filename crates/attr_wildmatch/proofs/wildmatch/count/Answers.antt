@@ -41,3 +41,7 @@ returns-clause-found c = λ t ts a.
 
 pub returns-clause-missed : goal.returns-clause-missed
 returns-clause-missed c = λ f ts a. subst (λ x. ReachedAtMost c.args.case x c.args.value.now c.count.result.1) (only c ts a) c.count.ensures.missed
+
+-- a text whose tokens were read is not malformed
+pub returns-clause-malformed : goal.returns-clause-malformed
+returns-clause-malformed c = λ none. absurd (none c.in-Some.tokens (spelled c.args.text.now c.in-Some.tokens (read_as c)))

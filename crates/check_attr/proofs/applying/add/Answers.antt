@@ -10,4 +10,4 @@ returns-clause-text g c =
     subst
     (λ lines. Passes g.W.Push.contents g.W.Push.failed g.W.Push.stalled c.args.writer.now c.pass_dropped.new.writer c.pass_dropped.new.held
     (c.args.held.now ++ flat_map (dropped_text c.args.addition.source.now) lines) c.pass_dropped.result)
-    (c.dropped.ensures ∙ ap (λ (held : EngineContent). held.dropped) c.in_ok-add.ensures.added) c.pass_dropped.ensures
+    (c.dropped.ensures ∙ ap (λ (held : EngineContent). held.dropped) c.in_ok-add.ensures.added) c.pass_dropped.ensures.passed

@@ -3,7 +3,7 @@ use Rattle.std.specs.Prelude.{unwrap_or}
 use Rattle.std.specs.List.{flat_map}
 use Rattle.gix_attributes.specs.EngineStates.{AnswersTo}
 use Rattle.check_attr.specs.Script.{ask}
-use Rattle.check_attr.specs.inner.MatchText.{matched_text}
+use Rattle.check_attr.specs.ScriptText.{entry_text}
 use Rattle.check_attr.specs.inner.ScriptViews.{question_view}
 use Rattle.check_attr.proofs.AnswerLemmas.{answer_text_of}
 use Rattle.check_attr.proofs.PieceLemmas.{refused_at_once}
@@ -24,7 +24,7 @@ returns-clause-text g c =
     let before = c.args.engine.now in
     let after = c.ask.new.self in
     let found = subst (λ path. AnswersTo path q.case q.is_dir before after) c.from.ensures c.in_ok-ask.ensures.answers in (
-      flat_map (matched_text q after.state.names) (unwrap_or after.answers []),
+      flat_map (entry_text q.form after.state.names q.path) (unwrap_or after.answers []),
       answer_text_of q before after found,
-      c.pass_answers.ensures,
+      c.pass_answers.ensures.passed,
     )

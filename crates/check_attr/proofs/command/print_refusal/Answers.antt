@@ -5,10 +5,10 @@ use Rattle.check_attr.proofs.command.print_refusal.Goals as goal
 
 pub returns-in-Io : goal.returns-in-Io
 returns-in-Io g c =
-    subst (Prints g.E.Push.contents g.E.Push.failed g.E.Push.stalled c.args.errors.now c.print.new.errors)
+    subst (Prints g.E.Push.contents g.E.Push.failed g.E.Push.stalled g.E.Push.Flushed c.args.errors.now c.print.new.errors)
     (ap refusal_line (sym c.in-Io.is)) c.print.ensures
 
 pub returns-in-OutOfMemory : goal.returns-in-OutOfMemory
 returns-in-OutOfMemory g c =
-    subst (Prints g.E.Push.contents g.E.Push.failed g.E.Push.stalled c.args.errors.now c.print-in-OutOfMemory.new.errors)
+    subst (Prints g.E.Push.contents g.E.Push.failed g.E.Push.stalled g.E.Push.Flushed c.args.errors.now c.print-in-OutOfMemory.new.errors)
     (ap refusal_line (sym c.in-OutOfMemory.is)) c.print-in-OutOfMemory.ensures

@@ -40,7 +40,7 @@ returns-in-Ok-clause-script g c = λ other.
       loaded.0,
       loaded.1,
       c.print.new.errors,
-      subst (Prints g.E.Push.contents g.E.Push.failed g.E.Push.stalled c.args.errors.now c.print.new.errors)
+      subst (Prints g.E.Push.contents g.E.Push.failed g.E.Push.stalled g.E.Push.Flushed c.args.errors.now c.print.new.errors)
           (c.deref.ensures.value ∙ (loaded.3 ∙ text)) c.print.ensures,
       outcome,
       c.finish-in-Ok.ensures.status,

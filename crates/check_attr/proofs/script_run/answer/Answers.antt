@@ -1,4 +1,4 @@
-use Rattle.std.proofs.Common.{◌<◌, ◌+◌, Some, None, Ok, ◌++◌, length, option_map, refl, sym, ap, ◌∙◌, subst, arith, eqb-true}
+use Rattle.std.proofs.Common.{◌≡◌, ◌<◌, ◌+◌, Some, None, Ok, ◌++◌, length, option_map, refl, sym, ap, ◌∙◌, subst, arith, eqb-true}
 use Rattle.std.specs.Prelude.{◌==◌, ⊤}
 use Rattle.check_attr.specs.Script.{BeginsWithRecord}
 use Rattle.check_attr.specs.inner.ScriptParts.{IsFirstRecord}
@@ -12,15 +12,17 @@ use Rattle.check_attr.proofs.TextLemmas.{OneText-of}
 use Rattle.check_attr.proofs.script_run.answer.Goals as goal
 
 pub loop-rest-init : goal.loop-rest-init
-loop-rest-init g c = record {
-  counted = omega arith;
-  passed = (
-    c.args.held.now,
-    holds_all g.W.Push.contents g.W.Push.failed g.W.Push.stalled c.args.writer.now c.args.held.now,
-    λ malformed others left.
-        subst (λ xs. Writes c.args.engine.now.state 1 c.args.script.now malformed (xs ++ others)) (sym c.requires) left,
-  );
-}
+loop-rest-init g c =
+    let nothing : length c.args.held.now ≡ 0 = ap length c.requires in record {
+      counted = omega arith;
+      unfilled = omega arith;
+      passed = (
+        c.args.held.now,
+        holds_all g.W.Push.contents g.W.Push.failed g.W.Push.stalled c.args.writer.now c.args.held.now,
+        λ malformed others left.
+            subst (λ xs. Writes c.args.engine.now.state 1 c.args.script.now malformed (xs ++ others)) (sym c.requires) left,
+      );
+    }
 
 pub loop-rest-preserved : goal.loop-rest-preserved
 loop-rest-preserved g c =
@@ -31,6 +33,7 @@ loop-rest-preserved g c =
     let so_far = c.loop-rest.invariant.passed in
     record {
       counted = omega (arith, less, c.loop-rest.invariant.counted);
+      unfilled = applied.unfilled;
       passed = (
         so_far.0 ++ applied.text.0,
         passes_on g.W.Push.contents g.W.Push.failed g.W.Push.stalled _ _ _ _ _ _ (Ok c.in_ok-apply.field-0)

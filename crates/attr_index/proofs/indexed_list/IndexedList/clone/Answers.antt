@@ -1,18 +1,31 @@
-use Rattle.std.proofs.Common.{◌≡◌, sym, subst}
+use Rattle.std.proofs.Common.{◌≡◌, ◌∙◌, ap, sym, subst, option_map, string_bytes}
+use Rattle.std.specs.List.{list_all}
 use Rattle.std.proofs.Math.Logic.{∥∥₁_map}
+use Rattle.attr_glob.specs.Candidates.{has_macro_mode}
 use Rattle.attr_lists.specs.ListViews.{entries_view}
+use Rattle.attr_index.specs.declared.line_index.LineIndex.{LineIndex}
+use Rattle.attr_index.specs.inner.FolderKeys.{base_key}
+use Rattle.attr_index.specs.inner.LineIndexes.{indexed_lines}
 use Rattle.attr_index.specs.inner.ReadLines.{AreRead}
-use Rattle.attr_index.proofs.IndexedListLemmas.{copied_lines, copied_list}
+use Rattle.attr_index.proofs.IndexedListLemmas.{copied_lines, copied_list, same_lines, same_patterns}
 use Rattle.attr_index.proofs.indexed_list.IndexedList.clone.Goals as goal
 
-pub with-requires-clause-read : goal.with-requires-clause-read
-with-requires-clause-read c =
-    let own = c.args.self.now.list.patterns.items in
-    let lines : entries_view c.in_ok-list.list.patterns.items ≡ entries_view own =
-    copied_lines own c.in_ok-list.list.patterns.items c.in_ok-list.ensures.patterns in
-    ∥∥₁_map c.args.self.now.read (subst AreRead (sym lines))
+pub invariant_of-result : goal.invariant_of-result
+invariant_of-result c =
+    let own = c.args.self.now in
+    let before = own.list.patterns.items in
+    let copy = c.in_ok-list.list in
+    let lines : entries_view copy.patterns.items ≡ entries_view before =
+    copied_lines before copy.patterns.items c.in_ok-list.ensures.patterns in
+    record {
+      lines = ap (λ (x : LineIndex). indexed_lines x.lines.items) c.in_ok-index.ensures.cases ∙ own.lines
+          ∙ sym (same_lines before copy.patterns.items lines);
+      source = ap (λ (x : LineIndex). option_map string_bytes x.source) c.in_ok-index.ensures.cases ∙ own.source ∙ sym c.in_ok-list.ensures.source;
+      based = own.based ∙ ap base_key (sym c.in_ok-list.ensures.base);
+      idle = own.idle ∙ ap (list_all has_macro_mode) (sym (same_patterns before copy.patterns.items lines));
+      read = ∥∥₁_map own.read (subst AreRead (sym lines));
+    }
 
 pub returns-clause-list : goal.returns-clause-list
 returns-clause-list c =
-    rw c.with.ensures.list
-    (copied_list c.args.self.now.list c.in_ok-list.list c.in_ok-list.ensures.patterns c.in_ok-list.ensures.source c.in_ok-list.ensures.base)
+    copied_list c.args.self.now.list c.in_ok-list.list c.in_ok-list.ensures.patterns c.in_ok-list.ensures.source c.in_ok-list.ensures.base

@@ -1,24 +1,33 @@
-use Rattle.std.proofs.Common.{◌≡◌, ◌∙◌, sym, ap, subst, length}
+use Rattle.std.proofs.Common.{◌≡◌, ◌∙◌, sym, ap, subst, length, option_map, string_bytes}
+use Rattle.std.specs.List.{list_all}
+use Rattle.attr_glob.specs.Candidates.{has_macro_mode}
 use Rattle.attr_glob.specs.Views.{patterns_of}
 use Rattle.attr_lists.specs.ListViews.{entries_view}
 use Rattle.attr_lists.specs.Numbers.{numbered_lines}
 use Rattle.attr_lists.specs.Definitions.{with_list, HoldsList}
+use Rattle.attr_index.specs.declared.line_index.LineIndex.{LineIndex}
+use Rattle.attr_index.specs.inner.LineIndexes.{indexed_lines, lines_in}
 use Rattle.attr_index.specs.inner.ReadLines.{AreRead}
-use Rattle.attr_index.proofs.IndexedListLemmas.{numbered_lines_read, numbered_read, numbered_length, written}
+use Rattle.attr_index.proofs.IndexedListLemmas.{numbered_lines_in, numbered_read, numbered_length, written}
 use Rattle.attr_index.proofs.indexed_list.IndexedList.register.Goals as goal
 
-pub with-requires-clause-index : goal.with-requires-clause-index
-with-requires-clause-index c =
+pub invariant_of-result-clause-lines : goal.invariant_of-result-clause-lines
+invariant_of-result-clause-lines c =
     let names = c.add.new.self.names in
     let before = c.args.list.patterns.items in
     let after = c.add.new.mappings in
     let numbered = c.in_ok-list_id.ensures.numbered ∙ ap (λ ms. numbered_lines names (entries_view ms)) c.deref_mut.ensures.value in
     let whole = written before after c.args.list.patterns.len (sym c.deref_mut.ensures.len ∙ ap length c.deref_mut.ensures.value)
     (numbered_length names before after numbered) in
-    rw (ap patterns_of whole ∙ numbered_lines_read names before after numbered) c.in_ok-index.ensures
+    ap (λ (x : LineIndex). indexed_lines x.lines.items) c.in_ok-index.ensures.ok ∙ c.in_ok-of.ensures.lines
+    ∙ sym (ap lines_in whole ∙ numbered_lines_in names before after numbered)
 
-pub with-requires-clause-read : goal.with-requires-clause-read
-with-requires-clause-read c =
+pub invariant_of-result-clause-source : goal.invariant_of-result-clause-source
+invariant_of-result-clause-source c =
+    ap (λ (x : LineIndex). option_map string_bytes x.source) c.in_ok-index.ensures.ok ∙ c.in_ok-of.ensures.source
+
+pub invariant_of-result-clause-read : goal.invariant_of-result-clause-read
+invariant_of-result-clause-read c =
     let names = c.add.new.self.names in
     let before = c.args.list.patterns.items in
     let after = c.add.new.mappings in
@@ -41,5 +50,8 @@ returns-clause-holds c =
     let numbered = c.in_ok-list_id.ensures.numbered ∙ ap (λ ms. numbered_lines names (entries_view ms)) c.deref_mut.ensures.value in
     let whole = written before after c.args.list.patterns.len (sym c.deref_mut.ensures.len ∙ ap length c.deref_mut.ensures.value)
     (numbered_length names before after numbered) in
-    rw (c.with.ensures.list_id, c.with.ensures.list)
-    (subst (λ ms. HoldsList c.add.new.self c.in_ok-list_id.list_id (entries_view ms)) (sym whole) c.in_ok-list_id.ensures.holds)
+    subst (λ ms. HoldsList c.add.new.self c.in_ok-list_id.list_id (entries_view ms)) (sym whole) c.in_ok-list_id.ensures.holds
+
+pub invariant_of-result-clause-idle : goal.invariant_of-result-clause-idle
+invariant_of-result-clause-idle c =
+    c.are_macros-is_idle.ensures ∙ ap (λ ms. list_all has_macro_mode (patterns_of ms)) c.deref.ensures.value

@@ -5,4 +5,4 @@ use Rattle.attr_search.proofs.slots.AnswerSlots.remaining.Goals as goal
 pub returns : goal.returns
 returns c =
     let b = c.self.inside in
-    rw (← c.self.view_is) (c.self.invariant.counted ∙ left_seen b.wanted b.matches.refs b.slots.items)
+    rw (← c.self.view_is) (c.self.invariant.counted ∙ left_seen b.wanted b.parts b.slots.items)

@@ -1,11 +1,12 @@
-use Rattle.std.proofs.Common.{◌≡◌, List, Option, None, length, map, option_map, refl, sym, ap, ◌∙◌}
+use Rattle.std.proofs.Common.{arith, ◌≡◌, List, Option, None, length, map, option_map, refl, sym, ap, ◌∙◌}
 use Rattle.std.proofs.lemmas.List.{length-map}
 use Rattle.attr_table.specs.Setting.{Origin}
 use Rattle.attr_search.specs.Slots.{Matched}
-use Rattle.attr_search.specs.declared.refmap.MatchRef.{MatchRef}
-use Rattle.attr_search.specs.inner.Refs.{origin_by_ref}
+use Rattle.attr_search.specs.declared.answer_parts.MatchRef.{MatchRef}
+use Rattle.attr_search.specs.inner.AnswerRefs.{line_by_ref}
 use Rattle.attr_lists.specs.declared.types.TrackedAssignment.{TrackedAssignment}
 use Rattle.attr_search.specs.inner.BodyChanges.{changed_bodies, sized_bodies}
+use Rattle.attr_search.specs.inner.PartsContents.{PartsContent}
 use Rattle.attr_search.specs.inner.SlotContents.{SlotContents, count_remaining}
 use Rattle.attr_search.proofs.BodyLemmas.{told_ok}
 use Rattle.attr_search.proofs.SlotLemmas.{empty_cut, empty_listed, empty_seen, empty_within}
@@ -17,31 +18,35 @@ pub invariant_of-self-2 : goal.invariant_of-self-2
 invariant_of-self-2 c =
     let slots = c.truncate-2.new.self.items in
     let wanted = c.args.wanted in
+    let made = told_ok c.set_up.result c.is_err.result c.is_err.ensures.value c.if-is_err.false c.set_up.ensures.ok in
     let cut = empty_cut c.self.inside.slots.items c.grow.new.slots.items c.empty.new.slots.items slots c.len-count.result wanted c.len-count.ensures
     c.in_ok-grow.ensures.ok c.empty.ensures.items c.truncate-2.ensures.items in
     record {
       same_length = sym (ap length cut ∙ length-map wanted (λ flag. None));
-      within = empty_within c.set_up.new.self.refs slots wanted cut;
-      line = rw (told_ok c.set_up.result c.is_err.result c.is_err.ensures.value c.if-is_err.false c.set_up.ensures.line) tt;
+      within = empty_within c.set_up.new.self slots wanted cut;
+      line = rw made tt;
       counted = c.count-self-inside.ensures ∙ sym (count_empty MatchRef wanted wanted refl) ∙ ap (count_remaining wanted) (sym cut);
       listed = rw c.clear.ensures.items (empty_listed slots wanted cut);
       ordered = λ t. rising_nothing c.clear.new.self.items c.clear.ensures.items;
+      few_lines = rw made (omega arith);
+      few_assignments = rw made (omega arith);
     }
 
 pub returns-clause-ok : goal.returns-clause-ok
 returns-clause-ok c =
     let slots = c.truncate-2.new.self.items in
     let wanted = c.args.wanted in
-    let store = c.set_up.new.self.refs in
+    let parts = c.set_up.new.self in
     let bodies = changed_bodies c.args.changes.items (sized_bodies (length wanted) c.args.self.now.bodies) in
-    let line = told_ok c.set_up.result c.is_err.result c.is_err.ensures.value c.if-is_err.false c.set_up.ensures.line in
-    let changed : store.bodies ≡ bodies = told_ok c.set_up.result c.is_err.result c.is_err.ensures.value c.if-is_err.false c.set_up.ensures.bodies
-    ∙ ap (λ n. changed_bodies c.args.changes.items (sized_bodies n c.self.inside.matches.refs.bodies)) c.len-count.ensures
+    let made = told_ok c.set_up.result c.is_err.result c.is_err.ensures.value c.if-is_err.false c.set_up.ensures.ok in
+    let line = ap (λ (p : PartsContent). p.line) made in
+    let changed : parts.bodies ≡ bodies = ap (λ (p : PartsContent). p.bodies) made
+    ∙ ap (λ n. changed_bodies c.args.changes.items (sized_bodies n c.self.inside.parts.bodies)) c.len-count.ensures
     ∙ ap (λ v. changed_bodies c.args.changes.items (sized_bodies (length wanted) v.bodies)) c.self.view_is in
     let cut = empty_cut c.self.inside.slots.items c.grow.new.slots.items c.empty.new.slots.items slots c.len-count.result wanted c.len-count.ensures
     c.in_ok-grow.ensures.ok c.empty.ensures.items c.truncate-2.ensures.items in
     let View : List (Option Matched) → Option Origin → List (List TrackedAssignment) → SlotContents = λ answers line bodies. record
     { answers = answers; wanted = wanted; line = line; bodies = bodies } in
-    ap (λ a. View a (option_map (origin_by_ref store) c.set_up.new.self.line) store.bodies) (empty_seen store slots wanted cut)
-    ∙ ap (λ l. View (map (λ flag. None) wanted) (option_map (origin_by_ref store) l) store.bodies) line
+    ap (λ a. View a (option_map (line_by_ref parts) parts.line) parts.bodies) (empty_seen parts slots wanted cut)
+    ∙ ap (λ l. View (map (λ flag. None) wanted) (option_map (line_by_ref parts) l) parts.bodies) line
     ∙ ap (View (map (λ flag. None) wanted) None) changed

@@ -1,0 +1,195 @@
+-- Parts of texts that are cut from them, and texts that begin with others.
+use Rattle.std.proofs.Common.{◌≡◌, ◌≢◌, ℕ, zero, suc, ◌+◌, ◌<◌, ◌≤◌, ◌⊎◌, inl, inr, Bool, true, false, List, [], ◌∷◌, length, take, drop, map, refl, sym, ap}
+use Rattle.std.proofs.Common.{◌∙◌, arith, nat_eq, get_or}
+use Rattle.std.specs.Bool.{OnFalse}
+use Rattle.std.specs.Char.{to_ascii_lowercase}
+use Rattle.std.specs.Cmp.Lexicographic.{pointwise, bytes_decides, slice_cmp}
+use Rattle.std.specs.List.{starts_with}
+use Rattle.std.specs.Ordering.{nat_cmp}
+use Rattle.std.proofs.lemmas.Bool.Decides.{nat_tests}
+use Rattle.attr_keys.specs.inner.Cases.{in_case}
+use Rattle.attr_keys.specs.inner.Codes.{codes_of}
+use Rattle.attr_keys.specs.inner.Meeting.{directed}
+use Rattle.attr_keys.specs.inner.Rows.{IsCommon}
+use Rattle.attr_keys.proofs.Parts.{no_end, shifted}
+use Rattle.attr_keys.proofs.RowLemmas.{by_test}
+use Rattle.attr_keys.proofs.SeenTexts.{codes_in_case, directed_in_case, directed_twice, length-directed, length-in_case}
+
+pub on_false : {P : Type 0} (b : Bool) → (b ≡ false → P) → OnFalse b P
+on_false true f = tt
+on_false false f = f refl
+
+-- a key that a text has is no longer than it
+found_short : (text key : List ℕ) → starts_with nat_eq text key ≡ true → length key ≤ length text
+found_short text [] h = omega arith
+found_short [] (c ∷ cs) h = absurd cc
+found_short (t ∷ ts) (c ∷ cs) h = let le = found_short ts cs (by_test (nat_eq c t) (λ e. rw e at h)
+    (λ e. let no : false ≡ true = rw e at h in absurd cc)) in omega arith
+
+long_in_case : (fold from_end : Bool) (part : List ℕ) → length (in_case fold (directed from_end part)) ≡ length part
+long_in_case fold from_end part = length-in_case fold (directed from_end part) ∙ length-directed from_end part
+
+take_map : (f : ℕ → ℕ) (n : ℕ) (xs : List ℕ) → take n (map f xs) ≡ map f (take n xs)
+take_map f zero xs = refl
+take_map f (suc n) [] = refl
+take_map f (suc n) (x ∷ xs) = ap (λ l. f x ∷ l) (take_map f n xs)
+
+take_in_case : (fold : Bool) (n : ℕ) (text : List ℕ) → take n (in_case fold text) ≡ in_case fold (take n text)
+take_in_case false n text = refl
+take_in_case true n text = take_map to_ascii_lowercase n text
+
+directed_same : (from_end : Bool) (x y : List ℕ) → directed from_end x ≡ directed from_end y → x ≡ y
+directed_same from_end x y e = sym (directed_twice from_end x) ∙ (ap (directed from_end) e ∙ directed_twice from_end y)
+
+-- a text begins with a part just if what is cut from it is the part
+pub begins_if_cut : (fold from_end : Bool) (text part own : List ℕ) → directed from_end own ≡ take (length part) (directed from_end text) →
+    (b : Bool) → (b ≡ true → own ≡ in_case fold part) → (own ≡ in_case fold part → b ≡ true) →
+    b ≡ starts_with nat_eq (directed from_end text) (in_case fold (directed from_end part))
+begins_if_cut fold from_end text part own cut b so back =
+    decide b so back
+    ∙ sym (ap (λ n. pointwise nat_eq part' (take n (directed from_end text))) (long_in_case fold from_end part) ∙ ap (pointwise nat_eq part') (sym cut))
+  where
+    part' : List ℕ
+    part' = in_case fold (directed from_end part)
+
+    same : own ≡ in_case fold part → part' ≡ directed from_end own
+    same e = sym (directed_in_case from_end fold part) ∙ ap (directed from_end) (sym e)
+
+    decide : (r : Bool) → (r ≡ true → own ≡ in_case fold part) → (own ≡ in_case fold part → r ≡ true) → r ≡ pointwise nat_eq part' (directed from_end own)
+    decide true so back = sym ((bytes_decides part' (directed from_end own)).1 (same (so refl)))
+    decide false so back =
+        by_test (pointwise nat_eq part' (directed from_end own))
+        (λ t.
+        let e = (bytes_decides part' (directed from_end own)).0 t in
+        back (directed_same from_end own (in_case fold part) (sym (directed_in_case from_end fold part ∙ e))) ∙ sym t)
+        (λ f. sym f)
+
+-- what is cut from a text that begins with a part, in lower case
+cut_same : (fold from_end : Bool) (text part own : List ℕ) → directed from_end own ≡ take (length part) (directed from_end text) →
+    starts_with nat_eq (in_case fold (directed from_end text)) (in_case fold (directed from_end part)) ≡ true → in_case fold own ≡ in_case fold part
+cut_same fold from_end text part own cut begins =
+    let part' = in_case fold (directed from_end part) in
+    let text' = in_case fold (directed from_end text) in
+    let is : pointwise nat_eq part' (in_case fold (directed from_end own)) ≡ true =
+    ap (λ l. pointwise nat_eq part' (in_case fold l)) cut
+    ∙ (ap (pointwise nat_eq part') (sym (take_in_case fold (length part) (directed from_end text)))
+    ∙ (ap (λ n. pointwise nat_eq part' (take n text')) (sym (long_in_case fold from_end part)) ∙ begins)) in
+    let e = (bytes_decides part' (in_case fold (directed from_end own))).0 is in
+    directed_same from_end (in_case fold own) (in_case fold part)
+    (directed_in_case from_end fold own ∙ (sym e ∙ sym (directed_in_case from_end fold part)))
+
+-- codes that begin with others are those of texts that begin with others
+pub begin_below : (x y : List ℕ) (w v : Bool) → starts_with nat_eq (codes_of false x w) (codes_of false y v) ≡ true → starts_with nat_eq x y ≡ true
+begin_below x [] w v h = refl
+begin_below [] (c ∷ cs) true v h = let no : false ≡ true = rw (no_end c) at h in absurd cc
+begin_below [] (c ∷ cs) false v h = absurd cc
+begin_below (b ∷ bs) (c ∷ cs) w v h =
+    by_test (nat_eq c b)
+    (λ t. rw t (begin_below bs cs w v (rw (shifted c b, t) at h)))
+    (λ f. let no : false ≡ true = rw (shifted c b, f) at h in absurd cc)
+
+-- codes don't begin with others if the texts don't
+none_begins : (fold from_end : Bool) (text part : List ℕ) (w v : Bool) (cs ds : List ℕ) → codes_of fold (directed from_end text) w ≡ cs →
+    codes_of fold (directed from_end part) v ≡ ds →
+    (starts_with nat_eq (in_case fold (directed from_end text)) (in_case fold (directed from_end part)) ≡ true → ⊥) → starts_with nat_eq cs ds ≡ false
+none_begins fold from_end text part w v cs ds first second none =
+    by_test (starts_with nat_eq cs ds)
+    (λ t. absurd (none (begin_below (in_case fold (directed from_end text)) (in_case fold (directed from_end part)) w v
+    (ap (λ l. starts_with nat_eq l (codes_of false (in_case fold (directed from_end part)) v)) (codes_in_case fold (directed from_end text) w ∙ first)
+    ∙ (ap (starts_with nat_eq cs) (codes_in_case fold (directed from_end part) v ∙ second) ∙ t)))))
+    (λ f. f)
+
+pub none_begins_short : (fold from_end : Bool) (text part : List ℕ) (w v : Bool) (cs ds : List ℕ) → codes_of fold (directed from_end text) w ≡ cs →
+    codes_of fold (directed from_end part) v ≡ ds → length text < length part → starts_with nat_eq cs ds ≡ false
+none_begins_short fold from_end text part w v cs ds first second short =
+    none_begins fold from_end text part w v cs ds first second
+    (λ t.
+    let le = found_short (in_case fold (directed from_end text)) (in_case fold (directed from_end part)) t in
+    let a = long_in_case fold from_end text in
+    let b = long_in_case fold from_end part in
+    absurd (omega arith))
+
+pub none_begins_cut : (fold from_end : Bool) (text part own : List ℕ) (w v : Bool) (cs ds : List ℕ) → codes_of fold (directed from_end text) w ≡ cs →
+    codes_of fold (directed from_end part) v ≡ ds → directed from_end own ≡ take (length part) (directed from_end text) →
+    (in_case fold own ≡ in_case fold part → ⊥) → starts_with nat_eq cs ds ≡ false
+none_begins_cut fold from_end text part own w v cs ds first second cut other =
+    none_begins fold from_end text part w v cs ds first second (λ t. other (cut_same fold from_end text part own cut t))
+
+-- texts of which one has ended
+pub ends_order : (n : ℕ) (x y : List ℕ) → n ≤ length x → n ≤ length y → (n ≡ length x) ⊎ (n ≡ length y) →
+    slice_cmp nat_cmp (drop n x) (drop n y) ≡ nat_cmp (length x) (length y)
+ends_order zero [] [] le le' end = refl
+ends_order zero [] (b ∷ ys) le le' end = grind (arith, nat_tests)
+ends_order zero (a ∷ xs) [] le le' end = grind (arith, nat_tests)
+ends_order zero (a ∷ xs) (b ∷ ys) le le' end = absurd (none end)
+  where
+    none : (zero ≡ suc (length xs)) ⊎ (zero ≡ suc (length ys)) → ⊥
+    none (inl e) = absurd (omega (arith, e))
+    none (inr e) = absurd (omega (arith, e))
+ends_order (suc n) [] y le le' end = absurd (omega arith)
+ends_order (suc n) (a ∷ xs) [] le le' end = absurd (omega arith)
+ends_order (suc n) (a ∷ xs) (b ∷ ys) le le' end =
+    ends_order n xs ys (omega arith) (omega arith) (less end) ∙ sym (up (length xs) (length ys))
+  where
+    up : (i j : ℕ) → nat_cmp (suc i) (suc j) ≡ nat_cmp i j
+    up i j = grind (arith, nat_tests)
+
+    less : (suc n ≡ suc (length xs)) ⊎ (suc n ≡ suc (length ys)) → (n ≡ length xs) ⊎ (n ≡ length ys)
+    less (inl e) = inl (omega (arith, e))
+    less (inr e) = inr (omega (arith, e))
+
+-- the first code of a text
+pub first_is : (fold : Bool) (text : List ℕ) (w : Bool) → 0 < length text →
+    get_or (in_case fold text) 0 0 + 2 ≡ get_or (codes_of fold text w) 0 0
+first_is fold [] w some = absurd (omega arith)
+first_is false (b ∷ bs) w some = refl
+first_is true (b ∷ bs) w some = refl
+
+-- a text and a key of which it doesn't have, after what they have in common
+common_codes : (text part : List ℕ) (w : Bool) (n : ℕ) → n ≤ length text → n ≤ length part → take n text ≡ take n part →
+    (n < length text → n < length part → get_or text n 0 ≢ get_or part n 0) →
+    starts_with nat_eq (codes_of false text true) (codes_of false part w) ≡ false →
+    get_or (codes_of false text true) n 0 ≢ get_or (codes_of false part w) n 0
+common_codes [] [] true zero le le' same apart lacks e = let no : true ≡ false = lacks in absurd cc
+common_codes [] [] false zero le le' same apart lacks e = let no : true ≡ false = lacks in absurd cc
+common_codes [] (p ∷ ps) w zero le le' same apart lacks e = absurd (omega (arith, e))
+common_codes (t ∷ ts) [] true zero le le' same apart lacks e = absurd (omega (arith, e))
+common_codes (t ∷ ts) [] false zero le le' same apart lacks e = absurd (omega (arith, e))
+common_codes (t ∷ ts) (p ∷ ps) w zero le le' same apart lacks e = absurd (apart (omega arith) (omega arith) (omega (arith, e)))
+common_codes [] part w (suc n) le le' same apart lacks e = absurd (omega (arith, le))
+common_codes (t ∷ ts) [] w (suc n) le le' same apart lacks e = absurd (omega (arith, le'))
+common_codes (t ∷ ts) (p ∷ ps) w (suc n) le le' same apart lacks e =
+    let first : t ≡ p = ap (λ l. get_or l 0 0) same in
+    let alike : nat_eq (p + 2) (t + 2) ≡ true = equal t p first in
+    common_codes ts ps w n (omega (arith, le)) (omega (arith, le')) (ap (drop 1) same)
+    (λ a b. apart (omega (arith, a)) (omega (arith, b))) (rw alike at lacks) e
+  where
+    equal : (a b : ℕ) → a ≡ b → nat_eq (b + 2) (a + 2) ≡ true
+    equal a b e = grind (arith, nat_tests)
+
+-- what is cut from a text is what it has in common with a key
+pub common_is : (fold from_end : Bool) (text part own : List ℕ) (w : Bool) (codes : List ℕ) (n : ℕ) →
+    codes_of fold (directed from_end part) w ≡ codes → n ≤ length text → n ≤ length part →
+    take n (directed from_end text) ≡ take n (in_case fold (directed from_end part)) →
+    (n < length text → n < length part → get_or (directed from_end text) n 0 ≢ get_or (in_case fold (directed from_end part)) n 0) →
+    starts_with nat_eq (codes_of false (directed from_end text) true) codes ≡ false →
+    directed from_end own ≡ take n (directed from_end text) → IsCommon (directed from_end text) codes (directed from_end own)
+common_is fold from_end text part own w codes n is le le' same apart lacks cut =
+    let long = length-directed from_end text in
+    let long' = long_in_case fold from_end part in
+    let len : length (directed from_end own) ≡ n = ap length cut ∙ taken n (directed from_end text) (omega (arith, le, long)) in
+    let plain = codes_in_case fold (directed from_end part) w ∙ is in
+    record {
+      bound = omega (arith, len, le, long);
+      begins = cut ∙ ap (λ m. take m (directed from_end text)) (sym len);
+      apart = λ e. common_codes (directed from_end text) (in_case fold (directed from_end part)) w n (omega (arith, le, long)) (omega (arith, le', long'))
+          same (λ a b. apart (omega (arith, a, long)) (omega (arith, b, long')))
+          (ap (starts_with nat_eq (codes_of false (directed from_end text) true)) plain ∙ lacks)
+          (ap (λ m. get_or (codes_of false (directed from_end text) true) m 0) (sym len)
+          ∙ (e ∙ (ap (λ m. get_or codes m 0) len ∙ ap (λ l. get_or l n 0) (sym plain))));
+    }
+  where
+    taken : (m : ℕ) (xs : List ℕ) → m ≤ length xs → length (take m xs) ≡ m
+    taken zero xs le = refl
+    taken (suc m) [] le = absurd (omega arith)
+    taken (suc m) (x ∷ xs) le = ap suc (taken m xs (omega arith))

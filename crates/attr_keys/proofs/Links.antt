@@ -1,0 +1,301 @@
+-- Rows in the order of their keys, of which those are sought that a text begins with.
+use Rattle.std.proofs.Common.{◌≡◌, ◌≢◌, ℕ, zero, suc, ◌+◌, ◌-◌, ◌<◌, ◌≤◌, ◌⊎◌, inl, inr, Bool, true, false, not, ◌&&◌, ◌||◌, List, [], ◌∷◌, ◌++◌}
+use Rattle.std.proofs.Common.{length, drop, take, get_or, refl, sym, ap, subst, ◌∙◌, arith, eqb, leb, nat_eq}
+use Rattle.std.specs.Cmp.Lexicographic.{slice_cmp, nat_list_cmp_total}
+use Rattle.std.specs.List.{starts_with}
+use Rattle.std.specs.List.Sorted.{IsPartitionedBy}
+use Rattle.std.specs.Ordering.{nat_cmp, is_lt}
+use Rattle.std.specs.declared.cmp.Ordering.TheVariants.{Less}
+use Rattle.std.proofs.Math.ListN.{get_or-append}
+use Rattle.std.proofs.Math.Seq.{drop-cons}
+use Rattle.std.proofs.lemmas.Bool.{eqb-true}
+use Rattle.std.proofs.lemmas.Bool.Decides.{nat_tests}
+use Rattle.std.proofs.lemmas.List.{get_or-drop, get_or_push, length-append, length-drop}
+use Rattle.std.proofs.lemmas.List.Folds.{list_any-append}
+use Rattle.std.proofs.lemmas.List.Sorted.{ranks_by, sorted_far}
+use Rattle.attr_keys.specs.inner.KeyContents.{KeyContent}
+use Rattle.attr_keys.specs.inner.Codes.{codes_of, row_codes}
+use Rattle.attr_keys.specs.inner.Rows.{AreInOrder, AreLinks, IsCommon, IsLink, has_row, is_up_to}
+use Rattle.attr_keys.proofs.RowLemmas.{and_none, by_test}
+
+itself : (a : ℕ) → nat_cmp a a ≡ nat_cmp 0 0
+itself a = grind (arith, nat_tests)
+
+below : (a b : ℕ) → a < b → nat_cmp a b ≡ Less
+below a b lt = grind (arith, nat_tests)
+
+sides : (a b : ℕ) → nat_eq a b ≡ false → (a < b) ⊎ (b < a)
+sides zero zero f = absurd cc
+sides zero (suc b) f = inl (omega arith)
+sides (suc a) zero f = inr (omega arith)
+sides (suc a) (suc b) f = elim (sides a b (less a b f)) [ inl l ↦ inl (omega arith) | inr l ↦ inr (omega arith) ]
+  where
+    less : (i j : ℕ) → nat_eq (suc i) (suc j) ≡ false → nat_eq i j ≡ false
+    less i j f = grind (arith, nat_tests)
+
+-- what a text begins with is not after it
+begun_before : (text key : List ℕ) → starts_with nat_eq text key ≡ true → is_lt (slice_cmp nat_cmp text key) ≡ false
+begun_before [] [] h = refl
+begun_before (d ∷ t) [] h = refl
+begun_before [] (c ∷ q) h = absurd cc
+begun_before (d ∷ t) (c ∷ q) h =
+    by_test (nat_eq c d)
+    (λ e.
+    let same : nat_cmp d c ≡ nat_cmp d d = ap (nat_cmp d) (eqb-true c d e) in
+    rw (same, itself) (begun_before t q (rw e at h)))
+    (λ e. let no : false ≡ true = rw e at h in absurd cc)
+
+-- what stands between a text and what this begins with begins with it, too
+between_begins : (key mid text : List ℕ) → is_lt (slice_cmp nat_cmp mid key) ≡ false → is_lt (slice_cmp nat_cmp text mid) ≡ false →
+    starts_with nat_eq text key ≡ true → starts_with nat_eq mid key ≡ true
+between_begins [] mid text low high h = refl
+between_begins (c ∷ q) mid [] low high h = absurd cc
+between_begins (c ∷ q) [] (d ∷ t) low high h = absurd cc
+between_begins (c ∷ q) (a ∷ m) (d ∷ t) low high h =
+    by_test (nat_eq c d)
+    (λ e. by_test (nat_eq c a)
+    (λ f.
+    let same : nat_cmp a c ≡ nat_cmp a a = ap (nat_cmp a) (eqb-true c a f) in
+    let same' : nat_cmp d a ≡ nat_cmp d d = ap (nat_cmp d) (sym (eqb-true c a f) ∙ eqb-true c d e) in
+    rw f (between_begins q m t (rw (same, itself) at low) (rw (same', itself) at high) (rw e at h)))
+    (λ f. absurd (elim (sides c a f) [
+      | inl lt ↦
+          let less : nat_cmp d a ≡ Less = ap (λ n. nat_cmp n a) (sym (eqb-true c d e)) ∙ below c a lt in
+          let no : true ≡ false = rw less at high in absurd cc
+      | inr lt ↦
+          let less : nat_cmp a c ≡ Less = below a c lt in
+          let no : true ≡ false = rw less at low in absurd cc
+    ])))
+    (λ e. let no : false ≡ true = rw e at h in absurd cc)
+
+not_true : (b : Bool) → not b ≡ true → b ≡ false
+not_true true h = absurd cc
+not_true false h = refl
+
+far : (keys : List KeyContent) (rows : List ℕ) → AreInOrder keys rows → (i j : ℕ) → i ≤ j → j < length rows →
+    is_lt (slice_cmp nat_cmp (row_codes keys (get_or rows j 0)) (row_codes keys (get_or rows i 0))) ≡ false
+far keys rows order i j ij within =
+    sorted_far (λ x y. is_lt (slice_cmp nat_cmp (row_codes keys x) (row_codes keys y))) (ranks_by nat_list_cmp_total (row_codes keys)) rows order
+    i j 0 ij within
+
+-- no key between a link's end and its row is one that the text begins with
+pub none_between : (keys : List KeyContent) (rows : List ℕ) (text : List ℕ) (index end : ℕ) → AreInOrder keys rows → index < length rows →
+    is_up_to text (row_codes keys (get_or rows index 0)) ≡ true → IsLink keys rows index end → (k : ℕ) → end ≤ k → k < index →
+    starts_with nat_eq text (row_codes keys (get_or rows k 0)) ≡ false
+none_between keys rows text index end order within up link k le lt =
+    by_test (starts_with nat_eq text (row_codes keys (get_or rows k 0)))
+    (λ t.
+    let begins = between_begins (row_codes keys (get_or rows k 0)) (row_codes keys (get_or rows index 0)) text
+    (far keys rows order k index (omega arith) within) (not_true _ up) t in
+    let no : false ≡ true = sym (link.none k le lt) ∙ begins in absurd cc)
+    (λ f. f)
+
+-- a shorter link, if the row before the old end is none
+pub link_less : (keys : List KeyContent) (rows : List ℕ) (index end end' : ℕ) → AreInOrder keys rows → index < length rows → 0 < end →
+    IsLink keys rows index end → starts_with nat_eq (row_codes keys (get_or rows index 0)) (row_codes keys (get_or rows (end - 1) 0)) ≡ false →
+    IsLink keys rows (end - 1) end' → IsLink keys rows index end'
+link_less keys rows index end end' order within some link other before =
+    let bound = before.bound in
+    let bound' = link.bound in
+    record {
+      bound = omega (arith, bound, bound', some);
+      none = λ k le lt. by_test (leb end k)
+          (λ t. link.none k (at_least end k t) lt)
+          (λ f. by_test (eqb k (end - 1))
+          (λ t. ap (λ n. starts_with nat_eq (row_codes keys (get_or rows index 0)) (row_codes keys (get_or rows n 0))) (eqb-true k (end - 1) t) ∙ other)
+          (λ g.
+          let less = earlier end k f g in
+          none_between keys rows (row_codes keys (get_or rows index 0)) (end - 1) end' order (omega (arith, bound', some, within))
+          (ap not (far keys rows order (end - 1) index (omega (arith, bound')) within)) before k le less));
+    }
+  where
+    at_least : (a b : ℕ) → leb a b ≡ true → a ≤ b
+    at_least a b t = grind (arith, nat_tests)
+
+    earlier : (a b : ℕ) → leb a b ≡ false → eqb b (a - 1) ≡ false → b < a - 1
+    earlier a b f g = grind (arith, nat_tests)
+
+-- one more link
+pub links_more : (keys : List KeyContent) (rows links links' : List ℕ) (end : ℕ) → links' ≡ links ++ end ∷ [] → AreLinks keys rows links →
+    IsLink keys rows (length links) end → AreLinks keys rows links'
+links_more keys rows links links' end is known more index lt =
+    let long = ap length is ∙ length-append links (end ∷ []) in
+    subst (λ l. IsLink keys rows index (get_or l index 0)) (sym is)
+    (by_test (eqb index (length links))
+    (λ t.
+    let e = eqb-true index (length links) t in
+    let at = get_or_push links end 0 index (sym e) in
+    subst (λ n. IsLink keys rows index n) (sym at) (subst (λ n. IsLink keys rows n end) (sym e) more))
+    (λ f.
+    let inside = lower index (length links) f (omega (arith, lt, long)) in
+    let at = get_or-append links (end ∷ []) 0 index inside in
+    subst (λ n. IsLink keys rows index n) (sym at) (known index inside)))
+  where
+    lower : (b p : ℕ) → eqb b p ≡ false → b < p + 1 → b < p
+    lower b p f le = grind (arith, nat_tests)
+
+-- rows that pass no test
+none_in : (has : ℕ → Bool) (xs : List ℕ) (row : ℕ) → ((k : ℕ) → k < length xs → has (get_or xs k 0) ≡ false) → has_row xs row && has row ≡ false
+none_in has [] row none = refl
+none_in has (x ∷ xs) row none =
+    by_test (eqb x row)
+    (λ t. ap (λ b. (eqb x row || has_row xs row) && b) (ap has (sym (eqb-true x row t)) ∙ none 0 (omega arith)) ∙ and_none (eqb x row || has_row xs row))
+    (λ f. rw f (none_in has xs row (λ k lt. none (suc k) (omega arith))))
+
+-- rows that pass no test are skipped
+skipped : (has : ℕ → Bool) (rows : List ℕ) (from to row : ℕ) → from ≤ to → ((k : ℕ) → from ≤ k → k < to → has (get_or rows k 0) ≡ false) →
+    has_row (drop from rows) row && has row ≡ has_row (drop to rows) row && has row
+skipped has rows zero zero row le none = refl
+skipped has [] zero (suc to) row le none = refl
+skipped has [] (suc from) zero row le none = refl
+skipped has [] (suc from) (suc to) row le none = refl
+skipped has (x ∷ xs) (suc from) zero row le none = absurd (omega arith)
+skipped has (x ∷ xs) (suc from) (suc to) row le none =
+    skipped has xs from to row (omega arith) (λ k a b. none (suc k) (omega arith) (omega arith))
+skipped has (x ∷ xs) zero (suc to) row le none =
+    by_test (eqb x row)
+    (λ t.
+    let fails = ap has (sym (eqb-true x row t)) ∙ none 0 (omega arith) (omega arith) in
+    ap (λ b. (eqb x row || has_row xs row) && b) fails
+    ∙ (and_none (eqb x row || has_row xs row)
+    ∙ sym (ap (λ b. has_row (drop to xs) row && b) fails ∙ and_none (has_row (drop to xs) row))))
+    (λ f. rw f (skipped has xs zero to row (omega arith) (λ k a b. none (suc k) (omega arith) (omega arith))))
+
+-- one more row, after those that were skipped
+last_row : (has : ℕ → Bool) (rows : List ℕ) (index end row : ℕ) → index < length rows → end ≤ index →
+    ((k : ℕ) → end ≤ k → k < index → has (get_or rows k 0) ≡ false) →
+    has_row (drop end rows) row && has row ≡ (eqb (get_or rows index 0) row || has_row (drop (suc index) rows) row) && has row
+last_row has rows index end row lt le none =
+    skipped has rows end index row le none ∙ ap (λ l. has_row l row && has row) (drop-cons rows index 0 lt)
+
+-- a row that passes the test was found
+pub linked_more : (has : ℕ → Bool) (old found rows : List ℕ) (index end row : ℕ) → index < length rows → end ≤ index →
+    ((k : ℕ) → end ≤ k → k < index → has (get_or rows k 0) ≡ false) → has (get_or rows index 0) ≡ true →
+    has_row found row ≡ has_row old row || (has_row (drop (suc index) rows) row && has row) →
+    has_row (found ++ get_or rows index 0 ∷ []) row ≡ has_row old row || (has_row (drop end rows) row && has row)
+linked_more has old found rows index end row lt le none passes known =
+    list_any-append (λ n. eqb n row) found (get_or rows index 0 ∷ [])
+    ∙ (ap (λ b. b || (eqb (get_or rows index 0) row || false)) known
+    ∙ (merge (has_row old row) (has_row (drop (suc index) rows) row) (has row) (eqb (get_or rows index 0) row)
+    (λ t. ap has (sym (eqb-true _ row t)) ∙ passes)
+    ∙ ap (λ b. has_row old row || b) (sym (last_row has rows index end row lt le none))))
+  where
+    merge : (o d h b : Bool) → (b ≡ true → h ≡ true) → (o || (d && h)) || (b || false) ≡ o || ((b || d) && h)
+    merge true d h b p = refl
+    merge false true true true p = refl
+    merge false true true false p = refl
+    merge false true false true p = sym (p refl)
+    merge false true false false p = refl
+    merge false false true true p = refl
+    merge false false true false p = refl
+    merge false false false true p = sym (p refl)
+    merge false false false false p = refl
+
+-- a row that fails it was not
+pub linked_less : (has : ℕ → Bool) (old found rows : List ℕ) (index end row : ℕ) → index < length rows → end ≤ index →
+    ((k : ℕ) → end ≤ k → k < index → has (get_or rows k 0) ≡ false) → has (get_or rows index 0) ≡ false →
+    has_row found row ≡ has_row old row || (has_row (drop (suc index) rows) row && has row) →
+    has_row found row ≡ has_row old row || (has_row (drop end rows) row && has row)
+linked_less has old found rows index end row lt le none fails known =
+    known
+    ∙ (merge (has_row old row) (has_row (drop (suc index) rows) row) (has row) (eqb (get_or rows index 0) row)
+    (λ t. ap has (sym (eqb-true _ row t)) ∙ fails)
+    ∙ ap (λ b. has_row old row || b) (sym (last_row has rows index end row lt le none)))
+  where
+    merge : (o d h b : Bool) → (b ≡ true → h ≡ false) → o || (d && h) ≡ o || ((b || d) && h)
+    merge true d h b p = refl
+    merge false d h false p = refl
+    merge false true h true p = refl
+    merge false false true true p = sym (p refl)
+    merge false false false true p = refl
+
+-- the keys that are not after a text come first
+pub up_to_first : (keys : List KeyContent) (rows : List ℕ) (text : List ℕ) → AreInOrder keys rows →
+    IsPartitionedBy (λ row. is_up_to text (row_codes keys row)) rows
+up_to_first keys rows text order i j d le lt e =
+    let weak = ranks_by nat_list_cmp_total (λ (x : List ℕ). x) in
+    ap not (weak.chain text (row_codes keys (get_or rows j d)) (row_codes keys (get_or rows i d)) (not_true _ e)
+    (sorted_far (λ x y. is_lt (slice_cmp nat_cmp (row_codes keys x) (row_codes keys y))) (ranks_by nat_list_cmp_total (row_codes keys)) rows order
+    i j d le lt))
+
+-- keys after a text are none that it begins with
+none_after : (keys : List KeyContent) (row : ℕ) (text : List ℕ) → is_up_to text (row_codes keys row) ≡ false →
+    starts_with nat_eq text (row_codes keys row) ≡ false
+none_after keys row text after =
+    by_test (starts_with nat_eq text (row_codes keys row))
+    (λ t.
+    let no : true ≡ false = sym (ap not (begun_before text (row_codes keys row) t)) ∙ after in absurd cc)
+    (λ f. f)
+
+pub none_dropped : (keys : List KeyContent) (rows : List ℕ) (text : List ℕ) (from : ℕ) →
+    ((k : ℕ) → from ≤ k → k < length rows → is_up_to text (row_codes keys (get_or rows k 0)) ≡ false) → (row : ℕ) →
+    has_row (drop from rows) row && starts_with nat_eq text (row_codes keys row) ≡ false
+none_dropped keys rows text from after row =
+    none_in (λ r. starts_with nat_eq text (row_codes keys r)) (drop from rows) row
+    (λ k lt.
+    let long = length-drop from rows in
+    let at = get_or-drop from rows k 0 in
+    ap (λ n. starts_with nat_eq text (row_codes keys n)) at
+    ∙ none_after keys (get_or rows (from + k) 0) text (after (from + k) (omega arith) (omega (arith, lt, long))))
+
+-- what two lists of codes begin with is no longer than what they have in common
+no_longer : (text key codes : List ℕ) (n : ℕ) → get_or text n 0 ≢ get_or key n 0 → starts_with nat_eq text codes ≡ true →
+    starts_with nat_eq key codes ≡ true → length codes ≤ n
+no_longer text key [] n apart h h' = omega arith
+no_longer [] key (c ∷ cs) n apart h h' = absurd cc
+no_longer (t ∷ ts) [] (c ∷ cs) n apart h h' = absurd cc
+no_longer (t ∷ ts) (k ∷ ks) (c ∷ cs) zero apart h h' =
+    by_test (nat_eq c t)
+    (λ e. by_test (nat_eq c k)
+    (λ f. absurd (apart (sym (eqb-true c t e) ∙ eqb-true c k f)))
+    (λ f. let no : false ≡ true = rw f at h' in absurd cc))
+    (λ e. let no : false ≡ true = rw e at h in absurd cc)
+no_longer (t ∷ ts) (k ∷ ks) (c ∷ cs) (suc n) apart h h' =
+    by_test (nat_eq c t)
+    (λ e. by_test (nat_eq c k)
+    (λ f. let le = no_longer ts ks cs n apart (rw e at h) (rw f at h') in omega (arith, le))
+    (λ f. let no : false ≡ true = rw f at h' in absurd cc))
+    (λ e. let no : false ≡ true = rw e at h in absurd cc)
+
+-- what the codes of a text begin with stands in so many of its bytes
+begins_short : (text codes : List ℕ) (n : ℕ) → n ≤ length text → length codes ≤ n → starts_with nat_eq (codes_of false text true) codes ≡ true →
+    starts_with nat_eq (codes_of false (take n text) false) codes ≡ true
+begins_short text [] n within le h = refl
+begins_short text (c ∷ cs) zero within le h = absurd (omega (arith, le))
+begins_short [] (c ∷ cs) (suc n) within le h = absurd (omega (arith, within))
+begins_short (b ∷ bs) (c ∷ cs) (suc n) within le h =
+    by_test (nat_eq c (b + 2))
+    (λ e. rw e (begins_short bs cs n (omega (arith, within)) (omega (arith, le)) (rw e at h)))
+    (λ e. let no : false ≡ true = rw e at h in absurd cc)
+
+-- no row after what a text has in common with a key has a key that the text has
+pub none_common : (keys : List KeyContent) (rows : List ℕ) (text common : List ℕ) (index end : ℕ) → AreInOrder keys rows → index < length rows →
+    is_up_to (codes_of false text true) (row_codes keys (get_or rows index 0)) ≡ true →
+    IsCommon text (row_codes keys (get_or rows index 0)) common →
+    ((k : ℕ) → end ≤ k → k < length rows → is_up_to (codes_of false common false) (row_codes keys (get_or rows k 0)) ≡ false) →
+    (k : ℕ) → end ≤ k → k < index → starts_with nat_eq (codes_of false text true) (row_codes keys (get_or rows k 0)) ≡ false
+none_common keys rows text common index end order within up is after k le lt =
+    let key = row_codes keys (get_or rows k 0) in
+    let mid = row_codes keys (get_or rows index 0) in
+    let whole = codes_of false text true in
+    by_test (starts_with nat_eq whole key)
+    (λ t.
+    let begins = between_begins key mid whole (far keys rows order k index (omega (arith, lt)) within) (not_true _ up) t in
+    let short = no_longer whole mid key (length common) is.apart t begins in
+    let stands = begins_short text key (length common) is.bound short t in
+    let before : is_up_to (codes_of false (take (length common) text) false) key ≡ true = ap not (begun_before _ key stands) in
+    let no : true ≡ false = sym before ∙ (ap (λ l. is_up_to (codes_of false l false) key) (sym is.begins) ∙ after k le (omega (arith, lt, within))) in
+    absurd cc)
+    (λ f. f)
+
+-- no row between the lesser of two ends and a row
+pub none_lesser : (has : ℕ → Bool) (rows : List ℕ) (index end other least : ℕ) → (least ≡ end) ⊎ (least ≡ other) →
+    ((k : ℕ) → end ≤ k → k < index → has (get_or rows k 0) ≡ false) → ((k : ℕ) → other ≤ k → k < index → has (get_or rows k 0) ≡ false) →
+    (k : ℕ) → least ≤ k → k < index → has (get_or rows k 0) ≡ false
+none_lesser has rows index end other least (inl e) one two k le lt = one k (omega (arith, e, le)) lt
+none_lesser has rows index end other least (inr e) one two k le lt = two k (omega (arith, e, le)) lt
+
+pub either_order : (a b : ℕ) → (a ≤ b) ⊎ (b < a)
+either_order zero b = inl (omega arith)
+either_order (suc a) zero = inr (omega arith)
+either_order (suc a) (suc b) = elim (either_order a b) [ inl l ↦ inl (omega arith) | inr l ↦ inr (omega arith) ]

@@ -1,0 +1,13 @@
+use Rattle.std.proofs.Common.{◌≡◌, ◌&&◌, ◌||◌, ℕ, take}
+use Rattle.std.specs.Prelude.{slice_get}
+use Rattle.attr_keys.specs.inner.Cases.{keys_seen}
+use Rattle.attr_keys.specs.inner.Hashes.{hashed_rows, rows_of_hash}
+use Rattle.attr_keys.specs.inner.Meeting.{directed, text_has}
+use Rattle.attr_keys.specs.inner.Rows.{has_row}
+use Rattle.attr_keys.proofs.by_hash.append_of_hash.Given as goal
+
+abbrev pub invariant-loop-hashed : goal.invariant-loop-hashed
+invariant-loop-hashed g l = (row : ℕ) → has_row l.found.items row
+    ≡ has_row l.initial.found.items row
+    || (has_row (hashed_rows (rows_of_hash l.hash (take l.hashed-index l.rows))) row
+    && text_has (directed l.keys.view.from_end l.text) (slice_get (keys_seen g.K.Keyed.content l.keys) row))

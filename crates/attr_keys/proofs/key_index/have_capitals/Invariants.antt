@@ -1,6 +1,0 @@
-use Rattle.std.proofs.Common.{◌≡◌, true, map, take}
-use Rattle.attr_keys.specs.inner.Cases.{content_in_case, key_contents}
-use Rattle.attr_keys.proofs.key_index.have_capitals.Given as goal
-
-abbrev pub invariant-loop-key : goal.invariant-loop-key
-invariant-loop-key l = map (content_in_case true) (key_contents (take l.key-index l.keys)) ≡ key_contents (take l.key-index l.keys)

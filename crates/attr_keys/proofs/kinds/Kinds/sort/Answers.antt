@@ -1,0 +1,30 @@
+use Rattle.std.proofs.Common.{◌≡◌, false, true, sym, ap, subst, ◌∙◌}
+use Rattle.std.specs.Bool.{OnFalse}
+use Rattle.attr_keys.specs.inner.Cases.{content_in_case, in_case}
+use Rattle.attr_keys.specs.inner.Kinds.{kind_of, rows_of, rows_with}
+use Rattle.attr_keys.specs.inner.Rows.{has_row}
+use Rattle.attr_keys.proofs.Meetings.{kinds_more, lower_content, lower_more}
+use Rattle.attr_keys.proofs.kinds.Kinds.sort.Goals as goal
+use Rattle.attr_keys.proofs.kinds.Kinds.sort.Goals.{then-capitals, else-capitals}
+
+pub loop-row-preserved : goal.loop-row-preserved
+loop-row-preserved g c =
+    let content = g.K.Keyed.content in
+    let lines = c.args.lines.now in
+    let line = c.index-lines-row.result in
+    let row = c.loop-row.row in
+    let key = c.key-key.result in
+    record {
+      kinds = λ k kept r.
+          let before = rows_of k c.loop-row.self in
+          ap (λ l. has_row l r) (c.in_ok-add.ensures k kept ∙ ap (λ n. rows_with n row k before) (c.kind_of.ensures ∙ ap kind_of c.key-key.ensures))
+          ∙ kinds_more content k lines before row line c.loop-row-test.true c.index-lines-row.is (c.loop-row.invariant.kinds k kept) r;
+      lower = λ none. elim c.if-capitals.branch [
+        | then-capitals w ↦ let no : true ≡ false = sym w.if-capitals.true ∙ (sym w.capitals-is ∙ none) in absurd cc
+        | else-capitals w ↦
+            let small = subst (λ b. OnFalse b (in_case true key.text.now ≡ key.text.now)) (sym w.capitals-is ∙ none) w.has_capital-capitals.ensures in
+            lower_more content lines row line c.loop-row-test.true c.index-lines-row.is
+            (subst (λ k. content_in_case true k ≡ k) c.key-key.ensures (lower_content key small))
+            (c.loop-row.invariant.lower w.if-capitals.false)
+      ];
+    }

@@ -1,0 +1,49 @@
+-- What was kept keeps its index.
+use Rattle.std.proofs.Common.{◌≡◌, ℕ, ◌+◌, ◌<◌, ◌≤◌, List, [], ◌∷◌, ◌++◌, length, get_or, map, take, Option, Some, option_map}
+use Rattle.std.proofs.Common.{slice_get, refl, sym, ap, ◌∙◌, arith, length-append}
+use Rattle.std.proofs.lemmas.List.{append-nil, map-append, get_or_append_left, take_more}
+use Rattle.std.proofs.Math.Seq.{get_or-append_seam}
+use Rattle.std.proofs.lemmas.Option.{slice_get-get_or, slice_get-map, slice_get_within, get_or_from_slice_get}
+use Rattle.attr_search.specs.declared.matching_line.AnsweringLine.{AnsweringLine}
+use Rattle.attr_search.specs.inner.PartsContents.{Grows}
+use Rattle.attr_search.specs.inner.PartsView.{origin_of_line, origins}
+use Rattle.attr_search.specs.inner.Slotted.{origin_at}
+
+-- a list that stays grows by nothing
+pub grows_same : {X : Type 0} (xs : List X) → Grows xs xs
+grows_same xs = ([], sym (append-nil xs))
+
+-- what was pushed is seen after what was there
+pub grows_pushed : {T V : Type 0} (view : T → V) (xs ys : List T) (y : T) → ys ≡ xs ++ y ∷ [] → Grows (map view xs) (map view ys)
+grows_pushed view xs ys y e = (view y ∷ [], ap (map view) e ∙ map-append view xs (y ∷ []))
+
+pub found_pushed : {T V : Type 0} (view : T → V) (xs ys : List T) (y : T) (place : ℕ) → place ≡ length xs → ys ≡ xs ++ y ∷ [] →
+    slice_get (map view ys) place ≡ Some (view y)
+found_pushed view xs ys y place at e =
+    rw (at, e) (slice_get-map view (xs ++ y ∷ []) (length xs) ∙ ap (option_map view)
+    (slice_get-get_or (xs ++ y ∷ []) (length xs) y (omega (arith, length-append xs (y ∷ []))) ∙ ap Some (get_or-append_seam xs y [] y)))
+
+pub grows_length : {X : Type 0} (xs ys : List X) → Grows xs ys → length xs ≤ length ys
+grows_length xs ys g = omega (arith, ap length g.1, length-append xs g.0)
+
+-- what stood at a place stands there
+pub grows_at : {X : Type 0} (xs ys : List X) (i : ℕ) (d : X) → Grows xs ys → i < length xs → get_or ys i d ≡ get_or xs i d
+grows_at xs ys i d g lt = ap (λ l. get_or l i d) g.1 ∙ get_or_append_left xs g.0 d i lt
+
+-- what was found is found
+pub grows_found : {X : Type 0} (xs ys : List X) (i : ℕ) (x : X) → Grows xs ys → slice_get xs i ≡ Some x → slice_get ys i ≡ Some x
+grows_found xs ys i x g found =
+    let within = slice_get_within xs i x found in
+    slice_get-get_or ys i x (omega (arith, within, grows_length xs ys g))
+    ∙ ap Some (grows_at xs ys i x g within ∙ get_or_from_slice_get xs i x x found)
+
+-- a copy of each line is where the line is
+pub copied_more : (copies : List AnsweringLine) (lines : List AnsweringLine) (i : ℕ) (d : AnsweringLine) (more : List AnsweringLine)
+    (copy line : AnsweringLine) → i < length lines → line ≡ get_or lines i d → origins copies ≡ origins (take i lines) →
+    more ≡ copies ++ copy ∷ [] → copy.index.value ≡ line.index.value → copy.line ≡ line.line → origins more ≡ origins (take (i + 1) lines)
+copied_more copies lines i d more copy line lt is before pushed index number =
+    ap origins pushed ∙ map-append origin_of_line copies (copy ∷ [])
+    ∙ ap (λ l. l ++ origin_of_line copy ∷ []) before
+    ∙ ap (λ o. origins (take i lines) ++ o ∷ [])
+    (ap (λ x. origin_at x copy.line) index ∙ ap (origin_at line.index.value) number ∙ ap origin_of_line is)
+    ∙ sym (ap origins (take_more lines i d lt) ∙ map-append origin_of_line (take i lines) (get_or lines i d ∷ []))

@@ -1,0 +1,33 @@
+-- What an outcome keeps for its answers: lines and assignments, by index, and the bodies of macros (own).
+use Rattle.std.specs.Prelude.{◌≡◌, ◌≤◌, ◌+◌, ℕ, List, [], ◌++◌, length, Option}
+use Rattle.attr_text.specs.declared.assignment.Assignment.{Assignment}
+use Rattle.attr_text.specs.declared.state.State.TheVariants.{Unspecified}
+use Rattle.attr_lists.specs.declared.types.TrackedAssignment.{TrackedAssignment}
+use Rattle.attr_table.specs.Setting.{Origin}
+
+-- where the lines are that have answered, the index of the line at hand if it has, the assignments of lines' items, and the
+-- bodies by number
+pub record PartsContent : Type 0 where
+  pub lines : List Origin
+  pub line : Option ℕ
+  pub assignments : List Assignment
+  pub bodies : List (List TrackedAssignment)
+
+-- a list may have more after what it had
+abbrev pub Grows : {X : Type 0} → List X → List X → Type 0
+Grows {X} old new = (more : List X) × (new ≡ old ++ more)
+
+-- what was kept keeps its index, and bodies stay
+pub record KeepsParts (old new : PartsContent) : Type 0 where
+  pub lines : Grows old.lines new.lines
+  pub assignments : Grows old.assignments new.assignments
+  pub bodies : new.bodies ≡ old.bodies
+
+-- at most one line and one assignment more are kept
+pub record KeepsOneMore (old new : PartsContent) : Type 0 where
+  pub lines : length new.lines ≤ length old.lines + 1
+  pub assignments : length new.assignments ≤ length old.assignments + 1
+
+-- the assignment past the last one
+abbrev pub no_assignment : Assignment
+no_assignment = record { name = []; state = Unspecified }

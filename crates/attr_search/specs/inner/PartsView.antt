@@ -1,0 +1,22 @@
+-- What the parts of answers are: the content, and not where it is in memory (own).
+use Rattle.std.specs.Prelude.{List, map}
+use Rattle.attr_table.specs.Setting.{Origin}
+use Rattle.attr_search.specs.declared.answer_parts.AnswerParts.TheInside.{Inside}
+use Rattle.attr_search.specs.declared.matching_line.AnsweringLine.{AnsweringLine}
+use Rattle.attr_search.specs.inner.PartsContents.{PartsContent}
+use Rattle.attr_search.specs.inner.Slotted.{bodies_view, origin_at}
+
+-- where a line is
+abbrev pub origin_of_line : AnsweringLine → Origin
+origin_of_line l = origin_at l.index.value l.line
+
+abbrev pub origins : List AnsweringLine → List Origin
+origins lines = map origin_of_line lines
+
+abbrev pub parts_view : Inside → PartsContent
+parts_view s = record {
+  lines = origins s.lines.items;
+  line = s.line;
+  assignments = s.assignments.items;
+  bodies = bodies_view s.bodies.items;
+}

@@ -1,0 +1,272 @@
+//! The parts of answers: the lines that have answered, the assignments of their items, and the bodies of macros. What is kept
+//! has an index among those of its kind, from 0.
+
+ghost use Rattle.std.specs.Prelude.{◌≡◌, ◌<◌, ◌≤◌, ◌+◌, [], ⊤, All, None, Some, IfOk, MatchOption, OnErr, OnOk, length, option_map, slice_get, string_bytes};
+ghost use Rattle.std.specs.Option.{option_copied};
+ghost use Rattle.attr_search.specs.Matches.{cause_of, match_view};
+ghost use Rattle.attr_search.specs.inner.AnswerRefs.{HasAssignment, IsMatchRef, KeepsAnswer, RefersTo, assignment_at, match_by_ref};
+ghost use Rattle.attr_search.specs.inner.BodyChanges.{changed_bodies, sized_bodies};
+ghost use Rattle.attr_search.specs.inner.PartsContents.{Grows};
+ghost use Rattle.attr_search.specs.inner.PartsView.{origins};
+ghost use Rattle.attr_search.specs.inner.Pending.{IsPlaced, line_origin};
+ghost use Rattle.attr_search.specs.inner.Slotted.{bodies_view};
+
+use crate::bodies::{self, BodyChange};
+use crate::matching_line::{AnsweringLine, MatchingLine};
+use crate::pending_item::{PendingItem, body_of};
+use attr_lists::types::{Match, MatchKind, MatchLocation, TrackedAssignment};
+use attr_text::Assignment;
+use std::alloc::{AllocError, Global};
+use std::marker::Model;
+
+/// Where the parts of an answer are in [`AnswerParts`], and whether it is of a macro and caused by one.
+#[derive(Clone, Copy)]
+pub struct MatchRef {
+    /// The index of the line.
+    pub line: usize,
+    /// The index of the assignment: among those that are kept, or in the body of the macro that expanded to it.
+    pub assignment: usize,
+    /// Whether the attribute is a macro, and which macro expanded to it.
+    pub kind: MatchKind,
+}
+
+/// The lines that have answered, the assignments of their items, and the bodies of macros. A line is kept once, whatever
+/// it answers. An item of a body is there already, so an answer by it keeps no assignment. An answer by an item of a line
+/// keeps its own, which shares its texts with the item.
+#[derive(Drop)]
+pub struct AnswerParts {
+    lines: Vec<AnsweringLine>,
+    // The index of the line at hand. None until it has answered.
+    line: Option<usize>,
+    assignments: Vec<Assignment>,
+    // The body of each attribute, by number: empty if it is no macro.
+    bodies: Vec<Vec<TrackedAssignment>>,
+}
+
+impl Model for AnswerParts {
+    ghost use Rattle.attr_search.specs.inner.PartsContents.{PartsContent};
+
+    ghost Value = { PartsContent };
+
+    ghost use Rattle.attr_search.specs.inner.PartsView.{parts_view};
+
+    ghost view = { parts_view };
+}
+
+impl AnswerParts {
+    /// No lines, assignments and bodies. It takes no memory.
+    pub fn new(alloc: Global) -> AnswerParts
+        ensures { result ≡ record { lines = []; line = None; assignments = []; bodies = [] } }
+    {
+        AnswerParts {
+            lines: Vec::new(alloc),
+            line: None,
+            assignments: Vec::new(alloc),
+            bodies: Vec::new(alloc),
+        }
+    }
+
+    /// Keeps or makes a body for each number below a count, and changes some of these. Forgets lines and assignments.
+    ///
+    /// # Errors
+    ///
+    /// If memory runs out. Nothing changes then.
+    pub fn set_up(
+        &mut self,
+        alloc: Global,
+        count: usize,
+        changes: Vec<BodyChange>,
+    ) -> Result<(), AllocError>
+        requires { All (λ change. change.number < count) changes.items }
+        ensures ok { OnOk result (self.new ≡ record {
+          lines = [];
+          line = None;
+          assignments = [];
+          bodies = changed_bodies changes.items (sized_bodies count self.old.bodies);
+        }) }
+        ensures refused { OnErr result (self.new ≡ self.old) }
+    {
+        bodies::grow(alloc, &mut self.bodies, count)?;
+        self.bodies.truncate(count);
+        bodies::change(&mut self.bodies, changes);
+        self.keep_none();
+        Ok(())
+    }
+
+    /// Forgets lines and assignments: no answer refers to them any more. It takes no memory.
+    pub fn keep_none(&mut self)
+        ensures { self.new ≡ record self.old { lines = []; line = None; assignments = [] } }
+    {
+        self.lines.clear();
+        self.line = None;
+        self.assignments.clear();
+    }
+
+    /// The body of each attribute, by number: empty if it is no macro.
+    pub fn bodies(&self) -> &[Vec<TrackedAssignment>]
+        ensures { bodies_view result.now ≡ self.now.bodies }
+    {
+        &self.bodies
+    }
+
+    /// Begins another line: what is kept from now on comes from that line.
+    pub fn begin_line(&mut self)
+        ensures { self.new ≡ record self.old { line = None } }
+    {
+        self.line = None;
+    }
+
+    /// Keeps the parts of an answer by an item of the line at hand, or of a body to which that line leads, and tells where
+    /// they are. It keeps at most one line and one assignment more.
+    ///
+    /// # Errors
+    ///
+    /// If memory runs out. Nothing changes then.
+    pub fn keep(
+        &mut self,
+        alloc: Global,
+        line: MatchingLine<'_>,
+        top: PendingItem,
+        kind: MatchKind,
+    ) -> Result<MatchRef, AllocError>
+        requires placed { IsPlaced line.items.now self.old.bodies top }
+        requires cause { cause_of kind ≡ top.cause }
+        requires line { MatchOption self.old.line ⊤ (λ l. RefersTo self.old l (line_origin line)) }
+        ensures kept { IfOk result (KeepsAnswer line.entry top kind self.old self.new) }
+        ensures refused { OnErr result (self.new ≡ self.old) }
+    {
+        if top.cause.is_some() {
+            let kept = keep_line(&mut self.lines, self.line, line)?;
+            self.line = Some(kept);
+            return Ok(MatchRef {
+                line: kept,
+                assignment: top.place,
+                kind,
+            });
+        }
+        let own = line.items[top.place].inner.clone(alloc)?;
+        self.assignments.reserve(1)?;
+        let kept = keep_line(&mut self.lines, self.line, line)?;
+        self.line = Some(kept);
+        let assignment = self.assignments.len();
+        self.assignments.push_reserved(own);
+        Ok(MatchRef {
+            line: kept,
+            assignment,
+            kind,
+        })
+    }
+
+    /// How many lines and assignments are kept.
+    pub fn kept(&self) -> usize
+        ensures { result ≡ length self.now.lines + length self.now.assignments }
+    {
+        self.lines.len() + self.assignments.len()
+    }
+
+    /// A copy, which shares the indexes of the lines. Each part has the same index in it.
+    ///
+    /// # Errors
+    ///
+    /// If memory runs out.
+    pub fn clone(&self, alloc: Global) -> Result<AnswerParts, AllocError>
+        ensures { IfOk result (λ copy. copy ≡ self.now) }
+    {
+        Ok(AnswerParts {
+            lines: copy_of_lines(alloc, &self.lines)?,
+            line: self.line,
+            assignments: copy_of_assignments(alloc, &self.assignments)?,
+            bodies: bodies::copy_of_bodies(alloc, &self.bodies)?,
+        })
+    }
+
+    /// The match with these parts, which are kept.
+    #[inline(always)]
+    pub fn get(&self, found: MatchRef) -> Match<'_>
+        requires { IsMatchRef self.now found }
+        ensures { match_view result ≡ match_by_ref self.now found }
+    {
+        let answered = &self.lines[found.line];
+        let index = answered.index.as_ref();
+        let line = &index.lines[answered.line];
+        Match {
+            pattern: &line.pattern,
+            assignment: self.assignment_at(found.kind, found.assignment).as_ref(),
+            kind: found.kind,
+            location: MatchLocation {
+                source: text_of(&index.source),
+                sequence_number: line.number,
+            },
+        }
+    }
+
+    fn assignment_at(&self, kind: MatchKind, index: usize) -> &Assignment
+        requires { HasAssignment self.now (cause_of kind) index }
+        ensures { result.now ≡ assignment_at self.now (cause_of kind) index }
+    {
+        match kind.source_id() {
+            None => &self.assignments[index],
+            Some(id) => &body_of(&self.bodies, id.0)[index].inner,
+        }
+    }
+}
+
+// The index of the line at hand, which is kept if it is not yet.
+fn keep_line(
+    lines: &mut Vec<AnsweringLine>,
+    at_hand: Option<usize>,
+    line: MatchingLine<'_>,
+) -> Result<usize, AllocError>
+    requires { MatchOption at_hand ⊤
+        (λ l. slice_get (origins lines.old.items) l ≡ Some (line_origin line)) }
+    ensures found { IfOk result (λ l.
+        slice_get (origins lines.new.items) l ≡ Some (line_origin line.entry)) }
+    ensures extends { OnOk result (Grows (origins lines.old.items) (origins lines.new.items)) }
+    ensures more { OnOk result (length lines.new.items ≤ length lines.old.items + 1) }
+    ensures refused { OnErr result (lines.new.items ≡ lines.old.items) }
+{
+    if let Some(kept) = at_hand {
+        return Ok(kept);
+    }
+    let kept = lines.len();
+    lines.push(AnsweringLine {
+        index: line.index.clone()?,
+        line: line.line,
+    })?;
+    Ok(kept)
+}
+
+fn text_of(source: &Option<String>) -> Option<&str>
+    ensures { option_copied result ≡ option_map string_bytes source.now }
+{
+    match source {
+        Some(source) => Some(source.as_str()),
+        None => None,
+    }
+}
+
+fn copy_of_lines(alloc: Global, lines: &[AnsweringLine]) -> Result<Vec<AnsweringLine>, AllocError>
+    ensures { IfOk result (λ copy. origins copy.items ≡ origins lines.now) }
+{
+    let mut copy = Vec::with_capacity(alloc, lines.len())?;
+    for answered in lines {
+        copy.push(AnsweringLine {
+            index: answered.index.clone()?,
+            line: answered.line,
+        })?;
+    }
+    Ok(copy)
+}
+
+fn copy_of_assignments(
+    alloc: Global,
+    assignments: &[Assignment],
+) -> Result<Vec<Assignment>, AllocError>
+    ensures { IfOk result (λ copy. copy.items ≡ assignments.now) }
+{
+    let mut copy = Vec::with_capacity(alloc, assignments.len())?;
+    for assignment in assignments {
+        copy.push(assignment.clone(alloc)?)?;
+    }
+    Ok(copy)
+}

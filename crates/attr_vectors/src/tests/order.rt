@@ -1,0 +1,81 @@
+//! The program prints the lines that global files leave out, and flushes them, before it reads its script. A contract knows no order
+//! of calls of two devices, so here a cell tells the reader how much standard error has flushed.
+use super::calls::arguments;
+use check_attr::{Reader, Writer, program};
+use gix_attributes::files::Memory;
+use std::alloc::{AllocError, Global};
+use std::cell::Cell;
+use std::io;
+use std::io::{ErrorKind, Read, Write};
+
+const DROPPED: &[u8] = b"dropped: g:1: negative\ndropped: g:2: reserved\n";
+
+// Standard error: it holds what is written until a flush, and then counts it.
+#[derive(Drop)]
+struct Errors<'a> {
+    held: usize,
+    flushed: &'a Cell<usize>,
+}
+
+impl<'a> Write for Errors<'a> {
+    fn write(&mut self, bytes: &[u8]) -> io::Result<usize> {
+        self.held = self.held.saturating_add(bytes.len());
+        Ok(bytes.len())
+    }
+
+    fn flush(&mut self) -> io::Result<()> {
+        self.flushed
+            .set(self.flushed.get().saturating_add(self.held));
+        self.held = 0;
+        Ok(())
+    }
+}
+
+// A reader that fails unless all of `DROPPED` was flushed before.
+#[derive(Drop)]
+struct Waiting<'a> {
+    rest: &'a [u8],
+    flushed: &'a Cell<usize>,
+}
+
+impl<'a> Read for Waiting<'a> {
+    fn read(&mut self, buf: &mut [u8]) -> io::Result<usize> {
+        if self.flushed.get() != DROPPED.len() {
+            return Err(io::Error::from(ErrorKind::Other));
+        }
+        self.rest.read(buf)
+    }
+}
+
+// The status of the program with a global file that has two lines left out.
+fn status(alloc: Global, script: &[u8], text: &mut Vec<u8>) -> Result<u8, AllocError> {
+    let flushed = Cell::new(0);
+    let mut files = Memory::new(alloc);
+    files.insert("g", b"!a b\n* builtin_c\n* d\n")?;
+    let args = arguments(alloc, &["g"])?;
+    let mut reader = Reader::new(Waiting {
+        rest: script,
+        flushed: &flushed,
+    });
+    let mut errors = Writer::new(Errors {
+        held: 0,
+        flushed: &flushed,
+    });
+    let status = program(
+        alloc,
+        &mut files,
+        &args,
+        &mut reader,
+        &mut Writer::new(text),
+        &mut errors,
+    );
+    Ok(status)
+}
+
+#[test]
+fn dropped_lines_are_flushed_before_the_script_is_read(rt: HostRuntime) -> Result<(), AllocError> {
+    let mut text = Vec::new(rt.alloc());
+    let status = status(rt.alloc(), b"ask l s f 1\nf\n", &mut text)?;
+    assert_eq!(rt; (status, text.as_slice()), (0, b"f: d: set\n".as_slice()));
+    Ok(())
+}

@@ -1,8 +1,0 @@
-use Rattle.std.proofs.Common.{◌≤◌, length, ◌-◌}
-use Rattle.glob_tests.proofs.tests.short_texts.parts.Given as goal
-
-abbrev pub invariant-loop-place : goal.invariant-loop-place
-invariant-loop-place l = l.place ≤ length l.text
-
-abbrev pub decreases-loop-place : goal.decreases-loop-place
-decreases-loop-place l = length l.text - l.place

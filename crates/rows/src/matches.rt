@@ -1,0 +1,236 @@
+//! The answers of rows about matching: the texts that a pattern takes, and the lines that are tried.
+
+use crate::answer::{Answer, Memory};
+use crate::fault::NoAnswer;
+use crate::patterns::list_of;
+use crate::row::Row;
+use attr_glob::Pattern;
+use attr_glob::pattern::{Case, base_name_place};
+use attr_glob::search::pattern::{Index, List};
+use attr_glob::token::Tokens;
+use attr_glob::wildmatch::{MatchBuffers, count};
+use attr_lists::types::Attributes;
+use bstr::BStr;
+use std::alloc::{AllocError, Global};
+
+/// Whether a pattern's text matches a value. The tokens of the text, which are kept, have to match it, too.
+pub(crate) fn wildmatch(alloc: Global, row: &Row, answer: &mut Answer) -> Result<(), NoAnswer> {
+    let (text, value, case) = (row.bytes(0), row.bytes(1), row.case(2)?);
+    let (matched, _) = count(alloc, text, value, case)?;
+    answer.flag(matched)?;
+    let (kept, _) = kept_count(alloc, text, value, case)?;
+    if kept != matched {
+        answer.text("other tokens")?;
+    }
+    Ok(())
+}
+
+/// Whether a pattern's text matches a value, and the number of pairs that are visited if that is less than the least or more than
+/// the most. Then follows the number for the kept tokens, if it is another one.
+pub(crate) fn pairs(alloc: Global, row: &Row, answer: &mut Answer) -> Result<(), NoAnswer> {
+    let (text, value, case) = (row.bytes(0), row.bytes(1), row.case(2)?);
+    let (least, most) = (row.number(3)? as u128, row.number(4)? as u128);
+    let (matched, pairs) = count(alloc, text, value, case)?;
+    answer.flag(matched)?;
+    if pairs < least || most < pairs {
+        answer.bytes(format!(in alloc; "{pairs}")?.as_bytes())?;
+    }
+    let kept = kept_count(alloc, text, value, case)?;
+    if kept != (matched, pairs) {
+        answer.bytes(format!(in alloc; "{kept:?}")?.as_bytes())?;
+    }
+    Ok(())
+}
+
+// Whether the tokens of a text match a value, and the number of pairs that are visited; none where a bracket isn't closed.
+fn kept_count(
+    alloc: Global,
+    text: &[u8],
+    value: &[u8],
+    case: Case,
+) -> Result<(bool, u128), NoAnswer> {
+    let mut buffers = MatchBuffers::new(alloc);
+    match Tokens::read(alloc, text)? {
+        Some(tokens) => count_in(&tokens, &mut buffers, value, case),
+        None => Ok((false, 0)),
+    }
+}
+
+// Once there is room for the tokens, nothing takes memory.
+fn count_in(
+    tokens: &Tokens,
+    buffers: &mut MatchBuffers,
+    value: &[u8],
+    case: Case,
+) -> Result<(bool, u128), NoAnswer> {
+    buffers.reserve(tokens.places())?;
+    let (matched, pairs) = tokens.count(value, case, buffers);
+    if buffers.reserve(tokens.places()).is_err()
+        || tokens.matches(value, case, buffers) != matched
+    {
+        return Err(NoAnswer::Changed);
+    }
+    Ok((matched, pairs))
+}
+
+/// How many tokens a text has, and whether it has none.
+pub(crate) fn token_count(alloc: Global, row: &Row, answer: &mut Answer) -> Result<(), NoAnswer> {
+    match Tokens::read(alloc, row.bytes(0))? {
+        Some(tokens) => {
+            answer.number(tokens.len())?;
+            answer.flag(tokens.is_empty())?;
+        }
+        None => answer.text("-")?,
+    }
+    Ok(())
+}
+
+const SHORT_BYTES: [u8; 3] = *b"ab/";
+
+// 1 + 3 + 9 + 27 + 81 values of at most four bytes
+const SHORT_VALUES: usize = 121;
+
+/// Which values of at most four bytes `a`, `b` and `/` a pattern's text matches, with blanks between them. Both cases, and the
+/// kept tokens, have to answer the same.
+pub(crate) fn short_values(alloc: Global, row: &Row, answer: &mut Answer) -> Result<(), NoAnswer> {
+    let mut taken = Vec::new(alloc);
+    match Tokens::read(alloc, row.bytes(0))? {
+        Some(tokens) => push_taken(alloc, row.bytes(0), Some(&tokens), &mut taken)?,
+        None => push_taken(alloc, row.bytes(0), None, &mut taken)?,
+    }
+    answer.bytes(taken.trim_ascii())?;
+    Ok(())
+}
+
+fn push_taken(
+    alloc: Global,
+    text: &[u8],
+    tokens: Option<&Tokens>,
+    taken: &mut Vec<u8>,
+) -> Result<(), NoAnswer> {
+    let (mut buffers, mut value) = (MatchBuffers::new(alloc), Vec::new(alloc));
+    for number in 0..SHORT_VALUES {
+        value.clear();
+        push_short_value(number, &mut value)?;
+        let exact = is_taken(alloc, text, &value, Case::Sensitive)?;
+        let folded = is_taken(alloc, text, &value, Case::Fold)?;
+        let kept = is_taken_in(tokens, &mut buffers, &value)?;
+        if folded != exact || kept != (exact, exact) {
+            return Err(NoAnswer::Changed);
+        }
+        if exact {
+            push_short(&value, taken)?;
+        }
+    }
+    Ok(())
+}
+
+fn is_taken(alloc: Global, text: &[u8], value: &[u8], case: Case) -> Result<bool, AllocError> {
+    let (matched, _) = count(alloc, text, value, case)?;
+    Ok(matched)
+}
+
+// Whether the tokens match a value, and whether they do with case ignored.
+fn is_taken_in(
+    tokens: Option<&Tokens>,
+    buffers: &mut MatchBuffers,
+    value: &[u8],
+) -> Result<(bool, bool), AllocError> {
+    let Some(tokens) = tokens else {
+        return Ok((false, false));
+    };
+    buffers.reserve(tokens.places())?;
+    let exact = tokens.matches(value, Case::Sensitive, buffers);
+    Ok((exact, tokens.matches(value, Case::Fold, buffers)))
+}
+
+fn push_short(value: &[u8], taken: &mut Vec<u8>) -> Result<(), AllocError> {
+    taken.extend_from_slice(if value.is_empty() { b"nothing" } else { value })?;
+    Ok(taken.push(b' ')?)
+}
+
+// The value of this number, the shorter ones first.
+fn push_short_value(number: usize, value: &mut Vec<u8>) -> Result<(), AllocError> {
+    let mut left = number;
+    for _ in 0..4 {
+        if left > 0 {
+            left -= 1;
+            value.push(SHORT_BYTES[left % 3])?;
+            left /= 3;
+        }
+    }
+    Ok(())
+}
+
+/// Whether a pattern matches a path. Where bytes alone decide, that takes no memory, so want of memory is an answer that such
+/// a row does not have.
+pub(crate) fn path(
+    alloc: Global,
+    memory: Memory,
+    row: &Row,
+    answer: &mut Answer,
+) -> Result<(), NoAnswer> {
+    let case = row.case(2)?;
+    let matched = match Pattern::from_bytes(alloc, row.bytes(0))? {
+        Some(pattern) => is_match(alloc, &pattern, row.bytes(1), case),
+        None => return Err(NoAnswer::NotARow),
+    };
+    match (matched, memory) {
+        (Ok(matched), _) => answer.flag(matched)?,
+        (Err(_), Memory::Taken) => return Err(NoAnswer::OutOfMemory),
+        (Err(_), Memory::NotTaken) => answer.text("out of memory")?,
+    }
+    Ok(())
+}
+
+fn is_match(alloc: Global, pattern: &Pattern, path: &[u8], case: Case) -> Result<bool, AllocError> {
+    let place = base_name_place(path);
+    pattern.matches_repo_relative_path(alloc, BStr::new(path), place, None, case)
+}
+
+/// The indices of the lines of a file that are tried for a path, last to first.
+pub(crate) fn candidates(alloc: Global, row: &Row, answer: &mut Answer) -> Result<(), NoAnswer> {
+    let case = row.case(2)?;
+    let list = list_of(alloc, row.bytes(0), "", None)?;
+    push_candidates(alloc, &list, row.bytes(1), case, answer)?;
+    Ok(())
+}
+
+fn push_candidates(
+    alloc: Global,
+    list: &List<Attributes>,
+    path: &[u8],
+    case: Case,
+    answer: &mut Answer,
+) -> Result<(), AllocError> {
+    let index = index_of(alloc, list)?;
+    if !index.is_of(list) {
+        return answer.text("another index");
+    }
+    let found = index.candidates(alloc, list, BStr::new(path), base_name_place(path), case)?;
+    answer.numbers(&found)
+}
+
+fn index_of(alloc: Global, list: &List<Attributes>) -> Result<Box<Index>, AllocError> {
+    let index = Index::of(alloc, list)?;
+    Ok(Box::new(alloc, index)?)
+}
+
+/// Whether the index of a file is of its list, and whether it is of the list of another file.
+pub(crate) fn is_of_list(alloc: Global, row: &Row, answer: &mut Answer) -> Result<(), NoAnswer> {
+    let list = list_of(alloc, row.bytes(0), "", None)?;
+    let other = list_of(alloc, row.bytes(1), "", None)?;
+    push_is_of(alloc, &list, &other, answer)?;
+    Ok(())
+}
+
+fn push_is_of(
+    alloc: Global,
+    list: &List<Attributes>,
+    other: &List<Attributes>,
+    answer: &mut Answer,
+) -> Result<(), AllocError> {
+    let index = index_of(alloc, list)?;
+    answer.flag(index.is_of(list))?;
+    answer.flag(index.is_of(other))
+}
