@@ -1,5 +1,6 @@
 -- Parts of texts that are cut from them, and texts that begin with others.
-use Rattle.std.proofs.Common.{◌≡◌, ◌≢◌, ℕ, zero, suc, ◌+◌, ◌<◌, ◌≤◌, ◌⊎◌, inl, inr, Bool, true, false, List, [], ◌∷◌, length, take, drop, map, refl, sym, ap}
+use Rattle.std.proofs.Common.{◌≡◌, ◌≢◌, ℕ, zero, suc, ◌+◌, ◌<◌, ◌≤◌, ◌⊎◌, inl, inr, Bool}
+use Rattle.std.proofs.Common.{true, false, List, [], ◌∷◌, length, take, drop, map, refl, sym, ap}
 use Rattle.std.proofs.Common.{◌∙◌, arith, nat_eq, get_or}
 use Rattle.std.specs.Bool.{OnFalse}
 use Rattle.std.specs.Char.{to_ascii_lowercase}
@@ -47,7 +48,8 @@ pub begins_if_cut : (fold from_end : Bool) (text part own : List ℕ) → direct
     b ≡ starts_with nat_eq (directed from_end text) (in_case fold (directed from_end part))
 begins_if_cut fold from_end text part own cut b so back =
     decide b so back
-    ∙ sym (ap (λ n. pointwise nat_eq part' (take n (directed from_end text))) (long_in_case fold from_end part) ∙ ap (pointwise nat_eq part') (sym cut))
+    ∙ sym (ap (λ n. pointwise nat_eq part' (take n (directed from_end text))) (long_in_case fold from_end part)
+    ∙ ap (pointwise nat_eq part') (sym cut))
   where
     part' : List ℕ
     part' = in_case fold (directed from_end part)
@@ -55,7 +57,8 @@ begins_if_cut fold from_end text part own cut b so back =
     same : own ≡ in_case fold part → part' ≡ directed from_end own
     same e = sym (directed_in_case from_end fold part) ∙ ap (directed from_end) (sym e)
 
-    decide : (r : Bool) → (r ≡ true → own ≡ in_case fold part) → (own ≡ in_case fold part → r ≡ true) → r ≡ pointwise nat_eq part' (directed from_end own)
+    decide : (r : Bool) → (r ≡ true → own ≡ in_case fold part) → (own ≡ in_case fold part → r ≡ true) → r
+        ≡ pointwise nat_eq part' (directed from_end own)
     decide true so back = sym ((bytes_decides part' (directed from_end own)).1 (same (so refl)))
     decide false so back =
         by_test (pointwise nat_eq part' (directed from_end own))
@@ -182,7 +185,8 @@ common_is fold from_end text part own w codes n is le le' same apart lacks cut =
     record {
       bound = omega (arith, len, le, long);
       begins = cut ∙ ap (λ m. take m (directed from_end text)) (sym len);
-      apart = λ e. common_codes (directed from_end text) (in_case fold (directed from_end part)) w n (omega (arith, le, long)) (omega (arith, le', long'))
+      apart = λ e. common_codes (directed from_end text) (in_case fold (directed from_end part)) w n (omega (arith, le, long))
+          (omega (arith, le', long'))
           same (λ a b. apart (omega (arith, a, long)) (omega (arith, b, long')))
           (ap (starts_with nat_eq (codes_of false (directed from_end text) true)) plain ∙ lacks)
           (ap (λ m. get_or (codes_of false (directed from_end text) true) m 0) (sym len)

@@ -306,7 +306,8 @@ found_four old a b e e' p p' n first second third new one two three four names e
     assoc false = refl
 
 -- a test of a text and a key, as they are read
-pub found_by : (test : List ℕ → Option KeyContent → Bool) (old has from_end from_end' : Bool) (seen seen' : List KeyContent) (text : List ℕ) (row : ℕ) →
+pub found_by : (test : List ℕ → Option KeyContent → Bool) (old has from_end from_end' : Bool) (seen seen' : List KeyContent) (text : List ℕ)
+    (row : ℕ) →
     from_end ≡ from_end' → seen ≡ seen' → old || (has && test (directed from_end text) (slice_get seen row))
     ≡ old || (has && test (directed from_end' text) (slice_get seen' row))
 found_by test old has from_end from_end' seen seen' text row ends is =

@@ -1,5 +1,6 @@
 -- Whole keys and extensions, by the hashes of their texts.
-use Rattle.std.proofs.Common.{◌≡◌, ℕ, zero, suc, ◌<◌, Bool, true, false, not, ◌&&◌, ◌||◌, List, [], ◌∷◌, ◌++◌, length, get_or, reverse, Option, None, Some, refl, sym, ap, subst}
+use Rattle.std.proofs.Common.{◌≡◌, ℕ, zero, suc, ◌<◌, Bool, true, false, not, ◌&&◌, ◌||◌, List, []}
+use Rattle.std.proofs.Common.{◌∷◌, ◌++◌, length, get_or, reverse, Option, None, Some, refl, sym, ap, subst}
 use Rattle.std.proofs.Common.{◌∙◌, arith, eqb, nat_eq}
 use Rattle.std.specs.Prelude.{All, filter, option_map, slice_get, unwrap_or}
 use Rattle.std.specs.List.{starts_with}
@@ -12,7 +13,7 @@ use Rattle.attr_keys.specs.declared.hashed.HashedRow.{HashedRow}
 use Rattle.attr_keys.specs.inner.Codes.{codes_of, key_codes, row_codes}
 use Rattle.attr_keys.specs.inner.Extensions.{is_hashed, is_reversed_extension}
 use Rattle.attr_keys.specs.inner.Meeting.{directed}
-use Rattle.attr_keys.specs.inner.Hashes.{AreAmong, IsHashOfKey, hash_of_row, hashed_part, hashed_rows, quick_hash, rows_of_hash, text_of}
+use Rattle.attr_keys.specs.inner.Hashes.{AreAmong, IsHashOfKey, hash_of_row, hashed_part, hashed_rows, quick_hash, rows_of_hash, key_text}
 use Rattle.attr_keys.specs.inner.Rows.{has_row}
 use Rattle.attr_keys.proofs.Cuts.{begin_below}
 use Rattle.attr_keys.proofs.ExtensionTexts.{extension_of_begun}
@@ -31,7 +32,7 @@ whole_same (b ∷ bs) (k ∷ ks) h =
 
 -- the hash of a key finds it
 hash_finds : (from_end : Bool) (keys : List KeyContent) (h : HashedRow) (key : Option KeyContent) → slice_get keys h.row ≡ key →
-    is_hashed from_end key ≡ true → h.hash ≡ quick_hash (text_of from_end key) → (text : List ℕ) →
+    is_hashed from_end key ≡ true → h.hash ≡ quick_hash (key_text from_end key) → (text : List ℕ) →
     starts_with nat_eq (codes_of false (directed from_end text) true) (row_codes keys h.row) ≡ true →
     option_map quick_hash (hashed_part from_end text) ≡ Some h.hash
 hash_finds from_end keys h None at is hashed text has = let no : false ≡ true = is in absurd cc

@@ -7,6 +7,7 @@ pub mod Meetings
 pub mod Gathering
 pub mod ForCallers
 pub mod Parts
+pub mod Raising
 pub mod Cuts
 pub mod Links
 pub mod Hashing

@@ -102,7 +102,8 @@ link_less keys rows index end end' order within some link other before =
       none = λ k le lt. by_test (leb end k)
           (λ t. link.none k (at_least end k t) lt)
           (λ f. by_test (eqb k (end - 1))
-          (λ t. ap (λ n. starts_with nat_eq (row_codes keys (get_or rows index 0)) (row_codes keys (get_or rows n 0))) (eqb-true k (end - 1) t) ∙ other)
+          (λ t. ap (λ n. starts_with nat_eq (row_codes keys (get_or rows index 0)) (row_codes keys (get_or rows n 0))) (eqb-true k (end - 1) t)
+          ∙ other)
           (λ g.
           let less = earlier end k f g in
           none_between keys rows (row_codes keys (get_or rows index 0)) (end - 1) end' order (omega (arith, bound', some, within))
@@ -139,7 +140,8 @@ none_in : (has : ℕ → Bool) (xs : List ℕ) (row : ℕ) → ((k : ℕ) → k 
 none_in has [] row none = refl
 none_in has (x ∷ xs) row none =
     by_test (eqb x row)
-    (λ t. ap (λ b. (eqb x row || has_row xs row) && b) (ap has (sym (eqb-true x row t)) ∙ none 0 (omega arith)) ∙ and_none (eqb x row || has_row xs row))
+    (λ t. ap (λ b. (eqb x row || has_row xs row) && b) (ap has (sym (eqb-true x row t)) ∙ none 0 (omega arith))
+    ∙ and_none (eqb x row || has_row xs row))
     (λ f. rw f (none_in has xs row (λ k lt. none (suc k) (omega arith))))
 
 -- rows that pass no test are skipped

@@ -3,7 +3,7 @@
 ghost use Rattle.std.specs.Prelude.{◌≡◌, [], IfOk, OnOk, map, true};
 ghost use Rattle.std.specs.Bool.{OnFalse};
 ghost use Rattle.attr_keys.specs.inner.Cases.{content_in_case, in_case};
-ghost use Rattle.attr_keys.specs.inner.Kinds.{AreKinds, is_kept, kind_of, rows_of, rows_with};
+ghost use Rattle.attr_keys.specs.inner.Kinds.{AreKinds, is_kept, kind_of, kind_rows, rows_with};
 ghost use Rattle.attr_keys.specs.inner.Meeting.{key_content};
 
 use crate::by_hash::is_extension;
@@ -82,7 +82,7 @@ impl Kinds {
     // Appends a line of this kind.
     fn add(&mut self, kind: Kind, row: usize) -> Result<(), AllocError>
         ensures { OnOk result ((k : Kind) → is_kept k ≡ true →
-            rows_of k self.new ≡ rows_with kind row k (rows_of k self.old)) }
+            kind_rows k self.new ≡ rows_with kind row k (kind_rows k self.old)) }
     {
         match kind {
             Kind::Name => self.names.push(row)?,

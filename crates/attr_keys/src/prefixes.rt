@@ -11,7 +11,7 @@ use crate::key::{
     Keyed, Keys, common, exact, first_code, first_row_code, has_row_key, is_row_up_to,
     may_begin_with,
 };
-use crate::order::put_in_order;
+use crate::order::{put_in_order, raise_equals};
 use std::alloc::{AllocError, Global};
 
 // So few keys are compared one by one.
@@ -49,6 +49,7 @@ impl Prefixes {
         if rows.len() <= FEW {
             push_firsts(keys, &rows, &mut firsts)?;
         } else {
+            raise_equals(keys, &mut rows);
             push_links(keys, &rows, &mut links)?;
         }
         Ok(Prefixes {

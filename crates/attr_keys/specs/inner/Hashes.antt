@@ -68,13 +68,13 @@ pub record AreBuckets (table : Inside) : Type 0 where
 abbrev pub hashed_part : Bool → List ℕ → Option (List ℕ)
 hashed_part from_end text = if from_end then extension text else Some text
 
-abbrev pub text_of : Bool → Option KeyContent → List ℕ
-text_of from_end None = []
-text_of from_end (Some key) = directed from_end key.text
+abbrev pub key_text : Bool → Option KeyContent → List ℕ
+key_text from_end None = []
+key_text from_end (Some key) = directed from_end key.text
 
 -- the text of the key with this number, as it stands in its line
 abbrev pub text_of_row : Bool → List KeyContent → ℕ → List ℕ
-text_of_row from_end keys row = text_of from_end (slice_get keys row)
+text_of_row from_end keys row = key_text from_end (slice_get keys row)
 
 abbrev pub hash_of_row : Bool → List KeyContent → ℕ → ℕ
 hash_of_row from_end keys row = quick_hash (text_of_row from_end keys row)

@@ -37,15 +37,15 @@ is_of k None = false
 is_of k (Some key) = same_kind k (kind_of key)
 
 -- the numbers of lines of a kind
-abbrev pub rows_of : Kind → Kinds → List ℕ
-rows_of kind.Name kinds = kinds.names.items
-rows_of kind.NamePrefix kinds = kinds.name_prefixes.items
-rows_of kind.Extension kinds = kinds.extensions.items
-rows_of kind.Suffix kinds = kinds.suffixes.items
-rows_of kind.Path kinds = kinds.paths.items
-rows_of kind.PathPrefix kinds = kinds.path_prefixes.items
-rows_of kind.Anything kinds = kinds.anything.items
-rows_of kind.Nothing kinds = []
+abbrev pub kind_rows : Kind → Kinds → List ℕ
+kind_rows kind.Name kinds = kinds.names.items
+kind_rows kind.NamePrefix kinds = kinds.name_prefixes.items
+kind_rows kind.Extension kinds = kinds.extensions.items
+kind_rows kind.Suffix kinds = kinds.suffixes.items
+kind_rows kind.Path kinds = kinds.paths.items
+kind_rows kind.PathPrefix kinds = kinds.path_prefixes.items
+kind_rows kind.Anything kinds = kinds.anything.items
+kind_rows kind.Nothing kinds = []
 
 -- lines of this kind are kept
 abbrev pub is_kept : Kind → Bool
@@ -58,4 +58,4 @@ rows_with kind row k rows = if same_kind k kind then rows ++ row ∷ [] else row
 
 -- lines with these keys by their kinds
 abbrev pub AreKinds : List KeyContent → Kinds → Type 0
-AreKinds keys kinds = (k : Kind) → is_kept k ≡ true → (row : ℕ) → has_row (rows_of k kinds) row ≡ is_of k (slice_get keys row)
+AreKinds keys kinds = (k : Kind) → is_kept k ≡ true → (row : ℕ) → has_row (kind_rows k kinds) row ≡ is_of k (slice_get keys row)

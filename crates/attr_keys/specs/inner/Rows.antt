@@ -1,8 +1,8 @@
 -- Numbers of keys (own).
-use Rattle.std.specs.Prelude.{◌≡◌, ◌≢◌, ℕ, ◌+◌, ◌<◌, ◌≤◌, Bool, false, not, List, length, map, nat_eq, ◌==◌, slice_index, true, take}
+use Rattle.std.specs.Prelude.{◌≡◌, ◌≢◌, ℕ, ◌+◌, ◌-◌, ◌<◌, ◌≤◌, Bool, false, not, List, ◌++◌, length, map, nat_eq, ◌==◌, slice_index, true, drop, take}
 use Rattle.std.specs.Cmp.Lexicographic.{slice_cmp}
 use Rattle.std.specs.List.{list_any, starts_with}
-use Rattle.std.specs.List.Sorted.{IsSortedByKey}
+use Rattle.std.specs.List.Sorted.{IsPermutation, IsSortedByKey}
 use Rattle.std.specs.Ordering.{is_lt, nat_cmp}
 use Rattle.attr_keys.specs.declared.prefixes.Prefixes.{Prefixes}
 use Rattle.attr_keys.specs.inner.KeyContents.{KeyContent}
@@ -49,3 +49,9 @@ pub record ArePrefixes (keys : List KeyContent) (prefixes : Prefixes) : Type 0 w
 -- each number is below the one before it
 abbrev pub IsFalling : List ℕ → Type 0
 IsFalling rows = (k : ℕ) → k + 1 < length rows → slice_index rows (k + 1) < slice_index rows k
+
+-- The rows from start up to end are in another order. The others are as they were.
+pub record IsMovedWithin (start end : ℕ) (old new : List ℕ) : Type 0 where
+  pub moved : List ℕ
+  pub permutation : IsPermutation (take (end - start) (drop start old)) moved
+  pub is : new ≡ take start old ++ (moved ++ drop end old)

@@ -16,6 +16,7 @@ loop-row-preserved g c =
     let P : HashedRow → Type 0 = λ h. h.hash ≡ hash_of_row c.args.keys.view.from_end (keys_seen g.K.Keyed.content c.args.keys) h.row in
     record {
       rows = ap hashed_rows c.in_ok-push.ensures.items
-          ∙ (rows_push hashed _ ∙ (ap (λ l. l ++ get_or rows index 0 ∷ []) c.loop-row.invariant.rows ∙ sym (take_more rows index 0 c.loop-row-test.true)));
+          ∙ (rows_push hashed _ ∙ (ap (λ l. l ++ get_or rows index 0 ∷ []) c.loop-row.invariant.rows
+          ∙ sym (take_more rows index 0 c.loop-row-test.true)));
       hashes = subst (All P) (sym c.in_ok-push.ensures.items) (All-push P hashed _ c.loop-row.invariant.hashes c.in_ok-hash.ensures);
     }

@@ -1,4 +1,5 @@
-use Rattle.std.proofs.Common.{◌≡◌, ◌∙◌, ◌-◌, ◌<◌, ◌||◌, ◌⊎◌, inl, inr, ◌&&◌, ℕ, suc, Bool, false, true, drop, get_or, length, nat_eq, sym, ap, arith, rules}
+use Rattle.std.proofs.Common.{◌≡◌, ◌∙◌, ◌-◌, ◌<◌, ◌||◌, ◌⊎◌, inl, inr, ◌&&◌, ℕ, suc}
+use Rattle.std.proofs.Common.{Bool, false, true, drop, get_or, length, nat_eq, sym, ap, arith, rules}
 use Rattle.std.specs.List.{starts_with}
 use Rattle.std.proofs.lemmas.List.Sorted.{IsPartitionPoint-from_clause}
 use Rattle.attr_keys.specs.inner.Cases.{keys_seen}

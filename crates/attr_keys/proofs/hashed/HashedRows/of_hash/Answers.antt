@@ -33,12 +33,18 @@ index-requires-2 c =
 
 pub between-rows-requires-clause-start : goal.between-rows-requires-clause-start
 between-rows-requires-clause-start c =
-    (between_starts c.self.inside.width c.self.inside.rows.items c.self.inside.starts.items (c.self.invariant.width (some c.self.inside.starts _ c.is_empty.ensures c.if-is_empty.false)) (c.self.invariant.starts (some c.self.inside.starts _ c.is_empty.ensures c.if-is_empty.false)) c.args.hash c.bucket-index.result c.index.result.now c.index-2.result.now c.ranges.hash.fits
+    (between_starts c.self.inside.width c.self.inside.rows.items c.self.inside.starts.items
+    (c.self.invariant.width (some c.self.inside.starts _ c.is_empty.ensures c.if-is_empty.false))
+    (c.self.invariant.starts (some c.self.inside.starts _ c.is_empty.ensures c.if-is_empty.false)) c.args.hash c.bucket-index.result
+    c.index.result.now c.index-2.result.now c.ranges.hash.fits
     c.bucket-index.ensures c.index.ensures c.index-2.ensures).0
 
 pub between-rows-requires-clause-end : goal.between-rows-requires-clause-end
 between-rows-requires-clause-end c =
-    let within = (between_starts c.self.inside.width c.self.inside.rows.items c.self.inside.starts.items (c.self.invariant.width (some c.self.inside.starts _ c.is_empty.ensures c.if-is_empty.false)) (c.self.invariant.starts (some c.self.inside.starts _ c.is_empty.ensures c.if-is_empty.false)) c.args.hash c.bucket-index.result c.index.result.now c.index-2.result.now
+    let within = (between_starts c.self.inside.width c.self.inside.rows.items c.self.inside.starts.items
+    (c.self.invariant.width (some c.self.inside.starts _ c.is_empty.ensures c.if-is_empty.false))
+    (c.self.invariant.starts (some c.self.inside.starts _ c.is_empty.ensures c.if-is_empty.false)) c.args.hash c.bucket-index.result
+    c.index.result.now c.index-2.result.now
     c.ranges.hash.fits c.bucket-index.ensures c.index.ensures c.index-2.ensures).1 in
     let same = ap length c.deref-2.ensures.value in
     omega (arith, within, same)
@@ -51,7 +57,8 @@ halved-requires c =
     let end = c.index-2.result.now in
     subst (λ l. IsNonDecreasingBy n l)
     (sym (c.between-rows.ensures ∙ ap (λ l. take (end - start) (drop start l)) c.deref-2.ensures.value))
-    (IsNonDecreasingBy-take n (end - start) (drop start rows) (IsNonDecreasingBy-drop n start rows (c.self.invariant.order (some c.self.inside.starts _ c.is_empty.ensures c.if-is_empty.false))))
+    (IsNonDecreasingBy-take n (end - start) (drop start rows)
+    (IsNonDecreasingBy-drop n start rows (c.self.invariant.order (some c.self.inside.starts _ c.is_empty.ensures c.if-is_empty.false))))
 
 pub returns-then-rows-le-FEW : goal.returns-then-rows-le-FEW
 returns-then-rows-le-FEW c =
@@ -59,7 +66,10 @@ returns-then-rows-le-FEW c =
     let start = c.index.result.now in
     let end = c.index-2.result.now in
     ap alike (c.between-rows.ensures ∙ ap (λ l. take (end - start) (drop start l)) c.deref-2.ensures.value)
-    ∙ ((between_starts c.self.inside.width c.self.inside.rows.items c.self.inside.starts.items (c.self.invariant.width (some c.self.inside.starts _ c.is_empty.ensures c.if-is_empty.false)) (c.self.invariant.starts (some c.self.inside.starts _ c.is_empty.ensures c.if-is_empty.false)) c.args.hash c.bucket-index.result start end c.ranges.hash.fits c.bucket-index.ensures
+    ∙ ((between_starts c.self.inside.width c.self.inside.rows.items c.self.inside.starts.items
+    (c.self.invariant.width (some c.self.inside.starts _ c.is_empty.ensures c.if-is_empty.false))
+    (c.self.invariant.starts (some c.self.inside.starts _ c.is_empty.ensures c.if-is_empty.false)) c.args.hash c.bucket-index.result start end
+    c.ranges.hash.fits c.bucket-index.ensures
     c.index.ensures c.index-2.ensures).2 ∙ ap alike c.self.view_is)
 
 pub returns : goal.returns
@@ -70,5 +80,8 @@ returns c =
     ap alike c.halved.ensures
     ∙ (of_hash_again c.args.hash c.between-rows.result.now
     ∙ (ap alike (c.between-rows.ensures ∙ ap (λ l. take (end - start) (drop start l)) c.deref-2.ensures.value)
-    ∙ ((between_starts c.self.inside.width c.self.inside.rows.items c.self.inside.starts.items (c.self.invariant.width (some c.self.inside.starts _ c.is_empty.ensures c.if-is_empty.false)) (c.self.invariant.starts (some c.self.inside.starts _ c.is_empty.ensures c.if-is_empty.false)) c.args.hash c.bucket-index.result start end c.ranges.hash.fits c.bucket-index.ensures
+    ∙ ((between_starts c.self.inside.width c.self.inside.rows.items c.self.inside.starts.items
+    (c.self.invariant.width (some c.self.inside.starts _ c.is_empty.ensures c.if-is_empty.false))
+    (c.self.invariant.starts (some c.self.inside.starts _ c.is_empty.ensures c.if-is_empty.false)) c.args.hash c.bucket-index.result start end
+    c.ranges.hash.fits c.bucket-index.ensures
     c.index.ensures c.index-2.ensures).2 ∙ ap alike c.self.view_is)))

@@ -1,7 +1,7 @@
 use Rattle.std.proofs.Common.{◌≡◌, false, true, sym, ap, subst, ◌∙◌}
 use Rattle.std.specs.Bool.{OnFalse}
 use Rattle.attr_keys.specs.inner.Cases.{content_in_case, in_case}
-use Rattle.attr_keys.specs.inner.Kinds.{kind_of, rows_of, rows_with}
+use Rattle.attr_keys.specs.inner.Kinds.{kind_of, kind_rows, rows_with}
 use Rattle.attr_keys.specs.inner.Rows.{has_row}
 use Rattle.attr_keys.proofs.Meetings.{kinds_more, lower_content, lower_more}
 use Rattle.attr_keys.proofs.kinds.Kinds.sort.Goals as goal
@@ -16,7 +16,7 @@ loop-row-preserved g c =
     let key = c.key-key.result in
     record {
       kinds = λ k kept r.
-          let before = rows_of k c.loop-row.self in
+          let before = kind_rows k c.loop-row.self in
           ap (λ l. has_row l r) (c.in_ok-add.ensures k kept ∙ ap (λ n. rows_with n row k before) (c.kind_of.ensures ∙ ap kind_of c.key-key.ensures))
           ∙ kinds_more content k lines before row line c.loop-row-test.true c.index-lines-row.is (c.loop-row.invariant.kinds k kept) r;
       lower = λ none. elim c.if-capitals.branch [
