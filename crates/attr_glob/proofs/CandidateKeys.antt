@@ -1,7 +1,6 @@
 -- A base name has the key of a line just if the line is a candidate.
-use Rattle.std.proofs.Common.{◌≡◌, ℕ, zero, suc, List, [], ◌∷◌, ◌++◌, refl, ap, ◌∙◌, map}
-use Rattle.std.proofs.Common.{Result, Ok, Err, OnOk}
-use Rattle.std.specs.Prelude.{is_none, is_ok, slice_get, if◌then◌else◌}
+use Rattle.std.proofs.Common.{◌≡◌, ℕ, zero, suc, List, [], ◌∷◌, refl, ap, ◌∙◌, map}
+use Rattle.std.specs.Prelude.{is_none, slice_get}
 use Rattle.attr_keys.specs.declared.key.Subject.TheVariants.{Name}
 use Rattle.attr_keys.specs.inner.Candidates.{candidate_of}
 use Rattle.attr_keys.specs.inner.LineKeys.{candidate_content}
@@ -46,11 +45,6 @@ pub found_candidates : (case : Case) (base : List ℕ) (lines : List Reading) (k
 found_candidates case base lines keys found is down has =
     falling_places (is_candidate case base) lines found down
     (λ row. has row ∙ (ap (λ l. content_met_at (folds case) base base (slice_get l row)) is ∙ met_at case base lines row))
-
-pub appended : {T E : Type 0} (r : Result T E) (new old more wanted : List ℕ) → new ≡ (if is_ok r then old ++ more else old) → more ≡ wanted →
-    OnOk r (new ≡ old ++ wanted)
-appended (Ok x) new old more wanted e same = e ∙ ap (λ l. old ++ l) same
-appended (Err x) new old more wanted e same = tt
 
 -- the keys of patterns, as far as base names alone tell
 pub keys_of_views : (patterns : List Pattern) → map candidate_of (map key_of_pattern patterns)

@@ -1,4 +1,4 @@
--- Where the patterns of a source apply (own; the gitattributes page matches them relative to the folder of their file).
+-- Where the patterns of a source apply: relative to the directory of their file (gitignore page; roots are own).
 use Rattle.std.specs.Prelude.{ℕ, ◌+◌, ◌==◌, ◌&&◌, List, [], ◌∷◌, ◌++◌, length, take, drop, slice_index, nat_eq, Option, Some, None, option_and_then, if◌then◌else◌}
 use Rattle.std.specs.List.{starts_with, before_last}
 use Rattle.attr_wildmatch.specs.declared.case.Case.{Case}
@@ -11,7 +11,7 @@ use Rattle.attr_wildmatch.specs.Slashes.{is_slash}
 abbrev pub folder : List ℕ → List ℕ
 folder source = before_last is_slash source
 
--- what follows a front and a slash in a folder, if it begins with these
+-- what follows a prefix and a slash in a directory, if it begins with these
 abbrev pub below_front : List ℕ → List ℕ → Option (List ℕ)
 below_front front folder =
     if starts_with nat_eq folder front && is_slash (slice_index folder (length front))

@@ -1,5 +1,5 @@
 -- Which lines of a list a path has to be matched against (own): a search looks up the lines whose key the base name has.
-use Rattle.std.specs.Prelude.{◌≡◌, ℕ, ◌++◌, Bool, true, false, not, ◌&&◌, List, [], ◌∷◌, length, drop, reverse, nat_eq, is_none, if◌then◌else◌}
+use Rattle.std.specs.Prelude.{ℕ, Bool, true, false, not, ◌&&◌, List, [], ◌∷◌, length, drop, reverse, nat_eq, is_none, if◌then◌else◌}
 use Rattle.std.specs.List.{ends_with as ends_with_list}
 use Rattle.attr_wildmatch.specs.declared.case.Case.{Case}
 use Rattle.attr_glob.specs.Folding.{folded, same_text}
@@ -52,7 +52,3 @@ places_where test (line ∷ before) = if test line then length before ∷ places
 -- the places of the candidates for paths of this base name, the greatest first
 abbrev pub candidates : Case → List ℕ → List Reading → List ℕ
 candidates case base lines = places_where (is_candidate case base) (reverse lines)
-
--- the places are the same, and others may follow them
-abbrev pub AppendsPlaces : List ℕ → List ℕ → Type 0
-AppendsPlaces old new = (added : List ℕ) × (new ≡ old ++ added)

@@ -9,6 +9,6 @@ abbrev pub folded : Case → List ℕ → List ℕ
 folded Sensitive text = text
 folded Fold text = map to_ascii_lowercase text
 
--- the texts are equal, under `Fold` but for the case of their letters
+-- the texts are equal, under `Fold` ignoring the case of ASCII letters
 abbrev pub same_text : Case → List ℕ → List ℕ → Bool
 same_text case x y = bytes_eq (folded case x) (folded case y)

@@ -15,7 +15,7 @@ abbrev pub is_directory : Option Bool → Bool
 is_directory (Some known) = known
 is_directory None = false
 
--- a pattern that wants a directory gets one, and the tokens of its text match the part
+-- the path is known to be a directory if the pattern is for directories, and the tokens of its text match the part
 abbrev pub PathMatches : Case → Reading → List ℕ → Option Bool → Type 0
 PathMatches case r path is_dir =
     (IsTrue (has_flag r.mode must_be_dir) → is_dir ≡ Some true) × TextMatches case r.text (matched_part r path)

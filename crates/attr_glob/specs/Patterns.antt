@@ -12,7 +12,9 @@ pub record Reading : Type 0 where
   pub mode : ℕ
   pub wildcard : Option ℕ
 
--- the flags of a mode: no slash is left in the text
+-- The flags of a mode.
+
+-- no slash is left in the text
 abbrev pub no_sub_dir : ℕ
 no_sub_dir = 1
 

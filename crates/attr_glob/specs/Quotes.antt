@@ -1,4 +1,5 @@
--- Git's C-style quoting (gitattributes page: patterns that begin with a double quote are quoted in C style).
+-- Git's C-style quoting (gitattributes page: patterns that begin with a double quote are quoted in C style). The escapes are those
+-- of git's quote.c.
 use Rattle.std.specs.Prelude.{◌≡◌, ◌≢◌, ℕ, zero, suc, ◌+◌, ◌-◌, ◌*◌, ◌≤◌, nat_le, Bool, ◌&&◌, ◌||◌, ◌==◌, if◌then◌else◌, List, [], ◌∷◌, ◌++◌, length, drop, slice_index, Option, Some, None, option_map, Result, Ok, Err, find}
 use Rattle.attr_wildmatch.specs.Bytes.{quote, backslash}
 

@@ -3,10 +3,10 @@
 //! those of `attr_wildmatch`, whose modules are shown here.
 #![tactic(auto)]
 
-pub mod matcher;
 pub mod pattern;
 pub mod quote;
 pub mod search;
+mod tokens;
 
 pub use crate::pattern::Pattern;
 pub use attr_wildmatch::{token, wildmatch};

@@ -19,7 +19,7 @@ use Rattle.attr_lists.specs.ListViews.{Entry, SameValue, entry_view, entries_vie
 use Rattle.attr_lists.specs.Numbers.{numbered, numbered_lines}
 use Rattle.attr_index.specs.ListView.{list_view}
 use Rattle.attr_index.specs.declared.indexed_line.IndexedLine.{IndexedLine}
-use Rattle.attr_index.specs.inner.LineIndexes.{NumberedPattern, indexed_keys, indexed_line, indexed_lines, lines_in}
+use Rattle.attr_index.specs.inner.LineIndexes.{NumberedPattern, indexed_keys, indexed_line, indexed_lines, listed_lines}
 use Rattle.attr_glob.specs.inner.LineShapes.{key_of_line, key_of_pattern}
 use Rattle.attr_index.specs.inner.PlacedLines.{entry_at, no_entry}
 use Rattle.attr_index.specs.inner.ReadLines.{IsRead, AreRead}
@@ -31,19 +31,19 @@ map_map g f (x ∷ xs) = ap (λ l. g (f x) ∷ l) (map_map g f xs)
 -- one more line of an index
 pub lines_more : {V : Type 0} (lines : List IndexedLine) (mappings : List (Mapping V)) (i : ℕ) (d : Mapping V) (more : List IndexedLine)
     (line : IndexedLine) (mapping : Mapping V) → i < length mappings → mapping ≡ get_or mappings i d →
-    indexed_lines lines ≡ lines_in (take i mappings) → more ≡ lines ++ line ∷ [] →
+    indexed_lines lines ≡ listed_lines (take i mappings) → more ≡ lines ++ line ∷ [] →
     pattern_view line.pattern ≡ pattern_view mapping.pattern → line.number ≡ mapping.sequence_number →
-    indexed_lines more ≡ lines_in (take (i + 1) mappings)
+    indexed_lines more ≡ listed_lines (take (i + 1) mappings)
 lines_more {V} lines mappings i d more line mapping lt is before pushed pattern number =
     let numbered : Mapping V → NumberedPattern = λ m. record { pattern = pattern_view m.pattern; number = m.sequence_number } in
     let here : indexed_line line ≡ numbered mapping = cc (pattern, number) in
     ap indexed_lines pushed ∙ map-append indexed_line lines (line ∷ [])
     ∙ ap (λ r. r ++ indexed_line line ∷ []) before
-    ∙ ap (λ r. lines_in (take i mappings) ++ r ∷ []) (here ∙ ap numbered is)
-    ∙ sym (ap lines_in (take_more mappings i d lt) ∙ map-append numbered (take i mappings) (get_or mappings i d ∷ []))
+    ∙ ap (λ r. listed_lines (take i mappings) ++ r ∷ []) (here ∙ ap numbered is)
+    ∙ sym (ap listed_lines (take_more mappings i d lt) ∙ map-append numbered (take i mappings) (get_or mappings i d ∷ []))
 
 -- the keys of an index are those of its list
-pub keys_same : (lines : List IndexedLine) (mappings : List (Mapping Value)) → indexed_lines lines ≡ lines_in mappings →
+pub keys_same : (lines : List IndexedLine) (mappings : List (Mapping Value)) → indexed_lines lines ≡ listed_lines mappings →
     indexed_keys lines ≡ map (λ m. key_of_pattern m.pattern) mappings
 keys_same lines mappings e =
     sym (map_map (λ (n : NumberedPattern). key_of_line n.pattern) indexed_line lines) ∙ ap (map (λ (n : NumberedPattern). key_of_line n.pattern)) e
@@ -51,13 +51,13 @@ keys_same lines mappings e =
     (λ (m : Mapping Value). record { pattern = pattern_view m.pattern; number = m.sequence_number }) mappings
 
 -- and those of its patterns
-pub keys_read : (lines : List IndexedLine) (mappings : List (Mapping Value)) → indexed_lines lines ≡ lines_in mappings →
+pub keys_read : (lines : List IndexedLine) (mappings : List (Mapping Value)) → indexed_lines lines ≡ listed_lines mappings →
     indexed_keys lines ≡ map key_of_line (patterns_of mappings)
 keys_read lines mappings e =
     keys_same lines mappings e ∙ sym (map_map key_of_line (λ (m : Mapping Value). pattern_view m.pattern) mappings)
 
 -- as many lines
-pub lines_length : {V : Type 0} (lines : List IndexedLine) (mappings : List (Mapping V)) → indexed_lines lines ≡ lines_in mappings →
+pub lines_length : {V : Type 0} (lines : List IndexedLine) (mappings : List (Mapping V)) → indexed_lines lines ≡ listed_lines mappings →
     length lines ≡ length mappings
 lines_length {V} lines mappings e =
     sym (length-map lines indexed_line) ∙ ap length e
@@ -87,7 +87,7 @@ numbered_lines_read names before after e =
 abbrev numbered_pattern : Entry → NumberedPattern
 numbered_pattern e = record { pattern = e.pattern; number = e.line }
 
-lines-entries : (mappings : List (Mapping Value)) → lines_in mappings ≡ map numbered_pattern (entries_view mappings)
+lines-entries : (mappings : List (Mapping Value)) → listed_lines mappings ≡ map numbered_pattern (entries_view mappings)
 lines-entries [] = refl
 lines-entries (m ∷ ms) = ap (λ r. record { pattern = pattern_view m.pattern; number = m.sequence_number } ∷ r) (lines-entries ms)
 
@@ -98,7 +98,7 @@ numbered-entries names (e ∷ es) = ap (λ r. numbered_pattern e ∷ r) (numbere
 
 -- the pattern of the line with an index is that of the line of the list there
 pub entry_pattern : (lines : List IndexedLine) (ms : List (Mapping Value)) (place : ℕ) (line : IndexedLine) →
-    indexed_lines lines ≡ lines_in ms → place < length ms → line ≡ get_or lines place line →
+    indexed_lines lines ≡ listed_lines ms → place < length ms → line ≡ get_or lines place line →
     (entry_at (entries_view ms) place).pattern ≡ pattern_view line.pattern
 entry_pattern lines ms place line e lt is =
     let same = lines_length lines ms e in
@@ -110,14 +110,14 @@ entry_pattern lines ms place line e lt is =
     ∙ (get_or-map indexed_line lines place line d (omega (arith, same, lt)) ∙ ap indexed_line (sym is))))
 
 -- lists that have the same lines
-pub same_lines : (before after : List (Mapping Value)) → entries_view after ≡ entries_view before → lines_in after ≡ lines_in before
+pub same_lines : (before after : List (Mapping Value)) → entries_view after ≡ entries_view before → listed_lines after ≡ listed_lines before
 same_lines before after e = lines-entries after ∙ ap (map numbered_pattern) e ∙ sym (lines-entries before)
 
 pub same_patterns : (before after : List (Mapping Value)) → entries_view after ≡ entries_view before → patterns_of after ≡ patterns_of before
 same_patterns before after e = lines-patterns after ∙ ap patterns_in e ∙ sym (lines-patterns before)
 
 pub numbered_lines_in : (names : List (List ℕ)) (before after : List (Mapping Value)) → entries_view after ≡ numbered_lines names
-    (entries_view before) → lines_in after ≡ lines_in before
+    (entries_view before) → listed_lines after ≡ listed_lines before
 numbered_lines_in names before after e =
     lines-entries after ∙ ap (map numbered_pattern) e ∙ numbered-entries names (entries_view before) ∙ sym (lines-entries before)
 

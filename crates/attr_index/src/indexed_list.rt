@@ -14,12 +14,12 @@ ghost use Rattle.attr_lists.specs.KeptLists.{macros_valid};
 ghost use Rattle.attr_lists.specs.ListViews.{entries_view};
 ghost use Rattle.attr_lists.specs.Numbers.{numbered_lines};
 ghost use Rattle.attr_index.specs.inner.ReadLines.{AreRead};
-ghost use Rattle.attr_index.specs.inner.LineIndexes.{indexed_lines, lines_in};
+ghost use Rattle.attr_index.specs.inner.LineIndexes.{indexed_lines, listed_lines};
 ghost use Rattle.attr_lists.specs.inner.Keeping.{StayRegistered};
 
 use crate::folder_keys::base_key;
 use crate::line_index::LineIndex;
-use crate::line_keys::{are_macros, folds};
+use crate::macro_lines::are_macros;
 use crate::path_query::PathQuery;
 use attr_glob::pattern::base_name;
 use attr_glob::search::pattern::List;
@@ -48,7 +48,7 @@ pub struct IndexedList {
     /// Whether each line defines a macro, so that none matches a path.
     #[derive_where(skip)]
     pub is_idle: bool,
-    ghost lines: { indexed_lines index.value.lines.items ≡ lines_in list.patterns.items },
+    ghost lines: { indexed_lines index.value.lines.items ≡ listed_lines list.patterns.items },
     ghost source: { option_map string_bytes index.value.source ≡ option_map string_bytes list.source },
     ghost based: { base_key ≡ key_of_base (base_bytes list.base) },
     ghost idle: { is_idle ≡ list_all has_macro_mode (patterns_of list.patterns.items) },
@@ -99,7 +99,7 @@ impl IndexedList {
     }
 
     /// Finds the places of the lines that may match what is left of a path, the greatest first. A place is the index
-    /// of a line, from 0. The places replace the contents of `places`. `turned` is a buffer for the reversed base
+    /// of a line, from 0. The places replace the contents of `places`. `reversed` is a buffer for the reversed base
     /// name.
     ///
     /// # Errors
@@ -108,7 +108,7 @@ impl IndexedList {
     pub fn find_candidates(
         &self,
         rest: PathQuery<'_>,
-        turned: &mut Vec<u8>,
+        reversed: &mut Vec<u8>,
         places: &mut Vec<usize>,
     ) -> Result<(), AllocError>
         ensures { OnOk result (AreTried rest.entry.case (bstr_bytes rest.entry.path)
@@ -118,10 +118,10 @@ impl IndexedList {
         let texts = Texts {
             name: base_name(path, rest.name_place),
             path,
-            fold: folds(rest.case),
+            fold: rest.folds(),
         };
         let index = self.index.as_ref();
-        index.keys.find(&index.lines, texts, turned, places)
+        index.keys.find(&index.lines, texts, reversed, places)
     }
 
     /// Whether the pattern of the line at a place matches what is left of a path. The line defines no macro.

@@ -8,6 +8,6 @@ pub mod indexed_list;
 pub mod indexed_lists;
 pub mod laws;
 pub mod line_index;
-mod line_keys;
+mod macro_lines;
 pub mod numbers_by_key;
 pub mod path_query;

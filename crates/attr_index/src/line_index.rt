@@ -1,7 +1,7 @@
 //! What is made of a list's lines once, for searches and for answers.
 
 ghost use Rattle.std.specs.Prelude.{◌≡◌, IfOk, option_map, string_bytes};
-ghost use Rattle.attr_index.specs.inner.LineIndexes.{indexed_keys, indexed_lines, lines_in};
+ghost use Rattle.attr_index.specs.inner.LineIndexes.{indexed_keys, indexed_lines, listed_lines};
 ghost use Rattle.attr_keys.specs.inner.KeyIndexes.{IsKeyIndex};
 
 use crate::indexed_line::IndexedLine;
@@ -31,7 +31,7 @@ impl LineIndex {
     /// If memory runs out.
     pub fn of(alloc: Global, list: &List<Attributes>) -> Result<LineIndex, AllocError>
         ensures lines { IfOk result (λ index.
-            indexed_lines index.lines.items ≡ lines_in list.now.patterns.items) }
+            indexed_lines index.lines.items ≡ listed_lines list.now.patterns.items) }
         ensures source { IfOk result (λ index.
             option_map string_bytes index.source ≡ option_map string_bytes list.now.source) }
     {
@@ -48,7 +48,7 @@ impl LineIndex {
 
 // The mappings' lines, in their order.
 fn index_lines(alloc: Global, mappings: &[Mapping<Value>]) -> Result<Vec<IndexedLine>, AllocError>
-    ensures { IfOk result (λ lines. indexed_lines lines.items ≡ lines_in mappings.now) }
+    ensures { IfOk result (λ lines. indexed_lines lines.items ≡ listed_lines mappings.now) }
 {
     let mut lines = Vec::with_capacity(alloc, mappings.len())?;
     for mapping in mappings {

@@ -5,6 +5,7 @@ ghost use Rattle.bstr.specs.BStr.{bstr_bytes};
 ghost use Rattle.attr_glob.specs.BaseNames.{base_name_place};
 ghost use Rattle.attr_glob.specs.Bases.{rest_below};
 ghost use Rattle.attr_glob.specs.Views.{base_bytes};
+ghost use Rattle.attr_glob.specs.inner.LineShapes.{folds};
 
 use attr_glob::pattern::{Case, base_name_place};
 use attr_glob::search::pattern::List;
@@ -59,5 +60,15 @@ impl<'a> PathQuery<'a> {
             case: self.case,
             is_dir: self.is_dir,
         })
+    }
+
+    /// Whether ASCII letters match regardless of case.
+    pub fn folds(self) -> bool
+        ensures { result ≡ folds self.entry.case }
+    {
+        match self.case {
+            Case::Sensitive => false,
+            Case::Fold => true,
+        }
     }
 }

@@ -48,9 +48,9 @@ impl Model for AnswerParts {
 
     ghost Value = { PartsContent };
 
-    ghost use Rattle.attr_search.specs.inner.PartsView.{parts_view};
+    ghost use Rattle.attr_search.specs.inner.PartsView.{answer_parts_view};
 
-    ghost view = { parts_view };
+    ghost view = { answer_parts_view };
 }
 
 impl AnswerParts {

@@ -59,7 +59,7 @@ impl Drop for SearchState {
 struct SearchBuffers {
     matching: MatchBuffers,
     // A base name, reversed.
-    turned: Vec<u8>,
+    reversed: Vec<u8>,
     places: Vec<usize>,
     // The numbers of lists.
     numbers: Vec<usize>,
@@ -104,7 +104,7 @@ impl SearchState {
             },
             buffers: SearchBuffers {
                 matching: MatchBuffers::new(alloc),
-                turned: Vec::new(alloc),
+                reversed: Vec::new(alloc),
                 places: Vec::new(alloc),
                 numbers: Vec::new(alloc),
             },
@@ -390,7 +390,7 @@ impl SearchState {
         let buffers = &mut self.buffers;
         lists.find(
             query.path.as_bytes(),
-            &mut buffers.turned,
+            &mut buffers.reversed,
             &mut buffers.numbers,
         )?;
         Ok(mem::replace(&mut buffers.numbers, Vec::new(alloc)))
@@ -475,7 +475,7 @@ impl SearchState {
             (bstr_bytes rest.entry.path) (patterns_of list.now.list.patterns.items) places.items) }
     {
         let buffers = &mut self.buffers;
-        list.find_candidates(rest, &mut buffers.turned, &mut buffers.places)?;
+        list.find_candidates(rest, &mut buffers.reversed, &mut buffers.places)?;
         Ok(mem::replace(&mut buffers.places, Vec::new(alloc)))
     }
 

@@ -11,7 +11,7 @@ ghost use Rattle.attr_glob.specs.Views.{base_bytes};
 
 use crate::pattern::{Case, same_text, without_end};
 use crate::search;
-pub use crate::search::pattern::index::{Index, IndexBuffers};
+pub use crate::search::pattern::index::Index;
 use attr_keys::key::{Key, Keyed};
 use bstr::BStr;
 use std::alloc::{AllocError, Global};

@@ -24,5 +24,5 @@ abbrev pub indexed_keys : List IndexedLine → List KeyContent
 indexed_keys lines = map (λ l. key_of_pattern l.pattern) lines
 
 -- the lines of a list
-abbrev pub lines_in : {V : Type 0} → List (Mapping V) → List NumberedPattern
-lines_in mappings = map (λ m. record { pattern = pattern_view m.pattern; number = m.sequence_number }) mappings
+abbrev pub listed_lines : {V : Type 0} → List (Mapping V) → List NumberedPattern
+listed_lines mappings = map (λ m. record { pattern = pattern_view m.pattern; number = m.sequence_number }) mappings

@@ -1,7 +1,6 @@
 //! Worked rows: the paths that patterns match, with tokens that are read for each path and with kept ones.
 use super::repeated::repeated;
 use attr_glob::Pattern;
-use attr_glob::matcher::Matcher;
 use attr_glob::pattern::{Case, Mode, base_name_place};
 use attr_glob::wildmatch::MatchBuffers;
 use bitflags::Flags;
@@ -23,10 +22,13 @@ fn matches(alloc: Global, pattern: &Pattern, ask: Ask<'_>) -> Result<bool, Alloc
 }
 
 fn kept_matches(alloc: Global, pattern: &Pattern, ask: Ask<'_>) -> Result<bool, AllocError> {
-    let matcher = Matcher::of(alloc, pattern)?;
+    let tokens = pattern.kept_tokens(alloc)?;
+    if !pattern.takes_kind(ask.is_dir) {
+        return Ok(false);
+    }
+    let part = pattern.matched_part(ask.path, base_name_place(ask.path));
     let mut rows = MatchBuffers::new(alloc);
-    let (path, place) = (BStr::new(ask.path), base_name_place(ask.path));
-    matcher.matches_repo_relative_path(path, place, ask.is_dir, ask.case, &mut rows)
+    pattern.matches_part(tokens.as_ref(), part, ask.case, &mut rows)
 }
 
 // Whether the pattern text matches, and whether its kept tokens do.

@@ -1,9 +1,9 @@
 //! Which patterns of a list a path has to be matched against.
 
-ghost use Rattle.std.specs.Prelude.{◌≡◌, ◌↔◌, ◌++◌, [], IfOk, OnOk, OnErr, IsTrue, map};
+ghost use Rattle.std.specs.Prelude.{◌≡◌, ◌↔◌, IfOk, IsTrue, map};
 ghost use Rattle.bstr.specs.BStr.{bstr_bytes};
 ghost use Rattle.attr_glob.specs.BaseNames.{base_name, base_name_place};
-ghost use Rattle.attr_glob.specs.Candidates.{candidates, AppendsPlaces};
+ghost use Rattle.attr_glob.specs.Candidates.{candidates};
 ghost use Rattle.attr_glob.specs.Views.{pattern_view, patterns_of};
 ghost use Rattle.attr_keys.specs.inner.LineKeys.{shape_content};
 ghost use Rattle.attr_glob.specs.inner.LineShapes.{folds, shape_reading};
@@ -39,26 +39,6 @@ impl Model for Index {
     ghost view = { index_view };
 
     ghost invariant = { IsIndex };
-}
-
-/// Buffers for lookups in an index, which several calls share so that they don't grow for each path.
-#[derive(Debug, Drop)]
-pub struct IndexBuffers {
-    turned: Vec<u8>,
-    found: Vec<usize>,
-}
-
-impl IndexBuffers {
-    /// Empty buffers. It takes no memory.
-    pub fn new(alloc: Global) -> IndexBuffers
-        ensures turned { result.turned.items ≡ [] }
-        ensures found { result.found.items ≡ [] }
-    {
-        IndexBuffers {
-            turned: Vec::new(alloc),
-            found: Vec::new(alloc),
-        }
-    }
 }
 
 impl Index {
@@ -119,41 +99,15 @@ impl Index {
             found.items ≡ candidates case name (patterns_of list.now.patterns.items)) }
     {
         let base_name = base_name(path.as_bytes(), basename_pos);
-        let mut buffers = IndexBuffers::new(alloc);
-        let mut places = Vec::new(alloc);
-        self.append_candidates(base_name, case, &mut buffers, &mut places)?;
-        Ok(places)
-    }
-
-    /// Appends the places of the candidates for a path with this base name, as `candidates` returns them. It takes
-    /// memory only if a buffer grows.
-    ///
-    /// # Errors
-    ///
-    /// If memory runs out. Some of the places may have been appended then.
-    pub fn append_candidates(
-        &self,
-        base_name: &[u8],
-        case: Case,
-        buffers: &mut IndexBuffers,
-        places: &mut Vec<usize>,
-    ) -> Result<(), AllocError>
-        ensures ok { OnOk result (
-            places.new.items ≡ places.old.items ++ candidates case base_name.now self.now) }
-        ensures err { OnErr result (AppendsPlaces places.old.items places.new.items) }
-    {
         let texts = Texts {
             name: base_name,
             path: base_name,
             fold: folds(case),
         };
-        self.keys.find_candidates(
-            &self.patterns,
-            texts,
-            &mut buffers.turned,
-            &mut buffers.found,
-        )?;
-        places.extend_from_slice(&buffers.found)
+        let (mut reversed, mut found) = (Vec::new(alloc), Vec::new(alloc));
+        self.keys
+            .find_candidates(&self.patterns, texts, &mut reversed, &mut found)?;
+        Ok(found)
     }
 }
 

@@ -1,6 +1,6 @@
 use Rattle.std.proofs.Common.{◌∙◌, ap}
 use Rattle.attr_glob.proofs.ForCallers.{take_whole}
-use Rattle.attr_index.specs.inner.LineIndexes.{lines_in}
+use Rattle.attr_index.specs.inner.LineIndexes.{listed_lines}
 use Rattle.attr_index.proofs.IndexedListLemmas.{lines_more}
 use Rattle.attr_index.proofs.line_index.index_lines.Goals as goal
 
@@ -13,4 +13,4 @@ loop-mapping-preserved c =
 
 pub returns : goal.returns
 returns c =
-    c.loop-mapping.invariant ∙ ap lines_in (take_whole c.args.mappings.now c.loop-mapping.mapping-index c.loop-mapping-test.false)
+    c.loop-mapping.invariant ∙ ap listed_lines (take_whole c.args.mappings.now c.loop-mapping.mapping-index c.loop-mapping-test.false)

@@ -6,7 +6,7 @@ use Rattle.attr_lists.specs.ListViews.{entries_view}
 use Rattle.attr_lists.specs.Numbers.{numbered_lines}
 use Rattle.attr_lists.specs.Definitions.{with_list, HoldsList}
 use Rattle.attr_index.specs.declared.line_index.LineIndex.{LineIndex}
-use Rattle.attr_index.specs.inner.LineIndexes.{indexed_lines, lines_in}
+use Rattle.attr_index.specs.inner.LineIndexes.{indexed_lines, listed_lines}
 use Rattle.attr_index.specs.inner.ReadLines.{AreRead}
 use Rattle.attr_index.proofs.IndexedListLemmas.{numbered_lines_in, numbered_read, numbered_length, written}
 use Rattle.attr_index.proofs.indexed_list.IndexedList.register.Goals as goal
@@ -20,7 +20,7 @@ invariant_of-result-clause-lines c =
     let whole = written before after c.args.list.patterns.len (sym c.deref_mut.ensures.len ∙ ap length c.deref_mut.ensures.value)
     (numbered_length names before after numbered) in
     ap (λ (x : LineIndex). indexed_lines x.lines.items) c.in_ok-index.ensures.ok ∙ c.in_ok-of.ensures.lines
-    ∙ sym (ap lines_in whole ∙ numbered_lines_in names before after numbered)
+    ∙ sym (ap listed_lines whole ∙ numbered_lines_in names before after numbered)
 
 pub invariant_of-result-clause-source : goal.invariant_of-result-clause-source
 invariant_of-result-clause-source c =

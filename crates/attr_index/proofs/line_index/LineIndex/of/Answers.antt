@@ -1,7 +1,7 @@
 use Rattle.std.proofs.Common.{◌≡◌, ◌∙◌, ap, map, subst, sym}
 use Rattle.attr_keys.specs.inner.KeyIndexes.{IsKeyIndex}
 use Rattle.attr_glob.specs.inner.LineShapes.{key_of_pattern}
-use Rattle.attr_index.specs.inner.LineIndexes.{indexed_lines, lines_in}
+use Rattle.attr_index.specs.inner.LineIndexes.{indexed_lines, listed_lines}
 use Rattle.attr_index.proofs.IndexedListLemmas.{keys_same}
 use Rattle.attr_index.proofs.line_index.LineIndex.of.Goals as goal
 
@@ -9,7 +9,7 @@ pub invariant_of-result : goal.invariant_of-result
 invariant_of-result c =
     let mappings = c.args.list.now.patterns.items in
     let lines = c.in_ok-lines.lines.items in
-    let same : indexed_lines lines ≡ lines_in mappings = c.in_ok-lines.ensures ∙ ap lines_in c.deref-2.ensures.value in
+    let same : indexed_lines lines ≡ listed_lines mappings = c.in_ok-lines.ensures ∙ ap listed_lines c.deref-2.ensures.value in
     record {
       keyed = subst (λ ks. IsKeyIndex ks c.in_ok-keys.keys)
           (ap (map (λ m. key_of_pattern m.pattern)) c.deref.ensures.value ∙ sym (keys_same lines mappings same)) c.in_ok-keys.ensures;

@@ -1,14 +1,13 @@
-//! The keys of a list's lines.
+//! Lines that define macros.
 
 ghost use Rattle.std.specs.Prelude.{◌≡◌};
 ghost use Rattle.std.specs.List.{list_all};
 ghost use Rattle.attr_glob.specs.Candidates.{has_macro_mode};
 ghost use Rattle.attr_glob.specs.Patterns.{all_flags};
 ghost use Rattle.attr_glob.specs.Views.{mode_bits, pattern_view, patterns_of};
-ghost use Rattle.attr_glob.specs.inner.LineShapes.{folds};
 
 use attr_glob::Pattern;
-use attr_glob::pattern::{Case, Mode};
+use attr_glob::pattern::Mode;
 use attr_glob::search::pattern::Mapping;
 use attr_lists::types::Value;
 use bitflags::Flags;
@@ -24,16 +23,6 @@ fn is_macro(pattern: &Pattern) -> bool
     ensures { result ≡ has_macro_mode (pattern_view pattern.now) }
 {
     pattern.mode.contains(all_flags())
-}
-
-/// Whether ASCII letters match regardless of case.
-pub fn folds(case: Case) -> bool
-    ensures { result ≡ folds case }
-{
-    match case {
-        Case::Sensitive => false,
-        Case::Fold => true,
-    }
 }
 
 // The bits of the five flags.
