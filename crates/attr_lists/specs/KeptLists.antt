@@ -1,5 +1,5 @@
--- The entries that a list keeps of an attributes file, as gix-attributes has it: those of the lines whose items are all valid.
--- Any other line is left out whole.
+-- The entries that a list keeps of an attributes file: those of the lines whose items are all valid. One bad item drops the whole
+-- line, as in git and gix-attributes.
 use Rattle.std.specs.Prelude.{◌≡◌, ℕ, Bool, true, ◌||◌, List, [], ◌∷◌, map, filter, Some, None, is_none, Result, Ok, Err}
 use Rattle.std.specs.Prelude.{if◌then◌else◌}
 use Rattle.std.specs.List.{filter_map, list_all}
@@ -37,7 +37,7 @@ abbrev pub unless_refused : List Refusal → List TrackedAssignment → Result (
 unless_refused [] assignments = Ok assignments
 unless_refused (refusal ∷ others) assignments = Err (reason_of refusal)
 
--- the assignments of a line's items, or why the line is left out
+-- the assignments of a line's items, or why the line is dropped
 abbrev pub items_read : List (Result Assignment Refusal) → Result (List TrackedAssignment) DropReason
 items_read items = unless_refused (filter_map result_err items) (map tracked (filter_map result_ok items))
 
@@ -50,7 +50,7 @@ abbrev pub entry_for : Target → ℕ → List TrackedAssignment → Entry
 entry_for (pattern read) line items = record { pattern = read; macro = None; items = items; line = line }
 entry_for (macro name) line items = record { pattern = macro_pattern name; macro = Some unnumbered; items = items; line = line }
 
--- the entry of a line, or why the line is left out
+-- the entry of a line, or why the line is dropped
 abbrev pub line_read : LineResult → Result Entry Dropped
 line_read (Ok given) =
     result_map_both (entry_for given.target given.line) (λ reason. record { line = given.line; reason = reason })
@@ -62,7 +62,7 @@ line_read (Err (negative_pattern line text)) = Err (record { line = line; reason
 abbrev pub kept_lines : List LineResult → List Entry
 kept_lines lines = filter_map (λ line. result_ok (line_read line)) lines
 
--- the lines that are left out, in order
+-- the lines that are dropped, in order
 abbrev pub lines_left_out : List LineResult → List Dropped
 lines_left_out lines = filter_map (λ line. result_err (line_read line)) lines
 
@@ -90,7 +90,7 @@ macro_valid entry = defines_no_macro entry || is_valid_name entry.pattern.text
 abbrev pub macros_valid : List Entry → Bool
 macros_valid entries = list_all macro_valid entries
 
--- the mappings and the lines left out are those of the buffer, so the macros have valid names
+-- the mappings and the lines dropped are those of the buffer, so the macros have valid names
 pub record IsReadAs (bytes : List ℕ) (mappings : List (Mapping Value)) (dropped : List Dropped) : Type 0 where
   pub kept : entries_view mappings ≡ kept_list bytes
   pub left_out : dropped ≡ dropped_lines bytes

@@ -30,7 +30,7 @@ pub data RefusedLine : Type 0 where
 abbrev pub LineResult : Type 0
 LineResult = Result Given RefusedLine
 
--- the byte order marks of UTF-8, UTF-32 and UTF-16 (own), a longer one before one that begins it
+-- the byte order marks of UTF-8, UTF-32 and UTF-16 (own: git removes that of UTF-8 alone), a longer mark before its prefix
 abbrev pub byte_order_marks : List (List ℕ)
 byte_order_marks =
     (0xEF ∷ 0xBB ∷ 0xBF ∷ [])
@@ -40,7 +40,7 @@ byte_order_marks =
     ∷ (0xFE ∷ 0xFF ∷ [])
     ∷ []
 
--- without the first of these fronts with which the bytes begin
+-- without the first of these prefixes with which the bytes begin
 abbrev pub without_front : List (List ℕ) → List ℕ → List ℕ
 without_front [] bytes = bytes
 without_front (front ∷ fronts) bytes =
@@ -50,7 +50,7 @@ without_front (front ∷ fronts) bytes =
 abbrev pub lines_in : List ℕ → List (List ℕ)
 lines_in bytes = map without_terminator (lines_of (without_front byte_order_marks bytes))
 
--- the front of a line that defines a macro
+-- the prefix of a line that defines a macro
 abbrev pub macro_prefix : List ℕ
 macro_prefix = codes "[attr]"
 

@@ -1,4 +1,5 @@
 -- The lines of a buffer (own): a line ends at a line feed, and a carriage return directly before it belongs to the end.
+-- Git reads that carriage return as a blank.
 use Rattle.std.specs.Prelude.{◌≡◌, ◌≢◌, ℕ, ◌-◌, ◌<◌, true, not, ◌==◌, ◌⊎◌, List, [], ◌∷◌, ◌++◌, length, slice_index}
 use Rattle.std.specs.List.{list_all}
 use Rattle.attr_text.specs.Items.{carriage_return}

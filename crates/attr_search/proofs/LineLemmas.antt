@@ -23,11 +23,11 @@ use Rattle.attr_table.proofs.ForCallers.{nothing_taken, done_taken, row_filled, 
 use Rattle.attr_glob.specs.Views.{pattern_view}
 use Rattle.attr_index.specs.declared.indexed_line.IndexedLine.{IndexedLine}
 use Rattle.attr_index.specs.declared.line_index.LineIndex.{LineIndex}
-use Rattle.attr_index.specs.inner.LineIndexes.{NumberedPattern, indexed_line, indexed_lines, lines_in}
+use Rattle.attr_index.specs.inner.LineIndexes.{NumberedPattern, indexed_line, indexed_lines, listed_lines}
 use Rattle.attr_index.specs.inner.PlacedLines.{no_entry, entry_at}
 use Rattle.attr_index.proofs.ForCallers.{entry_is}
 use Rattle.attr_search.specs.Slots.{table_items}
-use Rattle.attr_search.specs.inner.Slotted.{indexed_origin, no_origin, origin_at, origin_of}
+use Rattle.attr_search.specs.inner.Slotted.{indexed_origin, no_origin, index_origin, origin_of}
 use Rattle.attr_search.specs.inner.SlotContents.{wanted_numbers}
 use Rattle.attr_search.specs.Settings.{HaveSlots, LinesAreNamed, gives, origin_in}
 use Rattle.attr_lists.specs.Numbers.{AreNamed}
@@ -124,14 +124,14 @@ indexed_origins : (source : Option (List ℕ)) (lines : List IndexedLine) → ma
 unfolding placed_origin
 indexed_origins source lines = sym (map_map (placed_origin source) indexed_line lines)
 
-listed_origins : (source : Option (List ℕ)) (ms : List (Mapping Value)) → map (placed_origin source) (lines_in ms) ≡ map (origin_of source) ms
+listed_origins : (source : Option (List ℕ)) (ms : List (Mapping Value)) → map (placed_origin source) (listed_lines ms) ≡ map (origin_of source) ms
 unfolding placed_origin
 listed_origins source ms =
     map_map (placed_origin source) (λ (m : Mapping Value). record { pattern = pattern_view m.pattern; number = m.sequence_number }) ms
 
 pub origin_is : (index : LineIndex) (source : Option (List ℕ)) (ms : List (Mapping Value)) (place : ℕ) (m : Mapping Value) →
-    indexed_lines index.lines.items ≡ lines_in ms → option_map string_bytes index.source ≡ source → place < length ms → m ≡ get_or ms place m →
-    origin_at index place ≡ origin_of source m
+    indexed_lines index.lines.items ≡ listed_lines ms → option_map string_bytes index.source ≡ source → place < length ms → m ≡ get_or ms place m →
+    index_origin index place ≡ origin_of source m
 origin_is index source ms place m lines e lt is =
     ap (λ s. get_or (map (indexed_origin s) index.lines.items) place no_origin) e
     ∙ ap (λ os. get_or os place no_origin) (indexed_origins source index.lines.items)

@@ -7,7 +7,7 @@ use Rattle.std.proofs.lemmas.Option.{slice_get-get_or, slice_get-map, slice_get_
 use Rattle.attr_search.specs.declared.matching_line.AnsweringLine.{AnsweringLine}
 use Rattle.attr_search.specs.inner.PartsContents.{Grows}
 use Rattle.attr_search.specs.inner.PartsView.{origin_of_line, origins}
-use Rattle.attr_search.specs.inner.Slotted.{origin_at}
+use Rattle.attr_search.specs.inner.Slotted.{index_origin}
 
 -- a list that stays grows by nothing
 pub grows_same : {X : Type 0} (xs : List X) → Grows xs xs
@@ -45,5 +45,5 @@ copied_more copies lines i d more copy line lt is before pushed index number =
     ap origins pushed ∙ map-append origin_of_line copies (copy ∷ [])
     ∙ ap (λ l. l ++ origin_of_line copy ∷ []) before
     ∙ ap (λ o. origins (take i lines) ++ o ∷ [])
-    (ap (λ x. origin_at x copy.line) index ∙ ap (origin_at line.index.value) number ∙ ap origin_of_line is)
+    (ap (λ x. index_origin x copy.line) index ∙ ap (index_origin line.index.value) number ∙ ap origin_of_line is)
     ∙ sym (ap origins (take_more lines i d lt) ∙ map-append origin_of_line (take i lines) (get_or lines i d ∷ []))

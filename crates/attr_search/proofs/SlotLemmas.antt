@@ -19,7 +19,8 @@ use Rattle.attr_table.specs.Cut.{is_done}
 use Rattle.attr_table.specs.Setting.{Origin}
 use Rattle.attr_search.specs.inner.SlotContents.{AreListed, count_remaining, remaining_at, wanted_numbers}
 use Rattle.attr_search.specs.Matches.{cause_of}
-use Rattle.attr_search.specs.inner.AnswerRefs.{HasAssignment, KeepsAnswer, RefersTo, IsMatchRef, AreMatchRefs, assignment_at, line_by_ref, match_by_ref}
+use Rattle.attr_search.specs.inner.AnswerRefs.{HasAssignment, KeepsAnswer, RefersTo, IsMatchRef}
+use Rattle.attr_search.specs.inner.AnswerRefs.{AreMatchRefs, assignment_at, line_by_ref, match_by_ref}
 use Rattle.attr_search.specs.inner.AnswerRefs.{matches_by_ref}
 use Rattle.attr_search.specs.Slots.{Matched, filled_in, slots_of, table_answer}
 use Rattle.attr_search.specs.inner.PartsContents.{PartsContent, KeepsOneMore, KeepsParts, no_assignment}
@@ -173,7 +174,8 @@ slots_stay old new slots extends within =
     All-weaker (λ o. MatchOption o ⊤ (IsMatchRef old)) (λ o. MatchOption o ⊤ (IsMatchRef new)) (λ o w. (slot_stays old new o extends w).0) slots
     within
 
-pub matches_stay : (old new : PartsContent) (slots : List (Option MatchRef)) → KeepsParts old new → AreMatchRefs old slots → matches_by_ref new slots ≡
+pub matches_stay : (old new : PartsContent) (slots : List (Option MatchRef)) → KeepsParts old new → AreMatchRefs old slots
+    → matches_by_ref new slots ≡
     matches_by_ref old slots
 matches_stay old new [] extends within = refl
 matches_stay old new (o ∷ slots) extends within =
@@ -188,7 +190,8 @@ pub slots_filled : (old new : PartsContent) (slots : List (Option MatchRef)) (i 
 slots_filled old new slots i m extends within here =
     All-set (λ o. MatchOption o ⊤ (IsMatchRef new)) slots i (Some m) here (slots_stay old new slots extends within)
 
-pub matches_filled : (old new : PartsContent) (slots : List (Option MatchRef)) (i : ℕ) (m : MatchRef) (x : Matched) → KeepsParts old new → AreMatchRefs
+pub matches_filled : (old new : PartsContent) (slots : List (Option MatchRef)) (i : ℕ) (m : MatchRef) (x : Matched) → KeepsParts old new
+    → AreMatchRefs
     old slots → match_by_ref new m ≡ x →
     matches_by_ref new (set slots i (Some m)) ≡ set (matches_by_ref old slots) i (Some x)
 matches_filled old new slots i m x extends within here =
@@ -201,13 +204,15 @@ map_map g f [] = refl
 map_map g f (x ∷ xs) = ap (λ l. g (f x) ∷ l) (map_map g f xs)
 
 -- empty slots hold no match
-pub empty_within : {X : Type 0} (store : PartsContent) (slots : List (Option MatchRef)) (xs : List X) → slots ≡ map (λ x. None) xs → AreMatchRefs store
+pub empty_within : {X : Type 0} (store : PartsContent) (slots : List (Option MatchRef)) (xs : List X) → slots ≡ map (λ x. None) xs
+    → AreMatchRefs store
     slots
 empty_within store slots xs e =
     let P : Option MatchRef → Type 0 = λ o. MatchOption o ⊤ (IsMatchRef store) in
     All-same P slots (map (λ x. None) xs) e (All-map P (λ x. None) xs (λ k d lt. tt))
 
-pub empty_seen : {X : Type 0} (store : PartsContent) (slots : List (Option MatchRef)) (xs : List X) → slots ≡ map (λ x. None) xs → matches_by_ref store
+pub empty_seen : {X : Type 0} (store : PartsContent) (slots : List (Option MatchRef)) (xs : List X) → slots ≡ map (λ x. None) xs
+    → matches_by_ref store
     slots ≡ map (λ x. None) xs
 empty_seen store slots xs e = ap (matches_by_ref store) e ∙ map_map (λ o. option_map (match_by_ref store) o) (λ x. None) xs
 

@@ -1,4 +1,4 @@
--- The setting of a search, as the table of the gitattributes page knows it: which lines give their items to a path.
+-- The setting of a search: which lines give their items to a path (gitattributes page: when the pattern matches).
 use Rattle.std.specs.Prelude.{◌≡◌, ℕ, ◌<◌, Bool, false, ◌&&◌, List, [], map, length, sum_by, All, Option, Some, None, MatchOption, ⊤}
 use Rattle.std.specs.Prelude.{is_none, is_some, slice_get, slice_index_or, if◌then◌else◌}
 use Rattle.std.specs.List.{list_any}

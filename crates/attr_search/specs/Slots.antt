@@ -1,5 +1,4 @@
--- The answer of an outcome for each attribute, and how it is seen as slots of the table that the
--- gitattributes page describes (own).
+-- The answer of an outcome for each attribute, and how it is seen as a slot of the table in attr_table (own).
 use Rattle.std.specs.Prelude.{◌≡◌, ℕ, ◌≤◌, ◌<◌, Bool, true, List, map, Option, None, is_some, option_map, slice_index_or}
 use Rattle.std.specs.List.{filter_map}
 use Rattle.attr_text.specs.declared.assignment.Assignment.{Assignment}

@@ -9,6 +9,9 @@ pub use Rattle.attr_table.proofs.Listed.{backwards-append, backwards-none, backw
 pub use Rattle.attr_table.proofs.Walked.{length-tasks_in}
 pub use Rattle.attr_table.proofs.Seen.{tasks_push, tasks_pass}
 pub use Rattle.attr_table.proofs.Counted.{length-free}
+-- The order of paths of occurrences. `first_beginning`: a path comes before those that go on from it. `first_trans`: of three paths in
+-- order the first comes before the last.
+pub use Rattle.attr_table.proofs.Order.{first_beginning, first_trans}
 -- Walks. `fill_keeps`: a task keeps the slots that are filled. `fill_other`: a task keeps the slots of other attributes.
 -- `then_walks`: one walk after another is a walk over the tasks of both.
 pub use Rattle.attr_table.proofs.Walked.{fill_keeps, fill_other, then_walks}

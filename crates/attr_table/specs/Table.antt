@@ -1,4 +1,4 @@
--- The item that decides an attribute (gitattributes): a later line takes precedence over an earlier one, file by file, and an
+-- The item that decides an attribute (gitattributes page): a later line takes precedence over an earlier one, file by file, and an
 -- item that sets a macro assigns the states of its body.
 use Rattle.std.specs.Prelude.{◌≡◌, ◌≢◌, ℕ, ◌<◌, ◌⊎◌, List, [], ◌∷◌, ◌++◌, Option, Some, None, MatchOption, slice_get}
 use Rattle.std.specs.Prelude.{slice_index_or, option_and_then}
@@ -25,14 +25,14 @@ abbrev pub path : Occurrence → List ℕ
 path (Root list line item) = list ∷ line ∷ item ∷ []
 path (Inside parent place) = path parent ++ place ∷ []
 
--- a beginning comes first; otherwise, at the first difference, the later place comes first
+-- a prefix comes first; otherwise, at the first difference, the later place comes first
 abbrev pub ComesFirst : List ℕ → List ℕ → Type 0
 ComesFirst [] [] = ⊥
 ComesFirst [] (y ∷ ys) = Unit {0}
 ComesFirst (x ∷ xs) [] = ⊥
 ComesFirst (x ∷ xs) (y ∷ ys) = (y < x) ⊎ ((x ≡ y) × ComesFirst xs ys)
 
--- an occurrence takes precedence over another
+-- o is read before p, so it takes precedence
 abbrev pub IsEarlier : Occurrence → Occurrence → Type 0
 IsEarlier o p = ComesFirst (path o) (path p)
 

@@ -1,4 +1,5 @@
--- What an item of a line is (gitattributes page): `name`, `name=value`, `-name` or `!name`, where git passes over a value.
+-- What an item of a line is (gitattributes page): `name`, `name=value`, `-name` or `!name`. A value
+-- after `-name` or `!name` is ignored: git does so, and the page is silent.
 use Rattle.std.specs.Prelude.{◌≡◌, ◌≢◌, ℕ, true, false, not, ◌==◌, List, [], ◌∷◌, ◌++◌, slice_index, Result, Ok, Err}
 use Rattle.std.specs.List.{list_all}
 use Rattle.attr_wildmatch.specs.Bytes.{exclamation_mark, hyphen}

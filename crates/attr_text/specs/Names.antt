@@ -1,4 +1,5 @@
--- Names of attributes, as the gitattributes page and gix-attributes have them.
+-- Names of attributes. The gitattributes page doesn't say which are valid: this is the rule of git's attr.c, which gix-attributes
+-- has too. Newer versions of the page reserve `builtin_`.
 use Rattle.std.specs.Prelude.{ℕ, Bool, not, ◌&&◌, ◌||◌, nat_lt, nat_eq, ◌==◌, List, length, slice_index, codes}
 use Rattle.std.specs.Char.{is_ascii_alphanumeric}
 use Rattle.std.specs.List.{list_all, starts_with}

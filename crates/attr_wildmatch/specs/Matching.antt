@@ -34,12 +34,12 @@ Match case (t ∷ ts) value =
 abbrev pub TextMatches : Case → List ℕ → List ℕ → Type 0
 TextMatches case text value = (ts : List Token) × AreTokens true text ts × Match case ts value
 
--- over the places j of a value of t bytes, how many numbers k up to n pass the test
+-- how many pairs of a number k up to n and a place j up to t pass the test
 abbrev pub pairs_passed : (ℕ → ℕ → Bool) → ℕ → ℕ → ℕ
 pairs_passed test n t = sum_by (λ j. count_by (λ k. test k j) (range_with_len 0 (n + 1))) (range_with_len 0 (t + 1))
 
--- The pairs (k, j) for which the first k tokens match the first j bytes are no more than these: a test
--- that passes only these passes no more.
+-- The pairs (k, j) for which the first k tokens match the first j bytes are at most `most`: each test that only such pairs pass is
+-- passed by at most so many.
 abbrev pub ReachedAtMost : Case → List Token → List ℕ → ℕ → Type 0
 ReachedAtMost case ts value most =
     (test : ℕ → ℕ → Bool) → ((k j : ℕ) → IsTrue (test k j) → Match case (take k ts) (take j value)) →

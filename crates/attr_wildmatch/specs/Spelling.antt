@@ -22,7 +22,7 @@ class_name Space = codes "space"
 class_name Upper = codes "upper"
 class_name Xdigit = codes "xdigit"
 
--- the text begins with `[:`, and the first `]` after that directly follows a `:`
+-- the text begins with `[:`, a name without `]`, and `:]`
 abbrev pub BeginsClass : List ℕ → Type 0
 BeginsClass text =
     (name : List ℕ) × (others : List ℕ) ×

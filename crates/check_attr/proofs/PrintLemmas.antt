@@ -11,7 +11,8 @@ use Rattle.check_attr.specs.declared.fault.Fault.{Fault}
 use Rattle.check_attr.specs.declared.fault.Fault.TheVariants.{Record, Read, Write, OutOfMemory}
 
 -- what a call that writes a text returns, as one fact
-pub Prints-written : {T E : Type 0} (contents : E → Option (List ℕ)) (failed stalled : E → ℕ) (Flushed : E → Type 0) (r : Result T Fault) (old new : E)
+pub Prints-written : {T E : Type 0} (contents : E → Option (List ℕ)) (failed stalled : E → ℕ) (Flushed : E → Type 0) (r : Result T Fault)
+    (old new : E)
     (text : List ℕ) → OnOk r (Appends (contents old) (contents new) text) → OnOk r (Flushed new)
     → OnErr r (AppendsFront (contents old) (contents new) text)
     → CountsWrites r (failed old) (failed new) (stalled old) (stalled new) → IfErr r (λ fault. fault ≡ Write)

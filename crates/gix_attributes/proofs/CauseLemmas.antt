@@ -4,8 +4,7 @@ use Rattle.std.specs.Prelude.{Contains, option_and_then, option_map}
 use Rattle.attr_table.specs.Setting.{Answer, Item, Origin, Setting}
 use Rattle.attr_table.specs.Table.{Inside, IsEarlier, IsStable, Occurrence, Root, Slots, Table, item_at, path}
 use Rattle.attr_table.specs.Cut.{IsCut, IsCutAt, IsKept, answer_at, answer_of, cause_at, full_answer, no_answers, origin_at}
-use Rattle.attr_table.proofs.ForCallers.{entry_is, seen_others}
-use Rattle.attr_table.proofs.Order.{first_beginning, first_trans}
+use Rattle.attr_table.proofs.ForCallers.{entry_is, first_beginning, first_trans, seen_others}
 use Rattle.gix_attributes.proofs.SearchLaws.{has_answer}
 
 -- the cause of an answer is that of its occurrence

@@ -1,5 +1,6 @@
 -- Answers by their numbers.
-use Rattle.std.proofs.Common.{◌≡◌, ◌≤◌, ◌⊎◌, inl, inr, ℕ, ◌+◌, ◌<◌, List, [], ◌++◌, length, map, take, get_or, Option, Some, None, sym, ap, ◌∙◌, arith, unwrap_or, option_map, refl, subst, Bool, true, ℤ, MatchOption, is_some, if◌then◌else◌}
+use Rattle.std.proofs.Common.{◌≡◌, ◌≤◌, ◌⊎◌, inl, inr, ℕ, ◌+◌, ◌<◌, List, [], ◌++◌, length, map, take, get_or, Option}
+use Rattle.std.proofs.Common.{Some, None, sym, ap, ◌∙◌, arith, unwrap_or, option_map, refl, subst, Bool, true, ℤ, MatchOption, is_some, if◌then◌else◌}
 use Rattle.std.specs.Prelude.{flat_map, option_and_then, slice_get, slice_index_or}
 use Rattle.std.proofs.lemmas.List.{flat_map_more, take_more}
 use Rattle.std.proofs.lemmas.Option.{get_or_from_slice_get, slice_get-map, slice_get_cases}
@@ -9,7 +10,7 @@ use Rattle.gix_attributes.specs.EngineStates.{EngineContent, number_answered}
 use Rattle.gix_attributes.specs.Told.{match_told}
 use Rattle.gix_attributes.specs.Contents.{unspecified}
 use Rattle.yektrod.specs.Held.{Becomes, answer_in, text_in}
-use Rattle.yektrod.specs.RowsTold.{AnswerTexts, answer_at, answers_of, found_in, joined, row_at, row_with, text_of, texts_told}
+use Rattle.yektrod.specs.RowsTold.{AnswerTexts, labelled_answer, answers_of, labelled_found, full_text, row_at, row_with, text_of, texts_told}
 use Rattle.yektrod.specs.declared.row.Row.{Row}
 use Rattle.yektrod.specs.Rows.{answer_row, state_number, text_numbered}
 use Rattle.yektrod.specs.Sourced.{source_in, told_content, told_match}
@@ -72,7 +73,8 @@ pub none_there : (c : SourcedContent) (i : ℕ) → None ≡ answer_in c.labelle
 none_there c i there = ap (option_map (told_match c)) there ∙ sym (answer_told c i)
 
 -- a question leaves what its engine says, of the content with sources and of the one with labels
-pub asked : (view : SourcedContent → EngineContent) (R : List ℕ → Case → Option Bool → EngineContent → EngineContent → Type 0) (live : Bool) (held lent new : SourcedContent)
+pub asked : (view : SourcedContent → EngineContent) (R : List ℕ → Case → Option Bool → EngineContent → EngineContent → Type 0) (live : Bool)
+    (held lent new : SourcedContent)
     (path path' : List ℕ) (case case' : Case) (is_dir is_dir' : Option Bool) → R path case is_dir (view lent) (view new)
     → live ≡ true → lent ≡ held → path ≡ path' → case ≡ case' → is_dir ≡ is_dir'
     → Becomes (R path' case' is_dir') (option_map view (if live then Some held else None))
@@ -89,7 +91,7 @@ asked view R live held lent new path path' case case' is_dir is_dir' told is_liv
 abbrev there_in : EngineContent → ℕ → Option Matched
 there_in held i = option_and_then (λ answers. slice_get answers i) held.answers
 
-answer_at_is : (c : SourcedContent) (l : EngineContent) (i : ℕ) (m : Matched) → l ≡ c.labelled → Some m ≡ there_in l i → answer_at c i ≡ m
+answer_at_is : (c : SourcedContent) (l : EngineContent) (i : ℕ) (m : Matched) → l ≡ c.labelled → Some m ≡ there_in l i → labelled_answer c i ≡ m
 answer_at_is c l i m is_l there =
     answer_is c.labelled.answers i m (unspecified []) (there ∙ ap (λ (held : EngineContent). there_in held i) is_l)
 
@@ -102,9 +104,9 @@ row_is c l i at m texts number row is_l there texts_are number_is row_told_is =
     ∙ ap (λ (a : Matched). row_with (texts_told c a) (number_answered c.labelled i) at a) (sym (answer_at_is c l i m is_l there))
 
 pub text_is : (c : SourcedContent) (l : EngineContent) (i : ℕ) (m : Matched) (texts : AnswerTexts) → l ≡ c.labelled → Some m ≡ there_in l i
-    → texts ≡ texts_told c m → joined texts ≡ text_of c (answer_at c i)
+    → texts ≡ texts_told c m → full_text texts ≡ text_of c (labelled_answer c i)
 text_is c l i m texts is_l there texts_are =
-    ap joined texts_are ∙ ap (text_of c) (sym (answer_at_is c l i m is_l there))
+    ap full_text texts_are ∙ ap (text_of c) (sym (answer_at_is c l i m is_l there))
 
 -- the answers below their number are there
 no_such : {X : Type 0} (xs : List X) (i : ℕ) → None ≡ slice_get xs i → i < length xs
@@ -122,6 +124,6 @@ none_is_not c l i is_l none inside = no_answer c.labelled.answers i (none ∙ ap
 
 -- what is found for a number, with its row and its texts
 pub found_is : (c : SourcedContent) (l : EngineContent) (number : ℕ) (m : Matched) (P : Matched → Type 0) → l ≡ c.labelled
-    → Some m ≡ slice_index_or l.found number None → P m → MatchOption (found_in c number) ⊥ P
+    → Some m ≡ slice_index_or l.found number None → P m → MatchOption (labelled_found c number) ⊥ P
 found_is c l number m P is_l there holds =
     subst (λ (o : Option Matched). MatchOption o ⊥ P) (there ∙ ap (λ (held : EngineContent). slice_index_or held.found number None) is_l) holds

@@ -1,5 +1,6 @@
 -- What a label says.
-use Rattle.std.proofs.Common.{◌≡◌, ℕ, ◌<◌, ◌^◌, ◌==◌, ◌&&◌, nat_lt, not, Bool, true, false, List, length, sym, ap, ◌∙◌, refl, arith, rules, tests, Result, Ok, Err, if◌then◌else◌}
+use Rattle.std.proofs.Common.{◌≡◌, ℕ, ◌<◌, ◌^◌, ◌==◌, ◌&&◌, nat_lt, not, Bool, true, false, List}
+use Rattle.std.proofs.Common.{length, sym, ap, ◌∙◌, refl, arith, rules, tests, Result, Ok, Err, if◌then◌else◌}
 use Rattle.std.specs.Result.{result_unwrap_or}
 use Rattle.std.specs.Fmt.{decimal}
 use Rattle.std.specs.Str.{all_ascii_digits}

@@ -1,5 +1,6 @@
 -- Rows are laid to the front of a room, one after the other, as far as there is room.
-use Rattle.std.proofs.Common.{◌≡◌, ℕ, ◌+◌, ◌<◌, ◌≤◌, List, [], ◌∷◌, ◌++◌, length, take, drop, get_or, set, sym, ap, ◌∙◌, refl, subst, arith, rules, tests, Bool, true, false, nat_lt, nat_le, min, if◌then◌else◌}
+use Rattle.std.proofs.Common.{◌≡◌, ℕ, ◌+◌, ◌<◌, ◌≤◌, List, [], ◌∷◌, ◌++◌, length, take, drop, get_or, set, sym}
+use Rattle.std.proofs.Common.{ap, ◌∙◌, refl, subst, arith, rules, tests, Bool, true, false, nat_lt, nat_le, min, if◌then◌else◌}
 use Rattle.std.proofs.Common.{length-append, length-drop, length-take, length-take-le, drop_of_length-le, append_assoc, take-take}
 use Rattle.std.proofs.Math.Seq.{set-append_seam}
 use Rattle.std.proofs.lemmas.List.{take_all, take_more, drop_more}

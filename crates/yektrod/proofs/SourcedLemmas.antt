@@ -1,5 +1,6 @@
 -- Lists whose labels say their indices keep their sources while lists are added after them and removed.
-use Rattle.std.proofs.Common.{◌≡◌, ℕ, ◌+◌, ◌-◌, ◌<◌, ◌≤◌, ◌^◌, List, [], ◌∷◌, ◌++◌, length, map, map-id, take, drop, get_or, Option, Some, None, sym, ap, ◌∙◌, refl, subst, ap₂, arith, add-zero, length-append, unwrap_or, option_map}
+use Rattle.std.proofs.Common.{◌≡◌, ℕ, ◌+◌, ◌-◌, ◌<◌, ◌≤◌, ◌^◌, List, [], ◌∷◌, ◌++◌, length, map, map-id, take, drop}
+use Rattle.std.proofs.Common.{get_or, Option, Some, None, sym, ap, ◌∙◌, refl, subst, ap₂, arith, add-zero, length-append, unwrap_or, option_map}
 use Rattle.std.specs.Prelude.{Result, Ok, Err, OnOk}
 use Rattle.std.specs.List.{range_with_len}
 use Rattle.std.specs.Fmt.{decimal}

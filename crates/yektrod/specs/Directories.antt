@@ -11,5 +11,5 @@ abbrev pub is_part : List ℕ → Bool
 is_part part = nat_lt 2 (length part) || list_any (λ byte. not (is_dot byte)) part
 
 -- a directory of a repository: nothing, or parts with a slash between each two
-abbrev pub is_directory : List ℕ → Bool
-is_directory bytes = (length bytes == 0) || list_all is_part (slice_split is_slash bytes)
+abbrev pub names_directory : List ℕ → Bool
+names_directory bytes = (length bytes == 0) || list_all is_part (slice_split is_slash bytes)

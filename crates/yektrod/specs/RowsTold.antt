@@ -35,8 +35,8 @@ texts_told c m =
     record { name = text (pos 0); value = text (pos 1); source = text (pos 2); pattern = text (pos 3); cause = text (pos 4) }
 
 -- the texts, one directly after the other
-abbrev pub joined : AnswerTexts → List ℕ
-joined texts = texts.name ++ texts.value ++ texts.source ++ texts.pattern ++ texts.cause
+abbrev pub full_text : AnswerTexts → List ℕ
+full_text texts = texts.name ++ texts.value ++ texts.source ++ texts.pattern ++ texts.cause
 
 -- the row of an answer with these texts for the attribute with this number, if the texts begin there
 abbrev pub row_with : AnswerTexts → (number : Option ℕ) (at : ℕ) → Matched → Row
@@ -61,7 +61,7 @@ row_told c number at m = row_with (texts_told c m) number at m
 
 -- all texts of an answer
 abbrev pub text_of : SourcedContent → Matched → List ℕ
-text_of c m = joined (texts_told c m)
+text_of c m = full_text (texts_told c m)
 
 abbrev pub zero_row : Row
 zero_row =
@@ -89,12 +89,12 @@ abbrev pub answers_of : SourcedContent → List Matched
 answers_of c = unwrap_or c.labelled.answers []
 
 -- the answer with this number
-abbrev pub answer_at : SourcedContent → ℕ → Matched
-answer_at c i = slice_index_or (answers_of c) i (unspecified [])
+abbrev pub labelled_answer : SourcedContent → ℕ → Matched
+labelled_answer c i = slice_index_or (answers_of c) i (unspecified [])
 
 -- what is found for the attribute with this number, whose source is a label
-abbrev pub found_in : SourcedContent → ℕ → Option Matched
-found_in c number = slice_index_or c.labelled.found number None
+abbrev pub labelled_found : SourcedContent → ℕ → Option Matched
+labelled_found c number = slice_index_or c.labelled.found number None
 
 -- the texts of all answers, one directly after the other
 abbrev pub text_of_all : SourcedContent → List ℕ
@@ -106,7 +106,7 @@ place_of c i = counted_length (flat_map (text_of c) (take i (answers_of c)))
 
 -- the row of the answer with this number, whose texts begin there
 abbrev pub row_at : SourcedContent → (at i : ℕ) → Row
-row_at c at i = row_told c (number_answered c.labelled i) at (answer_at c i)
+row_at c at i = row_told c (number_answered c.labelled i) at (labelled_answer c i)
 
 -- the rows of all answers, with the places of their texts
 abbrev pub rows_of : SourcedContent → List Row

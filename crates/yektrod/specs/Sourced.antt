@@ -42,6 +42,6 @@ told_content c = content_told (source_in c.sources) c.labelled
 abbrev pub told_match : SourcedContent → Matched → Matched
 told_match c m = match_told (source_in c.sources) m
 
-abbrev pub list_view : SourcedList → AddedList
-list_view b =
+abbrev pub added_list_view : SourcedList → AddedList
+added_list_view b =
     record { allow_macros = b.allow_macros; source = b.source.now; base = option_copied b.base; buffer = b.buffer.now }

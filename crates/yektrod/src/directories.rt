@@ -3,12 +3,12 @@
 ghost use Rattle.std.specs.Prelude.{◌≡◌, not};
 ghost use Rattle.std.specs.List.{list_all, list_any, slice_split};
 ghost use Rattle.gix_attributes.specs.Slashes.{is_slash};
-ghost use Rattle.yektrod.specs.Directories.{is_directory, is_dot, is_part};
+ghost use Rattle.yektrod.specs.Directories.{names_directory, is_dot, is_part};
 
 /// Whether the bytes name a directory of a repository: they are empty, or parts with a slash between each two. No part is empty, `.`
 /// or `..`.
 pub fn names_directory(bytes: &[u8]) -> bool
-    ensures { result ≡ is_directory bytes.now }
+    ensures { result ≡ names_directory bytes.now }
 {
     bytes.is_empty() || are_parts(bytes)
 }

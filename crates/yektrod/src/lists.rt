@@ -6,11 +6,11 @@ ghost use Rattle.attr_glob.specs.Bases.{with_slash};
 ghost use Rattle.attr_glob.specs.Views.{base_bytes};
 ghost use Rattle.gix_attributes.specs.KeptLists.{dropped_lines};
 ghost use Rattle.yektrod.specs.Held.{HasNoList, dropped_held, held, sourced};
-ghost use Rattle.yektrod.specs.Directories.{is_directory};
+ghost use Rattle.yektrod.specs.Directories.{names_directory};
 ghost use Rattle.yektrod.specs.Passed.{ReadsRoot, passed_file};
 ghost use Rattle.yektrod.specs.Places.{passed_list};
 ghost use Rattle.yektrod.specs.Rows.{dropped_row, reason_code};
-ghost use Rattle.yektrod.specs.Sourced.{list_view};
+ghost use Rattle.yektrod.specs.Sourced.{added_list_view};
 ghost use Rattle.yektrod.specs.Statuses.{status_done, status_missing, status_no_list, status_no_memory, status_shut, status_unreadable};
 
 use crate::directories::names_directory;
@@ -110,7 +110,7 @@ pub extern "C" fn yektrod_add_in(
         (list.new ≡ list.old) × (dropped.new ≡ dropped.old) }
     ensures shut { result ≡ status_shut ↔ (held slot.old ≡ None) }
     ensures unreadable { result ≡ status_unreadable ↔ (¬ (held slot.old ≡ None)
-        × (is_directory place.now.directory.now ≡ false)) }
+        × (names_directory place.now.directory.now ≡ false)) }
     ensures status { (result ≡ status_done) ⊎ (result ≡ status_no_memory)
         ⊎ (result ≡ status_shut) ⊎ (result ≡ status_unreadable) }
 {
@@ -142,7 +142,7 @@ fn list_of<'a>(
     base: &'a Option<Vec<u8>>,
     buffer: &'a [u8],
 ) -> SourcedList<'a>
-    ensures { list_view result ≡ record {
+    ensures { added_list_view result ≡ record {
       allow_macros = allow_macros;
       source = source.now;
       base = base_bytes base.now;

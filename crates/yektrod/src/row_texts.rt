@@ -5,7 +5,7 @@ ghost use Rattle.attr_glob.specs.Patterns.{mark_where};
 ghost use Rattle.gix_attributes.specs.Matches.{match_view};
 ghost use Rattle.yektrod.specs.inner.Laid.{IsLaidBehind};
 ghost use Rattle.yektrod.specs.Rows.{pattern_text};
-ghost use Rattle.yektrod.specs.RowsTold.{joined, texts_told};
+ghost use Rattle.yektrod.specs.RowsTold.{full_text, texts_told};
 ghost use Rattle.yektrod.specs.Told.{text_told};
 ghost use Rattle.yektrod.specs.Statuses.{status_done, status_no_room};
 ghost use Rattle.yektrod.specs.inner.TextViews.{marked_text, texts_view};
@@ -61,7 +61,7 @@ impl<'a> RowTexts<'a> {
     /// Lays the texts behind what is laid, one after the other, as far as they fit, and returns the length of all.
     #[inline(always)]
     pub fn lay(self, buffer: &mut [u8], at: usize) -> usize
-        ensures { IsLaidBehind buffer.old at (joined (texts_view self.entry)) buffer.new result }
+        ensures { IsLaidBehind buffer.old at (full_text (texts_view self.entry)) buffer.new result }
     {
         let at = lay(buffer, at, self.name);
         let at = lay(buffer, at, self.value);

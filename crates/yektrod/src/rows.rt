@@ -6,7 +6,7 @@ ghost use Rattle.yektrod.specs.Held.{Becomes, found_held, held, labelled, source
 ghost use Rattle.yektrod.specs.inner.Laid.{IsLaid, IsLaidBehind};
 ghost use Rattle.yektrod.specs.Passed.{IsFolderNumber, folder_flag, passed_case};
 ghost use Rattle.yektrod.specs.Played.{counted_length};
-ghost use Rattle.yektrod.specs.RowsTold.{AreZero, answer_at, answers_of, found_in, laid_rows, row_at, row_told, rows_alone, rows_of, text_of, text_of_all, zero_row};
+ghost use Rattle.yektrod.specs.RowsTold.{AreZero, labelled_answer, answers_of, labelled_found, laid_rows, row_at, row_told, rows_alone, rows_of, text_of, text_of_all, zero_row};
 ghost use Rattle.yektrod.specs.Sourced.{AreLabelled};
 ghost use Rattle.yektrod.specs.Statuses.{status_done, status_missing, status_no_memory, status_no_room, status_shut, status_unreadable};
 
@@ -158,12 +158,12 @@ pub extern "C" fn yektrod_found(
     needed: &mut usize,
 ) -> i32
     ensures row { result ≡ status_done → IfSome (sourced slot.old) (λ c.
-        IfSome (found_in c number) (λ m. row.new ≡ row_told c (Some number) 0 m)) }
+        IfSome (labelled_found c number) (λ m. row.new ≡ row_told c (Some number) 0 m)) }
     ensures text { result ≡ status_done → IfSome (sourced slot.old) (λ c.
-        IfSome (found_in c number) (λ m.
+        IfSome (labelled_found c number) (λ m.
         text.new ≡ text_of c m ++ drop (length (text_of c m)) text.old)) }
     ensures needed { (result ≡ status_done) ⊎ (result ≡ status_no_room) →
-        IfSome (sourced slot.old) (λ c. IfSome (found_in c number) (λ m.
+        IfSome (sourced slot.old) (λ c. IfSome (labelled_found c number) (λ m.
         needed.new ≡ counted_length (text_of c m))) }
     ensures labels { (result ≡ status_done) ⊎ (result ≡ status_no_room) →
         IfSome (sourced slot.old) AreLabelled }
@@ -199,8 +199,8 @@ pub extern "C" fn yektrod_found(
 // Tells the answer for the attribute with this number and its texts, as far as there is room for them, and returns its row and the
 // length of the texts.
 fn tell_found(held: &SourcedEngine, number: usize, text: &mut [u8]) -> Option<(Row, usize)>
-    ensures found { MatchOption result (found_in held.now number ≡ None) (λ r.
-        MatchOption (found_in held.now number) ⊥ (λ m. (r.0 ≡ row_told held.now (Some number) 0 m)
+    ensures found { MatchOption result (labelled_found held.now number ≡ None) (λ r.
+        MatchOption (labelled_found held.now number) ⊥ (λ m. (r.0 ≡ row_told held.now (Some number) 0 m)
         × IsLaid text.old (text_of held.now m) text.new r.1)) }
     ensures kept { IfNone result (text.new ≡ text.old) }
 {
@@ -235,7 +235,7 @@ fn tell(held: &SourcedEngine, i: usize, at: usize, rows: &mut [Row], text: &mut 
     requires { i < length (answers_of held.now) }
     ensures rows { rows.new ≡ (if nat_lt i (length rows.old)
         then slice_set rows.old i (row_at held.now at i) else rows.old) }
-    ensures text { IsLaidBehind text.old at (text_of held.now (answer_at held.now i))
+    ensures text { IsLaidBehind text.old at (text_of held.now (labelled_answer held.now i))
         text.new result }
 {
     let engine = held.labelled();

@@ -4,7 +4,7 @@ ghost use Rattle.std.specs.Prelude.{◌≡◌, ◌↔◌, ◌<◌, IfOk, IsTrue,
 ghost use Rattle.std.specs.Fmt.{decimal};
 ghost use Rattle.gix_attributes.specs.EngineStates.{AnswersTo, FindsFor, unasked, with_list_below, with_selection, without_answers, without_last};
 ghost use Rattle.gix_attributes.specs.EngineView.{started};
-ghost use Rattle.yektrod.specs.Sourced.{AreLabelled, told_content, list_number, list_view, source_in};
+ghost use Rattle.yektrod.specs.Sourced.{AreLabelled, told_content, list_number, added_list_view, source_in};
 
 use gix_attributes::engine::laws::sources_only_tell;
 use gix_attributes::engine::{Below, Engine, Question};
@@ -77,7 +77,7 @@ impl SourcedEngine {
     /// If there is no memory. Nothing changes then.
     pub fn add(&mut self, alloc: Global, list: SourcedList<'_>) -> Result<(), AllocError>
         ensures added { OnOk result (told_content self.new
-            ≡ with_list_below (list_view list.entry) (told_content self.old)) }
+            ≡ with_list_below (added_list_view list.entry) (told_content self.old)) }
         ensures refused { OnErr result (self.new ≡ self.old) }
     {
         let label = label_of(alloc, self.sources.len())?;

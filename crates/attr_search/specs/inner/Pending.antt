@@ -10,11 +10,11 @@ use Rattle.attr_search.specs.declared.pending_item.PendingItem.{PendingItem}
 use Rattle.attr_search.specs.declared.matching_line.MatchingLine.{MatchingLine}
 use Rattle.attr_search.specs.Matches.{is_macro_kind, cause_of}
 use Rattle.attr_search.specs.Slots.{Matched, table_item, table_items}
-use Rattle.attr_search.specs.inner.Slotted.{origin_at}
+use Rattle.attr_search.specs.inner.Slotted.{index_origin}
 
 -- the line that a match refers to
 abbrev pub line_origin : MatchingLine → Origin
-line_origin line = origin_at line.index.now.value line.line
+line_origin line = index_origin line.index.now.value line.line
 
 -- the match by an item of a line, or of a body that the line leads to
 abbrev pub item_match : MatchingLine → TrackedAssignment → MatchKind → Matched

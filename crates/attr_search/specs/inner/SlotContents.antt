@@ -5,7 +5,7 @@ use Rattle.attr_lists.specs.declared.types.TrackedAssignment.{TrackedAssignment}
 use Rattle.attr_table.specs.Setting.{Origin}
 use Rattle.attr_search.specs.Slots.{Matched}
 
--- the answers by number, which numbers are wanted, the line whose pattern and source were looked up last, and the bodies by number
+-- the answers by number, which numbers are wanted, the line at hand if it has answered, and the bodies by number
 pub record SlotContents : Type 0 where
   pub answers : List (Option Matched)
   pub wanted : List Bool

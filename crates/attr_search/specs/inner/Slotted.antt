@@ -48,8 +48,8 @@ indexed_origin source l =
 abbrev pub no_origin : Origin
 no_origin = record { text = []; mode = 0; wildcard = None; source = None; line = 0 }
 
-abbrev pub origin_at : LineIndex → ℕ → Origin
-origin_at index line =
+abbrev pub index_origin : LineIndex → ℕ → Origin
+index_origin index line =
     slice_index_or (map (indexed_origin (option_map string_bytes index.source)) index.lines.items) line no_origin
 
 -- the bodies by number

@@ -1,4 +1,4 @@
--- An example, in the terms of the gitattributes page: the lines `[attr]a b`, `[attr]b a` and `* a`, with two macros that name
+-- An example: the lines `[attr]a b`, `[attr]b a` and `* a`, with two macros that name
 -- each other. The attribute `a` is number 0, and `b` is number 1.
 use Rattle.std.specs.Prelude.{ℕ, [], ◌∷◌, Some, None, true, codes}
 use Rattle.attr_table.specs.Setting.{Set, Item, Origin, Setting}

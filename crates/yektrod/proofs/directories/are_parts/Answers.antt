@@ -8,5 +8,6 @@ use Rattle.yektrod.proofs.directories.are_parts.Goals as goal
 pub returns : goal.returns
 returns c =
     all_from_yields_List is_part _ _ _ c.all.ensures.ran
-    (YieldsList-from_slice_split _ is_slash c.args.bytes.now c.split.ensures.rest c.split.ensures.done c.split.ensures.closure (λ x b q k. search (rules, tests)))
+    (YieldsList-from_slice_split _ is_slash c.args.bytes.now c.split.ensures.rest c.split.ensures.done c.split.ensures.closure
+    (λ x b q k. search (rules, tests)))
     (λ x b q k. search (rules, tests))

@@ -2,7 +2,7 @@ use Rattle.std.proofs.Common.{◌≡◌, ◌<◌, ◌++◌, [], ◌∷◌, lengt
 use Rattle.std.proofs.lemmas.List.{length-map}
 use Rattle.attr_lists.specs.declared.types.TrackedAssignment.{TrackedAssignment}
 use Rattle.attr_search.specs.inner.PartsContents.{PartsContent}
-use Rattle.attr_search.specs.inner.PartsView.{origin_of_line, origins, parts_view}
+use Rattle.attr_search.specs.inner.PartsView.{origin_of_line, origins, answer_parts_view}
 use Rattle.attr_search.specs.inner.Pending.{items_beside}
 use Rattle.attr_search.specs.inner.Slotted.{bodies_view}
 use Rattle.attr_search.proofs.PartLemmas.{grows_same}
@@ -20,7 +20,7 @@ returns-then-is_some-clause-kept c =
     { lines = origins lines; line = Some c.in_ok-kept.kept; assignments = b.assignments.items; bodies = bodies } in
     let placed : top.place < length (items_beside items bodies top.cause) = rw (← c.self.view_is) at c.requires.placed in
     let has = body_has items after top.cause top.place (sym c.is_some.ensures ∙ c.if-is_some.true) placed in
-    rw (← c.self.view_is) (answer_kept c.args.line top c.args.kind (parts_view b) after c.in_ok-kept.kept top.place c.requires.cause
+    rw (← c.self.view_is) (answer_kept c.args.line top c.args.kind (answer_parts_view b) after c.in_ok-kept.kept top.place c.requires.cause
     (record { lines = c.in_ok-kept.ensures.extends; assignments = grows_same _; bodies = refl })
     (record {
       lines = omega (arith, c.in_ok-kept.ensures.more, length-map b.lines.items origin_of_line, length-map lines origin_of_line);
@@ -45,7 +45,7 @@ returns-clause-kept c =
     let index : c.len-assignment.result ≡ length before = omega (arith, c.len-assignment.ensures, ap length c.reserve.ensures.items) in
     let has = own_has items bodies after top.cause top.place c.index-line-top.result own before (sym c.is_some.ensures ∙ c.if-is_some.false)
     placed c.index-line-top.is (c.in_ok-own.ensures ∙ ap (λ (t : TrackedAssignment). t.inner) (sym c.index-line-top.is)) pushed in
-    rw (← c.self.view_is) (answer_kept c.args.line top c.args.kind (parts_view b) after c.in_ok-kept-2.kept c.len-assignment.result
+    rw (← c.self.view_is) (answer_kept c.args.line top c.args.kind (answer_parts_view b) after c.in_ok-kept-2.kept c.len-assignment.result
     c.requires.cause
     (record { lines = c.in_ok-kept-2.ensures.extends; assignments = (own ∷ [], pushed); bodies = refl })
     (record {

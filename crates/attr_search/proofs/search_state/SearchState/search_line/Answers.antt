@@ -4,7 +4,7 @@ use Rattle.bstr.specs.BStr.{bstr_bytes}
 use Rattle.attr_index.specs.IndexedLists.{listed_view}
 use Rattle.attr_search.specs.Slots.{slots_of}
 use Rattle.attr_search.specs.inner.Searched.{state_bodies, state_slots, state_wanted}
-use Rattle.attr_search.specs.inner.Slotted.{origin_at}
+use Rattle.attr_search.specs.inner.Slotted.{index_origin}
 use Rattle.attr_search.specs.inner.SearchView.{search_view}
 use Rattle.attr_search.proofs.LineLemmas.{line_defines, line_differs, line_filled, line_matched, named_at, origin_is, slots_at, some_free}
 use Rattle.attr_search.proofs.SearchedLemmas.{line_searched, state_kept}
@@ -109,7 +109,7 @@ returns-clause-searched c =
     (line_matched (state_bodies state) (state_wanted state) c.args.rest.case c.args.rest.is_dir (listed_view list).source
     (bstr_bytes c.args.rest.path) list.list.patterns.items c.args.place c.index-mapping.result.now c.in-Some.items.now (state_slots state)
     (slots_of c.fill_attributes.new.self.slots.answers) state.taken c.fill_attributes.new.self.taken c.in_ok-matches.field-0
-    (origin_at list.index.value c.args.place) c.requires.place
+    (index_origin list.index.value c.args.place) c.requires.place
     c.index-mapping.ensures c.in-Some.ensures.items c.in-Some.ensures.line c.in_ok-matches.ensures c.if-not-branch.false
     (origin_is list.index.value (listed_view list).source list.list.patterns.items c.args.place c.index-mapping.result.now list.lines list.source
     c.requires.place c.index-mapping.ensures) fills)

@@ -36,7 +36,8 @@ invariant_of-self-2 c =
     let b = c.self.inside in
     let place = c.item.result.now.id.0 in
     let stored = c.keep.new.self in
-    let pushed : c.push_reserved.new.self.items ≡ b.filled.items ++ place ∷ [] = c.push_reserved.ensures.items ∙ ap (λ l. l ++ place ∷ []) c.reserve.ensures.items in
+    let pushed : c.push_reserved.new.self.items ≡ b.filled.items ++ place ∷ [] = c.push_reserved.ensures.items
+    ∙ ap (λ l. l ++ place ∷ []) c.reserve.ensures.items in
     let at = item_is c.args.line.items.now c.args.top c.item.result.now c.bodies.result.now b.parts.bodies c.args.self.now.bodies
     c.item.ensures c.bodies.ensures (ap (λ v. v.bodies) c.self.view_is) in
     let free : is_some (get_or b.slots.items place None) ≡ false = sym (seen_filled b.parts b.slots.items place) ∙ ap
@@ -59,7 +60,13 @@ invariant_of-self-2 c =
       listed = rw pushed (listed_filled b.slots.items b.filled.items place (Some c.in_ok-found.found)
           (listed_more b.slots.items b.filled.items place within c.self.invariant.listed));
       ordered = λ t. absurd (false≢true t);
-      few_lines = omega (arith, c.self.invariant.few_lines, c.in_ok-found.ensures.kept.more.lines, filled_set b.slots.items place c.in_ok-found.found within free);
+      few_lines = omega (
+        arith,
+        c.self.invariant.few_lines,
+        c.in_ok-found.ensures.kept.more.lines,
+        filled_set b.slots.items place
+            c.in_ok-found.found within free,
+      );
       few_assignments = omega (
         arith,
         c.self.invariant.few_assignments,

@@ -15,7 +15,8 @@ use mir.Val.{Val, vptr}
 use prog.Memory.{Memory}
 use prog.Routine.{Routine}
 use types.Logic.{Logic, sem}
-use types.Kit.{‵, raw, ◌⊛◌, some, later, await, at_ret, ◌$◌, ◌∵◌, !, qed, by, done, drop, fjoin, fpack, frame, fsplit, fsplit3, group, join, keep, move, pick, rewrite, split, suffices, use1}
+use types.Kit.{‵, raw, ◌⊛◌, some, later, await, at_ret, ◌$◌, ◌∵◌, !, qed, by, done, drop}
+use types.Kit.{fjoin, fpack, frame, fsplit, fsplit3, group, join, keep, move, pick, rewrite, split, suffices, use1}
 use types.Part.{whole, sub, look_in}
 use types.Run.{stop, fld, load, of_opd, first, blocks, exec, returns, enter, addr}
 use types.ByLocal.{alloc_all, pass_all, free_all, look_at, get, through, sets, sets_last, env}
@@ -44,7 +45,8 @@ use Rattle.yektrod.proofs.handle.Handle.engine.Code as code
 abbrev stayed : Stays f.ended.signature.params f.ended.kept
 stayed = (stay_dropped (mut_ref_to (0 ∷ []) tt (plain (λ _. Handle.the_row))) no, tt)
 
-module _ {M : Type 1} {𝓤 : Ura M} (𝓛 : Logic 𝓤) (at_mem : Memory → SProp 𝓤) (run : Routine → Fun 𝓤) (κ : Lft) (q : Share) (rb ro : ℕ) (γ : GName) (h : Handle.the_row.Denot) (b o : ℕ) (g : Val) where
+module _ {M : Type 1} {𝓤 : Ura M} (𝓛 : Logic 𝓤) (at_mem : Memory → SProp 𝓤) (run : Routine → Fun 𝓤) (κ : Lft) (q : Share) (rb ro : ℕ) (γ : GName)
+    (h : Handle.the_row.Denot) (b o : ℕ) (g : Val) where
   open 𝓛 use {A}
 
   abbrev boxed : SourcedContent → D engine_box
@@ -55,7 +57,8 @@ module _ {M : Type 1} {𝓤 : Ura M} (𝓛 : Logic 𝓤) (at_mem : Memory → SP
 
   -- all of the handle but its engine
   abbrev Rest : Fml
-  Rest = fsep (fsep (token engine_box.al h.alloc (bare (τ engine_box)) (block_ptr b o)) (handle engine_box h.alloc g)) (cell_at full_share Handle.the_row.mir (word engine_box g b o ∷ []) rb ro)
+  Rest = fsep (fsep (token engine_box.al h.alloc (bare (τ engine_box)) (block_ptr b o)) (handle engine_box h.alloc g))
+      (cell_at full_share Handle.the_row.mir (word engine_box g b o ∷ []) rb ro)
 
   back : h.is_open ≡ true → h.ptr ≡ block_ptr b o → (w : SourcedContent)
       → ent 𝓤 (sep 𝓤 (sem 𝓛 ((mem SourcedEngine.the_row).own_at w b o)) (sem 𝓛 Rest)) (sem 𝓛 ((mem Handle.the_row).own_at (with_held h w) rb ro))
@@ -66,14 +69,20 @@ module _ {M : Type 1} {𝓤 : Ura M} (𝓛 : Logic 𝓤) (at_mem : Memory → SP
       use1 𝓛 (‵ (Handle.the_row.own_val (at true w) (word engine_box g b o ∷ []))) (id⊢ 𝓤 _) $
       rewrite ! 0 (λ (is_open : Bool). ‵ (Handle.the_row.own_val (at is_open w) (word engine_box g b o ∷ []))) (sym known) refl $
       move ! (1 ∷ 0 ∷ []) $ fjoin ! $
-      fpack ! (List Val) (λ us. fsep (cell_at full_share Handle.the_row.mir us rb ro) (Handle.the_row.own_val (with_held h w) us)) (word engine_box g b o ∷ []) $ done !
+      fpack ! (List Val) (λ us. fsep (cell_at full_share Handle.the_row.mir us rb ro) (Handle.the_row.own_val (with_held h w) us))
+      (word engine_box g b o ∷ []) $ done !
 
   exits : (γ' : GName)
-      → ent 𝓤 (sep 𝓤 (sem 𝓛 ((MutRef (named 0) κ SourcedEngine.the_row).own_val (record { ref_ptr = (b, o); ghost_name = γ'; now = h.held }) (vptr b o ∷ []))) (sep 𝓤 (A.lft κ q) (sem 𝓛 (follows Handle.the_row SourcedEngine.the_row γ γ' (with_held h)))))
-      ((walk_of 𝓛 f.ended stayed (f.clauses 𝓛 at_mem run)).post (((κ, tt), (q, tt), tt, (record { ref_ptr = (rb, ro); ghost_name = γ; now = h }, tt), (vptr rb ro ∷ [], tt)), tt) (vptr b o))
+      → ent 𝓤 (sep 𝓤 (sem 𝓛 ((MutRef (named 0) κ SourcedEngine.the_row).own_val (record { ref_ptr = (b, o); ghost_name = γ'; now = h.held })
+      (vptr b o ∷ []))) (sep 𝓤 (A.lft κ q) (sem 𝓛 (follows Handle.the_row SourcedEngine.the_row γ γ' (with_held h)))))
+      ((walk_of 𝓛 f.ended stayed (f.clauses 𝓛 at_mem run)).post
+      (((κ, tt), (q, tt), tt, (record { ref_ptr = (rb, ro); ghost_name = γ; now = h }, tt), (vptr rb ro ∷ [], tt)), tt) (vptr b o))
   exits γ' =
-      qed 𝓛 (‵ ((MutRef (named 0) κ SourcedEngine.the_row).own_val (record { ref_ptr = (b, o); ghost_name = γ'; now = h.held }) (vptr b o ∷ [])) ∷ ‵ (flft κ q) ∷ ‵ (follows Handle.the_row SourcedEngine.the_row γ γ' (with_held h)) ∷ []) ∵
-      suffices ! _ (ends_at 𝓛 f.ended stayed (f.clauses 𝓛 at_mem run) (((κ, tt), (q, tt), tt, (record { ref_ptr = (rb, ro); ghost_name = γ; now = h }, tt), (vptr rb ro ∷ [], tt)), tt) (vptr b o) (record { ref_ptr = (b, o); ghost_name = γ'; now = h.held }) (tt, tt) (tt, tt)) $
+      qed 𝓛 (‵ ((MutRef (named 0) κ SourcedEngine.the_row).own_val (record { ref_ptr = (b, o); ghost_name = γ'; now = h.held }) (vptr b o ∷ [])) ∷
+      ‵ (flft κ q) ∷ ‵ (follows Handle.the_row SourcedEngine.the_row γ γ' (with_held h)) ∷ []) ∵
+      suffices ! _ (ends_at 𝓛 f.ended stayed (f.clauses 𝓛 at_mem run)
+      (((κ, tt), (q, tt), tt, (record { ref_ptr = (rb, ro); ghost_name = γ; now = h }, tt), (vptr rb ro ∷ [], tt)), tt) (vptr b o)
+      (record { ref_ptr = (b, o); ghost_name = γ'; now = h.held }) (tt, tt) (tt, tt)) $
       nothing ! $ nothing ! $ fjoin ! $ join ! $ nothing ! $ move ! (2 ∷ 0 ∷ []) $ join ! $ join ! $ frame ! $ says ! refl $ done !
 
 pub engine_spec : {M : Type 1} → statement M
@@ -82,7 +91,8 @@ engine_spec 𝓤 𝓛 𝓜 𝓡 wired =
     proved 𝓛 f.ended stayed c 𝓜 𝓡 (Goes-spent_ref 𝓛 1 (0 ∷ []) tt (plain (λ _. Handle.the_row)), tt)
     f.Key.name code.function (code.unfolded 𝓤 𝓛.H 𝓜 𝓡 wired)
     (λ κs. (mut_vals, tt)) (λ κs. (mut_Tells (named 0) κs.0 Handle.the_row, tt)) (λ κs qs bounds a _ are.
-    let κ = κs.0 in let q = qs.0 in let rb = a.0.ref_ptr.0 in let ro = a.0.ref_ptr.1 in let γ = a.0.ghost_name in let h = a.0.now in let vs = mut_vals a.0 in
+    let κ = κs.0 in let q = qs.0 in let rb = a.0.ref_ptr.0 in let ro = a.0.ref_ptr.1 in let γ = a.0.ghost_name in let h = a.0.now in
+    let vs = mut_vals a.0 in
     let y : W.Ghost = ((κs, qs, bounds, a, (vs, tt)), tt) in
     let box : D engine_box = record { ptr = h.ptr; alloc = h.alloc; value = h.held } in
     qed 𝓛 (((‵ (flft κ q) ⊛ ‵ ftrue) ⊛ ‵ ((MutRef (named 0) κ Handle.the_row).own_val a.0 vs) ⊛ ‵ ftrue) ∷ raw (fact 𝓤 (h.is_open ≡ true)) ∷ []) ∵
@@ -102,7 +112,9 @@ engine_spec 𝓤 𝓛 𝓜 𝓡 wired =
     move ! (1 ∷ 2 ∷ []) $ fjoin ! $ move ! (2 ∷ 3 ∷ 4 ∷ 1 ∷ 0 ∷ []) $ group ! 5 $
     let R = Rest 𝓛 𝓜.mem 𝓡.returns κ q rb ro γ h b o g in
     let way = back 𝓛 𝓜.mem 𝓡.returns κ q rb ro γ h b o g known at_b in
-    use1 𝓛 (later (some (λ (γ' : GName). raw (Part 𝓛 Handle.the_row SourcedEngine.the_row (with_held h) (named 0) κ q rb ro b o γ (sem 𝓛 R) way h.held γ'))))
-    (lends_Part 𝓛 Handle.the_row SourcedEngine.the_row (with_held h) (named 0) κ q rb ro b o γ (sem 𝓛 R) way (Handle.the_row.coded.code h) (Handle.the_row.coded.code h) h.held) $ await ! tt $ pick ! (λ γ'.
+    use1 𝓛 (later (some (λ (γ' : GName). raw (Part 𝓛 Handle.the_row SourcedEngine.the_row (with_held h) (named 0) κ q rb ro b o γ (sem 𝓛 R) way
+    h.held γ'))))
+    (lends_Part 𝓛 Handle.the_row SourcedEngine.the_row (with_held h) (named 0) κ q rb ro b o γ (sem 𝓛 R) way (Handle.the_row.coded.code h)
+    (Handle.the_row.coded.code h) h.held) $ await ! tt $ pick ! (λ γ'.
     returns ! (look_at ! 0 refl) $ free_all ! refl $ keep ! (0 ∷ []) $
     by ! (exits 𝓛 𝓜.mem 𝓡.returns κ q rb ro γ h b o g γ')))))))

@@ -6,7 +6,7 @@ use Rattle.std.specs.Option.{option_copied}
 use Rattle.std.proofs.lemmas.List.{length-map, map-append}
 use Rattle.gix_attributes.specs.EngineStates.{AddedList, EngineContent, with_list_below}
 use Rattle.gix_attributes.specs.Told.{content_told}
-use Rattle.yektrod.specs.Sourced.{list_view, source_in, told_content}
+use Rattle.yektrod.specs.Sourced.{added_list_view, source_in, told_content}
 use Rattle.yektrod.specs.SourcedContents.{SourcedContent}
 use Rattle.yektrod.proofs.SourcedLemmas.{labels_added, told_added}
 use Rattle.yektrod.proofs.sourced.SourcedEngine.add.Goals as goal
@@ -53,4 +53,4 @@ returns-in-Ok-clause-added c =
     ap (λ s. content_told (source_in s) c.add_below.new.self) longer
     ∙ told_added e.engine c.add_below.new.self sources c.args.list.source.now a c.self.invariant.labels (as_many ∙ c.self.invariant.sources) small
     label c.in-Ok.ensures.added (λ told. c.sources_only_tell.ensures.added told a e.engine)
-    ∙ ap (λ (held : SourcedContent). with_list_below (list_view c.args.list) (told_content held)) c.self.view_is
+    ∙ ap (λ (held : SourcedContent). with_list_below (added_list_view c.args.list) (told_content held)) c.self.view_is
