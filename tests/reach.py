@@ -6,7 +6,9 @@ follows the names. It fails, with a line for each, if
 
 - a public contract reaches a file in `specs/inner/`,
 - no public contract reaches a file of `specs/` outside `specs/inner/`,
-- docs/READING.md does not name each reached file exactly once, with its lines, or names another file of specs.
+- docs/READING.md does not list each reached file exactly once, with its lines, or names another file of specs,
+- a file there uses one that is listed after it. Footnotes of tier 1 may stand after what uses them. Tier 1 may also use
+  definitions of tier 2 if their row names them, after "tier 1 uses".
 
 It starts at the clauses (`requires`, `ensures`) of public functions and of functions of public traits, and at the ghost
 members (`view`, `next_gives`, `reads`, ..) of public traits and of impls of public types. Public is what `pub mod` and
@@ -36,6 +38,9 @@ TOP = os.path.join(os.path.dirname(os.path.abspath(__file__)), "..")
 PUBLIC_CRATES = ["attr_wildmatch", "attr_glob", "attr_text", "gix_attributes", "yektrod", "check_attr"]
 TEST_CRATES = ["attr_vectors", "glob_tests", "list_tests", "rows", "search_tests", "small_settings", "worktree"]
 READING = "docs/READING.md"
+# The page is what precedes all rows, tier 1, its footnotes, tier 2 and tier 3.
+PARTS = re.compile(r"^(?=## Tier 1\b|### Footnotes\b|## Tier 2\b|## Tier 3\b)", re.M)
+ROW = re.compile(r"^\| (\d*) \| `(crates/[\w/]+\.antt)` \|(.*)\|$", re.M)
 # The members that say what a type contains, and what memory it owns beside its fields.
 CONTENTS = ("Value", "also_owns")
 
@@ -381,16 +386,56 @@ def faults(specs, cited_by, believed):
             yield "%s: %s names it %d times" % (module.path, READING, named.count(module.path))
     for path in sorted(set(named) - {module.path for module in believed}):
         yield "%s: %s names it, and it is not reached" % (path, READING)
+    listed = [path for _, path, _ in ROW.findall(page)]
+    for path in sorted(set(named) - set(listed)):
+        yield "%s: %s names it in no row" % (path, READING)
+    if len(PARTS.split(page)) != 5:
+        yield "%s: a heading is missing of: Tier 1, Footnotes, Tier 2, Tier 3" % READING
+    elif sorted(listed) == sorted(module.path for module in believed):
+        yield from order_faults(specs, believed, page)
     if page != with_lines(page, believed):
         yield "%s: numbers of lines have changed; tests/reach.py --write puts them right" % READING
 
 
+def order_faults(specs, believed, page):
+    modules = {module.path: module for module in believed}
+    parts = [[path for _, path, _ in ROW.findall(part)] for part in PARTS.split(page)]
+    _, tier_1, footnotes, tier_2, _ = parts
+    used = {}
+    seen = set(footnotes)
+    for part in parts:
+        seen -= set(part)
+        for path in part:
+            for other, name in sorted(cited_elsewhere(specs, modules[path]), key=in_order):
+                if path in tier_1 and other.path in tier_2:
+                    used.setdefault(other.path, set()).add(name)
+                elif other.path not in seen:
+                    yield "%s: it uses %s of %s, which %s lists after it" % (path, name, other.path, READING)
+            seen.add(path)
+    for _, path, text in ROW.findall(page):
+        told = re.search(r"tier 1 uses ((?:`[^`]+`(?:, | and )?)+)", text)
+        names = set(re.findall(r"`([^`]+)`", told[1])) if told else set()
+        if names != used.get(path, set()):
+            yield "%s: its row in %s has to say: tier 1 uses %s" % (
+                path, READING, ", ".join("`%s`" % name for name in sorted(used.get(path, {"nothing"}))))
+
+
+def cited_elsewhere(specs, module):
+    """The definitions of other files that those of a file cite."""
+    cited = set().union(*(specs.cited(text, module.imports, module) for text in module.text_of.values()))
+    return {(other, name) for other, name in cited if other is not module and not other.is_inner}
+
+
 def with_lines(page, believed):
-    """The page with the lines of each file before its name, and the sum of all."""
+    """The page with the lines of each file before its name, and the sum of each part and of all."""
     counts = {module.path: module.line_count() for module in believed}
-    total = "%d files with %s lines" % (len(counts), format(sum(counts.values()), ","))
-    page = re.sub(r"\d+ files with [\d,]+ lines", total, page)
-    return re.sub(r"\| \d* \| `(crates/[\w/]+\.antt)`", lambda m: "| %d | `%s`" % (counts.get(m[1], 0), m[1]), page)
+    parts = []
+    for part in PARTS.split(page):
+        paths = [path for _, path, _ in ROW.findall(part)] or list(counts)
+        total = "%d files with %s lines" % (len(paths), format(sum(counts.get(path, 0) for path in paths), ","))
+        part = re.sub(r"\d+ files with [\d,]+ lines", total, part)
+        parts.append(re.sub(r"\| \d* \| `(crates/[\w/]+\.antt)`", lambda m: "| %d | `%s`" % (counts.get(m[1], 0), m[1]), part))
+    return "".join(parts)
 
 
 def main(flags):
