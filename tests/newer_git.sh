@@ -1,9 +1,10 @@
 #!/bin/sh
-# Compares check-attr with the git of Debian's unstable: it is unpacked with the libraries that it needs in a folder of its own,
-# nothing is installed, and tests/check_attr_tool.sh runs with it on PATH. By hand: it needs the network.
-# usage: newer_git.sh
+# Unpacks the git of Debian's unstable, with the libraries that it needs, in a directory of its own, and runs a command with it first
+# on PATH, or tests/check_attr_tool.sh. Nothing is installed. By hand: it needs the network.
+# usage: newer_git.sh [COMMAND..]
 # CHECK_ATTR and YEKTROD_LIB_DIR are those of tests/check_attr_tool.sh.
 set -eu
+start=$PWD
 top=$(cd "$(dirname "$0")/.." && pwd)
 room=$(mktemp -d)
 trap 'rm -rf "$room"' EXIT
@@ -40,5 +41,9 @@ chmod +x bin/git
 rm root/usr/lib/git-core/git
 cp bin/git root/usr/lib/git-core/git
 PATH=$room/bin:$PATH
-git version
-"$top/tests/check_attr_tool.sh"
+if [ $# = 0 ]; then
+    git version
+    set -- "$top/tests/check_attr_tool.sh"
+fi
+cd "$start"
+"$@"

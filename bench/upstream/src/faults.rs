@@ -25,8 +25,7 @@ pub const ROWS: &[Row] = &[
     ("24 times `**/` and then `[x]`, against 30 times `a/` and then `c`", || {
         let started = std::time::Instant::now();
         let said = matches(&format!("{}[x]", "**/".repeat(24)), &format!("{}c", "a/".repeat(30)), Sensitive);
-        let seconds = started.elapsed().as_secs();
-        if (3..40).contains(&seconds) { format!("{said}, after some 10 seconds") } else { format!("{said}, after {seconds} s") }
+        if started.elapsed().as_secs() > 1 { format!("{said}, after some seconds") } else { said }
     }),
     ("64 times `**/` and then `[x]`, against 30 times `a/` and then `c`", || {
         slow(format!("{}[x]", "**/".repeat(64)), format!("{}c", "a/".repeat(30)))
@@ -48,7 +47,7 @@ pub const ROWS: &[Row] = &[
     ("2B 2F 76 38 (`+/v8`) and ` a`, against `+/v8`", || {
         if found("+/v8 a", "+/v8") == "`a`" { "`a` is set".into() } else { "a mark of UTF-7: no pattern is left".into() }
     }),
-    ("an outcome that is not initialized, searched", || {
+    ("an outcome that is not initialised, searched", || {
         let (search, _) = add(&[("* a", "s")]);
         panics(|| search.pattern_matching_relative_path("f".into(), Sensitive, None, &mut Outcome::default()))
     }),
@@ -84,8 +83,8 @@ fn slow(pattern: String, path: String) -> String {
     said.unwrap_or_else(|| "no answer in 20 seconds".into())
 }
 
-/// What is answered for `a.png` where calls come in the order of `gix_worktree::Stack`: an outcome is initialized with the collection of
-/// the global files, then the file of the top directory is read, and then the outcome is initialized again.
+/// What is answered for `a.png` where calls come in the order of `gix_worktree::Stack`: an outcome is initialised with the collection of
+/// the global files, then the file of the top directory is read, and then the outcome is initialised again.
 fn in_order_of_a_stack(file: &str) -> String {
     let mut collection = MetadataCollection::default();
     let globals = Search::new_globals(Vec::<&str>::new(), &mut Vec::new(), &mut collection).expect("no file to read");

@@ -75,10 +75,10 @@ pub const ROWS: &[Row] = &[
         "takes the search alone".into()
     }),
     ("`* a` added, while memory is short", || refused("buffer")),
-    ("`* a` and `[attr]a b`, initialized; `[attr]a -b` added, initialized again", || again("* a\n[attr]a b", "[attr]a -b")),
+    ("`* a` and `[attr]a b`, initialised; `[attr]a -b` added, initialised again", || again("* a\n[attr]a b", "[attr]a -b")),
     ("the same, with `[attr]a c` added: a new name", || again("* a\n[attr]a b", "[attr]a c")),
     ("the same, with `[attr]a` (an empty body) and `* c` added", || again("* a\n[attr]a b", "[attr]a\n* c")),
-    ("selection `z`, initialized by the collection of `* z y`, then by that of `* w z q`", || {
+    ("selection `z`, initialised by the collection of `* z y`, then by that of `* w z q`", || {
         let (first, second) = (add(&[("* z y", "s")]), add(&[("* w z q", "s")]));
         let mut outcome = Outcome::default();
         outcome.initialize_with_selection(&first.1, ["z"]);
@@ -117,13 +117,13 @@ pub const ROWS: &[Row] = &[
         outcome.copy_into(&collection, &mut other);
         if other.is_done() { "takes over how many are left".into() } else { "counts anew".into() }
     }),
-    ("`copy_into` of an outcome of another collection", || {
+    ("`copy_into` an outcome of another collection", || {
         let ((_, small), (_, large)) = (add(&[("* a", "s")]), add(&[("* a b", "s")]));
         let (mut outcome, mut other) = (Outcome::default(), Outcome::default());
         outcome.initialize(&small);
         other.initialize_with_selection(&large, ["b"]);
         panics(|| {
-            outcome.copy_into(&large, &mut other);
+            outcome.copy_into(&small, &mut other);
             other.iter_selected().count()
         })
     }),
@@ -207,7 +207,7 @@ pub fn found(lines: &str, path: &str) -> String {
     look_up(&outcome)
 }
 
-/// What an outcome has that was initialized before a second list was added, and again afterwards.
+/// What an outcome has that was initialised before a second list was added, and again afterwards.
 fn again(lines: &str, more: &str) -> String {
     let (mut search, mut collection) = add(&[(lines, "s")]);
     let mut outcome = Outcome::default();
