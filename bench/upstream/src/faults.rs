@@ -1,6 +1,6 @@
 //! Rows on patterns, on files that a search tells, on time and on panics.
 
-use crate::rows::{Row, add, found, look_up, within};
+use crate::rows::{Row, add, ask, found, initialised, look_up, within};
 use bstr::BString;
 use gix_attributes::Search;
 use gix_attributes::glob::pattern::Case::{self, Fold, Sensitive};
@@ -53,9 +53,8 @@ pub const ROWS: &[Row] = &[
     }),
     ("`* a`, searched with an outcome of an empty collection", || {
         let (search, _) = add(&[("* a", "s")]);
-        let mut outcome = Outcome::default();
-        outcome.initialize(&MetadataCollection::default());
-        panics(|| search.pattern_matching_relative_path("f".into(), Sensitive, None, &mut outcome))
+        let mut outcome = initialised(&MetadataCollection::default());
+        panics(|| ask(&search, "f", &mut outcome))
     }),
     ("`f a=1` and `g a=2`, an outcome each, both copied into a third", copies),
     ("`update_from_list` of a macro whose text is the byte FF", || {
@@ -72,8 +71,7 @@ pub const ROWS: &[Row] = &[
 /// Whether a pattern matches a path.
 pub fn matches(pattern: &str, path: &str, case: Case) -> String {
     let (search, collection) = add(&[(&format!("{pattern} a"), "s")]);
-    let mut outcome = Outcome::default();
-    outcome.initialize(&collection);
+    let mut outcome = initialised(&collection);
     let found = search.pattern_matching_relative_path(path.into(), case, Some(false), &mut outcome);
     if found { "match".into() } else { "no match".into() }
 }
@@ -88,23 +86,21 @@ fn slow(pattern: String, path: String) -> String {
 fn in_order_of_a_stack(file: &str) -> String {
     let mut collection = MetadataCollection::default();
     let globals = Search::new_globals(Vec::<&str>::new(), &mut Vec::new(), &mut collection).expect("no file to read");
-    let mut outcome = Outcome::default();
-    outcome.initialize(&collection);
+    let mut outcome = initialised(&collection);
     let mut stack = Search::default();
     let root = Some(Path::new(""));
     stack.add_patterns_buffer(file.as_bytes(), ".gitattributes".into(), root, &mut collection, true).expect("a parent");
     outcome.initialize(&collection);
     for group in [&stack, &globals] {
-        group.pattern_matching_relative_path("a.png".into(), Sensitive, Some(false), &mut outcome);
+        ask(group, "a.png", &mut outcome);
     }
     look_up(&outcome)
 }
 
 fn told_source() -> String {
     let (search, collection) = add(&[("* a", "/s"), ("* b", "s")]);
-    let mut outcome = Outcome::default();
-    outcome.initialize(&collection);
-    search.pattern_matching_relative_path("f".into(), Sensitive, None, &mut outcome);
+    let mut outcome = initialised(&collection);
+    ask(&search, "f", &mut outcome);
     let told = outcome.iter().find(|it| it.assignment.name.as_str() == "a").and_then(|it| it.location.source);
     format!("`a` is from `{}`", told.expect("a source").display())
 }
@@ -129,9 +125,8 @@ fn copies() -> String {
     let mut kept = Outcome::default();
     panics(|| {
         for path in ["f", "g"] {
-            let mut outcome = Outcome::default();
-            outcome.initialize(&collection);
-            search.pattern_matching_relative_path(path.into(), Sensitive, None, &mut outcome);
+            let mut outcome = initialised(&collection);
+            ask(&search, path, &mut outcome);
             outcome.copy_into(&collection, &mut kept);
             look_up(&kept);
         }

@@ -61,9 +61,8 @@ pub const ROWS: &[Row] = &[
         let (mut search, mut collection) = add(&[("* m\n[attr]m x", "s")]);
         search.add_patterns_buffer(b"[attr]m y", "t".into(), None, &mut collection, true).expect("no root");
         search.pop_pattern_list();
-        let mut outcome = Outcome::default();
-        outcome.initialize(&collection);
-        search.pattern_matching_relative_path("f".into(), Sensitive, None, &mut outcome);
+        let mut outcome = initialised(&collection);
+        ask(&search, "f", &mut outcome);
         match look_up(&outcome).as_str() {
             "`m y`" => "`m` still expands to `y`".into(),
             other => other.to_owned(),
@@ -83,7 +82,7 @@ pub const ROWS: &[Row] = &[
         let mut outcome = Outcome::default();
         outcome.initialize_with_selection(&first.1, ["z"]);
         outcome.initialize(&second.1);
-        second.0.pattern_matching_relative_path("f".into(), Sensitive, None, &mut outcome);
+        ask(&second.0, "f", &mut outcome);
         let told: Vec<_> = outcome.iter_selected().map(|it| format!("answers `{}`", it.assignment)).collect();
         told.join(" ")
     }),
@@ -93,7 +92,7 @@ pub const ROWS: &[Row] = &[
         outcome.initialize_with_selection(&collection, ["b"]);
         let mut filled = [0; 3];
         for count in &mut filled {
-            search.pattern_matching_relative_path("f".into(), Sensitive, None, &mut outcome);
+            ask(&search, "f", &mut outcome);
             *count = outcome.iter().count();
         }
         match filled {
@@ -105,7 +104,7 @@ pub const ROWS: &[Row] = &[
         let (search, collection) = add(&[("* text", "s")]);
         let mut outcome = Outcome::default();
         outcome.initialize_with_selection(&collection, ["text", "text"]);
-        search.pattern_matching_relative_path("f".into(), Sensitive, None, &mut outcome);
+        ask(&search, "f", &mut outcome);
         if outcome.is_done() { "done".into() } else { "never done".into() }
     }),
     ("`copy_into` an outcome with another selection", || {
@@ -113,7 +112,7 @@ pub const ROWS: &[Row] = &[
         let (mut outcome, mut other) = (Outcome::default(), Outcome::default());
         outcome.initialize_with_selection(&collection, ["a"]);
         other.initialize_with_selection(&collection, ["b"]);
-        search.pattern_matching_relative_path("f".into(), Sensitive, None, &mut outcome);
+        ask(&search, "f", &mut outcome);
         outcome.copy_into(&collection, &mut other);
         if other.is_done() { "takes over how many are left".into() } else { "counts anew".into() }
     }),
@@ -129,9 +128,8 @@ pub const ROWS: &[Row] = &[
     }),
     ("`* a`, searched for `f` twice on one outcome", || {
         let (search, collection) = add(&[("* a", "s")]);
-        let mut outcome = Outcome::default();
-        outcome.initialize(&collection);
-        let mut ask = || search.pattern_matching_relative_path("f".into(), Sensitive, None, &mut outcome);
+        let mut outcome = initialised(&collection);
+        let mut ask = || ask(&search, "f", &mut outcome);
         match [ask(), ask()] {
             [true, false] => "false the second time, though a pattern matched".into(),
             other => format!("{other:?}"),
@@ -139,9 +137,8 @@ pub const ROWS: &[Row] = &[
     }),
     ("files of `Source::GitInstallation`, then of `Source::Local`, with `* a=x` and `* a=y`", || {
         let (search, collection) = add(&[("* a=x", "s"), ("* a=y", "t")]);
-        let mut outcome = Outcome::default();
-        outcome.initialize(&collection);
-        search.pattern_matching_relative_path("f".into(), Sensitive, None, &mut outcome);
+        let mut outcome = initialised(&collection);
+        ask(&search, "f", &mut outcome);
         match look_up(&outcome).as_str() {
             "`a=y`" => "`a=y`, though its documents say the first".into(),
             other => other.to_owned(),
@@ -190,6 +187,18 @@ pub fn add(lists: &[(&str, &str)]) -> (Search, MetadataCollection) {
     (search, collection)
 }
 
+/// An outcome that is ready for searches by a collection.
+pub fn initialised(collection: &MetadataCollection) -> Outcome {
+    let mut outcome = Outcome::default();
+    outcome.initialize(collection);
+    outcome
+}
+
+/// Looks a file up.
+pub fn ask(search: &Search, path: &str, outcome: &mut Outcome) -> bool {
+    search.pattern_matching_relative_path(path.into(), Sensitive, Some(false), outcome)
+}
+
 /// What an outcome has, in the order of names.
 pub fn look_up(outcome: &Outcome) -> String {
     let mut told: Vec<_> = outcome.iter().map(|it| (it.assignment.name.as_str().to_owned(), it.assignment.to_string())).collect();
@@ -201,20 +210,18 @@ pub fn look_up(outcome: &Outcome) -> String {
 /// What a new outcome of lines has for a path.
 pub fn found(lines: &str, path: &str) -> String {
     let (search, collection) = add(&[(lines, "s")]);
-    let mut outcome = Outcome::default();
-    outcome.initialize(&collection);
-    search.pattern_matching_relative_path(path.into(), Sensitive, Some(false), &mut outcome);
+    let mut outcome = initialised(&collection);
+    ask(&search, path, &mut outcome);
     look_up(&outcome)
 }
 
 /// What an outcome has that was initialised before a second list was added, and again afterwards.
 fn again(lines: &str, more: &str) -> String {
     let (mut search, mut collection) = add(&[(lines, "s")]);
-    let mut outcome = Outcome::default();
-    outcome.initialize(&collection);
+    let mut outcome = initialised(&collection);
     search.add_patterns_buffer(more.as_bytes(), "t".into(), None, &mut collection, true).expect("no root");
     outcome.initialize(&collection);
-    search.pattern_matching_relative_path("f".into(), Sensitive, None, &mut outcome);
+    ask(&search, "f", &mut outcome);
     look_up(&outcome)
 }
 
@@ -229,16 +236,22 @@ pub fn within<T: Send + 'static>(time: Duration, call: impl FnOnce() -> T + Send
 fn refused(what: &str) -> String {
     let program = current_exe().expect("a program");
     let shell = r#"ulimit -v 200000; ulimit -c 0; exec "$0" refuse "$1""#;
-    let mut command = Command::new("sh");
-    let ended = command.args(["-c", shell]).arg(program).arg(what).stderr(Stdio::null()).status().expect("a shell");
-    if ended.signal().is_some() { "the process ends".into() } else { format!("{ended}") }
+    let ends = |what| {
+        let mut command = Command::new("sh");
+        command.args(["-c", shell]).arg(&program).arg(what).stdout(Stdio::null()).stderr(Stdio::null()).status().expect("a shell")
+    };
+    match (ends("nothing").success(), ends(what).signal()) {
+        (true, Some(ABORT)) => "the process ends".into(),
+        other => format!("{other:?}"),
+    }
 }
+
+const ABORT: i32 = 6;
 
 /// Takes all memory, and makes a call.
 pub fn refuse(what: &str) -> ExitCode {
     let (name, line): (&BStr, &[u8]) = ("a".into(), b"\"\\400\" a");
-    let (mut search, mut collection) = add(&[]);
-    let source = "s".into();
+    let (mut search, mut collection, source) = (Search::default(), MetadataCollection::default(), "s".into());
     let mut taken: Vec<Vec<u8>> = Vec::with_capacity(1 << 20);
     let mut size = 1 << 28;
     while size > 0 {
@@ -249,12 +262,12 @@ pub fn refuse(what: &str) -> ExitCode {
             size = if size > 1024 { size / 2 } else { size.saturating_sub(8) };
         }
     }
-    let kept = match what {
-        "name" => NameRef::try_from(name).expect("a valid name").to_owned().as_str().len(),
-        "quotes" => parse::Lines::new(line).count(),
-        _ => search.add_patterns_buffer(b"* a", source, None, &mut collection, true).map_or(1, |()| search.num_pattern_lists()),
+    let made = match what {
+        "name" => NameRef::try_from(name).is_ok_and(|name| name.to_owned().as_str() == "a"),
+        "quotes" => parse::Lines::new(line).all(|line| line.is_ok()),
+        "buffer" => search.add_patterns_buffer(b"* a", source, None, &mut collection, true).is_ok(),
+        _ => true,
     };
     drop(taken);
-    println!("{kept}");
-    ExitCode::SUCCESS
+    if made { ExitCode::SUCCESS } else { ExitCode::FAILURE }
 }
