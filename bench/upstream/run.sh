@@ -24,8 +24,8 @@ mkdir -p "$room/upstream"
 room=$(cd "$room" && pwd)
 cp -R "$top/bench/upstream/Cargo.toml" "$top/bench/upstream/src" "$room/upstream/"
 if [ ! -d "$room/crates/registry/gix-attributes-0.37.0" ]; then
-    python3 "$top/tests/gitoxide_crates.py" "$room/crates" "$room/upstream" >&2
+    python3 "$top/tests/gitoxide_crates.py" "$room/crates" "$room/upstream" </dev/null >&2
 fi
 cargo --config "$room/crates/config.toml" build --quiet --release --offline --manifest-path "$room/upstream/Cargo.toml" \
-    --target-dir "$room/target"
+    --target-dir "$room/target" </dev/null
 "$room/target/release/upstream" "$@"
