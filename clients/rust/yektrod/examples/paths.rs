@@ -24,9 +24,10 @@ impl Reader for Directories {
         self.path.clear();
         self.path.push(OsStr::from_bytes(directory));
         self.path.push(".gitattributes");
-        // Most directories have none, and a look costs less than an open that fails.
-        match fs::metadata(&self.path).and_then(|_| fs::read(&self.path)) {
-            Ok(contents) => Ok(Some(contents)),
+        // As in git, a link isn't followed. What is no file isn't opened: a named pipe would wait for a writer.
+        match fs::symlink_metadata(&self.path) {
+            Ok(found) if found.is_file() => fs::read(&self.path).map(Some),
+            Ok(_) => Ok(None),
             Err(error) if is_missing(&error) => Ok(None),
             Err(error) => Err(error),
         }
