@@ -10,7 +10,7 @@ help:
 	@echo 'make prove          proves all crates, and builds the library for C: some 40 minutes the first time'
 	@echo 'make check-attr     builds clients/rust/target/release/check-attr over the library, which is proved first if it is not there'
 	@echo 'make test           checks what needs no proof: a minute'
-	@echo 'make gate           proves and tests everything from nothing: well over an hour'
+	@echo 'make gate           proves and tests everything from nothing: an hour or more'
 	@echo 'make dist           packs a release of what the gate proved, in dist/'
 	@echo 'make dist-aarch64   packs the library for aarch64'
 	@echo 'make install        copies the release to DESTDIR and PREFIX ($(PREFIX))'
@@ -40,6 +40,7 @@ test:
 	tests/edits.py
 	tests/hostile_rows.py
 	tests/made_rows.py
+	tests/worked_examples.py
 
 gate:
 	.ci/run
