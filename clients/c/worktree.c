@@ -2,12 +2,19 @@
  * .gitattributes files of the work tree at the current directory, whose directories may have names of any bytes.
  * usage: worktree <PATHS
  */
+#define _POSIX_C_SOURCE 200809L
 #include "yektrod.h"
+#include <fcntl.h>
 #include <stdio.h>
 #include <stdlib.h>
 #include <string.h>
+#include <sys/stat.h>
+#include <unistd.h>
 
 #define DEEPEST 64
+
+/* Longer lines and larger files are skipped, as by git. */
+enum { MAX_LINE = 2047, MAX_FILE = 100 * 1024 * 1024 - 1 };
 
 /* The directories of the last path, from the top down: the lengths of their paths, and whether a list was added for each. */
 static size_t lengths[DEEPEST];
@@ -26,22 +33,48 @@ static void done(int32_t status) {
     want(status == YEKTROD_DONE ? &y : 0);
 }
 
+/* The contents of a file, or NULL. As for git, a link is no attributes file. Neither is a pipe, which could block the read. */
+static char *contents(const char *name, size_t *length) {
+    int file = open(name, O_RDONLY | O_NOFOLLOW | O_NONBLOCK);
+    struct stat found;
+    char *text = NULL;
+    *length = 0;
+    if (file < 0) return NULL;
+    if (!fstat(file, &found) && S_ISREG(found.st_mode) && found.st_size <= MAX_FILE) {
+        size_t size = (size_t)found.st_size;
+        text = want(malloc(size + 1));
+        for (ssize_t got; *length < size && (got = read(file, text + *length, size - *length)) != 0; *length += (size_t)got)
+            want(got > 0 ? text : NULL);
+    }
+    close(file);
+    return text;
+}
+
+/* Keeps what git reads of each line, and returns the length of the text. A NUL ends its line, and a CR before LF is no part of it.
+ * A line that is too long is emptied: others keep their numbers. */
+static size_t kept(char *text, size_t length) {
+    char *to = text, *end = text + length;
+    for (char *line = text, *feed; line < end; line = feed + 1) {
+        if (!(feed = memchr(line, '\n', (size_t)(end - line)))) feed = end;
+        bool has_cr = feed < end && feed > line && feed[-1] == '\r';
+        size_t bytes = strnlen(line, (size_t)(feed - line) - has_cr);
+        if (bytes <= MAX_LINE) to = (char *)memmove(to, line, bytes) + bytes;
+        if (feed < end) *to++ = '\n';
+    }
+    return (size_t)(to - text);
+}
+
 /* Adds the list of a directory, if it has one. Only that of the top may define macros. */
 static bool add(const char *path, size_t length) {
     char name[sizeof last + 16];
+    size_t size, index, dropped;
     snprintf(name, sizeof name, "%.*s%s.gitattributes", (int)length, path, length ? "/" : "");
-    FILE *file = fopen(name, "rb");
-    if (!file) return false;
-    size_t read = 0, room = 4096, index, dropped;
-    uint8_t *bytes = want(malloc(room));
-    for (size_t got; (got = fread(bytes + read, 1, room - read, file)) > 0;) {
-        read += got;
-        if (read == room) bytes = want(realloc(bytes, room *= 2));
-    }
+    char *text = contents(name, &size);
+    if (!text) return false;
     yektrod_place place = {{(const uint8_t *)path, length}, {(const uint8_t *)name, strlen(name)}};
-    done(yektrod_add_in(&y, bytes, read, &place, length == 0, &index, &dropped));
-    free(bytes);
-    return !fclose(file);
+    done(yektrod_add_in(&y, (const uint8_t *)text, kept(text, size), &place, length == 0, &index, &dropped));
+    free(text);
+    return true;
 }
 
 /* Removes the lists of directories that don't have the path, and adds those of its own. */
