@@ -12,7 +12,7 @@ measured at n/8, n/4 and n/2 (the mark says n/8), or at an eighth of these. Colu
   power          of the bytes of input and output, with which the time grows: 1 is linear, 2 quadratic
   memory         the most that the greatest run held, and its bytes for each byte of input
 
-A row is marked with ! if it takes more than half a second for 2 MB of input and output, or if the power is above 1.4 and the
+A row is marked with ! if it takes more than half a second for 2 MB of input and output, or if the power is above 1.3 and the
 time above 50 ms; status 1 says that some row is marked.
 """
 import argparse
@@ -75,6 +75,11 @@ def words(count, form="a#"):
     return " ".join(form.replace("#", str(place)) for place in range(count))
 
 
+def spelling(number, length):
+    """A spelling of one name by capitals and small letters, by the bits of a number."""
+    return "".join(chr(65 + at | (number >> at & 1) << 5) for at in range(length))
+
+
 POP = b"pop\n"
 
 
@@ -105,7 +110,7 @@ def stars(n):
 
 
 @case(2 ** 17)
-def folder_stars(n):
+def directory_stars(n):
     """a pattern of n times `**/`"""
     return add(b"**/" * n + b"a a\n")
 
@@ -289,14 +294,14 @@ def selections(n):
 
 
 @case(8_000)
-def folders(n):
-    """n lists of n folders, and a path in each"""
+def directories(n):
+    """n lists of n directories, and a path in each"""
     return b"".join(add(b"* a\n", f"f{place}/x") for place in range(n)) + b"".join(
         ask(f"f{place}/b") for place in range(n))
 
 
 @case(8_000)
-def folders_folded(n):
+def directories_folded(n):
     """the same, asked without regard to case"""
     return b"".join(add(b"* a\n", f"f{place}/x") for place in range(n)) + b"".join(
         ask(f"F{place}/b", case="i") for place in range(n))
@@ -304,14 +309,14 @@ def folders_folded(n):
 
 @case(2 ** 18)
 def deep_path(n):
-    """ten paths of n folders together, three lists above them"""
+    """ten paths of n directories together, three lists above them"""
     path = "a/" * (n // 10) + "b"
     return add(b"*.c a\n") + add(b"b a\n", "a/x") + add(b"a/b a\n", "a/a/a/x") + ask(path) * 10
 
 
 @case(2 ** 18)
 def deep_lists(n):
-    """lists of folders in folders, n bytes together, and a path below all"""
+    """lists of directories in directories, n bytes together, and a path below all"""
     deep = math.isqrt(n)
     return b"".join(add(b"* a\n", "a/" * place + "x") for place in range(deep)) + ask("a/" * deep + "b")
 
@@ -378,11 +383,8 @@ def long_paths(n):
 def capitals(n):
     """n names that differ in case alone, and as many asked with regard to it"""
 
-    def name(place):
-        return "".join(chr(65 + at | (place >> at & 1) << 5) for at in range(20))
-
-    return add("".join(name(place) + " a\n" for place in range(n)).encode()) + b"".join(
-        ask(name(place)) for place in range(n))
+    names = [spelling(place, 20) for place in range(n)]
+    return add("".join(name + " a\n" for name in names).encode()) + b"".join(map(ask, names))
 
 
 @case(40_000)
@@ -425,6 +427,87 @@ def long_sources_in_turn(n):
     return lists + select(["b"]) + (ask("c") + ask("d")) * 1_000
 
 
+# Products: both factors grow with n.
+
+@case(8_700)
+def macros_between(n):
+    """n macros, then n times: an empty list, a path, its pop, a path"""
+    return add(lines(n, "[attr]m# x")) + (add(b"") + ask("b") + POP + ask("b")) * n
+
+
+@case(9_500)
+def body_between(n):
+    """a macro of n items, then n times: an empty list, a path, its pop, a path"""
+    return add(b"[attr]m " + words(n).encode() + b"\n") + (add(b"") + ask("b") + POP + ask("b")) * n
+
+
+@case(18_000)
+def idle_lists_asked(n):
+    """n lists without lines, and n paths"""
+    return add(b"") * n + ask("b") * n
+
+
+@case(14_000)
+def macro_lists_asked(n):
+    """n lists of `[attr]m`, and n paths"""
+    return add(b"[attr]m\n") * n + ask("b") * n
+
+
+@case(7_000)
+def spellings_of_a_directory(n):
+    """n lists in spellings of one directory that differ in case, and n paths below another one"""
+    lists = (add(b"* a\n", spelling(place, 18) + "/x") for place in range(n))
+    return b"".join(lists) + ask(spelling(2 ** 18 - 1, 18) + "/b") * n
+
+
+@case(2 ** 18)
+def long_pattern_asked(n):
+    """a pattern of n bytes that decides, and n / 14 paths"""
+    return add(b"[" + b"ab" * (n // 2) + b"c] a\n") + ask("c") * (n // 14)
+
+
+@case(2 ** 18)
+def long_source_asked(n):
+    """a source of n bytes that decides, and n / 14 paths"""
+    return add(b"* a\n", "x" * n) + ask("c") * (n // 14)
+
+
+@case(5_000)
+def lists_long_name(n):
+    """n lists of nine lines `*.a x`, and a name of 32 n bytes"""
+    return add(b"*.a x\n" * 9) * n + ask("b" * (32 * n))
+
+
+@case(5_000)
+def lists_long_extension(n):
+    """the same, and a name whose extension has 32 n bytes"""
+    return add(b"*.a x\n" * 9) * n + ask("." + "b" * (32 * n))
+
+
+@case(5_000)
+def lists_long_path(n):
+    """n lists of nine lines `/a x`, and a path of 32 n bytes"""
+    return add(b"/a x\n" * 9) * n + ask("b/" * (16 * n) + "b")
+
+
+@case(5_000)
+def lists_long_path_folded(n):
+    """n lists of nine lines `a/b* x`, and a path of 32 n bytes, without regard to case"""
+    return add(b"a/b* x\n" * 9) * n + ask("B/" * (16 * n) + "b", case="i")
+
+
+@case(25_000)
+def items_asked(n):
+    """a line of n items `!a#`, and n paths"""
+    return add(b"* " + words(n, "!a#").encode() + b"\n") + ask("b") * n
+
+
+@case(13_000)
+def selections_of_macros(n):
+    """n macros, then n times: a selection of one, a path"""
+    return add(lines(n, "[attr]m# x")) + b"".join(select([f"m{place}"]) + ask("b") for place in range(n))
+
+
 # What is written.
 
 @case(1_250)
@@ -447,10 +530,10 @@ def dropped(n):
 
 # What is kept.
 
-@case(2 ** 17)
+@case(2 ** 18)
 def short_lines(n):
-    """n lines `*`"""
-    return add(b"*\n" * n)
+    """n lines `?`"""
+    return add(b"?\n" * n)
 
 
 @case(2 ** 17)
@@ -536,7 +619,7 @@ class Row:
         if len(self.runs) < 3 or self.part > 1:
             return True
         given, written, _, time = self.runs[-1]
-        return time > 0.5 * max(1, (given + written) / 2e6) or self.power() > 1.4 and time > 0.05
+        return time > 0.5 * max(1, (given + written) / 2e6) or self.power() > 1.3 and time > 0.05
 
     def cells(self):
         given, written, peak, _ = self.runs[-1] if self.runs else (0, 0, 0, 0)

@@ -17,8 +17,8 @@ def names(*selected):
     return b'names %d\n' % len(selected) + b''.join(name + b'\n' for name in selected)
 
 
-def ask(path, form=b'l', case=b's', folder=b'f'):
-    return b'ask %s %s %s %d\n%s\n' % (form, case, folder, len(path), path)
+def ask(path, form=b'l', case=b's', kind=b'f'):
+    return b'ask %s %s %s %d\n%s\n' % (form, case, kind, len(path), path)
 
 
 def scripts():
@@ -27,7 +27,7 @@ def scripts():
     path = b'a' * 5000
     yield 'stars', add(b'*a' * 200 + b'b x\n') + names(b'x') + ask(path), path + b': x: unspecified\n'
     yield 'stars_that_match', add(b'*a' * 200 + b'b x\n') + names(b'x') + ask(path + b'b'), path + b'b: x: set\n'
-    # Each `**/` takes any number of folders.
+    # Each `**/` takes any number of directories.
     deep = b'a/' * 1000
     yield ('folders', add(b'**/' * 64 + b'b x\n') + names(b'x') + ask(deep + b'c') + ask(deep + b'b'),
            deep + b'c: x: unspecified\n' + deep + b'b: x: set\n')
