@@ -72,6 +72,12 @@ def whole_paths(count):
         ask(WHOLE % place) for place in range(count))
 
 
+def listed_paths(count, paths):
+    """A list of so many paths, and as many of them as are asked for, from all over it: each is a hit."""
+    return add("".join(WHOLE % place + " a\n" for place in range(count)).encode()) + b"".join(
+        ask(WHOLE % (place * 37 % count)) for place in range(paths))
+
+
 # Each with its name, what is compared, the count, the script, two sizes, and the most that the result may be.
 BOUNDS = [
     ("alike-hashes", "names that share a hash, and a path for each: instructions grow no faster than twofold",
@@ -79,6 +85,8 @@ BOUNDS = [
          b"ask l s f %d\n%s\n" % (len(name), name) for name in hostile.crowd(n)), (1_000, 2_000), 1.2),
     ("whole-paths", "whole paths, and each asked: instructions grow no faster than twofold",
      Counter.quotient, whole_paths, (1_000, 2_000), 1.2),
+    ("paths-listed", "paths that a list has, asked one by one: what a path costs does not grow with the list",
+     Counter.paths, listed_paths, (4_000, 8_000), 1.2),
     ("names-known", "paths without a selection: what a path costs does not grow with the names that are known",
      Counter.paths, lambda n, paths: known(n) + ask("b") * paths, (200, 3_200), 1.2),
     ("names-found", "paths without a selection, with two answers each: the same",
