@@ -39,23 +39,23 @@ WIDTHS = (-80, 10, 11, 10, 10, 8, 21, 13, 12, 11)
 
 
 class Workload:
-    """Attributes files by folder, names, and paths; and how many of the paths are asked under callgrind."""
+    """Attributes files by directory, names, and paths; and how many of the paths are asked under callgrind."""
 
     unit = "path"
     few = FEW
-    # Whether our program is the one that reads the files of the work tree itself, and the folders of that tree beside those of files.
+    # Whether our program is the one that reads the files of the work tree itself, and the directories of that tree that have no
+    # file.
     reads_tree = False
     is_counted = True
-    folders = ()
-    folders = ()
+    directories = ()
 
     def __init__(self, title, files, names, paths, counted):
         self.title, self.files, self.names, self.paths = title, files, names, paths
         self.counted = min(counted, len(paths))
 
     def script(self, paths):
-        for folder, text in self.files:
-            yield inputs.add(folder, text, macros=not folder)
+        for directory, text in self.files:
+            yield inputs.add(directory, text, macros=not directory)
         yield inputs.select(self.names)
         yield from map(inputs.ask, paths)
 
@@ -74,8 +74,8 @@ class Workload:
         return (self.files, many[:few]), (self.files, many), len(many) - few
 
 
-class OwnLines(Workload):
-    """Paths that match lines of their own: the first thousand that are asked make what is kept of their answers grow."""
+class OfKind(Workload):
+    """Paths that are looked up in lines of one kind. Thousands are counted, so that it matters little where a buffer grows."""
 
     few = 1_000
 
@@ -96,25 +96,25 @@ class Reading(Workload):
 
 
 class Walk(Workload):
-    """Folders in the order of a walk: each one's file is added when it is entered, and popped when it is left."""
+    """Directories in the order of a walk: each one's file is added when it is entered, and popped when it is left."""
 
     def __init__(self, title, steps, names, counted, unit="path"):
         self.steps, self.unit = steps, unit
-        files = [(folder, text) for folder, text, _ in steps if text is not None]
+        files = [(directory, text) for directory, text, _ in steps if text is not None]
         super().__init__(title, files, names, [path for _, _, paths in steps for path in paths], counted)
 
     def script(self, paths):
         yield inputs.select(self.names)
         left, entered = len(paths), []
-        for folder, text, below in self.steps:
+        for directory, text, below in self.steps:
             if left <= 0:
                 return
-            while entered and not folder.startswith(entered[-1]):
+            while entered and not directory.startswith(entered[-1]):
                 entered.pop()
                 yield b"pop\n"
             if text is not None:
-                entered.append(folder)
-                yield inputs.add(folder, text, macros=not folder)
+                entered.append(directory)
+                yield inputs.add(directory, text, macros=not directory)
             yield from map(inputs.ask, below[:left])
             left -= len(below)
 
@@ -129,12 +129,12 @@ class Stack(Workload):
     program = "stack"
     words, git_words = (), ("--stdin",)
 
-    def __init__(self, title, files, folders, paths, counted):
+    def __init__(self, title, files, directories, paths, counted):
         super().__init__(title, files, inputs.THREE_NAMES, paths, counted)
-        self.folders = folders
+        self.directories = directories
 
     def prepare(self, repository):
-        """Does what is left to do in a repository that has the files. Returns the folder to run in."""
+        """Does what is left to do in a repository that has the files. Returns the directory to run in."""
         return repository
 
 
@@ -144,8 +144,8 @@ class CheckAttr(Stack):
     program = "check-attr"
     is_counted = False
 
-    def __init__(self, title, files, folders, paths, words=("--stdin",), names=inputs.SEVEN_NAMES, git_words=None):
-        super().__init__(title, files, folders, paths, 0)
+    def __init__(self, title, files, directories, paths, words=("--stdin",), names=inputs.SEVEN_NAMES, git_words=None):
+        super().__init__(title, files, directories, paths, 0)
         self.words, self.names = words, names
         self.git_words = git_words or words
 
@@ -165,8 +165,8 @@ class CheckAttrOfIndex(CheckAttr):
         made = git("-c", "user.name=x", "-c", "user.email=x", "commit-tree", "-m", "made", git("write-tree").strip())
         git("update-ref", "HEAD", made.strip())
         git("repack", "-a", "-d", "-q")
-        for folder in self.missing:
-            (repository / folder / ".gitattributes").unlink()
+        for directory in self.missing:
+            (repository / directory / ".gitattributes").unlink()
         if not self.is_bare:
             return repository
         git("config", "core.bare", "true")
@@ -184,13 +184,12 @@ def counted(lines, quick=False):
 
 
 KINDS = {"names": inputs.names, "ends": inputs.ends, "exact": inputs.exact, "globs": inputs.globs}
-TITLES = {"names": "names", "ends": "ends `*.eN`", "exact": "exact paths", "globs": "globs `dirN/**/x?[a-c]*.gen`"}
+TITLES = {"names": "names", "ends": "suffixes `*.eN`", "exact": "exact paths", "globs": "globs `dirN/**/x?[a-c]*.gen`"}
 
 
 def of_kind(kind, lines, quick, paths=None):
-    make = OwnLines if kind in ("exact", "globs") else Workload
-    text, asked = KINDS[kind](lines, max(paths or timed(lines, quick), 4 * make.few))
-    return make(f"{lines:,} {TITLES[kind]}", [("", text)], inputs.THREE_NAMES, asked, counted(lines, quick))
+    text, asked = KINDS[kind](lines, max(paths or timed(lines, quick), 4 * OfKind.few))
+    return OfKind(f"{lines:,} {TITLES[kind]}", [("", text)], inputs.THREE_NAMES, asked, counted(lines, quick))
 
 
 def of_typical(quick):
@@ -216,7 +215,7 @@ def of_standing(lists, quick):
     files, paths = inputs.standing(lists, timed(lists, quick))
     title = f"{lists:,} standing lists, a path below two"
     made = Workload(title, files, inputs.THREE_NAMES, paths, max(1_000, counted(lists, quick)))
-    # By then the tables of an outcome that is asked in many folders have grown, too.
+    # By then the tables of an outcome that is asked in many directories have grown, too.
     made.few = 500
     return made
 
@@ -224,12 +223,12 @@ def of_standing(lists, quick):
 def monorepo_title(steps):
     files = sum(text is not None for _, text, _ in steps)
     paths = sum(len(below) for _, _, below in steps)
-    return f"made monorepo: {paths:,} paths, {len(steps):,} folders, {files:,} files"
+    return f"made monorepo: {paths:,} paths, {len(steps):,} directories, {files:,} files"
 
 
 def of_monorepo(scale):
     steps = list(inputs.monorepo(scale))
-    files = [(folder, text) for folder, text, _ in steps if text is not None]
+    files = [(directory, text) for directory, text, _ in steps if text is not None]
     paths = [path for _, _, below in steps for path in below]
     return Workload(monorepo_title(steps) + ", all standing", files, inputs.THREE_NAMES, paths, counted(len(files)))
 
@@ -239,37 +238,39 @@ def of_walk(scale):
     return Walk(monorepo_title(steps) + ", walked", steps, inputs.THREE_NAMES, 20_000)
 
 
-def of_folders(names, quick):
-    """One path in each folder, whose file of one line is added for it and popped after it."""
+def of_directories(names, quick):
+    """One path in each directory, whose file of one line is added for it and popped after it."""
     count = 500 if quick else 2000
     steps = [("", inputs.known(names), ["a.c"])]
     steps += [(f"f{place}/", b"*.c a1 -a2 a3=v\n", [f"f{place}/main.c"]) for place in range(count)]
     title = f"add, ask, pop; {names:,} names known, 3 selected"
-    return Walk(title, steps, ["a1", "a2", "a3"], max(50, counted(names) // 4), unit="folder")
+    return Walk(title, steps, ["a1", "a2", "a3"], max(50, counted(names) // 4), unit="directory")
 
 
 def of_stack(quick, is_shuffled=False):
-    files, folders, paths = inputs.below_files(timed(1, quick))
-    title = f"stack: {len(files)} files in {len(folders):,} folders, paths {'shuffled' if is_shuffled else 'in order'}"
-    return Stack(title, files, folders, inputs.shuffled(paths) if is_shuffled else paths, 5 * counted(1, quick))
+    files, directories, paths = inputs.below_files(timed(1, quick))
+    title = f"stack: {len(files)} files in {len(directories):,} directories, paths {'shuffled' if is_shuffled else 'in order'}"
+    return Stack(title, files, directories, inputs.shuffled(paths) if is_shuffled else paths, 5 * counted(1, quick))
 
 
 def of_stack_without_files(quick):
-    files, folders, paths = inputs.without_files(20_000 // (5 if quick else 1))
-    return Stack(f"stack: {len(folders):,} folders without a file, a path each", files, folders, paths, 5 * counted(1, quick))
+    files, directories, paths = inputs.without_files(20_000 // (5 if quick else 1))
+    title = f"stack: {len(directories):,} directories without a file, a path each"
+    return Stack(title, files, directories, paths, 5 * counted(1, quick))
 
 
 def of_stack_monorepo(scale):
     steps = list(inputs.monorepo(scale))
-    files = [(folder, text) for folder, text, _ in steps if text is not None]
+    files = [(directory, text) for directory, text, _ in steps if text is not None]
     paths = [path for _, _, below in steps for path in below]
-    return Stack("stack: " + monorepo_title(steps), files, [folder for folder, _, _ in steps], paths, 20_000)
+    return Stack("stack: " + monorepo_title(steps), files, [directory for directory, _, _ in steps], paths, 20_000)
 
 
 def of_check_attr(quick, make=CheckAttr, what="", is_shuffled=False, **more):
-    files, folders, paths = inputs.below_files(timed(1, quick))
-    title = f"check-attr{what}: {len(files)} files in {len(folders):,} folders, paths {'shuffled' if is_shuffled else 'in order'}"
-    return make(title, files, folders, inputs.shuffled(paths) if is_shuffled else paths, **more)
+    files, directories, paths = inputs.below_files(timed(1, quick))
+    order = "shuffled" if is_shuffled else "in order"
+    title = f"check-attr{what}: {len(files)} files in {len(directories):,} directories, paths {order}"
+    return make(title, files, directories, inputs.shuffled(paths) if is_shuffled else paths, **more)
 
 
 def of_check_attr_bare(quick):
@@ -280,21 +281,21 @@ def of_check_attr_bare(quick):
 
 
 def of_check_attr_without_files(quick):
-    files, folders, paths = inputs.without_files(20_000 // (5 if quick else 1))
-    missing = folders[::len(folders) // 50]
-    title = f"check-attr: {len(folders):,} folders without a file, a path each, {len(missing)} files in the index alone"
-    files += [(folder, inputs.of_folder(0)) for folder in missing]
-    work = CheckAttrOfIndex(title, files, folders, paths, names=inputs.THREE_NAMES)
+    files, directories, paths = inputs.without_files(20_000 // (5 if quick else 1))
+    missing = directories[::len(directories) // 50]
+    title = f"check-attr: {len(directories):,} directories without a file, a path each, {len(missing)} files in the index alone"
+    files += [(directory, inputs.of_folder(0)) for directory in missing]
+    work = CheckAttrOfIndex(title, files, directories, paths, names=inputs.THREE_NAMES)
     work.missing = missing
     return work
 
 
 def of_check_attr_monorepo(scale):
     steps = list(inputs.monorepo(scale))
-    files = [(folder, text) for folder, text, _ in steps if text is not None]
+    files = [(directory, text) for directory, text, _ in steps if text is not None]
     paths = [path for _, _, below in steps for path in below]
-    folders = [folder for folder, _, _ in steps]
-    return CheckAttr("check-attr: " + monorepo_title(steps), files, folders, paths, names=inputs.THREE_NAMES)
+    directories = [directory for directory, _, _ in steps]
+    return CheckAttr("check-attr: " + monorepo_title(steps), files, directories, paths, names=inputs.THREE_NAMES)
 
 
 def workloads(quick, scale):
@@ -314,7 +315,7 @@ def workloads(quick, scale):
     made["reading"] = lambda: of_reading(quick)
     made["monorepo-standing"] = lambda: of_monorepo(scale)
     made["monorepo-walked"] = lambda: of_walk(scale)
-    several("folders", (10, 1_000) if quick else (10, 100, 1_000, 10_000), of_folders)
+    several("directories", (10, 1_000) if quick else (10, 100, 1_000, 10_000), of_directories)
     made["stack-in-order"] = lambda: of_stack(quick)
     made["stack-shuffled"] = lambda: of_stack(quick, is_shuffled=True)
     made["stack-without-files"] = lambda: of_stack_without_files(quick)
@@ -331,7 +332,7 @@ def workloads(quick, scale):
 
 
 class Bench:
-    """A folder to work in, the program, and what the machine has beside it."""
+    """A directory to work in, the program, and what the machine has beside it."""
 
     def __init__(self, program, room, options):
         self.program, self.room, self.runs, self.limit = program, Path(room), options.runs, options.limit
@@ -343,16 +344,16 @@ class Bench:
         """Whether a workload can be measured: what reads a work tree needs its program, and git for the work tree."""
         return not work.reads_tree or self.git and os.access(self.others[work.program], os.X_OK)
 
-    def repository(self, files, folders=()):
-        """A git repository with these files in its folders, and with these folders."""
-        folder = Path(tempfile.mkdtemp(dir=self.room))
-        subprocess.run(["git", "init", "-q", str(folder)], check=True)
-        for below in folders:
-            (folder / below).mkdir(parents=True, exist_ok=True)
+    def repository(self, files, directories=()):
+        """A git repository with these files in its directories, and with these directories."""
+        directory = Path(tempfile.mkdtemp(dir=self.room))
+        subprocess.run(["git", "init", "-q", str(directory)], check=True)
+        for below in directories:
+            (directory / below).mkdir(parents=True, exist_ok=True)
         for below, text in files:
-            (folder / below).mkdir(parents=True, exist_ok=True)
-            (folder / below / ".gitattributes").write_bytes(text)
-        return folder
+            (directory / below).mkdir(parents=True, exist_ok=True)
+            (directory / below / ".gitattributes").write_bytes(text)
+        return directory
 
     def commands(self, work, files, paths, repository):
         """The program over the script of these files and paths, and git over the paths in that repository."""
@@ -383,7 +384,7 @@ class Bench:
         counts, repository = [], None
         for files, paths in (few, many):
             if (place or work.reads_tree) and self.git and (repository is None or files is not few[0]):
-                repository = self.repository(files, work.folders)
+                repository = self.repository(files, work.directories)
             counts.append(self.count(self.commands(work, files, paths, repository)[place]))
         return None if None in counts else (counts[1] - counts[0]) / divisor
 
@@ -409,7 +410,7 @@ class Bench:
 
     def row(self, name, work):
         counts = self.instructions(work)
-        repository = self.repository(work.files, work.folders) if self.git else None
+        repository = self.repository(work.files, work.directories) if self.git else None
         if work.reads_tree:
             repository = work.prepare(repository)
         pair = self.commands(work, work.files, work.paths, repository)
@@ -434,7 +435,7 @@ class Row:
         ratio = "" if None in (ours, git) else two_digits(ours / git)
         if ours is None and git:
             ratio = f"> {two_digits(self.limits[0] / git)}"
-        title = self.work.title + ("; instructions a folder" if self.work.unit == "folder" else "")
+        title = self.work.title + ("; instructions a directory" if self.work.unit == "directory" else "")
         times = [self.time(place) for place in (0, 1)]
         counts = [three_digits(count) for count in self.counts]
         peaks = ["" if peak is None else f"{peak:,}" for peak in self.peaks]
