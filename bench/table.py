@@ -20,6 +20,7 @@ import argparse
 import filecmp
 import math
 import os
+import statistics
 import subprocess
 import sys
 import tempfile
@@ -63,6 +64,10 @@ class Workload:
         """The files and the paths of two runs under callgrind, and by what their difference is divided."""
         return self.first_and_all(self.few, self.counted)
 
+    def pairs(self):
+        """Such runs of our program, of which the median counts."""
+        return [self.few_and_many()]
+
     def few_and_many_of_git(self):
         """The same for git, which is asked fewer paths where it tries many lines for each."""
         return self.few_and_many()
@@ -75,12 +80,13 @@ class Workload:
 
 
 class OfKind(Workload):
-    """Paths that are looked up in lines of one kind. Thousands are counted, so that it matters little where a buffer grows."""
+    """Paths that are looked up in lines of one kind."""
 
     few = 1_000
 
-    def few_and_many(self):
-        return self.first_and_all(self.few, 4 * self.few)
+    def pairs(self):
+        """Three times a thousand paths more: the script is read into a buffer, and where that grows, it is copied."""
+        return [self.first_and_all(count, count + self.few) for count in (self.few, 2 * self.few, 3 * self.few)]
 
     def few_and_many_of_git(self):
         return self.first_and_all(FEW, self.counted)
@@ -376,7 +382,8 @@ class Bench:
         """The instructions of both programs for a path."""
         if not self.valgrind or not work.is_counted:
             return None, None
-        return self.difference(work, work.few_and_many(), 0), self.difference(work, work.few_and_many_of_git(), 1)
+        ours = [self.difference(work, pair, 0) for pair in work.pairs()]
+        return None if None in ours else statistics.median(ours), self.difference(work, work.few_and_many_of_git(), 1)
 
     def difference(self, work, few_and_many, place):
         """The instructions of the program at a place of the pair, ours or git, for a path."""
