@@ -14,6 +14,9 @@ measured at n/8, n/4 and n/2 (the mark says n/8), or at an eighth of these. Colu
 
 A row is marked with ! if it takes more than half a second for 2 MB of input and output, or if the power is above 1.3 and the
 time above 50 ms; status 1 says that some row is marked.
+
+In Markdown there are fewer columns: of the greatest size that ended, and the mark tells which one did not. Rows that aren't marked
+have to take 0.3 s for 2 MB, or 100 bytes for a byte of input; a line tells the most of all others.
 """
 import argparse
 import functools
@@ -30,7 +33,9 @@ import measure
 from measure import Command, OverLimit
 
 HEAD = ("case", "what", "input, KB", "output", "n: seconds", "2n", "4n", "power", "memory, KB", "a byte", "")
-WIDTHS = (-24, -72, 11, 9, 12, 10, 10, 7, 12, 8, 7)
+WIDTHS = (-26, -100, 11, 9, 12, 10, 10, 7, 12, 8, 7)
+BRIEF = ("case", "what", "KB", "seconds", "power", "a byte", "")
+BRIEF_WIDTHS = (-1, -1, 1, 1, 1, 1, -1)
 CASES = {}
 
 
@@ -343,30 +348,30 @@ def ring(n):
 
 
 @case(2 ** 17)
-def lengths_of_ends(n):
-    """2 sqrt(n) ends of as many lengths, n lines `? a`, and one path"""
+def lengths_of_suffixes(n):
+    """2 sqrt(n) suffixes of as many lengths, n lines `? a`, and one path"""
     longest = 2 * math.isqrt(n)
     text = "".join("*" + "a" * place + " a\n" for place in range(1, longest)) + "? a\n" * n
     return add(text.encode()) + ask("a" * longest)
 
 
 @case(2 ** 18)
-def ends_passed(n):
-    """ends `*a`, `*aa`, .. of n bytes, and paths `za` of as many"""
+def suffixes_passed(n):
+    """suffixes `*a`, `*aa`, .. of n bytes, and paths `za` of as many"""
     text = "".join("*" + "a" * place + " a\n" for place in range(1, math.isqrt(2 * n)))
     return add(text.encode()) + ask("za") * (n // 16)
 
 
 @case(2 ** 18)
-def fronts_passed(n):
-    """fronts `a*`, `aa*`, .. of n bytes, and paths `az` of as many"""
+def prefixes_passed(n):
+    """prefixes `a*`, `aa*`, .. of n bytes, and paths `az` of as many"""
     text = "".join("a" * place + "* a\n" for place in range(1, math.isqrt(2 * n)))
     return add(text.encode()) + ask("az") * (n // 16)
 
 
 @case(2 ** 18)
-def fronts_of_paths_passed(n):
-    """fronts `a/*`, `a/a/*`, .. of n bytes, and paths `a/z/b` of as many"""
+def prefixes_of_paths_passed(n):
+    """prefixes `a/*`, `a/a/*`, .. of n bytes, and paths `a/z/b` of as many"""
     text = "".join("a/" * place + "* a\n" for place in range(1, math.isqrt(n)))
     return add(text.encode()) + ask("a/z/b") * (n // 20)
 
@@ -388,14 +393,14 @@ def capitals(n):
 
 
 @case(40_000)
-def one_end(n):
+def one_suffix(n):
     """n lines `*.c` that set different names, and one path"""
     return add(lines(n, "*.c a#")) + ask("b.c")
 
 
 @case(2 ** 18)
 def long_base_name(n):
-    """1,000 lines of ends, and ten paths of n bytes together"""
+    """1,000 lines of suffixes, and ten paths of n bytes together"""
     return add(b"".join(b"*%s%d a\n" % (b"a" * (place % 100), place) for place in range(1000))) + ask("a" * (n // 10)) * 10
 
 
@@ -618,18 +623,44 @@ class Row:
     def is_marked(self):
         if len(self.runs) < 3 or self.part > 1:
             return True
+        return self.for_two_mb() > 0.5 or self.power() > 1.3 and self.runs[-1][3] > 0.05
+
+    def is_dear(self):
+        return self.is_marked() or self.for_two_mb() >= 0.3 or self.a_byte() >= 100
+
+    def for_two_mb(self):
+        """The seconds of the greatest run, or those of 2 MB if it has more."""
         given, written, _, time = self.runs[-1]
-        return time > 0.5 * max(1, (given + written) / 2e6) or self.power() > 1.3 and time > 0.05
+        return time / max(1, (given + written) / 2e6)
+
+    def a_byte(self):
+        """The memory of the greatest run for each byte of its input."""
+        given, _, peak, _ = self.runs[-1]
+        return 1024 * peak / given
 
     def cells(self):
         given, written, peak, _ = self.runs[-1] if self.runs else (0, 0, 0, 0)
-        power = self.power()
-        mark = "!" if self.is_marked() else ""
-        if self.part > 1:
-            mark = f"! n/{self.part}"
         sizes = [f"{size / 1024:,.0f}" if given else "" for size in (given, written)]
-        return (self.case.name, self.case.what, *sizes, *self.seconds, "" if power is None else f"{power:.1f}",
-                f"{peak:,}" if peak else "", f"{1024 * peak / given:,.0f}" if given else "", mark)
+        memory = [f"{peak:,}", f"{self.a_byte():,.0f}"] if given else ["", ""]
+        return (self.case.name, self.case.what, *sizes, *self.seconds, self.told_power(), *memory, self.mark())
+
+    def brief(self):
+        """The cells in Markdown."""
+        if not self.runs:
+            return (self.case.name, self.case.what, "", "", "", "", f"{self.mark()}, n: {self.seconds[0]}")
+        given, written, _, _ = self.runs[-1]
+        ended = len(self.runs)
+        over = f", {2 ** ended}n: {self.seconds[ended]}" if ended < 3 else ""
+        return (self.case.name, self.case.what, f"{(given + written) / 1024:,.0f}", self.seconds[ended - 1], self.told_power(),
+                f"{self.a_byte():,.0f}", self.mark() + over)
+
+    def told_power(self):
+        return "" if self.power() is None else f"{self.power():.1f}"
+
+    def mark(self):
+        if not self.is_marked():
+            return ""
+        return f"! n/{self.part}" if self.part > 1 else "!"
 
 
 def main():
@@ -644,11 +675,12 @@ def main():
     options = options.parse_args()
     if not measure.has_time():
         sys.exit(2)
-    marked = 0
+    rows = []
     report = measure.Report("hostile", options.markdown, options.readme)
     with tempfile.TemporaryDirectory() as room:
         bench = Bench(measure.program_of(options.program), room, options)
-        report.head(HEAD, WIDTHS)
+        head, widths = (BRIEF, BRIEF_WIDTHS) if report.markdown else (HEAD, WIDTHS)
+        report.head(head, widths)
         for name, made in CASES.items():
             if measure.is_wanted(name, options.only):
                 try:
@@ -656,9 +688,16 @@ def main():
                 except CannotMake as why:
                     report.line(f"{name} is not measured: {why}.")
                     continue
-                marked += row.is_marked()
-                report.row(row.cells(), WIDTHS)
+                rows.append(row)
+                if not report.markdown or row.is_dear():
+                    report.row(row.brief() if report.markdown else row.cells(), widths)
     report.line()
+    others = [row for row in rows if not row.is_dear()]
+    if report.markdown and others:
+        most = max(map(Row.for_two_mb, others)), max(map(Row.a_byte, others))
+        report.line(f"{len(others)} others take at most {most[0]:.2f} s for 2 MB, and {most[1]:.0f} bytes of memory for a byte of input.")
+        report.line()
+    marked = sum(map(Row.is_marked, rows))
     report.line(f"{marked} cases are marked. Measured {measure.machine()}.")
     report.end()
     sys.exit(1 if marked else 0)
