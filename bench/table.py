@@ -64,9 +64,10 @@ class Workload:
         """The files and the paths of two runs under callgrind, and by what their difference is divided."""
         return self.first_and_all(self.few, self.counted)
 
-    def pairs(self):
-        """Such runs of our program, of which the median counts."""
-        return [self.few_and_many()]
+    def runs(self):
+        """The files and the paths of runs of our program. The median of the differences, divided by a number, is what counts."""
+        few, many, divisor = self.few_and_many()
+        return [few, many], divisor
 
     def few_and_many_of_git(self):
         """The same for git, which is asked fewer paths where it tries many lines for each."""
@@ -82,11 +83,12 @@ class Workload:
 class OfKind(Workload):
     """Paths that are looked up in lines of one kind."""
 
-    few = 1_000
+    few = 500
 
-    def pairs(self):
-        """Three times a thousand paths more: the script is read into a buffer, and where that grows, it is copied."""
-        return [self.first_and_all(count, count + self.few) for count in (self.few, 2 * self.few, 3 * self.few)]
+    def runs(self):
+        """Eight runs, each of 500 paths more: the steps where a buffer of the script grows, or moves, are not the median."""
+        _, (files, many), _ = self.first_and_all(self.few, 8 * self.few)
+        return [(files, many[:count]) for count in range(self.few, 9 * self.few, self.few)], self.few
 
     def few_and_many_of_git(self):
         return self.first_and_all(FEW, self.counted)
@@ -194,7 +196,7 @@ TITLES = {"names": "names", "ends": "suffixes `*.eN`", "exact": "exact paths", "
 
 
 def of_kind(kind, lines, quick, paths=None):
-    text, asked = KINDS[kind](lines, max(paths or timed(lines, quick), 4 * OfKind.few))
+    text, asked = KINDS[kind](lines, max(paths or timed(lines, quick), 8 * OfKind.few))
     return OfKind(f"{lines:,} {TITLES[kind]}", [("", text)], inputs.THREE_NAMES, asked, counted(lines, quick))
 
 
@@ -382,18 +384,17 @@ class Bench:
         """The instructions of both programs for a path."""
         if not self.valgrind or not work.is_counted:
             return None, None
-        ours = [self.difference(work, pair, 0) for pair in work.pairs()]
-        return None if None in ours else statistics.median(ours), self.difference(work, work.few_and_many_of_git(), 1)
+        few, many, divisor = work.few_and_many_of_git()
+        return self.difference(work, *work.runs(), 0), self.difference(work, (few, many), divisor, 1)
 
-    def difference(self, work, few_and_many, place):
+    def difference(self, work, runs, divisor, place):
         """The instructions of the program at a place of the pair, ours or git, for a path."""
-        few, many, divisor = few_and_many
         counts, repository = [], None
-        for files, paths in (few, many):
-            if (place or work.reads_tree) and self.git and (repository is None or files is not few[0]):
+        for files, paths in runs:
+            if (place or work.reads_tree) and self.git and (repository is None or files is not runs[0][0]):
                 repository = self.repository(files, work.directories)
             counts.append(self.count(self.commands(work, files, paths, repository)[place]))
-        return None if None in counts else (counts[1] - counts[0]) / divisor
+        return None if None in counts else statistics.median(more - less for less, more in zip(counts, counts[1:])) / divisor
 
     def count(self, command):
         try:
