@@ -432,6 +432,20 @@ def long_sources_in_turn(n):
     return lists + select(["b"]) + (ask("c") + ask("d")) * 1_000
 
 
+@case(2 ** 18)
+def long_lines_asked(n):
+    """lines of items `!a#` that match, each of 2,047 bytes, n bytes together, and 20 paths"""
+    items = (f" !a{place:05x}" for place in range(n // 8))
+    text = "".join("*" + "".join(next(items) for _ in range(255)).ljust(2046) + "\n" for _ in range(n // 2048))
+    return add(text.encode()) + ask("b") * 20
+
+
+@case(2 ** 18)
+def stars_asked(n):
+    """lines `*b*a x`, n bytes together, and ten paths of 4,095 bytes"""
+    return add(b"*b*a x\n" * (n // 7)) + ask("a" * 4_095) * 10
+
+
 # Products: both factors grow with n.
 
 @case(8_700)
