@@ -51,7 +51,8 @@ pub fn base_name_found()
 
 /// `*.c` matches `a/x.c`, and `/*.c` doesn't. `d/` matches the directory `a/d`, and not the file.
 pub fn paths_matched()
-    ensures name { path_matches Sensitive (read_rest false (codes "*.c")) (codes "a/x.c") None ≡ true }
+    ensures name { path_matches Sensitive (read_rest false (codes "*.c")) (codes "a/x.c") None
+        ≡ true }
     ensures path { path_matches Sensitive (read_rest false (codes "/*.c")) (codes "a/x.c") None
         ≡ false }
     ensures directory { path_matches Sensitive (read_rest false (codes "d/")) (codes "a/d")

@@ -200,7 +200,8 @@ pub extern "C" fn yektrod_found(
 // length of the texts.
 fn tell_found(held: &SourcedEngine, number: usize, text: &mut [u8]) -> Option<(Row, usize)>
     ensures found { MatchOption result (labelled_found held.now number ≡ None) (λ r.
-        MatchOption (labelled_found held.now number) ⊥ (λ m. (r.0 ≡ row_told held.now (Some number) 0 m)
+        MatchOption (labelled_found held.now number) ⊥ (λ m.
+        (r.0 ≡ row_told held.now (Some number) 0 m)
         × IsLaid text.old (text_of held.now m) text.new r.1)) }
     ensures kept { IfNone result (text.new ≡ text.old) }
 {
