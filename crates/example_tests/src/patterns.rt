@@ -12,20 +12,36 @@ ghost use Rattle.attr_glob.specs.Paths.{path_matches};
 ghost use Rattle.attr_glob.specs.Quotes.{undone};
 ghost use Rattle.attr_glob.specs.Patterns.{absolute, ends_with, must_be_dir, no_sub_dir, read_rest, reading};
 
+use attr_wildmatch::case::Case;
+use attr_wildmatch::wildmatch::tests_tell_match;
+
 /// `**/b` spells any directories and then the byte `b`.
 pub fn any_directories_spelled()
     ensures { AreTokens true (codes "**/b") (dirs ∷ lit 98 ∷ []) }
 {}
 
-/// `[!a-c]` spells a byte that is not from `a` to `c`.
+/// `[!a-c]` spells a byte that is not from `a` to `c`, so it matches `d` and not `b`. `[a` spells nothing, and matches nothing.
 pub fn bracket_spelled()
-    ensures { AreTokens true (codes "[!a-c]") (set true (Span 97 99 ∷ []) ∷ []) }
-{}
+    ensures spelled { AreTokens true (codes "[!a-c]") (set true (Span 97 99 ∷ []) ∷ []) }
+    ensures without { TextMatches Sensitive (codes "[!a-c]") (codes "d") }
+    ensures within { TextMatches Sensitive (codes "[!a-c]") (codes "b") → ⊥ }
+    ensures unclosed { TextMatches Sensitive (codes "[a") (codes "[a") → ⊥ }
+{
+    tests_tell_match(Case::Sensitive, b"[!a-c]", b"d");
+    tests_tell_match(Case::Sensitive, b"[!a-c]", b"b");
+    tests_tell_match(Case::Sensitive, b"[a", b"[a");
+}
 
-/// `**/b` matches `x/y/b`: what takes any directories takes `x/y/`.
+/// `**/b` matches `x/y/b` and `b`, and doesn't match `xb`: what takes any directories takes `x/y/` and nothing.
 pub fn any_directories_matched()
-    ensures { TextMatches Sensitive (codes "**/b") (codes "x/y/b") }
-{}
+    ensures two { TextMatches Sensitive (codes "**/b") (codes "x/y/b") }
+    ensures none { TextMatches Sensitive (codes "**/b") (codes "b") }
+    ensures part { TextMatches Sensitive (codes "**/b") (codes "xb") → ⊥ }
+{
+    tests_tell_match(Case::Sensitive, b"**/b", b"x/y/b");
+    tests_tell_match(Case::Sensitive, b"**/b", b"b");
+    tests_tell_match(Case::Sensitive, b"**/b", b"xb");
+}
 
 /// `"a\tb"` takes six bytes, and undone it is `a`, a tab and `b`.
 pub fn quoted_text_undone()

@@ -2,8 +2,8 @@ use Rattle.std.proofs.Common.{[], inl, inr, refl, ap, arith}
 use Rattle.std.specs.Prelude.{codes, slice_index}
 use Rattle.example_tests.proofs.patterns.bracket_spelled.Goals as goal
 
-pub returns : goal.returns
-returns c =
+pub returns-clause-spelled : goal.returns-clause-spelled
+returns-clause-spelled c =
     ([], (33, codes "a-c]", refl, inl refl,
     (codes "]",
     (codes "c]",
