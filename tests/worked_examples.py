@@ -14,7 +14,7 @@ SET, UNSET, UNSPECIFIED = 'set', 'unset', 'unspecified'
 
 ROWS = [
     ('any_directories_spelled any_directories_matched', {'': b'**/b a'}, {('x/y/b', 'a'): SET, ('b', 'a'): SET, ('xb', 'a'): UNSPECIFIED}),
-    ('bracket_spelled', {'': b'[!a-c] a'}, {('d', 'a'): SET, ('b', 'a'): UNSPECIFIED}),
+    ('bracket_spelled', {'': b'[!a-c] a\n[a b'}, {('d', 'a'): SET, ('b', 'a'): UNSPECIFIED, ('[a', 'b'): UNSPECIFIED}),
     ('quoted_text_undone', {'': b'"a\\tb" a'}, {('a\tb', 'a'): SET}),
     ('directory_at_the_top_read', {'': b'/d/ a'}, {('d/', 'a'): SET, ('d', 'a'): UNSPECIFIED, ('x/d/', 'a'): UNSPECIFIED}),
     ('suffix_read base_name_found paths_matched', {'': b'*.c a\n/*.c b\nd/ c'},

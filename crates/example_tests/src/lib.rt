@@ -5,3 +5,4 @@
 pub mod items;
 pub mod lines;
 pub mod patterns;
+pub mod tables;

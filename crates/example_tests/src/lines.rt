@@ -18,21 +18,29 @@ pub fn lines_joined()
 /// nothing, and its line counts.
 pub fn lines_read()
     ensures { results_of (codes "[attr]m x" ++ 10 ∷ codes "# *.c" ++ 10 ∷ codes " *.c m -y") ≡
-        Ok (record { target = macro (codes "m");
-            items = Ok (record { name = codes "x"; state = Set }) ∷ []; line = 1 })
-        ∷ Ok (record { target = pattern (read_rest false (codes "*.c"));
-            items = Ok (record { name = codes "m"; state = Set })
-                ∷ Ok (record { name = codes "y"; state = Unset }) ∷ []; line = 3 })
+        Ok (record {
+          target = macro (codes "m");
+          items = Ok (record { name = codes "x"; state = Set }) ∷ [];
+          line = 1;
+        })
+        ∷ Ok (record {
+          target = pattern (read_rest false (codes "*.c"));
+          items = Ok (record { name = codes "m"; state = Set })
+              ∷ Ok (record { name = codes "y"; state = Unset }) ∷ [];
+          line = 3;
+        })
         ∷ [] }
 {}
 
 /// Of `* a`, `* b =x` and `!n c` a list keeps the first line: the second has an item without a name, the third a negative pattern.
 pub fn lines_kept()
     ensures kept { kept_list (codes "* a" ++ 10 ∷ codes "* b =x" ++ 10 ∷ codes "!n c") ≡
-        record { pattern = record { text = codes "*"; mode = no_sub_dir + ends_with; wildcard = Some 0 };
-            macro = None;
-            items = record { id = unnumbered; inner = record { name = codes "a"; state = Set } } ∷ [];
-            line = 1 }
+        record {
+          pattern = record { text = codes "*"; mode = no_sub_dir + ends_with; wildcard = Some 0 };
+          macro = None;
+          items = record { id = unnumbered; inner = record { name = codes "a"; state = Set } } ∷ [];
+          line = 1;
+        }
         ∷ [] }
     ensures dropped { dropped_lines (codes "* a" ++ 10 ∷ codes "* b =x" ++ 10 ∷ codes "!n c") ≡
         record { line = 2; reason = InvalidName } ∷ record { line = 3; reason = NegativePattern }

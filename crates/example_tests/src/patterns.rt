@@ -50,14 +50,20 @@ pub fn quoted_text_undone()
 
 /// `/d/` is read as the text `d`, for directories alone, and for the top alone.
 pub fn directory_at_the_top_read()
-    ensures { reading (codes "/d/") ≡ Some (record { text = codes "d";
-        mode = no_sub_dir + must_be_dir + absolute; wildcard = None }) }
+    ensures { reading (codes "/d/") ≡ Some (record {
+      text = codes "d";
+      mode = no_sub_dir + must_be_dir + absolute;
+      wildcard = None;
+    }) }
 {}
 
 /// `*.c` is read as a star and a suffix, whose first wildcard is at 0.
 pub fn suffix_read()
-    ensures { reading (codes "*.c") ≡ Some (record { text = codes "*.c";
-        mode = no_sub_dir + ends_with; wildcard = Some 0 }) }
+    ensures { reading (codes "*.c") ≡ Some (record {
+      text = codes "*.c";
+      mode = no_sub_dir + ends_with;
+      wildcard = Some 0;
+    }) }
 {}
 
 /// The base name of `a/x.c` is `x.c`.
