@@ -30,7 +30,7 @@
  *   7. A call has 32 KB of stack, whatever its input.
  *
  * What is no promise, since a status answers it: a call before `yektrod_open`, after `yektrod_close`, a second open or
- * close, a number past the end, a buffer that is too small, bytes that are no UTF-8, a malformed script, no memory.
+ * close, a number past the end, a buffer that is too small, bytes that are not UTF-8, a malformed script, no memory.
  *
  * Nothing that a call is passed is kept. What `yektrod_open` takes `yektrod_close` frees; a caller frees nothing.
  */
@@ -68,7 +68,7 @@ enum {
     YEKTROD_NO_MEMORY = 1,
     YEKTROD_CLOSED = 2,           /* there is no engine; of yektrod_open: there is one already */
     YEKTROD_NOT_FOUND = 3,        /* no such answer, line, text, name or attribute */
-    YEKTROD_INVALID = 4,          /* a source, root or name is no UTF-8; is_dir is out of range; a directory begins or ends with a
+    YEKTROD_INVALID = 4,          /* a source, root or name is not UTF-8; is_dir is out of range; a directory begins or ends with a
                                      slash, or has `//` or a part `.` or `..` */
     YEKTROD_NO_LIST = 5,          /* there is no list to remove */
     YEKTROD_BUFFER_TOO_SMALL = 6, /* the text is longer than the room, or there are more rows; `needed` or `written` gets the length */
@@ -159,7 +159,7 @@ int32_t yektrod_open(yektrod *y);
 /* Adds the list of an attributes file as the last one, which takes precedence, and leaves no answers. `source` is the path of the
    file. Its patterns apply to the paths in its directory, as this directory is seen from `root`; without a root (`has_root` is false,
    and `root` is not read), or if the file lies elsewhere, to all paths. `dropped` gets the number of lines that were dropped.
-   Returns DONE, NO_MEMORY, CLOSED, INVALID (the source, or the root that is read, is no UTF-8). */
+   Returns DONE, NO_MEMORY, CLOSED, INVALID (the source, or the root that is read, is not UTF-8). */
 int32_t yektrod_add(yektrod *y, const uint8_t *bytes, size_t length, const uint8_t *source, size_t source_length,
                     const uint8_t *root, size_t root_length, bool has_root, bool allow_macros, size_t *dropped);
 
@@ -180,7 +180,7 @@ int32_t yektrod_pop(yektrod *y);
 
 /* Selects the names that are looked up, in the order of the answers, and leaves no answers. With a count of 0 all names are. A text
    that is no valid name is always unspecified.
-   Returns DONE, NO_MEMORY, CLOSED, INVALID (a name is no UTF-8). */
+   Returns DONE, NO_MEMORY, CLOSED, INVALID (a name is not UTF-8). */
 int32_t yektrod_select(yektrod *y, const yektrod_bytes *names, size_t count);
 
 /* Looks a path up, as a yektrod_question has it. `answers` gets the number of answers: one for each selected name, or, without a
