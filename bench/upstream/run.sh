@@ -4,6 +4,7 @@
 # By hand, and no part of the gate: it needs cargo, and the network once. The rows take a minute.
 # usage: run.sh rows
 #        run.sh play [FILE..] <SCRIPT
+#        run.sh measured <SCRIPT
 # UPSTREAM_DIR names the directory where the crates and the program are kept. Without it they are made anew, and removed.
 #
 # 0.37.0 differs from 0.36.0, which this repository carries over, in error types, in `io::Result` of `add_patterns_buffer` and
@@ -12,7 +13,7 @@ set -eu
 top=$(cd "$(dirname "$0")/../.." && pwd)
 case ${1:-} in
 rows) set -- rows "$top" ;;
-play) ;;
+play | measured) ;;
 *) sed -n 's/^# \(usage: \|       \)/\1/p' "$0" >&2; exit 2 ;;
 esac
 room=${UPSTREAM_DIR:-}

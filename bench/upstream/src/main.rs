@@ -3,6 +3,7 @@
 //! - `upstream rows TOP`: for each row of the tables of [`TABLES`], what the crate does with the row's input, compared with what the
 //!   row says. It ends with 1 if a row differs, or if there is no code for it.
 //! - `upstream play [FILE..]`: answers the script on standard input (docs/SCRIPT.md). The files are global ones.
+//! - `upstream measured`: the same for bench/peers.py, with one outcome for many paths and without the lines `dropped:`.
 //! - `upstream refuse CALL`: takes all memory and makes a call, for the rows on memory that is short.
 #![forbid(unsafe_code)]
 
@@ -10,7 +11,7 @@ mod faults;
 mod rows;
 mod script;
 
-use std::io::{Read, Write};
+use std::io::{BufWriter, Read, Write};
 use std::process::ExitCode;
 use std::{env, fs, io};
 
@@ -23,20 +24,21 @@ fn main() -> ExitCode {
     let words: Vec<&str> = arguments.iter().map(String::as_str).collect();
     match words.as_slice() {
         ["rows", top] => run_rows(top),
-        ["play", files @ ..] => play(files),
+        ["play", files @ ..] => play(files, false),
+        ["measured"] => play(&[], true),
         ["refuse", what] => rows::refuse(what),
         _ => {
-            eprintln!("usage: upstream rows TOP | upstream play [FILE..] <SCRIPT");
+            eprintln!("usage: upstream rows TOP | upstream play [FILE..] <SCRIPT | upstream measured <SCRIPT");
             ExitCode::from(2)
         }
     }
 }
 
-fn play(files: &[&str]) -> ExitCode {
+fn play(files: &[&str], is_measured: bool) -> ExitCode {
     let mut script = Vec::new();
     io::stdin().read_to_end(&mut script).expect("a script on standard input");
-    let mut output = io::stdout().lock();
-    match script::play(files, &script, &mut output).and_then(|malformed| output.flush().map(|()| malformed)) {
+    let mut output = BufWriter::with_capacity(1 << 16, io::stdout().lock());
+    match script::play(files, &script, is_measured, &mut output).and_then(|malformed| output.flush().map(|()| malformed)) {
         Ok(None) => ExitCode::SUCCESS,
         Ok(Some(record)) => {
             eprintln!("upstream: malformed record {record}");

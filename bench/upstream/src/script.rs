@@ -1,7 +1,8 @@
 //! Plays scripts (docs/SCRIPT.md) through the crate, as `check_attr_cli` plays them.
 //!
 //! Each path has an outcome of its own. A pop leaves the macros of its list in the collection, as the crate does. The lines
-//! `dropped:` come from the crate's parser, since a search doesn't return them.
+//! `dropped:` come from the crate's parser, since a search doesn't return them. What is measured has neither: it keeps an outcome
+//! until the next addition, pop or selection, and parses a file once.
 
 use bstr::{BStr, ByteSlice};
 use gix_attributes::glob::pattern::Case;
@@ -45,13 +46,15 @@ pub struct State {
     search: Search,
     collection: MetadataCollection,
     names: Vec<String>,
+    is_measured: bool,
+    kept: Option<Outcome>,
 }
 
 /// Plays a script. Returns the number of its first malformed record, if it has one.
-pub fn play(files: &[&str], script: &[u8], output: &mut impl Write) -> io::Result<Option<usize>> {
+pub fn play(files: &[&str], script: &[u8], is_measured: bool, output: &mut impl Write) -> io::Result<Option<usize>> {
     let mut collection = MetadataCollection::default();
     let search = Search::new_globals(files.iter().map(PathBuf::from), &mut Vec::new(), &mut collection)?;
-    let mut state = State { search, collection, names: Vec::new() };
+    let mut state = State { search, collection, names: Vec::new(), is_measured, kept: None };
     let mut script = Script(script);
     let mut record = 0;
     while !script.0.is_empty() {
@@ -67,6 +70,9 @@ pub fn play(files: &[&str], script: &[u8], output: &mut impl Write) -> io::Resul
 impl State {
     fn record(&mut self, script: &mut Script, output: &mut impl Write) -> Option<io::Result<()>> {
         let header: Vec<&[u8]> = script.line()?.split(|byte| *byte == b' ').collect();
+        if header[0] != b"ask" {
+            self.kept = None;
+        }
         match header.as_slice() {
             [b"add", macros @ (b"m" | b"-"), source, root, contents] => {
                 let (source, root) = (number(source)?, if *root == b"-" { None } else { Some(number(root)?) });
@@ -77,7 +83,7 @@ impl State {
                 let allow = *macros == b"m";
                 script.line_feed().then(|| {
                     self.search.add_patterns_buffer(contents, source.into(), root, &mut self.collection, allow)?;
-                    write_dropped(contents, source, output)
+                    if self.is_measured { Ok(()) } else { write_dropped(contents, source, output) }
                 })
             }
             [b"pop"] => {
@@ -99,23 +105,32 @@ impl State {
         }
     }
 
-    fn ask(&self, form: u8, path: &BStr, case: Case, is_dir: Option<bool>, output: &mut impl Write) -> io::Result<()> {
-        let mut outcome = Outcome::default();
-        outcome.initialize_with_selection(&self.collection, &self.names);
+    fn ask(&mut self, form: u8, path: &BStr, case: Case, is_dir: Option<bool>, output: &mut impl Write) -> io::Result<()> {
+        let mut outcome = self.kept.take().unwrap_or_else(|| {
+            let mut outcome = Outcome::default();
+            outcome.initialize_with_selection(&self.collection, &self.names);
+            outcome
+        });
         self.search.pattern_matching_relative_path(path, case, is_dir, &mut outcome);
         if self.names.is_empty() {
             let mut told = outcome.iter().filter(|it| it.assignment.state != StateRef::Unspecified);
-            told.try_for_each(|it| write(form, path, &it, &outcome, output))
+            told.try_for_each(|it| write(form, path, &it, &outcome, output))?;
         } else {
-            outcome.iter_selected().try_for_each(|it| write(form, path, &it, &outcome, output))
+            outcome.iter_selected().try_for_each(|it| write(form, path, &it, &outcome, output))?;
         }
+        if self.is_measured {
+            outcome.reset();
+            self.kept = Some(outcome);
+        }
+        Ok(())
     }
 }
 
 fn write(form: u8, path: &BStr, found: &Match<'_>, outcome: &Outcome, output: &mut impl Write) -> io::Result<()> {
     let (between, end) = if form == b'z' { ("\0", "\0") } else { (": ", "") };
-    output.write_all(path)?;
-    write!(output, "{between}{}{between}", found.assignment.name.as_str())?;
+    for part in [path, between.into(), found.assignment.name.as_str().into(), between.into()] {
+        output.write_all(part)?;
+    }
     output.write_all(match found.assignment.state {
         StateRef::Set => b"set",
         StateRef::Unset => b"unset",
