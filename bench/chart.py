@@ -1,5 +1,7 @@
 #!/usr/bin/env python3
-"""Draws path_cost.svg from path_cost.csv, which table.py --curves writes: instructions a path over the number of lines.
+"""Draws path_cost.svg from path_cost.csv: instructions a path over the number of lines.
+
+table.py --curves writes the file, and peers.py --curves adds gix-attributes.
 
 usage: chart.py
 """
@@ -9,10 +11,10 @@ from collections import defaultdict
 from pathlib import Path
 
 BENCH = Path(__file__).resolve().parent
-PANELS = (("names", "Names", "parser_7.c"), ("ends", "Ends", "*.e7"),
+PANELS = (("names", "Names", "parser_7.c"), ("ends", "Suffixes", "*.e7"),
           ("exact", "Exact paths", "assets/level7/textures/t7.psd"),
-          ("globs", "Globs below folders", "dir7/**/x?[a-c]*.gen"))
-PROGRAMS = (("check_attr", "check_attr"), ("git", "git check-attr (GIT_FLUSH=0)"))
+          ("globs", "Globs below directories", "dir7/**/x?[a-c]*.gen"))
+PROGRAMS = (("check_attr", "check_attr"), ("git", "git check-attr (GIT_FLUSH=0)"), ("gix-attributes", "gix-attributes 0.37.0"))
 
 WIDTH, HEIGHT = 900, 720
 PANEL_WIDTH, PANEL_HEIGHT = 335, 230
@@ -30,6 +32,8 @@ STYLE = """
   polyline.git, line.git { stroke: #bc4c00 } rect.git { fill: #bc4c00 }
   polyline, .key { fill: none; stroke-width: 2.5 }
   polyline.git, line.key.git { stroke-dasharray: 7 4 }
+  polyline.gix-attributes, line.gix-attributes { stroke: #8250df } path.gix-attributes { fill: #8250df }
+  polyline.gix-attributes, line.key.gix-attributes { stroke-dasharray: 2 3 }
   @media (prefers-color-scheme: dark) {
     .ground { fill: #0d1117 }
     text { fill: #e6edf3 }
@@ -37,6 +41,7 @@ STYLE = """
     .grid { stroke: #30363d }
     polyline.check_attr, line.check_attr { stroke: #58a6ff } circle.check_attr { fill: #58a6ff }
     polyline.git, line.git { stroke: #f0883e } rect.git { fill: #f0883e }
+    polyline.gix-attributes, line.gix-attributes { stroke: #bc8cff } path.gix-attributes { fill: #bc8cff }
   }"""
 
 
@@ -89,6 +94,8 @@ class Axes:
 def mark(program, x, y):
     if program == "git":
         return f'<rect class="git" x="{x - 3.5:.1f}" y="{y - 3.5:.1f}" width="7" height="7"/>'
+    if program == "gix-attributes":
+        return f'<path class="gix-attributes" d="M{x:.1f} {y - 4.5:.1f}l4.5 8h-9z"/>'
     return f'<circle class="{program}" cx="{x:.1f}" cy="{y:.1f}" r="4"/>'
 
 
@@ -107,14 +114,14 @@ def legend(left, y):
         yield f'<line class="key {program}" x1="{left}" y1="{y}" x2="{left + 44}" y2="{y}"/>'
         yield mark(program, left + 22, y)
         yield f'<text x="{left + 54}" y="{y + 4}">{text}</text>'
-        left += 180
+        left += 90 + 7 * len(text)
 
 
 def chart(points):
     axes = Axes(points)
     yield f'<svg xmlns="http://www.w3.org/2000/svg" viewBox="0 0 {WIDTH} {HEIGHT}" role="img" aria-labelledby="title about">'
     yield '<title id="title">Instructions a path, over the number of lines</title>'
-    yield '<desc id="about">Four charts, of names, ends, exact paths and globs: check_attr beside git check-attr.</desc>'
+    yield '<desc id="about">Four charts, of names, suffixes, exact paths and globs: check_attr, git, gix-attributes.</desc>'
     yield f"<style>{STYLE}\n</style>"
     yield f'<rect class="ground" width="{WIDTH}" height="{HEIGHT}"/>'
     yield '<text class="title" x="20" y="34">What a path costs, over the number of lines of an attributes file</text>'
