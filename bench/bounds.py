@@ -86,7 +86,7 @@ BOUNDS = [
     ("whole-paths", "whole paths, and each asked: instructions grow no faster than twofold",
      Counter.quotient, whole_paths, (1_000, 2_000), 1.2),
     ("paths-listed", "paths that a list has, asked one by one: what a path costs does not grow with the list",
-     Counter.paths, listed_paths, (4_000, 8_000), 1.2),
+     Counter.paths, listed_paths, (1_000, 16_000), 1.2),
     ("names-known", "paths without a selection: what a path costs does not grow with the names that are known",
      Counter.paths, lambda n, paths: known(n) + ask("b") * paths, (200, 3_200), 1.2),
     ("names-found", "paths without a selection, with two answers each: the same",
