@@ -135,8 +135,9 @@ typedef struct {
     yektrod_bytes source;    /* is told with its answers, and says nothing of where the list applies */
 } yektrod_place;
 
-/* A path to look up, which has no leading slash. `fold` is whether letters match in either case; `is_dir` is 1 for a directory, 0 for
-   none, and -1 if that is not known. */
+/* A path to look up, relative to the top of the repository, with a slash at neither end and no `//`, `.` or `..` in it: no status tells
+   of another form. `fold` is whether letters match in either case; `is_dir` is 1 for a directory, 0 for none, and -1 if that is not
+   known. */
 typedef struct {
     yektrod_bytes path;
     bool fold;
