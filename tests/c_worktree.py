@@ -19,6 +19,10 @@ ITEMS = [b'x', b'-x', b'!x', b'y=1', b'y=caf\xe9', b'-y', b'm', b'!m', b'binary'
 def lines(pick: random.Random, is_top: bool) -> bytes:
     """An attributes file. Only that of the top has a macro."""
     rows = [b' '.join([pick.choice(PATTERNS), *pick.choices(ITEMS, k=pick.randint(1, 3))]) for _ in range(pick.randint(1, 4))]
+    if pick.random() < 0.3:
+        # Git skips a line of 2,048 bytes. A CR before LF is not counted, and a NUL ends its line.
+        line = b'* long='.ljust(pick.choice([2047, 2048]), b'v') + pick.choice([b'', b'\r', b'\0 -x'])
+        rows.insert(pick.randint(0, len(rows)), line)
     return b'\n'.join([b'[attr]m z -y'] * is_top + rows) + b'\n'
 
 
@@ -31,7 +35,10 @@ def made(top: bytes, pick: random.Random) -> 'list[bytes]':
             os.mkdir(os.path.join(top, directory))
             directories.append(directory)
     for directory in directories:
-        if not directory or pick.random() < 0.7:
+        if directory and pick.random() < 0.1:
+            # A link is no attributes file.
+            os.symlink(os.path.join(top, b'.gitattributes'), os.path.join(top, directory, b'.gitattributes'))
+        elif not directory or pick.random() < 0.7:
             with open(os.path.join(top, directory, b'.gitattributes'), 'wb') as file:
                 file.write(lines(pick, not directory))
     return directories
@@ -40,7 +47,9 @@ def made(top: bytes, pick: random.Random) -> 'list[bytes]':
 def told(command: 'list[str]', top: bytes, paths: 'list[bytes]') -> 'dict[bytes, dict[bytes, bytes]]':
     """What a command tells of the paths: for each the attributes that are specified."""
     asked = b''.join(path + b'\0' for path in paths)
-    fields = subprocess.run(command, cwd=top, env=ALONE, input=asked, stdout=subprocess.PIPE, check=True).stdout.split(b'\0')[:-1]
+    # Git warns of long lines and links.
+    output = subprocess.run(command, cwd=top, env=ALONE, input=asked, capture_output=True, check=True).stdout
+    fields = output.split(b'\0')[:-1]
     answers: 'dict[bytes, dict[bytes, bytes]]' = {path: {} for path in paths}
     for path, name, state in zip(fields[::3], fields[1::3], fields[2::3]):
         answers[path][name] = state
