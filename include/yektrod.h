@@ -158,8 +158,9 @@ uint32_t yektrod_version(void);
 int32_t yektrod_open(yektrod *y);
 
 /* Adds the list of an attributes file as the last one, which takes precedence, and leaves no answers. `source` is the path of the
-   file. Its patterns apply to the paths in its directory, as this directory is seen from `root`; without a root (`has_root` is false,
-   and `root` is not read), or if the file lies elsewhere, to all paths. `dropped` gets the number of lines that were dropped.
+   file. Its patterns apply to the paths below its directory, taken relative to `root` (mostly empty, for the top); without a root
+   (`has_root` is false, and `root` is not read), or if the file lies elsewhere, to all paths. `dropped` gets the number of lines that
+   were dropped.
    Returns DONE, NO_MEMORY, CLOSED, INVALID (the source, or the root that is read, is not UTF-8). */
 int32_t yektrod_add(yektrod *y, const uint8_t *bytes, size_t length, const uint8_t *source, size_t source_length,
                     const uint8_t *root, size_t root_length, bool has_root, bool allow_macros, size_t *dropped);
