@@ -63,10 +63,7 @@ pub const ROWS: &[Row] = &[
         search.pop_pattern_list();
         let mut outcome = initialised(&collection);
         ask(&search, "f", &mut outcome);
-        match look_up(&outcome).as_str() {
-            "`m y`" => "`m` still expands to `y`".into(),
-            other => other.to_owned(),
-        }
+        in_words(look_up(&outcome), "`m y`", "`m` still expands to `y`")
     }),
     ("`pop_pattern_list`", || {
         let pop: fn(&mut Search) -> Option<List<Attributes>> = Search::pop_pattern_list;
@@ -139,10 +136,7 @@ pub const ROWS: &[Row] = &[
         let (search, collection) = add(&[("* a=x", "s"), ("* a=y", "t")]);
         let mut outcome = initialised(&collection);
         ask(&search, "f", &mut outcome);
-        match look_up(&outcome).as_str() {
-            "`a=y`" => "`a=y`, though its documents say the first".into(),
-            other => other.to_owned(),
-        }
+        in_words(look_up(&outcome), "`a=y`", "`a=y`, though its documents say the first")
     }),
     ("`update_from_list` of a macro whose text is `-m`", || {
         let mut collection = MetadataCollection::default();
@@ -205,6 +199,11 @@ pub fn look_up(outcome: &Outcome) -> String {
     told.sort();
     let told: Vec<_> = told.into_iter().map(|it| it.1).collect();
     format!("`{}`", told.join(" "))
+}
+
+/// What these words say of the answers if they are the expected ones, and else the answers.
+fn in_words(answers: String, expected: &str, words: &str) -> String {
+    if answers == expected { words.into() } else { answers }
 }
 
 /// What a new outcome of lines has for a path.
