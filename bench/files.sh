@@ -1,11 +1,11 @@
 #!/bin/sh
-# Writes attributes files of many sizes, and a hundred thousand paths, into the current folder.
+# Writes attributes files of many sizes, and a hundred thousand paths, into the current directory.
 set -eu
 
 # A hundred thousand paths, of which each has one of ten thousand names and one of ten thousand ends.
 awk 'BEGIN { for (i = 0; i < 100000; i++) printf "src/lib%d/part%d/f%d.e%d\n", i % 7, i % 13, i % 10000, (i * 7) % 10000 }' >paths
 
-# The lines of an attributes file as projects have them: ends of names, some names, some folders, and two macros.
+# The lines of an attributes file as projects have them: ends of names, some names, some directories, and two macros.
 typical() {
     echo '* text=auto'
     echo '[attr]generated -diff linguist-generated'
@@ -19,7 +19,7 @@ typical() {
     for end in bat cmd ps1 sln vcxproj; do echo "*.$end text eol=crlf"; done
     for name in Makefile Dockerfile LICENSE README CHANGELOG configure AUTHORS NOTICE; do echo "$name text eol=lf"; done
     for name in Cargo.lock package-lock.json yarn.lock go.sum poetry.lock; do echo "$name generated"; done
-    for folder in vendor third_party node_modules; do echo "$folder/** vendored"; done
+    for directory in vendor third_party node_modules; do echo "$directory/** vendored"; done
     echo 'src/**/gen_*.rs generated'
     echo '/docs/**/*.[ch] -text'
     echo '**/test[0-9]/data/* -text'

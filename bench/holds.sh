@@ -1,6 +1,6 @@
 #!/bin/sh
 # Measures `MetadataCollection::holds` over many lists, macros and names, at n, 2n and 4n: proves and builds the program of
-# holds_speed.rt.in in a folder of its own. It is run by hand, and is no part of the gate. It takes minutes where the crates were
+# holds_speed.rt.in in a directory of its own. It is run by hand, and is no part of the gate. It takes minutes where the crates were
 # not proved before.
 set -eu
 here=$(cd "$(dirname "$0")" && pwd)

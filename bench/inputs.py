@@ -1,7 +1,7 @@
 """Makes the attributes files and paths that are measured: the same bytes at each run."""
 import random
 
-FOLDERS = ("src include lib core base net http db store query index cache ui view form page chart locale docs guide "
+DIRECTORIES = ("src include lib core base net http db store query index cache ui view form page chart locale docs guide "
            "tests data samples tools build scripts vendor third_party assets fonts shaders android ios server client "
            "auth crypto math geo media audio video").split()
 STEMS = ("main init setup config option parse lex emit token scope type value error report log trace map list heap tree "
@@ -10,7 +10,7 @@ STEMS = ("main init setup config option parse lex emit token scope type value er
 ENDS = ("c c c c h h h h cc hpp py py py js js js ts ts go go java java rs rs rb pl sh sh bat md md md txt html css scss "
         "json json yml toml xml sql proto po png png jpg gif svg ico woff2 pdf zip lock in out dat gen").split()
 
-# As projects have them: a default, ends, names, folders, and three macros. 95 lines.
+# As projects have them: a default, ends, names, directories, and three macros. 95 lines.
 TYPICAL = """\
 # Macros
 [attr]raw -text -diff -merge
@@ -100,7 +100,7 @@ package-lock.json made
 *.min.js made
 *.gen made
 
-# Folders
+# Directories
 /docs/** linguist-documentation
 /vendor/** linguist-vendored -diff
 third_party/** linguist-vendored
@@ -119,17 +119,17 @@ def item(place):
     return ("text", "-diff", "marker=v%d" % (place % 7), "-text", "diff=d%d" % (place % 5))[place % 5]
 
 
-def folders(chance, count):
-    """Different folders up to four deep, each below another, with a slash at its end."""
+def directories(chance, count):
+    """Different directories up to four deep, each below another, with a slash at its end."""
     made = [""]
     known = {""}
     while len(made) < count:
         above = chance.choice(made)
         if above.count("/") < 4:
-            folder = above + chance.choice(FOLDERS) + chance.choice(["", "", str(chance.randrange(30))]) + "/"
-            if folder not in known:
-                known.add(folder)
-                made.append(folder)
+            directory = above + chance.choice(DIRECTORIES) + chance.choice(["", "", str(chance.randrange(30))]) + "/"
+            if directory not in known:
+                known.add(directory)
+                made.append(directory)
     return made
 
 
@@ -140,9 +140,9 @@ def base_name(chance):
 
 
 def tree(kind, count, name=base_name, many=3000):
-    """Paths of a tree of folders, in its order."""
+    """Paths of a tree of directories, in its order."""
     chance = random.Random(kind)
-    above = folders(chance, many)
+    above = directories(chance, many)
     return sorted(chance.choice(above) + name(chance) for _ in range(count))
 
 
@@ -178,20 +178,20 @@ def exact(lines, count):
 
 
 def globs(lines, count):
-    """Wildcards below literal folders; a third of the paths match one line."""
+    """Wildcards below literal directories; a third of the paths match one line."""
     text = "".join("dir%d/**/x?[a-c]*.gen %s\n" % (place, item(place)) for place in range(lines))
     chance = random.Random("globs")
     paths = []
     for _ in range(count):
-        folder = "dir%d/" % chance.randrange(lines + lines // 4 + 1)
+        directory = "dir%d/" % chance.randrange(lines + lines // 4 + 1)
         for _ in range(chance.randrange(4)):
-            folder += chance.choice(FOLDERS) + "/"
+            directory += chance.choice(DIRECTORIES) + "/"
         if chance.random() < 0.6:
-            folder += "x%d%s%s%d.gen" % (
+            directory += "x%d%s%s%d.gen" % (
                 chance.randrange(10), chance.choice("abcd"), chance.choice(STEMS), chance.randrange(1000))
         else:
-            folder += base_name(chance)
-        paths.append(folder)
+            directory += base_name(chance)
+        paths.append(directory)
     return text.encode(), sorted(paths)
 
 
@@ -232,28 +232,28 @@ def large(lines):
         elif kind < 0.72:
             pattern = "%s_%d.%s" % (chance.choice(STEMS), place, chance.choice(ENDS))
         elif kind < 0.9:
-            pattern = "/".join(chance.choices(FOLDERS, k=chance.randrange(1, 4))) + "/%s%d" % (chance.choice(STEMS), place)
+            pattern = "/".join(chance.choices(DIRECTORIES, k=chance.randrange(1, 4))) + "/%s%d" % (chance.choice(STEMS), place)
         else:
-            pattern = "%s/**/%s*%d.[ch]" % (chance.choice(FOLDERS), chance.choice(STEMS), place)
+            pattern = "%s/**/%s*%d.[ch]" % (chance.choice(DIRECTORIES), chance.choice(STEMS), place)
         made.append(pattern + " " + " ".join(chance.choices(items, k=chance.choice((1, 1, 2, 3, 4)))))
     made.insert(lines // 2, "src/core/* -diff marker=middle")
     made.append("main.c eol=lf marker=last")
     return ("\n".join(made) + "\n").encode()
 
 
-def of_folder(place):
-    """Ten lines of an attributes file of a folder."""
+def of_directory(place):
+    """Ten lines of an attributes file of a directory."""
     return ("*.c text\n*.h text diff=cpp\n*.png -text -diff\n*.out%d -text\nfile%d.c marker=named\nREADME.md -marker\n"
             "/data%d/*.bin -text\ndocs/**/*.md text\ngen_* marker=made\nlocale/[a-m]*/*.po diff=po\n"
             % (place, place % 50, place)).encode()
 
 
 def standing(lists, count):
-    """Attributes files of many folders, in pairs of a folder and one below it, and paths below each pair in turn."""
+    """Attributes files of many directories, in pairs of a directory and one below it, and paths below each pair in turn."""
     files = []
     for pair in range(lists // 2):
-        files.append(("p%d/" % pair, of_folder(2 * pair)))
-        files.append(("p%d/src/" % pair, of_folder(2 * pair + 1)))
+        files.append(("p%d/" % pair, of_directory(2 * pair)))
+        files.append(("p%d/src/" % pair, of_directory(2 * pair + 1)))
     paths = []
     chance = random.Random("standing")
     turn = 0
@@ -265,41 +265,41 @@ def standing(lists, count):
 
 
 def monorepo(scale):
-    """60,060 folders, three deep; each sixth has an attributes file of ten lines; a million paths, folder by folder.
+    """60,060 directories, three deep; each sixth has an attributes file of ten lines; a million paths, directory by directory.
 
-    Gives a folder, its attributes file or None, and its paths, in the order of a walk.
+    Gives a directory, its attributes file or None, and its paths, in the order of a walk.
     """
     chance = random.Random("monorepo")
     place = 0
     for top in range(max(1, round(60 * scale))):
         for middle in range(-1, 40):
             for low in range(-1, 24 if middle >= 0 else 0):
-                folder = "project%02d/" % top
+                directory = "project%02d/" % top
                 if middle >= 0:
-                    folder += "module%02d/" % middle
+                    directory += "module%02d/" % middle
                 if low >= 0:
-                    folder += "%s%02d/" % (FOLDERS[low], low)
-                paths = [folder + base_name(chance) for _ in range(17 if place % 3 else 16)]
-                yield folder, of_folder(place) if place % 6 == 0 else None, paths
+                    directory += "%s%02d/" % (DIRECTORIES[low], low)
+                paths = [directory + base_name(chance) for _ in range(17 if place % 3 else 16)]
+                yield directory, of_directory(place) if place % 6 == 0 else None, paths
                 place += 1
 
 
 def below_files(count):
-    """1,201 folders, of which the top has a typical attributes file and each third other one a file of ten lines; and paths in them.
+    """1,201 directories, of which the top has a typical attributes file and each third other one a file of ten lines; and paths in them.
 
-    Gives the files, all folders, and the paths in the order of a tree.
+    Gives the files, all directories, and the paths in the order of a tree.
     """
     chance = random.Random("below")
-    made = folders(chance, 1201)
-    files = [("", TYPICAL.encode()), *((folder, of_folder(place)) for place, folder in enumerate(made[1::3]))]
+    made = directories(chance, 1201)
+    files = [("", TYPICAL.encode()), *((directory, of_directory(place)) for place, directory in enumerate(made[1::3]))]
     return files, made, sorted(chance.choice(made) + base_name(chance) for _ in range(count))
 
 
 def without_files(count):
-    """A typical attributes file at the top, folders without one three deep, and a path in each of them."""
+    """A typical attributes file at the top, directories without one three deep, and a path in each of them."""
     chance = random.Random("without")
     made = ["p%02d/m%02d/d%d/" % (place // 400, place // 20 % 20, place) for place in range(count)]
-    return [("", TYPICAL.encode())], made, [folder + base_name(chance) for folder in made]
+    return [("", TYPICAL.encode())], made, [directory + base_name(chance) for directory in made]
 
 
 def shuffled(paths):
@@ -315,8 +315,8 @@ def known(count):
 
 # Records of a script.
 
-def add(folder, text, macros=False):
-    source = folder + ".gitattributes"
+def add(directory, text, macros=False):
+    source = directory + ".gitattributes"
     return b"add %s %d 0 %d\n%s%s\n" % (b"m" if macros else b"-", len(source), len(text), source.encode(), text)
 
 

@@ -1,5 +1,5 @@
 #!/bin/sh
-# Measures matches of kept patterns: proves attr_glob and the program of match_speed.rt.in in a folder of its own, and
+# Measures matches of kept patterns: proves attr_glob and the program of match_speed.rt.in in a directory of its own, and
 # runs the program. The gate takes any .rt file for one of a crate, so the program's name ends otherwise.
 set -eu
 here=$(cd "$(dirname "$0")" && pwd)

@@ -68,10 +68,10 @@ def has_time():
 
 
 class Command:
-    """A program with its arguments, the folder it runs in, and the file that it reads."""
+    """A program with its arguments, the directory it runs in, and the file that it reads."""
 
-    def __init__(self, words, given, folder=None):
-        self.words, self.given, self.folder = [str(word) for word in words], given, folder
+    def __init__(self, words, given, directory=None):
+        self.words, self.given, self.directory = [str(word) for word in words], given, directory
 
     def _run(self, words, limit, out=subprocess.DEVNULL, memory=None):
         """Runs it to its end. Returns the resources that it used, as the system counted them."""
@@ -84,7 +84,7 @@ class Command:
 
         with open(self.given, "rb") as given:
             child = subprocess.Popen(
-                words, stdin=given, stdout=out, stderr=subprocess.PIPE, cwd=self.folder,
+                words, stdin=given, stdout=out, stderr=subprocess.PIPE, cwd=self.directory,
                 env={**os.environ, **GIT_ENVIRONMENT}, preexec_fn=restrict, start_new_session=True,
             )
         # A machine with other work gives a run less than a processor.

@@ -70,7 +70,7 @@ def answers(command, limit):
     """The lines that a program prints; None if it takes longer than the limit."""
     with open(command.given, "rb") as given:
         try:
-            done = subprocess.run(command.words, stdin=given, stdout=subprocess.PIPE, cwd=command.folder, check=True,
+            done = subprocess.run(command.words, stdin=given, stdout=subprocess.PIPE, cwd=command.directory, check=True,
                                   env={**os.environ, **measure.GIT_ENVIRONMENT}, timeout=4 * limit)
         except subprocess.TimeoutExpired:
             return None
@@ -91,7 +91,7 @@ class Bench(table.Bench):
     def commands(self, work, files, paths, repository):
         ours, git = super().commands(work, files, paths, repository)
         crate = Command([self.crate, "measured"], ours.given) if self.crate else None
-        libgit2 = Command([self.libgit2, *work.names], git.given, git.folder) if git and self.libgit2 else None
+        libgit2 = Command([self.libgit2, *work.names], git.given, git.directory) if git and self.libgit2 else None
         return ours, git, crate, libgit2
 
     def instructions(self, work):

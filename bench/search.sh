@@ -1,5 +1,5 @@
 #!/bin/sh
-# Measures searches alone: proves and builds the program of search_speed.rt.in in a folder of its own, and prints processor times,
+# Measures searches alone: proves and builds the program of search_speed.rt.in in a directory of its own, and prints processor times,
 # and the memory that a search asks for once the first thousand paths are answered. It is run by hand, and is no part of the gate.
 # It takes minutes where the crates were not proved before.
 set -eu

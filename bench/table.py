@@ -292,7 +292,7 @@ def of_check_attr_without_files(quick):
     files, directories, paths = inputs.without_files(20_000 // (5 if quick else 1))
     missing = directories[::len(directories) // 50]
     title = f"check-attr: {len(directories):,} directories without a file, a path each, {len(missing)} files in the index alone"
-    files += [(directory, inputs.of_folder(0)) for directory in missing]
+    files += [(directory, inputs.of_directory(0)) for directory in missing]
     work = CheckAttrOfIndex(title, files, directories, paths, names=inputs.THREE_NAMES)
     work.missing = missing
     return work

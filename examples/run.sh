@@ -1,6 +1,6 @@
 #!/bin/sh
-# Runs the scripts and the programs (*.rt.in) of this folder, and compares their output with the answers beside them. The program
-# check_attr_cli has to be built before, by the gate or by `rt run` in its folder. The programs are run without a proof, side
+# Runs the scripts and the programs (*.rt.in) of this directory, and compares their output with the answers beside them. The program
+# check_attr_cli has to be built before, by the gate or by `rt run` in its directory. The programs are run without a proof, side
 # by side, which takes a minute.
 set -eu
 here=$(cd "$(dirname "$0")" && pwd)

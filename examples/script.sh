@@ -1,6 +1,6 @@
 #!/bin/sh
 # Prints a script that looks up each path on standard input, a line each, in the attributes files of the repository in the
-# current folder.
+# current directory.
 # usage: script.sh FORM [NAME..]: FORM is l, z or o, and NAME.. are the attributes to look up, all of them without a name
 set -eu
 LC_ALL=C

@@ -1,5 +1,5 @@
 #!/bin/sh
-# Gathers the library for C in a folder, and runs its clients: in C as gcc and clang compile them, and in Python. Each
+# Gathers the library for C in a directory, and runs its clients: in C as gcc and clang compile them, and in Python. Each
 # script of examples/ and of crates/rows/data/scripts is played by calls, and gives the answers beside it. Each request
 # for memory is refused in turn, and 32 KB of stack have to be enough. One engine goes round eight threads. Random calls
 # give what their scripts give, those of a work tree what git gives, and so do the clients that tell the paths of

@@ -20,9 +20,9 @@ def answer(pipe):
     return os.read(pipe, 1 << 16) if ready else b''
 
 
-def converse(program, words, end, folder):
+def converse(program, words, end, directory):
     """The answers for each path, each waited for."""
-    with subprocess.Popen([program, '--stdin', *words], cwd=folder, stdin=subprocess.PIPE, stdout=subprocess.PIPE) as running:
+    with subprocess.Popen([program, '--stdin', *words], cwd=directory, stdin=subprocess.PIPE, stdout=subprocess.PIPE) as running:
         answers = []
         for path in PATHS:
             os.write(running.stdin.fileno(), path + end)
@@ -34,17 +34,17 @@ def converse(program, words, end, folder):
 
 def main():
     program = sys.argv[1]
-    with tempfile.TemporaryDirectory() as folder:
-        subprocess.run(['git', 'init', '-q', folder], check=True)
-        os.makedirs(folder + '/sub/deep')
+    with tempfile.TemporaryDirectory() as directory:
+        subprocess.run(['git', 'init', '-q', directory], check=True)
+        os.makedirs(directory + '/sub/deep')
         for name, text in (('', '* top\n*.c text\n'), ('sub/', '* sub\n')):
-            with open(folder + '/' + name + '.gitattributes', 'w', encoding='ascii') as file:
+            with open(directory + '/' + name + '.gitattributes', 'w', encoding='ascii') as file:
                 file.write(text)
         for words in (['-a'], ['text', 'top'], ['-z', '-a'], ['-z', 'text', 'sub'], ['--show-origin', '-a'],
                       ['--json', '-a'], ['--json', '-z', 'text']):
             end = b'\0' if '-z' in words else b'\n'
-            answers, rest = converse(program, words, end, folder)
-            wanted = [subprocess.run([program, *words, '--', path], cwd=folder, stdout=subprocess.PIPE, check=True).stdout
+            answers, rest = converse(program, words, end, directory)
+            wanted = [subprocess.run([program, *words, '--', path], cwd=directory, stdout=subprocess.PIPE, check=True).stdout
                       for path in PATHS]
             if answers != wanted or rest:
                 sys.exit('check_attr_stream: %s: %r is answered in place of %r' % (' '.join(words), answers, wanted))

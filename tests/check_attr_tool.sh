@@ -146,8 +146,8 @@ printf '%s\n' docs docs/ docs/sub/ . ./ docs/. docs/sub/.. docs/./x//sub/../a.c 
     "$PWD/docs/a.c" "$PWD/../made/docs/x/" ".git/config" '"docs/\141.c"' '"docs/a.c" and more' '"\303\274"' >"$room/input"
 same --stdin -a
 same --stdin m1 text -z
-for folder in docs docs/sub 'two words/x/sub' .git/../src; do
-    cd "$room/made/$folder"
+for directory in docs docs/sub 'two words/x/sub' .git/../src; do
+    cd "$room/made/$directory"
     printf '%s\n' a.c ../a.c .. ../ . '' x/a.c "$room/made/README.md" >"$room/input"
     same --stdin --all
     same -a a.c .. . ./a.c ../../made/README.md
@@ -169,13 +169,13 @@ cd "$room/odd"
 tab=$(printf '\t')
 line=$(printf 'two\nlines')
 last=$(printf '\377\001')
-for folder in . 'a b' 'q"q' "t${tab}t" "$line" 'zü' 'back\slash' '-dash' '#x' '!x'; do
-    mkdir -p "./$folder/sub"
+for directory in . 'a b' 'q"q' "t${tab}t" "$line" 'zü' 'back\slash' '-dash' '#x' '!x'; do
+    mkdir -p "./$directory/sub"
     for name in f.c ' f.c' 'f.c ' 'say "hi".c' "t${tab}.c" "$line.c" 'ü.c' "$last.c" 'x\y.c' '\\' '-a' '--' '*.c' '[a]' "$(printf '\177')"; do
-        : >"./$folder/$name"
-        : >"./$folder/sub/$name"
+        : >"./$directory/$name"
+        : >"./$directory/sub/$name"
     done
-    printf '* text\n*.c diff=%s\n"say \\"hi\\".c" m1\nsub/*.c eol=lf\n"ü.c" -text\n\\* x\n' "$(echo "$folder" | cksum | cut -d' ' -f1)" >"./$folder/.gitattributes"
+    printf '* text\n*.c diff=%s\n"say \\"hi\\".c" m1\nsub/*.c eol=lf\n"ü.c" -text\n\\* x\n' "$(echo "$directory" | cksum | cut -d' ' -f1)" >"./$directory/.gitattributes"
 done
 printf '!no x\n[attr]m1 one -two\n*.c m1\n/q?q/*.c quoted\n"t\\tt/*" tabbed\n"two\\nlines/**" lines\n"*\\377*" high\nz\303\274/sub/* deep\n' >.gitattributes
 quietly git add -A
@@ -265,7 +265,7 @@ part='files of the user, the system and the repository'
 git init -q "$room/files"
 cd "$room/files"
 mkdir -p sub/deep .git/info "$HOME/.config/git" "$room/xdg/git" "$room/etc"
-printf '[attr]m1 top\n[attr]m2 m1 second\n* t=top m1 top=1\n*.d !u\nsub/ folder=sub\ndeep/ folder=deep\n' >.gitattributes
+printf '[attr]m1 top\n[attr]m2 m1 second\n* t=top m1 top=1\n*.d !u\nsub/ directory=sub\ndeep/ directory=deep\n' >.gitattributes
 printf '[attr]m2 not\n* t=sub\n!x y\n* sub m2\n' >sub/.gitattributes
 printf '* t=deep deep -deeper\n' >sub/deep/.gitattributes
 printf '[attr]m1 info\n*.i t=info info\n[attr]m3 m4\n[attr]m4 m3 circle\n*.i m3\n' >.git/info/attributes
@@ -328,7 +328,7 @@ truncate -s 104857600 large/.gitattributes
 same -a large/f
 grep '^warning: ignoring overly' "$room/errors" | diff "$room/warnings" - || failed 'a large file is reported otherwise'
 rm -r large
-# The system's file is one of a folder /etc of our own, if the machine lets us have it.
+# The system's file is one of a directory /etc of our own, if the machine lets us have it.
 cat >"$room/with_etc" <<'END'
 mount -t tmpfs none /etc && cp "$1" /etc/gitattributes && shift && exec "$@"
 END
@@ -349,7 +349,7 @@ if [ "$(git var GIT_ATTR_SYSTEM 2>/dev/null || echo /etc/gitattributes)" = /etc/
     if grep -q system "$room/ours"; then failed "the system's file is read against GIT_ATTR_NOSYSTEM"; fi
     GIT_ATTR_NOSYSTEM=1
 else
-    echo "check_attr_tool: no folder /etc of our own can be had here, so the system's file is left out"
+    echo "check_attr_tool: no directory /etc of our own can be had here, so the system's file is left out"
 fi
 
 part='letter case'
@@ -571,11 +571,11 @@ part='odd directories in the index and in trees'
 git init -q "$room/entries"
 cd "$room/entries"
 missing=$(printf 'x missing\ny')
-for folder in 1:x 0: 2: ':0:' 'a b' -x "$line" ' missing' 'x missing' "$missing" HEAD: "$tab" 'é' "$last"; do
-    mkdir -p "./$folder/sub"
-    printf '* in=%s\n' "$(echo "$folder" | cksum | cut -d' ' -f1)" >"./$folder/.gitattributes"
-    printf '* sub\r\n*.c eol=crlf\r\n' >"./$folder/sub/.gitattributes"
-    : >"./$folder/sub/f.c"
+for directory in 1:x 0: 2: ':0:' 'a b' -x "$line" ' missing' 'x missing' "$missing" HEAD: "$tab" 'é' "$last"; do
+    mkdir -p "./$directory/sub"
+    printf '* in=%s\n' "$(echo "$directory" | cksum | cut -d' ' -f1)" >"./$directory/.gitattributes"
+    printf '* sub\r\n*.c eol=crlf\r\n' >"./$directory/sub/.gitattributes"
+    : >"./$directory/sub/f.c"
 done
 mkdir link gitlink
 ln -s '* linked' link/.gitattributes
@@ -730,9 +730,9 @@ part='sparse checkouts'
 git init -q "$room/sparse"
 cd "$room/sparse"
 mkdir -p in/sub out/sub
-for folder in . in in/sub out out/sub; do
-    printf '* %s\n' "$(echo "$folder" | tr './' 'ts')" >"$folder/.gitattributes"
-    : >"$folder/f"
+for directory in . in in/sub out out/sub; do
+    printf '* %s\n' "$(echo "$directory" | tr './' 'ts')" >"$directory/.gitattributes"
+    : >"$directory/f"
 done
 quietly git add -A
 quietly git commit -q -m made
@@ -776,7 +776,7 @@ newer 128 'plain: outer: set\nplain: builtin_objectmode: 100644\n' outer builtin
 same -a plain sub/f sub/none/f
 (cd sub && same -a f ../plain)
 
-part='a file beside a folder of its name'
+part='a file beside a directory of its name'
 git init -q "$room/namesakes"
 cd "$room/namesakes"
 mkdir sub
@@ -818,7 +818,7 @@ git init -q "$room/top"
 cd "$room/top"
 mkdir sub
 printf '* y\n' >sub/.gitattributes
-for contents in '' '* x\n' '** x\n[attr]m x\nsub/ folder\n* m\n'; do
+for contents in '' '* x\n' '** x\n[attr]m x\nsub/ directory\n* m\n'; do
     printf "$contents" >.gitattributes
     same -a .
     same -z -a ''
@@ -836,7 +836,7 @@ done
 rm .gitattributes sub/.gitattributes
 same -a . '' f
 
-part='no folder and no stream'
+part='no directory and no stream'
 cd "$room/top"
 printf '* x\n' >.gitattributes
 mkdir "$room/below"
@@ -1090,7 +1090,7 @@ i: d: set	.gitattributes:5	[i]*	m
 END
 ours --show-origin --all -- h.c "$(printf 'g\t-\nfake')" i "d:7${tab}x/q" 2/.gitattributes:1/q
 for file in "$room/wanted" "$room/ours"; do sort "$file" >"$file.sorted"; done
-diff "$room/wanted.sorted" "$room/ours.sorted" || failed '--show-origin is forged by a file or a folder'
+diff "$room/wanted.sorted" "$room/ours.sorted" || failed '--show-origin is forged by a file or a directory'
 ours --show-origin -z -a h.c
 printf 'h.c\0x\0set\0.gitattributes:2\0"[\\000h].c"\0-\0' | cmp - "$room/ours" || failed '-z does not quote a NUL'
 # Differences from git that are meant: docs/DIFFERENCES.md.

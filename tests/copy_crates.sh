@@ -1,5 +1,5 @@
 #!/bin/sh
-# Copies the crates into a folder, without what was built of them and what is tried on them.
+# Copies the crates into a directory, without what was built of them and what is tried on them.
 set -eu
 top=$(cd "$(dirname "$0")/.." && pwd)
 cp "$top/HANDLES" "$top/crates.txt" "$1"

@@ -6,7 +6,7 @@ section, it is what the commands write to standard output. A `text` block withou
 examples/*.answers. A `rust` block is a part of a program examples/*.rt.in, which examples/run.sh runs, or of an example of the Rust
 package. Links lead to files and headings that are there, and the README has at most 130 lines of at most 120 columns.
 
-Folders below /tmp are made in a folder of their own for each page. There /tmp/yektrod is the directory of tools/c-library that
+Directories below /tmp are made in a directory of their own for each page. There /tmp/yektrod is the directory of tools/c-library that
 YEKTROD_DIRECTORY names; without it blocks that use the library are left out, which is reported. Nothing is proved: `rt run <
 stdin` is answered by the program that the gate has built, and blocks with other commands that prove are left out, which is
 reported. The pages are read side by side, in some two minutes: `rt try` takes most of that.
@@ -69,9 +69,9 @@ def read(path):
         return file.read()
 
 
-def examples(ending, folder='examples'):
-    names = sorted(it for it in os.listdir(os.path.join(TOP, folder)) if it.endswith(ending))
-    return {name: read(os.path.join(folder, name)) for name in names}
+def examples(ending, directory='examples'):
+    names = sorted(it for it in os.listdir(os.path.join(TOP, directory)) if it.endswith(ending))
+    return {name: read(os.path.join(directory, name)) for name in names}
 
 
 class Checks:

@@ -2,7 +2,7 @@
 """The wrong bodies: edits that the prover must refuse, those of crates/*/must-fail/*.edit and crates/*/wrong-bodies.edits.
 
 usage: edits.py                        checks that each edit still applies; it takes a second and proves nothing
-       edits.py split CRATE FOLDER     writes the edits of the crate's wrong-bodies.edits to FOLDER, a file NAME.edit for each
+       edits.py split CRATE DIRECTORY     writes the edits of the crate's wrong-bodies.edits to DIRECTORY, a file NAME.edit for each
        edits.py draw SEED              draws three edits of each of two crates by the text SEED: a line `CRATE NAME NAME NAME` each
 
 A file of edits has the text of each below a line `== NAME`, with an empty line between two of them, in the order of their
@@ -103,9 +103,9 @@ def edits_of(crate):
     return split(read(kept)) if os.path.exists(kept) else []
 
 
-def write_split(crate, folder):
+def write_split(crate, directory):
     for name, text in edits_of(crate):
-        with open(os.path.join(folder, name + '.edit'), 'w', encoding='utf-8', newline='') as file:
+        with open(os.path.join(directory, name + '.edit'), 'w', encoding='utf-8', newline='') as file:
             file.write(text)
 
 
@@ -126,7 +126,7 @@ def main(words):
     elif words[0] == 'draw' and len(words) == 2:
         draw(words[1])
     else:
-        sys.exit('usage: edits.py [split CRATE FOLDER | draw SEED]')
+        sys.exit('usage: edits.py [split CRATE DIRECTORY | draw SEED]')
 
 
 main(sys.argv[1:])

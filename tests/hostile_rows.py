@@ -29,7 +29,7 @@ def scripts():
     yield 'stars_that_match', add(b'*a' * 200 + b'b x\n') + names(b'x') + ask(path + b'b'), path + b'b: x: set\n'
     # Each `**/` takes any number of directories.
     deep = b'a/' * 1000
-    yield ('folders', add(b'**/' * 64 + b'b x\n') + names(b'x') + ask(deep + b'c') + ask(deep + b'b'),
+    yield ('directories', add(b'**/' * 64 + b'b x\n') + names(b'x') + ask(deep + b'c') + ask(deep + b'b'),
            deep + b'c: x: unspecified\n' + deep + b'b: x: set\n')
     yield ('stars_under_fold', add(b'*A?' * 150 + b'b x\n') + names(b'x') + ask(path, case=b'i') + ask(path + b'B', case=b'i'),
            path + b': x: unspecified\n' + path + b'B: x: set\n')

@@ -4,7 +4,7 @@
 set -eu
 cd "$(dirname "$0")/.."
 find crates -path '*/out' -prune -o \( -name '*.rt' -o -name '*.antt' \) -type f -exec rattle fmt --check {} + ||
-    { echo 'layout: run `rt fmt` in the folder of each crate that is named above' >&2; exit 1; }
+    { echo 'layout: run `rt fmt` in the directory of each crate that is named above' >&2; exit 1; }
 if grep -rnw --include='*.rt' --exclude-dir=out forget crates; then
     echo 'layout: a value that is forgotten is never freed: drop it, or move it' >&2
     exit 1

@@ -1,7 +1,7 @@
 #!/bin/sh
-# Makes a git repository in a new folder, the same one each time: about a thousand paths in forty folders, some with odd
-# names, and an attributes file in most folders, with macros, quoted and negative patterns and lines that git leaves out.
-# usage: made_repository.sh FOLDER
+# Makes a git repository in a new directory, the same one each time: about a thousand paths in forty directories, some with odd
+# names, and an attributes file in most directories, with macros, quoted and negative patterns and lines that git leaves out.
+# usage: made_repository.sh DIRECTORY
 set -eu
 LC_ALL=C
 export LC_ALL
@@ -10,7 +10,7 @@ cd "$1"
 git init -q .
 git config core.quotePath false
 
-# Reads folders, and prints for each a line for the folder itself and its files, or its attributes file, by numbers that
+# Reads directories, and prints for each a line for the directory itself and its files, or its attributes file, by numbers that
 # only look random.
 cat >.git/made.awk <<'END'
 function below(limit) { seed = (seed * 16807) % 2147483647; return seed % limit }
@@ -67,8 +67,8 @@ END
             echo "$a/$b/" | sed 's:/\./:/:'
         done
     done
-} >.git/folders
-while IFS= read -r folder; do mkdir -p "./$folder"; done <.git/folders
-awk -f .git/made.awk .git/folders
-awk -v files=1 -f .git/made.awk .git/folders | sort -u | tr '\n' '\0' | xargs -0 touch --
+} >.git/directories
+while IFS= read -r directory; do mkdir -p "./$directory"; done <.git/directories
+awk -f .git/made.awk .git/directories
+awk -v files=1 -f .git/made.awk .git/directories | sort -u | tr '\n' '\0' | xargs -0 touch --
 git add -A 2>.git/said || { cat .git/said; exit 1; }

@@ -14,13 +14,13 @@ COUNT = 150
 
 NAMES = ['a', 'b', 'text', 'eol', 'diff', 'm', 'n', 'binary', 'x.y', '_z', 'w-1']
 BYTES = [b'a', b'b', b'c', b'a.c', b'ab', b'A', b'x', b'a b', b'd.txt', b'e-1', b'\xc3\xa9', b'.d', b'q"r', b'B.C', b'1', b'aXb']
-FOLDERS = [b'', b'a', b'b', b'a/b', b'a/b/c', b'x', b'x/a', b'D e']
+DIRECTORIES = [b'', b'a', b'b', b'a/b', b'a/b/c', b'x', b'x/a', b'D e']
 PATTERN_PARTS = [b'*', b'?', b'a', b'b', b'c', b'.', b'ab', b'A', b'[ab]', b'[!ab]', b'[a-c]', b'[[:alpha:]]', b'[^x]',
                  b'x', b'd', b'\\a', b'\\*', b'txt', b'1', b'-', b'[[:digit:]a]', b'[]a]', b'[\\]]', b'e']
 
 
 class Made:
-    """A repository, as folders with attributes files and paths to ask for."""
+    """A repository, as directories with attributes files and paths to ask for."""
 
     def __init__(self, number):
         self.random = random.Random(number)
@@ -31,9 +31,9 @@ class Made:
         self.names = self.random.sample(NAMES, self.random.randint(1, len(NAMES)))
 
     def path(self):
-        folder = self.random.choice(FOLDERS)
+        directory = self.random.choice(DIRECTORIES)
         name = self.random.choice(BYTES)
-        return folder + b'/' + name if folder else name
+        return directory + b'/' + name if directory else name
 
     def pattern(self):
         pick = self.random
@@ -76,12 +76,12 @@ class Made:
         return pick.choice([b'', b'', b' ']) + pattern + blank + items + pick.choice([b'', b'', b'\r', b' '])
 
     def make_files(self):
-        for folder in FOLDERS:
-            if folder and self.random.random() < 0.55:
+        for directory in DIRECTORIES:
+            if directory and self.random.random() < 0.55:
                 continue
-            lines = [self.line(not folder) for _ in range(self.random.randint(1, 9))]
+            lines = [self.line(not directory) for _ in range(self.random.randint(1, 9))]
             end = b'' if self.random.random() < 0.2 else b'\n'
-            self.files[folder + b'/.gitattributes' if folder else b'.gitattributes'] = b'\n'.join(lines) + end
+            self.files[directory + b'/.gitattributes' if directory else b'.gitattributes'] = b'\n'.join(lines) + end
 
     def script(self):
         records = []

@@ -39,10 +39,10 @@ calls global
 wants 0 'f: x: set\n' 'dropped: global:2: attribute-name\n'
 calls missing global missing
 wants 0 'f: x: set\n' 'dropped: global:2: attribute-name\n'
-mkdir folder
-calls folder
+mkdir directory
+calls directory
 wants 0 'f: x: unspecified\n' ''
-calls --lines folder
+calls --lines directory
 wants 0 'f: x: unspecified\n' ''
 ln -s global link
 calls link
@@ -54,7 +54,7 @@ printf '* a =\n\n!x b\n' >in
 calls --lines
 wants 0 '1: a ?\n3! negative\n' ''
 status=0
-"$program" <folder >out 2>errors || status=$?
+"$program" <directory >out 2>errors || status=$?
 wants 1 '' 'check_attr: reading failed\n'
 printf 'names 1\nx\nask l s f 1\nf\n' >in
 if [ -w /dev/full ]; then

@@ -4,8 +4,9 @@
 A clause cites definitions, these cite others, and so on. This script starts at all clauses that a caller sees and
 follows the names. It fails, with a line for each, if
 
-- a public contract reaches a file in `specs/inner/`,
-- no public contract reaches a file of `specs/` outside `specs/inner/`,
+- a public contract reaches a file in `specs/inner/` or `specs/shared/`,
+- no public contract reaches another file of `specs/`,
+- a crate cites a file in `specs/inner/` of another, or no other crate cites a file in `specs/shared/`,
 - docs/READING.md does not list each reached file exactly once, with its lines, or names another file of specs,
 - a file there uses one that is listed after it. Footnotes of tier 1 may stand after what uses them. Tier 1 may also use
   definitions of tier 2 if their row names them, after "tier 1 uses".
@@ -30,6 +31,7 @@ usage: reach.py            checks
        reach.py --names    prints for each file which definitions are reached, and which are not
        reach.py --write    puts the numbers of lines into docs/READING.md
 """
+import glob
 import os
 import re
 import sys
@@ -43,6 +45,9 @@ PARTS = re.compile(r"^(?=## Tier 1\b|### Footnotes\b|## Tier 2\b|## Tier 3\b)", 
 ROW = re.compile(r"^\| (\d*) \| `(crates/[\w/]+\.antt)` \|(.*)\|$", re.M)
 # The members that say what a type contains, and what memory it owns beside its fields.
 CONTENTS = ("Value", "also_owns")
+
+# Files that no public contract reaches: those of one crate, and those that crates share.
+INNER = re.compile(r"/specs/(inner|shared)/")
 
 # A name in a clause or a definition.
 NAME = r"[^\s(){}\[\],;.:=@\"`λ]+"
@@ -82,7 +87,7 @@ class Module:
 
     def __init__(self, path):
         self.path = path
-        self.is_inner = "/specs/inner/" in path
+        self.is_inner = bool(INNER.search(path))
         self.imports = Imports()
         self.text_of = {}
         self.owner_of = {}
@@ -114,9 +119,9 @@ class Specs:
         self.modules = {}
         self.passed_on = {}
         for crate in product_crates():
-            for folder, _, files in os.walk("crates/%s/specs" % crate):
+            for directory, _, files in os.walk("crates/%s/specs" % crate):
                 for file in files:
-                    path = os.path.join(folder, file)
+                    path = os.path.join(directory, file)
                     text = read(path)
                     # Lib.antt and inner.antt only list modules. Some are those of other crates.
                     for target in re.findall(r"^pub use Rattle\.([\w.]+)", text, re.M):
@@ -195,10 +200,10 @@ class Source:
         # Each with the type or function that shows it, a word on where it is, its text and its imports.
         self.contracts = []
         self.scan(0, len(self.text), Imports(), None, None)
-        folder = os.path.dirname(file) if self is self.top else file[:-len(".rt")]
+        directory = os.path.dirname(file) if self is self.top else file[:-len(".rt")]
         for name, (public, target) in list(self.names.items()):
             if target == "mod":
-                path = os.path.join(folder, name + ".rt")
+                path = os.path.join(directory, name + ".rt")
                 self.names[name] = (public, Source(crates, crate, path, self) if os.path.exists(path) else None)
 
     def scan(self, i, end, imports, type_, trait):
@@ -374,7 +379,7 @@ def contents_of_fields(items, with_content):
 
 def faults(specs, cited_by, believed):
     for (module, name), (where, file) in sorted(cited_by.items(), key=lambda pair: in_order(pair[0])):
-        if module.is_inner and "/specs/inner/" not in file:
+        if module.is_inner and not INNER.search(file):
             yield "%s: %s is cited by %s, %s" % (module.path, name, file, where)
     for module in specs.sorted():
         if not module.is_inner and module not in believed:
@@ -395,6 +400,21 @@ def faults(specs, cited_by, believed):
         yield from order_faults(specs, believed, page)
     if page != with_lines(page, believed):
         yield "%s: numbers of lines have changed; tests/reach.py --write puts them right" % READING
+
+
+def crate_faults():
+    """Files in specs/inner that another crate cites, and files in specs/shared that no other crate cites."""
+    alone = {path for crate in product_crates() for path in glob.glob("crates/%s/specs/shared/*.antt" % crate)}
+    for crate in product_crates():
+        files = [file for kind in ("antt", "rt") for file in glob.glob("crates/%s/**/*.%s" % (crate, kind), recursive=True)]
+        for file in (file for file in files if "/out/" not in file):
+            for other, kind, name in re.findall(r"\bRattle\.(\w+)\.specs\.(inner|shared)\.(\w+)", read(file)):
+                if other != crate:
+                    alone.discard("crates/%s/specs/shared/%s.antt" % (other, name))
+                    if kind == "inner":
+                        yield "%s: it cites specs/inner of %s, %s" % (file, other, name)
+    for path in sorted(alone):
+        yield "%s: no other crate cites it" % path
 
 
 def order_faults(specs, believed, page):
@@ -462,12 +482,12 @@ def main(flags):
     elif flags:
         sys.exit("usage: reach.py [--list | --names | --write]")
     else:
-        found = list(faults(specs, cited_by, believed))
+        found = [*crate_faults(), *faults(specs, cited_by, believed)]
         for fault in found:
             print("reach.py: " + fault)
         if found:
             sys.exit(1)
-        print("reach.py: public contracts reach %d files of specs, and none in specs/inner" % len(believed))
+        print("reach.py: public contracts reach %d files of specs, and none in specs/inner or specs/shared" % len(believed))
 
 
 main(sys.argv[1:])

@@ -1,5 +1,5 @@
 #!/bin/sh
-# Packs a release twice, in folders of other names, with a library that is built twice: the bytes have to be the same.
+# Packs a release twice, in directories of other names, with a library that is built twice: the bytes have to be the same.
 # It wants `tools/dist` to refuse what is not proved. Then it tries the release where the kit can't be seen: an empty
 # directory is mounted over it, and PATH has the system's directories alone. tools/prove has to have left out/proved.
 # The release is left in dist/.
@@ -26,8 +26,8 @@ clone() {
 # Packs twice. The second library is built anew, over the crates below that are proved in this tree.
 packs() {
     clone "$room/one"
-    clone "$room/other name/of a deeper folder"
-    cd "$room/other name/of a deeper folder"
+    clone "$room/other name/of a deeper directory"
+    cd "$room/other name/of a deeper directory"
     for crate in "$top"/crates/*/out/rlib; do
         crate=${crate%/out/rlib}
         mkdir -p "crates/${crate##*/}/out"
@@ -37,7 +37,7 @@ packs() {
     quiet tools/archive
     quiet tools/dist
     (cd "$room/one" && quiet tools/dist)
-    diff "$room/one/dist/SHA256SUMS" dist/SHA256SUMS || fail 'two folders give other bytes'
+    diff "$room/one/dist/SHA256SUMS" dist/SHA256SUMS || fail 'two directories give other bytes'
     cd "$room/one/dist"
     quiet sha256sum -c SHA256SUMS
     echo "release: packed twice, with the same bytes: $(wc -l <SHA256SUMS) files"

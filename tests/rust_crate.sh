@@ -2,8 +2,8 @@
 # Builds and tests the Rust packages of clients/rust over the library for C, without a network: with Debian's cargo and rustc, the
 # oldest that the packages are for, and with the cargo that is first on PATH, if it is another one. No warning is let pass. The tests
 # compare with git.
-# usage: rust_crate.sh [FOLDER]
-# FOLDER is one that tools/c-library made. Without it the directory YEKTROD_LIB_DIR has the archive, or the folder is made here, of
+# usage: rust_crate.sh [DIRECTORY]
+# DIRECTORY is one that tools/c-library made. Without it the directory YEKTROD_LIB_DIR has the archive, or the directory is made here, of
 # the library that is built in crates/yektrod. The crate gix-attributes is built of the crates in the directory YEKTROD_CRATES, which
 # tests/gitoxide.sh leaves, or else left out.
 set -eu

@@ -1,7 +1,7 @@
 #!/bin/sh
-# Names global files that the program may not read, by their own mode and by that of their folder, and ones that can't be opened for
+# Names global files that the program may not read, by their own mode and by that of their directory, and ones that can't be opened for
 # another reason: it must say so, and not take them for missing ones. Missing are just those that nothing has the name of, those below
-# a plain file, and folders. Root may read all, so root runs a copy of the program as the user 65534. The program has to be built
+# a plain file, and directories. Root may read all, so root runs a copy of the program as the user 65534. The program has to be built
 # before. Nothing is left out: if the files can be read all the same, the test fails.
 # usage: unreadable.sh [PROGRAM]
 set -eu
@@ -51,11 +51,11 @@ for file in unreadable closed/file; do
     grep -q 'Permission denied' errors || fails "$file cannot be read for another reason"
 done
 wants 0 'f: x: set\n' '' readable
-mkdir folder
+mkdir directory
 ln -s loop loop
 ln -s missing link
 long=$(printf '%5000s' '' | tr ' ' a)
-for file in missing folder/missing readable/below folder link; do
+for file in missing directory/missing readable/below directory link; do
     wants 0 'f: x: unspecified\n' '' $file
     wants 0 'f: x: set\n' '' readable $file
 done

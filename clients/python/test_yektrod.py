@@ -1,4 +1,4 @@
-"""Tests of yektrod.py. With folders as arguments it plays their scripts too, and compares with the answers beside them."""
+"""Tests of yektrod.py. With directories as arguments it plays their scripts too, and compares with the answers beside them."""
 from __future__ import annotations
 
 import os
@@ -94,7 +94,7 @@ class Calls(unittest.TestCase):
     def test_version(self) -> None:
         self.assertEqual(len(version()), 3)
 
-    def test_case_and_folders(self) -> None:
+    def test_case_and_directories(self) -> None:
         with Engine() as engine:
             engine.add(b'A.c x\nd/ y\n', 'f', None)
             self.assertEqual([len(engine.ask('a.c', fold=fold)) for fold in (False, True)], [0, 1])
@@ -162,23 +162,23 @@ class Script:
             self.out.append(mark.join([path, it.name.encode(), state]) + place + end)
 
 
-def played(folder: str) -> Iterator[tuple[str, str]]:
-    """The scripts of a folder, each with its answers."""
-    if os.path.exists(os.path.join(folder, 'manifest')):
-        for row in open(os.path.join(folder, 'manifest')):
+def played(directory: str) -> Iterator[tuple[str, str]]:
+    """The scripts of a directory, each with its answers."""
+    if os.path.exists(os.path.join(directory, 'manifest')):
+        for row in open(os.path.join(directory, 'manifest')):
             kind, row_name = row.split()[:2]
             if kind == 'script':
-                yield os.path.join(folder, row_name + '.in'), os.path.join(folder, row_name + '.out')
+                yield os.path.join(directory, row_name + '.in'), os.path.join(directory, row_name + '.out')
     else:
-        for file in sorted(os.listdir(folder)):
+        for file in sorted(os.listdir(directory)):
             if file.endswith('.script'):
-                yield os.path.join(folder, file), os.path.join(folder, file[:-6] + 'answers')
+                yield os.path.join(directory, file), os.path.join(directory, file[:-6] + 'answers')
 
 
-def compare(folders: list[str]) -> None:
+def compare(directories: list[str]) -> None:
     count = 0
-    for folder in folders:
-        for script, answers in played(folder):
+    for directory in directories:
+        for script, answers in played(directory):
             text, wanted = open(script, 'rb').read(), open(answers, 'rb').read()
             if Script(text).play() != wanted or run(text) != wanted:
                 sys.exit(f'test_yektrod: {script} gives other answers')

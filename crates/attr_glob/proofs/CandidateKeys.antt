@@ -2,18 +2,18 @@
 use Rattle.std.proofs.Common.{◌≡◌, ℕ, zero, suc, List, [], ◌∷◌, refl, ap, ◌∙◌, map}
 use Rattle.std.specs.Prelude.{is_none, slice_get}
 use Rattle.attr_keys.specs.declared.key.Subject.TheVariants.{Name}
-use Rattle.attr_keys.specs.inner.Candidates.{candidate_of}
-use Rattle.attr_keys.specs.inner.LineKeys.{candidate_content}
+use Rattle.attr_keys.specs.shared.Candidates.{candidate_of}
+use Rattle.attr_keys.specs.shared.LineKeys.{candidate_content}
 use Rattle.attr_keys.proofs.ForCallers.{candidate_of_line}
-use Rattle.attr_keys.specs.inner.KeyContents.{KeyContent}
-use Rattle.attr_keys.specs.inner.Meeting.{content_met, content_met_at}
-use Rattle.attr_keys.specs.inner.Rows.{has_row, IsFalling}
+use Rattle.attr_keys.specs.shared.KeyContents.{KeyContent}
+use Rattle.attr_keys.specs.shared.Meeting.{content_met, content_met_at}
+use Rattle.attr_keys.specs.shared.Rows.{has_row, IsFalling}
 use Rattle.attr_wildmatch.specs.declared.case.Case.{Case}
 use Rattle.attr_glob.specs.Candidates.{has_macro_mode, matches_base_name, is_candidate, candidates}
 use Rattle.attr_glob.specs.Patterns.{Reading, has_flag, ends_with}
 use Rattle.attr_glob.specs.declared.pattern.Pattern.{Pattern}
 use Rattle.attr_glob.specs.Views.{pattern_view}
-use Rattle.attr_glob.specs.inner.LineShapes.{folds, key_of_pattern, shape_reading}
+use Rattle.attr_glob.specs.shared.LineShapes.{folds, key_of_pattern, shape_reading}
 use Rattle.attr_wildmatch.proofs.ForCallers.{by_test}
 use Rattle.attr_glob.proofs.FallingPlaces.{falling_places, passes}
 use Rattle.attr_glob.proofs.KeyTexts.{whole_met, end_met}

@@ -6,7 +6,7 @@ use Rattle.std.specs.Prelude.{slice_get}
 use Rattle.std.proofs.lemmas.Bool.{eqb-true}
 use Rattle.std.proofs.lemmas.Bool.Decides.{nat_tests}
 use Rattle.std.proofs.lemmas.List.{length-reverse, reverse-reverse}
-use Rattle.attr_keys.specs.inner.Rows.{has_row, IsFalling}
+use Rattle.attr_keys.specs.shared.Rows.{has_row, IsFalling}
 use Rattle.attr_glob.specs.Candidates.{places_where}
 use Rattle.attr_wildmatch.proofs.ForCallers.{by_test, reverse-cons}
 

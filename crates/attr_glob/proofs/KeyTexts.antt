@@ -9,15 +9,15 @@ use Rattle.std.proofs.lemmas.Bool.Decides.{nat_tests}
 use Rattle.std.proofs.lemmas.List.{length-reverse, length-drop, reverse-append, reverse-reverse, take-append-drop}
 use Rattle.attr_keys.specs.declared.key.Subject.{Subject}
 use Rattle.attr_keys.specs.declared.key.Subject.TheVariants.{End}
-use Rattle.attr_keys.specs.inner.Codes.{byte_code}
-use Rattle.attr_keys.specs.inner.LineKeys.{whole_text, reversed_end}
-use Rattle.attr_keys.specs.inner.KeyContents.{KeyContent}
-use Rattle.attr_keys.specs.inner.Meeting.{has_content}
+use Rattle.attr_keys.specs.shared.Codes.{byte_code}
+use Rattle.attr_keys.specs.shared.LineKeys.{whole_text, reversed_end}
+use Rattle.attr_keys.specs.shared.KeyContents.{KeyContent}
+use Rattle.attr_keys.specs.shared.Meeting.{has_content}
 use Rattle.attr_wildmatch.specs.declared.case.Case.{Case}
 use Rattle.attr_wildmatch.specs.declared.case.Case.TheVariants.{Sensitive, Fold}
 use Rattle.attr_glob.specs.Folding.{folded, same_text}
 use Rattle.attr_wildmatch.specs.Matching.{same_byte}
-use Rattle.attr_glob.specs.inner.LineShapes.{folds}
+use Rattle.attr_glob.specs.shared.LineShapes.{folds}
 use Rattle.attr_wildmatch.proofs.ForCallers.{reverse-cons, same_answer}
 use Rattle.attr_glob.proofs.MatchingLines.{length-folded, drop-folded}
 

@@ -11,3 +11,4 @@ pub mod Folding
 pub mod Indexed
 pub mod Clones
 pub mod inner
+pub mod shared

@@ -19,10 +19,10 @@ use Rattle.attr_lists.specs.ListViews.{Entry, SameValue, entry_view, entries_vie
 use Rattle.attr_lists.specs.Numbers.{numbered, numbered_lines}
 use Rattle.attr_index.specs.ListView.{list_view}
 use Rattle.attr_index.specs.declared.indexed_line.IndexedLine.{IndexedLine}
-use Rattle.attr_index.specs.inner.LineIndexes.{NumberedPattern, indexed_keys, indexed_line, indexed_lines, listed_lines}
-use Rattle.attr_glob.specs.inner.LineShapes.{key_of_line, key_of_pattern}
-use Rattle.attr_index.specs.inner.PlacedLines.{entry_at, no_entry}
-use Rattle.attr_index.specs.inner.ReadLines.{IsRead, AreRead}
+use Rattle.attr_index.specs.shared.LineIndexes.{NumberedPattern, indexed_keys, indexed_line, indexed_lines, listed_lines}
+use Rattle.attr_glob.specs.shared.LineShapes.{key_of_line, key_of_pattern}
+use Rattle.attr_index.specs.shared.PlacedLines.{entry_at, no_entry}
+use Rattle.attr_index.specs.shared.ReadLines.{IsRead, AreRead}
 
 map_map : {X Y Z : Type 0} (g : Y → Z) (f : X → Y) (xs : List X) → map g (map f xs) ≡ map (λ x. g (f x)) xs
 map_map g f [] = refl

@@ -1,6 +1,6 @@
 pub mod CompareLemmas
 pub mod IndexedListLemmas
-pub mod FolderLemmas
+pub mod DirectoryLemmas
 pub mod KeyedLemmas
 pub mod PlacedLemmas
 pub mod TryingLemmas

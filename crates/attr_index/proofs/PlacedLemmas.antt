@@ -13,8 +13,8 @@ use Rattle.attr_glob.specs.Patterns.{Reading, reading, has_flag, negative, must_
 use Rattle.attr_glob.specs.Views.{pattern_view, patterns_of}
 use Rattle.attr_lists.specs.declared.types.Value.{Value}
 use Rattle.attr_lists.specs.ListViews.{Entry, entry_view, entries_view}
-use Rattle.attr_index.specs.inner.PlacedLines.{no_entry, entry_at}
-use Rattle.attr_index.specs.inner.ReadLines.{AreRead}
+use Rattle.attr_index.specs.shared.PlacedLines.{no_entry, entry_at}
+use Rattle.attr_index.specs.shared.ReadLines.{AreRead}
 
 -- the patterns of a list are those of its lines
 pub lines_patterns : (ms : List (Mapping Value)) → patterns_of ms ≡ map (λ entry. entry.pattern) (entries_view ms)

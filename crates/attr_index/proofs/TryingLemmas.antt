@@ -5,10 +5,10 @@ use Rattle.std.proofs.Common.{cond, Result, Ok, Err, OnOk}
 use Rattle.std.specs.Prelude.{is_none, slice_get}
 use Rattle.std.specs.List.{list_all, starts_with}
 use Rattle.attr_keys.specs.declared.key.Subject.TheVariants.{Name, Path}
-use Rattle.attr_keys.specs.inner.LineKeys.{prefix_of}
-use Rattle.attr_keys.specs.inner.KeyContents.{KeyContent}
-use Rattle.attr_keys.specs.inner.Meeting.{content_met, content_met_at}
-use Rattle.attr_keys.specs.inner.Rows.{has_row, IsFalling}
+use Rattle.attr_keys.specs.shared.LineKeys.{prefix_of}
+use Rattle.attr_keys.specs.shared.KeyContents.{KeyContent}
+use Rattle.attr_keys.specs.shared.Meeting.{content_met, content_met_at}
+use Rattle.attr_keys.specs.shared.Rows.{has_row, IsFalling}
 use Rattle.attr_wildmatch.specs.declared.case.Case.{Case}
 use Rattle.attr_glob.specs.BaseNames.{base_name}
 use Rattle.attr_glob.specs.Candidates.{has_macro_mode, matches_base_name, is_candidate}
@@ -16,13 +16,13 @@ use Rattle.attr_wildmatch.specs.Deciding.{text_matches}
 use Rattle.attr_wildmatch.specs.Matching.{same_byte}
 use Rattle.attr_glob.specs.Paths.{matched_part, is_directory, path_matches}
 use Rattle.attr_glob.specs.Patterns.{Reading, reading, has_flag, is_wildcard, must_be_dir, ends_with}
-use Rattle.attr_glob.specs.inner.LineShapes.{folds, is_tried}
+use Rattle.attr_glob.specs.shared.LineShapes.{folds, is_tried}
 use Rattle.attr_glob.proofs.ForCallers.{matching_line_is_candidate, reading-wildcard, no_wildcard, text_matches-literal}
 use Rattle.attr_wildmatch.proofs.ForCallers.{by_test, and_parts}
 use Rattle.attr_glob.proofs.ForCallers.{text_matches-front}
 use Rattle.attr_glob.proofs.ForCallers.{whole_met, front_met, end_met, bytewise, falling_places, passes}
-use Rattle.attr_glob.specs.inner.LineShapes.{key_of_line}
-use Rattle.attr_index.specs.inner.Trying.{AreTried}
+use Rattle.attr_glob.specs.shared.LineShapes.{key_of_line}
+use Rattle.attr_index.specs.shared.Trying.{AreTried}
 
 -- a line that is tried is a candidate
 tried_is_candidate : (case : Case) (path : List ℕ) (line : Reading) → is_tried case path line ≡ true → is_candidate case (base_name path) line ≡ true

@@ -2,13 +2,8 @@
 -- believed.
 pub mod BaseKeys
 pub mod Counting
-pub mod FolderKeys
-pub mod FoundLists
+pub mod DirectoryKeys
 pub mod FrontHashers
 pub mod KeyLinks
-pub mod LineIndexes
 pub mod LineTokens
 pub mod NumbersView
-pub mod PlacedLines
-pub mod ReadLines
-pub mod Trying

@@ -66,7 +66,7 @@ fn boxed(alloc: Global, tokens: Option<Tokens>) -> Result<Option<Box<Tokens>>, A
 }
 
 impl Keyed for IndexedLine {
-    ghost use Rattle.attr_glob.specs.inner.LineShapes.{key_of_pattern};
+    ghost use Rattle.attr_glob.specs.shared.LineShapes.{key_of_pattern};
 
     ghost content = { λ line. key_of_pattern line.pattern };
 

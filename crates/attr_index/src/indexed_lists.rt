@@ -1,19 +1,19 @@
-//! The lists of a search, found by the folders below which they apply.
+//! The lists of a search, found by the directories below which they apply.
 
 ghost use Rattle.std.specs.Prelude.{◌≡◌, ◌≢◌, ◌↔◌, ◌<◌, ◌≤◌, ℕ, List, Contains, [], ◌∷◌, ◌++◌, IfSome, IfNone, IfOk, OnOk, IsTrue, length, map, nat_eq, vec_capacity, vec_len};
 ghost use Rattle.std.specs.List.{IsDistinct};
 ghost use Rattle.attr_glob.specs.Views.{base_bytes};
 ghost use Rattle.attr_index.specs.inner.BaseKeys.{base_keys, longest_base};
-ghost use Rattle.attr_index.specs.inner.FolderKeys.{GathersFolders, IncludesNumbersOf, base_len, text_key};
+ghost use Rattle.attr_index.specs.inner.DirectoryKeys.{GathersDirectories, IncludesNumbersOf, base_len, text_key};
 ghost use Rattle.attr_index.specs.IndexedLists.{listed_view, list_ids_of};
 
-use crate::folder_keys::{FrontHasher, fold_into, text_key};
+use crate::directory_keys::{FrontHasher, fold_into, text_key};
 use crate::indexed_list::IndexedList;
 use crate::numbers_by_key::NumbersByKey;
 use std::alloc::{AllocError, Global};
 
 // The numbers of lists that are so few that all are searched: to compare their bases with a path costs less than the keys of
-// its folders.
+// its directories.
 const FEW: &[usize] = &[0, 1, 2, 3];
 
 /// The lists of a search, the last of which takes precedence. They compare as the lists.
@@ -24,7 +24,7 @@ pub struct IndexedLists {
     /// The numbers of the lists, by the keys of their bases.
     #[derive_where(skip)]
     pub numbers: NumbersByKey,
-    /// The numbers of the lists with the key of the root folder, below which all paths are.
+    /// The numbers of the lists with the key of the root directory, below which all paths are.
     #[derive_where(skip)]
     pub roots: Vec<usize>,
     /// The numbers of the lists, by their list ids.
@@ -53,7 +53,7 @@ impl Drop for IndexedLists {
 }
 
 impl IndexedLists {
-    ghost use Rattle.attr_index.specs.inner.FoundLists.{HasListRoom, AreListsFor};
+    ghost use Rattle.attr_index.specs.shared.FoundLists.{HasListRoom, AreListsFor};
     ghost use Rattle.attr_index.specs.IndexedLists.{listed_view, list_ids_of};
 
     /// No lists. It takes no memory.
@@ -172,9 +172,9 @@ impl IndexedLists {
         Ok(())
     }
 
-    // Appends the numbers of the lists whose key the root folder has, or a folder in front of the text.
+    // Appends the numbers of the lists whose key the root directory has, or a directory in front of the text.
     fn gather(&self, text: &[u8], numbers: &mut Vec<usize>) -> Result<(), AllocError>
-        ensures { OnOk result (GathersFolders self.now.numbers.keys text.now (length text.now)
+        ensures { OnOk result (GathersDirectories self.now.numbers.keys text.now (length text.now)
             numbers.new.items) }
     {
         numbers.extend_from_slice(&self.roots)?;
@@ -188,7 +188,7 @@ impl IndexedLists {
     }
 }
 
-// Appends the number of a list with this key if it is that of the root folder. There is room for it.
+// Appends the number of a list with this key if it is that of the root directory. There is room for it.
 fn push_root(roots: &mut Vec<usize>, key: u64, number: usize)
     requires { vec_len roots.old < vec_capacity roots.old }
     ensures kept { (other : ℕ) → Contains roots.old.items other → Contains roots.new.items other }

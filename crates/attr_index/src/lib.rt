@@ -2,7 +2,7 @@
 //! matched against (own: it changes no answer).
 #![tactic(auto)]
 
-mod folder_keys;
+mod directory_keys;
 pub mod indexed_line;
 pub mod indexed_list;
 pub mod indexed_lists;

@@ -1,8 +1,8 @@
 //! What is made of a list's lines once, for searches and for answers.
 
 ghost use Rattle.std.specs.Prelude.{◌≡◌, IfOk, option_map, string_bytes};
-ghost use Rattle.attr_index.specs.inner.LineIndexes.{indexed_keys, indexed_lines, listed_lines};
-ghost use Rattle.attr_keys.specs.inner.KeyIndexes.{IsKeyIndex};
+ghost use Rattle.attr_index.specs.shared.LineIndexes.{indexed_keys, indexed_lines, listed_lines};
+ghost use Rattle.attr_keys.specs.shared.KeyIndexes.{IsKeyIndex};
 
 use crate::indexed_line::IndexedLine;
 use attr_glob::search::pattern::{List, Mapping};

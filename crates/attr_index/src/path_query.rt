@@ -5,7 +5,7 @@ ghost use Rattle.bstr.specs.BStr.{bstr_bytes};
 ghost use Rattle.attr_glob.specs.BaseNames.{base_name_place};
 ghost use Rattle.attr_glob.specs.Bases.{rest_below};
 ghost use Rattle.attr_glob.specs.Views.{base_bytes};
-ghost use Rattle.attr_glob.specs.inner.LineShapes.{folds};
+ghost use Rattle.attr_glob.specs.shared.LineShapes.{folds};
 
 use attr_glob::pattern::{Case, base_name_place};
 use attr_glob::search::pattern::List;
@@ -21,13 +21,13 @@ pub struct PathQuery<'a> {
     pub name_place: Option<usize>,
     /// Whether the case of ASCII letters matters.
     pub case: Case,
-    /// Whether the path is a folder, if that is known.
+    /// Whether the path is a directory, if that is known.
     pub is_dir: Option<bool>,
     ghost placed: { name_place ≡ base_name_place (bstr_bytes path) },
 }
 
 impl<'a> PathQuery<'a> {
-    /// A query for a path without a leading slash. `is_dir` is whether it is a folder, if that is known.
+    /// A query for a path without a leading slash. `is_dir` is whether it is a directory, if that is known.
     pub fn new(path: BStr<'a>, case: Case, is_dir: Option<bool>) -> PathQuery<'a>
         ensures path { bstr_bytes result.path ≡ bstr_bytes path.entry }
         ensures case { result.case ≡ case }

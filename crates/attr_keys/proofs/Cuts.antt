@@ -9,9 +9,9 @@ use Rattle.std.specs.List.{starts_with}
 use Rattle.std.specs.Ordering.{nat_cmp}
 use Rattle.std.proofs.lemmas.Bool.Decides.{nat_tests}
 use Rattle.attr_keys.specs.inner.Cases.{in_case}
-use Rattle.attr_keys.specs.inner.Codes.{codes_of}
-use Rattle.attr_keys.specs.inner.Meeting.{directed}
-use Rattle.attr_keys.specs.inner.Rows.{IsCommon}
+use Rattle.attr_keys.specs.shared.Codes.{codes_of}
+use Rattle.attr_keys.specs.shared.Meeting.{directed}
+use Rattle.attr_keys.specs.shared.Rows.{IsCommon}
 use Rattle.attr_keys.proofs.Parts.{no_end, shifted}
 use Rattle.attr_keys.proofs.RowLemmas.{by_test}
 use Rattle.attr_keys.proofs.SeenTexts.{codes_in_case, directed_in_case, directed_twice, length-directed, length-in_case}

@@ -1,7 +1,7 @@
 -- What the crates above may rest on, beside the contracts.
 use Rattle.std.proofs.Common.{◌≡◌, ℕ, Bool, true, false, ◌==◌, List, Option, None, Some, refl}
-use Rattle.attr_keys.specs.inner.Candidates.{candidate_of}
-use Rattle.attr_keys.specs.inner.LineKeys.{ShapeContent, candidate_content, line_content}
+use Rattle.attr_keys.specs.shared.Candidates.{candidate_of}
+use Rattle.attr_keys.specs.shared.LineKeys.{ShapeContent, candidate_content, line_content}
 use Rattle.attr_keys.proofs.RowLemmas.{by_test}
 
 -- what base names alone can tell of a line's key

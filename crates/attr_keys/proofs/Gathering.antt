@@ -12,14 +12,14 @@ use Rattle.attr_keys.specs.declared.key.Subject.{Subject}
 use Rattle.attr_keys.specs.declared.key.Subject.TheVariants.{Name, End, Path, Anything, Nothing}
 use Rattle.attr_keys.specs.declared.key_index.SubjectRows.{SubjectRows}
 use Rattle.attr_keys.specs.declared.kinds.Kind.TheVariants as kind
-use Rattle.attr_keys.specs.inner.KeyContents.{KeyContent}
+use Rattle.attr_keys.specs.shared.KeyContents.{KeyContent}
 use Rattle.attr_keys.specs.inner.Cases.{content_in_case, in_case, keys_seen, seen, seen_keys}
 use Rattle.attr_keys.specs.inner.Extensions.{dot_byte, is_hashed, is_reversed_extension}
 use Rattle.attr_keys.specs.inner.Hashes.{hashed_rows}
 use Rattle.attr_keys.specs.inner.Kinds.{is_of, kind_by, same_kind}
-use Rattle.attr_keys.specs.inner.Meeting.{directed, is_about, is_end, is_whole_row, same_subject, text_has}
+use Rattle.attr_keys.specs.shared.Meeting.{directed, is_about, is_end, is_whole_row, same_subject, text_has}
 use Rattle.attr_keys.specs.inner.Orders.{AreFindable, AreSubjectRows, has_subject_row, has_unless_other}
-use Rattle.attr_keys.specs.inner.Rows.{has_row}
+use Rattle.attr_keys.specs.shared.Rows.{has_row}
 use Rattle.attr_keys.proofs.RowLemmas.{by_test, or_none}
 use Rattle.attr_keys.proofs.SeenTexts.{directed_twice}
 

@@ -8,13 +8,13 @@ use Rattle.std.specs.List.Sorted.{IsPermutation}
 use Rattle.std.proofs.lemmas.List.Sorted.{IsPermutation-map, list_any-IsPermutation}
 use Rattle.std.proofs.lemmas.Bool.{eqb-true}
 use Rattle.std.proofs.lemmas.Bool.Decides.{nat_tests}
-use Rattle.attr_keys.specs.inner.KeyContents.{KeyContent}
+use Rattle.attr_keys.specs.shared.KeyContents.{KeyContent}
 use Rattle.attr_keys.specs.declared.hashed.HashedRow.{HashedRow}
-use Rattle.attr_keys.specs.inner.Codes.{codes_of, key_codes, row_codes}
+use Rattle.attr_keys.specs.shared.Codes.{codes_of, key_codes, row_codes}
 use Rattle.attr_keys.specs.inner.Extensions.{is_hashed, is_reversed_extension}
-use Rattle.attr_keys.specs.inner.Meeting.{directed}
+use Rattle.attr_keys.specs.shared.Meeting.{directed}
 use Rattle.attr_keys.specs.inner.Hashes.{AreAmong, IsHashOfKey, hash_of_row, hashed_part, hashed_rows, quick_hash, rows_of_hash, key_text}
-use Rattle.attr_keys.specs.inner.Rows.{has_row}
+use Rattle.attr_keys.specs.shared.Rows.{has_row}
 use Rattle.attr_keys.proofs.Cuts.{begin_below}
 use Rattle.attr_keys.proofs.ExtensionTexts.{extension_of_begun}
 use Rattle.attr_keys.proofs.Parts.{no_byte, no_end, shifted}

@@ -13,9 +13,9 @@ use Rattle.std.proofs.lemmas.Bool.Decides.{nat_tests}
 use Rattle.std.proofs.lemmas.List.{get_or-drop, get_or_push, length-append, length-drop}
 use Rattle.std.proofs.lemmas.List.Folds.{list_any-append}
 use Rattle.std.proofs.lemmas.List.Sorted.{ranks_by, sorted_far}
-use Rattle.attr_keys.specs.inner.KeyContents.{KeyContent}
-use Rattle.attr_keys.specs.inner.Codes.{codes_of, row_codes}
-use Rattle.attr_keys.specs.inner.Rows.{AreInOrder, AreLinks, IsCommon, IsLink, has_row, is_up_to}
+use Rattle.attr_keys.specs.shared.KeyContents.{KeyContent}
+use Rattle.attr_keys.specs.shared.Codes.{codes_of, row_codes}
+use Rattle.attr_keys.specs.shared.Rows.{AreInOrder, AreLinks, IsCommon, IsLink, has_row, is_up_to}
 use Rattle.attr_keys.proofs.RowLemmas.{and_none, by_test}
 
 itself : (a : ℕ) → nat_cmp a a ≡ nat_cmp 0 0

@@ -11,16 +11,16 @@ use Rattle.std.proofs.lemmas.List.Folds.{list_any-append}
 use Rattle.attr_keys.specs.declared.key.Key.{Key}
 use Rattle.attr_keys.specs.declared.key.Subject.{Subject}
 use Rattle.attr_keys.specs.declared.key.Subject.TheVariants.{Name, End, Path, Anything, Nothing}
-use Rattle.attr_keys.specs.inner.KeyContents.{KeyContent}
-use Rattle.attr_keys.specs.inner.Codes.{codes_of}
+use Rattle.attr_keys.specs.shared.KeyContents.{KeyContent}
+use Rattle.attr_keys.specs.shared.Codes.{codes_of}
 use Rattle.attr_keys.specs.inner.Cases.{in_case, content_in_case}
 use Rattle.attr_keys.specs.declared.kinds.Kind.{Kind}
 use Rattle.attr_keys.specs.inner.Kinds.{is_of, kind_of, rows_with, same_kind}
-use Rattle.attr_keys.specs.inner.Meeting.{directed, is_end, same_subject, is_about, has_content, key_content, content_met_at, content_met_by}
-use Rattle.attr_keys.specs.inner.Candidates.{candidate_by, candidate_of}
-use Rattle.attr_keys.specs.inner.LineKeys.{no_text}
+use Rattle.attr_keys.specs.shared.Meeting.{directed, is_end, same_subject, is_about, has_content, key_content, content_met_at, content_met_by}
+use Rattle.attr_keys.specs.shared.Candidates.{candidate_by, candidate_of}
+use Rattle.attr_keys.specs.shared.LineKeys.{no_text}
 use Rattle.attr_keys.specs.inner.Orders.{gathered, may_have}
-use Rattle.attr_keys.specs.inner.Rows.{has_row}
+use Rattle.attr_keys.specs.shared.Rows.{has_row}
 use Rattle.attr_keys.proofs.SeenTexts.{codes_in_case, directed_in_case}
 use Rattle.attr_keys.proofs.RowLemmas.{by_test, or_none}
 

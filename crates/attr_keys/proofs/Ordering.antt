@@ -10,9 +10,9 @@ use Rattle.std.specs.Ordering.{nat_cmp, is_lt}
 use Rattle.std.specs.declared.cmp.Ordering.{Ordering}
 use Rattle.std.proofs.lemmas.Fn.{always_returns_same}
 use Rattle.std.proofs.lemmas.List.Sorted.{list_any-IsPermutation, ranks_by}
-use Rattle.attr_keys.specs.inner.KeyContents.{KeyContent}
-use Rattle.attr_keys.specs.inner.Codes.{row_codes}
-use Rattle.attr_keys.specs.inner.Rows.{has_row, AreInOrder}
+use Rattle.attr_keys.specs.shared.KeyContents.{KeyContent}
+use Rattle.attr_keys.specs.shared.Codes.{row_codes}
+use Rattle.attr_keys.specs.shared.Rows.{has_row, AreInOrder}
 
 pub same_rows : (before after : List ℕ) (row : ℕ) → IsPermutation before after → has_row after row ≡ has_row before row
 same_rows before after row moved = sym (list_any-IsPermutation (λ r. eqb r row) before after moved)

@@ -9,8 +9,8 @@ use Rattle.std.specs.declared.cmp.Ordering.TheVariants.{Less, Equal, Greater}
 use Rattle.std.proofs.lemmas.Bool.Decides.{nat_tests}
 use Rattle.attr_keys.specs.declared.key.View.{View}
 use Rattle.attr_keys.specs.inner.Cases.{in_case, seen_text}
-use Rattle.attr_keys.specs.inner.Codes.{codes_of}
-use Rattle.attr_keys.specs.inner.Meeting.{directed}
+use Rattle.attr_keys.specs.shared.Codes.{codes_of}
+use Rattle.attr_keys.specs.shared.Meeting.{directed}
 use Rattle.attr_keys.proofs.SeenTexts.{codes_in_case, length-directed, length-in_case}
 
 end_below : (b : ℕ) → nat_cmp 1 (b + 2) ≡ Less

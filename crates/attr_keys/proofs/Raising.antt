@@ -13,9 +13,9 @@ use Rattle.std.proofs.lemmas.List.Sorted.{All-permutation, length_permutation, l
 use Rattle.std.proofs.lemmas.Bool.{eqb-true, eqb-false}
 use Rattle.std.proofs.lemmas.Map.Text.{is_eq-slice_cmp}
 use Rattle.std.proofs.Math.ListN.{get_or-map}
-use Rattle.attr_keys.specs.inner.KeyContents.{KeyContent}
-use Rattle.attr_keys.specs.inner.Codes.{row_codes}
-use Rattle.attr_keys.specs.inner.Rows.{AreInOrder, IsMovedWithin, has_row}
+use Rattle.attr_keys.specs.shared.KeyContents.{KeyContent}
+use Rattle.attr_keys.specs.shared.Codes.{row_codes}
+use Rattle.attr_keys.specs.shared.Rows.{AreInOrder, IsMovedWithin, has_row}
 use Rattle.attr_keys.proofs.RowLemmas.{by_test}
 
 -- the keys of the rows from start up to end are equal

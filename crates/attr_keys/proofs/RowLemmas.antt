@@ -5,7 +5,7 @@ use Rattle.std.specs.List.{dedup, dedup_from}
 use Rattle.std.specs.List.Sorted.{IsStrictlyIncreasing}
 use Rattle.std.proofs.lemmas.Bool.{eqb-true}
 use Rattle.std.proofs.lemmas.List.{length-reverse, get_or-reverse}
-use Rattle.attr_keys.specs.inner.Rows.{has_row, IsFalling}
+use Rattle.attr_keys.specs.shared.Rows.{has_row, IsFalling}
 
 pub by_test : {G : Type 0} (b : Bool) → (b ≡ true → G) → (b ≡ false → G) → G
 by_test true t f = t refl

@@ -5,11 +5,11 @@ use Rattle.std.specs.Char.{to_ascii_lowercase}
 use Rattle.std.specs.Prelude.{option_map, slice_get}
 use Rattle.std.proofs.lemmas.List.{length-map, length-reverse, reverse-append, reverse-reverse}
 use Rattle.attr_keys.specs.declared.key.Key.{Key}
-use Rattle.attr_keys.specs.inner.KeyContents.{KeyContent}
+use Rattle.attr_keys.specs.shared.KeyContents.{KeyContent}
 use Rattle.attr_keys.specs.inner.Cases.{content_in_case, in_case, natural, seen, seen_keys, text_standing}
 use Rattle.attr_keys.specs.inner.Hashes.{text_of_row}
-use Rattle.attr_keys.specs.inner.Codes.{byte_code, codes_of, key_codes, row_codes}
-use Rattle.attr_keys.specs.inner.Meeting.{directed, is_end, is_whole_row, key_content}
+use Rattle.attr_keys.specs.shared.Codes.{byte_code, codes_of, key_codes, row_codes}
+use Rattle.attr_keys.specs.shared.Meeting.{directed, is_end, is_whole_row, key_content}
 
 pub codes_in_case : (fold : Bool) (text : List ℕ) (is_whole : Bool) → codes_of false (in_case fold text) is_whole ≡ codes_of fold text is_whole
 codes_in_case false text is_whole = refl

@@ -4,8 +4,8 @@ ghost use Rattle.std.specs.Prelude.{◌≡◌, ◌<◌, ◌&&◌, ◌||◌, ℕ,
 ghost use Rattle.attr_keys.specs.inner.Cases.{in_case, keys_seen};
 ghost use Rattle.attr_keys.specs.inner.Extensions.{extension, is_hashed, is_reversed_extension};
 ghost use Rattle.attr_keys.specs.inner.Hashes.{AreAmong, IsHashOfKey, hash_of_row, hashed_part, hashed_rows, quick_hash, rows_of_hash};
-ghost use Rattle.attr_keys.specs.inner.Meeting.{directed, text_has};
-ghost use Rattle.attr_keys.specs.inner.Rows.{has_row};
+ghost use Rattle.attr_keys.specs.shared.Meeting.{directed, text_has};
+ghost use Rattle.attr_keys.specs.shared.Rows.{has_row};
 
 use crate::hashed::{HashedRow, HashedRows, quick_hash};
 use crate::key::{Keyed, Keys, has_row_key, row_text};
@@ -72,8 +72,8 @@ fn row_hashes<K: Keyed>(
     rows: &[usize],
 ) -> Result<Vec<HashedRow>, AllocError>
     ensures rows { IfOk result (λ hashed. hashed_rows hashed.items ≡ rows.now) }
-    ensures hashes { IfOk result (λ hashed. All (λ h. h.hash
-        ≡ hash_of_row keys.entry.view.from_end (keys_seen K.content keys.entry) h.row) hashed.items) }
+    ensures hashes { IfOk result (λ hashed. All (λ h. h.hash ≡ hash_of_row
+        keys.entry.view.from_end (keys_seen K.content keys.entry) h.row) hashed.items) }
 {
     let mut hashed = Vec::with_capacity(alloc, rows.len())?;
     let mut buffer = Vec::new(alloc);

@@ -7,10 +7,10 @@ ghost use Rattle.std.specs.Bool.{OnFalse};
 ghost use Rattle.std.specs.List.{starts_with};
 ghost use Rattle.std.specs.Ordering.{nat_cmp};
 ghost use Rattle.attr_keys.specs.inner.Cases.{byte_in_case, in_case, keys_seen, seen_keys, seen_text, text_standing};
-ghost use Rattle.attr_keys.specs.inner.Codes.{codes_of, row_codes};
+ghost use Rattle.attr_keys.specs.shared.Codes.{codes_of, row_codes};
 ghost use Rattle.attr_keys.specs.inner.Hashes.{text_of_row};
-ghost use Rattle.attr_keys.specs.inner.Meeting.{directed, is_whole_row, text_has};
-ghost use Rattle.attr_keys.specs.inner.Rows.{IsCommon, is_up_to};
+ghost use Rattle.attr_keys.specs.shared.Meeting.{directed, is_whole_row, text_has};
+ghost use Rattle.attr_keys.specs.shared.Rows.{IsCommon, is_up_to};
 
 use std::cmp::Ordering;
 
@@ -43,8 +43,8 @@ pub struct Key<'a> {
 
 /// A line, by its key.
 pub trait Keyed {
-    ghost use Rattle.attr_keys.specs.inner.KeyContents.{KeyContent};
-    ghost use Rattle.attr_keys.specs.inner.Meeting.{key_content};
+    ghost use Rattle.attr_keys.specs.shared.KeyContents.{KeyContent};
+    ghost use Rattle.attr_keys.specs.shared.Meeting.{key_content};
 
     // What the key of the line says.
     ghost content: { Self → KeyContent };

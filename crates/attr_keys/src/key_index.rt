@@ -2,14 +2,14 @@
 
 ghost use Rattle.std.specs.Prelude.{◌≡◌, ◌&&◌, ◌||◌, ◌++◌, ℕ, IfOk, OnOk, map, false, true, slice_get};
 ghost use Rattle.std.specs.Bool.{OnFalse, OnTrue};
-ghost use Rattle.attr_keys.specs.inner.Candidates.{candidate_of};
+ghost use Rattle.attr_keys.specs.shared.Candidates.{candidate_of};
 ghost use Rattle.attr_keys.specs.inner.Cases.{content_in_case, in_case, keys_seen};
 ghost use Rattle.attr_keys.specs.inner.Extensions.{is_hashed};
-ghost use Rattle.attr_keys.specs.inner.KeyIndexes.{IsKeyIndex};
+ghost use Rattle.attr_keys.specs.shared.KeyIndexes.{IsKeyIndex};
 ghost use Rattle.attr_keys.specs.inner.Kinds.{AreKinds};
-ghost use Rattle.attr_keys.specs.inner.Meeting.{content_met_at, directed, text_has};
+ghost use Rattle.attr_keys.specs.shared.Meeting.{content_met_at, directed, text_has};
 ghost use Rattle.attr_keys.specs.inner.Orders.{AreFindable, AreSorted, gathered, has_by_name, has_by_path, has_subject_row, has_unless_other, may_have, sorted_keys};
-ghost use Rattle.attr_keys.specs.inner.Rows.{IsFalling, has_row};
+ghost use Rattle.attr_keys.specs.shared.Rows.{IsFalling, has_row};
 
 use crate::by_hash::{append_by_hash, by_hash, write_lower};
 use crate::hashed::HashedRows;

@@ -4,7 +4,7 @@ ghost use Rattle.std.specs.Prelude.{◌≡◌, [], IfOk, OnOk, map, true};
 ghost use Rattle.std.specs.Bool.{OnFalse};
 ghost use Rattle.attr_keys.specs.inner.Cases.{content_in_case, in_case};
 ghost use Rattle.attr_keys.specs.inner.Kinds.{AreKinds, is_kept, kind_of, kind_rows, rows_with};
-ghost use Rattle.attr_keys.specs.inner.Meeting.{key_content};
+ghost use Rattle.attr_keys.specs.shared.Meeting.{key_content};
 
 use crate::by_hash::is_extension;
 use crate::key::{Key, Keyed, Subject};

@@ -1,8 +1,8 @@
 //! The keys of lines: what a path needs if a line may match it.
 
 ghost use Rattle.std.specs.Prelude.{◌≡◌, drop, false, take};
-ghost use Rattle.attr_keys.specs.inner.LineKeys.{line_content, no_text, prefix_of, shape_content};
-ghost use Rattle.attr_keys.specs.inner.Meeting.{is_end, key_content};
+ghost use Rattle.attr_keys.specs.shared.LineKeys.{line_content, no_text, prefix_of, shape_content};
+ghost use Rattle.attr_keys.specs.shared.Meeting.{is_end, key_content};
 
 use crate::key::{Key, Keyed, Subject};
 
@@ -22,7 +22,7 @@ pub struct Shape<'a> {
 }
 
 impl Keyed for Shape<'_> {
-    ghost use Rattle.attr_keys.specs.inner.LineKeys.{line_content, shape_content};
+    ghost use Rattle.attr_keys.specs.shared.LineKeys.{line_content, shape_content};
 
     ghost content = { λ shape. line_content (shape_content shape) };
 

@@ -3,7 +3,7 @@
 ghost use Rattle.std.specs.Prelude.{◌≡◌, ◌≤◌, ℕ, length};
 ghost use Rattle.std.specs.Bool.{OnTrue};
 ghost use Rattle.attr_keys.specs.inner.Cases.{keys_seen};
-ghost use Rattle.attr_keys.specs.inner.Rows.{AreInOrder, IsFalling, IsMovedWithin, has_row};
+ghost use Rattle.attr_keys.specs.shared.Rows.{AreInOrder, IsFalling, IsMovedWithin, has_row};
 
 use crate::key::{Keyed, Keys, row_order};
 

@@ -3,9 +3,9 @@
 
 ghost use Rattle.std.specs.Prelude.{◌≡◌, ◌<◌, ◌≤◌, ◌&&◌, ◌||◌, [], ℕ, IfOk, OnOk, false, length, true, slice_get, slice_index};
 ghost use Rattle.attr_keys.specs.inner.Cases.{keys_seen};
-ghost use Rattle.attr_keys.specs.inner.Codes.{codes_of, row_codes};
-ghost use Rattle.attr_keys.specs.inner.Meeting.{directed, text_has};
-ghost use Rattle.attr_keys.specs.inner.Rows.{AreFirsts, AreInOrder, AreLinks, ArePrefixes, IsLink, has_row, is_up_to};
+ghost use Rattle.attr_keys.specs.shared.Codes.{codes_of, row_codes};
+ghost use Rattle.attr_keys.specs.shared.Meeting.{directed, text_has};
+ghost use Rattle.attr_keys.specs.shared.Rows.{AreFirsts, AreInOrder, AreLinks, ArePrefixes, IsLink, has_row, is_up_to};
 
 use crate::key::{
     Keyed, Keys, common, exact, first_code, first_row_code, has_row_key, is_row_up_to,

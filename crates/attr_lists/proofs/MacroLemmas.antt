@@ -15,7 +15,7 @@ use Rattle.attr_lists.specs.Definitions.{bodies_defined, definition_of, definiti
 use Rattle.attr_lists.specs.ListViews.{Entry, entry_view, entries_view}
 use Rattle.attr_lists.specs.Numbers.{names_in, numbered, numbered_lines, with_names}
 use Rattle.attr_lists.specs.inner.EntryViews.{definitions_at}
-use Rattle.attr_lists.specs.inner.MacroNumbers.{KeepsNumbers, ListsDefined, ListsMacros, RemovesUndefined}
+use Rattle.attr_lists.specs.shared.MacroNumbers.{KeepsNumbers, ListsDefined, ListsMacros, RemovesUndefined}
 use Rattle.attr_lists.proofs.ListLemmas.{get_or-map}
 
 -- a number that isn't among more numbers isn't among fewer

@@ -17,7 +17,7 @@ use Rattle.attr_lists.specs.declared.types.AttributeId.{AttributeId}
 use Rattle.attr_lists.specs.declared.types.TrackedAssignment.{TrackedAssignment}
 use Rattle.attr_lists.specs.Definitions.{is_definition, bodies_defined, bodies_named, definition_of, is_of_list, bodies_of_list, of_other_lists}
 use Rattle.attr_lists.specs.Definitions.{definitions_of, definitions_for}
-use Rattle.attr_lists.specs.inner.Keeping.{HasMacroNumber, IsNumbered}
+use Rattle.attr_lists.specs.shared.Keeping.{HasMacroNumber, IsNumbered}
 use Rattle.attr_lists.proofs.NamedDefinitions.{Has, itself, place_of, number_at, number_name, defined_by_name, none_by_name}
 use Rattle.attr_lists.specs.Definitions.{is_active, free_id, with_active, with_list, without_list, HoldsList, IsWithin, IsSoundCollection}
 use Rattle.attr_lists.specs.inner.EntryViews.{AreValid}

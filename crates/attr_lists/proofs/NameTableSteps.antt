@@ -10,7 +10,7 @@ use Rattle.attr_lists.specs.declared.name_table.entry.NameEntry.{NameEntry}
 use Rattle.attr_lists.specs.Definitions.{bodies_defined, bodies_named, bodies_of_list, definition_of, of_other_lists, by_number, is_active}
 use Rattle.attr_lists.specs.Definitions.{free_id, with_list}
 use Rattle.attr_lists.specs.Definitions.{definitions_of, without_list, HoldsList, IsSoundCollection}
-use Rattle.attr_lists.specs.inner.Keeping.{StayRegistered, IsNumbered}
+use Rattle.attr_lists.specs.shared.Keeping.{StayRegistered, IsNumbered}
 use Rattle.attr_lists.specs.inner.EntrySteps.{HasBodies, KeepsOtherDefinitions, RemovesAsMany}
 use Rattle.attr_lists.specs.inner.EntryViews.{definitions_view, all_definitions, definitions_at, definitions_by, IsEntry, AreEntries, AreValid}
 use Rattle.attr_lists.specs.inner.Registered.{bodies_of_number, registered_at, AreRegistered}

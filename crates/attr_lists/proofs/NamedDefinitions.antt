@@ -14,7 +14,7 @@ use Rattle.std.proofs.lemmas.Map.Keys.{apart_from_distinct}
 use Rattle.attr_lists.specs.Definitions.{is_definition, bodies_defined, defines_name, bodies_named}
 use Rattle.attr_lists.specs.ListViews.{Entry}
 use Rattle.attr_lists.specs.Numbers.{number_of, IsNumberOf}
-use Rattle.attr_lists.specs.inner.Keeping.{HasMacroNumber}
+use Rattle.attr_lists.specs.shared.Keeping.{HasMacroNumber}
 use Rattle.attr_lists.specs.declared.types.AttributeId.{AttributeId}
 use Rattle.attr_lists.specs.declared.types.TrackedAssignment.{TrackedAssignment}
 use Rattle.attr_text.specs.Names.{is_valid_name}

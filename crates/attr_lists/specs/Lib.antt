@@ -8,3 +8,4 @@ pub mod LineResults
 pub mod LineViews
 pub mod LinesJoined
 pub mod inner
+pub mod shared

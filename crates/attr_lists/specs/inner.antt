@@ -2,8 +2,6 @@
 -- believed.
 pub mod EntryViews
 pub mod EntrySteps
-pub mod Keeping
-pub mod MacroNumbers
 pub mod NameSets
 pub mod NameSteps
 pub mod NameTableView

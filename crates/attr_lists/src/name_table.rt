@@ -5,8 +5,8 @@
 //! removed with it.
 ghost use Rattle.std.specs.Prelude.{◌≡◌, true, false, ◌<◌, ◌↔◌, length, All, Some, None, nat_lt, if◌then◌else◌, option_map, IfOk, OnOk, OnErr, IfSome, IsSome, IsTrue, slice_get, option_copied};
 ghost use Rattle.attr_lists.specs.Definitions.{macro_body, is_active, free_id, with_list, without_list, HoldsList, IsSoundCollection};
-ghost use Rattle.attr_lists.specs.inner.Keeping.{StayRegistered, OthersStayRegistered, IsNumbered};
-ghost use Rattle.attr_lists.specs.inner.MacroNumbers.{ListsMacros};
+ghost use Rattle.attr_lists.specs.shared.Keeping.{StayRegistered, OthersStayRegistered, IsNumbered};
+ghost use Rattle.attr_lists.specs.shared.MacroNumbers.{ListsMacros};
 ghost use Rattle.std.specs.Iterator.{YieldsFirstBy, item_count};
 ghost use Rattle.attr_lists.specs.NameViews.{named_body, names_from, named_view, names_left};
 ghost use Rattle.attr_lists.specs.KeptLists.{macros_valid};

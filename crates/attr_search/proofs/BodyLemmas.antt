@@ -7,8 +7,8 @@ use Rattle.std.proofs.lemmas.List.{length-replicate, take-map, take_all, length-
 use Rattle.std.proofs.lemmas.List.Elements.{All-same, All-tail, All-weaker}
 use Rattle.attr_lists.specs.declared.types.TrackedAssignment.{TrackedAssignment}
 use Rattle.attr_search.specs.declared.bodies.BodyChange.{BodyChange}
-use Rattle.attr_search.specs.inner.BodyChanges.{changed_bodies, sized_bodies}
-use Rattle.attr_search.specs.inner.Slotted.{bodies_view}
+use Rattle.attr_search.specs.shared.BodyChanges.{changed_bodies, sized_bodies}
+use Rattle.attr_search.specs.shared.Slotted.{bodies_view}
 
 -- one more empty body
 pub grown_more : (old now after : List (Vec TrackedAssignment Global)) (body : Vec TrackedAssignment Global) (n : ℕ) → body.items ≡ [] →

@@ -12,16 +12,16 @@ use Rattle.attr_lists.specs.declared.types.TrackedAssignment.{TrackedAssignment}
 use Rattle.attr_table.specs.Setting.{Item, Origin, Answer, body_of}
 use Rattle.attr_table.specs.Table.{Slots}
 use Rattle.attr_table.specs.Cut.{is_done, is_filled}
-use Rattle.attr_table.specs.inner.Walk.{Task, expands, tasks_in, free_items, fill, left_in, Searches}
+use Rattle.attr_table.specs.shared.Walk.{Task, expands, tasks_in, free_items, fill, left_in, Searches}
 use Rattle.attr_table.proofs.ForCallers.{backwards-append}
 use Rattle.attr_table.proofs.ForCallers.{length-tasks_in}
 use Rattle.attr_table.proofs.ForCallers.{top, length-free, row_searched, taken_skip, taken_closed, taken_open, left_in-less, left_in-open}
 use Rattle.attr_table.proofs.ForCallers.{tasks_push, tasks_pass}
 use Rattle.attr_search.specs.declared.pending_item.PendingItem.{PendingItem}
 use Rattle.attr_search.specs.Slots.{Matched, table_item, table_items, table_answer, table_state, slots_of}
-use Rattle.attr_search.specs.inner.SlotContents.{SlotContents, wanted_numbers}
+use Rattle.attr_search.specs.shared.SlotContents.{SlotContents, wanted_numbers}
 use Rattle.attr_search.specs.Settings.{HaveSlots, BodiesAreNamed, HeldAreNamed}
-use Rattle.attr_search.specs.inner.Slotted.{BodiesHaveSlots}
+use Rattle.attr_search.specs.shared.Slotted.{BodiesHaveSlots}
 use Rattle.attr_lists.specs.Numbers.{AreNamed}
 use Rattle.attr_search.specs.declared.matching_line.MatchingLine.{MatchingLine}
 use Rattle.attr_search.specs.declared.slot_filler.SlotFiller.{SlotFiller}

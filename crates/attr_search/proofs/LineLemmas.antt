@@ -18,20 +18,20 @@ use Rattle.attr_lists.specs.ListViews.{Entry, entry_view, entries_view, items_in
 use Rattle.attr_table.specs.Setting.{Item, Origin}
 use Rattle.attr_table.specs.Table.{Slots}
 use Rattle.attr_table.specs.Cut.{is_done}
-use Rattle.attr_table.specs.inner.Walk.{Task, Searches, free_items, tasks_in}
+use Rattle.attr_table.specs.shared.Walk.{Task, Searches, free_items, tasks_in}
 use Rattle.attr_table.proofs.ForCallers.{nothing_taken, done_taken, row_filled, then_searches}
 use Rattle.attr_glob.specs.Views.{pattern_view}
 use Rattle.attr_index.specs.declared.indexed_line.IndexedLine.{IndexedLine}
 use Rattle.attr_index.specs.declared.line_index.LineIndex.{LineIndex}
-use Rattle.attr_index.specs.inner.LineIndexes.{NumberedPattern, indexed_line, indexed_lines, listed_lines}
-use Rattle.attr_index.specs.inner.PlacedLines.{no_entry, entry_at}
+use Rattle.attr_index.specs.shared.LineIndexes.{NumberedPattern, indexed_line, indexed_lines, listed_lines}
+use Rattle.attr_index.specs.shared.PlacedLines.{no_entry, entry_at}
 use Rattle.attr_index.proofs.ForCallers.{entry_is}
 use Rattle.attr_search.specs.Slots.{table_items}
-use Rattle.attr_search.specs.inner.Slotted.{indexed_origin, no_origin, index_origin, origin_of}
-use Rattle.attr_search.specs.inner.SlotContents.{wanted_numbers}
+use Rattle.attr_search.specs.shared.Slotted.{indexed_origin, no_origin, index_origin, origin_of}
+use Rattle.attr_search.specs.shared.SlotContents.{wanted_numbers}
 use Rattle.attr_search.specs.Settings.{HaveSlots, LinesAreNamed, gives, origin_in}
 use Rattle.attr_lists.specs.Numbers.{AreNamed}
-use Rattle.attr_search.specs.inner.Slotted.{LinesHaveSlots}
+use Rattle.attr_search.specs.shared.Slotted.{LinesHaveSlots}
 use Rattle.attr_search.specs.inner.Lines.{entry_tasks}
 
 -- a line that gives nothing

@@ -8,14 +8,14 @@ use Rattle.std.proofs.lemmas.List.Sums.{sum_by-take-drop, sum_by-cons}
 use Rattle.attr_table.specs.Setting.{Item, Line}
 use Rattle.attr_table.specs.Table.{Slots}
 use Rattle.attr_table.specs.Cut.{is_done}
-use Rattle.attr_table.specs.inner.Walk.{Searches, list_tasks, tasks_of}
+use Rattle.attr_table.specs.shared.Walk.{Searches, list_tasks, tasks_of}
 use Rattle.attr_table.proofs.ForCallers.{backwards-none, backwards-split}
 use Rattle.attr_table.proofs.ForCallers.{nothing_taken, done_taken, then_searches, more_searched}
 use Rattle.attr_index.specs.declared.indexed_list.IndexedList.{IndexedList}
 use Rattle.attr_index.specs.IndexedLists.{listed_view, lists_view}
-use Rattle.attr_search.specs.inner.SlotContents.{wanted_numbers}
+use Rattle.attr_search.specs.shared.SlotContents.{wanted_numbers}
 use Rattle.attr_search.specs.Settings.{LinesAreNamed, ListsAreNamed}
-use Rattle.attr_search.specs.inner.Slotted.{LinesHaveSlots, ListsHaveSlots}
+use Rattle.attr_search.specs.shared.Slotted.{LinesHaveSlots, ListsHaveSlots}
 
 map-map : {X Y Z : Type 0} (f : Y → Z) (g : X → Y) (xs : List X) → map f (map g xs) ≡ map (λ x. f (g x)) xs
 map-map f g [] = refl

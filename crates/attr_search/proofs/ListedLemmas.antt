@@ -7,7 +7,7 @@ use Rattle.std.proofs.lemmas.Bool.{cases_eq, cases_lt}
 use Rattle.std.proofs.lemmas.Bool.Decides.{nat_tests}
 use Rattle.std.proofs.lemmas.List.Folds.{list_any_none}
 use Rattle.attr_search.specs.Slots.{AreFreeFrom, IsNextFilled}
-use Rattle.attr_search.specs.inner.SlotContents.{AreListed}
+use Rattle.attr_search.specs.shared.SlotContents.{AreListed}
 
 mapped_at : {X Y : Type 0} (f : X → Y) (slots : List (Option X)) (n : ℕ) →
     get_or (map (λ o. option_map f o) slots) n None ≡ option_map f (get_or slots n None)

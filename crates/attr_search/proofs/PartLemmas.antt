@@ -7,7 +7,7 @@ use Rattle.std.proofs.lemmas.Option.{slice_get-get_or, slice_get-map, slice_get_
 use Rattle.attr_search.specs.declared.matching_line.AnsweringLine.{AnsweringLine}
 use Rattle.attr_search.specs.inner.PartsContents.{Grows}
 use Rattle.attr_search.specs.inner.PartsView.{origin_of_line, origins}
-use Rattle.attr_search.specs.inner.Slotted.{index_origin}
+use Rattle.attr_search.specs.shared.Slotted.{index_origin}
 
 -- a list that stays grows by nothing
 pub grows_same : {X : Type 0} (xs : List X) → Grows xs xs

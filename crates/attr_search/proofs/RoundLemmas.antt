@@ -14,14 +14,14 @@ use Rattle.attr_lists.specs.ListViews.{Entry, entries_view}
 use Rattle.attr_table.specs.Setting.{Item, Line}
 use Rattle.attr_table.specs.Table.{Slots}
 use Rattle.attr_table.specs.Cut.{is_done}
-use Rattle.attr_table.specs.inner.Walk.{Task, Walks, ends, stops, Searches, backwards, line_tasks}
+use Rattle.attr_table.specs.shared.Walk.{Task, Walks, ends, stops, Searches, backwards, line_tasks}
 use Rattle.attr_table.proofs.ForCallers.{backwards-none, backwards-more, backwards-split}
 use Rattle.attr_index.specs.ListView.{Listed}
-use Rattle.attr_index.specs.inner.ReadLines.{AreRead}
-use Rattle.attr_index.specs.inner.PlacedLines.{no_entry, entry_at}
-use Rattle.attr_index.specs.inner.Trying.{AreTried}
+use Rattle.attr_index.specs.shared.ReadLines.{AreRead}
+use Rattle.attr_index.specs.shared.PlacedLines.{no_entry, entry_at}
+use Rattle.attr_index.specs.shared.Trying.{AreTried}
 use Rattle.attr_index.proofs.ForCallers.{lines_patterns}
-use Rattle.attr_search.specs.inner.SlotContents.{wanted_numbers}
+use Rattle.attr_search.specs.shared.SlotContents.{wanted_numbers}
 use Rattle.attr_search.specs.Settings.{line_of, lines_of}
 use Rattle.attr_search.specs.inner.Lines.{entry_tasks}
 use Rattle.attr_search.specs.inner.Rounds.{Rounds, over, round, list_rounds, rounds_of}

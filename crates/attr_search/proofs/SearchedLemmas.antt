@@ -11,14 +11,14 @@ use Rattle.attr_glob.specs.Candidates.{has_macro_mode}
 use Rattle.attr_glob.specs.Views.{patterns_of}
 use Rattle.attr_lists.specs.declared.types.TrackedAssignment.{TrackedAssignment}
 use Rattle.attr_table.specs.Cut.{is_done}
-use Rattle.attr_table.specs.inner.Walk.{Searches, Task, tasks_of}
+use Rattle.attr_table.specs.shared.Walk.{Searches, Task, tasks_of}
 use Rattle.attr_table.proofs.ForCallers.{nothing_taken}
 use Rattle.attr_index.specs.declared.indexed_list.IndexedList.{IndexedList}
 use Rattle.attr_index.specs.declared.path_query.PathQuery.{PathQuery}
 use Rattle.attr_index.specs.IndexedLists.{listed_view, lists_view}
 use Rattle.attr_index.specs.ListView.{Listed}
-use Rattle.attr_index.specs.inner.FoundLists.{AreListsFor}
-use Rattle.attr_index.specs.inner.Trying.{AreTried}
+use Rattle.attr_index.specs.shared.FoundLists.{AreListsFor}
+use Rattle.attr_index.specs.shared.Trying.{AreTried}
 use Rattle.attr_index.proofs.ForCallers.{below_or, idle_tried}
 use Rattle.attr_search.specs.SearchContents.{SearchContents}
 use Rattle.attr_search.specs.Settings.{candidates_in}
@@ -28,7 +28,7 @@ use Rattle.attr_search.specs.inner.Rounds.{Rounds, over, rounds_of}
 use Rattle.attr_search.specs.inner.Searched.{KeepsState, Searched, SearchedLine, SearchedList, SearchedLists, SearchedPlaces, state_bodies}
 use Rattle.attr_search.specs.inner.Searched.{query_candidates, state_slots}
 use Rattle.attr_search.specs.inner.Searched.{state_wanted}
-use Rattle.attr_search.specs.inner.SlotContents.{wanted_numbers}
+use Rattle.attr_search.specs.shared.SlotContents.{wanted_numbers}
 use Rattle.attr_search.proofs.LineLemmas.{places_more, places_stopped}
 use Rattle.attr_search.proofs.ListLemmas.{count_more, lists_begun, lists_more, lists_over, lists_stopped}
 use Rattle.attr_search.proofs.CandidateLemmas.{list_passed, list_walked}

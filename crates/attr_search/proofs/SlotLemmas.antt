@@ -17,7 +17,7 @@ use Rattle.std.proofs.lemmas.List.Elements.{All-set, All-weaker, All-head, All-t
 use Rattle.std.proofs.lemmas.List.Folds.{list_any-append}
 use Rattle.attr_table.specs.Cut.{is_done}
 use Rattle.attr_table.specs.Setting.{Origin}
-use Rattle.attr_search.specs.inner.SlotContents.{AreListed, count_remaining, remaining_at, wanted_numbers}
+use Rattle.attr_search.specs.shared.SlotContents.{AreListed, count_remaining, remaining_at, wanted_numbers}
 use Rattle.attr_search.specs.Matches.{cause_of}
 use Rattle.attr_search.specs.inner.AnswerRefs.{HasAssignment, KeepsAnswer, RefersTo, IsMatchRef}
 use Rattle.attr_search.specs.inner.AnswerRefs.{AreMatchRefs, assignment_at, line_by_ref, match_by_ref}
@@ -32,7 +32,7 @@ use Rattle.attr_lists.specs.declared.types.MatchKind.{MatchKind}
 use Rattle.attr_search.specs.declared.matching_line.MatchingLine.{MatchingLine}
 use Rattle.attr_search.specs.declared.pending_item.PendingItem.{PendingItem}
 use Rattle.attr_search.specs.inner.Pending.{items_beside, line_origin, no_item, pending_item}
-use Rattle.attr_search.specs.inner.Slotted.{bodies_view, no_origin}
+use Rattle.attr_search.specs.shared.Slotted.{bodies_view, no_origin}
 use Rattle.attr_search.specs.declared.answer_parts.MatchRef.{MatchRef}
 use Rattle.std.proofs.lemmas.Option.{get_or_from_slice_get, slice_get_within}
 use Rattle.attr_search.proofs.PartLemmas.{grows_at, grows_found, grows_length}

@@ -10,7 +10,7 @@ use Rattle.attr_wildmatch.proofs.ForCallers.{by_test}
 use Rattle.attr_table.specs.Setting.{Item, Origin, Line, Setting, Answer, body_of}
 use Rattle.attr_table.specs.Table.{Occurrence, Root, Inside, Table, Slots, line_at, item_at, IsReached, IsLive, IsEarliest, IsStable}
 use Rattle.attr_table.specs.Cut.{is_done, origin_at, answer_at, IsCut, IsCutAt}
-use Rattle.attr_table.specs.inner.Walk.{Task, Walks, ends, stops, skips, fills, tasks_in, line_tasks, list_tasks, tasks_of, expands, opened, fill}
+use Rattle.attr_table.specs.shared.Walk.{Task, Walks, ends, stops, skips, fills, tasks_in, line_tasks, list_tasks, tasks_of, expands, opened, fill}
 use Rattle.attr_table.proofs.ForCallers.{Mem}
 use Rattle.attr_table.proofs.ForCallers.{some_or_none, entry_is, none_value}
 use Rattle.attr_table.proofs.ForCallers.{fill_other, then_walks}

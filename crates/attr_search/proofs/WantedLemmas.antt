@@ -13,7 +13,7 @@ use Rattle.std.specs.Ordering.{is_eq, nat_cmp}
 use Rattle.std.proofs.lemmas.Bool.{cases_eq, cases_lt}
 use Rattle.std.proofs.lemmas.List.{get_or-replicate, get_or-set_other, get_or-set_same, length-replicate}
 use Rattle.std.proofs.lemmas.List.FromFn.{fill_by_all, get_or-map-range_with_len, length-map-range_with_len}
-use Rattle.attr_search.specs.inner.SlotContents.{count_wanted, count_remaining}
+use Rattle.attr_search.specs.shared.SlotContents.{count_wanted, count_remaining}
 use Rattle.attr_search.specs.inner.WantedView.{AreSoundFlags, is_flag_set, wanted_flags_view}
 use Rattle.attr_search.specs.declared.wanted.WantedFlags.TheInside.{Inside}
 

@@ -4,3 +4,4 @@ pub mod SearchContents
 pub mod Settings
 pub mod Slots
 pub mod inner
+pub mod shared

@@ -1,7 +1,6 @@
 -- What contracts of functions inside the crate name (own). No contract of a public call reaches it, so nothing of it has to be
 -- believed.
 pub mod AnswerRefs
-pub mod BodyChanges
 pub mod Filling
 pub mod Lines
 pub mod PartsContents
@@ -10,7 +9,5 @@ pub mod Pending
 pub mod Rounds
 pub mod SearchView
 pub mod Searched
-pub mod SlotContents
 pub mod SlotsView
-pub mod Slotted
 pub mod WantedView

@@ -5,11 +5,11 @@ ghost use Rattle.std.specs.Prelude.{◌≡◌, ◌<◌, ◌≤◌, ◌+◌, [], 
 ghost use Rattle.std.specs.Option.{option_copied};
 ghost use Rattle.attr_search.specs.Matches.{cause_of, match_view};
 ghost use Rattle.attr_search.specs.inner.AnswerRefs.{HasAssignment, IsMatchRef, KeepsAnswer, RefersTo, assignment_at, match_by_ref};
-ghost use Rattle.attr_search.specs.inner.BodyChanges.{changed_bodies, sized_bodies};
+ghost use Rattle.attr_search.specs.shared.BodyChanges.{changed_bodies, sized_bodies};
 ghost use Rattle.attr_search.specs.inner.PartsContents.{Grows};
 ghost use Rattle.attr_search.specs.inner.PartsView.{origins};
 ghost use Rattle.attr_search.specs.inner.Pending.{IsPlaced, line_origin};
-ghost use Rattle.attr_search.specs.inner.Slotted.{bodies_view};
+ghost use Rattle.attr_search.specs.shared.Slotted.{bodies_view};
 
 use crate::bodies::{self, BodyChange};
 use crate::matching_line::{AnsweringLine, MatchingLine};

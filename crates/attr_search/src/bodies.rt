@@ -1,8 +1,8 @@
 //! What attributes are as macros: their bodies, by number.
 
 ghost use Rattle.std.specs.Prelude.{◌≡◌, ◌<◌, ◌-◌, ◌++◌, [], All, IfOk, OnErr, OnOk, length, replicate};
-ghost use Rattle.attr_search.specs.inner.BodyChanges.{changed_bodies, sized_bodies};
-ghost use Rattle.attr_search.specs.inner.Slotted.{bodies_view};
+ghost use Rattle.attr_search.specs.shared.BodyChanges.{changed_bodies, sized_bodies};
+ghost use Rattle.attr_search.specs.shared.Slotted.{bodies_view};
 
 use attr_lists::types::TrackedAssignment;
 use std::alloc::{AllocError, Global};

@@ -2,7 +2,7 @@
 
 ghost use Rattle.std.specs.Prelude.{◌≡◌, ◌<◌, [], length, slice_index_or};
 ghost use Rattle.attr_search.specs.Matches.{cause_of, is_macro_kind};
-ghost use Rattle.attr_search.specs.inner.Slotted.{bodies_view};
+ghost use Rattle.attr_search.specs.shared.Slotted.{bodies_view};
 ghost use Rattle.attr_search.specs.inner.Pending.{pending_item, IsPlaced};
 
 use attr_lists::types::{AttributeId, MatchKind, TrackedAssignment};

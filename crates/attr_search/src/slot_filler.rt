@@ -1,8 +1,8 @@
 //! Filling slots by the items of a line that matches, and by the bodies of the macros that they set.
 
 ghost use Rattle.std.specs.Prelude.{◌≡◌, ◌≤◌, None, OnOk, length};
-ghost use Rattle.attr_table.specs.inner.Walk;
-ghost use Rattle.attr_table.specs.inner.Walk.{tasks_in};
+ghost use Rattle.attr_table.specs.shared.Walk;
+ghost use Rattle.attr_table.specs.shared.Walk.{tasks_in};
 ghost use Rattle.attr_search.specs.Settings.{HaveSlots};
 ghost use Rattle.attr_search.specs.Slots.{slots_of, table_items, table_state};
 ghost use Rattle.attr_search.specs.inner.Filling.{AtLine, CanFill, Fills, FillsNamed, KeepsFiller, Processes, most_left, stack_tasks};

@@ -8,10 +8,10 @@ ghost use Rattle.attr_search.specs.Matches.{cause_of, match_view};
 ghost use Rattle.attr_search.specs.Settings.{HaveSlots};
 ghost use Rattle.std.specs.List.Sorted.{IsNonDecreasing};
 ghost use Rattle.attr_search.specs.Slots.{AreFreeFrom, IsNextFilled, filled_in, slots_of};
-ghost use Rattle.attr_search.specs.inner.BodyChanges.{changed_bodies, sized_bodies};
+ghost use Rattle.attr_search.specs.shared.BodyChanges.{changed_bodies, sized_bodies};
 ghost use Rattle.attr_search.specs.inner.Pending.{IsPlaced, item_match, line_origin, pending_item};
-ghost use Rattle.attr_search.specs.inner.Slotted.{bodies_view};
-ghost use Rattle.attr_search.specs.inner.SlotContents.{AreListed, SlotContents, count_remaining, empty_slots, wanted_numbers};
+ghost use Rattle.attr_search.specs.shared.Slotted.{bodies_view};
+ghost use Rattle.attr_search.specs.shared.SlotContents.{AreListed, SlotContents, count_remaining, empty_slots, wanted_numbers};
 
 use crate::answer_parts::{AnswerParts, MatchRef};
 use crate::bodies::BodyChange;
@@ -38,7 +38,7 @@ pub struct AnswerSlots {
 }
 
 impl Model for AnswerSlots {
-    ghost use Rattle.attr_search.specs.inner.SlotContents.{SlotContents};
+    ghost use Rattle.attr_search.specs.shared.SlotContents.{SlotContents};
 
     ghost Value = { SlotContents };
 

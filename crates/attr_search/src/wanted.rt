@@ -1,7 +1,7 @@
 //! Which numbers a search looks for.
 
 ghost use Rattle.std.specs.Prelude.{◌≡◌, ◌<◌, true, [], IfOk, OnErr, OnOk, length, replicate, set, slice_index_or, false};
-ghost use Rattle.attr_search.specs.inner.SlotContents.{count_wanted};
+ghost use Rattle.attr_search.specs.shared.SlotContents.{count_wanted};
 
 use std::alloc::{AllocError, Global};
 use std::collections::BTreeSet;

@@ -9,8 +9,8 @@ use Rattle.attr_table.specs.Setting.{Item, Line, Origin, Setting, Answer, body_o
 use Rattle.attr_table.specs.Table.{Slots}
 use Rattle.attr_table.specs.Cut.{is_done}
 use Rattle.attr_table.specs.Work.{work_of, newly_at, newly_filled}
-use Rattle.attr_table.specs.inner.Walk.{Task, Walks, ends, stops, skips, fills, Searches, tasks_in, line_tasks, list_tasks, tasks_of, backwards}
-use Rattle.attr_table.specs.inner.Walk.{expands, opened, fill, free_items, left_in}
+use Rattle.attr_table.specs.shared.Walk.{Task, Walks, ends, stops, skips, fills, Searches, tasks_in, line_tasks, list_tasks, tasks_of, backwards}
+use Rattle.attr_table.specs.shared.Walk.{expands, opened, fill, free_items, left_in}
 use Rattle.attr_table.proofs.Listed.{backwards-more}
 use Rattle.attr_table.proofs.Walked.{length-tasks_in, fill_other, left_in-fill, then_walks, walks_past}
 

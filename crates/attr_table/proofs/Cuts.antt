@@ -7,7 +7,7 @@ use mathlib.Core.Path.{fun_ext}
 use Rattle.attr_table.specs.Setting.{Item, Line, Setting, Answer}
 use Rattle.attr_table.specs.Table.{Occurrence, Table, Slots, path, IsEarlier, IsStable}
 use Rattle.attr_table.specs.Cut.{full_answer, IsKept, IsCutAt, IsCut, IsSearched, is_done}
-use Rattle.attr_table.specs.inner.Walk.{Walks, list_tasks, tasks_of, fill, left_in}
+use Rattle.attr_table.specs.shared.Walk.{Walks, list_tasks, tasks_of, fill, left_in}
 use Rattle.attr_table.proofs.Order.{first_irreflexive, first_trans, earlier_below}
 use Rattle.attr_table.proofs.Stable.{some_or_none, some_value, none_value, entry_free}
 use Rattle.attr_table.proofs.Facts.{Covers, empty_parts}

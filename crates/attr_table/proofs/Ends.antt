@@ -6,7 +6,7 @@ use Rattle.std.proofs.lemmas.List.{map-append}
 use mathlib.Core.Path.{fun_ext}
 use Rattle.attr_table.specs.Setting.{Item, Setting, Answer}
 use Rattle.attr_table.specs.Table.{Occurrence, Table, Slots, IsEarlier, IsLive, IsEarliest, IsStable, OneTable}
-use Rattle.attr_table.specs.inner.Walk.{Task, Walks, ends, stops, skips, fills, tasks_of, fill, left_in}
+use Rattle.attr_table.specs.shared.Walk.{Task, Walks, ends, stops, skips, fills, tasks_of, fill, left_in}
 use Rattle.attr_table.proofs.Stable.{some_or_none, none_value}
 use Rattle.attr_table.proofs.Nodes.{Node, task_at, nodes_of, map-nodes_of, child_nodes, map-child_nodes}
 use Rattle.attr_table.proofs.Facts.{Facts, Covers, Waits, IsSettled, no_entries, at_start}

@@ -5,7 +5,7 @@ use Rattle.std.proofs.lemmas.Bool.{cases_eq, eq-eqb, ne_eqb, cases_Bool}
 use Rattle.attr_table.specs.Setting.{Set, Item, Setting}
 use Rattle.attr_table.specs.Table.{Occurrence, Root, Inside, Table, Slots, path, item_at, IsEarlier, IsReached, IsLive, IsStable}
 use Rattle.attr_table.specs.Cut.{full_answer}
-use Rattle.attr_table.specs.inner.Walk.{fill}
+use Rattle.attr_table.specs.shared.Walk.{fill}
 use Rattle.attr_table.proofs.Listed.{Mem, mem_cases, mem_left, mem_right, IsOrdered, ordered_append}
 use Rattle.attr_table.proofs.Order.{Below, below_child, below_later, first_irreflexive, first_trans, first_beginning, parts_first, parts_left}
 use Rattle.attr_table.proofs.Order.{parts_below}

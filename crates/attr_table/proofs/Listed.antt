@@ -3,7 +3,7 @@ use Rattle.std.proofs.Common.{◌≡◌, ℕ, suc, ◌+◌, ◌-◌, ◌<◌, �
 use Rattle.std.proofs.Common.{inl, inr, ⊎_elim, arith, zero}
 use Rattle.std.specs.Prelude.{slice_get}
 use Rattle.std.proofs.lemmas.List.{map-append, append-nil, append_assoc, drop_all, drop_more, take-append-drop}
-use Rattle.attr_table.specs.inner.Walk.{backwards}
+use Rattle.attr_table.specs.shared.Walk.{backwards}
 
 -- an element is in a list
 abbrev pub Mem : {X : Type 0} → X → List X → Type 0

@@ -4,7 +4,7 @@ use Rattle.std.specs.Prelude.{option_and_then, slice_get, if◌then◌else◌}
 use Rattle.attr_table.specs.Setting.{State, Set, Unset, Value, Unspecified, Item, Line, Origin, Setting, body_of}
 use Rattle.attr_table.specs.Table.{Occurrence, Root, Inside, path, item_at}
 use Rattle.attr_table.specs.Cut.{origin_at, cause_at, answer_of, answer_at}
-use Rattle.attr_table.specs.inner.Walk.{Task, tasks_in, line_tasks, list_tasks, tasks_of, expands, opened}
+use Rattle.attr_table.specs.shared.Walk.{Task, tasks_in, line_tasks, list_tasks, tasks_of, expands, opened}
 use Rattle.attr_table.proofs.Listed.{Mem, backward, mem_backward, backward_mem, map-backward, IsOrdered, ordered_backward}
 use Rattle.attr_table.proofs.Order.{Parts, parts_last}
 

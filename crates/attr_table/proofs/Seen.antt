@@ -13,7 +13,7 @@ use mathlib.Core.Path.{fun_ext}
 use Rattle.attr_table.specs.Setting.{Item, Origin, body_of}
 use Rattle.attr_table.specs.Table.{Slots, slots_in}
 use Rattle.attr_table.specs.Cut.{is_done, is_filled, answer_of, no_answers}
-use Rattle.attr_table.specs.inner.Walk.{Task, tasks_in, line_tasks, free_items, fill, Searches}
+use Rattle.attr_table.specs.shared.Walk.{Task, tasks_in, line_tasks, free_items, fill, Searches}
 use Rattle.attr_table.specs.inner.Plain.{plain_answer, plain_item, plain_items, plain_origin, plain_answers, plain_bodies, plain_task, plain_tasks}
 use Rattle.attr_table.specs.inner.Plain.{plain_line, TasksHaveSlots, KeepsInput}
 use Rattle.attr_table.specs.declared.plain.Row.{Row}

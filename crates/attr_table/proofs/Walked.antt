@@ -8,7 +8,7 @@ use mathlib.Core.Path.{fun_ext}
 use Rattle.attr_table.specs.Setting.{Item, Origin, Answer, body_of}
 use Rattle.attr_table.specs.Table.{Slots, slots_in}
 use Rattle.attr_table.specs.Cut.{answer_of}
-use Rattle.attr_table.specs.inner.Walk.{Task, Walks, ends, stops, skips, fills, tasks_in, expands, opened, fill, left_in, free_items}
+use Rattle.attr_table.specs.shared.Walk.{Task, Walks, ends, stops, skips, fills, tasks_in, expands, opened, fill, left_in, free_items}
 use Rattle.attr_table.proofs.Stable.{some_or_none}
 
 pub length-tasks_in : (origin : Origin) (cause : Option ℕ) (items : List Item) →

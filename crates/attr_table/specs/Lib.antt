@@ -3,3 +3,4 @@ pub mod Table
 pub mod Cut
 pub mod Work
 pub mod inner
+pub mod shared

@@ -11,7 +11,7 @@ ghost use Rattle.attr_table.specs.Table.{Table, Slots, item_at, IsEarlier, IsSta
 ghost use Rattle.attr_table.specs.Cut.{IsCut, IsSearched, ExtendsCuts, full_answer, is_done, no_answers};
 ghost use Rattle.attr_table.specs.Work.{work_of};
 ghost use Rattle.attr_table.specs.inner.Worked.{cycle, cycle_answers, a_set, b_set, a_on_line, b_in_a, a_in_b};
-ghost use Rattle.attr_table.specs.inner.Walk.{Walks, tasks_of};
+ghost use Rattle.attr_table.specs.shared.Walk.{Walks, tasks_of};
 
 /// For any setting and start exactly one table is stable, however macros name one another.
 pub fn one_table()

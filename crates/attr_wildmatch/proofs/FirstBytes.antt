@@ -1,4 +1,4 @@
--- Folders that begin with a byte, and where tokens that begin with it may match.
+-- Directories that begin with a byte, and where tokens that begin with it may match.
 use Rattle.std.proofs.Common.{◌≡◌, ◌≤◌, ◌+◌, ◌-◌, ℕ, zero, suc, Bool, true, false, ◌&&◌, ◌||◌, ◌==◌, List, [], ◌∷◌, length, drop, take}
 use Rattle.std.proofs.Common.{Option, Some, None, IfNone, refl, sym, ap, ◌∙◌, arith}
 use Rattle.std.proofs.lemmas.List.{take_all, length-drop, drop-drop}

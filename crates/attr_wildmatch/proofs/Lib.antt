@@ -15,6 +15,6 @@ pub mod RunLemmas
 pub mod SpellMembers
 pub mod SpellTokens
 pub mod Ends
-pub mod Folders
+pub mod Directories
 pub mod FirstBytes
 pub mod ForCallers

@@ -8,7 +8,7 @@ use Rattle.attr_wildmatch.specs.Bytes.{slash}
 use Rattle.attr_wildmatch.specs.Tokens.{Token, lit, one, set, star, dirs, rest}
 use Rattle.attr_wildmatch.specs.Matching.{Takes, Match}
 use Rattle.attr_wildmatch.specs.Deciding.{takes_byte, byte_then, star_then, rest_then, is_nil}
-use Rattle.attr_wildmatch.specs.inner.RowPlaces.{is_folder}
+use Rattle.attr_wildmatch.specs.inner.RowPlaces.{is_dirs_at}
 use Rattle.attr_wildmatch.proofs.Basics.{each_of_all, all_of_each, Each-reverse, reverse-cons, or_part, or_left, or_right, equal}
 use Rattle.attr_wildmatch.proofs.Splits.{NoSlash, Split, byte_split, byte_joined, star_split, star_joined, rest_split, rest_joined, single_takes}
 use Rattle.attr_wildmatch.proofs.Splits.{single_taken}
@@ -31,9 +31,9 @@ reached case (t ∷ ts) v = back_then case t (reached case ts) v
 abbrev pub fresh : Case → List Token → List ℕ → ℕ → Bool
 fresh case ts v k = reached case (reverse (take k ts)) v
 
--- the same, or token k is a folder star and they match some first part of the value
+-- the same, or token k is a directory star and they match some first part of the value
 abbrev pub alive : Case → List Token → List ℕ → ℕ → Bool
-alive case ts v k = cond (is_folder (slice_get ts k)) (rest_then (reached case (reverse (take k ts))) v) (fresh case ts v k)
+alive case ts v k = cond (is_dirs_at (slice_get ts k)) (rest_then (reached case (reverse (take k ts))) v) (fresh case ts v k)
 
 -- What it says: the split relation.
 

@@ -6,11 +6,11 @@ use Rattle.attr_wildmatch.specs.Bytes.{slash}
 use Rattle.attr_wildmatch.specs.Tokens.{Token, lit, one, set, star, dirs, rest, token_ends_in_slash}
 use Rattle.attr_wildmatch.specs.inner.Bordered.{is_bordered}
 use Rattle.attr_wildmatch.specs.Deciding.{takes_byte, star_then, rest_then}
-use Rattle.attr_wildmatch.specs.inner.RowPlaces.{may_be_nothing, is_dirs, continues_with, ends_at, may_skip, is_folder, stays_on, advances_on}
+use Rattle.attr_wildmatch.specs.inner.RowPlaces.{may_be_nothing, is_dirs, continues_with, ends_at, may_skip, is_dirs_at, stays_on, advances_on}
 use Rattle.attr_wildmatch.specs.inner.RowPlaces.{token_before, IsStep}
 use Rattle.attr_wildmatch.proofs.Basics.{by_test, and_parts, and_both, or_part, or_right}
 use Rattle.attr_wildmatch.proofs.Reached.{back_then, fresh, alive}
-use Rattle.attr_wildmatch.proofs.ReachedSteps.{before_place, fresh-next, alive-folder, alive-plain, growing, no_folder_behind}
+use Rattle.attr_wildmatch.proofs.ReachedSteps.{before_place, fresh-next, alive-directory, alive-plain, growing, no_directory_behind}
 
 -- the token takes any number of bytes and its place is after it
 abbrev is_wide : Token → Bool
@@ -77,14 +77,14 @@ back_from case dirs f b w h = elim (or_part (f (b ∷ w)) (b == slash && rest_th
 
 alive-token : (case : Case) (ts : List Token) (v : List ℕ) (k : ℕ) (t : Token) → slice_get ts k ≡ Some t →
     alive case ts v k ≡ cond (is_dirs t) (rest_then (before_place case ts k) v) (before_place case ts k v)
-alive-token case ts v k t h = ap (λ x. cond (is_folder x) (rest_then (before_place case ts k) v) (fresh case ts v k)) h
+alive-token case ts v k t h = ap (λ x. cond (is_dirs_at x) (rest_then (before_place case ts k) v) (fresh case ts v k)) h
 
 -- a place after a star or a rest is alive only where it is fresh
 alive-tail : (case : Case) (ts : List Token) (v : List ℕ) (k : ℕ) (t : Token) → is_bordered true ts ≡ true → slice_get ts k ≡ Some t →
     is_wide t ≡ true → alive case ts v (k + 1) ≡ back_then case t (before_place case ts k) v
 alive-tail case ts v k t h e n =
     alive-plain case ts v (k + 1)
-    (subst (λ x. is_folder (slice_get ts x) ≡ false) (sym (add-one k)) (no_folder_behind true ts k t h e (wide_end t n))) ∙
+    (subst (λ x. is_dirs_at (slice_get ts x) ≡ false) (sym (add-one k)) (no_directory_behind true ts k t h e (wide_end t n))) ∙
     fresh-next case ts v k t e
 
 token_before-next : (ts : List Token) (k : ℕ) (t : Token) → slice_get ts k ≡ Some t → token_before ts (k + 1) ≡ Some t
@@ -108,11 +108,11 @@ module _ (case : Case) (ts : List Token) (b : ℕ) (w : List ℕ) (bordered : is
       fresh-next case ts (b ∷ w) k t e ∙ advance_back case t (before_place case ts k) b w h (sym (alive-token case ts w k t e) ∙ a)
 
   alive_from_at : (k : ℕ) → alive case ts (b ∷ w) k ≡ true →
-      (fresh case ts (b ∷ w) k ≡ true) ⊎ ((is_folder (slice_get ts k) ≡ true) × (alive case ts w k ≡ true))
-  alive_from_at k a = by_test (is_folder (slice_get ts k))
-      (λ d. elim (or_part (before_place case ts k (b ∷ w)) (rest_then (before_place case ts k) w) (sym (alive-folder case ts (b ∷ w) k d) ∙ a)) [
+      (fresh case ts (b ∷ w) k ≡ true) ⊎ ((is_dirs_at (slice_get ts k) ≡ true) × (alive case ts w k ≡ true))
+  alive_from_at k a = by_test (is_dirs_at (slice_get ts k))
+      (λ d. elim (or_part (before_place case ts k (b ∷ w)) (rest_then (before_place case ts k) w) (sym (alive-directory case ts (b ∷ w) k d) ∙ a)) [
         | inl t ↦ inl t
-        | inr t ↦ inr (d, alive-folder case ts w k d ∙ t)
+        | inr t ↦ inr (d, alive-directory case ts w k d ∙ t)
       ])
       (λ d. inl (sym (alive-plain case ts (b ∷ w) k d) ∙ a))
 
@@ -140,8 +140,8 @@ module _ (case : Case) (ts : List Token) (b : ℕ) (w : List ℕ) (bordered : is
   pub steps : IsStep case ts b (fresh case ts (b ∷ w)) (alive case ts (b ∷ w)) (alive case ts w)
   steps = record {
     growing = growing case ts (b ∷ w);
-    folder = λ k d a. alive-folder case ts (b ∷ w) k d ∙
-        or_right (before_place case ts k (b ∷ w)) (rest_then (before_place case ts k) w) (sym (alive-folder case ts w k d) ∙ a);
+    directory = λ k d a. alive-directory case ts (b ∷ w) k d ∙
+        or_right (before_place case ts k (b ∷ w)) (rest_then (before_place case ts k) w) (sym (alive-directory case ts w k d) ∙ a);
     stay = λ k h a. stay_at (token_before ts k) k refl h a;
     advance = λ k h a. advance_at (slice_get ts k) k refl h a;
     alive_from = λ k l a. alive_from_at k a;
@@ -163,11 +163,11 @@ back_from_nil case (set n ms) f h = cc
 pub starts : (case : Case) (ts : List Token) (b : ℕ) → IsStep case ts b (fresh case ts []) (alive case ts []) nothing
 starts case ts b = record {
   growing = growing case ts [];
-  folder = λ k d a. cc;
+  directory = λ k d a. cc;
   stay = λ k h a. cc;
   advance = λ k h a. cc;
-  alive_from = λ k l a. inl (by_test (is_folder (slice_get ts k))
-      (λ d. sym (alive-folder case ts [] k d) ∙ a) (λ d. sym (alive-plain case ts [] k d) ∙ a));
+  alive_from = λ k l a. inl (by_test (is_dirs_at (slice_get ts k))
+      (λ d. sym (alive-directory case ts [] k d) ∙ a) (λ d. sym (alive-plain case ts [] k d) ∙ a));
   fresh_from = λ k l h. inr (inr (from (slice_get ts k) k refl l h));
 }
   where

@@ -7,7 +7,7 @@ use Rattle.attr_wildmatch.specs.Bytes.{slash}
 use Rattle.attr_wildmatch.specs.Tokens.{Token, lit, one, set, star, dirs, rest, token_ends_in_slash}
 use Rattle.attr_wildmatch.specs.inner.Bordered.{is_bordered}
 use Rattle.attr_wildmatch.specs.Deciding.{byte_then, star_then, rest_then}
-use Rattle.attr_wildmatch.specs.inner.RowPlaces.{may_be_nothing, may_skip, is_folder, IsGrowing}
+use Rattle.attr_wildmatch.specs.inner.RowPlaces.{may_be_nothing, may_skip, is_dirs_at, IsGrowing}
 use Rattle.attr_wildmatch.proofs.Basics.{by_test, and_parts, or_left, true_false}
 use Rattle.attr_wildmatch.proofs.Reached.{reached, back_then, fresh, alive}
 
@@ -25,11 +25,11 @@ pub fresh-next : (case : Case) (ts : List Token) (v : List ℕ) (k : ℕ) (t : T
 fresh-next case ts v k t h =
     ap (λ x. reached case x v) (ap reverse (ap (λ x. take x ts) (add-one k) ∙ take-next ts k t h) ∙ reverse-append (take k ts) (t ∷ []))
 
-pub alive-folder : (case : Case) (ts : List Token) (v : List ℕ) (k : ℕ) → is_folder (slice_get ts k) ≡ true →
+pub alive-directory : (case : Case) (ts : List Token) (v : List ℕ) (k : ℕ) → is_dirs_at (slice_get ts k) ≡ true →
     alive case ts v k ≡ rest_then (before_place case ts k) v
-alive-folder case ts v k h = ap (λ x. cond x (rest_then (before_place case ts k) v) (fresh case ts v k)) h
+alive-directory case ts v k h = ap (λ x. cond x (rest_then (before_place case ts k) v) (fresh case ts v k)) h
 
-pub alive-plain : (case : Case) (ts : List Token) (v : List ℕ) (k : ℕ) → is_folder (slice_get ts k) ≡ false → alive case ts v k ≡ fresh case ts v k
+pub alive-plain : (case : Case) (ts : List Token) (v : List ℕ) (k : ℕ) → is_dirs_at (slice_get ts k) ≡ false → alive case ts v k ≡ fresh case ts v k
 alive-plain case ts v k h = ap (λ x. cond x (rest_then (before_place case ts k) v) (fresh case ts v k)) h
 
 rest_now : (f : List ℕ → Bool) (v : List ℕ) → f v ≡ true → rest_then f v ≡ true
@@ -50,8 +50,8 @@ skip_back case (set n ms) f v h k = cc
 
 pub growing : (case : Case) (ts : List Token) (v : List ℕ) → IsGrowing ts (fresh case ts v) (alive case ts v)
 growing case ts v = record {
-  living = λ k h. by_test (is_folder (slice_get ts k))
-      (λ t. alive-folder case ts v k t ∙ rest_now (before_place case ts k) v h)
+  living = λ k h. by_test (is_dirs_at (slice_get ts k))
+      (λ t. alive-directory case ts v k t ∙ rest_now (before_place case ts k) v h)
       (λ f. alive-plain case ts v k f ∙ h);
   skip = λ k s h. skipped (slice_get ts k) k refl s h;
 }
@@ -60,7 +60,7 @@ growing case ts v = record {
     skipped None k e s h = cc
     skipped (Some t) k e s h = fresh-next case ts v k t e ∙ skip_back case t (before_place case ts k) v s h
 
-plain_head : (border : Bool) (ts : List Token) → is_bordered border ts ≡ true → border ≡ false → is_folder (slice_get ts 0) ≡ false
+plain_head : (border : Bool) (ts : List Token) → is_bordered border ts ≡ true → border ≡ false → is_dirs_at (slice_get ts 0) ≡ false
 plain_head border [] h e = refl
 plain_head border (dirs ∷ ts) h e = absurd (true_false border (and_parts border (is_bordered true ts) h).0 e)
 plain_head border (lit c ∷ ts) h e = refl
@@ -69,21 +69,21 @@ plain_head border (set m ms ∷ ts) h e = refl
 plain_head border (star ∷ ts) h e = refl
 plain_head border (rest ∷ ts) h e = refl
 
--- after a star or a rest stands no folder star
-pub no_folder_behind : (border : Bool) (ts : List Token) (k : ℕ) (t : Token) → is_bordered border ts ≡ true → slice_get ts k ≡ Some t →
-    token_ends_in_slash t ≡ false → is_folder (slice_get ts (suc k)) ≡ false
-no_folder_behind border [] k t h e n = refl
-no_folder_behind border (dirs ∷ ts) zero t h e n = let same : dirs ≡ t = cc in absurd
+-- after a star or a rest stands no directory star
+pub no_directory_behind : (border : Bool) (ts : List Token) (k : ℕ) (t : Token) → is_bordered border ts ≡ true → slice_get ts k ≡ Some t →
+    token_ends_in_slash t ≡ false → is_dirs_at (slice_get ts (suc k)) ≡ false
+no_directory_behind border [] k t h e n = refl
+no_directory_behind border (dirs ∷ ts) zero t h e n = let same : dirs ≡ t = cc in absurd
     (true_false true refl (subst (λ x. token_ends_in_slash x ≡ false) (sym same) n))
-no_folder_behind border (lit c ∷ ts) zero t h e n = let same : lit c ≡ t = cc in plain_head (token_ends_in_slash (lit c)) ts h
+no_directory_behind border (lit c ∷ ts) zero t h e n = let same : lit c ≡ t = cc in plain_head (token_ends_in_slash (lit c)) ts h
     (subst (λ x. token_ends_in_slash x ≡ false) (sym same) n)
-no_folder_behind border (one ∷ ts) zero t h e n = plain_head false ts h refl
-no_folder_behind border (set m ms ∷ ts) zero t h e n = plain_head false ts h refl
-no_folder_behind border (star ∷ ts) zero t h e n = plain_head false ts h refl
-no_folder_behind border (rest ∷ ts) zero t h e n = plain_head false ts h refl
-no_folder_behind border (dirs ∷ ts) (suc k) t h e n = no_folder_behind true ts k t (and_parts border (is_bordered true ts) h).1 e n
-no_folder_behind border (lit c ∷ ts) (suc k) t h e n = no_folder_behind (token_ends_in_slash (lit c)) ts k t h e n
-no_folder_behind border (one ∷ ts) (suc k) t h e n = no_folder_behind false ts k t h e n
-no_folder_behind border (set m ms ∷ ts) (suc k) t h e n = no_folder_behind false ts k t h e n
-no_folder_behind border (star ∷ ts) (suc k) t h e n = no_folder_behind false ts k t h e n
-no_folder_behind border (rest ∷ ts) (suc k) t h e n = no_folder_behind false ts k t h e n
+no_directory_behind border (one ∷ ts) zero t h e n = plain_head false ts h refl
+no_directory_behind border (set m ms ∷ ts) zero t h e n = plain_head false ts h refl
+no_directory_behind border (star ∷ ts) zero t h e n = plain_head false ts h refl
+no_directory_behind border (rest ∷ ts) zero t h e n = plain_head false ts h refl
+no_directory_behind border (dirs ∷ ts) (suc k) t h e n = no_directory_behind true ts k t (and_parts border (is_bordered true ts) h).1 e n
+no_directory_behind border (lit c ∷ ts) (suc k) t h e n = no_directory_behind (token_ends_in_slash (lit c)) ts k t h e n
+no_directory_behind border (one ∷ ts) (suc k) t h e n = no_directory_behind false ts k t h e n
+no_directory_behind border (set m ms ∷ ts) (suc k) t h e n = no_directory_behind false ts k t h e n
+no_directory_behind border (star ∷ ts) (suc k) t h e n = no_directory_behind false ts k t h e n
+no_directory_behind border (rest ∷ ts) (suc k) t h e n = no_directory_behind false ts k t h e n

@@ -4,7 +4,8 @@ use Rattle.std.proofs.Common.{inl, inr, sym, ap, subst, ◌∙◌, append-nil, a
 use Rattle.std.specs.List.{range_with_len}
 use Rattle.attr_wildmatch.specs.declared.case.Case.{Case}
 use Rattle.attr_wildmatch.specs.Tokens.{Token}
-use Rattle.attr_wildmatch.specs.inner.RowPlaces.{may_skip, is_folder, stays_on, advances_on, token_before, places_below, IsRow, IsSettled, IsUnderway}
+use Rattle.attr_wildmatch.specs.inner.RowPlaces.{may_skip, is_dirs_at, stays_on, advances_on, token_before, places_below}
+use Rattle.attr_wildmatch.specs.inner.RowPlaces.{IsRow, IsSettled, IsUnderway}
 use Rattle.attr_wildmatch.proofs.Basics.{by_test}
 
 filter_range-more : (test : ℕ → Bool) (n a : ℕ) →
@@ -95,13 +96,13 @@ pub silent : {case : Case} {ts : List Token} {b : ℕ} {fresh alive before : ℕ
 silent {case} {ts} {b} {fresh} {alive} {before} {row} {p} {free} u m k l h =
     by_test (alive k) (λ t. absurd (elim (u.step.alive_from k (omega arith) t) [
       | inl f ↦ true_false _ f (silent_fresh u k l (omega arith) (omega arith) (λ q. absurd (omega arith)))
-      | inr w ↦ let z : k < free = u.settled.folder k h w.1 w.0 in absurd (omega arith)
+      | inr w ↦ let z : k < free = u.settled.directory k h w.1 w.0 in absurd (omega arith)
     ])) (λ f. f)
 
 -- the same with the place p itself, where it doesn't stay
 pub silent_next : {case : Case} {ts : List Token} {b : ℕ} {fresh alive before : ℕ → Bool} {row : List ℕ} {p free : ℕ} →
     IsUnderway case ts b fresh alive before row p free → p ≤ length ts → before p ≡ true →
-    (stays_on (token_before ts p) b ≡ true → p < free) → (is_folder (slice_get ts p) ≡ true → p < free) →
+    (stays_on (token_before ts p) b ≡ true → p < free) → (is_dirs_at (slice_get ts p) ≡ true → p < free) →
     (k : ℕ) → free ≤ k → k < p + 1 → alive k ≡ false
 silent_next {case} {ts} {b} {fresh} {alive} {before} {row} {p} {free} u m o c d k l h = elim (below_or_at k p h) [
   | inl q ↦ silent u (omega arith) k l q
@@ -122,7 +123,7 @@ pub settled-grown : {case : Case} {ts : List Token} {b : ℕ} {before : ℕ → 
     IsSettled case ts b before p free → free ≤ more → IsSettled case ts b before p more
 settled-grown {case} {ts} {b} {before} {p} {free} more s l = record {
   stay = λ k h o c. let z : k < free = s.stay k h o c in omega arith;
-  folder = λ k h o c. let z : k < free = s.folder k h o c in omega arith;
+  directory = λ k h o c. let z : k < free = s.directory k h o c in omega arith;
   advance = λ k h o c. let z : k + 1 < free = s.advance k h o c in omega arith;
 }
 
@@ -139,7 +140,7 @@ pub settled-skip : {case : Case} {ts : List Token} {b : ℕ} {before : ℕ → B
     IsSettled case ts b before p free → ((k : ℕ) → p ≤ k → k < q → before k ≡ false) → IsSettled case ts b before q free
 settled-skip {case} {ts} {b} {before} {p} {free} q s none = record {
   stay = λ k h o c. s.stay k (below k h o) o c;
-  folder = λ k h o c. s.folder k (below k h o) o c;
+  directory = λ k h o c. s.directory k (below k h o) o c;
   advance = λ k h o c. s.advance k (below k h o) o c;
 }
   where
@@ -151,16 +152,16 @@ settled-skip {case} {ts} {b} {before} {p} {free} q s none = record {
 
 pub settled-next : {case : Case} {ts : List Token} {b : ℕ} {before : ℕ → Bool} {p free : ℕ} →
     IsSettled case ts b before p free → (stays_on (token_before ts p) b ≡ true → p < free) →
-    (is_folder (slice_get ts p) ≡ true → p < free) → (advances_on case (slice_get ts p) b ≡ true → p + 1 < free) →
+    (is_dirs_at (slice_get ts p) ≡ true → p < free) → (advances_on case (slice_get ts p) b ≡ true → p + 1 < free) →
     IsSettled case ts b before (p + 1) free
 settled-next {case} {ts} {b} {before} {p} {free} s c d e = record {
   stay = λ k h o t. elim (below_or_at k p h) [
     | inl q ↦ s.stay k q o t
     | inr q ↦ let z : p < free = c (subst (λ x. stays_on (token_before ts x) b ≡ true) q t) in omega arith
   ];
-  folder = λ k h o t. elim (below_or_at k p h) [
-    | inl q ↦ s.folder k q o t
-    | inr q ↦ let z : p < free = d (subst (λ x. is_folder (slice_get ts x) ≡ true) q t) in omega arith
+  directory = λ k h o t. elim (below_or_at k p h) [
+    | inl q ↦ s.directory k q o t
+    | inr q ↦ let z : p < free = d (subst (λ x. is_dirs_at (slice_get ts x) ≡ true) q t) in omega arith
   ];
   advance = λ k h o t. elim (below_or_at k p h) [
     | inl q ↦ s.advance k q o t
@@ -237,6 +238,6 @@ empty_row ts fresh alive row e = record {
 pub settled-none : (case : Case) (ts : List Token) (b : ℕ) (before : ℕ → Bool) (free : ℕ) → IsSettled case ts b before 0 free
 settled-none case ts b before free = record {
   stay = λ k h o t. absurd (omega arith);
-  folder = λ k h o t. absurd (omega arith);
+  directory = λ k h o t. absurd (omega arith);
   advance = λ k h o t. absurd (omega arith);
 }

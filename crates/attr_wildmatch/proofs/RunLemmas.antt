@@ -10,7 +10,7 @@ use Rattle.attr_wildmatch.specs.declared.case.Case.{Case}
 use Rattle.attr_wildmatch.specs.Tokens.{Token}
 use Rattle.attr_wildmatch.specs.inner.Bordered.{is_bordered}
 use Rattle.attr_wildmatch.specs.Matching.{Match, ReachedAtMost, pairs_passed}
-use Rattle.attr_wildmatch.specs.inner.RowPlaces.{places_below, is_folder, IsStep, IsRow}
+use Rattle.attr_wildmatch.specs.inner.RowPlaces.{places_below, is_dirs_at, IsStep, IsRow}
 use Rattle.attr_wildmatch.proofs.Basics.{by_test, true_false, Each, all_of_each}
 use Rattle.attr_wildmatch.proofs.TokenLemmas.{slice_get-missing}
 use Rattle.attr_wildmatch.specs.inner.RowPlaces.{IsUnderway}
@@ -73,7 +73,7 @@ at_start case ts value row free r p l q =
       step = starts case ts 0;
       first = λ e. absurd (omega arith);
       row_is = r;
-      settled = record { stay = λ k h o t. cc; folder = λ k h o t. cc; advance = λ k h o t. cc };
+      settled = record { stay = λ k h o t. cc; directory = λ k h o t. cc; advance = λ k h o t. cc };
     } in
     let none : (k : ℕ) → free ≤ k → k ≤ length ts → alive case ts [] k ≡ false = λ k a b. silent u (omega arith) k a (omega arith) in
     let whole = row-whole case ts [] row free r l none in
@@ -153,7 +153,7 @@ dead case ts value i bordered none (suc d) h k l =
       row_is = empty_row ts (fresh case ts (first_bytes value (i + d + 1))) (alive case ts (first_bytes value (i + d + 1))) [] refl;
       settled = record {
         stay = λ q m o t. absurd (true_false _ o (before q (omega arith)));
-        folder = λ q m o t. absurd (true_false _ o (before q (omega arith)));
+        directory = λ q m o t. absurd (true_false _ o (before q (omega arith)));
         advance = λ q m o t. absurd (true_false _ o (before q (omega arith)));
       };
     } in
@@ -181,7 +181,7 @@ missed case ts value visits h = λ test sound.
 
 match_of_last : (case : Case) (ts : List Token) (value : List ℕ) → alive_at case ts value (length ts) (length value) ≡ true → Match case ts value
 match_of_last case ts value h =
-    let tail : is_folder (slice_get ts (length ts)) ≡ false = ap is_folder (slice_get-missing ts (length ts) (omega arith)) in
+    let tail : is_dirs_at (slice_get ts (length ts)) ≡ false = ap is_dirs_at (slice_get-missing ts (length ts) (omega arith)) in
     let f = sym (alive-plain case ts (first_bytes value (length value)) (length ts) tail) ∙ h in
     let m = match_of_reached case (reverse (take (length ts) ts)) (first_bytes value (length value)) f in
     subst (λ x. Match case x value) (reverse-reverse (take (length ts) ts) ∙ take_all (length ts) ts (omega arith))

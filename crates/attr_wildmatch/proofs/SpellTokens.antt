@@ -5,7 +5,7 @@ use Rattle.std.proofs.lemmas.List.{length-replicate}
 use Rattle.attr_wildmatch.specs.declared.bracket.Member.{Member}
 use Rattle.attr_wildmatch.specs.Bytes.{exclamation_mark, asterisk, slash, question_mark, open_bracket, backslash, caret}
 use Rattle.attr_wildmatch.specs.Brackets.{negates, begins, members}
-use Rattle.attr_wildmatch.specs.Tokens.{Token, lit, one, set, star, dirs, rest, after_stars, folder_at, stars_at, bracket_at, escape_at, token_at}
+use Rattle.attr_wildmatch.specs.Tokens.{Token, lit, one, set, star, dirs, rest, after_stars, directory_at, stars_at, bracket_at, escape_at, token_at}
 use Rattle.attr_wildmatch.specs.Tokens.{token_ends_in_slash, tokens_from, tokens}
 use Rattle.attr_wildmatch.specs.Spelling.{AreMembers, IsRun, IsToken, AreTokens}
 use Rattle.attr_wildmatch.proofs.Basics.{by_test, by_option, pair_parts, unequal, equal, equal_so, not_equal, and_parts, and_both, or_part, or_left}
@@ -68,7 +68,7 @@ begins_run (suc n) others h e = omega arith
 
 pub stars_spelled : (border : Bool) (bs : List ℕ) → IsToken border (asterisk ∷ bs) (stars_at border bs).0 (stars_at border bs).1
 stars_spelled border bs = by_test (border && begins asterisk bs)
-    (λ t. let w = and_parts border (begins asterisk bs) t in rw t (folder (stars_of bs) w.0 w.1 (after_stars bs) refl))
+    (λ t. let w = and_parts border (begins asterisk bs) t in rw t (directory (stars_of bs) w.0 w.1 (after_stars bs) refl))
     (λ f. rw f (let s = stars_of bs in (
       s.count,
       (ap (λ x. asterisk ∷ x) s.whole, s.longest),
@@ -82,9 +82,9 @@ stars_spelled border bs = by_test (border && begins asterisk bs)
     positive zero l = absurd (omega arith)
     positive (suc m) l = (m, refl)
 
-    folder : Stars bs → border ≡ true → begins asterisk bs ≡ true → (after : List ℕ) → after_stars bs ≡ after → IsToken border (asterisk ∷ bs)
-        (folder_at after).0 (folder_at after).1
-    folder s b g [] e =
+    directory : Stars bs → border ≡ true → begins asterisk bs ≡ true → (after : List ℕ) → after_stars bs ≡ after → IsToken border (asterisk ∷ bs)
+        (directory_at after).0 (directory_at after).1
+    directory s b g [] e =
         let p = positive s.count (s.some g) in (
           p.0,
           b,
@@ -92,7 +92,7 @@ stars_spelled border bs = by_test (border && begins asterisk bs)
               (append-nil (replicate s.count asterisk) ∙ ap (λ x. replicate x asterisk) p.1))),
           refl,
         )
-    folder s b g (c ∷ cs) e =
+    directory s b g (c ∷ cs) e =
         let p = positive s.count (s.some g) in
         let whole : asterisk ∷ bs ≡ asterisk ∷ (replicate s.count asterisk ++ c ∷ cs) = ap (λ x. asterisk ∷ x)
         (s.whole ∙ ap (λ x. replicate s.count asterisk ++ x) e) in
@@ -201,12 +201,12 @@ token_read border text star others h = record {
   read = ap Some (by_test (border && begins asterisk (replicate h.0 asterisk ++ others))
       (λ t. let w = and_parts border (begins asterisk (replicate h.0 asterisk ++ others)) t in
       let q = h.2 w.0 (begins_run h.0 others h.1.1 w.1) in
-      rw (t, after_run h.0 others h.1.1) (not_folder q.0 q.1 q.2 q.3))
+      rw (t, after_run h.0 others h.1.1) (not_directory q.0 q.1 q.2 q.3))
       (λ f. rw (f, after_run h.0 others h.1.1)));
 }
   where
-    not_folder : (b : ℕ) (more : List ℕ) → others ≡ b ∷ more → b ≢ slash → folder_at others ≡ (star, others)
-    not_folder b more e n = ap folder_at e ∙ (let same : folder_at (b ∷ more) ≡ (star, b ∷ more) = rw (unequal b slash n) in same ∙ ap
+    not_directory : (b : ℕ) (more : List ℕ) → others ≡ b ∷ more → b ≢ slash → directory_at others ≡ (star, others)
+    not_directory b more e n = ap directory_at e ∙ (let same : directory_at (b ∷ more) ≡ (star, b ∷ more) = rw (unequal b slash n) in same ∙ ap
         (λ x. (star, x)) (sym e))
 token_read border text dirs others h = record {
   byte = asterisk;

@@ -68,12 +68,12 @@ looked_up ts k None h e = sym (slice_get_tokens_of ts k ∙ ap (option_map token
 looked_up ts k (Some x) h e = sym (slice_get_tokens_of ts k ∙ ap (option_map token_of)
     (slice_get-found ts k x.now (ltb-true k (length ts) (sym h)) e))
 
--- what follows tokens that end so: a folder star only where the last one ends in a slash
+-- what follows tokens that end so: a directory star only where the last one ends in a slash
 abbrev pub border_after : Bool → List Token → Bool
 border_after border [] = border
 border_after border (t ∷ ts) = border_after (token_ends_in_slash t) ts
 
--- a folder star is read only at a border
+-- a directory star is read only at a border
 abbrev pub fits_border : Bool → Token → Bool
 fits_border border dirs = border
 fits_border border t = true

@@ -1,4 +1,4 @@
--- Slashes in texts (gitignore page: the slash separates folders).
+-- Slashes in texts (gitignore page: the slash separates directories).
 use Rattle.std.specs.Prelude.{ℕ, ◌-◌, Bool, ◌==◌, List, length, slice_index}
 use Rattle.attr_wildmatch.specs.Bytes.{slash}
 

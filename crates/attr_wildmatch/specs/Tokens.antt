@@ -25,13 +25,13 @@ after_stars [] = []
 after_stars (b ∷ bs) = if b == asterisk then after_stars bs else b ∷ bs
 
 -- the token of a run of two or more stars, at the text's start or after a slash, which these bytes follow
-abbrev pub folder_at : List ℕ → Token × List ℕ
-folder_at [] = (rest, [])
-folder_at (b ∷ bs) = if b == slash then (dirs, bs) else (star, b ∷ bs)
+abbrev pub directory_at : List ℕ → Token × List ℕ
+directory_at [] = (rest, [])
+directory_at (b ∷ bs) = if b == slash then (dirs, bs) else (star, b ∷ bs)
 
 -- the token of a run of stars whose first one these bytes follow
 abbrev pub stars_at : Bool → List ℕ → Token × List ℕ
-stars_at border bs = if border && begins asterisk bs then folder_at (after_stars bs) else (star, after_stars bs)
+stars_at border bs = if border && begins asterisk bs then directory_at (after_stars bs) else (star, after_stars bs)
 
 -- the token of a bracket, given the bytes after its `[`
 abbrev pub bracket_at : List ℕ → Option (Token × List ℕ)

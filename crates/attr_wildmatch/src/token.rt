@@ -28,7 +28,7 @@ pub(crate) enum Token {
     },
     /// `*`: any text without a slash.
     Star,
-    /// A folder star, which is `**/` at the start or after a slash: nothing, or any text that ends in a slash.
+    /// A directory star, which is `**/` at the start or after a slash: nothing, or any text that ends in a slash.
     Dirs,
     /// `**` at the end, if it is at the start too or after a slash: any text.
     Rest,
@@ -65,8 +65,8 @@ impl Token {
         }
     }
 
-    // Whether the token is a folder star.
-    pub(crate) fn is_folder_star(&self) -> bool
+    // Whether the token is a directory star.
+    pub(crate) fn is_directory_star(&self) -> bool
         ensures { result ≡ is_dirs (token_of self.now) }
     {
         match self {
@@ -98,7 +98,7 @@ impl Token {
         }
     }
 
-    // Whether the token's text ends in a slash, so that a folder star may follow.
+    // Whether the token's text ends in a slash, so that a directory star may follow.
     fn ends_in_slash(&self) -> bool
         ensures { result ≡ meaning_ends_in_slash (token_of self.now) }
     {

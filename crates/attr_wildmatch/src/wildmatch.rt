@@ -1,6 +1,6 @@
 //! Matching of tokens against a value: a row of places moves forward over the bytes of the value.
 //!
-//! A row has the place k if the first k tokens match the bytes so far, or if token k is a folder star (`**/`) and the
+//! A row has the place k if the first k tokens match the bytes so far, or if token k is a directory star (`**/`) and the
 //! first k tokens match some first part of these bytes. So no pair of a place among the tokens and a place in the
 //! value is visited twice.
 
@@ -13,7 +13,7 @@ ghost use Rattle.attr_wildmatch.specs.Matching.{Match, ReachedAtMost, TextMatche
 ghost use Rattle.attr_wildmatch.specs.Deciding.{matches, text_matches};
 ghost use Rattle.attr_wildmatch.specs.inner.Left.{IsLeft};
 ghost use Rattle.attr_wildmatch.specs.inner.Stretches.{front_left};
-ghost use Rattle.attr_wildmatch.specs.inner.RowPlaces.{may_skip, is_folder, stays_on, advances_on, token_before, places_below, IsGrowing, IsStep, IsRow, IsUnderway, NoneAlive, HasStayed, HasRoom, IsExtended, KeepsCapacity};
+ghost use Rattle.attr_wildmatch.specs.inner.RowPlaces.{may_skip, is_dirs_at, stays_on, advances_on, token_before, places_below, IsGrowing, IsStep, IsRow, IsUnderway, NoneAlive, HasStayed, HasRoom, IsExtended, KeepsCapacity};
 
 use crate::case::Case;
 use crate::token::{Token, Tokens};
@@ -75,8 +75,8 @@ fn insert(tokens: &[Token], row: &mut Vec<usize>, free: usize, place: usize) -> 
     last + 1
 }
 
-// Adds the place of a folder star to the row, unless the row has it. It stays in the row, and need not be fresh.
-fn insert_folder(tokens: &[Token], row: &mut Vec<usize>, free: usize, place: usize) -> usize
+// Adds the place of a directory star to the row, unless the row has it. It stays in the row, and need not be fresh.
+fn insert_directory(tokens: &[Token], row: &mut Vec<usize>, free: usize, place: usize) -> usize
     requires inside { place ≤ length tokens.now }
     requires room { HasRoom (length tokens.now) row.old free }
     ensures added { place < result }
@@ -117,14 +117,14 @@ impl Step<'_> {
         }
     }
 
-    // Whether the token of the place is a folder star, whose place stays for good.
-    fn is_folder_star(&self, place: usize) -> bool
-        ensures folder { result ≡ is_folder (slice_get (tokens_of self.now.tokens.now) place) }
+    // Whether the token of the place is a directory star, whose place stays for good.
+    fn is_directory_star(&self, place: usize) -> bool
+        ensures directory { result ≡ is_dirs_at (slice_get (tokens_of self.now.tokens.now) place) }
         ensures inside { IsTrue result → place < length self.now.tokens.now }
     {
         match token_at(self.tokens, place) {
             None => false,
-            Some(token) => token.is_folder_star(),
+            Some(token) => token.is_directory_star(),
         }
     }
 
@@ -155,8 +155,8 @@ impl Step<'_> {
         if self.stays(place) {
             return insert(self.tokens, row, free, place);
         }
-        if self.is_folder_star(place) {
-            return insert_folder(self.tokens, row, free, place);
+        if self.is_directory_star(place) {
+            return insert_directory(self.tokens, row, free, place);
         }
         free
     }
@@ -412,7 +412,7 @@ impl Tokens {
         let Some((tokens, value)) = skip_ends(self.as_slice(), value, case) else {
             return false;
         };
-        folders::match_early(tokens, value, case, rows)
+        directories::match_early(tokens, value, case, rows)
     }
 }
 
@@ -453,6 +453,6 @@ pub fn tests_tell_match(case: Case, text: &[u8], value: &[u8])
         ↔ TextMatches case text.now value.now }
 {}
 
+mod directories;
 mod first_bytes;
-mod folders;
 mod stretches;

@@ -14,9 +14,9 @@ use Rattle.check_attr.specs.declared.script.Form.{Form}
 use Rattle.check_attr.specs.declared.script.Form.TheVariants.{Line, Zero, Origin}
 use Rattle.gix_attributes.specs.EngineStates.{AddedFile}
 use Rattle.check_attr.specs.Script.{Question, Record, add, pop, names, ask, space, header, macros_word, root_word, form_word, case_word}
-use Rattle.check_attr.specs.Script.{folder_word}
+use Rattle.check_attr.specs.Script.{directory_word}
 use Rattle.check_attr.specs.Script.{ended_line, spelled, IsHeaderNumber, IsShortText, IsNameLine, CanBeWritten, BeginsWithRecord, IsMalformed}
-use Rattle.check_attr.specs.inner.ScriptParts.{◌then◌, AddHeader, AskHeader, choice_of, macro_flags, forms, cases, folder_flags, strip_prefix}
+use Rattle.check_attr.specs.inner.ScriptParts.{◌then◌, AddHeader, AskHeader, choice_of, macro_flags, forms, cases, directory_flags, strip_prefix}
 use Rattle.check_attr.specs.inner.ScriptParts.{split_once, split_at}
 use Rattle.check_attr.specs.inner.ScriptParts.{if_text, is_number, digits_value, number_before, root_length, root_of, add_header, addition_of}
 use Rattle.check_attr.specs.inner.ScriptParts.{text_lines, ask_header, question_of}
@@ -53,7 +53,7 @@ addition_words : AddedFile → List (List ℕ)
 addition_words a = macros_word a.allow_macros ∷ decimal (length a.source) ∷ root_word a.root ∷ decimal (length a.buffer) ∷ []
 
 question_words : Question → List (List ℕ)
-question_words q = form_word q.form ∷ case_word q.case ∷ folder_word q.is_dir ∷ decimal (length q.path) ∷ []
+question_words q = form_word q.form ∷ case_word q.case ∷ directory_word q.is_dir ∷ decimal (length q.path) ∷ []
 
 addition_parts : AddedFile → List ℕ → List ℕ
 addition_parts a rest = a.source ++ (unwrap_or a.root [] ++ (a.buffer ++ line_feed ∷ rest))
@@ -100,10 +100,10 @@ cases-back : (c : Case) (rest : List ℕ) → choice_of cases (case_word c ++ sp
 cases-back Sensitive rest = refl
 cases-back Fold rest = refl
 
-folders-back : (d : Option Bool) (rest : List ℕ) → choice_of folder_flags (folder_word d ++ space ∷ rest) ≡ Some (d, rest)
-folders-back (Some true) rest = refl
-folders-back (Some false) rest = refl
-folders-back None rest = refl
+directories-back : (d : Option Bool) (rest : List ℕ) → choice_of directory_flags (directory_word d ++ space ∷ rest) ≡ Some (d, rest)
+directories-back (Some true) rest = refl
+directories-back (Some false) rest = refl
+directories-back None rest = refl
 
 -- a number does not begin with `-`
 no_minus : (digits rest others : List ℕ) → 0 < length digits → list_all is_ascii_digit digits ≡ true → digits ++ rest ≡ 45 ∷ others → ⊥
@@ -192,7 +192,7 @@ record_of-text_with (ask q) rest can =
     then-step _ _ _
     (then-step _ _ _ (forms-back q.form _)
     ∙ (then-step _ _ _ (cases-back q.case _)
-    ∙ ap (option_map _) (folders-back q.is_dir _)))
+    ∙ ap (option_map _) (directories-back q.is_dir _)))
     ∙ ap (option_map _)
     (then-step _ _ _ (number_before-back line_feed (length q.path) _ refl can)
     ∙ then-step _ _ _ (split_at-back (length q.path) q.path (line_feed ∷ rest) refl))
@@ -259,10 +259,10 @@ cases-only : (bytes : List ℕ) (c : Case) (rest : List ℕ) → choice_of cases
 unfolding spaced
 cases-only bytes c rest e = choice-only case_word bytes c rest (choice_of-only (spaced case_word) cases (refl, (refl, tt)) bytes c rest e)
 
-folders-only : (bytes : List ℕ) (d : Option Bool) (rest : List ℕ) → choice_of folder_flags bytes ≡ Some (d, rest)
-    → bytes ≡ folder_word d ++ space ∷ rest
+directories-only : (bytes : List ℕ) (d : Option Bool) (rest : List ℕ) → choice_of directory_flags bytes ≡ Some (d, rest)
+    → bytes ≡ directory_word d ++ space ∷ rest
 unfolding spaced
-folders-only bytes d rest e = choice-only folder_word bytes d rest (choice_of-only (spaced folder_word) folder_flags (
+directories-only bytes d rest e = choice-only directory_word bytes d rest (choice_of-only (spaced directory_word) directory_flags (
   refl,
   (
     refl,
@@ -328,16 +328,16 @@ addition_of-only h bytes after a rest is e =
     )
 
 ask_header-only : (bytes : List ℕ) (h : AskHeader) (rest : List ℕ) → ask_header bytes ≡ Some (h, rest)
-    → bytes ≡ form_word h.form ++ space ∷ (case_word h.case ++ space ∷ (folder_word h.is_dir ++ space ∷ rest))
+    → bytes ≡ form_word h.form ++ space ∷ (case_word h.case ++ space ∷ (directory_word h.is_dir ++ space ∷ rest))
 ask_header-only bytes h rest e =
     let form = then-some (choice_of forms bytes) _ _ e in
     let case = then-some (choice_of cases form.0.1) _ _ form.2 in
-    let is_dir = map-some _ (choice_of folder_flags case.0.1) _ case.2 in
+    let is_dir = map-some _ (choice_of directory_flags case.0.1) _ case.2 in
     subst (λ (p : AskHeader × List ℕ). bytes ≡ form_word p.0.form ++ space ∷ (case_word p.0.case ++ space ∷
-    (folder_word p.0.is_dir ++ space ∷ p.1))) is_dir.2
+    (directory_word p.0.is_dir ++ space ∷ p.1))) is_dir.2
     (forms-only bytes form.0.0 form.0.1 form.1
     ∙ ap (λ xs. form_word form.0.0 ++ space ∷ xs) (cases-only form.0.1 case.0.0 case.0.1 case.1
-    ∙ ap (λ xs. case_word case.0.0 ++ space ∷ xs) (folders-only case.0.1 is_dir.0.0 is_dir.0.1 is_dir.1)))
+    ∙ ap (λ xs. case_word case.0.0 ++ space ∷ xs) (directories-only case.0.1 is_dir.0.0 is_dir.0.1 is_dir.1)))
 
 question_of-only : (h : AskHeader) (bytes : List ℕ) (q : Question) (rest : List ℕ) → question_of h bytes ≡ Some (q, rest)
     → (manner_of q ≡ h) × CanBeWritten (ask q) × (bytes ≡ decimal (length q.path) ++ line_feed ∷ (q.path ++ line_feed ∷ rest))
@@ -406,7 +406,7 @@ ask_record-only bytes after whole r rest e =
     let q = map-some _ (question_of h.0.0 h.0.1) (r, rest) h.2 in
     let is = question_of-only h.0.0 h.0.1 q.0.0 q.0.1 q.1 in
     let words : AskHeader → List ℕ → List ℕ = λ m xs. form_word m.form ++ space ∷ (case_word m.case ++ space ∷
-    (folder_word m.is_dir ++ space ∷ xs)) in
+    (directory_word m.is_dir ++ space ∷ xs)) in
     subst (λ (p : Record × List ℕ). CanBeWritten p.0 × (bytes ≡ text_with p.0 p.1)) q.2
     (is.1, whole ∙ ap (λ xs. codes "ask " ++ xs) (ask_header-only after h.0.0 h.0.1 h.1 ∙ λ i. words (sym is.0 i) (is.2 i)))
 

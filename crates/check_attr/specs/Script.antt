@@ -11,7 +11,7 @@ use Rattle.gix_attributes.specs.EngineStates.{AddedFile}
 use Rattle.check_attr.specs.declared.script.Form.{Form}
 use Rattle.check_attr.specs.declared.script.Form.TheVariants.{Line, Zero, Origin}
 
--- a path to look up: the form of the answers, how letters compare, whether the path is a folder if that is known, and its bytes
+-- a path to look up: the form of the answers, how letters compare, whether the path is a directory if that is known, and its bytes
 pub record Question : Type 0 where
   pub form : Form
   pub case : Case
@@ -52,11 +52,11 @@ abbrev pub case_word : Case → List ℕ
 case_word Sensitive = codes "s"
 case_word Fold = codes "i"
 
--- the path is a folder, is a file, or may be either
-abbrev pub folder_word : Option Bool → List ℕ
-folder_word (Some true) = codes "d"
-folder_word (Some false) = codes "f"
-folder_word None = codes "u"
+-- the path is a directory, is a file, or may be either
+abbrev pub directory_word : Option Bool → List ℕ
+directory_word (Some true) = codes "d"
+directory_word (Some false) = codes "f"
+directory_word None = codes "u"
 
 abbrev pub ended_line : List ℕ → List ℕ
 ended_line line = line ++ line_feed ∷ []
@@ -71,7 +71,7 @@ spelled (add a) =
 spelled pop = header (codes "pop" ∷ [])
 spelled (names lines) = header (codes "names" ∷ decimal (length lines) ∷ []) ++ flat_map ended_line lines
 spelled (ask q) =
-    header (codes "ask" ∷ form_word q.form ∷ case_word q.case ∷ folder_word q.is_dir ∷ decimal (length q.path) ∷ [])
+    header (codes "ask" ∷ form_word q.form ∷ case_word q.case ∷ directory_word q.is_dir ∷ decimal (length q.path) ∷ [])
     ++ ended_line q.path
 
 -- a number of a header has at most eight digits

@@ -6,7 +6,7 @@ ghost use Rattle.std.specs.List.{list_all};
 ghost use Rattle.std.specs.Option.{option_copied};
 ghost use Rattle.std.specs.Str.{is_utf8};
 ghost use Rattle.gix_attributes.specs.LinesJoined.{line_feed};
-ghost use Rattle.check_attr.specs.inner.ScriptParts.{IsFirstRecord, IsNumberBefore, strip_prefix, choice_of, cases, folder_flags, forms, macro_flags, split_once, split_at, if_text, is_number, digits_value, digit_zero, most_digits, number_before, root_length, root_of, add_header, addition_of, add_record, names_record, ask_record, text_lines, ask_header, question_of, ◌then◌};
+ghost use Rattle.check_attr.specs.inner.ScriptParts.{IsFirstRecord, IsNumberBefore, strip_prefix, choice_of, cases, directory_flags, forms, macro_flags, split_once, split_at, if_text, is_number, digits_value, digit_zero, most_digits, number_before, root_length, root_of, add_header, addition_of, add_record, names_record, ask_record, text_lines, ask_header, question_of, ◌then◌};
 ghost use Rattle.gix_attributes.specs.EngineView.{addition_view};
 ghost use Rattle.check_attr.specs.inner.ScriptViews.{add_header_view, ask_header_view, lines_view, part_view, question_view, record_view, with_rest};
 
@@ -49,7 +49,7 @@ pub struct Question<'a> {
     pub form: Form,
     /// Whether the case of ASCII letters matters.
     pub case: Case,
-    /// Whether the path is a folder, if that is known.
+    /// Whether the path is a directory, if that is known.
     pub is_dir: Option<bool>,
     /// The path, relative to the root of the repository.
     pub path: &'a [u8],
@@ -228,7 +228,7 @@ fn ask_header(bytes: &[u8]) -> Option<(AskHeader, &[u8])>
 {
     let (form, rest) = form_of(bytes)?;
     let (case, rest) = case_of(rest)?;
-    let (is_dir, rest) = folder_flag(rest)?;
+    let (is_dir, rest) = directory_flag(rest)?;
     Some((AskHeader { form, case, is_dir }, rest))
 }
 
@@ -253,8 +253,8 @@ fn case_of(bytes: &[u8]) -> Option<(Case, &[u8])>
     }
 }
 
-fn folder_flag(bytes: &[u8]) -> Option<(Option<bool>, &[u8])>
-    ensures { option_map (with_rest (λ d. d)) result ≡ choice_of folder_flags bytes.now }
+fn directory_flag(bytes: &[u8]) -> Option<(Option<bool>, &[u8])>
+    ensures { option_map (with_rest (λ d. d)) result ≡ choice_of directory_flags bytes.now }
 {
     match bytes {
         [b'd', b' ', rest @ ..] => Some((Some(true), rest)),

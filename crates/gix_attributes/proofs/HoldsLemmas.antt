@@ -13,8 +13,8 @@ use Rattle.std.proofs.lemmas.Map.Keys.{IsDistinct-push}
 use Rattle.attr_lists.specs.Collections.{Collection}
 use Rattle.attr_lists.specs.Definitions.{HoldsList, is_active}
 use Rattle.attr_lists.specs.ListViews.{entries_view}
-use Rattle.attr_lists.specs.inner.Keeping.{StayRegistered}
-use Rattle.attr_lists.specs.inner.Keeping.{OthersStayRegistered}
+use Rattle.attr_lists.specs.shared.Keeping.{StayRegistered}
+use Rattle.attr_lists.specs.shared.Keeping.{OthersStayRegistered}
 use Rattle.gix_attributes.specs.SearchViews.{AreHeld}
 use Rattle.gix_attributes.specs.inner.HeldLists.{AreHeldLists, IsHeldList}
 use Rattle.attr_index.specs.IndexedLists.{list_ids_of, lists_view}

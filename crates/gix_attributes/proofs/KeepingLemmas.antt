@@ -16,7 +16,7 @@ use Rattle.attr_lists.specs.Definitions.{is_active, last_body, of_other_lists, w
 use Rattle.attr_lists.specs.ListViews.{Entry, entries_view}
 use Rattle.attr_lists.specs.Numbers.{AppendsNames, AreNamed, IsNumberOf, names_in, numbered_lines, with_names}
 use Rattle.attr_lists.specs.declared.types.AttributeId.{AttributeId}
-use Rattle.attr_lists.specs.inner.Keeping.{IsNumbered, OthersStayRegistered, StayRegistered}
+use Rattle.attr_lists.specs.shared.Keeping.{IsNumbered, OthersStayRegistered, StayRegistered}
 use Rattle.attr_lists.specs.declared.types.TrackedAssignment.{TrackedAssignment}
 use Rattle.attr_lists.proofs.ForCallers.{added_for, get_or-map, list_numbered, number_at, of_other_lists-append, of_other_lists-own, removed_for}
 use Rattle.attr_lists.proofs.ForCallers.{with_names-extends}

@@ -13,7 +13,7 @@ use Rattle.attr_lists.specs.declared.types.TrackedAssignment.{TrackedAssignment}
 use Rattle.attr_table.specs.Setting.{Answer, Item, Line, Origin, Setting, body_of}
 use Rattle.attr_table.specs.Table.{Inside, IsEarliest, IsStable, Occurrence, Root, Slots, Table, item_at, line_at}
 use Rattle.attr_table.specs.Cut.{IsCut, IsCutAt, IsSearched, answer_at, answer_of, cause_at, full_answer, is_done, no_answers, origin_at}
-use Rattle.attr_table.specs.inner.Walk.{Walks, line_tasks, list_tasks, tasks_of}
+use Rattle.attr_table.specs.shared.Walk.{Walks, line_tasks, list_tasks, tasks_of}
 use Rattle.attr_table.proofs.ForCallers.{searched_walked, seen_others, seen_wanted, walked_searched}
 use Rattle.attr_table.proofs.ForCallers.{OneTable-of}
 use Rattle.gix_attributes.specs.Contents.{Content, Wanted, has_number, is_wanted, wanted_of}

@@ -10,7 +10,7 @@ use Rattle.attr_index.specs.IndexedLists.{lists_view}
 use Rattle.attr_index.specs.ListView.{Listed}
 use Rattle.attr_index.specs.declared.indexed_list.IndexedList.{IndexedList}
 use Rattle.attr_search.specs.SearchContents.{SearchContents}
-use Rattle.attr_search.specs.inner.SlotContents.{wanted_numbers}
+use Rattle.attr_search.specs.shared.SlotContents.{wanted_numbers}
 use Rattle.gix_attributes.specs.ContentView.{outcome_view}
 use Rattle.gix_attributes.specs.Contents.{Content, reset_content, is_wanted, wanted_of}
 use Rattle.gix_attributes.specs.inner.Consistency.{flags_of}

@@ -7,7 +7,7 @@ use Rattle.std.specs.List.{AllZip}
 use Rattle.std.proofs.lemmas.List.Elements.{same_from_all_zip}
 use Rattle.std.proofs.lemmas.Bool.{cases_eq, cases_lt}
 use Rattle.std.proofs.lemmas.List.{ext_get_or, get_or-set_other, get_or-set_same, get_or_past}
-use Rattle.attr_lists.specs.inner.MacroNumbers.{ListsMacros}
+use Rattle.attr_lists.specs.shared.MacroNumbers.{ListsMacros}
 use Rattle.attr_search.proofs.ForCallers.{at_other, length_changed, length_sized}
 use Rattle.std.proofs.Common.{rules, ◌≡◌, ℕ, zero, suc, ◌+◌, ◌<◌, Bool, true, false, ◌||◌, ◌==◌, List, [], ◌∷◌, ◌++◌, length, get_or, set, take, Some}
 use Rattle.std.proofs.Common.{None, option_map, unwrap_or, refl, sym, ap, ◌∙◌, ◌-◌, arith, replicate}
@@ -27,8 +27,8 @@ use Rattle.gix_attributes.specs.Contents.{has_number, is_wanted, bodies_of}
 use Rattle.gix_attributes.specs.inner.BodiesMade.{AreMade, bodies_for, changed_at}
 use Rattle.gix_attributes.specs.inner.Consistency.{AreEmptyElsewhere, flags_of}
 use Rattle.gix_attributes.specs.Selection.{wanted_view, selection_view}
-use Rattle.attr_search.specs.inner.Slotted.{bodies_view}
-use Rattle.attr_search.specs.inner.BodyChanges.{changed_bodies, sized_bodies}
+use Rattle.attr_search.specs.shared.Slotted.{bodies_view}
+use Rattle.attr_search.specs.shared.BodyChanges.{changed_bodies, sized_bodies}
 use Rattle.attr_search.specs.declared.bodies.BodyChange.{BodyChange}
 use Rattle.gix_attributes.specs.declared.search.selected_name.SelectedName.{SelectedName}
 

@@ -1,5 +1,5 @@
 -- The paths of the attributes files outside a worktree (gitattributes page; own: the files of an installation and of a system,
--- and how folders and files are joined).
+-- and how directories and files are joined).
 use Rattle.std.specs.Prelude.{◌≡◌, ℕ, ◌-◌, ◌==◌, Bool, List, [], ◌∷◌, ◌++◌, map, length, take, codes, String, string_bytes}
 use Rattle.std.specs.Prelude.{bytes_eq, Option, Some, None, is_some, unwrap_or, option_map, option_and_then, if◌then◌else◌}
 use Rattle.std.specs.Global.{Global}
@@ -43,7 +43,7 @@ config_home = codes "XDG_CONFIG_HOME"
 abbrev pub home : List ℕ
 home = codes "HOME"
 
--- the variables that matter for a source: the user's home only if the folder of their configuration is not set
+-- the variables that matter for a source: the user's home only if the directory of their configuration is not set
 abbrev pub variables : Source → List Asked → List (List ℕ)
 variables GitInstallation asked = []
 variables System asked = no_system ∷ []
@@ -54,13 +54,13 @@ variables Local asked = []
 abbrev pub IsAsked : Source → List Asked → Type 0
 IsAsked source asked = map (λ a. a.name) asked ≡ variables source asked
 
--- a folder without the slashes at its end, a slash, and the rest
+-- a directory without the slashes at its end, a slash, and the rest
 abbrev pub joined : List ℕ → List ℕ → List ℕ
-joined folder rest = take (length folder - suffix_len is_slash folder) folder ++ slash ∷ rest
+joined directory rest = take (length directory - suffix_len is_slash directory) directory ++ slash ∷ rest
 
--- the rest below a folder that is known
+-- the rest below a directory that is known
 abbrev pub below : Option (List ℕ) → List ℕ → Option (List ℕ)
-below folder rest = option_map (λ f. joined f rest) folder
+below directory rest = option_map (λ f. joined f rest) directory
 
 -- the path of a source's file, by the prefixes and the values of variables
 abbrev pub location : Source → Prefixes → List Asked → Option (List ℕ)

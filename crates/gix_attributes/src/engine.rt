@@ -44,7 +44,7 @@ pub struct Addition<'a> {
     pub allow_macros: bool,
     /// The path of the file.
     pub source: &'a str,
-    /// The folder from which the file's folder is seen. Without one the patterns apply to all paths.
+    /// The directory from which the file's directory is seen. Without one the patterns apply to all paths.
     pub root: Option<&'a str>,
     /// The bytes of the file.
     pub buffer: &'a [u8],
@@ -57,7 +57,7 @@ pub struct Below<'a> {
     pub allow_macros: bool,
     /// What is told as the source of the list's answers.
     pub source: &'a str,
-    /// What the paths begin with to which the patterns apply: a folder with a slash at its end, of any bytes. Without a base the
+    /// What the paths begin with to which the patterns apply: a directory with a slash at its end, of any bytes. Without a base the
     /// patterns apply to all paths.
     pub base: Option<&'a [u8]>,
     /// The bytes of the file.
@@ -71,7 +71,7 @@ pub struct Question<'a> {
     pub path: BStr<'a>,
     /// How letters compare.
     pub case: Case,
-    /// Whether the path is a folder, if that is known.
+    /// Whether the path is a directory, if that is known.
     pub is_dir: Option<bool>,
 }
 

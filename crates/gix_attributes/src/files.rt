@@ -44,7 +44,7 @@ pub trait Files {
     // How many reads the device failed so far.
     ghost failed: { Self → ℕ };
 
-    /// Replaces the contents of `buf` by those of a whole file, and returns whether the file exists. A folder is no
+    /// Replaces the contents of `buf` by those of a whole file, and returns whether the file exists. A directory is no
     /// file.
     ///
     /// # Errors
@@ -121,7 +121,7 @@ fn read_file<R: HostFiles>(rt: &R, path: &str, buf: &mut Vec<u8>) -> Result<(), 
     Err(ReadError::Device(io::Error::from(ErrorKind::Interrupted)))
 }
 
-// Whether an error says that there is no such file: nothing has its path, a part of that is no folder, or it is a folder.
+// Whether an error says that there is no such file: nothing has its path, a part of that is no directory, or it is a directory.
 fn is_missing(error: &io::Error) -> bool
     ensures { IsTrue result ↔ IsOfNoFile (error_kind error.now) }
 {

@@ -9,30 +9,30 @@ use std::alloc::{AllocError, Global};
 /// to [`crate::Search::new_globals`] in this order, the later one wins.
 #[derive(Clone, Copy, PartialEq, Eq, PartialOrd, Ord, Hash, Debug)]
 pub enum Source {
-    /// The file of git's installation, `gitattributes` in its folder.
+    /// The file of git's installation, `gitattributes` in its directory.
     GitInstallation,
     /// The file of the system, `etc/gitattributes` below its prefix (gitattributes page:
     /// `$(prefix)/etc/gitattributes`).
     System,
     /// The file of the user, `git/attributes` in `$XDG_CONFIG_HOME` or in `$HOME/.config`.
     Git,
-    /// The file of the repository, `info/attributes` in its git folder.
+    /// The file of the repository, `info/attributes` in its git directory.
     Local,
 }
 
-/// The folders in which git and the system's configuration are installed, as far as they are known.
+/// The directories in which git and the system's configuration are installed, as far as they are known.
 #[derive(Debug, Drop)]
 pub struct Prefixes {
-    /// The folder of the files that git's installation brings.
+    /// The directory of the files that git's installation brings.
     pub installation: Option<String>,
-    /// The folder that has the system's `etc`.
+    /// The directory that has the system's `etc`.
     pub system: Option<String>,
 }
 
 impl Source {
-    /// The path of the source's file, or `None` if it has none: its folder is not known, or the variable
+    /// The path of the source's file, or `None` if it has none: its directory is not known, or the variable
     /// `GIT_ATTR_NOSYSTEM` is set. `env_var` returns the value of an environment variable, and is called only
-    /// for those that matter. [`Source::Local`] is relative to the git folder of the repository.
+    /// for those that matter. [`Source::Local`] is relative to the git directory of the repository.
     ///
     /// # Errors
     ///
@@ -78,26 +78,26 @@ fn is_unset_or_empty(value: &Option<String>) -> bool
     }
 }
 
-// The path below the folder, if the folder is known.
+// The path below the directory, if the directory is known.
 fn join_known(
     alloc: Global,
-    folder: &Option<String>,
+    directory: &Option<String>,
     rest: &str,
 ) -> Result<Option<String>, AllocError>
     ensures { IfOk result (λ path.
-        option_map string_bytes path ≡ below (option_map string_bytes folder.now) rest.now) }
+        option_map string_bytes path ≡ below (option_map string_bytes directory.now) rest.now) }
 {
-    match folder {
-        Some(folder) => Ok(Some(join(alloc, folder, rest)?)),
+    match directory {
+        Some(directory) => Ok(Some(join(alloc, directory, rest)?)),
         None => Ok(None),
     }
 }
 
-// The folder without the slashes at its end, then a slash and the rest.
-fn join(alloc: Global, folder: &str, rest: &str) -> Result<String, AllocError>
-    ensures { IfOk result (λ path. string_bytes path ≡ joined folder.now rest.now) }
+// The directory without the slashes at its end, then a slash and the rest.
+fn join(alloc: Global, directory: &str, rest: &str) -> Result<String, AllocError>
+    ensures { IfOk result (λ path. string_bytes path ≡ joined directory.now rest.now) }
 {
-    let mut path = String::from_str(alloc, folder.trim_end_matches('/'))?;
+    let mut path = String::from_str(alloc, directory.trim_end_matches('/'))?;
     path.push('/')?;
     path.push_str(rest)?;
     Ok(path)

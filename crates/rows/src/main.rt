@@ -1,4 +1,4 @@
-//! Compares rows: the files of the folder `data` have what is asked, and the answer that it must have.
+//! Compares rows: the files of the directory `data` have what is asked, and the answer that it must have.
 //!
 //! In a table each line is a row (`tables`, and `row` for how bytes are written), and in a scene a block of lines (`scenes`). A
 //! script is a file with the text that it writes beside it (`scripts`). It prints how many rows each file has. Each row that

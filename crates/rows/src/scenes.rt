@@ -35,7 +35,7 @@ pub(crate) struct Play {
     pub(crate) tries: Tries,
 }
 
-/// The scenes of the folder `data`. Those of `memory` are right whichever request for memory is refused.
+/// The scenes of the directory `data`. Those of `memory` are right whichever request for memory is refused.
 pub(crate) const PLAYS: &[(&str, About, Tries)] = &[
     ("lines/numbers", About::Numbers, Tries::Once),
     ("searches/answers", About::Searches, Tries::Once),

@@ -161,7 +161,7 @@ fn engine(alloc: Global) -> Result<Engine, AllocError> {
 /// The file that names the scripts.
 pub(crate) const MANIFEST: &str = "scripts/manifest";
 
-/// Compares each script of the folder `scripts`, and reports how many there are.
+/// Compares each script of the directory `scripts`, and reports how many there are.
 ///
 /// It has a line for each: its kind, a blank and its name. The input is `NAME.in`, and the text that it must
 /// write is `NAME.out`. Of a script of the kind `malformed` a record is malformed, and what is written are the answers before it.

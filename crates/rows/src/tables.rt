@@ -49,7 +49,7 @@ pub(crate) struct Table {
     pub(crate) about: About,
 }
 
-/// The tables of the folder `data`: file, asked fields, and what they are about. The prover takes the square of a slice's values,
+/// The tables of the directory `data`: file, asked fields, and what they are about. The prover takes the square of a slice's values,
 /// so those of `memory` are a slice of their own.
 pub(crate) const TABLES: &[(&str, usize, About)] = &[
     ("patterns/parts", 1, About::Patterns),
@@ -79,7 +79,7 @@ pub(crate) const TABLES: &[(&str, usize, About)] = &[
     ("scripts/reports", 1, About::Reports),
 ];
 
-/// The tables of the folder `memory`, whose rows are right whichever request for memory is refused.
+/// The tables of the directory `memory`, whose rows are right whichever request for memory is refused.
 pub(crate) const MEMORY_TABLES: &[(&str, usize, About)] = &[
     ("memory/parts", 1, About::Patterns),
     ("memory/pairs", 5, About::Pairs),

@@ -1,4 +1,4 @@
--- The file of a folder that is added and removed.
+-- The file of a directory that is added and removed.
 use Rattle.std.proofs.Common.{◌≡◌, ◌⊎◌, inr, ◌-◌, List, [], ◌∷◌, ◌++◌, length, take, Option, None, Some, option_map, refl, sym, ap, ◌∙◌, arith}
 use Rattle.std.specs.Prelude.{ℕ, suc, Bool, true, false, slice_get, Result, Ok, Err, OnOk, OnErr, IfNone, MatchOption}
 use Rattle.std.specs.List.{AllZip}
@@ -10,7 +10,7 @@ use Rattle.gix_attributes.specs.Definitions.{free_id}
 use Rattle.gix_attributes.specs.KeptLists.{kept_list_where}
 use Rattle.gix_attributes.specs.SearchViews.{LosesLast, RemovesLast}
 use Rattle.gix_attributes.specs.ListView.{Listed}
-use Rattle.worktree.specs.Worktrees.{Files, all_but_last, with_folder, with_global_file, without_last_folder, without_registration}
+use Rattle.worktree.specs.Worktrees.{Files, all_but_last, with_directory, with_global_file, without_last_directory, without_registration}
 use Rattle.worktree.specs.declared.File.{File}
 
 count_before : {X : Type 0} (xs : List X) (x : X) → length (xs ++ x ∷ []) - 1 ≡ length xs
@@ -42,28 +42,29 @@ none_of_none : {X : Type 0} (xs : List X) → length xs ≡ 0 → xs ≡ []
 none_of_none [] e = refl
 none_of_none (x ∷ xs) e = absurd (omega arith)
 
-same_files : (globals : List Listed) (folders folders' : List Listed) (ids ids' : List ℕ) (known known' : Collection) → folders ≡ folders'
+same_files : (globals : List Listed) (directories directories' : List Listed) (ids ids' : List ℕ) (known known' : Collection) →
+    directories ≡ directories'
     → ids ≡ ids' → known ≡ known' →
-    (let before : Files = record { globals = globals; folders = folders; folder_ids = ids; known = known } in
-    let after : Files = record { globals = globals; folders = folders'; folder_ids = ids'; known = known' } in before ≡ after)
-same_files globals folders folders' ids ids' known known' e f g =
-    let files : List Listed → List ℕ → Collection → Files = λ l m k. record { globals = globals; folders = l; folder_ids = m; known = k } in
-    ap (λ l. files l ids known) e ∙ (ap (λ m. files folders' m known) f ∙ ap (files folders' ids') g)
+    (let before : Files = record { globals = globals; directories = directories; directory_ids = ids; known = known } in
+    let after : Files = record { globals = globals; directories = directories'; directory_ids = ids'; known = known' } in before ≡ after)
+same_files globals directories directories' ids ids' known known' e f g =
+    let files : List Listed → List ℕ → Collection → Files = λ l m k. record { globals = globals; directories = l; directory_ids = m; known = k } in
+    ap (λ l. files l ids known) e ∙ (ap (λ m. files directories' m known) f ∙ ap (files directories' ids') g)
 
--- what a pop leaves is what is left without the last folder
-pub folder_left : {X : Type 0} (read : X → Listed) (r : Option X) (globals before after : List Listed) (ids ids' : List ℕ)
+-- what a pop leaves is what is left without the last directory
+pub directory_left : {X : Type 0} (read : X → Listed) (r : Option X) (globals before after : List Listed) (ids ids' : List ℕ)
     (known now : Collection) → length ids ≡ length before → before ≡ after ++ option_to_list (option_map read r)
     → IfNone r (before ≡ []) → MatchOption r (ids' ≡ ids) (λ _. LosesLast ids ids') → MatchOption r (now ≡ known) (λ _. RemovesLast ids known now) →
-    (let old : Files = record { globals = globals; folders = before; folder_ids = ids; known = known } in
-    let new : Files = record { globals = globals; folders = after; folder_ids = ids'; known = now } in new ≡ without_last_folder old)
-folder_left read None globals before after ids ids' known now count lists none ids_are now_is =
+    (let old : Files = record { globals = globals; directories = before; directory_ids = ids; known = known } in
+    let new : Files = record { globals = globals; directories = after; directory_ids = ids'; known = now } in new ≡ without_last_directory old)
+directory_left read None globals before after ids ids' known now count lists none ids_are now_is =
     let no_ids : ids ≡ [] = none_of_none ids (count ∙ ap length none) in
     same_files globals after (all_but_last before) ids' (all_but_last ids) now
     (without_registration (slice_get ids (length ids - 1)) known)
     (sym (append-nil after) ∙ (sym lists ∙ (none ∙ sym (ap all_but_last none))))
     (ids_are ∙ (no_ids ∙ sym (ap all_but_last no_ids)))
     (now_is ∙ sym (ap (λ (l : List ℕ). without_registration (slice_get l (length l - 1)) known) no_ids))
-folder_left read (Some x) globals before after ids ids' known now count lists none ids_are now_is =
+directory_left read (Some x) globals before after ids ids' known now count lists none ids_are now_is =
     let (list_id, others, is_last, removed) = now_is in
     same_files globals after (all_but_last before) ids' (all_but_last ids) now
     (without_registration (slice_get ids (length ids - 1)) known)
@@ -93,21 +94,23 @@ added path path' root allow bytes before after now same e = e ∙ ap (λ p. Adde
 -- what an addition of a global file leaves
 pub global_added : (file : File) (path : List ℕ) (old : Files) (after : List Listed) (now : Collection) → path ≡ file.path.now →
     after ≡ Added path None true file.bytes.now old.globals now → now ≡ with_registered (kept_list_where true file.bytes.now) old.known →
-    (let new : Files = record { globals = after; folders = old.folders; folder_ids = old.folder_ids; known = now } in
+    (let new : Files = record { globals = after; directories = old.directories; directory_ids = old.directory_ids; known = now } in
     new ≡ with_global_file file old)
 global_added file path old after now same lists registered =
-    let files : List Listed → Collection → Files = λ g m. record { globals = g; folders = old.folders; folder_ids = old.folder_ids; known = m } in
+    let files : List Listed → Collection → Files =
+    λ g m. record { globals = g; directories = old.directories; directory_ids = old.directory_ids; known = m } in
     ap (λ g. files g now) (added path file.path.now None true file.bytes.now old.globals after now same lists)
     ∙ ap (λ m. files (Added file.path.now None true file.bytes.now old.globals m) m) registered
 
--- what an addition of a folder's file leaves
-pub folder_added : (file : File) (path : List ℕ) (old : Files) (after : List Listed) (ids : List ℕ) (now : Collection) → path ≡ file.path.now →
-    after ≡ Added path (Some []) false file.bytes.now old.folders now → ids ≡ old.folder_ids ++ free_id old.known.active ∷ [] →
+-- what an addition of a directory's file leaves
+pub directory_added : (file : File) (path : List ℕ) (old : Files) (after : List Listed) (ids : List ℕ) (now : Collection) → path ≡ file.path.now →
+    after ≡ Added path (Some []) false file.bytes.now old.directories now → ids ≡ old.directory_ids ++ free_id old.known.active ∷ [] →
     now ≡ with_registered (kept_list_where false file.bytes.now) old.known →
-    (let new : Files = record { globals = old.globals; folders = after; folder_ids = ids; known = now } in new ≡ with_folder file old)
-folder_added file path old after ids now same lists ids_are registered =
-    let files : List Listed → List ℕ → Collection → Files = λ l i m. record { globals = old.globals; folders = l; folder_ids = i; known = m } in
-    ap (λ l. files l ids now) (added path file.path.now (Some []) false file.bytes.now old.folders after now same lists)
-    ∙ (ap (λ i. files (Added file.path.now (Some []) false file.bytes.now old.folders now) i now) ids_are
-    ∙ ap (λ m. files (Added file.path.now (Some []) false file.bytes.now old.folders m)
-    (old.folder_ids ++ free_id old.known.active ∷ []) m) registered)
+    (let new : Files = record { globals = old.globals; directories = after; directory_ids = ids; known = now } in new ≡ with_directory file old)
+directory_added file path old after ids now same lists ids_are registered =
+    let files : List Listed → List ℕ → Collection → Files =
+    λ l i m. record { globals = old.globals; directories = l; directory_ids = i; known = m } in
+    ap (λ l. files l ids now) (added path file.path.now (Some []) false file.bytes.now old.directories after now same lists)
+    ∙ (ap (λ i. files (Added file.path.now (Some []) false file.bytes.now old.directories now) i now) ids_are
+    ∙ ap (λ m. files (Added file.path.now (Some []) false file.bytes.now old.directories m)
+    (old.directory_ids ++ free_id old.known.active ∷ []) m) registered)

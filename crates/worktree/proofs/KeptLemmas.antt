@@ -39,14 +39,15 @@ none_numbered known search none = record {
   covered = subst (ListsAreCovered (length known.names)) (sym none) (All-nil (λ (l : Listed). AreCovered (length known.names) l.lines));
 }
 
-pub kept_first : (globals folders : Search) (known : Collection) → lists_in globals ≡ [] → lists_in folders ≡ [] → list_ids_in folders ≡ []
-    → Holds known globals → Holds known folders → RegistersExactly known [] → AreKept globals folders known
-kept_first globals folders known no_globals no_folders no_ids globals_held folders_held empty = record {
+pub kept_first : (globals directories : Search) (known : Collection) → lists_in globals ≡ [] → lists_in directories ≡ [] →
+    list_ids_in directories ≡ []
+    → Holds known globals → Holds known directories → RegistersExactly known [] → AreKept globals directories known
+kept_first globals directories known no_globals no_directories no_ids globals_held directories_held empty = record {
   globals_held = globals_held;
-  folders_held = folders_held;
+  directories_held = directories_held;
   apart = subst (λ ids. AreApart ids (list_ids_in globals)) (sym no_ids) (All-nil (λ m. All (λ o. o ≢ m) (list_ids_in globals)));
   globals_numbered = none_numbered known globals no_globals;
-  folders_numbered = none_numbered known folders no_folders;
+  directories_numbered = none_numbered known directories no_directories;
   register = [];
   registered = empty;
 }
@@ -56,23 +57,23 @@ numbered_more : (known now : Collection) (before after : Search) → Keeps (regi
 numbered_more known now before after kept h = record { named = kept.named h.named; covered = kept.covered h.covered }
 
 -- a global list is added
-pub kept_globally : NamesStay → (before after folders : Search) (known now : Collection)
+pub kept_globally : NamesStay → (before after directories : Search) (known now : Collection)
     → Keeps (registered_lists before known) (registered_lists after now) → Adds (registered_lists before known) (registered_lists after now)
-    → (Holds known before → Holds now after) → AreKept before folders known → AreKept after folders now
-kept_globally law before after folders known now kept more held h =
-    let ids = list_ids_in folders in
-    let others = kept.others folders (apart_alike ids (list_ids_in before) h.apart) h.folders_held in
+    → (Holds known before → Holds now after) → AreKept before directories known → AreKept after directories now
+kept_globally law before after directories known now kept more held h =
+    let ids = list_ids_in directories in
+    let others = kept.others directories (apart_alike ids (list_ids_in before) h.apart) h.directories_held in
     record {
       globals_held = held h.globals_held;
-      folders_held = others.1;
+      directories_held = others.1;
       apart = apart_alike (list_ids_in after) ids others.0;
       globals_numbered = numbered_more known now before after kept h.globals_numbered;
-      folders_numbered = still_numbered law known now folders kept.names h.folders_numbered;
+      directories_numbered = still_numbered law known now directories kept.names h.directories_numbered;
       register = h.register ++ more.added;
       registered = more.to_collection h.register h.registered;
     }
 
--- the list of a folder is added
+-- the list of a directory is added
 pub kept_entering : NamesStay → (globals before after : Search) (known now : Collection)
     → Keeps (registered_lists before known) (registered_lists after now) → Adds (registered_lists before known) (registered_lists after now)
     → (Holds known before → Holds now after) → AreKept globals before known → AreKept globals after now
@@ -80,10 +81,10 @@ kept_entering law globals before after known now kept more held h =
     let others = kept.others globals h.apart h.globals_held in
     record {
       globals_held = others.1;
-      folders_held = held h.folders_held;
+      directories_held = held h.directories_held;
       apart = others.0;
       globals_numbered = still_numbered law known now globals kept.names h.globals_numbered;
-      folders_numbered = numbered_more known now before after kept h.folders_numbered;
+      directories_numbered = numbered_more known now before after kept h.directories_numbered;
       register = h.register ++ more.added;
       registered = more.to_collection h.register h.registered;
     }
@@ -98,21 +99,23 @@ numbered_same known now before after lists_are now_is h = record {
 }
 
 -- a call changed neither search
-pub kept_same : (globals globals' folders folders' : Search) (known now : Collection) → lists_in globals' ≡ lists_in globals
-    → list_ids_in globals' ≡ list_ids_in globals → lists_in folders' ≡ lists_in folders → list_ids_in folders' ≡ list_ids_in folders → now ≡ known
-    → Holds now globals' → Holds now folders' → AreKept globals folders known → AreKept globals' folders' now
-kept_same globals globals' folders folders' known now globals_are globals_ids folders_are folders_ids now_is globals_held folders_held h = record {
-  globals_held = globals_held;
-  folders_held = folders_held;
-  apart = subst (λ ids. AreApart ids (list_ids_in globals')) (sym folders_ids)
-      (subst (AreApart (list_ids_in folders)) (sym globals_ids) h.apart);
-  globals_numbered = numbered_same known now globals globals' globals_are now_is h.globals_numbered;
-  folders_numbered = numbered_same known now folders folders' folders_are now_is h.folders_numbered;
-  register = h.register;
-  registered = subst (λ k. RegistersExactly k h.register) (sym now_is) h.registered;
-}
+pub kept_same : (globals globals' directories directories' : Search) (known now : Collection) → lists_in globals' ≡ lists_in globals
+    → list_ids_in globals' ≡ list_ids_in globals → lists_in directories' ≡ lists_in directories
+    → list_ids_in directories' ≡ list_ids_in directories → now ≡ known
+    → Holds now globals' → Holds now directories' → AreKept globals directories known → AreKept globals' directories' now
+kept_same globals globals' directories directories' known now globals_are globals_ids directories_are directories_ids now_is globals_held
+    directories_held h = record {
+      globals_held = globals_held;
+      directories_held = directories_held;
+      apart = subst (λ ids. AreApart ids (list_ids_in globals')) (sym directories_ids)
+          (subst (AreApart (list_ids_in directories)) (sym globals_ids) h.apart);
+      globals_numbered = numbered_same known now globals globals' globals_are now_is h.globals_numbered;
+      directories_numbered = numbered_same known now directories directories' directories_are now_is h.directories_numbered;
+      register = h.register;
+      registered = subst (λ k. RegistersExactly k h.register) (sym now_is) h.registered;
+    }
 
--- the list of the last folder is removed, if there is one
+-- the list of the last directory is removed, if there is one
 pub kept_leaving : {X : Type 0} (read : X → Listed) (r : Option X) → NamesStay → (globals before after : Search) (known now : Collection)
     → IfSome r (λ _. Keeps (registered_lists before known) (registered_lists after now))
     → IfSome r (λ _. Removes (registered_lists before known) (registered_lists after now))
@@ -128,10 +131,10 @@ kept_leaving read (Some x) law globals before after known now kept gone lists_ar
     let others = kept.others globals h.apart h.globals_held in
     record {
       globals_held = others.1;
-      folders_held = held;
+      directories_held = held;
       apart = others.0;
       globals_numbered = still_numbered law known now globals kept.names h.globals_numbered;
-      folders_numbered = numbered_more known now before after kept h.folders_numbered;
+      directories_numbered = numbered_more known now before after kept h.directories_numbered;
       register = without_registered gone.removed.list_id h.register;
       registered = gone.of_collection h.register h.registered;
     }

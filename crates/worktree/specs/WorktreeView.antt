@@ -14,8 +14,8 @@ abbrev pub files_of : Inside → Files
 files_of w =
     record {
       globals = lists_in w.globals;
-      folders = lists_in w.folders;
-      folder_ids = list_ids_in w.folders;
+      directories = lists_in w.directories;
+      directory_ids = list_ids_in w.directories;
       known = w.collection;
     }
 
@@ -25,14 +25,14 @@ pub record HasItsNumbers (known : Collection) (search : Search) : Type 0 where
   pub covered : ListsAreCovered (length known.names) (lists_in search)
 
 -- The collection holds both searches, which share no list id; both are numbered by it; and what it registers is known.
-pub record AreKept (globals folders : Search) (known : Collection) : Type 0 where
+pub record AreKept (globals directories : Search) (known : Collection) : Type 0 where
   pub globals_held : Holds known globals
-  pub folders_held : Holds known folders
-  pub apart : AreApart (list_ids_in folders) (list_ids_in globals)
+  pub directories_held : Holds known directories
+  pub apart : AreApart (list_ids_in directories) (list_ids_in globals)
   pub globals_numbered : HasItsNumbers known globals
-  pub folders_numbered : HasItsNumbers known folders
+  pub directories_numbered : HasItsNumbers known directories
   pub register : List Registered
   pub registered : RegistersExactly known register
 
 abbrev pub IsKeptWorktree : Inside → Type 0
-IsKeptWorktree w = AreKept w.globals w.folders w.collection
+IsKeptWorktree w = AreKept w.globals w.directories w.collection

@@ -4,7 +4,7 @@
 
 ghost use Rattle.std.specs.Prelude.{◌≡◌, ◌⊎◌, OnOk, OnErr};
 ghost use Rattle.gix_attributes.specs.Lookups.{OfTheOnlyTable, ReturnsAnswers, setting_in};
-ghost use Rattle.worktree.specs.Worktrees.{after_visit, lookup, no_attributes_files, with_folder, with_global_file, without_last_folder};
+ghost use Rattle.worktree.specs.Worktrees.{after_visit, lookup, no_attributes_files, with_directory, with_global_file, without_last_directory};
 
 use bstr::BStr;
 use gix_attributes::Search;
@@ -13,12 +13,12 @@ use gix_attributes::search::{MetadataCollection, Outcome, laws};
 use std::alloc::{AllocError, Global};
 use std::marker::Model;
 
-/// The attributes files of a worktree: global ones, and those of folders, from the top to one of them, which take
+/// The attributes files of a worktree: global ones, and those of directories, from the top to one of them, which take
 /// precedence. One collection numbers the names of both.
 #[derive(Drop)]
 pub struct Worktree {
     globals: Search,
-    folders: Search,
+    directories: Search,
     collection: MetadataCollection,
 }
 
@@ -34,7 +34,7 @@ impl Model for Worktree {
     ghost invariant = { IsKeptWorktree };
 }
 
-/// The attributes file of a folder.
+/// The attributes file of a directory.
 #[derive(Clone, Copy)]
 pub struct File<'a> {
     /// The path of the file from the top.
@@ -43,7 +43,7 @@ pub struct File<'a> {
     pub bytes: &'a [u8],
 }
 
-/// A path that is no folder, and the names of the attributes that are looked up for it.
+/// A path that is no directory, and the names of the attributes that are looked up for it.
 #[derive(Clone, Copy)]
 pub struct Question<'a> {
     /// The path from the top.
@@ -59,7 +59,7 @@ impl Worktree {
     {
         Worktree {
             globals: Search::new(alloc),
-            folders: Search::new(alloc),
+            directories: Search::new(alloc),
             collection: MetadataCollection::new(alloc),
         }
     }
@@ -86,7 +86,7 @@ impl Worktree {
         Ok(())
     }
 
-    /// Looks names up for a path in a folder whose file comes after those that are there, and removes this file again.
+    /// Looks names up for a path in a directory whose file comes after those that are there, and removes this file again.
     /// Its names stay in the collection, without definitions.
     ///
     /// # Errors
@@ -100,12 +100,12 @@ impl Worktree {
         out: &mut Outcome,
     ) -> Result<(), AllocError>
         ensures answers { OnOk result (
-            let q = lookup question.entry (with_folder file.entry self.old) in
+            let q = lookup question.entry (with_directory file.entry self.old) in
             OfTheOnlyTable (setting_in q) (ReturnsAnswers q out.new)) }
         ensures left { OnOk result (self.new ≡ after_visit file.entry self.old) }
         ensures refused { OnErr result ((self.new ≡ self.old)
             ⊎ (self.new ≡ after_visit file.entry self.old)) }
-        ensures folders { self.new.folders ≡ self.old.folders }
+        ensures directories { self.new.directories ≡ self.old.directories }
         ensures globals { self.new.globals ≡ self.old.globals }
     {
         self.enter(alloc, file)?;
@@ -114,17 +114,17 @@ impl Worktree {
         answered
     }
 
-    /// Adds the file of a folder.
+    /// Adds the file of a directory.
     ///
     /// # Errors
     ///
     /// If memory runs out. Nothing changes then.
     pub fn enter(&mut self, alloc: Global, file: File<'_>) -> Result<(), AllocError>
-        ensures entered { OnOk result (self.new ≡ with_folder file.entry self.old) }
+        ensures entered { OnOk result (self.new ≡ with_directory file.entry self.old) }
         ensures refused { OnErr result (self.new ≡ self.old) }
     {
         let source = String::from_str(alloc, file.path)?;
-        self.folders.add_patterns_buffer(
+        self.directories.add_patterns_buffer(
             alloc,
             file.bytes,
             source,
@@ -136,15 +136,15 @@ impl Worktree {
         Ok(())
     }
 
-    /// Removes the file of the last folder, if there is one. Its names stay in the collection, without definitions.
+    /// Removes the file of the last directory, if there is one. Its names stay in the collection, without definitions.
     pub fn leave(&mut self)
-        ensures { self.new ≡ without_last_folder self.old }
+        ensures { self.new ≡ without_last_directory self.old }
     {
-        let _ = self.folders.pop_pattern_list(&mut self.collection);
+        let _ = self.directories.pop_pattern_list(&mut self.collection);
         laws::registers::names_stay();
     }
 
-    /// Looks up names for a path, in the lists of folders and then in the global ones: so those of folders take
+    /// Looks up names for a path, in the lists of directories and then in the global ones: so those of directories take
     /// precedence.
     ///
     /// # Errors
@@ -161,7 +161,7 @@ impl Worktree {
     {
         out.initialize_with_selection(alloc, &self.collection, question.names)?;
         let (path, case, is_dir) = (question.path, Case::Sensitive, Some(false));
-        let (first, second) = (&self.folders, &self.globals);
+        let (first, second) = (&self.directories, &self.globals);
         first.pattern_matching_relative_path(alloc, path, case, is_dir, out)?;
         second.pattern_matching_relative_path(alloc, path, case, is_dir, out)?;
         laws::registers::bodies_have_names();

@@ -20,12 +20,12 @@ passed_file bytes source root has_root allow_macros =
 abbrev pub passed_case : Bool → Case
 passed_case fold = if fold then Fold else Sensitive
 
--- whether a path is a folder: 1 if it is, 0 if it is not, -1 if that is not known
-abbrev pub IsFolderNumber : ℤ → Type 0
-IsFolderNumber is_dir = (is_dir ≡ pos 1) ⊎ (is_dir ≡ pos 0) ⊎ (is_dir ≡ negsuc 0)
+-- whether a path is a directory: 1 if it is, 0 if it is not, -1 if that is not known
+abbrev pub IsDirectoryNumber : ℤ → Type 0
+IsDirectoryNumber is_dir = (is_dir ≡ pos 1) ⊎ (is_dir ≡ pos 0) ⊎ (is_dir ≡ negsuc 0)
 
-abbrev pub folder_flag : ℤ → Option Bool
-folder_flag (pos zero) = Some false
-folder_flag (pos (suc zero)) = Some true
-folder_flag (pos (suc (suc n))) = None
-folder_flag (negsuc n) = None
+abbrev pub directory_flag : ℤ → Option Bool
+directory_flag (pos zero) = Some false
+directory_flag (pos (suc zero)) = Some true
+directory_flag (pos (suc (suc n))) = None
+directory_flag (negsuc n) = None

@@ -3,7 +3,7 @@
 ghost use Rattle.std.specs.Prelude.{◌≡◌, ◌⊎◌, ◌↔◌, All, IfSome, IsUtf8, MatchOption, None, Some, length, map, option_and_then, option_map};
 ghost use Rattle.gix_attributes.specs.EngineStates.{AnswersTo, FindsFor, with_selection, without_answers};
 ghost use Rattle.yektrod.specs.Held.{Becomes, held, labelled, sourced};
-ghost use Rattle.yektrod.specs.Passed.{IsFolderNumber, folder_flag, passed_case};
+ghost use Rattle.yektrod.specs.Passed.{IsDirectoryNumber, directory_flag, passed_case};
 ghost use Rattle.yektrod.specs.Statuses.{status_done, status_no_memory, status_shut, status_unreadable};
 
 use crate::slot::Slot;
@@ -53,13 +53,13 @@ pub extern "C" fn yektrod_ask(
     answers: &mut usize,
 ) -> i32
     ensures done { result ≡ status_done → Becomes (AnswersTo path.now (passed_case fold)
-        (folder_flag is_dir)) (held slot.old) (held slot.new) }
+        (directory_flag is_dir)) (held slot.old) (held slot.new) }
     ensures found { result ≡ status_done → Becomes (FindsFor path.now (passed_case fold)
-        (folder_flag is_dir)) (held slot.old) (held slot.new) }
+        (directory_flag is_dir)) (held slot.old) (held slot.new) }
     ensures labelled { result ≡ status_done → Becomes (AnswersTo path.now (passed_case fold)
-        (folder_flag is_dir)) (labelled slot.old) (labelled slot.new) }
+        (directory_flag is_dir)) (labelled slot.old) (labelled slot.new) }
     ensures found_labelled { result ≡ status_done → Becomes (FindsFor path.now (passed_case fold)
-        (folder_flag is_dir)) (labelled slot.old) (labelled slot.new) }
+        (directory_flag is_dir)) (labelled slot.old) (labelled slot.new) }
     ensures count { result ≡ status_done → option_map length
         (option_and_then (λ after. after.answers) (held slot.new)) ≡ Some answers.new }
     ensures refused { result ≡ status_no_memory →
@@ -69,14 +69,14 @@ pub extern "C" fn yektrod_ask(
     ensures kept { ¬ (result ≡ status_done) → answers.new ≡ answers.old }
     ensures shut { result ≡ status_shut ↔ (held slot.old ≡ None) }
     ensures unreadable { result ≡ status_unreadable ↔ (¬ (held slot.old ≡ None)
-        × ¬ IsFolderNumber is_dir) }
+        × ¬ IsDirectoryNumber is_dir) }
     ensures status { (result ≡ status_done) ⊎ (result ≡ status_no_memory)
         ⊎ (result ≡ status_shut) ⊎ (result ≡ status_unreadable) }
 {
     if !slot.live {
         return SHUT;
     }
-    let Some(is_dir) = folder_of(is_dir) else {
+    let Some(is_dir) = dir_flag_of(is_dir) else {
         return UNREADABLE;
     };
     let question = Question {
@@ -99,10 +99,10 @@ pub(crate) fn case_of(fold: bool) -> Case
     if fold { Case::Fold } else { Case::Sensitive }
 }
 
-// Whether the path is a folder, if that is known: none if the number is out of range.
-pub(crate) fn folder_of(is_dir: i32) -> Option<Option<bool>>
-    ensures { MatchOption result (¬ IsFolderNumber is_dir) (λ flag.
-        IsFolderNumber is_dir × (flag ≡ folder_flag is_dir)) }
+// Whether the path is a directory, if that is known: none if the number is out of range.
+pub(crate) fn dir_flag_of(is_dir: i32) -> Option<Option<bool>>
+    ensures { MatchOption result (¬ IsDirectoryNumber is_dir) (λ flag.
+        IsDirectoryNumber is_dir × (flag ≡ directory_flag is_dir)) }
 {
     match is_dir {
         1 => Some(Some(true)),

@@ -4,13 +4,13 @@ ghost use Rattle.std.specs.Prelude.{◌≡◌, ◌⊎◌, ◌↔◌, ◌<◌, �
 ghost use Rattle.gix_attributes.specs.EngineStates.{AnswersTo, FindsFor, without_answers};
 ghost use Rattle.yektrod.specs.Held.{Becomes, found_held, held, labelled, sourced};
 ghost use Rattle.yektrod.specs.inner.Laid.{IsLaid, IsLaidBehind};
-ghost use Rattle.yektrod.specs.Passed.{IsFolderNumber, folder_flag, passed_case};
+ghost use Rattle.yektrod.specs.Passed.{IsDirectoryNumber, directory_flag, passed_case};
 ghost use Rattle.yektrod.specs.Played.{counted_length};
 ghost use Rattle.yektrod.specs.RowsTold.{AreZero, labelled_answer, answers_of, labelled_found, laid_rows, row_at, row_told, rows_alone, rows_of, text_of, text_of_all, zero_row};
 ghost use Rattle.yektrod.specs.Sourced.{AreLabelled};
 ghost use Rattle.yektrod.specs.Statuses.{status_done, status_missing, status_no_memory, status_no_room, status_shut, status_unreadable};
 
-use crate::questions::{case_of, folder_of};
+use crate::questions::{case_of, dir_flag_of};
 use crate::row::Row;
 use crate::row_texts::RowTexts;
 use crate::slot::Slot;
@@ -55,16 +55,16 @@ pub extern "C" fn yektrod_ask_into(
 ) -> i32
     ensures answers { (result ≡ status_done) ⊎ (result ≡ status_no_room) →
         Becomes (AnswersTo question.now.path.now (passed_case question.now.fold)
-        (folder_flag question.now.is_dir)) (held slot.old) (held slot.new) }
+        (directory_flag question.now.is_dir)) (held slot.old) (held slot.new) }
     ensures found { (result ≡ status_done) ⊎ (result ≡ status_no_room) →
         Becomes (FindsFor question.now.path.now (passed_case question.now.fold)
-        (folder_flag question.now.is_dir)) (held slot.old) (held slot.new) }
+        (directory_flag question.now.is_dir)) (held slot.old) (held slot.new) }
     ensures labelled { (result ≡ status_done) ⊎ (result ≡ status_no_room) →
         Becomes (AnswersTo question.now.path.now (passed_case question.now.fold)
-        (folder_flag question.now.is_dir)) (labelled slot.old) (labelled slot.new) }
+        (directory_flag question.now.is_dir)) (labelled slot.old) (labelled slot.new) }
     ensures found_labelled { (result ≡ status_done) ⊎ (result ≡ status_no_room) →
         Becomes (FindsFor question.now.path.now (passed_case question.now.fold)
-        (folder_flag question.now.is_dir)) (labelled slot.old) (labelled slot.new) }
+        (directory_flag question.now.is_dir)) (labelled slot.old) (labelled slot.new) }
     ensures labels { (result ≡ status_done) ⊎ (result ≡ status_no_room) →
         IfSome (sourced slot.new) AreLabelled }
     ensures rows { result ≡ status_done →
@@ -88,7 +88,7 @@ pub extern "C" fn yektrod_ask_into(
         (rows.new ≡ rows.old) × (text.new ≡ text.old) × (needed.new ≡ needed.old) }
     ensures shut { result ≡ status_shut ↔ (held slot.old ≡ None) }
     ensures unreadable { result ≡ status_unreadable ↔ (¬ (held slot.old ≡ None)
-        × ¬ IsFolderNumber question.now.is_dir) }
+        × ¬ IsDirectoryNumber question.now.is_dir) }
     ensures status { (result ≡ status_done) ⊎ (result ≡ status_no_memory) ⊎ (result ≡ status_shut)
         ⊎ (result ≡ status_unreadable) ⊎ (result ≡ status_no_room) }
 {
@@ -213,10 +213,10 @@ fn tell_found(held: &SourcedEngine, number: usize, text: &mut [u8]) -> Option<(R
 
 // Whether the path is a directory, if that is known: none if the number is out of range.
 fn flag_of(question: &PathQuestion<'_>) -> Option<Option<bool>>
-    ensures { MatchOption result (¬ IsFolderNumber question.now.is_dir) (λ flag.
-        IsFolderNumber question.now.is_dir × (flag ≡ folder_flag question.now.is_dir)) }
+    ensures { MatchOption result (¬ IsDirectoryNumber question.now.is_dir) (λ flag.
+        IsDirectoryNumber question.now.is_dir × (flag ≡ directory_flag question.now.is_dir)) }
 {
-    folder_of(question.is_dir)
+    dir_flag_of(question.is_dir)
 }
 
 // Tells all answers and their texts, as far as there is room for them, and returns the length of the texts.

@@ -3,7 +3,7 @@
 ghost use Rattle.std.specs.Prelude.{◌≡◌, true, Some, IfOk, IfSome, option_map, string_bytes, length, drop};
 ghost use Rattle.std.specs.Option.{option_copied};
 ghost use Rattle.bstr.specs.BStr.{bstr_bytes};
-ghost use Rattle.attr_glob.specs.Bases.{base_of, rest_below, folder, below_root, with_slash};
+ghost use Rattle.attr_glob.specs.Bases.{base_of, rest_below, directory, below_root, with_slash};
 ghost use Rattle.attr_glob.specs.inner.PlacesAfter.{place_after};
 ghost use Rattle.attr_glob.specs.BaseNames.{base_name_place};
 ghost use Rattle.attr_glob.specs.Clones.{IsMappingClone, AreMappingClones};
@@ -48,7 +48,7 @@ impl<V: Clone> Mapping<V> {
 }
 
 impl<V> Keyed for Mapping<V> {
-    ghost use Rattle.attr_glob.specs.inner.LineShapes.{key_of_pattern};
+    ghost use Rattle.attr_glob.specs.shared.LineShapes.{key_of_pattern};
 
     ghost content = { λ mapping. key_of_pattern mapping.pattern };
 
@@ -65,15 +65,15 @@ pub struct List<T: search::Pattern> {
     pub patterns: Vec<Mapping<T::Value>>,
     /// The source of the patterns: a file, such as `sub/.gitattributes`, or a name for another source.
     pub source: Option<String>,
-    /// The folder below which the list applies, with its slash, such as `sub/`. The patterns are matched against what
+    /// The directory below which the list applies, with its slash, such as `sub/`. The patterns are matched against what
     /// follows it in a path. Without a base the list applies to all paths.
     pub base: Option<Vec<u8>>,
 }
 
 impl<T: search::Pattern + Drop> List<T> {
     /// Reads a buffer as a list, and returns it with what is reported of the lines that are left out. `source` is the
-    /// path of the file. The list applies below the file's folder (gitattributes page), relative to `root`. Without a
-    /// root, or if the folder isn't below it, the list applies to all paths.
+    /// path of the file. The list applies below the file's directory (gitattributes page), relative to `root`. Without a
+    /// root, or if the directory isn't below it, the list applies to all paths.
     ///
     /// # Errors
     ///
@@ -177,8 +177,8 @@ fn copy_of_bytes(alloc: Global, bytes: &Option<Vec<u8>>) -> Result<Option<Vec<u8
     }
 }
 
-/// The base of a list that is read from this source: the folder of the file as it is seen from the root, with a slash after it
-/// (gitattributes page). There is none without a root, in the root itself, and if the folder isn't below the root.
+/// The base of a list that is read from this source: the directory of the file as it is seen from the root, with a slash after it
+/// (gitattributes page). There is none without a root, in the root itself, and if the directory isn't below the root.
 ///
 /// # Errors
 ///
@@ -194,15 +194,15 @@ pub fn base_of(
     let Some(root) = root else {
         return Ok(None);
     };
-    match below_root(root.as_bytes(), folder(source.as_bytes())) {
+    match below_root(root.as_bytes(), directory(source.as_bytes())) {
         Some(below) => with_slash(alloc, below),
         None => Ok(None),
     }
 }
 
 // The bytes before the last slash, and none without one.
-fn folder(source: &[u8]) -> &[u8]
-    ensures { result.now ≡ folder source.now }
+fn directory(source: &[u8]) -> &[u8]
+    ensures { result.now ≡ directory source.now }
 {
     let mut end = source.len();
     while end > 0 && source[end - 1] != b'/' {
@@ -211,29 +211,29 @@ fn folder(source: &[u8]) -> &[u8]
     &source[..end.saturating_sub(1)]
 }
 
-fn below_root<'a>(root: &[u8], folder: &'a [u8]) -> Option<&'a [u8]>
-    ensures { option_copied result ≡ below_root root.now folder.now }
+fn below_root<'a>(root: &[u8], directory: &'a [u8]) -> Option<&'a [u8]>
+    ensures { option_copied result ≡ below_root root.now directory.now }
 {
     if root.is_empty() {
-        return Some(folder);
+        return Some(directory);
     }
     let front = without_end(root);
-    if !folder.starts_with(front) {
+    if !directory.starts_with(front) {
         return None;
     }
-    match folder.get(front.len()) {
-        Some(b'/') => Some(&folder[front.len() + 1..]),
+    match directory.get(front.len()) {
+        Some(b'/') => Some(&directory[front.len() + 1..]),
         _ => None,
     }
 }
 
-fn with_slash(alloc: Global, folder: &[u8]) -> Result<Option<Vec<u8>>, AllocError>
-    ensures { IfOk result (λ base. base_bytes base ≡ with_slash folder.now) }
+fn with_slash(alloc: Global, directory: &[u8]) -> Result<Option<Vec<u8>>, AllocError>
+    ensures { IfOk result (λ base. base_bytes base ≡ with_slash directory.now) }
 {
-    if folder.is_empty() {
+    if directory.is_empty() {
         return Ok(None);
     }
-    let mut base = Vec::from_slice(alloc, folder)?;
+    let mut base = Vec::from_slice(alloc, directory)?;
     base.push(b'/')?;
     Ok(Some(base))
 }

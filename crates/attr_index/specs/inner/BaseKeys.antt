@@ -2,7 +2,7 @@
 use Rattle.std.specs.Prelude.{ℕ, List, [], ◌∷◌, map, max}
 use Rattle.attr_glob.specs.Views.{base_bytes}
 use Rattle.attr_index.specs.declared.indexed_list.IndexedList.{IndexedList}
-use Rattle.attr_index.specs.inner.FolderKeys.{base_len}
+use Rattle.attr_index.specs.inner.DirectoryKeys.{base_len}
 
 abbrev pub base_keys : List IndexedList → List ℕ
 base_keys lists = map (λ list. list.base_key) lists

@@ -3,8 +3,8 @@ use Rattle.std.specs.Prelude.{ℕ, Bool, List, [], map, Option, None, Some, if�
 use Rattle.std.specs.Char.{to_ascii_lowercase}
 use Rattle.attr_keys.specs.declared.key.Keys.{Keys}
 use Rattle.attr_keys.specs.declared.key.View.{View}
-use Rattle.attr_keys.specs.inner.KeyContents.{KeyContent}
-use Rattle.attr_keys.specs.inner.Meeting.{directed, is_end}
+use Rattle.attr_keys.specs.shared.KeyContents.{KeyContent}
+use Rattle.attr_keys.specs.shared.Meeting.{directed, is_end}
 
 abbrev pub byte_in_case : Bool → ℕ → ℕ
 byte_in_case fold b = if fold then to_ascii_lowercase b else b

@@ -1,6 +1,6 @@
 -- Extensions of names (own): a last dot and what follows it.
 use Rattle.std.specs.Prelude.{ℕ, Bool, false, not, ◌&&◌, ◌==◌, List, [], ◌∷◌, length, Option, Some, None, if◌then◌else◌}
-use Rattle.attr_keys.specs.inner.KeyContents.{KeyContent}
+use Rattle.attr_keys.specs.shared.KeyContents.{KeyContent}
 
 abbrev pub dot_byte : ℕ
 dot_byte = 46

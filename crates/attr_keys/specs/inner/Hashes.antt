@@ -5,10 +5,10 @@ use Rattle.std.specs.List.{filter, starts_with}
 use Rattle.std.specs.List.Sorted.{IsNonDecreasingBy, IsPartitionPoint}
 use Rattle.attr_keys.specs.declared.hashed.HashedRow.{HashedRow}
 use Rattle.attr_keys.specs.declared.hashed.HashedRows.TheInside.{Inside}
-use Rattle.attr_keys.specs.inner.KeyContents.{KeyContent}
-use Rattle.attr_keys.specs.inner.Codes.{codes_of, row_codes}
+use Rattle.attr_keys.specs.shared.KeyContents.{KeyContent}
+use Rattle.attr_keys.specs.shared.Codes.{codes_of, row_codes}
 use Rattle.attr_keys.specs.inner.Extensions.{extension, is_hashed}
-use Rattle.attr_keys.specs.inner.Meeting.{directed}
+use Rattle.attr_keys.specs.shared.Meeting.{directed}
 
 -- the bytes of a text after a number, in 64 bits
 abbrev pub packed : ℕ → List ℕ → ℕ

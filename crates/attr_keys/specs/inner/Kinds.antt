@@ -5,9 +5,9 @@ use Rattle.attr_keys.specs.declared.key.Subject.TheVariants.{Name, End, Path, An
 use Rattle.attr_keys.specs.declared.kinds.Kind.{Kind}
 use Rattle.attr_keys.specs.declared.kinds.Kind.TheVariants as kind
 use Rattle.attr_keys.specs.declared.kinds.Kinds.{Kinds}
-use Rattle.attr_keys.specs.inner.KeyContents.{KeyContent}
+use Rattle.attr_keys.specs.shared.KeyContents.{KeyContent}
 use Rattle.attr_keys.specs.inner.Extensions.{is_reversed_extension}
-use Rattle.attr_keys.specs.inner.Rows.{has_row}
+use Rattle.attr_keys.specs.shared.Rows.{has_row}
 
 abbrev pub kind_by : Subject → Bool → List ℕ → Kind
 kind_by Name whole text = if whole then kind.Name else kind.NamePrefix

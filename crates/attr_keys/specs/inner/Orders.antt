@@ -5,11 +5,11 @@ use Rattle.attr_keys.specs.declared.key.Subject.TheVariants.{Name, End, Path}
 use Rattle.attr_keys.specs.declared.key_index.KeyRows.{KeyRows}
 use Rattle.attr_keys.specs.declared.key_index.Sorted.{Sorted}
 use Rattle.attr_keys.specs.declared.key_index.SubjectRows.{SubjectRows}
-use Rattle.attr_keys.specs.inner.KeyContents.{KeyContent}
+use Rattle.attr_keys.specs.shared.KeyContents.{KeyContent}
 use Rattle.attr_keys.specs.inner.Cases.{content_in_case, seen_keys}
 use Rattle.attr_keys.specs.inner.Hashes.{IsHashOfKey, hashed_rows}
-use Rattle.attr_keys.specs.inner.Meeting.{is_about, is_end, is_whole_row, text_has}
-use Rattle.attr_keys.specs.inner.Rows.{ArePrefixes, has_row}
+use Rattle.attr_keys.specs.shared.Meeting.{is_about, is_end, is_whole_row, text_has}
+use Rattle.attr_keys.specs.shared.Rows.{ArePrefixes, has_row}
 
 -- the number is of a subject's key
 abbrev pub has_subject_row : SubjectRows → ℕ → Bool

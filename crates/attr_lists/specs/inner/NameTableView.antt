@@ -6,7 +6,7 @@ use Rattle.attr_lists.specs.Collections.{Collection}
 use Rattle.attr_lists.specs.Definitions.{definitions_of, free_id, of_other_lists, IsSoundCollection}
 use Rattle.attr_lists.specs.inner.EntryViews.{all_definitions, AreEntries}
 use Rattle.attr_lists.specs.Numbers.{AppendsNames}
-use Rattle.attr_lists.specs.inner.MacroNumbers.{ListsMacros}
+use Rattle.attr_lists.specs.shared.MacroNumbers.{ListsMacros}
 use Rattle.attr_lists.specs.inner.Registered.{AreRegistered}
 
 abbrev pub parts_view : Parts → Collection

@@ -5,7 +5,7 @@ ghost use Rattle.std.specs.Bool.{OnFalse};
 ghost use Rattle.attr_lists.specs.KeptLists.{macro_valid, macros_valid};
 ghost use Rattle.attr_lists.specs.ListViews.{entry_view, entries_view};
 ghost use Rattle.attr_lists.specs.inner.EntryViews.{definitions_at, numbered_view, AreValid};
-ghost use Rattle.attr_lists.specs.inner.MacroNumbers.{KeepsNumbers, ListsDefined, RemovesUndefined};
+ghost use Rattle.attr_lists.specs.shared.MacroNumbers.{KeepsNumbers, ListsDefined, RemovesUndefined};
 
 use crate::name_table::entry::NameEntry;
 use crate::name_table::name_set::NameSet;

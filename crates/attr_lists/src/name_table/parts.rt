@@ -5,7 +5,7 @@ ghost use Rattle.attr_lists.specs.KeptLists.{macros_valid};
 ghost use Rattle.attr_lists.specs.ListViews.{entries_view};
 ghost use Rattle.attr_lists.specs.inner.EntrySteps.{HasBodies};
 ghost use Rattle.attr_lists.specs.inner.EntryViews.{numbered_view, AreEntries, AreValid};
-ghost use Rattle.attr_lists.specs.inner.MacroNumbers.{KeepsNumbers, ListsDefined};
+ghost use Rattle.attr_lists.specs.shared.MacroNumbers.{KeepsNumbers, ListsDefined};
 ghost use Rattle.attr_lists.specs.inner.Registered.{bodies_of_number, registered_at, AreRegistered};
 ghost use Rattle.attr_lists.specs.inner.NameTableView.{parts_view, rolled_back, IsPartlyAdded};
 

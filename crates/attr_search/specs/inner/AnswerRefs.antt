@@ -9,7 +9,7 @@ use Rattle.attr_search.specs.declared.matching_line.MatchingLine.{MatchingLine}
 use Rattle.attr_search.specs.declared.pending_item.PendingItem.{PendingItem}
 use Rattle.attr_search.specs.inner.Pending.{item_match, line_origin, no_item, pending_item}
 use Rattle.attr_search.specs.inner.PartsContents.{KeepsOneMore, KeepsParts, PartsContent, no_assignment}
-use Rattle.attr_search.specs.inner.Slotted.{no_origin}
+use Rattle.attr_search.specs.shared.Slotted.{no_origin}
 use Rattle.attr_search.specs.declared.answer_parts.MatchRef.{MatchRef}
 
 -- where a kept line is

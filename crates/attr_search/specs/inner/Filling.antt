@@ -3,16 +3,16 @@ use Rattle.std.specs.Prelude.{◌≡◌, ℕ, ◌+◌, ◌-◌, ◌^◌, min, fa
 use Rattle.attr_lists.specs.declared.types.TrackedAssignment.{TrackedAssignment}
 use Rattle.attr_table.specs.Table.{Slots}
 use Rattle.attr_table.specs.Cut.{is_done}
-use Rattle.attr_table.specs.inner.Walk.{Task, Searches, left_in}
+use Rattle.attr_table.specs.shared.Walk.{Task, Searches, left_in}
 use Rattle.attr_search.specs.declared.matching_line.MatchingLine.{MatchingLine}
 use Rattle.attr_search.specs.declared.pending_item.PendingItem.{PendingItem}
 use Rattle.attr_search.specs.declared.slot_filler.SlotFiller.{SlotFiller}
 use Rattle.attr_search.specs.Settings.{BodiesAreNamed, HaveSlots, HeldAreNamed}
 use Rattle.attr_lists.specs.Numbers.{AreNamed}
-use Rattle.attr_search.specs.inner.Slotted.{BodiesHaveSlots}
+use Rattle.attr_search.specs.shared.Slotted.{BodiesHaveSlots}
 use Rattle.attr_search.specs.Slots.{slots_of}
 use Rattle.attr_search.specs.inner.Pending.{IsPlaced, line_origin, pending_tasks, table_bodies, task_of}
-use Rattle.attr_search.specs.inner.SlotContents.{wanted_numbers}
+use Rattle.attr_search.specs.shared.SlotContents.{wanted_numbers}
 
 -- there is a body for each slot, and each item of a body has a slot
 pub record BodiesFit (slots : ℕ) (bodies : List (List TrackedAssignment)) : Type 0 where

@@ -4,7 +4,7 @@ use Rattle.attr_table.specs.Setting.{Origin}
 use Rattle.attr_search.specs.declared.answer_parts.AnswerParts.TheInside.{Inside}
 use Rattle.attr_search.specs.declared.matching_line.AnsweringLine.{AnsweringLine}
 use Rattle.attr_search.specs.inner.PartsContents.{PartsContent}
-use Rattle.attr_search.specs.inner.Slotted.{bodies_view, index_origin}
+use Rattle.attr_search.specs.shared.Slotted.{bodies_view, index_origin}
 
 -- where a line is
 abbrev pub origin_of_line : AnsweringLine → Origin

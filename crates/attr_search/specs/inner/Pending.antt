@@ -5,12 +5,12 @@ use Rattle.attr_lists.specs.declared.types.MatchKind.{MatchKind}
 use Rattle.attr_lists.specs.declared.types.TrackedAssignment.{TrackedAssignment}
 use Rattle.attr_table.specs.Setting.{Origin, Item}
 use Rattle.attr_table.specs.Table.{Slots}
-use Rattle.attr_table.specs.inner.Walk.{Task, backwards, tasks_in, free_items}
+use Rattle.attr_table.specs.shared.Walk.{Task, backwards, tasks_in, free_items}
 use Rattle.attr_search.specs.declared.pending_item.PendingItem.{PendingItem}
 use Rattle.attr_search.specs.declared.matching_line.MatchingLine.{MatchingLine}
 use Rattle.attr_search.specs.Matches.{is_macro_kind, cause_of}
 use Rattle.attr_search.specs.Slots.{Matched, table_item, table_items}
-use Rattle.attr_search.specs.inner.Slotted.{index_origin}
+use Rattle.attr_search.specs.shared.Slotted.{index_origin}
 
 -- the line that a match refers to
 abbrev pub line_origin : MatchingLine → Origin

@@ -3,7 +3,7 @@ use Rattle.std.specs.Prelude.{◌≡◌, ℕ, ◌+◌, ◌-◌, ◌^◌, ◌≤�
 use Rattle.attr_table.specs.Setting.{Item, Line}
 use Rattle.attr_table.specs.Table.{Slots}
 use Rattle.attr_table.specs.Cut.{is_done}
-use Rattle.attr_table.specs.inner.Walk.{Task, Walks, backwards, line_tasks}
+use Rattle.attr_table.specs.shared.Walk.{Task, Walks, backwards, line_tasks}
 
 -- a search goes through lines one by one, by their tasks, and counts at least those at which slots changed
 pub data Rounds (bodies : List (List Item)) (wanted : List ℕ) : List (List Task) → Slots → Slots → ℕ → ℕ → Type 0 where

@@ -5,7 +5,7 @@ use Rattle.bstr.specs.BStr.{bstr_bytes}
 use Rattle.attr_lists.specs.declared.types.TrackedAssignment.{TrackedAssignment}
 use Rattle.attr_table.specs.Setting.{Item, Setting}
 use Rattle.attr_table.specs.Table.{IsStable, Slots, Table}
-use Rattle.attr_table.specs.inner.Walk.{Searches, Task, list_tasks, tasks_of}
+use Rattle.attr_table.specs.shared.Walk.{Searches, Task, list_tasks, tasks_of}
 use Rattle.attr_index.specs.declared.path_query.PathQuery.{PathQuery}
 use Rattle.attr_index.specs.ListView.{Listed}
 use Rattle.attr_search.specs.Roots.{RootsAtMost}
@@ -14,7 +14,7 @@ use Rattle.attr_search.specs.Settings.{BodiesAreNamed, HeldAreNamed, LinesAreNam
 use Rattle.attr_search.specs.Slots.{slots_of, table_items}
 use Rattle.attr_search.specs.inner.Lines.{all_lines, place_tasks, query_lines}
 use Rattle.attr_search.specs.inner.Rounds.{Rounds, list_rounds, rounds_of}
-use Rattle.attr_search.specs.inner.SlotContents.{wanted_numbers}
+use Rattle.attr_search.specs.shared.SlotContents.{wanted_numbers}
 
 -- the answers as the table's slots, the numbers that are looked for, and the bodies as the table knows them
 abbrev pub state_slots : SearchContents → Slots

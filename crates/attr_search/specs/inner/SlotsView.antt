@@ -3,7 +3,7 @@ use Rattle.std.specs.Prelude.{◌≡◌, ⊤, ◌<◌, ◌≤◌, length, MatchO
 use Rattle.std.specs.Prelude.{true}
 use Rattle.std.specs.List.Sorted.{IsNonDecreasing}
 use Rattle.attr_search.specs.Slots.{filled_in}
-use Rattle.attr_search.specs.inner.SlotContents.{AreListed, SlotContents, count_remaining}
+use Rattle.attr_search.specs.shared.SlotContents.{AreListed, SlotContents, count_remaining}
 use Rattle.attr_search.specs.inner.AnswerRefs.{AreMatchRefs, line_by_ref, matches_by_ref}
 use Rattle.attr_search.specs.declared.slots.AnswerSlots.TheInside.{Inside}
 

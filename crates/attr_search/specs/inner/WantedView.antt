@@ -3,7 +3,7 @@ use Rattle.std.specs.Prelude.{◌≡◌, ℕ, ◌%◌, Bool, true, false, List, 
 use Rattle.std.specs.BTreeSet.{contains}
 use Rattle.std.specs.List.{range_with_len}
 use Rattle.std.specs.Ordering.{nat_cmp}
-use Rattle.attr_search.specs.inner.SlotContents.{count_wanted}
+use Rattle.attr_search.specs.shared.SlotContents.{count_wanted}
 use Rattle.attr_search.specs.declared.wanted.WantedFlags.TheInside.{Inside}
 
 -- the flag of a number: all are set, or the number is in the set

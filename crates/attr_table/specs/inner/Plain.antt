@@ -5,7 +5,7 @@ use Rattle.std.specs.Borrow.{Bor}
 use Rattle.attr_table.specs.Setting.{State, Set, Unset, Value, Unspecified, Item, Origin, Line, Setting, Answer}
 use Rattle.attr_table.specs.Table.{Slots, slots_in}
 use Rattle.attr_table.specs.Cut.{is_done}
-use Rattle.attr_table.specs.inner.Walk.{Task, backwards, left_in, most_taken, Searches}
+use Rattle.attr_table.specs.shared.Walk.{Task, backwards, left_in, most_taken, Searches}
 use Rattle.attr_table.specs.declared.plain.State.{State as PlainState}
 use Rattle.attr_table.specs.declared.plain.State.TheVariants.{Set as PlainSet, Unset as PlainUnset, Value as PlainValue}
 use Rattle.attr_table.specs.declared.plain.State.TheVariants.{Unspecified as PlainUnspecified}

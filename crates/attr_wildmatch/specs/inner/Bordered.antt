@@ -1,8 +1,8 @@
--- A folder star is only at the places where git has one (gitignore page).
+-- A directory star is only at the places where git has one (gitignore page).
 use Rattle.std.specs.Prelude.{Bool, true, ◌&&◌, List, [], ◌∷◌}
 use Rattle.attr_wildmatch.specs.Tokens.{Token, dirs, token_ends_in_slash}
 
--- each folder star is at the start or after a token that ends in a slash
+-- each directory star is at the start or after a token that ends in a slash
 abbrev pub is_bordered : Bool → List Token → Bool
 is_bordered border [] = true
 is_bordered border (dirs ∷ ts) = border && is_bordered true ts

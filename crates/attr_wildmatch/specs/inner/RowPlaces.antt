@@ -14,7 +14,7 @@ may_be_nothing dirs = true
 may_be_nothing rest = true
 may_be_nothing _ = false
 
--- the token is a folder star
+-- the token is a directory star
 abbrev pub is_dirs : Token → Bool
 is_dirs dirs = true
 is_dirs _ = false
@@ -35,10 +35,10 @@ abbrev pub may_skip : Option Token → Bool
 may_skip None = false
 may_skip (Some t) = may_be_nothing t
 
--- the token of a place is a folder star, so that the place stays for good
-abbrev pub is_folder : Option Token → Bool
-is_folder None = false
-is_folder (Some t) = is_dirs t
+-- the token of a place is a directory star, so that the place stays for good
+abbrev pub is_dirs_at : Option Token → Bool
+is_dirs_at None = false
+is_dirs_at (Some t) = is_dirs t
 
 -- by the token before it a place stays over the byte
 abbrev pub stays_on : Option Token → ℕ → Bool
@@ -59,7 +59,7 @@ token_before ts (suc k) = slice_get ts k
 abbrev pub places_below : (ℕ → Bool) → ℕ → List ℕ
 places_below test n = filter test (range_with_len 0 n)
 
--- Of the places that are alive, the fresh ones are those to which the tokens before them lead exactly; a folder star's
+-- Of the places that are alive, the fresh ones are those to which the tokens before them lead exactly; a directory star's
 -- place stays alive once it was. A fresh place is alive, and makes the next one fresh if its token may take nothing.
 pub record IsGrowing (ts : List Token) (fresh alive : ℕ → Bool) : Type 0 where
   pub living : (k : ℕ) → fresh k ≡ true → alive k ≡ true
@@ -68,11 +68,11 @@ pub record IsGrowing (ts : List Token) (fresh alive : ℕ → Bool) : Type 0 whe
 -- what a byte makes of the places that were alive before it
 pub record IsStep (case : Case) (ts : List Token) (b : ℕ) (fresh alive before : ℕ → Bool) : Type 0 where
   pub growing : IsGrowing ts fresh alive
-  pub folder : (k : ℕ) → is_folder (slice_get ts k) ≡ true → before k ≡ true → alive k ≡ true
+  pub directory : (k : ℕ) → is_dirs_at (slice_get ts k) ≡ true → before k ≡ true → alive k ≡ true
   pub stay : (k : ℕ) → stays_on (token_before ts k) b ≡ true → before k ≡ true → fresh k ≡ true
   pub advance : (k : ℕ) → advances_on case (slice_get ts k) b ≡ true → before k ≡ true → fresh (k + 1) ≡ true
   pub alive_from : (k : ℕ) → k ≤ length ts → alive k ≡ true →
-      (fresh k ≡ true) ⊎ ((is_folder (slice_get ts k) ≡ true) × (before k ≡ true))
+      (fresh k ≡ true) ⊎ ((is_dirs_at (slice_get ts k) ≡ true) × (before k ≡ true))
   pub fresh_from : (k : ℕ) → k < length ts → fresh (k + 1) ≡ true →
       ((stays_on (token_before ts (k + 1)) b ≡ true) × (before (k + 1) ≡ true)) ⊎
       (((advances_on case (slice_get ts k) b ≡ true) × (before k ≡ true)) ⊎
@@ -88,7 +88,7 @@ pub record IsRow (ts : List Token) (fresh alive : ℕ → Bool) (row : List ℕ)
 -- all that the places below p make alive lies below `free`
 pub record IsSettled (case : Case) (ts : List Token) (b : ℕ) (before : ℕ → Bool) (p free : ℕ) : Type 0 where
   pub stay : (k : ℕ) → k < p → before k ≡ true → stays_on (token_before ts k) b ≡ true → k < free
-  pub folder : (k : ℕ) → k < p → before k ≡ true → is_folder (slice_get ts k) ≡ true → k < free
+  pub directory : (k : ℕ) → k < p → before k ≡ true → is_dirs_at (slice_get ts k) ≡ true → k < free
   pub advance : (k : ℕ) → k < p → before k ≡ true → advances_on case (slice_get ts k) b ≡ true → k + 1 < free
 
 -- a row that is being made, of which the places below p are settled
@@ -106,7 +106,7 @@ NoneAlive alive first last = (k : ℕ) → first ≤ k → k < last → alive k 
 -- if the byte leaves a place in the row, the place is below `free`
 pub record HasStayed (ts : List Token) (b p free : ℕ) : Type 0 where
   pub stay : stays_on (token_before ts p) b ≡ true → p < free
-  pub folder : is_folder (slice_get ts p) ≡ true → p < free
+  pub directory : is_dirs_at (slice_get ts p) ≡ true → p < free
 
 -- a row has room for all places among n tokens, and has at most `free` of them
 pub record HasRoom {A : Type 0} (n : ℕ) (row : Vec ℕ A) (free : ℕ) : Type 0 where

@@ -87,9 +87,9 @@ forms = (codes "l ", Line) ∷ (codes "z ", Zero) ∷ (codes "o ", Origin) ∷ [
 abbrev pub cases : List (List ℕ × Case)
 cases = (codes "s ", Sensitive) ∷ (codes "i ", Fold) ∷ []
 
--- the path is a folder, is a file, or may be either
-abbrev pub folder_flags : List (List ℕ × Option Bool)
-folder_flags = (codes "d ", Some true) ∷ (codes "f ", Some false) ∷ (codes "u ", None) ∷ []
+-- the path is a directory, is a file, or may be either
+abbrev pub directory_flags : List (List ℕ × Option Bool)
+directory_flags = (codes "d ", Some true) ∷ (codes "f ", Some false) ∷ (codes "u ", None) ∷ []
 
 -- the header of an `add` record: whether the file may define macros, and the lengths of the parts in bytes
 pub record AddHeader : Type 0 where
@@ -125,7 +125,7 @@ text_lines (suc count) bytes =
     (split_once line_feed bytes then if_text) then λ line.
     option_map (λ others. (line.0 ∷ others.0, others.1)) (text_lines count line.1)
 
--- the header of an `ask` record: `F C D`, the form, the case rule and whether the path is a folder
+-- the header of an `ask` record: `F C D`, the form, the case rule and whether the path is a directory
 pub record AskHeader : Type 0 where
   pub form : Form
   pub case : Case
@@ -136,7 +136,7 @@ ask_header bytes =
     choice_of forms bytes then λ form.
     choice_of cases form.1 then λ case.
     option_map (λ is_dir. (record { form = form.0; case = case.0; is_dir = is_dir.0 }, is_dir.1))
-    (choice_of folder_flags case.1)
+    (choice_of directory_flags case.1)
 
 -- the length of a path, the path, and a line feed
 abbrev pub question_of : AskHeader → List ℕ → Option (Question × List ℕ)

@@ -7,8 +7,8 @@ use Rattle.std.specs.Ordering.{nat_cmp}
 use Rattle.attr_lists.specs.Collections.{Collection}
 use Rattle.attr_lists.specs.declared.types.TrackedAssignment.{TrackedAssignment}
 use Rattle.attr_search.specs.declared.bodies.BodyChange.{BodyChange}
-use Rattle.attr_search.specs.inner.BodyChanges.{changed_bodies, sized_bodies}
-use Rattle.attr_search.specs.inner.Slotted.{bodies_view}
+use Rattle.attr_search.specs.shared.BodyChanges.{changed_bodies, sized_bodies}
+use Rattle.attr_search.specs.shared.Slotted.{bodies_view}
 use Rattle.gix_attributes.specs.Contents.{bodies_of}
 
 -- the bodies, as many as there are names

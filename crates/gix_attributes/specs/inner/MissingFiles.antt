@@ -6,7 +6,7 @@ use Rattle.std.specs.declared.io.ErrorKind.TheVariants.{NotFound, NotADirectory,
 use Rattle.gix_attributes.specs.declared.files.ReadError.{ReadError}
 use Rattle.gix_attributes.specs.declared.files.ReadError.TheVariants.{Device, OutOfMemory}
 
--- nothing has this path, a part of the path is no folder, or it is a folder
+-- nothing has this path, a part of the path is no directory, or it is a directory
 abbrev pub IsOfNoFile : ErrorKind → Type 0
 IsOfNoFile kind = (kind ≡ NotFound) ⊎ ((kind ≡ NotADirectory) ⊎ (kind ≡ IsADirectory))
 

@@ -9,7 +9,7 @@ use Rattle.attr_lists.specs.declared.parser.Attributes.{Attributes}
 use Rattle.attr_lists.specs.declared.types.Dropped.{Dropped}
 use Rattle.attr_lists.specs.declared.types.Value.{Value}
 use Rattle.attr_index.specs.declared.indexed_list.IndexedList.{IndexedList}
-use Rattle.attr_lists.specs.inner.Keeping.{StayRegistered}
+use Rattle.attr_lists.specs.shared.Keeping.{StayRegistered}
 use Rattle.gix_attributes.specs.Additions.{with_registered}
 
 -- the list that was passed is registered under the least free list id, its lines are numbered, and other lists stay registered

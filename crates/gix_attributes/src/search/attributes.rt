@@ -7,7 +7,7 @@ ghost use Rattle.attr_lists.specs.Definitions.{free_id};
 ghost use Rattle.attr_lists.specs.KeptLists.{defines_no_macro, kept_list_where, dropped_lines, macros_valid};
 ghost use Rattle.attr_lists.specs.ListViews.{entries_view};
 ghost use Rattle.attr_index.specs.ListView.{list_view};
-ghost use Rattle.attr_index.specs.inner.ReadLines.{AreRead};
+ghost use Rattle.attr_index.specs.shared.ReadLines.{AreRead};
 ghost use Rattle.attr_table.specs.Cut.{IsSearched};
 ghost use Rattle.attr_table.specs.Table.{IsStable, OneTable, Table};
 ghost use Rattle.attr_table.specs.Work.{newly_filled, work_of};
@@ -64,7 +64,7 @@ impl Search {
     /// Reads an attributes file's bytes as a list, adds it as the last one, and registers it in the collection. Returns
     /// the dropped lines: those that the list leaves out, each with its reason.
     ///
-    /// `source` is the path of the file. The patterns apply to the paths in the file's folder, relative to `root`.
+    /// `source` is the path of the file. The patterns apply to the paths in the file's directory, relative to `root`.
     /// Without a root, or if the file is elsewhere, they apply to all paths. If macros are not allowed, the lines that
     /// define one are skipped (gitattributes page: only top-level files may define macros).
     ///
@@ -174,7 +174,7 @@ impl Search {
     /// has an answer (gitattributes page: later lists and lines take precedence). Returns whether the search found an
     /// answer of a selected attribute.
     ///
-    /// The path has no leading slash, and `is_dir` is whether it is a folder, if that is known. Searches may follow
+    /// The path has no leading slash, and `is_dir` is whether it is a directory, if that is known. Searches may follow
     /// one another: what the earlier ones found takes precedence. If each selected attribute has an answer before,
     /// nothing changes.
     ///

@@ -10,15 +10,15 @@ ghost use Rattle.attr_lists.specs.NameViews.{names_from, names_left};
 ghost use Rattle.std.specs.List.{IsDistinct, list_any};
 ghost use Rattle.gix_attributes.specs.SearchViews.{Holds};
 ghost use Rattle.attr_index.specs.IndexedLists.{list_ids_of};
-ghost use Rattle.attr_index.specs.inner.ReadLines.{AreRead};
+ghost use Rattle.attr_index.specs.shared.ReadLines.{AreRead};
 ghost use Rattle.gix_attributes.specs.Additions.{with_registered};
 ghost use Rattle.attr_index.specs.ListView.{list_view};
 ghost use Rattle.attr_search.specs.Settings.{LinesAreNamed};
 ghost use Rattle.gix_attributes.specs.Keeping.{KeepsSearches, RegistersLast};
 ghost use Rattle.gix_attributes.specs.Registers.{RegistersExactly};
 ghost use Rattle.gix_attributes.specs.inner.HeldLists.{AreHeldLists};
-ghost use Rattle.attr_lists.specs.inner.Keeping.{OthersStayRegistered};
-ghost use Rattle.attr_lists.specs.inner.MacroNumbers.{ListsMacros};
+ghost use Rattle.attr_lists.specs.shared.Keeping.{OthersStayRegistered};
+ghost use Rattle.attr_lists.specs.shared.MacroNumbers.{ListsMacros};
 ghost use Rattle.gix_attributes.specs.inner.Registering.{Registers};
 
 use crate::Search;

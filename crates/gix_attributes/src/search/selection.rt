@@ -5,8 +5,8 @@ ghost use Rattle.gix_attributes.specs.Contents.{bodies_of, looked_up, names_sele
 ghost use Rattle.gix_attributes.specs.inner.BodiesMade.{AreMade};
 ghost use Rattle.gix_attributes.specs.inner.Consistency.{AreEmptyElsewhere, flags_of};
 ghost use Rattle.gix_attributes.specs.Selection.{selection_view};
-ghost use Rattle.attr_search.specs.inner.BodyChanges.{changed_bodies, sized_bodies};
-ghost use Rattle.attr_search.specs.inner.Slotted.{bodies_view};
+ghost use Rattle.attr_search.specs.shared.BodyChanges.{changed_bodies, sized_bodies};
+ghost use Rattle.attr_search.specs.shared.Slotted.{bodies_view};
 
 use crate::search::TrackedAssignment;
 use crate::search::collection::MetadataCollection;

@@ -57,7 +57,7 @@ fn expect_files(
     Ok(())
 }
 
-const FOLDERS: &[(&str, &str, bool)] = &[
+const DIRECTORIES: &[(&str, &str, bool)] = &[
     ("a/**/b", "a/b", true),
     ("a/**/b", "a/c/d/b", true),
     ("a/**/b", "ab", false),
@@ -87,7 +87,7 @@ const NAMES: &[(&str, &str, bool)] = &[
 
 #[test]
 fn matches_paths(rt: HostRuntime) -> Result<(), AllocError> {
-    expect_files(&rt, rt.alloc(), FOLDERS)?;
+    expect_files(&rt, rt.alloc(), DIRECTORIES)?;
     expect_files(&rt, rt.alloc(), NAMES)
 }
 

@@ -20,11 +20,11 @@ pub(super) fn times(alloc: Global, part: &str, count: usize) -> Result<String, A
 }
 
 // A file and a link to it.
-fn write_files<R: HostFiles>(rt: &R, alloc: Global, folder: Path<'_>) -> Result<(), Fail> {
-    fs::create_dir_all(rt, folder)?;
-    let file = folder.join(alloc, "plain")?;
+fn write_files<R: HostFiles>(rt: &R, alloc: Global, directory: Path<'_>) -> Result<(), Fail> {
+    fs::create_dir_all(rt, directory)?;
+    let file = directory.join(alloc, "plain")?;
     fs::write(rt, file.as_path(), "* text\n")?;
-    let link = folder.join(alloc, "link")?;
+    let link = directory.join(alloc, "link")?;
     Ok(symlink(rt, file.as_path(), link.as_path())?)
 }
 
@@ -52,31 +52,31 @@ fn push_reads<F: Files>(
     Ok(())
 }
 
-// Reads a file of the folder.
+// Reads a file of the directory.
 fn push_read_below<R: HostFiles>(
     alloc: Global,
-    folder: Path<'_>,
+    directory: Path<'_>,
     name: &str,
     disk: &mut Disk<'_, R>,
     out: &mut Vec<u8>,
 ) -> Result<(), AllocError> {
-    let path = folder.join(alloc, name)?;
+    let path = directory.join(alloc, name)?;
     push_read(disk, path.as_str(), out)
 }
 
 const NAMES: &[&str] = &["plain", "link", "missing", "plain/below", "."];
 
-// Expects these answers of the folder's files.
+// Expects these answers of the directory's files.
 fn expect_reads<R: HostFiles + Abort>(
     rt: &R,
     alloc: Global,
-    folder: Path<'_>,
+    directory: Path<'_>,
     wanted: &[u8],
 ) -> Result<(), Fail> {
     let mut disk = Disk::new(rt);
     let mut out = Vec::new(alloc);
     for name in NAMES {
-        push_read_below(alloc, folder, name, &mut disk, &mut out)?;
+        push_read_below(alloc, directory, name, &mut disk, &mut out)?;
     }
     let found = (out.as_slice(), disk.files_read(), disk.failures());
     assert_eq!(rt; found, (wanted, 2, 0));
@@ -86,11 +86,11 @@ fn expect_reads<R: HostFiles + Abort>(
 #[test]
 fn reads_real_files(rt: HostRuntime) -> Result<(), Fail> {
     let name = format!(in rt.alloc(); "gix_attributes-files-{}", process::id(rt.process()))?;
-    let folder = env::temp_dir(&rt)?.join(rt.alloc(), name.as_str())?;
-    write_files(&rt, rt.alloc(), folder.as_path())?;
+    let directory = env::temp_dir(&rt)?.join(rt.alloc(), name.as_str())?;
+    write_files(&rt, rt.alloc(), directory.as_path())?;
     let wanted = b"read * text\nread * text\nmissing missing missing ";
-    expect_reads(&rt, rt.alloc(), folder.as_path(), wanted)?;
-    Ok(fs::remove_dir_all(&rt, folder.as_path())?)
+    expect_reads(&rt, rt.alloc(), directory.as_path(), wanted)?;
+    Ok(fs::remove_dir_all(&rt, directory.as_path())?)
 }
 
 fn expect_failures<R: HostFiles + Abort>(

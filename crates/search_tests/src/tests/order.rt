@@ -16,7 +16,7 @@ fn add_file(
     Ok(())
 }
 
-// How a search compares with another one that has the same list, under another list id, and had the list of a folder before.
+// How a search compares with another one that has the same list, under another list id, and had the list of a directory before.
 fn compared(alloc: Global, bytes: &[u8], other_bytes: &[u8]) -> Result<Ordering, AllocError> {
     let mut search = Box::new(alloc, Search::new(alloc))?;
     let mut other = Box::new(alloc, Search::new(alloc))?;

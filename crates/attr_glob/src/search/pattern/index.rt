@@ -5,8 +5,8 @@ ghost use Rattle.bstr.specs.BStr.{bstr_bytes};
 ghost use Rattle.attr_glob.specs.BaseNames.{base_name, base_name_place};
 ghost use Rattle.attr_glob.specs.Candidates.{candidates};
 ghost use Rattle.attr_glob.specs.Views.{pattern_view, patterns_of};
-ghost use Rattle.attr_keys.specs.inner.LineKeys.{shape_content};
-ghost use Rattle.attr_glob.specs.inner.LineShapes.{folds, shape_reading};
+ghost use Rattle.attr_keys.specs.shared.LineKeys.{shape_content};
+ghost use Rattle.attr_glob.specs.shared.LineShapes.{folds, shape_reading};
 
 use crate::pattern::{Case, Mode, base_name};
 use crate::search::pattern::List;
@@ -118,7 +118,7 @@ fn is_same_pattern(x: &Pattern, y: &Pattern) -> bool
 }
 
 impl Keyed for Pattern {
-    ghost use Rattle.attr_glob.specs.inner.LineShapes.{key_of_pattern};
+    ghost use Rattle.attr_glob.specs.shared.LineShapes.{key_of_pattern};
 
     ghost content = { key_of_pattern };
 

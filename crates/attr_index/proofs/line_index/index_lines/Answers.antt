@@ -1,6 +1,6 @@
 use Rattle.std.proofs.Common.{◌∙◌, ap}
 use Rattle.attr_glob.proofs.ForCallers.{take_whole}
-use Rattle.attr_index.specs.inner.LineIndexes.{listed_lines}
+use Rattle.attr_index.specs.shared.LineIndexes.{listed_lines}
 use Rattle.attr_index.proofs.IndexedListLemmas.{lines_more}
 use Rattle.attr_index.proofs.line_index.index_lines.Goals as goal
 

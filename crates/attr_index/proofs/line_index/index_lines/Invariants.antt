@@ -1,5 +1,5 @@
 use Rattle.std.proofs.Common.{◌≡◌, take}
-use Rattle.attr_index.specs.inner.LineIndexes.{indexed_lines, listed_lines}
+use Rattle.attr_index.specs.shared.LineIndexes.{indexed_lines, listed_lines}
 use Rattle.attr_index.proofs.line_index.index_lines.Given as goal
 
 abbrev pub invariant-loop-mapping : goal.invariant-loop-mapping

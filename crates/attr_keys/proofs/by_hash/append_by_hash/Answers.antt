@@ -2,9 +2,9 @@ use Rattle.std.proofs.Common.{◌||◌, ℕ, Bool, false, true, nat_eq, ◌∙�
 use Rattle.std.specs.List.{starts_with}
 use Rattle.std.proofs.lemmas.Result.{on_ok_weaker}
 use Rattle.attr_keys.specs.inner.Cases.{keys_seen}
-use Rattle.attr_keys.specs.inner.Codes.{codes_of, row_codes}
-use Rattle.attr_keys.specs.inner.Meeting.{directed}
-use Rattle.attr_keys.specs.inner.Rows.{has_row}
+use Rattle.attr_keys.specs.shared.Codes.{codes_of, row_codes}
+use Rattle.attr_keys.specs.shared.Meeting.{directed}
+use Rattle.attr_keys.specs.shared.Rows.{has_row}
 use Rattle.attr_keys.proofs.Hashing.{alike_rows, hash_of_part, no_part, no_row}
 use Rattle.attr_keys.proofs.by_hash.append_by_hash.Goals as goal
 use Rattle.attr_keys.proofs.RowLemmas.{or_none}

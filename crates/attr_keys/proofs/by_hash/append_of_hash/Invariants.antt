@@ -2,8 +2,8 @@ use Rattle.std.proofs.Common.{◌≡◌, ◌&&◌, ◌||◌, ℕ, take}
 use Rattle.std.specs.Prelude.{slice_get}
 use Rattle.attr_keys.specs.inner.Cases.{keys_seen}
 use Rattle.attr_keys.specs.inner.Hashes.{hashed_rows, rows_of_hash}
-use Rattle.attr_keys.specs.inner.Meeting.{directed, text_has}
-use Rattle.attr_keys.specs.inner.Rows.{has_row}
+use Rattle.attr_keys.specs.shared.Meeting.{directed, text_has}
+use Rattle.attr_keys.specs.shared.Rows.{has_row}
 use Rattle.attr_keys.proofs.by_hash.append_of_hash.Given as goal
 
 abbrev pub invariant-loop-hashed : goal.invariant-loop-hashed

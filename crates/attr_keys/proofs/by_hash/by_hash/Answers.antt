@@ -4,7 +4,7 @@ use Rattle.std.proofs.lemmas.List.Sorted.{All-permutation}
 use Rattle.std.proofs.lemmas.Result.{IfOk-weaker}
 use Rattle.attr_keys.specs.inner.Cases.{keys_seen}
 use Rattle.attr_keys.specs.inner.Hashes.{IsHashOfKey, hashed_rows}
-use Rattle.attr_keys.specs.inner.Rows.{has_row}
+use Rattle.attr_keys.specs.shared.Rows.{has_row}
 use Rattle.attr_keys.proofs.Hashing.{all_among, all_find, rows_moved}
 use Rattle.attr_keys.proofs.by_hash.by_hash.Goals as goal
 

@@ -7,7 +7,7 @@ use Rattle.std.proofs.lemmas.Bool.Decides.{nat_tests}
 use Rattle.std.proofs.lemmas.List.Folds.{list_any-append}
 use Rattle.attr_keys.specs.declared.hashed.HashedRow.{HashedRow}
 use Rattle.attr_keys.specs.inner.Hashes.{AreAmong, hashed_rows}
-use Rattle.attr_keys.specs.inner.Rows.{has_row}
+use Rattle.attr_keys.specs.shared.Rows.{has_row}
 use Rattle.attr_keys.proofs.Hashing.{rows_push}
 use Rattle.attr_keys.proofs.RowLemmas.{by_test}
 use Rattle.attr_keys.proofs.by_hash.split_crowds.Goals as goal

@@ -1,6 +1,6 @@
 use Rattle.std.proofs.Common.{◌≡◌, ◌||◌, ℕ, take}
 use Rattle.attr_keys.specs.inner.Hashes.{AreAmong, hashed_rows}
-use Rattle.attr_keys.specs.inner.Rows.{has_row}
+use Rattle.attr_keys.specs.shared.Rows.{has_row}
 use Rattle.attr_keys.proofs.by_hash.split_crowds.Given as goal
 
 abbrev pub invariant-loop-index : goal.invariant-loop-index

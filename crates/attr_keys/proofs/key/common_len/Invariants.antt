@@ -1,6 +1,6 @@
 use Rattle.std.proofs.Common.{◌≡◌, ◌≤◌, ◌-◌, length, take}
 use Rattle.attr_keys.specs.inner.Cases.{seen_text}
-use Rattle.attr_keys.specs.inner.Meeting.{directed}
+use Rattle.attr_keys.specs.shared.Meeting.{directed}
 use Rattle.attr_keys.proofs.key.common_len.Given as goal
 
 abbrev pub invariant-loop-len : goal.invariant-loop-len

@@ -1,6 +1,6 @@
 use Rattle.std.proofs.Common.{◌≡◌, ◌<◌, ◌+◌, ℕ, false, ◌∙◌, ap, arith, eqb}
 use Rattle.std.proofs.lemmas.Bool.Decides.{nat_tests}
-use Rattle.attr_keys.specs.inner.Meeting.{directed}
+use Rattle.attr_keys.specs.shared.Meeting.{directed}
 use Rattle.attr_keys.proofs.Cuts.{first_is}
 use Rattle.attr_keys.proofs.SeenTexts.{length-directed}
 use Rattle.attr_keys.proofs.key.first_code.Goals as goal

@@ -2,8 +2,8 @@ use Rattle.std.proofs.Common.{false, not, ◌∙◌, ap}
 use Rattle.std.specs.Cmp.Lexicographic.{slice_cmp}
 use Rattle.std.specs.Ordering.{is_lt, nat_cmp, ordering_then}
 use Rattle.attr_keys.specs.inner.Cases.{seen_text}
-use Rattle.attr_keys.specs.inner.Codes.{codes_of}
-use Rattle.attr_keys.specs.inner.Meeting.{directed}
+use Rattle.attr_keys.specs.shared.Codes.{codes_of}
+use Rattle.attr_keys.specs.shared.Meeting.{directed}
 use Rattle.attr_keys.proofs.Parts.{order_seen}
 use Rattle.attr_keys.proofs.key.is_row_up_to.Goals as goal
 

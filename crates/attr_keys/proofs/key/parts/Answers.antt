@@ -2,8 +2,8 @@ use Rattle.std.proofs.Common.{None, Some, sym, ap, ◌∙◌}
 use Rattle.std.specs.Prelude.{option_map}
 use Rattle.std.proofs.lemmas.Option.{slice_get-get_or, slice_get-map, slice_get_past}
 use Rattle.attr_keys.specs.inner.Cases.{natural, seen, text_standing}
-use Rattle.attr_keys.specs.inner.Codes.{key_codes}
-use Rattle.attr_keys.specs.inner.Meeting.{is_whole_row}
+use Rattle.attr_keys.specs.shared.Codes.{key_codes}
+use Rattle.attr_keys.specs.shared.Meeting.{is_whole_row}
 use Rattle.attr_keys.proofs.SeenTexts.{codes_seen, natural_is, no_codes, row_seen}
 use Rattle.attr_keys.proofs.key.parts.Goals as goal
 

@@ -1,7 +1,7 @@
 use Rattle.std.proofs.Common.{◌≡◌, inl, inr, length, sym, ap, ◌∙◌, arith}
 use Rattle.std.specs.Ordering.{nat_cmp}
 use Rattle.attr_keys.specs.inner.Cases.{seen_text}
-use Rattle.attr_keys.specs.inner.Meeting.{directed}
+use Rattle.attr_keys.specs.shared.Meeting.{directed}
 use Rattle.attr_keys.proofs.Cuts.{ends_order}
 use Rattle.attr_keys.proofs.Links.{either_order}
 use Rattle.attr_keys.proofs.SeenTexts.{length-directed, length-in_case}

@@ -3,7 +3,7 @@ use Rattle.std.proofs.lemmas.List.{take_all}
 use Rattle.std.proofs.lemmas.List.Folds.{list_any-append}
 use Rattle.std.proofs.lemmas.Result.{on_ok_weaker}
 use Rattle.attr_keys.specs.inner.Hashes.{hashed_rows}
-use Rattle.attr_keys.specs.inner.Rows.{has_row}
+use Rattle.attr_keys.specs.shared.Rows.{has_row}
 use Rattle.attr_keys.proofs.Gathering.{found_both, or_swapped}
 use Rattle.attr_keys.proofs.key_index.append_all.Goals as goal
 

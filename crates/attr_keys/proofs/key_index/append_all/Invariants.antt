@@ -1,6 +1,6 @@
 use Rattle.std.proofs.Common.{◌≡◌, ◌||◌, ℕ, take}
 use Rattle.attr_keys.specs.inner.Hashes.{hashed_rows}
-use Rattle.attr_keys.specs.inner.Rows.{has_row}
+use Rattle.attr_keys.specs.shared.Rows.{has_row}
 use Rattle.attr_keys.proofs.key_index.append_all.Given as goal
 
 abbrev pub invariant-loop-hashed : goal.invariant-loop-hashed

@@ -1,7 +1,7 @@
 use Rattle.std.proofs.Common.{false, true, map}
 use Rattle.std.proofs.lemmas.Result.{on_ok_weaker}
 use Rattle.attr_keys.specs.declared.key.Subject.TheVariants.{Name, End}
-use Rattle.attr_keys.specs.inner.Rows.{has_row}
+use Rattle.attr_keys.specs.shared.Rows.{has_row}
 use Rattle.attr_keys.proofs.Gathering.{found_both, seen_by, subject_rows_met}
 use Rattle.attr_keys.proofs.key_index.append_by_name.Goals as goal
 

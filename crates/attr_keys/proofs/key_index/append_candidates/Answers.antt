@@ -4,9 +4,9 @@ use Rattle.std.proofs.lemmas.Result.{on_ok_weaker}
 use Rattle.attr_keys.specs.declared.key.Subject.TheVariants.{End, Path}
 use Rattle.attr_keys.specs.inner.Cases.{seen_keys}
 use Rattle.attr_keys.specs.inner.Hashes.{hashed_rows}
-use Rattle.attr_keys.specs.inner.Meeting.{text_has}
+use Rattle.attr_keys.specs.shared.Meeting.{text_has}
 use Rattle.attr_keys.specs.inner.Orders.{has_unless_other}
-use Rattle.attr_keys.specs.inner.Rows.{has_row}
+use Rattle.attr_keys.specs.shared.Rows.{has_row}
 use Rattle.attr_keys.proofs.Gathering.{found_by, found_four, names_may_have, seen_by, subject_rows_all, subject_rows_met}
 use Rattle.attr_keys.proofs.key_index.append_candidates.Goals as goal
 

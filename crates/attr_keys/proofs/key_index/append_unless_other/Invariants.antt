@@ -1,9 +1,9 @@
 use Rattle.std.proofs.Common.{◌≡◌, ◌&&◌, ◌||◌, ℕ, take}
 use Rattle.std.specs.Prelude.{slice_get}
 use Rattle.attr_keys.specs.inner.Cases.{keys_seen}
-use Rattle.attr_keys.specs.inner.Meeting.{directed}
+use Rattle.attr_keys.specs.shared.Meeting.{directed}
 use Rattle.attr_keys.specs.inner.Orders.{has_unless_other}
-use Rattle.attr_keys.specs.inner.Rows.{has_row}
+use Rattle.attr_keys.specs.shared.Rows.{has_row}
 use Rattle.attr_keys.proofs.key_index.append_unless_other.Given as goal
 
 abbrev pub invariant-loop-row : goal.invariant-loop-row

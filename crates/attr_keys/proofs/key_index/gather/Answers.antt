@@ -2,9 +2,9 @@ use Rattle.std.proofs.Common.{map, sym, ap, ◌∙◌, ◌||◌}
 use Rattle.std.specs.Prelude.{slice_get}
 use Rattle.attr_keys.specs.declared.key.Subject.TheVariants.{Path}
 use Rattle.attr_keys.specs.inner.Cases.{in_case}
-use Rattle.attr_keys.specs.inner.Meeting.{text_has}
+use Rattle.attr_keys.specs.shared.Meeting.{text_has}
 use Rattle.attr_keys.specs.inner.Orders.{has_by_name, sorted_keys}
-use Rattle.attr_keys.specs.inner.Rows.{has_row}
+use Rattle.attr_keys.specs.shared.Rows.{has_row}
 use Rattle.attr_keys.proofs.Gathering.{none_about}
 use Rattle.attr_keys.proofs.key_index.gather.Goals as goal
 use Rattle.attr_keys.proofs.RowLemmas.{or_none}

@@ -1,9 +1,9 @@
 use Rattle.std.proofs.Common.{ℕ, Bool, sym, ap, ◌∙◌}
 use Rattle.std.specs.Prelude.{slice_get}
 use Rattle.attr_keys.specs.inner.Cases.{keys_seen}
-use Rattle.attr_keys.specs.inner.Codes.{row_codes}
-use Rattle.attr_keys.specs.inner.Meeting.{directed, text_has}
-use Rattle.attr_keys.specs.inner.Rows.{has_row}
+use Rattle.attr_keys.specs.shared.Codes.{row_codes}
+use Rattle.attr_keys.specs.shared.Meeting.{directed, text_has}
+use Rattle.attr_keys.specs.shared.Rows.{has_row}
 use Rattle.attr_keys.proofs.FirstCodes.{first_within, had_more, had_less}
 use Rattle.attr_keys.proofs.prefixes.append_few.Goals as goal
 use Rattle.attr_keys.proofs.prefixes.append_few.Goals.{then-has_prefix+in_ok-push, else-has_prefix}

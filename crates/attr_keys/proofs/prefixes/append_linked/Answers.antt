@@ -3,9 +3,9 @@ use Rattle.std.proofs.Common.{Bool, false, true, drop, get_or, length, nat_eq, s
 use Rattle.std.specs.List.{starts_with}
 use Rattle.std.proofs.lemmas.List.Sorted.{IsPartitionPoint-from_clause}
 use Rattle.attr_keys.specs.inner.Cases.{keys_seen}
-use Rattle.attr_keys.specs.inner.Codes.{codes_of, row_codes}
-use Rattle.attr_keys.specs.inner.Meeting.{directed}
-use Rattle.attr_keys.specs.inner.Rows.{has_row, is_up_to}
+use Rattle.attr_keys.specs.shared.Codes.{codes_of, row_codes}
+use Rattle.attr_keys.specs.shared.Meeting.{directed}
+use Rattle.attr_keys.specs.shared.Rows.{has_row, is_up_to}
 use Rattle.attr_keys.proofs.Links.{either_order, linked_less, linked_more, none_between, none_dropped, none_lesser, up_to_first}
 use Rattle.attr_keys.proofs.prefixes.append_linked.Goals as goal
 use Rattle.attr_keys.proofs.RowLemmas.{or_none}

@@ -1,9 +1,9 @@
 use Rattle.std.proofs.Common.{◌≡◌, ◌≤◌, ◌<◌, ◌&&◌, ◌||◌, ℕ, false, true, drop, length, get_or}
 use Rattle.std.specs.Prelude.{slice_get}
 use Rattle.attr_keys.specs.inner.Cases.{keys_seen}
-use Rattle.attr_keys.specs.inner.Codes.{codes_of, row_codes}
-use Rattle.attr_keys.specs.inner.Meeting.{directed, text_has}
-use Rattle.attr_keys.specs.inner.Rows.{has_row, is_up_to}
+use Rattle.attr_keys.specs.shared.Codes.{codes_of, row_codes}
+use Rattle.attr_keys.specs.shared.Meeting.{directed, text_has}
+use Rattle.attr_keys.specs.shared.Rows.{has_row, is_up_to}
 use Rattle.attr_keys.proofs.prefixes.append_linked.Given as goal
 
 abbrev pub invariant-loop-end : goal.invariant-loop-end

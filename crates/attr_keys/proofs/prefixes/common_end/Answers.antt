@@ -1,9 +1,9 @@
 use Rattle.std.proofs.Common.{false, rules}
 use Rattle.std.proofs.lemmas.List.Sorted.{IsPartitionPoint-from_clause}
 use Rattle.attr_keys.specs.inner.Cases.{keys_seen}
-use Rattle.attr_keys.specs.inner.Codes.{codes_of, row_codes}
-use Rattle.attr_keys.specs.inner.Meeting.{directed}
-use Rattle.attr_keys.specs.inner.Rows.{is_up_to}
+use Rattle.attr_keys.specs.shared.Codes.{codes_of, row_codes}
+use Rattle.attr_keys.specs.shared.Meeting.{directed}
+use Rattle.attr_keys.specs.shared.Rows.{is_up_to}
 use Rattle.attr_keys.proofs.Links.{none_common, up_to_first}
 use Rattle.attr_keys.proofs.prefixes.common_end.Goals as goal
 

@@ -1,8 +1,8 @@
 use Rattle.std.proofs.Common.{false, true, sym, ◌∙◌}
 use Rattle.std.specs.Prelude.{slice_get}
 use Rattle.attr_keys.specs.inner.Cases.{keys_seen}
-use Rattle.attr_keys.specs.inner.Codes.{codes_of, row_codes}
-use Rattle.attr_keys.specs.inner.Meeting.{directed}
+use Rattle.attr_keys.specs.shared.Codes.{codes_of, row_codes}
+use Rattle.attr_keys.specs.shared.Meeting.{directed}
 use Rattle.attr_keys.proofs.FirstCodes.{first_apart, first_none}
 use Rattle.attr_keys.proofs.prefixes.has_prefix.Goals as goal
 

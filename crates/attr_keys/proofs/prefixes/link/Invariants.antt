@@ -1,5 +1,5 @@
 use Rattle.attr_keys.specs.inner.Cases.{keys_seen}
-use Rattle.attr_keys.specs.inner.Rows.{IsLink}
+use Rattle.attr_keys.specs.shared.Rows.{IsLink}
 use Rattle.attr_keys.proofs.prefixes.link.Given as goal
 
 abbrev pub invariant-loop-end : goal.invariant-loop-end

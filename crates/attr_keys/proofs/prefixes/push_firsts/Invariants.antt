@@ -1,6 +1,6 @@
 use Rattle.std.proofs.Common.{◌≡◌, map, slice_index, take}
 use Rattle.attr_keys.specs.inner.Cases.{keys_seen}
-use Rattle.attr_keys.specs.inner.Codes.{row_codes}
+use Rattle.attr_keys.specs.shared.Codes.{row_codes}
 use Rattle.attr_keys.proofs.prefixes.push_firsts.Given as goal
 
 abbrev pub invariant-loop-row : goal.invariant-loop-row

@@ -1,6 +1,6 @@
 use Rattle.std.proofs.Common.{◌+◌, [], ◌∷◌, length, length-append, sym, ap, subst, ◌∙◌}
 use Rattle.attr_keys.specs.inner.Cases.{keys_seen}
-use Rattle.attr_keys.specs.inner.Rows.{IsLink}
+use Rattle.attr_keys.specs.shared.Rows.{IsLink}
 use Rattle.attr_keys.proofs.Links.{links_more}
 use Rattle.attr_keys.proofs.prefixes.push_links.Goals as goal
 

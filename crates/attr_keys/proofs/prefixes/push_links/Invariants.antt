@@ -1,6 +1,6 @@
 use Rattle.std.proofs.Common.{◌≡◌, length}
 use Rattle.attr_keys.specs.inner.Cases.{keys_seen}
-use Rattle.attr_keys.specs.inner.Rows.{AreLinks}
+use Rattle.attr_keys.specs.shared.Rows.{AreLinks}
 use Rattle.attr_keys.proofs.prefixes.push_links.Given as goal
 
 abbrev pub invariant-loop-index : goal.invariant-loop-index

@@ -1,6 +1,6 @@
 use Rattle.std.proofs.Common.{ap, ◌∙◌, Some, arith}
 use Rattle.attr_search.specs.inner.PartsView.{origin_of_line}
-use Rattle.attr_search.specs.inner.Slotted.{index_origin}
+use Rattle.attr_search.specs.shared.Slotted.{index_origin}
 use Rattle.attr_search.proofs.PartLemmas.{found_pushed, grows_pushed}
 use Rattle.attr_search.proofs.answer_parts.keep_line.Goals as goal
 

@@ -1,7 +1,7 @@
 use Rattle.std.proofs.Common.{◌≡◌, ◌<◌, All, length}
 use Rattle.std.specs.Vec.Iter.{into_iter_items}
-use Rattle.attr_search.specs.inner.BodyChanges.{changed_bodies}
-use Rattle.attr_search.specs.inner.Slotted.{bodies_view}
+use Rattle.attr_search.specs.shared.BodyChanges.{changed_bodies}
+use Rattle.attr_search.specs.shared.Slotted.{bodies_view}
 use Rattle.attr_search.proofs.bodies.change.Given as goal
 
 abbrev pub invariant-loop-change : goal.invariant-loop-change

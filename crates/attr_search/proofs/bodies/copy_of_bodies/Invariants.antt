@@ -1,5 +1,5 @@
 use Rattle.std.proofs.Common.{◌≡◌, take}
-use Rattle.attr_search.specs.inner.Slotted.{bodies_view}
+use Rattle.attr_search.specs.shared.Slotted.{bodies_view}
 use Rattle.attr_search.proofs.bodies.copy_of_bodies.Given as goal
 
 abbrev pub invariant-loop-body : goal.invariant-loop-body

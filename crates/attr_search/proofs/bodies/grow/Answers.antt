@@ -1,5 +1,5 @@
 use Rattle.std.proofs.Common.{◌≡◌, ◌++◌, ◌+◌, ◌-◌, ◌∷◌, [], length, replicate, ap, ◌∙◌, arith}
-use Rattle.attr_search.specs.inner.Slotted.{bodies_view}
+use Rattle.attr_search.specs.shared.Slotted.{bodies_view}
 use Rattle.attr_search.proofs.BodyLemmas.{grown_more, kept_more}
 use Rattle.attr_search.proofs.bodies.grow.Goals as goal
 

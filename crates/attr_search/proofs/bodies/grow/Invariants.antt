@@ -1,5 +1,5 @@
 use Rattle.std.proofs.Common.{◌≡◌, ◌++◌, ◌-◌, ◌<◌, [], replicate, take}
-use Rattle.attr_search.specs.inner.Slotted.{bodies_view}
+use Rattle.attr_search.specs.shared.Slotted.{bodies_view}
 use Rattle.attr_search.proofs.bodies.grow.Given as goal
 
 abbrev pub invariant-loop : goal.invariant-loop

@@ -1,7 +1,7 @@
 use Rattle.std.proofs.Common.{◌≡◌, ◌++◌, List, take, All}
 use Rattle.attr_lists.specs.declared.types.TrackedAssignment.{TrackedAssignment}
 use Rattle.attr_table.specs.Setting.{Origin}
-use Rattle.attr_table.specs.inner.Walk.{tasks_in, free_items}
+use Rattle.attr_table.specs.shared.Walk.{tasks_in, free_items}
 use Rattle.attr_search.specs.Slots.{slots_of, table_items}
 use Rattle.attr_search.specs.inner.Pending.{items_beside, IsPlaced, pending_tasks}
 use Rattle.attr_search.proofs.slot_filler.push_free.Given as goal

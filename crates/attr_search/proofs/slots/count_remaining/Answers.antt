@@ -1,5 +1,5 @@
 use Rattle.std.proofs.Common.{◌≡◌, ◌<◌, ◌&&◌, length, cond, get_or, false, None, is_none, sym, ap, ◌∙◌, arith}
-use Rattle.attr_search.specs.inner.SlotContents.{remaining_at}
+use Rattle.attr_search.specs.shared.SlotContents.{remaining_at}
 use Rattle.attr_search.proofs.SlotLemmas.{count_left_more}
 use Rattle.attr_search.proofs.slots.count_remaining.Goals as goal
 use Rattle.attr_search.proofs.slots.count_remaining.Goals.{then-is_remaining, else-is_remaining}

@@ -1,5 +1,5 @@
 use Rattle.std.proofs.Common.{◌≡◌, ◌≤◌, take}
-use Rattle.attr_search.specs.inner.SlotContents.{count_remaining}
+use Rattle.attr_search.specs.shared.SlotContents.{count_remaining}
 use Rattle.attr_search.proofs.slots.count_remaining.Given as goal
 
 abbrev pub invariant-loop-place : goal.invariant-loop-place

@@ -3,7 +3,7 @@ use Rattle.std.proofs.lemmas.Bool.{ne_eqb}
 use mathlib.Core.Path.{fun_ext}
 use Rattle.attr_table.specs.Table.{Slots}
 use Rattle.attr_table.specs.Cut.{IsSearched, is_done, no_answers}
-use Rattle.attr_table.specs.inner.Walk.{Task, Walks, stops, fills, tasks_of, fill}
+use Rattle.attr_table.specs.shared.Walk.{Task, Walks, stops, fills, tasks_of, fill}
 use Rattle.attr_table.specs.inner.Worked.{cycle, cycle_answers, a_set, b_set, line_numbered}
 use Rattle.attr_table.proofs.Cuts.{walked_searched, same_searched}
 use Rattle.attr_table.proofs.laws.worked_cycle.Goals as goal

@@ -1,5 +1,5 @@
 use Rattle.std.proofs.Common.{◌≡◌, ℕ, ◌++◌, take}
-use Rattle.attr_table.specs.inner.Walk.{tasks_in, free_items}
+use Rattle.attr_table.specs.shared.Walk.{tasks_in, free_items}
 use Rattle.attr_table.specs.inner.Plain.{PlainHaveSlots, TasksHaveSlots, plain_answers, plain_items, plain_origin, plain_tasks}
 use Rattle.attr_table.proofs.plain.push_free.Given as goal
 

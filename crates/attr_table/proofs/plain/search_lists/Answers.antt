@@ -1,5 +1,5 @@
 use Rattle.std.proofs.Common.{◌∙◌, refl, length, arith}
-use Rattle.attr_table.specs.inner.Walk.{list_tasks}
+use Rattle.attr_table.specs.shared.Walk.{list_tasks}
 use Rattle.attr_table.specs.inner.Plain.{plain_answers, plain_bodies, plain_lines}
 use Rattle.attr_table.proofs.Listed.{backwards-none}
 use Rattle.attr_table.proofs.Counted.{nothing_taken, more_searched}

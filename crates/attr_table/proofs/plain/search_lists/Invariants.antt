@@ -1,5 +1,5 @@
 use Rattle.std.proofs.Common.{◌≡◌, [], drop, length}
-use Rattle.attr_table.specs.inner.Walk.{tasks_of, Searches}
+use Rattle.attr_table.specs.shared.Walk.{tasks_of, Searches}
 use Rattle.attr_table.specs.inner.Plain.{IsSearchState, KeepsInput, plain_answers, plain_bodies, plain_lists}
 use Rattle.attr_table.proofs.plain.search_lists.Given as goal
 

@@ -1,6 +1,6 @@
 use Rattle.std.proofs.Common.{refl, sym, ap, subst, ◌∙◌}
 use Rattle.gix_attributes.specs.SearchViews.{Holds, list_ids_in, lists_in}
-use Rattle.worktree.specs.Worktrees.{with_folder, with_global_file}
+use Rattle.worktree.specs.Worktrees.{with_directory, with_global_file}
 use Rattle.worktree.specs.WorktreeView.{files_of}
 use Rattle.worktree.proofs.FileLemmas.{global_added}
 use Rattle.worktree.proofs.KeptLemmas.{NamesStay, kept_globally, kept_same}
@@ -11,16 +11,16 @@ invariant_of-self c =
     let w = c.self.inside in
     let now = c.add_patterns_buffer.new.collection in
     let refused = c.in_err-add_patterns_buffer.ensures in
-    kept_same w.globals c.add_patterns_buffer.new.self w.folders w.folders w.collection now refused.refused refused.refused_list_ids refl refl
+    kept_same w.globals c.add_patterns_buffer.new.self w.directories w.directories w.collection now refused.refused refused.refused_list_ids refl refl
     refused.unchanged (refused.held c.self.invariant.globals_held)
-    (subst (λ k. Holds k w.folders) (sym refused.unchanged) c.self.invariant.folders_held) c.self.invariant
+    (subst (λ k. Holds k w.directories) (sym refused.unchanged) c.self.invariant.directories_held) c.self.invariant
 
 pub invariant_of-self-2 : goal.invariant_of-self-2
 invariant_of-self-2 c =
     let w = c.self.inside in
     let law : NamesStay = record { lists = c.names_stay.ensures.lists; covered = c.names_stay.ensures.covered } in
     let added = c.in_ok-add_patterns_buffer.ensures in
-    kept_globally law w.globals c.add_patterns_buffer.new.self w.folders w.collection c.add_patterns_buffer.new.collection
+    kept_globally law w.globals c.add_patterns_buffer.new.self w.directories w.collection c.add_patterns_buffer.new.collection
     added.kept added.added added.held c.self.invariant
 
 pub returns-clause-added : goal.returns-clause-added

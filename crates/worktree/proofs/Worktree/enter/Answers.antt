@@ -1,8 +1,8 @@
 use Rattle.std.proofs.Common.{refl, sym, ap, subst, ◌∙◌}
 use Rattle.gix_attributes.specs.SearchViews.{Holds, list_ids_in, lists_in}
-use Rattle.worktree.specs.Worktrees.{with_folder, with_global_file}
+use Rattle.worktree.specs.Worktrees.{with_directory, with_global_file}
 use Rattle.worktree.specs.WorktreeView.{files_of}
-use Rattle.worktree.proofs.FileLemmas.{folder_added}
+use Rattle.worktree.proofs.FileLemmas.{directory_added}
 use Rattle.worktree.proofs.KeptLemmas.{NamesStay, kept_entering, kept_same}
 use Rattle.worktree.proofs.Worktree.enter.Goals as goal
 
@@ -11,22 +11,22 @@ invariant_of-self c =
     let w = c.self.inside in
     let now = c.add_patterns_buffer.new.collection in
     let refused = c.in_err-add_patterns_buffer.ensures in
-    kept_same w.globals w.globals w.folders c.add_patterns_buffer.new.self w.collection now refl refl refused.refused refused.refused_list_ids
+    kept_same w.globals w.globals w.directories c.add_patterns_buffer.new.self w.collection now refl refl refused.refused refused.refused_list_ids
     refused.unchanged (subst (λ k. Holds k w.globals) (sym refused.unchanged) c.self.invariant.globals_held)
-    (refused.held c.self.invariant.folders_held) c.self.invariant
+    (refused.held c.self.invariant.directories_held) c.self.invariant
 
 pub invariant_of-self-2 : goal.invariant_of-self-2
 invariant_of-self-2 c =
     let w = c.self.inside in
     let law : NamesStay = record { lists = c.names_stay.ensures.lists; covered = c.names_stay.ensures.covered } in
     let added = c.in_ok-add_patterns_buffer.ensures in
-    kept_entering law w.globals w.folders c.add_patterns_buffer.new.self w.collection c.add_patterns_buffer.new.collection
+    kept_entering law w.globals w.directories c.add_patterns_buffer.new.self w.collection c.add_patterns_buffer.new.collection
     added.kept added.added added.held c.self.invariant
 
 pub returns-clause-entered : goal.returns-clause-entered
 returns-clause-entered c =
     let w = c.self.inside in
     let added = c.in_ok-add_patterns_buffer.ensures in
-    folder_added c.args.file _ (files_of w) (lists_in c.add_patterns_buffer.new.self) (list_ids_in c.add_patterns_buffer.new.self)
+    directory_added c.args.file _ (files_of w) (lists_in c.add_patterns_buffer.new.self) (list_ids_in c.add_patterns_buffer.new.self)
     c.add_patterns_buffer.new.collection
-    c.in_ok-source.ensures.ok added.list added.list_ids added.collection ∙ ap (with_folder c.args.file) c.self.view_is
+    c.in_ok-source.ensures.ok added.list added.list_ids added.collection ∙ ap (with_directory c.args.file) c.self.view_is

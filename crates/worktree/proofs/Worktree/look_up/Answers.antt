@@ -12,7 +12,7 @@ pub pattern_matching_relative_path-requires-clause-covered : goal.pattern_matchi
 pattern_matching_relative_path-requires-clause-covered c =
     let made = ap (λ (held : Content). length held.slots) c.in_ok-initialize_with_selection.ensures.ok
     ∙ length-map c.self.inside.collection.names _ in
-    subst (λ n. ListsAreCovered n (lists_in c.self.inside.folders)) (sym made) c.self.invariant.folders_numbered.covered
+    subst (λ n. ListsAreCovered n (lists_in c.self.inside.directories)) (sym made) c.self.invariant.directories_numbered.covered
 
 pub pattern_matching_relative_path-requires-2-clause-covered : goal.pattern_matching_relative_path-requires-2-clause-covered
 pattern_matching_relative_path-requires-2-clause-covered c =
@@ -30,16 +30,16 @@ returns c =
     let found = c.in_ok-pattern_matching_relative_path.ensures in
     let further = c.in_ok-pattern_matching_relative_path-2.ensures in
     let q = lookup c.args.question (files_of w) in
-    let folders : Lookup = record q { lists = lists_in w.folders } in
-    let first : IsLookedUp folders start middle = record {
+    let directories : Lookup = record q { lists = lists_in w.directories } in
+    let first : IsLookedUp directories start middle = record {
       initialized = c.in_ok-initialize_with_selection.ensures.ok;
-      lists_named = c.self.invariant.folders_numbered.named;
+      lists_named = c.self.invariant.directories_numbered.named;
       bodies_named = c.bodies_have_names.ensures w.collection c.self.invariant.registered.sound;
       searched = found.searched;
       named = found.named;
       kept = found.kept;
     } in
-    let both = c.further_searches_join.ensures folders (lists_in w.globals) start middle after first record {
+    let both = c.further_searches_join.ensures directories (lists_in w.globals) start middle after first record {
       lists_named = c.self.invariant.globals_numbered.named;
       joined = further.joined;
       named = further.named;

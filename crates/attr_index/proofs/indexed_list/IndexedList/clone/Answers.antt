@@ -4,9 +4,9 @@ use Rattle.std.proofs.Math.Logic.{∥∥₁_map}
 use Rattle.attr_glob.specs.Candidates.{has_macro_mode}
 use Rattle.attr_lists.specs.ListViews.{entries_view}
 use Rattle.attr_index.specs.declared.line_index.LineIndex.{LineIndex}
-use Rattle.attr_index.specs.inner.FolderKeys.{base_key}
-use Rattle.attr_index.specs.inner.LineIndexes.{indexed_lines}
-use Rattle.attr_index.specs.inner.ReadLines.{AreRead}
+use Rattle.attr_index.specs.inner.DirectoryKeys.{base_key}
+use Rattle.attr_index.specs.shared.LineIndexes.{indexed_lines}
+use Rattle.attr_index.specs.shared.ReadLines.{AreRead}
 use Rattle.attr_index.proofs.IndexedListLemmas.{copied_lines, copied_list, same_lines, same_patterns}
 use Rattle.attr_index.proofs.indexed_list.IndexedList.clone.Goals as goal
 

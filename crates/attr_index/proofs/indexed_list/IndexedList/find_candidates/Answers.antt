@@ -1,13 +1,13 @@
 use Rattle.std.proofs.Common.{◌≡◌, ◌∙◌, ap, map, subst, sym}
 use Rattle.std.specs.Prelude.{slice_get}
 use Rattle.bstr.specs.BStr.{bstr_bytes}
-use Rattle.attr_keys.specs.inner.KeyIndexes.{IsKeyIndex}
-use Rattle.attr_keys.specs.inner.Meeting.{content_met_at}
+use Rattle.attr_keys.specs.shared.KeyIndexes.{IsKeyIndex}
+use Rattle.attr_keys.specs.shared.Meeting.{content_met_at}
 use Rattle.attr_glob.specs.BaseNames.{base_name}
 use Rattle.attr_glob.specs.Views.{patterns_of}
-use Rattle.attr_glob.specs.inner.LineShapes.{folds, key_of_line}
+use Rattle.attr_glob.specs.shared.LineShapes.{folds, key_of_line}
 use Rattle.attr_index.specs.declared.line_index.LineIndex.{LineIndex}
-use Rattle.attr_index.specs.inner.LineIndexes.{indexed_keys}
+use Rattle.attr_index.specs.shared.LineIndexes.{indexed_keys}
 use Rattle.attr_index.proofs.IndexedListLemmas.{keys_read}
 use Rattle.attr_index.proofs.TryingLemmas.{both_ok, found_tried}
 use Rattle.attr_index.proofs.indexed_list.IndexedList.find_candidates.Goals as goal

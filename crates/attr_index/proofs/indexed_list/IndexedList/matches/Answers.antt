@@ -4,7 +4,7 @@ use Rattle.attr_glob.specs.Paths.{matched_part}
 use Rattle.attr_glob.specs.Views.{pattern_view}
 use Rattle.attr_lists.specs.ListViews.{entries_view}
 use Rattle.attr_index.specs.declared.line_index.LineIndex.{LineIndex}
-use Rattle.attr_index.specs.inner.PlacedLines.{entry_at}
+use Rattle.attr_index.specs.shared.PlacedLines.{entry_at}
 use Rattle.attr_index.proofs.IndexedListLemmas.{entry_pattern}
 use Rattle.attr_index.proofs.PlacedLemmas.{other_kind, matched_answer}
 use Rattle.attr_index.proofs.indexed_list.IndexedList.matches.Goals as goal

@@ -6,8 +6,8 @@ use Rattle.attr_lists.specs.ListViews.{entries_view}
 use Rattle.attr_lists.specs.Numbers.{numbered_lines}
 use Rattle.attr_lists.specs.Definitions.{with_list, HoldsList}
 use Rattle.attr_index.specs.declared.line_index.LineIndex.{LineIndex}
-use Rattle.attr_index.specs.inner.LineIndexes.{indexed_lines, listed_lines}
-use Rattle.attr_index.specs.inner.ReadLines.{AreRead}
+use Rattle.attr_index.specs.shared.LineIndexes.{indexed_lines, listed_lines}
+use Rattle.attr_index.specs.shared.ReadLines.{AreRead}
 use Rattle.attr_index.proofs.IndexedListLemmas.{numbered_lines_in, numbered_read, numbered_length, written}
 use Rattle.attr_index.proofs.indexed_list.IndexedList.register.Goals as goal
 

@@ -1,6 +1,6 @@
 use Rattle.std.proofs.Common.{◌≡◌, ◌≤◌, ◌∷◌, [], arith, length, subst, take}
 use Rattle.attr_index.specs.inner.Counting.{CountUp}
-use Rattle.attr_index.proofs.FolderLemmas.{all_found, few_counted}
+use Rattle.attr_index.proofs.DirectoryLemmas.{all_found, few_counted}
 use Rattle.attr_index.proofs.indexed_lists.IndexedLists.few.Goals as goal
 
 pub returns-then-len-clause-few : goal.returns-then-len-clause-few

@@ -1,13 +1,13 @@
 use Rattle.std.proofs.Common.{ap, subst, ◌∙◌, length, take}
 use Rattle.std.proofs.lemmas.List.Sorted.{Contains-permutation, IsNonDecreasingBy-from_sort}
-use Rattle.attr_index.specs.inner.FolderKeys.{GathersFolders, small_letters}
-use Rattle.attr_index.proofs.FolderLemmas.{list_found}
+use Rattle.attr_index.specs.inner.DirectoryKeys.{GathersDirectories, small_letters}
+use Rattle.attr_index.proofs.DirectoryLemmas.{list_found}
 use Rattle.attr_index.proofs.indexed_lists.IndexedLists.find.Goals as goal
 
 pub returns : goal.returns
 returns c =
     let lists = c.args.self.now in
-    let gathered = subst (λ text. GathersFolders lists.numbers.keys text (length text) c.gather.new.numbers.items)
+    let gathered = subst (λ text. GathersDirectories lists.numbers.keys text (length text) c.gather.new.numbers.items)
     (c.deref.ensures.value ∙ c.in_ok-fold_into.ensures ∙ ap (λ n. small_letters (take n c.args.path.now)) c.min.ensures)
     c.in_ok-gather.ensures in
     record {

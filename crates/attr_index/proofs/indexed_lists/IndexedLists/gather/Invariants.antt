@@ -1,5 +1,5 @@
 use Rattle.std.proofs.Common.{◌≤◌}
-use Rattle.attr_index.specs.inner.FolderKeys.{GathersFolders}
+use Rattle.attr_index.specs.inner.DirectoryKeys.{GathersDirectories}
 use Rattle.attr_index.specs.inner.FrontHashers.{HasFront}
 use Rattle.attr_index.proofs.indexed_lists.IndexedLists.gather.Given as goal
 
@@ -7,5 +7,5 @@ abbrev pub invariant-loop-place : goal.invariant-loop-place
 invariant-loop-place l = record {
   read : l.front.read ≤ l.place;
   front : HasFront l.text l.front;
-  found : GathersFolders l.self.numbers.keys l.text l.place l.numbers.items;
+  found : GathersDirectories l.self.numbers.keys l.text l.place l.numbers.items;
 }

@@ -2,8 +2,8 @@ use Rattle.std.proofs.Common.{◌≡◌, ◌≤◌, ◌∷◌, ◌-◌, [], subs
 use Rattle.std.proofs.lemmas.List.{length-append, length-map}
 use Rattle.attr_index.specs.declared.indexed_list.IndexedList.{IndexedList}
 use Rattle.attr_index.specs.inner.BaseKeys.{longest_base}
-use Rattle.attr_index.specs.inner.FolderKeys.{HasNumbersOf, text_key}
-use Rattle.attr_index.proofs.FolderLemmas.{ids_popped, keys_popped, longest_popped}
+use Rattle.attr_index.specs.inner.DirectoryKeys.{HasNumbersOf, text_key}
+use Rattle.attr_index.proofs.DirectoryLemmas.{ids_popped, keys_popped, longest_popped}
 use Rattle.attr_index.proofs.KeyedLemmas.{includes_from, includes_to, rooted_popped}
 use Rattle.attr_index.proofs.indexed_lists.IndexedLists.pop.Goals as goal
 

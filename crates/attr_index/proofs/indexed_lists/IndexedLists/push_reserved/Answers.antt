@@ -4,8 +4,8 @@ use Rattle.std.proofs.lemmas.List.{length-map, map-append}
 use Rattle.attr_index.specs.declared.indexed_list.IndexedList.{IndexedList}
 use Rattle.attr_index.specs.IndexedLists.{list_ids_of}
 use Rattle.attr_index.specs.inner.BaseKeys.{base_keys, longest_base}
-use Rattle.attr_index.specs.inner.FolderKeys.{HasNumbersOf, text_key}
-use Rattle.attr_index.proofs.FolderLemmas.{keys_pushed, longest_pushed}
+use Rattle.attr_index.specs.inner.DirectoryKeys.{HasNumbersOf, text_key}
+use Rattle.attr_index.proofs.DirectoryLemmas.{keys_pushed, longest_pushed}
 use Rattle.attr_index.proofs.KeyedLemmas.{includes_from, includes_to, rooted_pushed}
 use Rattle.attr_index.proofs.indexed_lists.IndexedLists.push_reserved.Goals as goal
 

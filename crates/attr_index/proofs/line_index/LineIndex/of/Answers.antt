@@ -1,7 +1,7 @@
 use Rattle.std.proofs.Common.{◌≡◌, ◌∙◌, ap, map, subst, sym}
-use Rattle.attr_keys.specs.inner.KeyIndexes.{IsKeyIndex}
-use Rattle.attr_glob.specs.inner.LineShapes.{key_of_pattern}
-use Rattle.attr_index.specs.inner.LineIndexes.{indexed_lines, listed_lines}
+use Rattle.attr_keys.specs.shared.KeyIndexes.{IsKeyIndex}
+use Rattle.attr_glob.specs.shared.LineShapes.{key_of_pattern}
+use Rattle.attr_index.specs.shared.LineIndexes.{indexed_lines, listed_lines}
 use Rattle.attr_index.proofs.IndexedListLemmas.{keys_same}
 use Rattle.attr_index.proofs.line_index.LineIndex.of.Goals as goal
 

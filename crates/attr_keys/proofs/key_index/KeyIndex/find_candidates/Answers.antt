@@ -3,7 +3,7 @@ use Rattle.std.specs.Prelude.{slice_get}
 use Rattle.std.proofs.lemmas.List.Folds.{list_any-append}
 use Rattle.attr_keys.specs.inner.Cases.{in_case}
 use Rattle.attr_keys.specs.inner.Orders.{may_have, sorted_keys}
-use Rattle.attr_keys.specs.inner.Rows.{has_row}
+use Rattle.attr_keys.specs.shared.Rows.{has_row}
 use Rattle.attr_keys.proofs.Meetings.{met_of_may_have}
 use Rattle.attr_keys.proofs.key_index.KeyIndex.find_candidates.Goals as goal
 

@@ -6,9 +6,9 @@ use Rattle.std.proofs.lemmas.List.Sorted.{list_any-IsPermutation}
 use Rattle.attr_keys.specs.declared.key.Subject.TheVariants.{Anything}
 use Rattle.attr_keys.specs.declared.kinds.Kind.TheVariants as kind
 use Rattle.attr_keys.specs.inner.Cases.{content_in_case}
-use Rattle.attr_keys.specs.inner.Meeting.{is_about}
+use Rattle.attr_keys.specs.shared.Meeting.{is_about}
 use Rattle.attr_keys.specs.inner.Orders.{AreSorted}
-use Rattle.attr_keys.specs.inner.Rows.{has_row}
+use Rattle.attr_keys.specs.shared.Rows.{has_row}
 use Rattle.attr_keys.proofs.Gathering.{others_are}
 use Rattle.attr_keys.proofs.key_index.KeyIndex.of_kinds.Goals as goal
 use Rattle.attr_keys.proofs.key_index.KeyIndex.of_kinds.Goals.{then-capitals+in_ok-of, else-capitals}

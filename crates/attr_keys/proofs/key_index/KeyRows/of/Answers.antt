@@ -2,7 +2,7 @@ use Rattle.std.proofs.Common.{false, true, map, refl, sym, ap, ◌∙◌}
 use Rattle.std.specs.Prelude.{slice_get}
 use Rattle.attr_keys.specs.declared.key.Subject.TheVariants.{Name, End, Path}
 use Rattle.attr_keys.specs.declared.kinds.Kind.TheVariants as kind
-use Rattle.attr_keys.specs.inner.Rows.{has_row}
+use Rattle.attr_keys.specs.shared.Rows.{has_row}
 use Rattle.attr_keys.proofs.Gathering.{are_subject_rows, either_kind, ends_are, extension_hashed, hashed_by, name_hashed, names_are}
 use Rattle.attr_keys.proofs.Gathering.{path_hashed, paths_are, seen_by}
 use Rattle.attr_keys.proofs.key_index.KeyRows.of.Goals as goal

@@ -2,7 +2,7 @@ use Rattle.std.proofs.Common.{◌≡◌, false, true, sym, ap, subst, ◌∙◌}
 use Rattle.std.specs.Bool.{OnFalse}
 use Rattle.attr_keys.specs.inner.Cases.{content_in_case, in_case}
 use Rattle.attr_keys.specs.inner.Kinds.{kind_of, kind_rows, rows_with}
-use Rattle.attr_keys.specs.inner.Rows.{has_row}
+use Rattle.attr_keys.specs.shared.Rows.{has_row}
 use Rattle.attr_keys.proofs.Meetings.{kinds_more, lower_content, lower_more}
 use Rattle.attr_keys.proofs.kinds.Kinds.sort.Goals as goal
 use Rattle.attr_keys.proofs.kinds.Kinds.sort.Goals.{then-capitals, else-capitals}

@@ -8,7 +8,7 @@ use Rattle.attr_lists.specs.inner.Registered.{bodies_of_number, registered_at}
 use Rattle.attr_lists.specs.inner.NameTableView.{parts_view}
 use Rattle.attr_lists.specs.Collections.{Collection}
 use Rattle.attr_lists.specs.Numbers.{numbered_lines}
-use Rattle.attr_lists.specs.inner.MacroNumbers.{ListsDefined, ListsMacros}
+use Rattle.attr_lists.specs.shared.MacroNumbers.{ListsDefined, ListsMacros}
 use Rattle.attr_lists.proofs.FreeIdLemmas.{free_after_adding}
 use Rattle.attr_lists.proofs.MacroLemmas.{added_listed, still_listed}
 use Rattle.attr_lists.proofs.NameTableLaws.{free_is}

@@ -7,7 +7,7 @@ use Rattle.attr_lists.specs.inner.EntryViews.{definitions_at, definitions_by, de
 use Rattle.attr_lists.specs.ListViews.{entries_view}
 use Rattle.attr_lists.specs.inner.NameTableView.{parts_view}
 use Rattle.attr_lists.specs.inner.Registered.{registered_at, AreRegistered, ListsNames}
-use Rattle.attr_lists.specs.inner.MacroNumbers.{ListsMacros}
+use Rattle.attr_lists.specs.shared.MacroNumbers.{ListsMacros}
 use Rattle.attr_lists.proofs.FreeIdLemmas.{free_after_removing}
 use Rattle.attr_lists.proofs.MacroLemmas.{removed_listed}
 use Rattle.attr_lists.proofs.NameTableLaws.{removed_sound, removed_keeps}

@@ -1,5 +1,5 @@
 use Rattle.std.proofs.Common.{take}
-use Rattle.attr_lists.specs.inner.MacroNumbers.{KeepsNumbers, ListsDefined}
+use Rattle.attr_lists.specs.shared.MacroNumbers.{KeepsNumbers, ListsDefined}
 use Rattle.attr_lists.specs.ListViews.{entries_view}
 use Rattle.attr_lists.specs.Numbers.{numbered_lines}
 use Rattle.attr_lists.proofs.name_table.macros.insert_macros.Given as goal

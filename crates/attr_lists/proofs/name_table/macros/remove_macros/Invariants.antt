@@ -1,4 +1,4 @@
-use Rattle.attr_lists.specs.inner.MacroNumbers.{RemovesUndefined}
+use Rattle.attr_lists.specs.shared.MacroNumbers.{RemovesUndefined}
 use Rattle.attr_lists.proofs.name_table.macros.remove_macros.Given as goal
 
 abbrev pub invariant-loop-mapping : goal.invariant-loop-mapping

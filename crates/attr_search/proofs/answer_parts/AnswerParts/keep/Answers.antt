@@ -4,7 +4,7 @@ use Rattle.attr_lists.specs.declared.types.TrackedAssignment.{TrackedAssignment}
 use Rattle.attr_search.specs.inner.PartsContents.{PartsContent}
 use Rattle.attr_search.specs.inner.PartsView.{origin_of_line, origins, answer_parts_view}
 use Rattle.attr_search.specs.inner.Pending.{items_beside}
-use Rattle.attr_search.specs.inner.Slotted.{bodies_view}
+use Rattle.attr_search.specs.shared.Slotted.{bodies_view}
 use Rattle.attr_search.proofs.PartLemmas.{grows_same}
 use Rattle.attr_search.proofs.SlotLemmas.{answer_kept, body_has, own_has}
 use Rattle.attr_search.proofs.answer_parts.AnswerParts.keep.Goals as goal

@@ -1,5 +1,5 @@
 use Rattle.std.proofs.Common.{[], None, refl, ap, ◌∙◌}
-use Rattle.attr_search.specs.inner.BodyChanges.{changed_bodies}
+use Rattle.attr_search.specs.shared.BodyChanges.{changed_bodies}
 use Rattle.attr_search.proofs.BodyLemmas.{cut_sized}
 use Rattle.attr_search.proofs.answer_parts.AnswerParts.set_up.Goals as goal
 

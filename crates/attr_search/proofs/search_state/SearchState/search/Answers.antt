@@ -1,5 +1,5 @@
 use Rattle.std.proofs.Common.{◌+◌, ◌≤◌, sym, length, arith}
-use Rattle.attr_table.specs.inner.Walk.{stops}
+use Rattle.attr_table.specs.shared.Walk.{stops}
 use Rattle.attr_table.proofs.ForCallers.{taken_most, taken_least}
 use Rattle.attr_table.proofs.ForCallers.{walked_searched}
 use Rattle.attr_table.proofs.ForCallers.{OneTable-of}

@@ -4,7 +4,7 @@ use Rattle.bstr.specs.BStr.{bstr_bytes}
 use Rattle.attr_index.specs.IndexedLists.{listed_view}
 use Rattle.attr_search.specs.Slots.{slots_of}
 use Rattle.attr_search.specs.inner.Searched.{state_bodies, state_slots, state_wanted}
-use Rattle.attr_search.specs.inner.Slotted.{index_origin}
+use Rattle.attr_search.specs.shared.Slotted.{index_origin}
 use Rattle.attr_search.specs.inner.SearchView.{search_view}
 use Rattle.attr_search.proofs.LineLemmas.{line_defines, line_differs, line_filled, line_matched, named_at, origin_is, slots_at, some_free}
 use Rattle.attr_search.proofs.SearchedLemmas.{line_searched, state_kept}

@@ -1,8 +1,8 @@
 use Rattle.std.proofs.Common.{None, Option, length, ◌∙◌, subst, sym}
 use Rattle.std.proofs.lemmas.List.{length-map}
 use Rattle.attr_search.specs.Slots.{Matched}
-use Rattle.attr_search.specs.inner.BodyChanges.{changed_bodies, sized_bodies}
-use Rattle.attr_search.specs.inner.Slotted.{BodiesHaveSlots}
+use Rattle.attr_search.specs.shared.BodyChanges.{changed_bodies, sized_bodies}
+use Rattle.attr_search.specs.shared.Slotted.{BodiesHaveSlots}
 use Rattle.attr_search.proofs.BodyLemmas.{length_changed, length_sized}
 use Rattle.attr_search.proofs.search_state.SearchState.set_up.Goals as goal
 

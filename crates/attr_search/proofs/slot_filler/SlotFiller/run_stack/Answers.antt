@@ -1,7 +1,7 @@
 use Rattle.std.proofs.Common.{◌∙◌, sym, refl, arith}
 use Rattle.attr_search.specs.inner.Filling.{filler_slots, stack_tasks}
 use Rattle.attr_search.specs.inner.Pending.{line_origin, table_bodies}
-use Rattle.attr_search.specs.inner.SlotContents.{wanted_numbers}
+use Rattle.attr_search.specs.shared.SlotContents.{wanted_numbers}
 use Rattle.attr_table.proofs.ForCallers.{nothing_taken, done_taken}
 use Rattle.attr_search.proofs.FillingLemmas.{pending_tasks-none, pending_tasks-top}
 use Rattle.attr_search.proofs.slot_filler.SlotFiller.run_stack.Goals as goal

@@ -1,7 +1,7 @@
 use Rattle.std.proofs.Common.{◌≡◌, length, option_map, subst, sym, ap, ◌∙◌}
 use Rattle.std.proofs.lemmas.List.{length-map}
 use Rattle.attr_search.specs.inner.AnswerRefs.{match_by_ref}
-use Rattle.attr_search.specs.inner.SlotContents.{count_remaining}
+use Rattle.attr_search.specs.shared.SlotContents.{count_remaining}
 use Rattle.attr_search.proofs.SlotLemmas.{listed_same, refs_same}
 use Rattle.std.specs.List.Sorted.{IsNonDecreasing}
 use Rattle.attr_search.proofs.slots.AnswerSlots.copy.Goals as goal

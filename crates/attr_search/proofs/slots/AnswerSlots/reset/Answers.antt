@@ -1,5 +1,5 @@
 use Rattle.std.proofs.Common.{arith, List, [], Option, None, ap, refl, ◌∙◌, sym}
-use Rattle.attr_search.specs.inner.SlotContents.{SlotContents, count_remaining}
+use Rattle.attr_search.specs.shared.SlotContents.{SlotContents, count_remaining}
 use Rattle.attr_search.specs.inner.AnswerRefs.{matches_by_ref}
 use Rattle.attr_search.specs.Slots.{Matched}
 use Rattle.attr_search.proofs.SlotLemmas.{emptied_seen, empty_listed, empty_within}

@@ -5,9 +5,9 @@ use Rattle.attr_search.specs.Slots.{Matched}
 use Rattle.attr_search.specs.declared.answer_parts.MatchRef.{MatchRef}
 use Rattle.attr_search.specs.inner.AnswerRefs.{line_by_ref}
 use Rattle.attr_lists.specs.declared.types.TrackedAssignment.{TrackedAssignment}
-use Rattle.attr_search.specs.inner.BodyChanges.{changed_bodies, sized_bodies}
+use Rattle.attr_search.specs.shared.BodyChanges.{changed_bodies, sized_bodies}
 use Rattle.attr_search.specs.inner.PartsContents.{PartsContent}
-use Rattle.attr_search.specs.inner.SlotContents.{SlotContents, count_remaining}
+use Rattle.attr_search.specs.shared.SlotContents.{SlotContents, count_remaining}
 use Rattle.attr_search.proofs.BodyLemmas.{told_ok}
 use Rattle.attr_search.proofs.SlotLemmas.{empty_cut, empty_listed, empty_seen, empty_within}
 use Rattle.attr_search.proofs.ListedLemmas.{rising_nothing}

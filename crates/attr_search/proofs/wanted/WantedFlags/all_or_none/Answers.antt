@@ -1,5 +1,5 @@
 use Rattle.std.proofs.Common.{◌∙◌, [], ap, cond, sym}
-use Rattle.attr_search.specs.inner.SlotContents.{count_wanted}
+use Rattle.attr_search.specs.shared.SlotContents.{count_wanted}
 use Rattle.attr_search.specs.declared.wanted.WantedFlags.TheInside.{Inside}
 use Rattle.attr_search.proofs.WantedLemmas.{count_replicate, flags_same, none_has}
 use Rattle.attr_search.proofs.wanted.WantedFlags.all_or_none.Goals as goal

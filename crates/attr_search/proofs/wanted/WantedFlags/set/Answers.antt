@@ -1,6 +1,6 @@
 use Rattle.std.proofs.Common.{◌≡◌, ◌+◌, ◌<◌, ◌∙◌, false, get_or, length, refl, sym, ap, arith, rules}
 use Rattle.attr_search.specs.inner.WantedView.{wanted_flags_view}
-use Rattle.attr_search.specs.inner.SlotContents.{count_wanted}
+use Rattle.attr_search.specs.shared.SlotContents.{count_wanted}
 use Rattle.attr_search.proofs.WantedLemmas.{count_set, flags_more, length_flags, more_noted}
 use Rattle.attr_search.proofs.wanted.WantedFlags.set.Goals as goal
 

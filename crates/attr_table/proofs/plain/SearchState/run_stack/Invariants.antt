@@ -1,6 +1,6 @@
 use Rattle.std.proofs.Common.{ℕ, length}
 use Rattle.attr_table.specs.Table.{Slots}
-use Rattle.attr_table.specs.inner.Walk.{Searches}
+use Rattle.attr_table.specs.shared.Walk.{Searches}
 use Rattle.attr_table.specs.inner.Plain.{IsSearchState, KeepsInput, plain_answers, plain_bodies, plain_tasks, remaining_work}
 use Rattle.attr_table.proofs.plain.SearchState.run_stack.Given as goal
 

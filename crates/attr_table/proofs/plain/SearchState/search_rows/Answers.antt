@@ -1,5 +1,5 @@
 use Rattle.std.proofs.Common.{◌∙◌, refl, sym, drop, take, arith}
-use Rattle.attr_table.specs.inner.Walk.{line_tasks, list_tasks}
+use Rattle.attr_table.specs.shared.Walk.{line_tasks, list_tasks}
 use Rattle.attr_table.specs.inner.Plain.{plain_answers, plain_bodies, plain_line, plain_lines}
 use Rattle.attr_table.proofs.Listed.{backwards-none, backwards-split}
 use Rattle.attr_table.proofs.Counted.{nothing_taken, done_taken, then_searches, more_searched}

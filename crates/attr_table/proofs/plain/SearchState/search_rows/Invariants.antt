@@ -1,5 +1,5 @@
 use Rattle.std.proofs.Common.{◌≡◌, [], drop, length}
-use Rattle.attr_table.specs.inner.Walk.{list_tasks, Searches}
+use Rattle.attr_table.specs.shared.Walk.{list_tasks, Searches}
 use Rattle.attr_table.specs.inner.Plain.{IsSearchState, KeepsInput, plain_answers, plain_bodies, plain_lines}
 use Rattle.attr_table.proofs.plain.SearchState.search_rows.Given as goal
 

@@ -9,4 +9,4 @@ returns-then-advances-clause-row c =
     let same = length-tokens_of c.args.self.now.tokens.now in
     let inside : c.args.place < length c.args.self.now.tokens.now = c.if-advances.ensures.inside refl in
     c.insert.ensures.row fresh alive u.step.growing u.row_is (u.step.advance c.args.place (sym c.if-advances.ensures.advances) here)
-    (silent_next u (omega arith) here stayed.stay stayed.folder)
+    (silent_next u (omega arith) here stayed.stay stayed.directory)

@@ -62,7 +62,7 @@ loop-place-preserved c =
                 (record { step = steps; first = λ x. first; row_is = kept_row; settled = settled_kept }) f.passes c.stay-kept.ensures.stayed,
             settled-next (settled-grown c.advance-free.result settled_kept grown)
                 (λ t. let z : q < kept = c.stay-kept.ensures.stayed.stay t in omega arith)
-                (λ t. let z : q < kept = c.stay-kept.ensures.stayed.folder t in omega arith)
+                (λ t. let z : q < kept = c.stay-kept.ensures.stayed.directory t in omega arith)
                 c.advance-free.ensures.advanced,
           )),
     )

@@ -6,7 +6,7 @@ use Rattle.attr_wildmatch.specs.Tokens.{Token, star}
 use Rattle.attr_wildmatch.specs.TokenList.{tokens_of}
 use Rattle.attr_wildmatch.specs.inner.Stretches.{first_left}
 use Rattle.attr_wildmatch.proofs.Basics.{equal}
-use Rattle.attr_wildmatch.proofs.Folders.{star_alone}
+use Rattle.attr_wildmatch.proofs.Directories.{star_alone}
 use Rattle.attr_wildmatch.proofs.StretchLemmas.{Plain, star_found, star_missed}
 use Rattle.attr_wildmatch.proofs.wildmatch.stretches.match_plain.Goals as goal
 

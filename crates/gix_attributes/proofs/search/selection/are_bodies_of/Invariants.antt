@@ -1,6 +1,6 @@
 use Rattle.std.proofs.Common.{◌≡◌, take}
 use Rattle.gix_attributes.specs.Contents.{bodies_of}
-use Rattle.attr_search.specs.inner.Slotted.{bodies_view}
+use Rattle.attr_search.specs.shared.Slotted.{bodies_view}
 use Rattle.gix_attributes.proofs.search.selection.are_bodies_of.Given as goal
 
 abbrev pub invariant-loop-number : goal.invariant-loop-number

@@ -1,7 +1,7 @@
 use Rattle.std.proofs.Common.{◌≡◌, ◌<◌, ◌∙◌, [], get_or, length, sym, arith}
 use Rattle.gix_attributes.specs.Contents.{bodies_of}
 use Rattle.gix_attributes.specs.inner.BodiesMade.{bodies_for}
-use Rattle.attr_search.specs.inner.Slotted.{bodies_view}
+use Rattle.attr_search.specs.shared.Slotted.{bodies_view}
 use Rattle.gix_attributes.proofs.SelectionLemmas.{body_at, made_by_change, made_by_same, sized_at}
 use Rattle.gix_attributes.proofs.search.selection.push_change.Goals as goal
 

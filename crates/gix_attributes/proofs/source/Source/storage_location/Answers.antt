@@ -53,7 +53,7 @@ returns-then-not-is_unset_or_empty g c =
 pub returns-in-Git : goal.returns-in-Git
 returns-in-Git g c =
     let config = option_map string_bytes c.env_var-config.result in
-    let folder = option_map string_bytes c.env_var-home.result in
+    let directory = option_map string_bytes c.env_var-home.result in
     let asked = asked_for config_home c.env_var-config.result ∷ asked_for home c.env_var-home.result ∷ [] in
     let known : is_unset_or_empty config ≡ true = sym c.is_unset_or_empty.ensures ∙ c.if-not-is_unset_or_empty.false in (
       asked,
@@ -62,6 +62,6 @@ returns-in-Git g c =
           (record { shown = _; shows = refl; called = c.env_var-home.ensures }),
       subst (λ s. IsAsked s asked) (sym c.in-Git.is) (ap (λ b. config_home ∷ (if b then home ∷ [] else [])) (sym known)),
       located c.args.self Git c.args.prefixes.now asked _ c.join_known-in-Git.result c.in-Git.is
-          (ap (λ b. if b then below folder (codes ".config/git/attributes") else below config (codes "git/attributes")) known)
+          (ap (λ b. if b then below directory (codes ".config/git/attributes") else below config (codes "git/attributes")) known)
           c.join_known-in-Git.ensures,
     )

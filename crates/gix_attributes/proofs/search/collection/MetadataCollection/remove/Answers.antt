@@ -1,5 +1,5 @@
 use Rattle.std.proofs.Common.{subst}
-use Rattle.attr_lists.specs.inner.Keeping.{OthersStayRegistered}
+use Rattle.attr_lists.specs.shared.Keeping.{OthersStayRegistered}
 use Rattle.gix_attributes.proofs.search.collection.MetadataCollection.remove.Goals as goal
 
 pub returns-clause-others : goal.returns-clause-others

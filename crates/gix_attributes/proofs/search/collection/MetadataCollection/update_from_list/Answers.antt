@@ -3,7 +3,7 @@ use Rattle.std.proofs.lemmas.List.{take_at}
 use Rattle.attr_lists.specs.Definitions.{free_id}
 use Rattle.attr_lists.specs.ListViews.{entries_view}
 use Rattle.attr_lists.specs.Numbers.{numbered_lines}
-use Rattle.attr_lists.specs.inner.Keeping.{StayRegistered}
+use Rattle.attr_lists.specs.shared.Keeping.{StayRegistered}
 use Rattle.gix_attributes.proofs.KeepingLemmas.{registers_more, stay_held}
 use Rattle.gix_attributes.proofs.search.collection.MetadataCollection.update_from_list.Goals as goal
 

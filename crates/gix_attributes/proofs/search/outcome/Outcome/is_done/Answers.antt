@@ -1,6 +1,6 @@
 use Rattle.std.proofs.Common.{◌∙◌, ap, length}
 use Rattle.attr_table.specs.Cut.{is_done}
-use Rattle.attr_search.specs.inner.SlotContents.{wanted_numbers}
+use Rattle.attr_search.specs.shared.SlotContents.{wanted_numbers}
 use Rattle.gix_attributes.specs.Contents.{is_wanted}
 use Rattle.gix_attributes.specs.Selection.{selection_view}
 use Rattle.attr_search.specs.Slots.{slots_of}

@@ -1,8 +1,8 @@
 use Rattle.std.proofs.Common.{◌≡◌, ◌∙◌, length, map, true, None, sym, ap}
 use Rattle.std.proofs.lemmas.List.{length-map}
 use Rattle.attr_search.specs.SearchContents.{SearchContents}
-use Rattle.attr_search.specs.inner.BodyChanges.{changed_bodies, sized_bodies}
-use Rattle.attr_search.specs.inner.Slotted.{bodies_view}
+use Rattle.attr_search.specs.shared.BodyChanges.{changed_bodies, sized_bodies}
+use Rattle.attr_search.specs.shared.Slotted.{bodies_view}
 use Rattle.gix_attributes.specs.Contents.{Content}
 use Rattle.gix_attributes.specs.inner.Consistency.{flags_of}
 use Rattle.gix_attributes.specs.Selection.{selection_view}

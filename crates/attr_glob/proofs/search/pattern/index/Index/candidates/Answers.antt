@@ -1,10 +1,10 @@
 use Rattle.std.proofs.Common.{◌∙◌, ap, map}
 use Rattle.std.specs.Prelude.{slice_get}
-use Rattle.attr_keys.specs.inner.Candidates.{candidate_of}
-use Rattle.attr_keys.specs.inner.Meeting.{content_met_at}
+use Rattle.attr_keys.specs.shared.Candidates.{candidate_of}
+use Rattle.attr_keys.specs.shared.Meeting.{content_met_at}
 use Rattle.attr_glob.specs.BaseNames.{base_name}
 use Rattle.attr_glob.specs.Candidates.{candidates}
-use Rattle.attr_glob.specs.inner.LineShapes.{key_of_pattern}
+use Rattle.attr_glob.specs.shared.LineShapes.{key_of_pattern}
 use Rattle.attr_glob.specs.Indexed.{index_view}
 use Rattle.attr_glob.specs.Views.{patterns_of}
 use Rattle.attr_glob.proofs.CandidateKeys.{found_candidates, keys_of_views}

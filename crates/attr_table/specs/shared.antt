@@ -1,0 +1,3 @@
+-- What contracts of functions of this crate and of those above it name (own). No contract of a public call reaches it, so nothing
+-- of it has to be believed.
+pub mod Walk

@@ -1,0 +1,89 @@
+-- What a token that stands alone takes, and how a directory star goes on from directory to directory.
+use Rattle.std.proofs.Common.{◌≡◌, ◌≢◌, ℕ, zero, suc, ◌+◌, ◌-◌, ◌<◌, Bool, true, false, not, ◌&&◌, ◌||◌, ◌==◌, List, [], ◌∷◌, length, drop, get_or}
+use Rattle.std.proofs.Common.{slice_index, Some, None, refl, sym, ap, ◌∙◌, arith, add-one}
+use Rattle.std.specs.List.{list_any, position, position_from}
+use Rattle.std.proofs.lemmas.List.Quantifiers.{position-Some}
+use Rattle.std.proofs.lemmas.Iterator.Adapters.{position_from-zero}
+use Rattle.attr_wildmatch.specs.declared.case.Case.{Case}
+use Rattle.attr_wildmatch.specs.Bytes.{slash}
+use Rattle.attr_wildmatch.specs.Slashes.{is_slash, ends_in_slash}
+use Rattle.attr_wildmatch.specs.Tokens.{star, dirs, rest}
+use Rattle.attr_wildmatch.specs.Deciding.{slash_then, matches}
+use Rattle.attr_wildmatch.proofs.Basics.{by_test}
+
+not_both : (a b : Bool) → (not a && not b) ≡ not (a || b)
+not_both true b = refl
+not_both false b = refl
+
+-- a star alone takes what has no slash
+pub star_alone : (case : Case) (v : List ℕ) → matches case (star ∷ []) v ≡ not (list_any is_slash v)
+star_alone case [] = refl
+star_alone case (b ∷ bs) = ap (λ x. not (b == slash) && x) (star_alone case bs) ∙ not_both (b == slash) (list_any is_slash bs)
+
+-- the end of a pattern alone takes all
+pub rest_alone : (case : Case) (v : List ℕ) → matches case (rest ∷ []) v ≡ true
+rest_alone case [] = refl
+rest_alone case (b ∷ bs) = rest_alone case bs
+
+only : (a : Bool) → ((a && true) || false) ≡ a
+only true = refl
+only false = refl
+
+neither : (a b : Bool) → ((a && false) || b) ≡ b
+neither true b = refl
+neither false b = refl
+
+ends_behind : (b c : ℕ) (bs : List ℕ) → ends_in_slash (c ∷ bs) ≡ ends_in_slash (b ∷ c ∷ bs)
+ends_behind b c bs =
+    let e : suc (length (c ∷ bs) - 1) ≡ length (b ∷ c ∷ bs) - 1 = omega arith in
+    ap (λ n. is_slash (slice_index (b ∷ c ∷ bs) n)) e
+
+last_slash : (case : Case) (b : ℕ) (bs : List ℕ) → slash_then (matches case []) (b ∷ bs) ≡ ends_in_slash (b ∷ bs)
+last_slash case b [] = only (b == slash)
+last_slash case b (c ∷ bs) =
+    neither (b == slash) (slash_then (matches case []) (c ∷ bs)) ∙ (last_slash case c bs ∙ ends_behind b c bs)
+
+-- a directory star alone takes nothing
+pub dirs_alone_empty : (case : Case) (v : List ℕ) → length v ≡ 0 → matches case (dirs ∷ []) v ≡ true
+dirs_alone_empty case [] h = refl
+dirs_alone_empty case (b ∷ bs) h = absurd (omega arith)
+
+-- or what ends in a slash
+pub dirs_alone : (case : Case) (v : List ℕ) → length v ≢ 0 → matches case (dirs ∷ []) v ≡ ends_in_slash v
+dirs_alone case [] h = absurd (h refl)
+dirs_alone case (b ∷ bs) h = last_slash case b bs
+
+-- What a directory star goes on to.
+
+passed : (b : Bool) (x y : Bool) → b ≡ false → ((b && x) || y) ≡ y
+passed b x y h = rw h refl
+
+pub slash_then-unfound : (f : List ℕ → Bool) (i : ℕ) (v : List ℕ) → position_from is_slash i v ≡ None → slash_then f v ≡ false
+slash_then-unfound f i [] h = refl
+slash_then-unfound f i (b ∷ bs) h =
+    by_test (b == slash) (λ t. absurd (let e = rw t at h in cc))
+    (λ t. passed (b == slash) (f bs) (slash_then f bs) t ∙ slash_then-unfound f (i + 1) bs (rw t at h))
+
+-- with no slash there is no next directory
+pub no_next_directory : (f : List ℕ → Bool) (v : List ℕ) → position is_slash v ≡ None → slash_then f v ≡ false
+no_next_directory f v h = slash_then-unfound f 0 v (sym (position_from-zero is_slash v) ∙ h)
+
+slash_then-found : (f : List ℕ → Bool) (v : List ℕ) (k : ℕ) → k < length v → is_slash (get_or v k 0) ≡ true →
+    ((i : ℕ) → i < k → is_slash (get_or v i 0) ≡ false) → slash_then f v ≡ (f (drop (suc k) v) || slash_then f (drop (suc k) v))
+slash_then-found f [] k inside here before = absurd (omega arith)
+slash_then-found f (b ∷ bs) zero inside here before = ap (λ x. (x && f bs) || slash_then f bs) here
+slash_then-found f (b ∷ bs) (suc k) inside here before =
+    passed (b == slash) (f bs) (slash_then f bs) (before 0 (omega arith))
+    ∙ slash_then-found f bs k (omega arith) here (λ i l. before (suc i) (omega arith))
+
+-- after the first slash the next directory begins
+pub next_directory : (f : List ℕ → Bool) (v : List ℕ) (k : ℕ) → position is_slash v ≡ Some k →
+    slash_then f v ≡ (f (drop (k + 1) v) || slash_then f (drop (k + 1) v))
+next_directory f v k h =
+    let found = position-Some is_slash v k 0 h in
+    slash_then-found f v k found.0 found.1 found.2 ∙ ap (λ n. f (drop n v) || slash_then f (drop n v)) (sym (add-one k))
+
+-- where the tokens after a directory star don't match in a directory, it goes on to the next
+pub gone_on : (f : List ℕ → Bool) (v below : List ℕ) → f v ≡ false → slash_then f v ≡ (f below || slash_then f below) →
+    (f v || slash_then f v) ≡ (f below || slash_then f below)
+gone_on f v below h e = ap (λ x. x || slash_then f v) h ∙ e
