@@ -27,7 +27,7 @@ candidate_met case base line =
     (λ n. by_test (is_none line.wildcard)
     (λ w. rw (m, n, w) (whole_met case Name line.text base))
     (λ w. by_test (has_flag line.mode ends_with)
-    (λ e. rw (m, n, w, e) (end_met case base _))
+    (λ e. rw (m, n, w, e) (end_met case base base _))
     (λ e. rw (m, n, w, e) refl)))
     (λ n. rw (m, n) refl))
 

@@ -10,9 +10,9 @@ use Rattle.std.proofs.lemmas.List.{length-reverse, length-drop, reverse-append, 
 use Rattle.attr_keys.specs.declared.key.Subject.{Subject}
 use Rattle.attr_keys.specs.declared.key.Subject.TheVariants.{End}
 use Rattle.attr_keys.specs.shared.Codes.{byte_code}
-use Rattle.attr_keys.specs.shared.LineKeys.{whole_text, reversed_end}
+use Rattle.attr_keys.specs.shared.LineKeys.{suffix_of, whole_text}
 use Rattle.attr_keys.specs.shared.KeyContents.{KeyContent}
-use Rattle.attr_keys.specs.shared.Meeting.{has_content}
+use Rattle.attr_keys.specs.shared.Meeting.{content_met, has_content}
 use Rattle.attr_wildmatch.specs.declared.case.Case.{Case}
 use Rattle.attr_wildmatch.specs.declared.case.Case.TheVariants.{Sensitive, Fold}
 use Rattle.attr_glob.specs.Folding.{folded, same_text}
@@ -140,10 +140,10 @@ turned_front n text = elim (sides n (length text)) [ inl le ↦ inside le | inr 
     sides (suc a) zero = inr (omega arith)
     sides (suc a) (suc b) = elim (sides a b) [ inl l ↦ inl (omega arith) | inr l ↦ inr (omega arith) ]
 
--- an end, from its last byte on
-pub end_met : (case : Case) (base end : List ℕ) →
-    has_content (folds case) (reverse base) (reversed_end end) ≡ ends_with nat_eq (folded case base) (folded case end)
-end_met case base end =
+-- a suffix, from its last byte on
+suffix_met : (case : Case) (base end : List ℕ) →
+    has_content (folds case) (reverse base) (front_text End (reverse end)) ≡ ends_with nat_eq (folded case base) (folded case end)
+suffix_met case base end =
     let n = length end in
     let m = length base - n in
     let lr : length (reverse end) ≡ n = length-reverse end in
@@ -159,3 +159,8 @@ end_met case base end =
   where
     lens : length base - length end ≡ length (folded case base) - length (folded case end)
     lens = let a = length-folded case base in let b = length-folded case end in omega arith
+
+pub end_met : (case : Case) (base path end : List ℕ) →
+    content_met (folds case) base path (suffix_of end) ≡ ends_with nat_eq (folded case base) (folded case end)
+end_met case base path [] = suffix_met case base []
+end_met case base path (b ∷ bs) = suffix_met case base (b ∷ bs)

@@ -34,7 +34,7 @@ tried_is_candidate case path line h =
     (λ n. by_test (is_none line.wildcard)
     (λ w. rw (m, n, w) (sym (whole_met case Name line.text name) ∙ (rw (m, n, w) at h)))
     (λ w. by_test (has_flag line.mode ends_with)
-    (λ e. rw (m, n, w, e) (sym (end_met case name _) ∙ (rw (m, n, w, e) at h)))
+    (λ e. rw (m, n, w, e) (sym (end_met case name path _) ∙ (rw (m, n, w, e) at h)))
     (λ e. rw (m, n, w, e) refl)))
     (λ n. rw (m, n) refl))
 
@@ -77,7 +77,7 @@ matching_is_tried case path text line is_dir read plain m =
     by_test (is_none line.wildcard)
     (λ w. rw (plain, n, w) (whole_met case Name line.text name ∙ (rw (plain, n, w) at known)))
     (λ w. by_test (has_flag line.mode ends_with)
-    (λ e. rw (plain, n, w, e) (end_met case name _ ∙ (rw (plain, n, w, e) at known)))
+    (λ e. rw (plain, n, w, e) (end_met case name path _ ∙ (rw (plain, n, w, e) at known)))
     (λ e. rw (plain, n, w, e) (name_front case line.text name path line.wildcard placed part))))
     (λ n.
     let part : text_matches case line.text path ≡ true = ap (λ b. text_matches case line.text (cond b name path)) (sym n) ∙ whole.1 in

@@ -2,6 +2,7 @@
 use Rattle.std.proofs.Common.{◌≡◌, ℕ, zero, suc, ◌<◌, ◌≤◌, ◌-◌, Bool, true, false, not, ◌&&◌, ◌||◌, List, [], ◌∷◌, ◌++◌, length}
 use Rattle.std.proofs.Common.{take, drop, get_or, reverse}
 use Rattle.std.proofs.Common.{Option, Some, None, refl, sym, ap, ◌∙◌, arith, eqb, nat_eq, option_map}
+use Rattle.std.specs.Prelude.{unwrap_or}
 use Rattle.std.specs.List.{list_any, starts_with}
 use Rattle.std.proofs.Math.Seq.{drop-cons}
 use Rattle.std.proofs.lemmas.Bool.{eqb-true}
@@ -127,3 +128,25 @@ extension_from_dot_at name offset some le is none =
   where
     equal : (b : ℕ) → b ≡ dot_byte → eqb b dot_byte ≡ true
     equal b e = grind (arith, nat_tests)
+
+-- an extension that does not begin at an offset, or after it, is longer than what follows the offset
+extension_before : (name text : List ℕ) (offset : ℕ) → offset ≤ length name → extension (drop offset name) ≡ None →
+    extension name ≡ Some text → length name - offset < length text
+extension_before name text zero le none is = let no : None ≡ Some text = sym none ∙ is in absurd cc
+extension_before [] text (suc n) le none is = absurd (omega (arith, le))
+extension_before (b ∷ bs) text (suc n) le none is =
+    by_rest (extension bs) (λ found. extension_before bs text n (omega (arith, le)) none found) is
+  where
+    by_rest : (rest : Option (List ℕ)) → (rest ≡ Some text → length bs - n < length text) → or_from_dot rest b bs ≡ Some text →
+        suc (length bs) - suc n < length text
+    by_rest (Some e) before found = omega (arith, before found)
+    by_rest None before found =
+        by_test (eqb b dot_byte)
+        (λ t. omega (arith, ap (λ o. length (unwrap_or o [])) (rw t at found)))
+        (λ f. let no : None ≡ Some text = rw f at found in absurd cc)
+
+-- an extension that none of the last bytes begins is longer than these
+pub longer_extension : (name text : List ℕ) (offset longest : ℕ) → offset ≤ length name → offset ≤ length name - longest →
+    extension (drop offset name) ≡ None → extension name ≡ Some text → longest < length text
+longer_extension name text zero longest le first none is = let no : None ≡ Some text = sym none ∙ is in absurd cc
+longer_extension name text (suc n) longest le first none is = omega (arith, extension_before name text (suc n) le none is, first)

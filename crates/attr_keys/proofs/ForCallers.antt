@@ -1,5 +1,5 @@
 -- What the crates above may rest on, beside the contracts.
-use Rattle.std.proofs.Common.{◌≡◌, ℕ, Bool, true, false, ◌==◌, List, Option, None, Some, refl}
+use Rattle.std.proofs.Common.{◌≡◌, ℕ, Bool, true, false, ◌==◌, List, [], ◌∷◌, Option, None, Some, refl}
 use Rattle.attr_keys.specs.shared.Candidates.{candidate_of}
 use Rattle.attr_keys.specs.shared.LineKeys.{ShapeContent, candidate_content, line_content}
 use Rattle.attr_keys.proofs.RowLemmas.{by_test}
@@ -18,5 +18,7 @@ candidate_of_line line = by_parts line.is_macro line.asks_name line.is_end line.
     by_parts false false end text None = refl
     by_parts false false end text (Some n) = by_test (n == 0) (λ t. rw t refl) (λ f. rw f refl)
     by_parts false true end text None = refl
-    by_parts false true true text (Some n) = refl
+    by_parts false true true [] (Some n) = refl
+    by_parts false true true (b ∷ []) (Some n) = refl
+    by_parts false true true (b ∷ (c ∷ cs)) (Some n) = refl
     by_parts false true false text (Some n) = by_test (n == 0) (λ t. rw t refl) (λ f. rw f refl)

@@ -1,19 +1,21 @@
 -- Whole keys and extensions, by the hashes of their texts.
-use Rattle.std.proofs.Common.{◌≡◌, ℕ, zero, suc, ◌<◌, Bool, true, false, not, ◌&&◌, ◌||◌, List, []}
+use Rattle.std.proofs.Common.{◌≡◌, ℕ, zero, suc, ◌<◌, ◌≤◌, Bool, true, false, not, ◌&&◌, ◌||◌, List, []}
 use Rattle.std.proofs.Common.{◌∷◌, ◌++◌, length, get_or, reverse, Option, None, Some, refl, sym, ap, subst}
 use Rattle.std.proofs.Common.{◌∙◌, arith, eqb, nat_eq}
-use Rattle.std.specs.Prelude.{All, filter, option_map, slice_get, unwrap_or}
+use Rattle.std.specs.Prelude.{All, filter, slice_get, unwrap_or}
 use Rattle.std.specs.List.{starts_with}
 use Rattle.std.specs.List.Sorted.{IsPermutation}
 use Rattle.std.proofs.lemmas.List.Sorted.{IsPermutation-map, list_any-IsPermutation}
 use Rattle.std.proofs.lemmas.Bool.{eqb-true}
+use Rattle.std.proofs.lemmas.List.Elements.{All-push}
 use Rattle.std.proofs.lemmas.Bool.Decides.{nat_tests}
 use Rattle.attr_keys.specs.shared.KeyContents.{KeyContent}
 use Rattle.attr_keys.specs.declared.hashed.HashedRow.{HashedRow}
 use Rattle.attr_keys.specs.shared.Codes.{codes_of, key_codes, row_codes}
 use Rattle.attr_keys.specs.inner.Extensions.{is_hashed, is_reversed_extension}
 use Rattle.attr_keys.specs.shared.Meeting.{directed}
-use Rattle.attr_keys.specs.inner.Hashes.{AreAmong, IsHashOfKey, hash_of_row, hashed_part, hashed_rows, quick_hash, rows_of_hash, key_text}
+use Rattle.attr_keys.specs.inner.Hashes.{AreAmong, AreNoLonger, IsHashOfKey, IsLonger}
+use Rattle.attr_keys.specs.inner.Hashes.{hash_of_row, hashed_part, hashed_rows, key_text, quick_hash, rows_of_hash, text_of_row}
 use Rattle.attr_keys.specs.shared.Rows.{has_row}
 use Rattle.attr_keys.proofs.Cuts.{begin_below}
 use Rattle.attr_keys.proofs.ExtensionTexts.{extension_of_begun}
@@ -30,22 +32,22 @@ whole_same (b ∷ bs) (k ∷ ks) h =
     (λ t. ap (λ x. x ∷ ks) (eqb-true k b t) ∙ ap (λ l. b ∷ l) (whole_same bs ks (rw (shifted k b, t) at h)))
     (λ f. let no : false ≡ true = rw (shifted k b, f) at h in absurd cc)
 
--- the hash of a key finds it
-hash_finds : (from_end : Bool) (keys : List KeyContent) (h : HashedRow) (key : Option KeyContent) → slice_get keys h.row ≡ key →
-    is_hashed from_end key ≡ true → h.hash ≡ quick_hash (key_text from_end key) → (text : List ℕ) →
+-- a text that has a key has the key's text where it is hashed
+part_found : (from_end : Bool) (keys : List KeyContent) (h : HashedRow) (key : Option KeyContent) → slice_get keys h.row ≡ key →
+    is_hashed from_end key ≡ true → (text : List ℕ) →
     starts_with nat_eq (codes_of false (directed from_end text) true) (row_codes keys h.row) ≡ true →
-    option_map quick_hash (hashed_part from_end text) ≡ Some h.hash
-hash_finds from_end keys h None at is hashed text has = let no : false ≡ true = is in absurd cc
-hash_finds false keys h (Some key) at is hashed text has =
+    hashed_part from_end text ≡ Some (key_text from_end key)
+part_found from_end keys h None at is text has = let no : false ≡ true = is in absurd cc
+part_found false keys h (Some key) at is text has =
     let same : row_codes keys h.row ≡ codes_of false key.text true = ap key_codes at ∙ ap (codes_of false key.text) is in
     let whole = whole_same text key.text (sym (ap (starts_with nat_eq (codes_of false text true)) same) ∙ has) in
-    ap (λ l. Some (quick_hash l)) (sym whole) ∙ ap Some (sym hashed)
-hash_finds true keys h (Some key) at is hashed text has =
+    ap Some (sym whole)
+part_found true keys h (Some key) at is text has =
     let parts = both key.is_whole (is_reversed_extension key.text) is in
     let same : row_codes keys h.row ≡ codes_of false key.text false = ap key_codes at ∙ ap (codes_of false key.text) parts.0 in
     let begins = begin_below (reverse text) key.text true false
     (sym (ap (starts_with nat_eq (codes_of false (reverse text) true)) same) ∙ has) in
-    ap (option_map quick_hash) (extension_of_begun text key.text parts.1 begins) ∙ ap Some (sym hashed)
+    extension_of_begun text key.text parts.1 begins
   where
     both : (w e : Bool) → not w && e ≡ true → (w ≡ false) × (e ≡ true)
     both false e h = (refl, h)
@@ -70,7 +72,7 @@ pub all_find : (from_end : Bool) (keys : List KeyContent) (rows : List ℕ) (has
 all_find from_end keys rows hashed are kinds hashes k d lt =
     let h = get_or hashed k d in
     let kind = kinds h.row (ap (λ l. has_row l h.row) (sym are) ∙ has_own hashed k d lt) in
-    record { kind = kind; finds = hash_finds from_end keys h (slice_get keys h.row) refl kind (hashes k d lt) }
+    record { kind = kind; hash = hashes k d lt; finds = part_found from_end keys h (slice_get keys h.row) refl kind }
 
 -- rows of a number are kept
 kept_rows : (row : ℕ) (test : HashedRow → Bool) (rows : List HashedRow) → ((k : ℕ) (d : HashedRow) → k < length rows →
@@ -124,15 +126,20 @@ pub rows_push : (hashed : List HashedRow) (h : HashedRow) → hashed_rows (hashe
 rows_push [] h = refl
 rows_push (g ∷ gs) h = ap (λ l. g.row ∷ l) (rows_push gs h)
 
--- the hash of the part of a text that has one
-pub hash_of_part : (part : Option (List ℕ)) (text : List ℕ) (hash : ℕ) → part ≡ Some text → option_map quick_hash part ≡ Some hash →
+-- the hash of a key is that of the part of a text that has the key
+pub hash_of_part : (part : Option (List ℕ)) (text key : List ℕ) (hash : ℕ) → part ≡ Some text → part ≡ Some key → hash ≡ quick_hash key →
     hash ≡ quick_hash text
-hash_of_part part text hash is hashed = ap (λ o. unwrap_or o hash) (sym hashed ∙ ap (option_map quick_hash) is)
+hash_of_part part text key hash is found hashed = hashed ∙ ap (λ o. quick_hash (unwrap_or o key)) (sym found ∙ is)
 
-pub no_part : (part : Option (List ℕ)) (hash : ℕ) → part ≡ None → option_map quick_hash part ≡ Some hash → ⊥
-no_part part hash is hashed =
-    let no : None ≡ Some hash = sym (ap (option_map quick_hash) is) ∙ hashed in
-    absurd cc
+pub no_part : (part : Option (List ℕ)) (key : List ℕ) (longest : ℕ) → IsLonger longest part → length key ≤ longest → part ≡ Some key → ⊥
+no_part part key longest longer short found = omega (arith, longer key found, short)
+
+-- those of some keys of another order, and of some of them
+pub no_longer_push : (from_end : Bool) (keys : List KeyContent) (most more : ℕ) (rows : List HashedRow) (row : HashedRow) →
+    AreNoLonger from_end keys most rows → most ≤ more → length (text_of_row from_end keys row.row) ≤ more →
+    AreNoLonger from_end keys more (rows ++ row ∷ [])
+no_longer_push from_end keys most more rows row short le last =
+    All-push (λ h. length (text_of_row from_end keys h.row) ≤ more) rows row (λ k d lt. let a = short k d lt in omega (arith, a, le)) last
 
 -- in another order there are the same numbers
 pub rows_moved : (rows moved : List HashedRow) → IsPermutation rows moved → (row : ℕ) →

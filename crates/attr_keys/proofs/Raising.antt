@@ -1,12 +1,13 @@
 -- Rows of equal keys, which are sorted among themselves.
-use Rattle.std.proofs.Common.{◌≡◌, ℕ, suc, ◌+◌, ◌-◌, ◌<◌, ◌≤◌, Bool, false, true, ◌||◌, List, [], ◌∷◌, ◌++◌, length, map, take, drop, get_or}
+use Rattle.std.proofs.Common.{◌≡◌, ◌≢◌, ℕ, zero, suc, ◌⊎◌, inl, inr, ◌+◌, ◌-◌, ◌<◌, ◌≤◌, Bool, false, true, ◌||◌, List, [], ◌∷◌, ◌++◌, length, map, take, drop, get_or}
 use Rattle.std.proofs.Common.{refl, sym, ap, ◌∙◌, eqb, arith}
 use Rattle.std.specs.Cmp.Lexicographic.{bytes_decides, slice_cmp}
 use Rattle.std.specs.List.{All, list_any}
 use Rattle.std.specs.Ordering.{is_eq, is_lt, is_ne, nat_cmp}
 use Rattle.std.specs.declared.cmp.Ordering.{Ordering}
 use Rattle.std.specs.declared.cmp.Ordering.TheVariants.{Less, Equal, Greater}
-use Rattle.std.proofs.lemmas.List.{drop-drop, get_or-drop, get_or-take, length-map, length-take, map-append, take-append-drop}
+use Rattle.std.proofs.lemmas.List.{drop-drop, get_or-append-add, get_or-drop, get_or-take, get_or_append_left}
+use Rattle.std.proofs.lemmas.List.{length-drop, length-map, length-take, map-append, take-append-drop}
 use Rattle.std.proofs.lemmas.List.Elements.{All-from_get_or}
 use Rattle.std.proofs.lemmas.List.Folds.{list_any-append}
 use Rattle.std.proofs.lemmas.List.Sorted.{All-permutation, length_permutation, list_any-IsPermutation}
@@ -15,12 +16,17 @@ use Rattle.std.proofs.lemmas.Map.Text.{is_eq-slice_cmp}
 use Rattle.std.proofs.Math.ListN.{get_or-map}
 use Rattle.attr_keys.specs.shared.KeyContents.{KeyContent}
 use Rattle.attr_keys.specs.shared.Codes.{row_codes}
-use Rattle.attr_keys.specs.shared.Rows.{AreInOrder, IsMovedWithin, has_row}
+use Rattle.attr_keys.specs.shared.Rows.{AreInOrder, IsRaisedWithin, has_row}
 use Rattle.attr_keys.proofs.RowLemmas.{by_test}
 
 -- the keys of the rows from start up to end are equal
 abbrev pub AreAlike : List KeyContent → List ℕ → ℕ → ℕ → Type 0
 AreAlike keys rows start end = (k : ℕ) → start ≤ k → k < end → row_codes keys (get_or rows k 0) ≡ row_codes keys (get_or rows start 0)
+
+-- of the rows before the end, those of equal keys ascend
+abbrev pub IsRaisedUpTo : List KeyContent → List ℕ → ℕ → Type 0
+IsRaisedUpTo keys rows end = (k : ℕ) → k + 1 < end → row_codes keys (get_or rows k 0) ≡ row_codes keys (get_or rows (k + 1) 0) →
+    get_or rows k 0 ≤ get_or rows (k + 1) 0
 
 pub record IsRaised (keys : List KeyContent) (before rows : List ℕ) (start index : ℕ) : Type 0 where
   pub begun : start < index
@@ -28,6 +34,8 @@ pub record IsRaised (keys : List KeyContent) (before rows : List ℕ) (start ind
   pub has : (row : ℕ) → has_row rows row ≡ has_row before row
   pub order : AreInOrder keys rows
   pub alike : AreAlike keys rows start index
+  pub raised : IsRaisedUpTo keys rows start
+  pub apart : (k : ℕ) → k + 1 ≡ start → row_codes keys (get_or rows k 0) ≢ row_codes keys (get_or rows start 0)
 
 -- what a function makes of values for all of which it gives the same
 same_map : {X : Type 0} (f : ℕ → X) (c : X) (xs ys : List ℕ) → length ys ≡ length xs → All (λ x. f x ≡ c) xs → All (λ y. f y ≡ c) ys →
@@ -60,8 +68,13 @@ ordered_by_codes keys rows new same order k d from below =
     ∙ ap (λ x. is_lt (slice_cmp nat_cmp (f (get_or rows (k + 1) d)) x)) (at k)
     ∙ order k d from (omega (arith, below, len))
 
+unequal : (r : Ordering) → is_ne r ≡ true → is_eq r ≡ true → ⊥
+unequal Less n e = cc
+unequal Equal n e = cc
+unequal Greater n e = cc
+
 module _ (keys : List KeyContent) (rows new : List ℕ) (start end : ℕ) (le : start ≤ end) (in_rows : end ≤ length rows)
-    (m : IsMovedWithin start end rows new) where
+    (m : IsRaisedWithin start end rows new) where
   abbrev part : List ℕ
   part = take (end - start) (drop start rows)
 
@@ -94,6 +107,81 @@ module _ (keys : List KeyContent) (rows new : List ℕ) (start end : ℕ) (le : 
       (list_any-append is m.moved after
       ∙ (ap (λ b. b || list_any is after) (sym (list_any-IsPermutation is part m.moved m.permutation)) ∙ sym (list_any-append is part after)))
       ∙ (sym (list_any-append is (take start rows) (part ++ after)) ∙ ap (list_any is) (sym (in_parts rows start end le)))))
+
+  code_at : AreAlike keys rows start end → (k : ℕ) → row_codes keys (get_or new k 0) ≡ row_codes keys (get_or rows k 0)
+  code_at alike k =
+      let f = row_codes keys in
+      sym (get_or-map f new k 0) ∙ ap (λ l. get_or l k (f 0)) (moved_codes alike) ∙ get_or-map f rows k 0
+
+  left_at : (k : ℕ) → k < start → get_or new k 0 ≡ get_or rows k 0
+  left_at k below =
+      let left = length-take start rows in
+      ap (λ l. get_or l k 0) m.is
+      ∙ (get_or_append_left (take start rows) (m.moved ++ drop end rows) 0 k (omega (arith, below, left, le, in_rows))
+      ∙ get_or-take start rows k 0 below)
+
+  moved_at : (k : ℕ) → start ≤ k → k < end → get_or new k 0 ≡ get_or m.moved (k - start) 0
+  moved_at k from below =
+      let left = length-take start rows in
+      let whole = take start rows ++ (m.moved ++ drop end rows) in
+      ap (λ l. get_or l k 0) m.is
+      ∙ (ap (λ n. get_or whole n 0) {x = k} {y = length (take start rows) + (k - start)} (omega (arith, from, left, le, in_rows))
+      ∙ (get_or-append-add (take start rows) (m.moved ++ drop end rows) (k - start) 0
+      ∙ get_or_append_left m.moved (drop end rows) 0 (k - start)
+      (let a = moved_len in omega (arith, from, below, a))))
+    where
+      moved_len : length m.moved ≡ end - start
+      moved_len =
+          let a = length_permutation part m.moved m.permutation in
+          let b = length-take (end - start) (drop start rows) in
+          let c = length-drop start rows in
+          omega (arith, a, b, c, le, in_rows)
+
+  pub moved_raised : AreAlike keys rows start end → IsRaisedUpTo keys rows start →
+      ((k : ℕ) → k + 1 ≡ start → row_codes keys (get_or rows k 0) ≢ row_codes keys (get_or rows start 0)) → IsRaisedUpTo keys new end
+  moved_raised alike raised apart k below same =
+      elim (three_ways k start) [
+        | inl before ↦ omega (arith, left_at k (omega (arith, before)), left_at (k + 1) before, raised k before same_before)
+        | inr (inl at) ↦ absurd (apart k at (same_before ∙ ap (λ n. row_codes keys (get_or rows n 0)) at))
+        | inr (inr after) ↦ omega (
+          arith,
+          moved_at k after (omega (arith, below)),
+          moved_at (k + 1) (omega (arith, after)) below,
+          m.ascend (k - start) (k + 1 - start) 0 (omega (arith, after)) (omega (arith, after, below, part_len)),
+        )
+      ]
+    where
+      same_before : row_codes keys (get_or rows k 0) ≡ row_codes keys (get_or rows (k + 1) 0)
+      same_before = sym (code_at alike k) ∙ (same ∙ code_at alike (k + 1))
+
+      part_len : length m.moved ≡ end - start
+      part_len =
+          let a = length_permutation part m.moved m.permutation in
+          let b = length-take (end - start) (drop start rows) in
+          let c = length-drop start rows in
+          omega (arith, a, b, c, le, in_rows)
+
+      three_ways : (k start : ℕ) → (k + 1 < start) ⊎ ((k + 1 ≡ start) ⊎ (start ≤ k))
+      three_ways k zero = inr (inr (omega arith))
+      three_ways zero (suc zero) = inr (inl refl)
+      three_ways zero (suc (suc start)) = inl (omega arith)
+      three_ways (suc k) (suc start) = elim (three_ways k start) [
+        | inl before ↦ inl (omega (arith, before))
+        | inr (inl at) ↦ inr (inl (omega (arith, at)))
+        | inr (inr after) ↦ inr (inr (omega (arith, after)))
+      ]
+
+  -- where the rows of one key end, that of the next one has another
+  pub next_apart : AreAlike keys rows start end →
+      is_ne (slice_cmp nat_cmp (row_codes keys (get_or rows (end - 1) 0)) (row_codes keys (get_or rows end 0))) ≡ true →
+      (k : ℕ) → k + 1 ≡ end → row_codes keys (get_or new k 0) ≢ row_codes keys (get_or new end 0)
+  next_apart alike other k at same =
+      let last = row_codes keys (get_or rows (end - 1) 0) in
+      let this = row_codes keys (get_or rows end 0) in
+      let same_old : last ≡ this =
+      ap (λ n. row_codes keys (get_or rows n 0)) {x = end - 1} {y = k} (omega (arith, at))
+      ∙ (sym (code_at alike k) ∙ (same ∙ code_at alike end)) in
+      unequal (slice_cmp nat_cmp last this) other (is_eq-slice_cmp last this ∙ (bytes_decides last this).1 same_old)
 
 pub first_alike : (keys : List KeyContent) (rows : List ℕ) (start : ℕ) → AreAlike keys rows start (start + 1)
 first_alike keys rows start k from below = ap (λ n. row_codes keys (get_or rows n 0)) {x = k} {y = start} (omega (arith, from, below))

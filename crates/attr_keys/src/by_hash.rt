@@ -3,7 +3,7 @@
 ghost use Rattle.std.specs.Prelude.{◌≡◌, ◌<◌, ◌&&◌, ◌||◌, ℕ, All, IfOk, IfSome, None, OnOk, Some, length, reverse, true, slice_get};
 ghost use Rattle.attr_keys.specs.inner.Cases.{in_case, keys_seen};
 ghost use Rattle.attr_keys.specs.inner.Extensions.{extension, is_hashed, is_reversed_extension};
-ghost use Rattle.attr_keys.specs.inner.Hashes.{AreAmong, IsHashOfKey, hash_of_row, hashed_part, hashed_rows, quick_hash, rows_of_hash};
+ghost use Rattle.attr_keys.specs.inner.Hashes.{AreAmong, AreNoLonger, IsHashOfKey, IsLonger, hash_of_row, hashed_part, hashed_rows, quick_hash, rows_of_hash};
 ghost use Rattle.attr_keys.specs.shared.Meeting.{directed, text_has};
 ghost use Rattle.attr_keys.specs.shared.Rows.{has_row};
 
@@ -24,13 +24,14 @@ pub fn is_extension(text: &[u8]) -> bool
     }
 }
 
-// The bytes of a base name from its last dot on, if it has a dot.
-fn extension(name: &[u8]) -> Option<&[u8]>
-    ensures none { result ≡ None → extension name.now ≡ None }
+// The bytes of a base name from its last dot on, if it has a dot and they are no more than the longest.
+fn extension(name: &[u8], longest: usize) -> Option<&[u8]>
+    ensures none { result ≡ None → IsLonger longest (extension name.now) }
     ensures some { IfSome result (λ text. extension name.now ≡ Some text.now) }
 {
     let mut offset = name.len();
-    while offset > 0 {
+    let first = offset.saturating_sub(longest);
+    while offset > first {
         offset -= 1;
         if name[offset] == b'.' {
             return Some(&name[offset..]);
@@ -157,7 +158,21 @@ fn is_crowded(rows: &[HashedRow], index: usize) -> bool
     before || after
 }
 
-/// Appends the rows whose keys the text has.
+/// The bytes of the longest key of these rows.
+pub fn longest_key<K: Keyed>(keys: Keys<'_, K>, rows: &[HashedRow]) -> usize
+    ensures { AreNoLonger keys.entry.view.from_end (keys_seen K.content keys.entry) result rows.now }
+{
+    let mut longest = 0;
+    for row in rows {
+        let len = row_text(keys, row.row).len();
+        if len > longest {
+            longest = len;
+        }
+    }
+    longest
+}
+
+/// Appends the rows whose keys the text has. No key of these rows is longer than the longest.
 ///
 /// # Errors
 ///
@@ -167,31 +182,36 @@ pub fn append_by_hash<K: Keyed>(
     keys: Keys<'_, K>,
     rows: &HashedRows,
     text: &[u8],
+    longest: usize,
     found: &mut Vec<usize>,
 ) -> Result<(), AllocError>
-    requires { All (IsHashOfKey keys.view.from_end (keys_seen K.content keys)) rows.now }
+    requires hashes { All (IsHashOfKey keys.view.from_end (keys_seen K.content keys)) rows.now }
+    requires short { AreNoLonger keys.view.from_end (keys_seen K.content keys) longest rows.now }
     ensures { OnOk result ((row : ℕ) → has_row found.new.items row
         ≡ (has_row found.old.items row || (has_row (hashed_rows rows.now) row
         && text_has (directed keys.entry.view.from_end text.now)
         (slice_get (keys_seen K.content keys.entry) row)))) }
 {
-    let Some(part) = hashed_part(keys.view.from_end, text) else {
+    let Some(part) = hashed_part(keys.view.from_end, text, longest) else {
         return Ok(());
     };
     let hash = quick_hash(part);
     append_of_hash(keys, rows.of_hash(hash), hash, text, found)
 }
 
-// The part of a text whose hash finds the keys that it has: a base name's extension, if ends are looked up.
+// The part of a text whose hash finds the keys that it has: a base name's extension, if ends are looked up. None is longer than
+// the longest.
 #[inline(always)]
-fn hashed_part(from_end: bool, text: &[u8]) -> Option<&[u8]>
-    ensures none { result ≡ None → hashed_part from_end text.now ≡ None }
+fn hashed_part(from_end: bool, text: &[u8], longest: usize) -> Option<&[u8]>
+    ensures none { result ≡ None → IsLonger longest (hashed_part from_end text.now) }
     ensures some { IfSome result (λ part. hashed_part from_end text.now ≡ Some part.now) }
 {
     if from_end {
-        extension(text)
-    } else {
+        extension(text, longest)
+    } else if text.len() <= longest {
         Some(text)
+    } else {
+        None
     }
 }
 

@@ -11,7 +11,7 @@ ghost use Rattle.attr_keys.specs.shared.Meeting.{content_met_at, directed, text_
 ghost use Rattle.attr_keys.specs.inner.Orders.{AreFindable, AreSorted, gathered, has_by_name, has_by_path, has_subject_row, has_unless_other, may_have, sorted_keys};
 ghost use Rattle.attr_keys.specs.shared.Rows.{IsFalling, has_row};
 
-use crate::by_hash::{append_by_hash, by_hash, write_lower};
+use crate::by_hash::{append_by_hash, by_hash, longest_key, write_lower};
 use crate::hashed::HashedRows;
 use crate::key::{Keyed, Keys, View, has_row_key, is_row_whole};
 use crate::kinds::Kinds;
@@ -41,6 +41,8 @@ struct KeyRows {
 #[derive(Debug, Drop)]
 struct SubjectRows {
     hashed: HashedRows,
+    // The bytes of the longest of their keys: of a longer text no hash is made.
+    longest: usize,
     prefixes: Prefixes,
 }
 
@@ -210,8 +212,13 @@ impl SubjectRows {
     {
         let mut rest = Vec::from_slice(alloc, prefixes)?;
         let hashed = by_hash(alloc, keys, hashed, &mut rest)?;
+        let longest = longest_key(keys, hashed.all());
         let prefixes = Prefixes::of(alloc, keys, rest)?;
-        Ok(SubjectRows { hashed, prefixes })
+        Ok(SubjectRows {
+            hashed,
+            longest,
+            prefixes,
+        })
     }
 
     // Appends the rows whose keys the text has. It costs nothing if there are none.
@@ -249,7 +256,7 @@ impl SubjectRows {
             (slice_get (keys_seen K.content keys.entry) row)))) }
     {
         if !self.hashed.all().is_empty() {
-            append_by_hash(keys, &self.hashed, text, found)?;
+            append_by_hash(keys, &self.hashed, text, self.longest, found)?;
         }
         self.prefixes.append(keys, text, found)
     }
@@ -367,7 +374,7 @@ fn append_candidates<K: Keyed>(
 {
     let rows = sorted.rows;
     let keys = keys_of(sorted.lines, sorted.fold, false);
-    append_by_hash(keys, &rows.names.hashed, name, found)?;
+    append_by_hash(keys, &rows.names.hashed, name, rows.names.longest, found)?;
     append_unless_other(keys, &rows.names.prefixes.rows, name, found)?;
     let ends = keys_of(sorted.lines, sorted.fold, true);
     rows.ends.append(ends, name, found)?;

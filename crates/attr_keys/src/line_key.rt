@@ -1,7 +1,7 @@
 //! The keys of lines: what a path needs if a line may match it.
 
 ghost use Rattle.std.specs.Prelude.{◌≡◌, drop, false, take};
-ghost use Rattle.attr_keys.specs.shared.LineKeys.{line_content, no_text, prefix_of, shape_content};
+ghost use Rattle.attr_keys.specs.shared.LineKeys.{line_content, no_text, prefix_of, shape_content, suffix_of};
 ghost use Rattle.attr_keys.specs.shared.Meeting.{is_end, key_content};
 
 use crate::key::{Key, Keyed, Subject};
@@ -45,11 +45,7 @@ pub fn line_key(shape: Shape<'_>) -> Key<'_>
         return prefix(Subject::Path, shape.text, shape.wildcard);
     }
     if shape.is_end && shape.wildcard.is_some() {
-        return Key {
-            subject: Subject::End,
-            text: after_star(shape.text),
-            is_whole: false,
-        };
+        return suffix(after_star(shape.text));
     }
     prefix(Subject::Name, shape.text, shape.wildcard)
 }
@@ -75,6 +71,21 @@ fn prefix(subject: Subject, text: &[u8], wildcard: Option<usize>) -> Key<'_>
             text: before(text, offset),
             is_whole: false,
         },
+    }
+}
+
+// The key of what base names end in. Each ends in the empty text.
+#[inline]
+fn suffix(text: &[u8]) -> Key<'_>
+    ensures { key_content result ≡ suffix_of text.now }
+{
+    if text.is_empty() {
+        return no_text(Subject::Anything);
+    }
+    Key {
+        subject: Subject::End,
+        text,
+        is_whole: false,
     }
 }
 

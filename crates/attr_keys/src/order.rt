@@ -3,7 +3,7 @@
 ghost use Rattle.std.specs.Prelude.{◌≡◌, ◌≤◌, ℕ, length};
 ghost use Rattle.std.specs.Bool.{OnTrue};
 ghost use Rattle.attr_keys.specs.inner.Cases.{keys_seen};
-ghost use Rattle.attr_keys.specs.shared.Rows.{AreInOrder, IsFalling, IsMovedWithin, has_row};
+ghost use Rattle.attr_keys.specs.shared.Rows.{AreInOrder, AreRaised, IsFalling, IsRaisedWithin, has_row};
 
 use crate::key::{Keyed, Keys, row_order};
 
@@ -21,6 +21,7 @@ pub fn raise_equals<K: Keyed>(keys: Keys<'_, K>, rows: &mut [usize])
     requires { AreInOrder (keys_seen K.content keys) rows.old }
     ensures rows { (row : ℕ) → has_row rows.new row ≡ has_row rows.old row }
     ensures order { AreInOrder (keys_seen K.content keys.entry) rows.new }
+    ensures raised { AreRaised (keys_seen K.content keys.entry) rows.new }
 {
     let mut start = 0;
     for index in 1..rows.len() {
@@ -36,7 +37,7 @@ pub fn raise_equals<K: Keyed>(keys: Keys<'_, K>, rows: &mut [usize])
 fn raise(rows: &mut [usize], start: usize, end: usize)
     requires order { start ≤ end }
     requires within { end ≤ length rows.old }
-    ensures { IsMovedWithin start end rows.old rows.new }
+    ensures { IsRaisedWithin start end rows.old rows.new }
 {
     rows[start..end].sort_unstable();
 }

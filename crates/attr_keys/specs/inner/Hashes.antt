@@ -1,5 +1,5 @@
 -- Numbers of keys by hashes (own).
-use Rattle.std.specs.Prelude.{◌≡◌, ◌==◌, drop, ℕ, ◌+◌, ◌-◌, ◌*◌, ◌<◌, ◌≤◌, ◌/◌, ◌%◌, ◌^◌, true, false, if◌then◌else◌, List, [], ◌∷◌, length, map, nat_eq, slice_index, slice_index_or, nat_le, bit_xor, Bool, Option, None, Some, option_map, slice_get}
+use Rattle.std.specs.Prelude.{All, ◌≡◌, ◌==◌, drop, ℕ, ◌+◌, ◌-◌, ◌*◌, ◌<◌, ◌≤◌, ◌/◌, ◌%◌, ◌^◌, true, false, if◌then◌else◌, List, [], ◌∷◌, length, map, nat_eq, slice_index, slice_index_or, nat_le, bit_xor, Bool, Option, None, Some, slice_get}
 use Rattle.std.specs.Int.{from_le_bytes, rotate_left, w64}
 use Rattle.std.specs.List.{filter, starts_with}
 use Rattle.std.specs.List.Sorted.{IsNonDecreasingBy, IsPartitionPoint}
@@ -79,8 +79,17 @@ text_of_row from_end keys row = key_text from_end (slice_get keys row)
 abbrev pub hash_of_row : Bool → List KeyContent → ℕ → ℕ
 hash_of_row from_end keys row = quick_hash (text_of_row from_end keys row)
 
--- the key is one that is found by its hash: each text that has the key has this hash, by a part of it
+-- the key is one that is found by its hash: in each text that has the key this is the part that is hashed
 pub record IsHashOfKey (from_end : Bool) (keys : List KeyContent) (h : HashedRow) : Type 0 where
   pub kind : is_hashed from_end (slice_get keys h.row) ≡ true
+  pub hash : h.hash ≡ hash_of_row from_end keys h.row
   pub finds : (text : List ℕ) → starts_with nat_eq (codes_of false (directed from_end text) true) (row_codes keys h.row) ≡ true →
-      option_map quick_hash (hashed_part from_end text) ≡ Some h.hash
+      hashed_part from_end text ≡ Some (text_of_row from_end keys h.row)
+
+-- if there is a text, it is longer
+abbrev pub IsLonger : ℕ → Option (List ℕ) → Type 0
+IsLonger longest part = (text : List ℕ) → part ≡ Some text → longest < length text
+
+-- the texts of the keys are no longer
+abbrev pub AreNoLonger : Bool → List KeyContent → ℕ → List HashedRow → Type 0
+AreNoLonger from_end keys longest rows = All (λ h. length (text_of_row from_end keys h.row) ≤ longest) rows

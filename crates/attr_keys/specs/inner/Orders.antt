@@ -7,7 +7,7 @@ use Rattle.attr_keys.specs.declared.key_index.Sorted.{Sorted}
 use Rattle.attr_keys.specs.declared.key_index.SubjectRows.{SubjectRows}
 use Rattle.attr_keys.specs.shared.KeyContents.{KeyContent}
 use Rattle.attr_keys.specs.inner.Cases.{content_in_case, seen_keys}
-use Rattle.attr_keys.specs.inner.Hashes.{IsHashOfKey, hashed_rows}
+use Rattle.attr_keys.specs.inner.Hashes.{AreNoLonger, IsHashOfKey, hashed_rows}
 use Rattle.attr_keys.specs.shared.Meeting.{is_about, is_end, is_whole_row, text_has}
 use Rattle.attr_keys.specs.shared.Rows.{ArePrefixes, has_row}
 
@@ -19,6 +19,7 @@ has_subject_row rows row = has_row rows.prefixes.rows.items row || has_row (hash
 pub record AreFindable (from_end : Bool) (keys : List KeyContent) (rows : SubjectRows) : Type 0 where
   pub prefixes : ArePrefixes keys rows.prefixes
   pub hashed : All (IsHashOfKey from_end keys) rows.hashed
+  pub short : AreNoLonger from_end keys rows.longest rows.hashed
 
 -- the numbers of a subject's keys
 pub record AreSubjectRows (subject : Subject) (fold : Bool) (keys : List KeyContent) (rows : SubjectRows) : Type 0 where

@@ -1,5 +1,5 @@
 -- The keys of lines (own).
-use Rattle.std.specs.Prelude.{ℕ, Bool, false, true, not, ◌==◌, List, [], drop, take, reverse, is_none, Option, Some, None, unwrap_or, if◌then◌else◌}
+use Rattle.std.specs.Prelude.{ℕ, Bool, false, true, not, ◌==◌, List, [], ◌∷◌, drop, take, reverse, is_none, Option, Some, None, unwrap_or, if◌then◌else◌}
 use Rattle.attr_keys.specs.declared.key.Subject.{Subject}
 use Rattle.attr_keys.specs.declared.key.Subject.TheVariants.{Name, End, Path, Anything, Nothing}
 use Rattle.attr_keys.specs.declared.line_key.Shape.{Shape}
@@ -30,8 +30,10 @@ no_text subject = record { subject = subject; text = []; is_whole = false }
 abbrev pub whole_text : Subject → List ℕ → KeyContent
 whole_text subject text = record { subject = subject; text = text; is_whole = true }
 
-abbrev pub reversed_end : List ℕ → KeyContent
-reversed_end end = record { subject = End; text = reverse end; is_whole = false }
+-- what base names end in; each ends in the empty text
+abbrev pub suffix_of : List ℕ → KeyContent
+suffix_of [] = no_text Anything
+suffix_of (b ∷ bs) = record { subject = End; text = reverse (b ∷ bs); is_whole = false }
 
 -- a line that defines a macro, or names a base name or its end
 abbrev pub name_content : ShapeContent → Option KeyContent
@@ -39,7 +41,7 @@ name_content line =
     if line.is_macro then Some (no_text Nothing)
     else if not line.asks_name then None
     else if is_none line.wildcard then Some (whole_text Name line.text)
-    else if line.is_end then Some (reversed_end (drop 1 line.text))
+    else if line.is_end then Some (suffix_of (drop 1 line.text))
     else None
 
 -- what stands before the first wildcard

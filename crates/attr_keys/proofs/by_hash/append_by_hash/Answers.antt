@@ -17,8 +17,9 @@ returns g c =
     (λ more row. more row
     ∙ ap (λ b. has_row c.args.found.now.items row || b)
     (alike_rows has row c.args.rows.now c.of_hash.result.now c.quick_hash-hash.result
-    (λ k d lt t. hash_of_part _ c.in-Some.part.now _ c.in-Some.ensures.some ((c.requires k d lt).finds c.args.text.now t)
-    ∙ sym c.quick_hash-hash.ensures)
+    (λ k d lt t.
+    let found = c.requires.hashes k d lt in
+    hash_of_part _ c.in-Some.part.now _ _ c.in-Some.ensures.some (found.finds c.args.text.now t) found.hash ∙ sym c.quick_hash-hash.ensures)
     c.of_hash.ensures))
     c.append_of_hash.ensures
 
@@ -28,6 +29,6 @@ returns-in_default g c = λ row.
     let has : ℕ → Bool = λ r. starts_with nat_eq text (row_codes (keys_seen g.K.Keyed.content c.args.keys) r) in
     let found = has_row c.args.found.now.items row in
     sym (ap (λ b. found || b)
-    (no_row has row c.args.rows.now (λ k d lt t. no_part _ _ (c.hashed_part.ensures.none c.in_default.is)
-    ((c.requires k d lt).finds c.args.text.now t)))
+    (no_row has row c.args.rows.now (λ k d lt t. no_part _ _ c.args.longest (c.hashed_part.ensures.none c.in_default.is)
+    (c.requires.short k d lt) ((c.requires.hashes k d lt).finds c.args.text.now t)))
     ∙ or_none found)

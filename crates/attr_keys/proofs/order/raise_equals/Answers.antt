@@ -1,7 +1,7 @@
 use Rattle.std.proofs.Common.{◌≡◌, ◌∙◌, ◌≤◌, length, refl, sym, ap, arith}
 use Rattle.std.specs.Ordering.{is_ne}
 use Rattle.attr_keys.specs.inner.Cases.{keys_seen}
-use Rattle.attr_keys.proofs.Raising.{first_alike, moved_order, moved_rows, one_more}
+use Rattle.attr_keys.proofs.Raising.{first_alike, moved_order, moved_raised, moved_rows, next_apart, one_more}
 use Rattle.attr_keys.proofs.order.raise_equals.Goals as goal
 use Rattle.attr_keys.proofs.order.raise_equals.Goals.{then-is_ne, else-is_ne}
 
@@ -12,6 +12,8 @@ loop-index-init g c = record {
   has = λ row. refl;
   order = c.requires;
   alike = first_alike _ _ 0;
+  raised = λ k below. absurd (omega (arith, below));
+  apart = λ k at. absurd (omega (arith, at));
 }
 
 pub raise-requires-clause-order : goal.raise-requires-clause-order
@@ -35,6 +37,9 @@ loop-index-preserved g c =
             has = λ row. moved_rows keys rows w.raise.new.rows start index le in_rows w.raise.ensures row ∙ before.has row;
             order = moved_order keys rows w.raise.new.rows start index le in_rows w.raise.ensures before.alike before.order;
             alike = first_alike keys w.raise.new.rows index;
+            raised = moved_raised keys rows w.raise.new.rows start index le in_rows w.raise.ensures before.alike before.raised before.apart;
+            apart = next_apart keys rows w.raise.new.rows start index le in_rows w.raise.ensures before.alike
+                (ap is_ne (sym c.row_order.ensures) ∙ (sym c.is_ne.ensures ∙ w.if-is_ne.true));
           })
       | else-is_ne w ↦ rw (w.rows-is, w.start-is) record {
         begun = omega (arith, before.begun);
@@ -43,6 +48,8 @@ loop-index-preserved g c =
         order = before.order;
         alike = one_more keys rows start index before.begun before.alike
             (ap is_ne (sym c.row_order.ensures) ∙ (sym c.is_ne.ensures ∙ w.if-is_ne.false));
+        raised = before.raised;
+        apart = before.apart;
       }
     ]
 
@@ -61,3 +68,11 @@ returns-clause-order g c =
     c.loop-index.invariant.within (omega arith) c.raise-2.ensures
     (λ k from below. c.loop-index.invariant.alike k from (omega (arith, below, c.loop-index-test.false, c.loop-index.auto.rows)))
     c.loop-index.invariant.order
+
+pub returns-clause-raised : goal.returns-clause-raised
+returns-clause-raised g c = λ k below.
+    let inv = c.loop-index.invariant in
+    moved_raised (keys_seen g.K.Keyed.content c.args.keys) c.loop-index.rows c.raise-2.new.rows c.loop-index.start (length c.loop-index.rows)
+    inv.within (omega arith) c.raise-2.ensures
+    (λ k from below. inv.alike k from (omega (arith, below, c.loop-index-test.false, c.loop-index.auto.rows)))
+    inv.raised inv.apart k (omega (arith, below, c.raise-2.auto.rows))
