@@ -60,9 +60,13 @@ typedef struct {
     size_t length;
 } yektrod_bytes;
 
-/* What the functions return. If it is not 0, nothing has changed, but for YEKTROD_NO_MEMORY of yektrod_ask and yektrod_ask_into, for
-   YEKTROD_BUFFER_TOO_SMALL of yektrod_ask_into and yektrod_found, and for what yektrod_run writes with YEKTROD_BUFFER_TOO_SMALL and
-   YEKTROD_MALFORMED. */
+/* What the functions return. After a status other than 0 the engine and all that was passed to be written are as before, except:
+
+   - NO_MEMORY of yektrod_ask and yektrod_ask_into leaves no answers;
+   - BUFFER_TOO_SMALL of yektrod_text, yektrod_name, yektrod_found and yektrod_ask_into sets `needed`. yektrod_found also makes its
+     row zero, and yektrod_ask_into its rows, and holds the new answers; there is nothing to be read in `text` then;
+   - BUFFER_TOO_SMALL and MALFORMED of yektrod_run: `out` is written as far as there is room, and `written`; with MALFORMED also
+     `malformed`. */
 enum {
     YEKTROD_DONE = 0,
     YEKTROD_NO_MEMORY = 1,
@@ -158,9 +162,9 @@ uint32_t yektrod_version(void);
 int32_t yektrod_open(yektrod *y);
 
 /* Adds the list of an attributes file as the last one, which takes precedence, and leaves no answers. `source` is the path of the
-   file. Its patterns apply to the paths below its directory, taken relative to `root` (mostly empty, for the top); without a root
-   (`has_root` is false, and `root` is not read), or if the file lies elsewhere, to all paths. `dropped` gets the number of lines that
-   were dropped.
+   file. The patterns apply to the paths below the directory of `source`, taken relative to `root` (mostly empty: the top of the
+   repository). They apply to all paths if `has_root` is false, and `root` is not read then, or if `source` is not below `root`.
+   `dropped` gets the number of lines that were dropped.
    Returns DONE, NO_MEMORY, CLOSED, INVALID (the source, or the root that is read, is not UTF-8). */
 int32_t yektrod_add(yektrod *y, const uint8_t *bytes, size_t length, const uint8_t *source, size_t source_length,
                     const uint8_t *root, size_t root_length, bool has_root, bool allow_macros, size_t *dropped);
@@ -190,10 +194,10 @@ int32_t yektrod_select(yektrod *y, const yektrod_bytes *names, size_t count);
    Returns DONE, NO_MEMORY, CLOSED, INVALID (is_dir). */
 int32_t yektrod_ask(yektrod *y, const uint8_t *path, size_t length, bool fold, int32_t is_dir, size_t *answers);
 
-/* Asks as yektrod_ask does, and writes all answers to the front of `rows`, and their texts to the front of `text`, without a byte after
-   them. `needed` gets how many there are, with BUFFER_TOO_SMALL too: there are more rows than `rows_room`, or more bytes of text than
-   `text_room`. Each row of the room is zero then, there is nothing to be read in `text`, and the answers are held as after
-   yektrod_ask, so that yektrod_answers and yektrod_text can tell them.
+/* Asks as yektrod_ask does, and writes all answers to the front of `rows`, and their texts to the front of `text`, and nothing after
+   them (no NUL). `needed` gets how many rows and how many bytes of text there are. If these are more than `rows_room` or `text_room`,
+   the status is BUFFER_TOO_SMALL: each row of the room is zero then, there is nothing to be read in `text`, and the answers are held
+   as after yektrod_ask, so that yektrod_answers and yektrod_text can tell them.
    Returns DONE, NO_MEMORY (no answers are left), CLOSED, INVALID (is_dir), BUFFER_TOO_SMALL. */
 int32_t yektrod_ask_into(yektrod *y, const yektrod_question *question, yektrod_row *rows, size_t rows_room,
                          uint8_t *text, size_t text_room, yektrod_needed *needed);
@@ -207,15 +211,17 @@ int32_t yektrod_answers(yektrod *y, size_t from, yektrod_row *rows, size_t rows_
    Returns DONE, CLOSED, NOT_FOUND. */
 int32_t yektrod_answer(yektrod *y, size_t i, yektrod_answer_t *answer);
 
-/* A text of an answer: it is copied to the front of `to`, without a byte after it. `needed` gets its length, with BUFFER_TOO_SMALL
-   too, and nothing is copied then. It takes no memory.
+/* Copies a text of an answer to the front of `to`, and writes nothing after it (no NUL). `needed` gets the length of the text. If that
+   is more than `room`, nothing is copied, `needed` still gets the length, and the status is BUFFER_TOO_SMALL. It takes no memory.
    Returns DONE, CLOSED, NOT_FOUND (also if `which` is none of the five), BUFFER_TOO_SMALL. */
 int32_t yektrod_text(yektrod *y, size_t i, int32_t which, uint8_t *to, size_t room, size_t *needed);
 
 /* The answer to the last question for the attribute with this number, whatever is selected, with its texts at the front of `text`,
-   which so is another room than that of answers which are still read. It is there for each selected name, and for each macro that is the cause of an answer, of its cause, and so on; without a selection for
-   all. For another attribute it may be NOT_FOUND. An attribute that a line sets to unspecified (`!x`) has an answer with a source; one
-   that no line names is NOT_FOUND. `needed` gets the length of the texts, with BUFFER_TOO_SMALL too, and the row is zero then.
+   which so is another room than that of answers which are still read. It is there for each selected name, and for each macro that is
+   the cause of an answer, of its cause, and so on; without a selection for all. For another attribute it may be NOT_FOUND. An
+   attribute that a line sets to unspecified (`!x`) has an answer with a source; one that no line names is NOT_FOUND. `needed` gets the
+   length of the texts. If that is more than `text_room`, the row is zero, there is nothing to be read in `text`, and the status is
+   BUFFER_TOO_SMALL.
    Returns DONE, CLOSED, NOT_FOUND, BUFFER_TOO_SMALL. */
 int32_t yektrod_found(yektrod *y, size_t number, yektrod_row *row, uint8_t *text, size_t text_room, size_t *needed);
 
@@ -223,8 +229,9 @@ int32_t yektrod_found(yektrod *y, size_t number, yektrod_row *row, uint8_t *text
    Returns DONE, CLOSED. */
 int32_t yektrod_names(yektrod *y, size_t *count);
 
-/* The name with this number: it is copied to the front of `to`. `needed` gets its length, with BUFFER_TOO_SMALL too, and nothing is
-   copied then. A name keeps its number until the engine is closed.
+/* Copies the name with this number to the front of `to`, and writes nothing after it (no NUL). `needed` gets the length of the name. If
+   that is more than `room`, nothing is copied, `needed` still gets the length, and the status is BUFFER_TOO_SMALL. A name keeps its
+   number until the engine is closed.
    Returns DONE, CLOSED, NOT_FOUND, BUFFER_TOO_SMALL. */
 int32_t yektrod_name(yektrod *y, size_t number, uint8_t *to, size_t room, size_t *needed);
 

@@ -20,7 +20,7 @@ TOP = os.path.join(os.path.dirname(os.path.abspath(__file__)), '..')
 MORE = 'wrong-bodies.edits'
 # Crates that are quick to prove, so that the first proofs of two and three edits of each fit in six minutes on two processors.
 # Those of attr_glob take six minutes of a busy processor, those of attr_keys six and a half.
-QUICK = ['attr_index', 'attr_table', 'worktree']
+QUICK = ['attr_text', 'attr_table', 'worktree']
 
 
 def read(path):

@@ -4,6 +4,7 @@
 # usage: hostile_rows.py [--write]
 # Without --write it compares the rows that are there with those that it makes.
 import os
+import re
 import sys
 
 DATA = os.path.join(os.path.dirname(os.path.abspath(__file__)), '..', 'crates', 'rows', 'data', 'scripts')
@@ -132,7 +133,7 @@ def main():
     if write:
         with open(os.path.join(DATA, 'manifest'), 'w', encoding='utf-8') as it:
             it.writelines('%s %s\n' % (kind, name) for kind, name, _, _ in rows())
-            it.writelines('script %s\n' % name[:-3] for name in sorted(os.listdir(DATA)) if name.startswith('made') and name.endswith('.in'))
+            it.writelines('script %s\n' % name[:-3] for name in sorted(os.listdir(DATA)) if re.match(r'(made|worked).*\.in$', name))
     if differing:
         sys.exit(1)
     print('hostile_rows: %d rows are %s' % (count, 'written' if write else 'as they are made'))

@@ -111,7 +111,7 @@ int main(int count, char **arguments) {
     char *info = output_of("f=$(git rev-parse --git-path info/attributes); [ ! -e \"$f\" ] || cat <\"$f\"", &info_length);
     yektrod_bytes *names = resized(NULL, (size_t)count * sizeof *names);
     for (int i = 2; i < count; i++) names[i - 2] = (yektrod_bytes){(uint8_t *)arguments[i], strlen(arguments[i])};
-    check(!yektrod_open(&y) && !yektrod_select(&y, names, (size_t)count - 2), "a name is no UTF-8, or there is no memory");
+    check(!yektrod_open(&y) && !yektrod_select(&y, names, (size_t)count - 2), "a name is not UTF-8, or there is no memory");
     add_all(&y, entries, entries + length);
     if (info_length <= MAX_FILE) add(&y, "info/attributes", 0, info, info_length);
     for (char *entry = entries; entry < entries + length; entry += strlen(entry) + 1) ask(&y, strchr(entry, '\t') + 1);

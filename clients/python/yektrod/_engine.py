@@ -58,7 +58,7 @@ def _done(status: int, what: str, invalid: Error) -> None:
 
 
 def _not_text(what: str) -> NotText:
-    return NotText(f'{what}: a text is no UTF-8')
+    return NotText(f'{what}: a text is not UTF-8')
 
 
 def _bytes(text: Path) -> bytes:

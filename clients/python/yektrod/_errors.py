@@ -19,7 +19,7 @@ class Invalid(Error, ValueError):
 
 
 class NotText(Invalid):
-    """A text is no UTF-8."""
+    """A text is not UTF-8."""
 
 
 class NoList(Error, IndexError):

@@ -1,4 +1,5 @@
--- The base name of a path: what a pattern without a slash is matched against (gitignore page: at any level).
+-- The base name of a path: what a pattern without a slash is matched against. The gitignore page: "The slash `/` is used as the
+-- directory separator".
 use Rattle.std.specs.Prelude.{ℕ, ◌-◌, List, length, Option, Some, None, if◌then◌else◌}
 use Rattle.std.specs.List.{list_any, after_last}
 use Rattle.attr_wildmatch.specs.Slashes.{is_slash}

@@ -1,4 +1,5 @@
--- Where the patterns of a source apply: relative to the directory of their file (gitignore page; roots are own).
+-- Where the patterns of a source apply. The gitignore page: "relative to the directory level of the particular `.gitignore` file
+-- itself". Roots are own.
 use Rattle.std.specs.Prelude.{ℕ, ◌+◌, ◌==◌, ◌&&◌, List, [], ◌∷◌, ◌++◌, length, take, drop, slice_index, nat_eq, Option, Some, None, option_and_then, if◌then◌else◌}
 use Rattle.std.specs.List.{starts_with, before_last}
 use Rattle.attr_wildmatch.specs.declared.case.Case.{Case}

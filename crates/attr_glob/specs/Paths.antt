@@ -1,4 +1,5 @@
--- Which paths a pattern matches (gitignore page).
+-- Which paths a pattern matches. The gitignore page: "Otherwise the pattern may also match at any level below"; "then the pattern
+-- will only match directories".
 use Rattle.std.specs.Prelude.{◌≡◌, ℕ, Bool, true, false, not, ◌&&◌, ◌||◌, IsTrue, List, Option, Some, None, if◌then◌else◌}
 use Rattle.attr_wildmatch.specs.declared.case.Case.{Case}
 use Rattle.attr_glob.specs.BaseNames.{base_name}

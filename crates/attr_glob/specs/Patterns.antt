@@ -1,4 +1,6 @@
--- How a pattern text is read (own, within the forms of the gitignore page).
+-- How a pattern text is read. The gitignore page: "An optional prefix `!` which negates the pattern"; "Put a backslash .. in
+-- front of the first hash"; "a separator at the beginning or middle (or both)"; "a separator at the end". The order of the steps
+-- is own.
 use Rattle.std.specs.Prelude.{ℕ, ◌+◌, ◌-◌, Bool, not, ◌&&◌, ◌||◌, ◌==◌, List, [], ◌∷◌, ◌++◌, length, take, drop, slice_index, Option, Some, None, if◌then◌else◌, position}
 use Rattle.std.specs.List.{list_all, list_any}
 use Rattle.std.specs.Char.{is_ascii_whitespace}

@@ -70,12 +70,6 @@ bodies_defined-cons number entry entries =
     ap (map (λ (e : Entry). e.items)) (filter-append (is_definition number) (entry ∷ []) entries)
     ∙ map-append (λ (e : Entry). e.items) (filter (is_definition number) (entry ∷ [])) (filter (is_definition number) entries)
 
-pub bodies_defined-push : (number : ℕ) (entries : List Entry) (entry : Entry) → bodies_defined number (entries ++ entry ∷ []) ≡ bodies_defined number
-    entries ++ bodies_defined number (entry ∷ [])
-bodies_defined-push number entries entry =
-    ap (map (λ (e : Entry). e.items)) (filter-append (is_definition number) entries (entry ∷ []))
-    ∙ map-append (λ (e : Entry). e.items) (filter (is_definition number) entries) (filter (is_definition number) (entry ∷ []))
-
 -- what one line defines
 pub bodies_defined-one : (number : ℕ) (entry : Entry) → is_definition number entry ≡ true → bodies_defined number (entry ∷ []) ≡ entry.items ∷ []
 bodies_defined-one number entry e = ap (map (λ (x : Entry). x.items)) (cond-true (is_definition number entry) (entry ∷ []) [] e)

@@ -111,9 +111,6 @@ definitions_at-within entries i d lt =
     definitions_view
     entries i d
 
-pub definitions_at-past : (entries : List NameEntry) (i : ℕ) → length entries ≤ i → definitions_at entries i ≡ []
-definitions_at-past entries i h = get_or_past (all_definitions entries) i [] (omega (arith, length-map entries definitions_view))
-
 -- the value that a write leaves is what is entries of the name at that place
 pub AreEntries-set-element : (entries : List NameEntry) (i : ℕ) (d x : NameEntry) {n : ℕ} → length entries ≡ n → i < n →
     (IsEntry i (get_or entries i d) → IsEntry i x) → AreEntries entries → AreEntries (set entries i x)
@@ -294,18 +291,6 @@ defined_at names list_id n entries mapping id own v body d x is own_is body_is l
     ∙ ap (λ b. definitions_at entries n ++ map (definition_of list_id) b) (sym (bodies_defined-one n entry (defines_own ∙ eq-eqb own.0 n same))))
     (λ other. sym (append-nil (definitions_at entries n)) ∙ ap (λ b. definitions_at entries n ++ map (definition_of list_id) b)
     (sym (bodies_defined-none n entry (defines_own ∙ ne_eqb own.0 n other))))
-
-pub defined_past : (names : List (List ℕ)) (list_id n : ℕ) (entries : List NameEntry) (mapping : Mapping Value) (id own : AttributeId)
-    (v : SmallVec TrackedAssignment) → mapping.value ≡ MacroAssignments id v → own ≡ id_of names mapping.pattern.text.items → length entries ≤ own.0 →
-    n
-    < length entries
-    → definitions_at entries n ≡ definitions_at entries n ++ map (definition_of list_id) (bodies_defined n (numbered names (entry_view mapping) ∷ []))
-defined_past names list_id n entries mapping id own v is own_is past lt =
-    let entry = numbered names (entry_view mapping) in
-    let none : is_definition n entry ≡ false = defines names mapping id v n is ∙ ap (λ (i : AttributeId). eqb i.0 n) (sym own_is) ∙ ne_eqb own.0 n
-    (λ same. omega arith) in
-    sym (append-nil (definitions_at entries n)) ∙ ap (λ b. definitions_at entries n ++ map (definition_of list_id) b)
-    (sym (bodies_defined-none n entry none))
 
 -- the definitions of other lists stay
 pub others_at : (list_id i n : ℕ) (entries : List NameEntry) (d x : NameEntry) (body : List TrackedAssignment) → i < length entries → definitions_view

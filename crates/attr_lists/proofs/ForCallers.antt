@@ -4,7 +4,7 @@
 -- definitions are none of another list's. `bodies_past`: no line defines a macro with a number that no name has.
 -- `added_for`, `removed_for`: the definitions of a name after a list is added, and after one is removed.
 pub use Rattle.attr_lists.proofs.DefinitionLemmas.{of_other_lists-append, of_other_lists-own}
-pub use Rattle.attr_lists.proofs.NameTableLaws.{added_for, bodies_past, removed_for}
+pub use Rattle.attr_lists.proofs.NameTableLaws.{added_for, bodies_past, of_other_lists-free, removed_for}
 -- Names. `with_names-extends`: new names are appended. `count_more`: there are no fewer names after that. `list_numbered`: the lines of
 -- a list that is added have the numbers of their names. `number_at`: of names that differ, the one at a number has this number.
 pub use Rattle.attr_lists.proofs.NameLemmas.{with_names-extends}

@@ -1,5 +1,6 @@
--- The entries that a list keeps of an attributes file: those of the lines whose items are all valid. One bad item drops the whole
--- line, as in git and gix-attributes.
+-- The entries that a list keeps of an attributes file: one bad item drops the whole line, as in gix-attributes and
+-- `parse_attr_line` of git's attr.c. The gitattributes page: "Custom macro attributes can be defined only in top-level
+-- gitattributes files".
 use Rattle.std.specs.Prelude.{◌≡◌, ℕ, Bool, true, ◌||◌, List, [], ◌∷◌, map, filter, Some, None, is_none, Result, Ok, Err}
 use Rattle.std.specs.Prelude.{if◌then◌else◌}
 use Rattle.std.specs.List.{filter_map, list_all}

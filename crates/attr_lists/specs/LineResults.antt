@@ -1,5 +1,5 @@
--- The results of the lines of an attributes file, by the gitattributes page: a pattern or a macro's name, and the assignments
--- after it.
+-- The results of the lines of an attributes file. The gitattributes page: "Lines that begin with `#` are ignored. Patterns that
+-- begin with a double quote are quoted in C style"; "negative patterns are forbidden"; "`[attr]binary -diff -merge -text`".
 use Rattle.std.specs.Prelude.{ℕ, ◌+◌, Bool, ◌&&◌, ◌||◌, ◌==◌, nat_eq, nat_lt, List, [], ◌∷◌, ◌++◌, length, drop, slice_index, map}
 use Rattle.std.specs.Prelude.{Option, Some, None, option_map, Result, Ok, Err, if◌then◌else◌, codes}
 use Rattle.std.specs.List.{starts_with}

@@ -1,5 +1,5 @@
--- The lines of a buffer (own): a line ends at a line feed, and a carriage return directly before it belongs to the end.
--- Git reads that carriage return as a blank.
+-- The lines of a buffer. The gitattributes page: "Each line in gitattributes file is of form: `pattern attr1 attr2 ...`". Line
+-- ends are own: a line feed, and a carriage return directly before it, which git reads as a blank.
 use Rattle.std.specs.Prelude.{◌≡◌, ◌≢◌, ℕ, ◌-◌, ◌<◌, true, not, ◌==◌, ◌⊎◌, List, [], ◌∷◌, ◌++◌, length, slice_index}
 use Rattle.std.specs.List.{list_all}
 use Rattle.attr_text.specs.Items.{carriage_return}

@@ -9,6 +9,7 @@ ghost use Rattle.attr_text.specs.Names.{is_valid_name};
 ghost use Rattle.attr_lists.specs.LineViews.{item_view, target_view, line_view};
 ghost use Rattle.attr_lists.specs.inner.LineSteps.{given_by, IsLineRead, kept_line_view};
 ghost use Rattle.attr_lists.specs.ListViews.{entry_view, entries_view};
+ghost use Rattle.attr_lists.specs.shared.MacroNumbers.{defines_macros};
 ghost use Rattle.attr_lists.specs.KeptLists.{tracked, reason_of, items_read, macro_pattern, entry_for, line_read, defines_no_macro, macro_valid, macros_valid};
 
 use crate::known_texts::KnownTexts;
@@ -208,6 +209,13 @@ pub fn without_macros(mut mappings: Vec<Mapping<Value>>) -> Vec<Mapping<Value>>
 }
 
 /// Whether the line defines no macro.
+/// Whether a line defines a macro.
+pub fn defines_macros(mappings: &[Mapping<Value>]) -> bool
+    ensures { result ≡ defines_macros (entries_view mappings.now) }
+{
+    !mappings.iter().all(|mapping| defines_no_macro(mapping))
+}
+
 pub(crate) fn defines_no_macro(mapping: &Mapping<Value>) -> bool
     ensures { result ≡ defines_no_macro (entry_view mapping.now) }
 {

@@ -44,19 +44,6 @@ pub told_ok : {T E F : Type 0} (r : Result T E) (b : Bool) → b ≡ is_err r �
 told_ok (Ok x) b e is h = h
 told_ok (Err x) b e is h = absurd cc
 
-pub told_err : {T E F : Type 0} (r : Result T E) (b : Bool) → b ≡ is_err r → b ≡ true → OnErr r F → F
-told_err (Ok x) b e is h = absurd cc
-told_err (Err x) b e is h = h
-
--- bodies that grew are cut to what they were
-pub cut_back : (old grown cut : List (Vec TrackedAssignment Global)) (count n : ℕ) → count ≡ length old →
-    bodies_view grown ≡ bodies_view old ++ replicate n [] → cut ≡ take count grown → bodies_view cut ≡ bodies_view old
-cut_back old grown cut count n counted grows is =
-    let len : count ≡ length (bodies_view old) = omega (arith, length-map old (λ b. b.items)) in
-    ap bodies_view is ∙ sym (take-map (λ b. b.items) count grown) ∙ ap (take count) grows ∙ ap (λ k. take k (bodies_view old ++ replicate n [])) len
-    ∙ take-append-le (length (bodies_view old)) (bodies_view old) (replicate n []) (omega arith) ∙ take_all (length (bodies_view old))
-    (bodies_view old) (omega arith)
-
 -- and to as many as wanted
 pub cut_sized : (old grown cut : List (Vec TrackedAssignment Global)) (bodies : List (List TrackedAssignment)) (count n : ℕ) → count ≡ n →
     bodies_view old ≡ bodies → bodies_view grown ≡ bodies_view old ++ replicate (count - length old) [] → cut ≡ take count grown →

@@ -25,11 +25,11 @@ use Rattle.attr_table.specs.Setting.{Item, Line}
 use Rattle.attr_table.specs.Table.{Slots}
 use Rattle.attr_table.specs.shared.Walk.{Task, Searches, backwards, line_tasks, list_tasks}
 use Rattle.attr_table.proofs.ForCallers.{nothing_taken}
-use Rattle.attr_index.specs.ListView.{Listed}
-use Rattle.attr_index.specs.shared.ReadLines.{AreRead}
-use Rattle.attr_index.specs.shared.PlacedLines.{no_entry, entry_at}
-use Rattle.attr_index.specs.shared.Trying.{AreTried, TakesMatching}
-use Rattle.attr_index.proofs.ForCallers.{lines_patterns}
+use Rattle.attr_search.specs.ListView.{Listed}
+use Rattle.attr_search.specs.shared.ReadLines.{AreRead}
+use Rattle.attr_search.specs.inner.PlacedLines.{no_entry, entry_at}
+use Rattle.attr_search.specs.inner.Trying.{AreTried, TakesMatching}
+use Rattle.attr_search.proofs.PlacedLemmas.{lines_patterns}
 use Rattle.attr_search.specs.Settings.{gives, line_of, lines_of, candidates_in}
 use Rattle.attr_search.specs.inner.Lines.{entry_tasks}
 

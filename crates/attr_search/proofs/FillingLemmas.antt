@@ -327,14 +327,3 @@ line_walked bs origin items old fresh after stack laid a b begun empty is p =
 pub still_fit : (before after : SlotFiller) → KeepsFiller before after → BodiesFit (length before.slots.answers) before.slots.bodies →
     BodiesFit (length after.slots.answers) after.slots.bodies
 still_fit before after kept fit = rw (kept.len, kept.bodies) fit
-
--- a line that is filled in stays the line
-pub still_at_line : (line : MatchingLine) (before after : SlotFiller) → KeepsFiller before after → AtLine line before →
-    All (IsPlaced line.items.now before.slots.bodies) after.stack.items →
-    MatchOption after.slots.line ⊤ (λ o. o ≡ line_origin line) → AtLine line after
-still_at_line line before after kept here placed origin =
-    record {
-      can_fill = record { bodies = still_fit before after kept here.can_fill.bodies; in_line = rw kept.len here.can_fill.in_line };
-      placed = rw kept.bodies placed;
-      origin = origin;
-    }

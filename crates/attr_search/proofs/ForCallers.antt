@@ -6,3 +6,11 @@ pub use Rattle.attr_search.proofs.SlotLemmas.{on_ok, on_err}
 pub use Rattle.attr_search.proofs.BodyLemmas.{length_sized, length_changed}
 -- in a set of numbers, a number is not at another's place
 pub use Rattle.attr_search.proofs.WantedLemmas.{at_other}
+-- a number below the next one is below a bound, or is the bound
+pub use Rattle.attr_search.proofs.KeyedLemmas.{below_or}
+-- the patterns of a list are those of its lines, and the line at a place is that of the mapping there
+pub use Rattle.attr_search.proofs.PlacedLemmas.{lines_patterns, entry_is}
+-- of lines that define macros none is tried
+pub use Rattle.attr_search.proofs.TryingLemmas.{idle_tried}
+-- lists compare one by one as what is compared of each
+pub use Rattle.attr_search.proofs.CompareLemmas.{equal_alone, ordered_alone}

@@ -12,7 +12,7 @@ use Rattle.attr_table.specs.Cut.{is_done, no_answers, IsSearched, ExtendsCuts}
 use Rattle.attr_table.specs.shared.Walk.{Task, Walks, ends, stops, skips, fills, Searches, tasks_of}
 use Rattle.attr_table.proofs.ForCallers.{fill_keeps}
 use Rattle.attr_table.proofs.ForCallers.{searched_joined}
-use Rattle.attr_index.specs.ListView.{Listed}
+use Rattle.attr_search.specs.ListView.{Listed}
 use Rattle.attr_search.specs.shared.SlotContents.{wanted_numbers, remaining_at, count_remaining}
 use Rattle.attr_search.specs.Slots.{Matched, table_answer, slots_of}
 use Rattle.attr_search.specs.Settings.{is_found, lines_of}

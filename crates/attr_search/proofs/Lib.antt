@@ -1,3 +1,9 @@
+pub mod CompareLemmas
+pub mod IndexedListLemmas
+pub mod DirectoryLemmas
+pub mod KeyedLemmas
+pub mod PlacedLemmas
+pub mod TryingLemmas
 pub mod PartLemmas
 pub mod SlotLemmas
 pub mod FillingLemmas

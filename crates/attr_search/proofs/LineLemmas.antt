@@ -21,11 +21,11 @@ use Rattle.attr_table.specs.Cut.{is_done}
 use Rattle.attr_table.specs.shared.Walk.{Task, Searches, free_items, tasks_in}
 use Rattle.attr_table.proofs.ForCallers.{nothing_taken, done_taken, row_filled, then_searches}
 use Rattle.attr_glob.specs.Views.{pattern_view}
-use Rattle.attr_index.specs.declared.indexed_line.IndexedLine.{IndexedLine}
-use Rattle.attr_index.specs.declared.line_index.LineIndex.{LineIndex}
-use Rattle.attr_index.specs.shared.LineIndexes.{NumberedPattern, indexed_line, indexed_lines, listed_lines}
-use Rattle.attr_index.specs.shared.PlacedLines.{no_entry, entry_at}
-use Rattle.attr_index.proofs.ForCallers.{entry_is}
+use Rattle.attr_search.specs.declared.indexed_line.IndexedLine.{IndexedLine}
+use Rattle.attr_search.specs.declared.line_index.LineIndex.{LineIndex}
+use Rattle.attr_search.specs.inner.LineIndexes.{NumberedPattern, indexed_line, indexed_lines, listed_lines}
+use Rattle.attr_search.specs.inner.PlacedLines.{no_entry, entry_at}
+use Rattle.attr_search.proofs.PlacedLemmas.{entry_is}
 use Rattle.attr_search.specs.Slots.{table_items}
 use Rattle.attr_search.specs.shared.Slotted.{indexed_origin, no_origin, index_origin, origin_of}
 use Rattle.attr_search.specs.shared.SlotContents.{wanted_numbers}
@@ -185,12 +185,3 @@ places_stopped bodies wanted wanted' f places_where k first second a b same done
     subst (λ (ts : List Task). Searches bodies (wanted_numbers wanted) ts first second a b) (sym whole)
     (then_searches bodies (wanted_numbers wanted) (flat_map f (take k places_where)) (flat_map f (drop k places_where)) first second second a b b p
     (done_taken bodies (wanted_numbers wanted) (flat_map f (drop k places_where)) second b done'))
-
--- places are those of lines
-pub place_at : (n : ℕ) (places_where places' : List ℕ) (k place : ℕ) → places' ≡ places_where → k < length places_where → place ≡ get_or places' k
-    place →
-    All (λ place. place < n) places_where → place < n
-place_at n places_where places' k place kept lt is all =
-    let here : place ≡ get_or places_where k place = is ∙ ap (λ (xs : List ℕ). get_or xs k place) kept in
-    let fits = all k place lt in
-    omega (arith, here, fits)

@@ -11,8 +11,8 @@ use Rattle.attr_table.specs.Cut.{is_done}
 use Rattle.attr_table.specs.shared.Walk.{Searches, list_tasks, tasks_of}
 use Rattle.attr_table.proofs.ForCallers.{backwards-none, backwards-split}
 use Rattle.attr_table.proofs.ForCallers.{nothing_taken, done_taken, then_searches, more_searched}
-use Rattle.attr_index.specs.declared.indexed_list.IndexedList.{IndexedList}
-use Rattle.attr_index.specs.IndexedLists.{listed_view, lists_view}
+use Rattle.attr_search.specs.declared.indexed_list.IndexedList.{IndexedList}
+use Rattle.attr_search.specs.IndexedLists.{listed_view, lists_view}
 use Rattle.attr_search.specs.shared.SlotContents.{wanted_numbers}
 use Rattle.attr_search.specs.Settings.{LinesAreNamed, ListsAreNamed}
 use Rattle.attr_search.specs.shared.Slotted.{LinesHaveSlots, ListsHaveSlots}

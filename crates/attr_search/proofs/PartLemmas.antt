@@ -29,21 +29,3 @@ grows_length xs ys g = omega (arith, ap length g.1, length-append xs g.0)
 -- what stood at a place stands there
 pub grows_at : {X : Type 0} (xs ys : List X) (i : ℕ) (d : X) → Grows xs ys → i < length xs → get_or ys i d ≡ get_or xs i d
 grows_at xs ys i d g lt = ap (λ l. get_or l i d) g.1 ∙ get_or_append_left xs g.0 d i lt
-
--- what was found is found
-pub grows_found : {X : Type 0} (xs ys : List X) (i : ℕ) (x : X) → Grows xs ys → slice_get xs i ≡ Some x → slice_get ys i ≡ Some x
-grows_found xs ys i x g found =
-    let within = slice_get_within xs i x found in
-    slice_get-get_or ys i x (omega (arith, within, grows_length xs ys g))
-    ∙ ap Some (grows_at xs ys i x g within ∙ get_or_from_slice_get xs i x x found)
-
--- a copy of each line is where the line is
-pub copied_more : (copies : List AnsweringLine) (lines : List AnsweringLine) (i : ℕ) (d : AnsweringLine) (more : List AnsweringLine)
-    (copy line : AnsweringLine) → i < length lines → line ≡ get_or lines i d → origins copies ≡ origins (take i lines) →
-    more ≡ copies ++ copy ∷ [] → copy.index.value ≡ line.index.value → copy.line ≡ line.line → origins more ≡ origins (take (i + 1) lines)
-copied_more copies lines i d more copy line lt is before pushed index number =
-    ap origins pushed ∙ map-append origin_of_line copies (copy ∷ [])
-    ∙ ap (λ l. l ++ origin_of_line copy ∷ []) before
-    ∙ ap (λ o. origins (take i lines) ++ o ∷ [])
-    (ap (λ x. index_origin x copy.line) index ∙ ap (index_origin line.index.value) number ∙ ap origin_of_line is)
-    ∙ sym (ap origins (take_more lines i d lt) ∙ map-append origin_of_line (take i lines) (get_or lines i d ∷ []))

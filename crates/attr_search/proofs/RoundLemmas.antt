@@ -16,11 +16,11 @@ use Rattle.attr_table.specs.Table.{Slots}
 use Rattle.attr_table.specs.Cut.{is_done}
 use Rattle.attr_table.specs.shared.Walk.{Task, Walks, ends, stops, Searches, backwards, line_tasks}
 use Rattle.attr_table.proofs.ForCallers.{backwards-none, backwards-more, backwards-split}
-use Rattle.attr_index.specs.ListView.{Listed}
-use Rattle.attr_index.specs.shared.ReadLines.{AreRead}
-use Rattle.attr_index.specs.shared.PlacedLines.{no_entry, entry_at}
-use Rattle.attr_index.specs.shared.Trying.{AreTried}
-use Rattle.attr_index.proofs.ForCallers.{lines_patterns}
+use Rattle.attr_search.specs.ListView.{Listed}
+use Rattle.attr_search.specs.shared.ReadLines.{AreRead}
+use Rattle.attr_search.specs.inner.PlacedLines.{no_entry, entry_at}
+use Rattle.attr_search.specs.inner.Trying.{AreTried}
+use Rattle.attr_search.proofs.PlacedLemmas.{lines_patterns}
 use Rattle.attr_search.specs.shared.SlotContents.{wanted_numbers}
 use Rattle.attr_search.specs.Settings.{line_of, lines_of}
 use Rattle.attr_search.specs.inner.Lines.{entry_tasks}
@@ -203,14 +203,3 @@ all_more {X} bodies wanted wanted' g xs k x first second third a b c same pos le
     let e = backwards-more list_rounds g xs k x pos le in
     rw e (rounds_append bodies (wanted_numbers wanted) (rounds_of (map g (drop k xs))) (list_rounds (g (get_or xs (k - 1) x))) p
     (subst (λ (y : X). Rounds bodies (wanted_numbers wanted) (list_rounds (g y)) second third b c) is q'))
-
--- all lists, as they were asked
-pub rounds_asked : (bodies : List (List Item)) (wanted : List ℕ) (case case' : Case) (is_dir is_dir' : Option Bool) (path path' : List ℕ)
-    (lists : List Listed) (before after : Slots) (a b : ℕ) →
-    path' ≡ path → case' ≡ case → is_dir' ≡ is_dir →
-    Rounds bodies wanted (rounds_of (map (lines_of case' is_dir' path') lists)) before after a b →
-    Rounds bodies wanted (rounds_of (map (lines_of case is_dir path) lists)) before after a b
-rounds_asked bodies wanted case case' is_dir is_dir' path path' lists before after a b p c d s =
-    subst (λ (x : List ℕ). Rounds bodies wanted (rounds_of (map (lines_of case is_dir x) lists)) before after a b) p
-    (subst (λ (x : Case). Rounds bodies wanted (rounds_of (map (lines_of x is_dir path') lists)) before after a b) c
-    (subst (λ (x : Option Bool). Rounds bodies wanted (rounds_of (map (lines_of case' x path') lists)) before after a b) d s))

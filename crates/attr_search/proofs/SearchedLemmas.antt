@@ -1,10 +1,11 @@
 -- Parts of a search, one after another.
-use Rattle.std.proofs.Common.{◌≡◌, ℕ, ◌+◌, ◌-◌, ◌^◌, ◌<◌, ◌≤◌, ◌⊎◌, min, true, List, [], ◌∷◌, length, map, get_or, take, drop, Some, None}
+use Rattle.std.proofs.Common.{◌≡◌, ℕ, ◌+◌, ◌-◌, ◌^◌, ◌<◌, ◌≤◌, ◌⊎◌, min, false, true, List, [], ◌∷◌, length, map, get_or, take, drop, Some, None}
 use Rattle.std.proofs.Common.{refl, sym, ap, arith, subst, ◌∙◌, zero, suc, inl, inr, Option}
 use Rattle.std.specs.Prelude.{slice_get}
 use Rattle.std.specs.List.Sorted.{IsNonDecreasing}
 use Rattle.std.proofs.lemmas.Option.{get_or_from_slice_get, slice_get_cases}
 use Rattle.bstr.specs.BStr.{bstr_bytes}
+use Rattle.attr_wildmatch.proofs.ForCallers.{by_test}
 use Rattle.attr_glob.specs.Bases.{rest_below}
 use Rattle.std.specs.List.{list_all}
 use Rattle.attr_glob.specs.Candidates.{has_macro_mode}
@@ -13,13 +14,14 @@ use Rattle.attr_lists.specs.declared.types.TrackedAssignment.{TrackedAssignment}
 use Rattle.attr_table.specs.Cut.{is_done}
 use Rattle.attr_table.specs.shared.Walk.{Searches, Task, tasks_of}
 use Rattle.attr_table.proofs.ForCallers.{nothing_taken}
-use Rattle.attr_index.specs.declared.indexed_list.IndexedList.{IndexedList}
-use Rattle.attr_index.specs.declared.path_query.PathQuery.{PathQuery}
-use Rattle.attr_index.specs.IndexedLists.{listed_view, lists_view}
-use Rattle.attr_index.specs.ListView.{Listed}
-use Rattle.attr_index.specs.shared.FoundLists.{AreListsFor}
-use Rattle.attr_index.specs.shared.Trying.{AreTried}
-use Rattle.attr_index.proofs.ForCallers.{below_or, idle_tried}
+use Rattle.attr_search.specs.declared.indexed_list.IndexedList.{IndexedList}
+use Rattle.attr_search.specs.declared.path_query.PathQuery.{PathQuery}
+use Rattle.attr_search.specs.IndexedLists.{listed_view, lists_view}
+use Rattle.attr_search.specs.ListView.{Listed}
+use Rattle.attr_search.specs.inner.FoundLists.{AreListsFor}
+use Rattle.attr_search.specs.inner.Trying.{AreTried}
+use Rattle.attr_search.proofs.KeyedLemmas.{below_or}
+use Rattle.attr_search.proofs.TryingLemmas.{idle_tried}
 use Rattle.attr_search.specs.SearchContents.{SearchContents}
 use Rattle.attr_search.specs.Settings.{candidates_in}
 use Rattle.attr_search.specs.Slots.{table_items}
@@ -227,21 +229,29 @@ counted_more query lists k list first second third kept lt has before tested sea
       searched = more_lists query lists (k + 1) list first second third kept (omega arith) (omega (arith, lt)) is before.searched searched;
     })
 
--- the lists with numbers from one on and below another don't apply to the path
+-- the list has no line for paths, or doesn't apply to the path
+abbrev pub IsApart : PathQuery → IndexedList → Type 0
+IsApart query list = (list.is_idle ≡ true) ⊎ (None ≡ rest_below (listed_view list).base query.case (bstr_bytes query.path))
+
+-- and so are the lists with numbers from one on and below another
 abbrev pub ApartBetween : PathQuery → List IndexedList → ℕ → ℕ → Type 0
 ApartBetween query lists low high =
-    (number : ℕ) (list : IndexedList) → low ≤ number → number < high → slice_get lists number ≡ Some list →
-    None ≡ rest_below (listed_view list).base query.case (bstr_bytes query.path)
+    (number : ℕ) (list : IndexedList) → low ≤ number → number < high → slice_get lists number ≡ Some list → IsApart query list
+
+passed_over : (query : PathQuery) (list : IndexedList) (state : SearchContents) → IsApart query list →
+    SearchedList query (listed_view list) state state
+passed_over query list state (inl idle) = list_idle query list state (sym list.idle ∙ idle)
+passed_over query list state (inr apart) = list_apart query (listed_view list) state apart
 
 skip_one : (query : PathQuery) (lists : List IndexedList) (k : ℕ) (first second : SearchContents) → KeepsState first second →
     k < length lists →
     ((list : IndexedList) × (k < length lists) × (slice_get lists k ≡ Some list) × (get_or lists k list ≡ list))
     ⊎ ((length lists ≤ k) × (slice_get lists k ≡ None)) →
-    ((list : IndexedList) → slice_get lists k ≡ Some list → None ≡ rest_below (listed_view list).base query.case (bstr_bytes query.path)) →
+    ((list : IndexedList) → slice_get lists k ≡ Some list → IsApart query list) →
     CountedFrom query lists (k + 1) first second → CountedFrom query lists k first second
 skip_one query lists k first second kept lt (inl at) apart counted =
     counted_more query lists k at.0 first second second kept lt at.2 counted (omega arith)
-    (list_apart query (listed_view at.0) second (apart at.0 at.2))
+    (passed_over query at.0 second (apart at.0 at.2))
 skip_one query lists k first second kept lt (inr past) apart counted = let ge = past.0 in absurd (omega (arith, lt, ge))
 
 skip_by : (count : ℕ) (query : PathQuery) (lists : List IndexedList) (low : ℕ) (first second : SearchContents) → KeepsState first second →
@@ -270,24 +280,29 @@ skip_lists query lists low high first second kept le most apart counted =
 -- of the lists below a bound, those that apply are among the first of the numbers
 abbrev pub AreLeft : PathQuery → List IndexedList → ℕ → ℕ → List ℕ → Type 0
 AreLeft query lists bound k numbers =
-    (number : ℕ) (list : IndexedList) (rest : List ℕ) → number < bound → slice_get lists number ≡ Some list →
+    (number : ℕ) (list : IndexedList) (rest : List ℕ) → number < bound → slice_get lists number ≡ Some list → list.is_idle ≡ false →
     rest_below (listed_view list).base query.case (bstr_bytes query.path) ≡ Some rest →
     (place : ℕ) × (place < k) × (get_or numbers place 0 ≡ number)
 
-none_left : (query : PathQuery) (list : IndexedList) (rest : Option (List ℕ)) →
-    rest_below (listed_view list).base query.case (bstr_bytes query.path) ≡ rest →
-    ((r : List ℕ) → rest_below (listed_view list).base query.case (bstr_bytes query.path) ≡ Some r → ⊥) →
-    None ≡ rest_below (listed_view list).base query.case (bstr_bytes query.path)
-none_left query list None is none = sym is
-none_left query list (Some rest) is none = absurd (none rest is)
+none_left : (query : PathQuery) (list : IndexedList) →
+    ((r : List ℕ) → list.is_idle ≡ false → rest_below (listed_view list).base query.case (bstr_bytes query.path) ≡ Some r → ⊥) →
+    IsApart query list
+none_left query list none =
+    by_test list.is_idle inl (λ busy. inr (by_rest busy (rest_below (listed_view list).base query.case (bstr_bytes query.path)) refl))
+  where
+    by_rest : list.is_idle ≡ false → (rest : Option (List ℕ)) →
+        rest_below (listed_view list).base query.case (bstr_bytes query.path) ≡ rest →
+        None ≡ rest_below (listed_view list).base query.case (bstr_bytes query.path)
+    by_rest busy None is = sym is
+    by_rest busy (Some rest) is = absurd (none rest busy is)
 
 -- those above the greatest number that is left don't apply
 pub apart_above : (query : PathQuery) (lists : List IndexedList) (bound k : ℕ) (numbers : List ℕ) → k < length numbers →
     IsNonDecreasing numbers → AreLeft query lists bound (k + 1) numbers →
     ApartBetween query lists (get_or numbers k 0 + 1) bound
 apart_above query lists bound k numbers lt rising left = λ number list ge below has.
-    none_left query list _ refl (λ rest applies.
-    let at = left number list rest below has applies in
+    none_left query list (λ rest busy applies.
+    let at = left number list rest below has busy applies in
     let before = at.1 in
     let is = at.2 in
     let le = rising at.0 k 0 (omega (arith, before)) lt in
@@ -300,8 +315,8 @@ below_top numbers place k number lt is other =
 -- fewer are left after the greatest
 pub left_less : (query : PathQuery) (lists : List IndexedList) (bound less k : ℕ) (numbers : List ℕ) → less ≤ bound →
     less ≤ get_or numbers k 0 → AreLeft query lists bound (k + 1) numbers → AreLeft query lists less k numbers
-left_less query lists bound less k numbers le most left = λ number list rest below has applies.
-    let at = left number list rest (omega (arith, below, le)) has applies in
+left_less query lists bound less k numbers le most left = λ number list rest below has busy applies.
+    let at = left number list rest (omega (arith, below, le)) has busy applies in
     let before = at.1 in
     let is = at.2 in
     (at.0, below_top numbers at.0 k number before is (λ same. let e = ap (λ n. get_or numbers n 0) same in omega (arith, e, is, most, below)), is)
@@ -310,7 +325,7 @@ left_less query lists bound less k numbers le most left = λ number list rest be
 pub apart_below : (query : PathQuery) (lists : List IndexedList) (bound k : ℕ) (numbers : List ℕ) → k ≤ 0 →
     AreLeft query lists bound k numbers → ApartBetween query lists 0 bound
 apart_below query lists bound k numbers no_more left = λ number list ge below has.
-    none_left query list _ refl (λ rest applies. let before = (left number list rest below has applies).1 in omega (arith, before, no_more))
+    none_left query list (λ rest busy applies. let before = (left number list rest below has busy applies).1 in omega (arith, before, no_more))
 
 -- at the beginning all are
 get_at : (numbers : List ℕ) (place number : ℕ) → place < length numbers → get_or numbers place number ≡ number → get_or numbers place 0 ≡ number
@@ -320,6 +335,6 @@ get_at (n ∷ numbers) (suc place) number lt is = get_at numbers place number (o
 
 pub all_left : (query : PathQuery) (lists : List IndexedList) (bound : ℕ) (numbers : List ℕ) →
     AreListsFor (bstr_bytes query.path) lists numbers → AreLeft query lists bound (length numbers) numbers
-all_left query lists bound numbers are = λ number list rest below has applies.
-    let at = are.all query.case number list rest has applies in
+all_left query lists bound numbers are = λ number list rest below has busy applies.
+    let at = are.all query.case number list rest has busy applies in
     (at.0, at.1, get_at numbers at.0 number at.1 at.2)

@@ -35,7 +35,7 @@ use Rattle.attr_search.specs.inner.Pending.{items_beside, line_origin, no_item, 
 use Rattle.attr_search.specs.shared.Slotted.{bodies_view, no_origin}
 use Rattle.attr_search.specs.declared.answer_parts.MatchRef.{MatchRef}
 use Rattle.std.proofs.lemmas.Option.{get_or_from_slice_get, slice_get_within}
-use Rattle.attr_search.proofs.PartLemmas.{grows_at, grows_found, grows_length}
+use Rattle.attr_search.proofs.PartLemmas.{grows_at, grows_length}
 
 -- a fact that holds anyway holds on a value, and on an error
 pub on_ok : {T E F : Type 0} (r : Result T E) → F → OnOk r F
@@ -255,12 +255,6 @@ pub line_seen : (store : PartsContent) (origin : Origin) (l : Option ℕ) → Ma
     MatchOption (option_map (line_by_ref store) l) ⊤ (λ o. o ≡ origin)
 line_seen store origin None h = tt
 line_seen store origin (Some l) h = get_or_from_slice_get store.lines l origin no_origin h
-
--- and still refers to its origin once more is kept
-pub line_still : (old new : PartsContent) (origin : Origin) (l : Option ℕ) → KeepsParts old new →
-    MatchOption l ⊤ (λ s. RefersTo old s origin) → MatchOption l ⊤ (λ s. RefersTo new s origin)
-line_still old new origin None extends h = tt
-line_still old new origin (Some l) extends h = grows_found old.lines new.lines l origin extends.lines h
 
 -- answers that are seen are as many as the slots that hold them
 remaining_at-seen : (store : PartsContent) (w : Bool) (slot : Option MatchRef) → remaining_at w slot ≡ remaining_at w

@@ -1,3 +1,6 @@
+pub mod IndexedLists
+pub mod KeyedNumbers
+pub mod ListView
 pub mod Matches
 pub mod Roots
 pub mod SearchContents

@@ -1,4 +1,5 @@
--- The setting of a search: which lines give their items to a path (gitattributes page: when the pattern matches).
+-- The setting of a search. The gitattributes page: "When the pattern matches the path in question, the attributes listed on the
+-- line are given to the path". Candidates and slots are own.
 use Rattle.std.specs.Prelude.{◌≡◌, ℕ, ◌<◌, Bool, false, ◌&&◌, List, [], map, length, sum_by, All, Option, Some, None, MatchOption, ⊤}
 use Rattle.std.specs.Prelude.{is_none, is_some, slice_get, slice_index_or, if◌then◌else◌}
 use Rattle.std.specs.List.{list_any}
@@ -11,7 +12,7 @@ use Rattle.attr_lists.specs.Numbers.{AreNamed}
 use Rattle.attr_lists.specs.declared.types.TrackedAssignment.{TrackedAssignment}
 use Rattle.attr_table.specs.Setting.{Origin, Line, Setting}
 use Rattle.attr_table.specs.Table.{Slots}
-use Rattle.attr_index.specs.ListView.{Listed, rest_for}
+use Rattle.attr_search.specs.ListView.{Listed, rest_for}
 use Rattle.attr_search.specs.Slots.{Matched, table_items}
 
 -- A line gives its items if its list applies to the path, the line defines no macro, and its pattern matches what is left

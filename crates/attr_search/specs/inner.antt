@@ -11,3 +11,14 @@ pub mod SearchView
 pub mod Searched
 pub mod SlotsView
 pub mod WantedView
+pub mod BaseKeys
+pub mod Counting
+pub mod DirectoryKeys
+pub mod FrontHashers
+pub mod KeyLinks
+pub mod LineTokens
+pub mod NumbersView
+pub mod FoundLists
+pub mod LineIndexes
+pub mod PlacedLines
+pub mod Trying

@@ -3,3 +3,4 @@
 pub mod BodyChanges
 pub mod SlotContents
 pub mod Slotted
+pub mod ReadLines

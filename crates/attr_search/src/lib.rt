@@ -1,10 +1,20 @@
-//! Searches over lists of lines: what the items of the lines that match a path, and the macros' bodies, assign to each
-//! attribute, and where the answers are stored.
+//! Lists of lines with an index of the lines by their keys, and searches over them: which lists a path is below, which of their
+//! lines it is matched against, what the items of the lines that match and the macros' bodies assign to each attribute, and where
+//! the answers are stored.
 #![tactic(auto)]
 
 pub mod answer_parts;
 pub mod bodies;
+mod directory_keys;
+pub mod indexed_line;
+pub mod indexed_list;
+pub mod indexed_lists;
+pub mod laws;
+pub mod line_index;
+mod macro_lines;
 pub mod matching_line;
+pub mod numbers_by_key;
+pub mod path_query;
 pub mod pending_item;
 pub mod search_state;
 pub mod slot_filler;

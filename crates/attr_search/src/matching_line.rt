@@ -2,7 +2,7 @@
 
 ghost use Rattle.std.specs.Prelude.{◌<◌, length};
 
-use attr_index::line_index::LineIndex;
+use crate::line_index::LineIndex;
 use attr_lists::types::TrackedAssignment;
 use std::rc::Rc;
 

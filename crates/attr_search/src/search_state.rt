@@ -7,10 +7,10 @@ ghost use Rattle.attr_lists.specs.ListViews.{items_in, macro_id};
 ghost use Rattle.attr_table.specs.Table.{OneTable};
 ghost use Rattle.attr_table.specs.Cut.{IsSearched, ExtendsCuts, is_done};
 ghost use Rattle.attr_table.specs.Work.{work_of, newly_filled};
-ghost use Rattle.attr_index.specs.IndexedLists.{listed_view, lists_view};
-ghost use Rattle.attr_index.specs.shared.FoundLists.{AreListsFor};
-ghost use Rattle.attr_index.specs.shared.PlacedLines.{entry_at};
-ghost use Rattle.attr_index.specs.shared.Trying.{AreTried};
+ghost use Rattle.attr_search.specs.IndexedLists.{listed_view, lists_view};
+ghost use Rattle.attr_search.specs.inner.FoundLists.{AreListsFor};
+ghost use Rattle.attr_search.specs.inner.PlacedLines.{entry_at};
+ghost use Rattle.attr_search.specs.inner.Trying.{AreTried};
 ghost use Rattle.attr_search.specs.Matches.{match_view};
 ghost use Rattle.attr_search.specs.Settings.{candidates_in, is_found};
 ghost use Rattle.attr_search.specs.Slots.{AreFreeFrom, IsNextFilled, filled_in};
@@ -22,14 +22,14 @@ ghost use Rattle.attr_search.specs.inner.Searched.{KeepsState, ListKeepsNamed, L
 ghost use Rattle.attr_search.specs.shared.SlotContents.{count_remaining};
 
 use crate::bodies::BodyChange;
+use crate::indexed_list::IndexedList;
+use crate::indexed_lists::IndexedLists;
 use crate::matching_line::MatchingLine;
+use crate::path_query::PathQuery;
 use crate::slot_filler::SlotFiller;
 use crate::slots::AnswerSlots;
 use crate::wanted::WantedFlags;
 use attr_glob::wildmatch::MatchBuffers;
-use attr_index::indexed_list::IndexedList;
-use attr_index::indexed_lists::IndexedLists;
-use attr_index::path_query::PathQuery;
 use attr_lists::types::{Match, TrackedAssignment, Value};
 use std::alloc::{AllocError, Global};
 use std::marker::Model;
@@ -81,7 +81,7 @@ impl SearchState {
     /// A state without slots. It takes no memory.
     pub fn new(alloc: Global) -> SearchState
         ensures { result ≡ record
-            { answers = []; wanted = []; bodies = []; taken = 0; tested = 0 } }
+            { answers = []; wanted = []; bodies = []; kept = 0; taken = 0; tested = 0 } }
     {
         SearchState::of(alloc, AnswerSlots::new(alloc))
     }
@@ -92,6 +92,7 @@ impl SearchState {
           answers = slots.answers;
           wanted = slots.wanted;
           bodies = slots.bodies;
+          kept = slots.kept;
           taken = 0;
           tested = 0;
         } }
@@ -131,6 +132,7 @@ impl SearchState {
           answers = map (λ flag. None) wanted;
           wanted = wanted;
           bodies = changed_bodies changes.items (sized_bodies (length wanted) self.old.bodies);
+          kept = 0;
           taken = 0;
           tested = 0;
         }) }
@@ -145,7 +147,7 @@ impl SearchState {
     /// Empties the slots, which costs what was filled, and sets the counts to 0. It takes no memory.
     pub fn reset(&mut self)
         ensures { self.new ≡ record self.old
-            { answers = map (λ a. None) self.old.answers; taken = 0; tested = 0 } }
+            { answers = map (λ a. None) self.old.answers; kept = 0; taken = 0; tested = 0 } }
     {
         self.filler.slots.reset();
         self.filler.taken = 0;
@@ -235,7 +237,8 @@ impl SearchState {
 
     /// How many lines and assignments are kept for the answers: at most one of each for an answer.
     pub fn kept(&self) -> usize
-        ensures { result ≤ 2 * length (filled_in self.now.answers) }
+        ensures kept { result ≡ self.now.kept }
+        ensures few { self.now.kept ≤ 2 * length (filled_in self.now.answers) }
     {
         self.filler.slots.kept()
     }

@@ -52,7 +52,8 @@ impl Model for AnswerSlots {
 impl AnswerSlots {
     /// No slots.
     pub fn new(alloc: Global) -> AnswerSlots
-        ensures { result ≡ record { answers = []; wanted = []; line = None; bodies = [] } }
+        ensures { result ≡ record
+            { answers = []; wanted = []; line = None; bodies = []; kept = 0 } }
     {
         AnswerSlots {
             slots: Vec::new(alloc),
@@ -227,7 +228,8 @@ impl AnswerSlots {
 
     /// How many lines and assignments are kept for the answers: at most one of each for an answer.
     pub fn kept(&self) -> usize
-        ensures { result ≤ 2 * length (filled_in self.now.answers) }
+        ensures kept { result ≡ self.now.kept }
+        ensures few { self.now.kept ≤ 2 * length (filled_in self.now.answers) }
     {
         self.parts.kept()
     }
@@ -257,7 +259,7 @@ impl AnswerSlots {
     /// Empties the slots, which costs what was filled. Nothing of the answers is kept.
     pub fn reset(&mut self)
         ensures { self.new ≡ record self.old
-            { answers = map (λ a. None) self.old.answers; line = None } }
+            { answers = map (λ a. None) self.old.answers; line = None; kept = 0 } }
     {
         empty(&mut self.slots, &self.filled);
         self.filled.clear();

@@ -1,5 +1,5 @@
--- The input of a search, in the terms of the gitattributes page: the lines of the files, and the bodies of the macros. Attributes
--- are numbers here.
+-- The input of a search: the lines of the files, and the bodies of the macros. The gitattributes page: "an attribute that, when
+-- set, also sets or unsets a number of other attributes". Attributes are numbers here.
 use Rattle.std.specs.Prelude.{ℕ, List, [], Bool, Option, slice_index_or}
 
 -- the state that an item assigns: `name`, `-name`, `name=value` or `!name`

@@ -1,5 +1,6 @@
--- The item that decides an attribute (gitattributes page): a later line takes precedence over an earlier one, file by file, and an
--- item that sets a macro assigns the states of its body.
+-- The item that decides an attribute. The gitattributes page: "a later line overrides an earlier line. This overriding is done
+-- per attribute"; "macro attributes can only be `Set`"; "the further the directory .. from the path in question, the lower its
+-- precedence". Circles of macros are own.
 use Rattle.std.specs.Prelude.{◌≡◌, ◌≢◌, ℕ, ◌<◌, ◌⊎◌, List, [], ◌∷◌, ◌++◌, Option, Some, None, MatchOption, slice_get}
 use Rattle.std.specs.Prelude.{slice_index_or, option_and_then}
 use Rattle.attr_table.specs.Setting.{Set, Item, Line, Setting, Answer, body_of}

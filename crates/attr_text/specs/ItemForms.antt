@@ -1,5 +1,6 @@
--- What an item of a line is (gitattributes page): `name`, `name=value`, `-name` or `!name`. A value
--- after `-name` or `!name` is ignored: git does so, and the page is silent.
+-- What an item of a line is. The gitattributes page: "listing only the name", "prefixed with a dash `-`", "followed by an equal
+-- sign `=` and its value", "prefixed with an exclamation point `!`". A value after `-name` or `!name` is ignored: git does so,
+-- and the page is silent.
 use Rattle.std.specs.Prelude.{◌≡◌, ◌≢◌, ℕ, true, false, not, ◌==◌, List, [], ◌∷◌, ◌++◌, slice_index, Result, Ok, Err}
 use Rattle.std.specs.List.{list_all}
 use Rattle.attr_wildmatch.specs.Bytes.{exclamation_mark, hyphen}

@@ -1,5 +1,5 @@
--- Names of attributes. The gitattributes page doesn't say which are valid: this is the rule of git's attr.c, which gix-attributes
--- has too. Newer versions of the page reserve `builtin_`.
+-- Names of attributes. Git's attr.c, where the page is silent: "Attribute name cannot begin with '-' and must consist of
+-- characters from [-A-Za-z0-9_.]". The gitattributes page of later versions: "`builtin_*` is a reserved namespace".
 use Rattle.std.specs.Prelude.{ℕ, Bool, not, ◌&&◌, ◌||◌, nat_lt, nat_eq, ◌==◌, List, length, slice_index, codes}
 use Rattle.std.specs.Char.{is_ascii_alphanumeric}
 use Rattle.std.specs.List.{list_all, starts_with}

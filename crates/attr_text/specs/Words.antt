@@ -1,5 +1,5 @@
--- The words of a text, between spaces, tabs and carriage returns: the gitattributes page says whitespace, and git takes no form
--- feed or vertical tab for one.
+-- The words of a text. The gitattributes page: "an attributes list, separated by whitespaces": spaces, tabs and carriage returns,
+-- as git takes no form feed or vertical tab for one.
 use Rattle.std.specs.Prelude.{◌≡◌, ℕ, ◌<◌, true, not, List, [], ◌∷◌, ◌++◌, length}
 use Rattle.std.specs.List.{list_all}
 use Rattle.std.specs.Str.{IsUtf8}

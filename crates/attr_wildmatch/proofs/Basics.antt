@@ -35,14 +35,6 @@ pub Each-append : {A : Type 0} (P : A → Type 0) (xs ys : List A) → Each P xs
 Each-append P [] ys h k = k
 Each-append P (x ∷ xs) ys h k = (h.0, Each-append P xs ys h.1 k)
 
-pub Each-left : {A : Type 0} (P : A → Type 0) (xs ys : List A) → Each P (xs ++ ys) → Each P xs
-Each-left P [] ys h = tt
-Each-left P (x ∷ xs) ys h = (h.0, Each-left P xs ys h.1)
-
-pub Each-right : {A : Type 0} (P : A → Type 0) (xs ys : List A) → Each P (xs ++ ys) → Each P ys
-Each-right P [] ys h = h
-Each-right P (x ∷ xs) ys h = Each-right P xs ys h.1
-
 pub and_parts : (a b : Bool) → (a && b) ≡ true → (a ≡ true) × (b ≡ true)
 and_parts true b h = (refl, h)
 and_parts false b h = cc

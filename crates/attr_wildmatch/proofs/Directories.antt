@@ -82,8 +82,3 @@ pub next_directory : (f : List ℕ → Bool) (v : List ℕ) (k : ℕ) → positi
 next_directory f v k h =
     let found = position-Some is_slash v k 0 h in
     slash_then-found f v k found.0 found.1 found.2 ∙ ap (λ n. f (drop n v) || slash_then f (drop n v)) (sym (add-one k))
-
--- where the tokens after a directory star don't match in a directory, it goes on to the next
-pub gone_on : (f : List ℕ → Bool) (v below : List ℕ) → f v ≡ false → slash_then f v ≡ (f below || slash_then f below) →
-    (f v || slash_then f v) ≡ (f below || slash_then f below)
-gone_on f v below h e = ap (λ x. x || slash_then f v) h ∙ e

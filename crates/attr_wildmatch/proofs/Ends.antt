@@ -34,14 +34,6 @@ matches-cons case star ts b bs h = cc
 matches-cons case dirs ts b bs h = cc
 matches-cons case rest ts b bs h = cc
 
-pub matches-cons_nil : (case : Case) (t : Token) (ts : List Token) → may_be_nothing t ≡ false → matches case (t ∷ ts) [] ≡ false
-matches-cons_nil case (lit c) ts h = refl
-matches-cons_nil case one ts h = refl
-matches-cons_nil case (set negated ms) ts h = refl
-matches-cons_nil case star ts h = cc
-matches-cons_nil case dirs ts h = cc
-matches-cons_nil case rest ts h = cc
-
 not_snoc : (xs : List ℕ) (x : ℕ) → [] ≡ xs ++ x ∷ [] → ⊥
 not_snoc [] x h = cc
 not_snoc (y ∷ xs) x h = cc

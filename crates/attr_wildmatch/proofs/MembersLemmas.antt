@@ -19,22 +19,9 @@ after-cons : (list : List Member) (m : Member) (o : Option (List Member × List 
 after-cons list m None = refl
 after-cons list m (Some p) = ap (λ x. Some (x, p.1)) (sym (append_assoc list (m ∷ []) p.0))
 
-pub members_closed : (list : List Member) (n : ℕ) (first : Bool) (b : ℕ) (bs : List ℕ) →
-    (b == close_bracket && not first) ≡ true → suc (length bs) ≤ n → after list (members n first (b ∷ bs)) ≡ Some (list, bs)
-members_closed list zero first b bs e h = absurd (omega arith)
-members_closed list (suc n) first b bs e h = rw e (ap (λ x. Some (x, bs)) (append-nil list))
-
 pub members_more : (list : List Member) (n : ℕ) (first : Bool) (b : ℕ) (bs : List ℕ) (m : Member) (rest : List ℕ) →
     (b == close_bracket && not first) ≡ false → member_at b bs ≡ Some (m, rest) → suc (length bs) ≤ n → length rest ≤ length bs →
     (k : ℕ) × (length rest ≤ k) × (after list (members n first (b ∷ bs)) ≡ after (list ++ m ∷ []) (members k false rest))
 members_more list zero first b bs m rest e h l r = absurd (omega arith)
 members_more list (suc n) first b bs m rest e h l r =
     (n, omega arith, rw (e, h) (after-cons list m (members n false rest)))
-
-pub members_malformed : (list : List Member) (n : ℕ) (first : Bool) (b : ℕ) (bs : List ℕ) →
-    (b == close_bracket && not first) ≡ false → member_at b bs ≡ None → suc (length bs) ≤ n → after list (members n first (b ∷ bs)) ≡ None
-members_malformed list zero first b bs e h l = absurd (omega arith)
-members_malformed list (suc n) first b bs e h l = rw (e, h)
-
-pub members_ended : (list : List Member) (n : ℕ) (first : Bool) → after list (members n first []) ≡ None
-members_ended list n first = refl

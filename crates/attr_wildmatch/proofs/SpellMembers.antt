@@ -76,20 +76,6 @@ pub named : (bs name : List ℕ) → name_in bs ≡ Some name → HasName bs nam
 named [] name h = cc
 named (b ∷ bs) name h = named_step b bs name (λ rest e. named bs rest e) h
 
-pub class_of_name : (class : Class) → class_named (class_name class) ≡ Some class
-class_of_name Alnum = refl
-class_of_name Alpha = refl
-class_of_name Blank = refl
-class_of_name Cntrl = refl
-class_of_name Digit = refl
-class_of_name Graph = refl
-class_of_name Lower = refl
-class_of_name Print = refl
-class_of_name Punct = refl
-class_of_name Space = refl
-class_of_name Upper = refl
-class_of_name Xdigit = refl
-
 -- one look at a list of names
 looked : (name text : List ℕ) (class found : Class) (others : Option Class) → text ≡ class_name class →
     (others ≡ Some found → name ≡ class_name found) → cond (bytes_eq name text) (Some class) others ≡ Some found → name ≡ class_name found

@@ -32,11 +32,6 @@ pub tokens_more : (list : List Token) (n : ℕ) (border : Bool) (b : ℕ) (bs : 
 tokens_more list zero border b bs t tail h l r = absurd (omega arith)
 tokens_more list (suc n) border b bs t tail h l r = (n, omega arith, rw h (after-cons list t (tokens_from n (token_ends_in_slash t) tail)))
 
-pub tokens_malformed : (list : List Token) (n : ℕ) (border : Bool) (b : ℕ) (bs : List ℕ) →
-    token_at border b bs ≡ None → suc (length bs) ≤ n → after list (tokens_from n border (b ∷ bs)) ≡ None
-tokens_malformed list zero border b bs h l = absurd (omega arith)
-tokens_malformed list (suc n) border b bs h l = rw h
-
 pub tokens_of-push : (ts : List written.Token) (t : written.Token) → tokens_of (ts ++ t ∷ []) ≡ tokens_of ts ++ token_of t ∷ []
 tokens_of-push [] t = refl
 tokens_of-push (u ∷ ts) t = ap (λ x. token_of u ∷ x) (tokens_of-push ts t)

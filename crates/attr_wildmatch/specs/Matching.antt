@@ -1,4 +1,6 @@
--- Which texts the tokens of a pattern match (gitignore page).
+-- Which texts the tokens of a pattern match. The gitignore page: "An asterisk `*` matches anything except a slash"; "A leading
+-- `**` followed by a slash means match in all directories"; "A slash followed by two consecutive asterisks then a slash matches
+-- zero or more directories". The count of pairs is own.
 use Rattle.std.specs.Prelude.{true, ◌≡◌, ◌≢◌, ◌≤◌, ◌+◌, ℕ, Bool, not, ◌⊎◌, List, [], ◌∷◌, ◌++◌, All, IsTrue, ◌==◌, if◌then◌else◌, length, take, sum_by, count_by}
 use Rattle.std.specs.List.{range_with_len}
 use Rattle.std.specs.Char.{to_ascii_lowercase}

@@ -1,4 +1,5 @@
--- Which texts spell which tokens, as a relation (gitignore page; brackets as fnmatch has them).
+-- Which texts spell which tokens, as a relation. The gitignore page: "The range notation, e.g. `[a-zA-Z]` .. See fnmatch(3) and
+-- the FNM_PATHNAME flag"; "Other consecutive asterisks are considered regular asterisks". Malformed texts are own.
 use Rattle.std.specs.Prelude.{◌≡◌, ◌≢◌, ◌≤◌, ℕ, suc, Bool, true, false, ◌⊎◌, List, [], ◌∷◌, ◌++◌, replicate, All, codes}
 use Rattle.attr_wildmatch.specs.declared.bracket.Class.{Class}
 use Rattle.attr_wildmatch.specs.declared.bracket.Class.TheVariants.{Alnum, Alpha, Blank, Cntrl, Digit, Graph, Lower, Print, Punct, Space, Upper, Xdigit}

@@ -1,16 +1,16 @@
 //! Patterns and paths.
 
-ghost use Rattle.std.specs.Prelude.{◌≡◌, ◌+◌, [], ◌∷◌, Ok, Some, None, true, false, codes};
+ghost use Rattle.std.specs.Prelude.{◌≡◌, ◌+◌, [], ◌∷◌, Ok, Some, None, true, false, codes, option_map};
 ghost use Rattle.attr_wildmatch.specs.declared.bracket.Member.TheVariants.{Span};
 ghost use Rattle.attr_wildmatch.specs.declared.case.Case.TheVariants.{Sensitive, Fold};
-ghost use Rattle.attr_wildmatch.specs.Matching.{TextMatches};
+ghost use Rattle.attr_wildmatch.specs.Matching.{ReachedAtMost, TextMatches};
 ghost use Rattle.attr_wildmatch.specs.Spelling.{AreTokens};
 ghost use Rattle.attr_wildmatch.specs.Tokens.{dirs, lit, set, star};
 ghost use Rattle.attr_glob.specs.BaseNames.{base_name};
 ghost use Rattle.attr_glob.specs.Bases.{base_of, rest_below};
 ghost use Rattle.attr_glob.specs.Paths.{path_matches};
 ghost use Rattle.attr_glob.specs.Quotes.{undone};
-ghost use Rattle.attr_glob.specs.Patterns.{absolute, ends_with, must_be_dir, no_sub_dir, read_rest, reading};
+ghost use Rattle.attr_glob.specs.Patterns.{absolute, ends_with, must_be_dir, no_sub_dir, read_rest, reading, written};
 
 use attr_wildmatch::case::Case;
 use attr_wildmatch::wildmatch::tests_tell_match;
@@ -43,6 +43,12 @@ pub fn any_directories_matched()
     tests_tell_match(Case::Sensitive, b"**/b", b"xb");
 }
 
+/// For `*b` and `a` three of the six pairs are reached, and more than two: no token matches no byte, and the star no byte and `a`.
+pub fn pairs_reached()
+    ensures three { ReachedAtMost Sensitive (star ∷ lit 98 ∷ []) (codes "a") 3 }
+    ensures two { ReachedAtMost Sensitive (star ∷ lit 98 ∷ []) (codes "a") 2 → ⊥ }
+{}
+
 /// `"a\tb"` takes six bytes, and undone it is `a`, a tab and `b`.
 pub fn quoted_text_undone()
     ensures { undone (codes "\"a\\tb\"") ≡ Ok (97 ∷ 9 ∷ 98 ∷ [], 6) }
@@ -64,6 +70,13 @@ pub fn suffix_read()
       mode = no_sub_dir + ends_with;
       wildcard = Some 0;
     }) }
+{}
+
+/// `!/d/` is written as it was read, and `\#x` without its backslash. `! ` is no pattern.
+pub fn patterns_written()
+    ensures marks { option_map written (reading (codes "!/d/")) ≡ Some (codes "!/d/") }
+    ensures escaped { option_map written (reading (codes "\\#x")) ≡ Some (codes "#x") }
+    ensures blank { option_map written (reading (codes "! ")) ≡ None }
 {}
 
 /// The base name of `a/x.c` is `x.c`.

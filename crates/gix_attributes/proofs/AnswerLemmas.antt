@@ -1,6 +1,6 @@
 -- The answers of an engine after a search: those of the only stable table, and where they are.
 use Rattle.std.proofs.Common.{◌≡◌, ℕ, ◌+◌, ◌<◌, ◌≤◌, Bool, true, false, List, [], ◌∷◌, length, drop, map, Option, Some, None}
-use Rattle.std.proofs.Common.{◌⊎◌, ⊎_elim, MatchOption, option_map, slice_get, get_or, refl, sym, ap, ◌∙◌, arith, subst, eqb-true}
+use Rattle.std.proofs.Common.{⊎_elim, MatchOption, option_map, slice_get, get_or, refl, sym, ap, ◌∙◌, arith, subst, eqb-true}
 use Rattle.std.specs.Prelude.{◌==◌, ⊤, bytes_eq, if◌then◌else◌, option_and_then, unwrap_or}
 use Rattle.std.specs.List.{IsDistinct}
 use Rattle.std.proofs.lemmas.List.{length-map, drop_more, drop_all}
@@ -23,7 +23,7 @@ use Rattle.gix_attributes.proofs.OutcomeLemmas.{reset_at_first, reset_searched}
 use Rattle.gix_attributes.specs.EngineStates.{EngineState, is_specified, path_setting, returned_answers, specified_among, texts_answered}
 use Rattle.gix_attributes.specs.EngineView.{returned_by}
 use Rattle.gix_attributes.specs.Registration.{RegistersAlone}
-use Rattle.gix_attributes.specs.inner.SoundEngines.{AreNumbered, ArePlacesOf, IsCurrentFor, IsOfNames, is_slot_specified}
+use Rattle.gix_attributes.specs.inner.SoundEngines.{AreNumbered, ArePlacesOf, IsCurrentFor, IsOfNames}
 use Rattle.std.proofs.lemmas.Option.{slice_get-map}
 use Rattle.gix_attributes.proofs.RegistrationLemmas.{bodies_registered}
 
@@ -146,32 +146,6 @@ left_out m ms e = if_false (is_specified m.assignment.state) _ _ e
 -- what is left to be numbered from a number on
 abbrev pub left_from : List (Option Matched) → ℕ → List (Option Matched)
 left_from slots i = map Some (specified_among (found_in (drop i slots)))
-
--- a slot with a specified match is numbered
-pub numbers_one : (slots : List (Option Matched)) (i : ℕ) → i < length slots → is_slot_specified (get_or slots i None) ≡ true
-    → left_from slots i ≡ get_or slots i None ∷ left_from slots (i + 1)
-numbers_one slots i lt e = ap (λ l. map Some (specified_among (found_in l))) (drop_more slots i None lt) ∙ at (get_or slots i None) e
-  where
-    rest : List (Option Matched)
-    rest = drop (i + 1) slots
-
-    at : (o : Option Matched) → is_slot_specified o ≡ true
-        → map Some (specified_among (found_in (o ∷ rest))) ≡ o ∷ map Some (specified_among (found_in rest))
-    at None e = absurd (cc)
-    at (Some m) e = ap (map Some) (kept_one m (found_in rest) e)
-
--- and each other slot is passed over
-pub passes_one : (slots : List (Option Matched)) (i : ℕ) → i < length slots → is_slot_specified (get_or slots i None) ≡ false
-    → left_from slots i ≡ left_from slots (i + 1)
-passes_one slots i lt e = ap (λ l. map Some (specified_among (found_in l))) (drop_more slots i None lt) ∙ at (get_or slots i None) e
-  where
-    rest : List (Option Matched)
-    rest = drop (i + 1) slots
-
-    at : (o : Option Matched) → is_slot_specified o ≡ false
-        → map Some (specified_among (found_in (o ∷ rest))) ≡ map Some (specified_among (found_in rest))
-    at None e = refl
-    at (Some m) e = ap (map Some) (left_out m (found_in rest) e)
 
 -- after the last slot nothing is left
 pub none_left : (slots : List (Option Matched)) (i : ℕ) → length slots ≤ i → left_from slots i ≡ []

@@ -1,14 +1,14 @@
 -- What an addition of a buffer leaves, as one equation, and searches without lists.
-use Rattle.std.proofs.Common.{◌≡◌, ◌∙◌, ℕ, Bool, List, [], ◌∷◌, ◌++◌, ap, map, refl, Option}
+use Rattle.std.proofs.Common.{◌≡◌, ◌∙◌, ℕ, Bool, List, [], ◌∷◌, ◌++◌, ap, Option}
 use Rattle.std.specs.List.{IsDistinct}
 use Rattle.attr_lists.specs.Definitions.{free_id}
 use Rattle.attr_lists.specs.KeptLists.{kept_list_where}
 use Rattle.attr_lists.specs.Collections.{Collection}
 use Rattle.gix_attributes.specs.Additions.{RegisteredLists, buffer_list, with_buffer, with_registered}
-use Rattle.attr_index.specs.IndexedLists.{list_ids_of, lists_view}
+use Rattle.attr_search.specs.IndexedLists.{list_ids_of, lists_view}
 use Rattle.gix_attributes.specs.SearchViews.{AreHeld}
-use Rattle.attr_index.specs.ListView.{Listed}
-use Rattle.attr_index.specs.declared.indexed_list.IndexedList.{IndexedList}
+use Rattle.attr_search.specs.ListView.{Listed}
+use Rattle.attr_search.specs.declared.indexed_list.IndexedList.{IndexedList}
 
 -- the lists, the list ids and the collection after the addition of a buffer, as one
 pub buffer_added : (source : List ℕ) (root : Option (List ℕ)) (allow_macros : Bool) (bytes : List ℕ) (old : RegisteredLists)
@@ -23,11 +23,6 @@ buffer_added source root allow_macros bytes old lists list_ids known same_lists 
     let ids = old.list_ids ++ free_id old.known.active ∷ [] in
     ap (λ ls. all ls list_ids known) same_lists
     ∙ (ap (λ ms. all (added known) ms known) same_ids ∙ ap (λ k. all (added k) ids k) same_known)
-
--- a search without lists has no list ids
-pub no_list_ids : (lists : List IndexedList) → lists_view lists ≡ [] → map (λ s. s.list_id) lists ≡ []
-no_list_ids [] e = refl
-no_list_ids (s ∷ others) e = absurd cc
 
 -- a collection holds a search without lists
 pub none_held : (known : Collection) (lists : List IndexedList) → lists_view lists ≡ [] → AreHeld known (list_ids_of lists) (lists_view lists)

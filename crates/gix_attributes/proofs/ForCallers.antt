@@ -1,7 +1,4 @@
 -- The lemmas that crates above may cite, beside the contracts.
-use denote.Param.Laws.{Laws}
-use Rattle.gix_attributes.specs.contracts.engine.Engine as Engine
-use Rattle.gix_attributes.proofs.engine.Engine.TheLaws.{the_row_laws}
 -- Counts of failures.
 -- `fails_later`: a count that rises after some time has risen over each earlier count.
 pub use Rattle.gix_attributes.proofs.GlobalLemmas.{fails_later}
@@ -31,7 +28,3 @@ pub use Rattle.gix_attributes.proofs.ToldLemmas.{added_told, answers_to_told, fi
 -- `label_below`: an index below a count has such a label. `source_at-more`, `state_told-more`: sources that are appended change nothing
 -- of what is labelled below them.
 pub use Rattle.gix_attributes.proofs.LabelLemmas.{label_below, label_digits, label_value, source_at-more, source_at_label, state_told-more}
-
--- what proofs about a box of an engine ask of the type
-abbrev pub engine_laws : Laws Engine.the_row
-engine_laws = the_row_laws

@@ -17,9 +17,9 @@ use Rattle.attr_lists.specs.shared.Keeping.{StayRegistered}
 use Rattle.attr_lists.specs.shared.Keeping.{OthersStayRegistered}
 use Rattle.gix_attributes.specs.SearchViews.{AreHeld}
 use Rattle.gix_attributes.specs.inner.HeldLists.{AreHeldLists, IsHeldList}
-use Rattle.attr_index.specs.IndexedLists.{list_ids_of, lists_view}
-use Rattle.attr_index.specs.ListView.{Listed}
-use Rattle.attr_index.specs.declared.indexed_list.IndexedList.{IndexedList}
+use Rattle.attr_search.specs.IndexedLists.{list_ids_of, lists_view}
+use Rattle.attr_search.specs.ListView.{Listed}
+use Rattle.attr_search.specs.declared.indexed_list.IndexedList.{IndexedList}
 
 true-false : true ≡ false → ⊥
 true-false e = absurd cc

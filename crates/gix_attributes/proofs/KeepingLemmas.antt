@@ -20,9 +20,9 @@ use Rattle.attr_lists.specs.shared.Keeping.{IsNumbered, OthersStayRegistered, St
 use Rattle.attr_lists.specs.declared.types.TrackedAssignment.{TrackedAssignment}
 use Rattle.attr_lists.proofs.ForCallers.{added_for, get_or-map, list_numbered, number_at, of_other_lists-append, of_other_lists-own, removed_for}
 use Rattle.attr_lists.proofs.ForCallers.{with_names-extends}
-use Rattle.attr_index.specs.IndexedLists.{list_ids_of, listed_view, lists_view}
-use Rattle.attr_index.specs.ListView.{Listed}
-use Rattle.attr_index.specs.declared.indexed_list.IndexedList.{IndexedList}
+use Rattle.attr_search.specs.IndexedLists.{list_ids_of, listed_view, lists_view}
+use Rattle.attr_search.specs.ListView.{Listed}
+use Rattle.attr_search.specs.declared.indexed_list.IndexedList.{IndexedList}
 use Rattle.attr_search.specs.Settings.{BodiesAreNamed, HeldAreNamed, LinesAreNamed, ListsAreNamed}
 use Rattle.attr_search.specs.Slots.{Matched}
 use Rattle.gix_attributes.specs.Additions.{RegisteredLists, registered_lists, with_registered}

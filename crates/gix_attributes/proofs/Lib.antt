@@ -15,3 +15,4 @@ pub mod AnswerLemmas
 pub mod LabelLemmas
 pub mod ToldLemmas
 pub mod ForCallers
+pub mod CurrentLemmas

@@ -20,7 +20,7 @@ use Rattle.attr_table.specs.Setting.{Answer, Setting}
 use Rattle.attr_table.specs.Table.{IsStable, Occurrence, OneTable, Slots, Table}
 use Rattle.attr_table.specs.Cut.{IsSearched, answer_at, full_answer, is_done, no_answers}
 use Rattle.attr_table.proofs.ForCallers.{OneTable-of}
-use Rattle.attr_index.specs.ListView.{Listed}
+use Rattle.attr_search.specs.ListView.{Listed}
 use Rattle.attr_search.specs.Settings.{BodiesAreNamed, HeldAreNamed, LinesAreNamed, lines_of, setting_of}
 use Rattle.attr_search.specs.Slots.{Matched, table_answer, table_items, table_state}
 use Rattle.gix_attributes.specs.Contents.{Content, Wanted, found_in, has_number, initial_content}
@@ -392,7 +392,7 @@ keeps_both before middle after first second =
     record {
       count = second.count ∙ first.count;
       rest = second.rest ∙ ap
-          (λ (h : Content). record h { slots = after.slots; taken = after.taken; tested = after.tested }) first.rest;
+          (λ (h : Content). record h { slots = after.slots; kept = after.kept; taken = after.taken; tested = after.tested }) first.rest;
     }
 
 names_both : (lists others : List Listed) (before middle after : Content) → KeepsAllButAnswers before middle →

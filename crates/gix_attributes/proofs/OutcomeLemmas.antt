@@ -71,9 +71,6 @@ same_empty z [] (y ∷ ys) e = absurd (omega arith)
 same_empty z (x ∷ xs) [] e = absurd (omega arith)
 same_empty z (x ∷ xs) (y ∷ ys) e = ap (λ l. z ∷ l) (same_empty z xs ys (omega arith))
 
-pub length_bodies_of : (known : Collection) → IsSoundCollection known → length (bodies_of known) ≡ length known.names
-length_bodies_of known sound = length-map known.definitions last_body ∙ sound.counted
-
 within_same : (n : ℕ) (x d : MacroDefinition) → x ≡ d → IsWithin n x → HaveSlots n d.body
 within_same n x d e w = rw (← e) w
 
@@ -139,22 +136,18 @@ changes_below changes n m same below = All-weaker (λ c. c.number < n) (λ c. c.
 
 -- what is held once all is made
 pub held_as : (known : Collection) (texts : List (List ℕ)) (slots slots' : List (Option Matched)) (bodies : List (List TrackedAssignment))
-    (seen : List Wanted) → slots ≡ slots' → bodies ≡ bodies_of known → seen ≡ looked_up known.names texts →
-    record { is_initialized = true; slots = slots; bodies = bodies; selection = seen; taken = 0; tested = 0 } ≡ record (initial_content known texts)
-    { slots = slots' }
-held_as known texts slots slots' bodies seen e f g =
-    let Held : List (Option Matched) → List (List TrackedAssignment) → List Wanted → Content = λ s b w. record
-    { is_initialized = true; slots = s; bodies = b; selection = w; taken = 0; tested = 0 } in
-    ap (λ s. Held s bodies seen) e ∙ ap (λ b. Held slots' b seen) f ∙ ap (Held slots' (bodies_of known)) g
+    (seen : List Wanted) (kept kept' : ℕ) → slots ≡ slots' → bodies ≡ bodies_of known → seen ≡ looked_up known.names texts → kept ≡ kept' →
+    record { is_initialized = true; slots = slots; bodies = bodies; selection = seen; kept = kept; taken = 0; tested = 0 }
+    ≡ record (initial_content known texts) { slots = slots'; kept = kept' }
+held_as known texts slots slots' bodies seen kept kept' e f g h =
+    let Held : List (Option Matched) → List (List TrackedAssignment) → List Wanted → ℕ → Content = λ s b w k. record
+    { is_initialized = true; slots = s; bodies = b; selection = w; kept = k; taken = 0; tested = 0 } in
+    ap (λ s. Held s bodies seen kept) e ∙ ap (λ b. Held slots' b seen kept) f ∙ ap (λ w. Held slots' (bodies_of known) w kept) g
+    ∙ ap (Held slots' (bodies_of known) (looked_up known.names texts)) h
 
 found_at : (slots : List (Option Matched)) (i : ℕ) (o : Option Matched) → i < length slots → get_or slots i None ≡ o → found_in (drop i slots) ≡
     cons_option o (found_in (drop (i + 1) slots))
 found_at slots i o lt e = ap found_in (drop_more slots i None lt) ∙ ap (λ x. cons_option x (found_in (drop (i + 1) slots))) e
-
--- the answer at a number is the first of those that are left
-pub found_next : (slots : List (Option Matched)) (i : ℕ) (x : Matched) → i < length slots → get_or slots i None ≡ Some x → found_in (drop i slots) ≡ x
-    ∷ found_in (drop (i + 1) slots)
-found_next slots i x lt e = found_at slots i (Some x) lt e
 
 -- a number without an answer is passed over
 pub found_skip : (slots : List (Option Matched)) (i : ℕ) → i < length slots → get_or slots i None ≡ None → found_in (drop i slots) ≡ found_in
@@ -196,7 +189,7 @@ nothing_found slots from free =
 -- resetting again changes nothing
 pub emptied_again : (held : Content) → reset_content (reset_content held) ≡ reset_content held
 emptied_again held =
-    let Emptied : List (Option Matched) → Content = λ slots. record held { is_initialized = true; slots = slots; taken = 0; tested = 0 } in
+    let Emptied : List (Option Matched) → Content = λ slots. record held { is_initialized = true; slots = slots; kept = 0; taken = 0; tested = 0 } in
     ap Emptied (same_empty None (map (λ slot. None) held.slots) held.slots (length-map held.slots (λ slot. None)))
 
 -- an outcome that was just initialised is as after a reset

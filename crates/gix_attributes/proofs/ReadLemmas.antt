@@ -18,7 +18,7 @@ use Rattle.attr_lists.specs.declared.types.Dropped.{Dropped}
 use Rattle.attr_lists.specs.declared.types.DropReason.{DropReason}
 use Rattle.attr_lists.specs.ListViews.{Entry}
 use Rattle.attr_lists.specs.KeptLists.{items_read, entry_for, line_read, kept_lines, kept_list, kept_list_where, defines_no_macro}
-use Rattle.attr_index.specs.shared.ReadLines.{IsRead, AreRead}
+use Rattle.attr_search.specs.shared.ReadLines.{IsRead, AreRead}
 
 TargetRead : Target → Type 0
 TargetRead (pattern read) = (text : List ℕ) × (reading text ≡ Some read) × (has_flag read.mode negative ≡ false)

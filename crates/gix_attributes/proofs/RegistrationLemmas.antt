@@ -1,6 +1,6 @@
 -- A collection that registers the lists of one search alone.
 use Rattle.std.proofs.Common.{◌≡◌, ℕ, List, [], ◌++◌, length, map, Option, Some, None, option_map, sym, ap, ◌∙◌}
-use Rattle.std.specs.Prelude.{nat_eq, IfSome, MatchOption, Result, Ok, Err, OnOk}
+use Rattle.std.specs.Prelude.{nat_eq, IfSome, MatchOption}
 use Rattle.std.proofs.Math.Path.{subst}
 use Rattle.std.specs.List.{IsDistinct}
 use Rattle.std.specs.Option.{option_to_list}
@@ -10,12 +10,12 @@ use Rattle.gix_attributes.specs.Additions.{RegisteredLists, registered_lists}
 use Rattle.attr_lists.specs.Collections.{Collection}
 use Rattle.gix_attributes.specs.Contents.{bodies_of}
 use Rattle.gix_attributes.specs.Covered.{AreCovered}
-use Rattle.attr_index.specs.IndexedLists.{listed_view}
+use Rattle.attr_search.specs.IndexedLists.{listed_view}
 use Rattle.gix_attributes.specs.Keeping.{Adds, Keeps, Removes}
 use Rattle.gix_attributes.specs.Registers.{RegistersExactly, last_definition, no_lists, with_list_ids}
 use Rattle.gix_attributes.specs.SearchViews.{LosesLast, RemovesLast, lists_in, list_ids_in}
 use Rattle.attr_search.specs.Settings.{LinesAreNamed}
-use Rattle.attr_index.specs.ListView.{Listed}
+use Rattle.attr_search.specs.ListView.{Listed}
 use Rattle.gix_attributes.specs.declared.search.attributes.Search.{Search}
 use Rattle.gix_attributes.proofs.KeepingLemmas.{bodies_registered as registered_bodies, left_alone, lists_with_ids}
 use Rattle.gix_attributes.specs.Registration.{RegistersAlone}
@@ -71,7 +71,3 @@ pub bodies_registered : (known : Collection) (list_ids : List ℕ) (lists : List
 bodies_registered known list_ids lists selected same knows =
     registered_bodies known (with_list_ids list_ids lists) knows.exactly
     ∙ ap (λ ls. map (last_definition ls) known.names) (lists_with_ids list_ids lists same)
-
-pub always_ok : {T E : Type 0} (r : Result T E) (P : Type 0) → P → OnOk r P
-always_ok (Ok x) P p = p
-always_ok (Err e) P p = tt

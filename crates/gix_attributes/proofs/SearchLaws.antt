@@ -17,7 +17,7 @@ use Rattle.attr_table.specs.shared.Walk.{Walks, line_tasks, list_tasks, tasks_of
 use Rattle.attr_table.proofs.ForCallers.{searched_walked, seen_others, seen_wanted, walked_searched}
 use Rattle.attr_table.proofs.ForCallers.{OneTable-of}
 use Rattle.gix_attributes.specs.Contents.{Content, Wanted, has_number, is_wanted, wanted_of}
-use Rattle.attr_index.specs.ListView.{Listed, rest_for}
+use Rattle.attr_search.specs.ListView.{Listed, rest_for}
 use Rattle.attr_search.specs.Settings.{gives, line_of, lines_of, origin_in, setting_of}
 use Rattle.attr_search.specs.Slots.{Matched, slots_of, table_answer, table_items}
 

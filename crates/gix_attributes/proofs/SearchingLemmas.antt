@@ -5,10 +5,10 @@ use Rattle.std.specs.Result.{is_err}
 use Rattle.std.specs.declared.result.Result.{Result}
 use Rattle.bstr.specs.BStr.{bstr_bytes}
 use Rattle.attr_wildmatch.specs.declared.case.Case.{Case}
-use Rattle.attr_index.specs.declared.path_query.PathQuery.{PathQuery}
-use Rattle.attr_index.specs.IndexedLists.{lists_view}
-use Rattle.attr_index.specs.ListView.{Listed}
-use Rattle.attr_index.specs.declared.indexed_list.IndexedList.{IndexedList}
+use Rattle.attr_search.specs.declared.path_query.PathQuery.{PathQuery}
+use Rattle.attr_search.specs.IndexedLists.{lists_view}
+use Rattle.attr_search.specs.ListView.{Listed}
+use Rattle.attr_search.specs.declared.indexed_list.IndexedList.{IndexedList}
 use Rattle.attr_search.specs.SearchContents.{SearchContents}
 use Rattle.attr_search.specs.shared.SlotContents.{wanted_numbers}
 use Rattle.gix_attributes.specs.ContentView.{outcome_view}
@@ -42,7 +42,7 @@ as_seen o held lists searched query path case is_dir view wanted e p c d P known
 -- an outcome with this state of a search
 abbrev pub with_state : Content → SearchContents → Content
 with_state held state =
-    record held { slots = state.answers; bodies = state.bodies; taken = state.taken; tested = state.tested }
+    record held { slots = state.answers; bodies = state.bodies; kept = state.kept; taken = state.taken; tested = state.tested }
 
 -- with the same state it is the same outcome
 pub same_state : (o : Inside) (state : SearchContents) → state ≡ o.state → with_state (outcome_view o) state ≡ outcome_view o
@@ -50,17 +50,18 @@ same_state o state e = ap (with_state (outcome_view o)) e
 
 -- with the same bodies it differs in its answers and counts
 pub same_bodies : (o : Inside) (state : SearchContents) → state.bodies ≡ o.state.bodies →
-    with_state (outcome_view o) state ≡ record (outcome_view o) { slots = state.answers; taken = state.taken; tested = state.tested }
+    with_state (outcome_view o) state
+    ≡ record (outcome_view o) { slots = state.answers; kept = state.kept; taken = state.taken; tested = state.tested }
 same_bodies o state e =
-    ap (λ bs. record (outcome_view o) { slots = state.answers; bodies = bs; taken = state.taken; tested = state.tested }) e
+    ap (λ bs. record (outcome_view o) { slots = state.answers; bodies = bs; kept = state.kept; taken = state.taken; tested = state.tested }) e
 
 -- what is left of an outcome that is reset does not depend on its answers
 pub emptied_alike : (o : Inside) (state : SearchContents) → state.bodies ≡ o.state.bodies → length state.answers ≡ length o.state.answers →
     reset_content (with_state (outcome_view o) state) ≡ reset_content (outcome_view o)
 emptied_alike o state same e =
     ap (λ bs. record (outcome_view o)
-    { is_initialized = true; slots = map (λ slot. None) state.answers; bodies = bs; taken = 0; tested = 0 }) same
-    ∙ ap (λ slots. record (outcome_view o) { is_initialized = true; slots = slots; taken = 0; tested = 0 })
+    { is_initialized = true; slots = map (λ slot. None) state.answers; bodies = bs; kept = 0; taken = 0; tested = 0 }) same
+    ∙ ap (λ slots. record (outcome_view o) { is_initialized = true; slots = slots; kept = 0; taken = 0; tested = 0 })
     (same_empty None state.answers o.state.answers e)
 
 pub not_both : {E : Type 0} (r : Result Bool E) → r ≡ Ok false → is_err r ≡ true → ⊥

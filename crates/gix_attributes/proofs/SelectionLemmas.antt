@@ -9,12 +9,12 @@ use Rattle.std.proofs.lemmas.Bool.{cases_eq, cases_lt}
 use Rattle.std.proofs.lemmas.List.{ext_get_or, get_or-set_other, get_or-set_same, get_or_past}
 use Rattle.attr_lists.specs.shared.MacroNumbers.{ListsMacros}
 use Rattle.attr_search.proofs.ForCallers.{at_other, length_changed, length_sized}
-use Rattle.std.proofs.Common.{rules, ◌≡◌, ℕ, zero, suc, ◌+◌, ◌<◌, Bool, true, false, ◌||◌, ◌==◌, List, [], ◌∷◌, ◌++◌, length, get_or, set, take, Some}
-use Rattle.std.proofs.Common.{None, option_map, unwrap_or, refl, sym, ap, ◌∙◌, ◌-◌, arith, replicate}
+use Rattle.std.proofs.Common.{rules, ◌≡◌, ℕ, zero, suc, ◌+◌, ◌<◌, Bool, true, false, ◌||◌, ◌==◌, List, [], ◌∷◌, ◌++◌, length, get_or, set, take}
+use Rattle.std.proofs.Common.{refl, sym, ap, ◌∙◌, ◌-◌, arith, replicate}
 use Rattle.std.specs.Bool.{Decides}
 use Rattle.std.specs.List.{list_any}
-use Rattle.std.proofs.Math.ListN.{length-set, length-map}
-use Rattle.std.proofs.lemmas.List.{get_or-take, take_more, map_push, get_or-map, length-replicate, get_or-replicate}
+use Rattle.std.proofs.Math.ListN.{length-map}
+use Rattle.std.proofs.lemmas.List.{get_or-take, take_more, map_push, get_or-map}
 use Rattle.std.proofs.lemmas.List.Folds.{list_any-append}
 use Rattle.std.proofs.lemmas.List.FromFn.{fill_by_all}
 use Rattle.std.specs.Prelude.{Vec}
@@ -32,25 +32,6 @@ use Rattle.attr_search.specs.shared.BodyChanges.{changed_bodies, sized_bodies}
 use Rattle.attr_search.specs.declared.bodies.BodyChange.{BodyChange}
 use Rattle.gix_attributes.specs.declared.search.selected_name.SelectedName.{SelectedName}
 
-or_pushed : (a b : Bool) → a || (b || false) ≡ a || b
-or_pushed true b = refl
-or_pushed false true = refl
-or_pushed false false = refl
-
-or_grouped : (a b c : Bool) → (a || b) || c ≡ a || (b || c)
-or_grouped true b c = refl
-or_grouped false b c = refl
-
--- one more selected name
-flag_more : (k : ℕ) (selected : List SelectedName) (i : ℕ) (w : SelectedName) → i < length selected → w ≡ get_or selected i w →
-    list_any (has_number k) (selection_view (take (i + 1) selected)) ≡ list_any (has_number k) (selection_view (take i selected)) || has_number k
-    (wanted_view w)
-flag_more k selected i w lt at =
-    ap (λ l. list_any (has_number k) (selection_view l)) (take_more selected i w lt ∙ ap (λ z. take i selected ++ z ∷ []) (sym at))
-    ∙ ap (list_any (has_number k)) (map_push wanted_view (take i selected) w)
-    ∙ list_any-append (has_number k) (selection_view (take i selected)) (wanted_view w ∷ [])
-    ∙ or_pushed (list_any (has_number k) (selection_view (take i selected))) (has_number k (wanted_view w))
-
 or_true : (b : Bool) → b || true ≡ true
 or_true true = refl
 or_true false = refl
@@ -59,61 +40,10 @@ or_false : (b : Bool) → b || false ≡ b
 or_false true = refl
 or_false false = refl
 
-flag_set : (flags : List Bool) (n k : ℕ) → n < length flags → get_or (set flags n true) k false ≡ get_or flags k false || (n == k)
-flag_set [] n k lt = absurd (omega arith)
-flag_set (b ∷ flags) zero zero lt = sym (or_true b)
-flag_set (b ∷ flags) zero (suc k) lt = sym (ap (λ c. get_or flags k false || c) (apart k) ∙ or_false (get_or flags k false))
-  where
-    apart : (j : ℕ) → (0 == suc j) ≡ false
-    apart j = grind arith
-flag_set (b ∷ flags) (suc n) zero lt = sym (ap (λ c. b || c) (apart n) ∙ or_false b)
-  where
-    apart : (j : ℕ) → (suc j == 0) ≡ false
-    apart j = grind arith
-flag_set (b ∷ flags) (suc n) (suc k) lt = flag_set flags n k (omega arith) ∙ ap (λ c. get_or flags k false || c) (sym (same n k))
-  where
-    same : (i j : ℕ) → (suc i == suc j) ≡ (i == j)
-    same i j = grind arith
-
 -- Which flags are set once some of the names are gone through. Without names all of them are.
 pub record AreFlags (flags : List Bool) (count : ℕ) (all : Bool) (selected : List SelectedName) : Type 0 where
   pub same_length : length flags ≡ count
   pub set : (k : ℕ) → k < count → get_or flags k false ≡ all || list_any (has_number k) (selection_view selected)
-
--- at first the flags are all the same
-pub flags_begun : (flags : List Bool) (count : ℕ) (all : Bool) (selected : List SelectedName) → flags ≡ replicate count all → AreFlags flags count all
-    (take 0 selected)
-flags_begun flags count all selected made =
-    record {
-      same_length = ap length made ∙ length-replicate count all;
-      set = λ k lt. ap (λ l. get_or l k false) made ∙ get_or-replicate count k all false lt ∙ sym (or_false all);
-    }
-
-pub flags_kept : (flags : List Bool) (count : ℕ) (all : Bool) (selected : List SelectedName) (i : ℕ) (w : SelectedName) → i < length selected → w ≡
-    get_or selected i w → w.number ≡ None →
-    AreFlags flags count all (take i selected) → AreFlags flags count all (take (i + 1) selected)
-flags_kept flags count all selected i w lt at none so_far =
-    record {
-      same_length = so_far.same_length;
-      set = λ k below.
-          so_far.set k below
-          ∙ sym (ap (λ b. all || b) (flag_more k selected i w lt at ∙ ap
-          (λ n. list_any (has_number k) (selection_view (take i selected)) || unwrap_or (option_map (λ m. m == k) n) false) none ∙ or_false
-          (list_any (has_number k) (selection_view (take i selected)))));
-    }
-
-pub flags_set : (flags : List Bool) (count : ℕ) (all : Bool) (selected : List SelectedName) (i n : ℕ) (w : SelectedName) → i < length selected → w ≡
-    get_or selected i w → w.number ≡ Some n → n < count →
-    AreFlags flags count all (take i selected) → AreFlags (set flags n true) count all (take (i + 1) selected)
-flags_set flags count all selected i n w lt at some within so_far =
-    let n_within : n < length flags = omega (arith, so_far.same_length) in
-    record {
-      same_length = length-set flags n true ∙ so_far.same_length;
-      set = λ k below.
-          let before = list_any (has_number k) (selection_view (take i selected)) in
-          flag_set flags n k n_within ∙ ap (λ b. b || (n == k)) (so_far.set k below) ∙ or_grouped all before (n == k)
-          ∙ sym (ap (λ b. all || b) (flag_more k selected i w lt at ∙ ap (λ m. before || unwrap_or (option_map (λ j. j == k) m) false) some));
-    }
 
 length_selection : (selected : List SelectedName) → length (selection_view selected) ≡ length selected
 length_selection selected = length-map selected wanted_view
@@ -241,14 +171,6 @@ made_by_same known bodies done changes number same made = λ k.
     (λ (apart : k ≢ number). inr (not_next done number k rest.0 apart, rest.1))
     (cases_eq k number))
     (made k)
-
--- a number that no name has
-pub same_past : (known : Collection) (bodies : List (Vec TrackedAssignment Global)) (number : ℕ) → length known.names ≤ number →
-    length known.definitions ≡ length known.names →
-    get_or (bodies_for known bodies) number [] ≡ get_or (bodies_of known) number []
-same_past known bodies number past counted =
-    get_or_past (bodies_for known bodies) number [] (omega (arith, length_sized (length known.names) (bodies_view bodies)))
-    ∙ sym (get_or_past (bodies_of known) number [] (omega (arith, length_bodies known)))
 
 -- at first nothing is changed
 pub made_first : (known : Collection) (bodies : List (Vec TrackedAssignment Global)) → AreMade known bodies [] []

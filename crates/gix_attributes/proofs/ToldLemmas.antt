@@ -1,5 +1,5 @@
 -- Sources only tell: lists that differ in their sources alone have the same answers, but for the sources of these.
-use Rattle.std.proofs.Common.{◌≡◌, ℕ, zero, suc, ◌-◌, ◌⊎◌, inl, inr, ⊎_elim, ◌==◌, Bool, true, false, List, [], ◌∷◌, ◌++◌, length, map, take}
+use Rattle.std.proofs.Common.{◌≡◌, ℕ, zero, suc, ◌-◌, inl, inr, ⊎_elim, ◌==◌, Bool, true, false, List, [], ◌∷◌, ◌++◌, length, map, take}
 use Rattle.std.proofs.Common.{Option, Some, None, MatchOption, option_map, slice_get, unwrap_or, refl, sym, ap, ◌∙◌, subst, get_or}
 use Rattle.std.proofs.Math.Path.{fun_ext}
 use Rattle.std.specs.Prelude.{⊤, option_and_then, if◌then◌else◌}
@@ -9,7 +9,7 @@ use Rattle.std.proofs.lemmas.List.Elements.{All-weaker}
 use Rattle.std.proofs.lemmas.Option.{slice_get-map}
 use Rattle.attr_table.specs.Cut.{answer_at, answer_of, cause_at, no_answers, origin_at}
 use Rattle.gix_attributes.specs.Contents.{unspecified}
-use Rattle.attr_index.specs.ListView.{Listed, rest_for}
+use Rattle.attr_search.specs.ListView.{Listed, rest_for}
 use Rattle.attr_lists.specs.ListViews.{Entry}
 use Rattle.gix_attributes.specs.Lookups.{FindsAnswers, IsFound, OfTheOnlyTable, answer_for, answers_by_number, named_answer}
 use Rattle.gix_attributes.specs.Lookups.{selected_answers, table_answers}

@@ -12,7 +12,7 @@ use Rattle.gix_attributes.specs.declared.files.ReadError.TheVariants.{Device, Ou
 use Rattle.gix_attributes.specs.Answers.{ReadAnswer, found, missing, device_failed, memory_refused}
 use Rattle.gix_attributes.specs.FileReads.{IsAnswered, file_exists, contents_of}
 use Rattle.gix_attributes.specs.SearchViews.{lists_in, list_ids_in}
-use Rattle.attr_index.specs.ListView.{Listed}
+use Rattle.attr_search.specs.ListView.{Listed}
 use Rattle.gix_attributes.specs.declared.search.attributes.Search.{Search}
 use Rattle.gix_attributes.specs.declared.search.files.Added.{Added}
 use Rattle.gix_attributes.specs.declared.search.files.AddError.{AddError}

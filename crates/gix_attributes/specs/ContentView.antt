@@ -10,6 +10,7 @@ outcome_view o =
       slots = o.state.answers;
       bodies = o.state.bodies;
       selection = selection_view o.selected.items;
+      kept = o.state.kept;
       taken = o.state.taken;
       tested = o.state.tested;
     }

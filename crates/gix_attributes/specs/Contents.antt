@@ -17,18 +17,20 @@ pub record Wanted : Type 0 where
   pub number : Option ℕ
 
 -- Whether the outcome was initialised, the match of each attribute and its body as a macro, by number, the names that are
--- selected, and how many items the last search took and how many patterns it tested.
+-- selected, how many lines and assignments are kept for the matches, and how many items the last search took and how many
+-- patterns it tested.
 pub record Content : Type 0 where
   pub is_initialized : Bool
   pub slots : List (Option Matched)
   pub bodies : List (List TrackedAssignment)
   pub selection : List Wanted
+  pub kept : ℕ
   pub taken : ℕ
   pub tested : ℕ
 
 -- a new outcome
 abbrev pub empty_content : Content
-empty_content = record { is_initialized = false; slots = []; bodies = []; selection = []; taken = 0; tested = 0 }
+empty_content = record { is_initialized = false; slots = []; bodies = []; selection = []; kept = 0; taken = 0; tested = 0 }
 
 -- the selected name has this number
 abbrev pub has_number : ℕ → Wanted → Bool
@@ -61,13 +63,15 @@ initial_content known selected =
       slots = map (λ name. None) known.names;
       bodies = bodies_of known;
       selection = looked_up known.names selected;
+      kept = 0;
       taken = 0;
       tested = 0;
     }
 
 -- the contents of an outcome after a reset
 abbrev pub reset_content : Content → Content
-reset_content held = record held { is_initialized = true; slots = map (λ slot. None) held.slots; taken = 0; tested = 0 }
+reset_content held =
+    record held { is_initialized = true; slots = map (λ slot. None) held.slots; kept = 0; taken = 0; tested = 0 }
 
 -- there are as many slots as names, and the bodies are those of the collection
 pub record IsCurrent (held : Content) (known : Collection) : Type 0 where

@@ -1,7 +1,7 @@
 -- Which lists have slots for all their numbers (own).
 use Rattle.std.specs.Prelude.{ℕ, ⊤, ◌<◌, List, All, MatchOption}
 use Rattle.attr_lists.specs.ListViews.{Entry}
-use Rattle.attr_index.specs.ListView.{Listed}
+use Rattle.attr_search.specs.ListView.{Listed}
 use Rattle.attr_search.specs.Settings.{HaveSlots}
 
 -- the line's items have slots, and so has the macro that it defines

@@ -8,7 +8,7 @@ use Rattle.attr_lists.specs.Numbers.{names_in, number_of, numbered_lines, with_n
 use Rattle.gix_attributes.specs.Registers.{last_definition}
 use Rattle.attr_table.specs.Setting.{Setting}
 use Rattle.attr_search.specs.Settings.{setting_of}
-use Rattle.attr_index.specs.ListView.{Listed}
+use Rattle.attr_search.specs.ListView.{Listed}
 use Rattle.attr_search.specs.Slots.{Matched}
 use Rattle.attr_table.specs.Table.{Slots}
 use Rattle.attr_wildmatch.specs.declared.case.Case.{Case}

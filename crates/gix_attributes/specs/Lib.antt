@@ -31,8 +31,8 @@ pub use Rattle.attr_glob.specs.Patterns
 pub use Rattle.attr_glob.specs.Quotes
 pub use Rattle.attr_glob.specs.Refusals
 pub use Rattle.attr_glob.specs.Views
-pub use Rattle.attr_index.specs.IndexedLists
-pub use Rattle.attr_index.specs.ListView
+pub use Rattle.attr_search.specs.IndexedLists
+pub use Rattle.attr_search.specs.ListView
 pub use Rattle.attr_lists.specs.Collections
 pub use Rattle.attr_lists.specs.Definitions
 pub use Rattle.attr_lists.specs.KeptLists

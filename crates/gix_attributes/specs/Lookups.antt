@@ -12,7 +12,7 @@ use Rattle.attr_table.specs.Cut.{IsSearched, answer_at, no_answers}
 use Rattle.attr_table.specs.Setting.{Answer, Setting}
 use Rattle.attr_table.specs.Setting.{State as TableState, Set as TableSet, Unset as TableUnset, Value as TableValue, Unspecified as TableUnspecified}
 use Rattle.attr_table.specs.Table.{OneTable, Slots, Table}
-use Rattle.attr_index.specs.ListView.{Listed}
+use Rattle.attr_search.specs.ListView.{Listed}
 use Rattle.attr_search.specs.Settings.{BodiesAreNamed, ListsAreNamed, setting_of}
 use Rattle.attr_search.specs.Slots.{Matched}
 use Rattle.gix_attributes.specs.Contents.{Content, bodies_of, found_in, initial_content, selected_in, unspecified, wanted_of}

@@ -5,7 +5,7 @@ use Rattle.std.specs.List.{flat_map}
 use Rattle.attr_lists.specs.Collections.{MacroDefinition, Collection}
 use Rattle.attr_lists.specs.Definitions.{IsSoundCollection, bodies_named, definition_of, definitions_for}
 use Rattle.attr_lists.specs.declared.types.TrackedAssignment.{TrackedAssignment}
-use Rattle.attr_index.specs.ListView.{Listed}
+use Rattle.attr_search.specs.ListView.{Listed}
 use Rattle.gix_attributes.specs.Additions.{RegisteredLists}
 
 -- a list, and the list id under which it is registered

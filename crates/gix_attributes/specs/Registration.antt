@@ -4,7 +4,7 @@ use Rattle.attr_lists.specs.Collections.{Collection}
 use Rattle.gix_attributes.specs.Covered.{ListsAreCovered}
 use Rattle.gix_attributes.specs.Registers.{RegistersExactly, with_list_ids}
 use Rattle.attr_search.specs.Settings.{ListsAreNamed}
-use Rattle.attr_index.specs.ListView.{Listed}
+use Rattle.attr_search.specs.ListView.{Listed}
 
 -- a collection registers these lists under these list ids, and no others; their items have the numbers of their names, and all of
 -- their numbers are numbers of names

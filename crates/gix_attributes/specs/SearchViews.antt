@@ -3,12 +3,12 @@ use Rattle.std.specs.Prelude.{◌≡◌, ℕ, List, [], ◌∷◌, ◌++◌, nat
 use Rattle.std.specs.List.{AllZip, IsDistinct}
 use Rattle.attr_lists.specs.Collections.{Collection}
 use Rattle.attr_lists.specs.Definitions.{without_list, HoldsList}
-use Rattle.attr_index.specs.ListView.{Listed}
+use Rattle.attr_search.specs.ListView.{Listed}
 use Rattle.attr_glob.specs.declared.search.pattern.List.{List as PatternList}
 use Rattle.attr_lists.specs.declared.types.Value.{Value}
 use Rattle.attr_lists.specs.declared.types.Dropped.{Dropped}
 use Rattle.attr_lists.specs.declared.parser.Attributes.{Attributes}
-use Rattle.attr_index.specs.IndexedLists.{lists_view, list_ids_of, pattern_lists}
+use Rattle.attr_search.specs.IndexedLists.{lists_view, list_ids_of, pattern_lists}
 use Rattle.gix_attributes.specs.declared.search.attributes.Search.{Search}
 
 -- the lists of a search, in the order of their addition

@@ -5,7 +5,7 @@ use Rattle.attr_table.specs.Cut.{ExtendsCuts, is_done}
 use Rattle.attr_table.specs.Setting.{Setting}
 use Rattle.attr_table.specs.Table.{Slots}
 use Rattle.gix_attributes.specs.Contents.{Content, wanted_of}
-use Rattle.attr_index.specs.ListView.{Listed}
+use Rattle.attr_search.specs.ListView.{Listed}
 use Rattle.attr_search.specs.Settings.{BodiesAreNamed, HeldAreNamed, ListsAreNamed, setting_of}
 use Rattle.attr_search.specs.Slots.{slots_of}
 
@@ -31,7 +31,7 @@ JoinsSearches lists path case is_dir before after =
 -- a search fills slots, and counts; there are as many slots as before, and nothing else of the outcome changes
 pub record KeepsAllButAnswers (before after : Content) : Type 0 where
   pub count : length after.slots ≡ length before.slots
-  pub rest : after ≡ record before { slots = after.slots; taken = after.taken; tested = after.tested }
+  pub rest : after ≡ record before { slots = after.slots; kept = after.kept; taken = after.taken; tested = after.tested }
 
 -- answers have the names of their numbers, if all items have them, and all answers before
 abbrev pub KeepsNames : List Listed → Content → Content → Type 0

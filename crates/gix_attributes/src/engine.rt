@@ -17,8 +17,9 @@ ghost use Rattle.std.specs.Prelude.{◌≡◌, ◌↔◌, ◌<◌, [], IfOk, IsT
 ghost use Rattle.gix_attributes.specs.EngineStates.{AnswersTo, FindsFor, number_answered, unasked, with_addition, with_list_below, with_selection, without_answers, without_last};
 ghost use Rattle.gix_attributes.specs.EngineView.{addition_view, below_view, state_by, started};
 ghost use Rattle.gix_attributes.specs.Registration.{RegistersAlone};
-ghost use Rattle.gix_attributes.specs.inner.SoundEngines.{IsCurrentFor};
+ghost use Rattle.gix_attributes.specs.inner.SoundEngines.{IsCurrentFor, last_lines};
 ghost use Rattle.gix_attributes.specs.Contents.{initial_content, names_selected};
+ghost use Rattle.attr_lists.specs.shared.MacroNumbers.{defines_macros};
 ghost use Rattle.attr_search.specs.Matches.{match_view};
 ghost use Rattle.attr_glob.specs.Views.{base_bytes};
 ghost use Rattle.gix_attributes.specs.SearchViews.{Holds, list_ids_in, lists_in};
@@ -83,7 +84,7 @@ pub struct Engine {
     collection: MetadataCollection,
     // It has the selected names too.
     outcome: Outcome,
-    // Whether the outcome was initialised since the lists or the selection changed last.
+    // Whether the outcome was initialised since names, macros or the selection changed last.
     is_current: bool,
     // Whether the outcome has the answers to a question.
     has_answers: bool,
@@ -201,6 +202,7 @@ impl Engine {
         }) self.old) }
         ensures refused { OnErr result (self.new ≡ self.old) }
     {
+        let names = self.collection.len();
         self.dropped = self.search.add_patterns_below(
             alloc,
             buffer,
@@ -209,7 +211,7 @@ impl Engine {
             &mut self.collection,
             allow_macros,
         )?;
-        self.is_current = false;
+        self.is_current = stays_current(self.is_current, &self.search, &self.collection, names);
         self.has_answers = false;
         Ok(())
     }
@@ -220,10 +222,12 @@ impl Engine {
         ensures popped { IsTrue result → self.new ≡ without_last self.old }
         ensures none { result ≡ false → self.new ≡ self.old }
     {
+        let names = self.collection.len();
+        let is_current = stays_current(self.is_current, &self.search, &self.collection, names);
         if self.search.pop_pattern_list(&mut self.collection).is_none() {
             return false;
         }
-        self.is_current = false;
+        self.is_current = is_current;
         self.has_answers = false;
         true
     }
@@ -367,7 +371,21 @@ impl Engine {
     }
 }
 
-// Empties an outcome for the next question. It is initialised only if the lists have changed.
+// Whether a current outcome is so with and without the last list: it defines no macro, and there are as many names as before.
+fn stays_current(
+    is_current: bool,
+    search: &Search,
+    collection: &MetadataCollection,
+    names: usize,
+) -> bool
+    ensures current { result ≡ true → is_current ≡ true }
+    ensures macros { result ≡ true → defines_macros (last_lines (lists_in search.now)) ≡ false }
+    ensures names { result ≡ true → length collection.now.names ≡ names }
+{
+    is_current && !search.last_defines_macros() && collection.len() == names
+}
+
+// Empties an outcome for the next question. It is initialised only if names or macros have changed.
 fn prepare(
     alloc: Global,
     outcome: &mut Outcome,

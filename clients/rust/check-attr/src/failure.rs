@@ -75,7 +75,7 @@ impl From<io::Error> for Failure {
     }
 }
 
-/// A text as it is told on standard error: without bytes that control a terminal, and with U+FFFD for what is no UTF-8.
+/// A text as it is told on standard error: without bytes that control a terminal, and with U+FFFD for what is not UTF-8.
 pub fn shown(text: &[u8]) -> String {
     String::from_utf8_lossy(text).chars().map(|it| if it.is_control() { '?' } else { it }).collect()
 }

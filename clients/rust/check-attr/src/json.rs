@@ -1,4 +1,4 @@
-//! Answers as JSON: texts are strings, and what is no UTF-8 is an object with its base 64.
+//! Answers as JSON: texts are strings, and what is not UTF-8 is an object with its base 64.
 
 use yektrod::{Answer, State};
 

@@ -43,7 +43,7 @@ impl<'a> From<AssignmentRef<'a>> for Assignment {
     }
 }
 
-/// As in an attributes file: `name`, `-name`, `!name` or `name=value`, with U+FFFD for bytes of a value that are no UTF-8.
+/// As in an attributes file: `name`, `-name`, `!name` or `name=value`, with U+FFFD for bytes of a value that are not UTF-8.
 impl fmt::Display for AssignmentRef<'_> {
     fn fmt(&self, f: &mut fmt::Formatter<'_>) -> fmt::Result {
         let name = self.name.as_str();

@@ -216,7 +216,7 @@ impl<'a> State<'a> {
     }
 }
 
-/// As `git check-attr` prints it, with U+FFFD for bytes of a value that are no UTF-8.
+/// As `git check-attr` prints it, with U+FFFD for bytes of a value that are not UTF-8.
 impl fmt::Display for State<'_> {
     fn fmt(&self, f: &mut fmt::Formatter<'_>) -> fmt::Result {
         f.pad(&String::from_utf8_lossy(self.as_bytes()))

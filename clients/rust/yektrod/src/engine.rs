@@ -128,7 +128,7 @@ impl Engine {
     ///
     /// # Errors
     ///
-    /// [`Error::OutOfMemory`], and [`Error::InvalidName`] for a name that is no UTF-8.
+    /// [`Error::OutOfMemory`], and [`Error::InvalidName`] for a name that is not UTF-8.
     pub fn select<N: AsRef<[u8]>>(&mut self, names: &[N]) -> Result<(), Error> {
         let names: Vec<&[u8]> = names.iter().map(AsRef::as_ref).collect();
         self.handle.select(&names).map_err(|status| Error::of(status, Some(Error::InvalidName)))

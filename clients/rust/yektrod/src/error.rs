@@ -12,7 +12,7 @@ pub enum Error {
     OutOfMemory,
     /// A directory begins or ends with a slash, or it has `//` or a part `.` or `..`.
     InvalidDirectory,
-    /// A name that was selected is no UTF-8.
+    /// A name that was selected is not UTF-8.
     InvalidName,
     /// There is no list to remove.
     NoList,
@@ -45,7 +45,7 @@ impl fmt::Display for Error {
         match self {
             Error::OutOfMemory => f.write_str("out of memory"),
             Error::InvalidDirectory => f.write_str("a directory has a slash at an end, or `//` or a part `.` or `..`"),
-            Error::InvalidName => f.write_str("a selected name is no UTF-8"),
+            Error::InvalidName => f.write_str("a selected name is not UTF-8"),
             Error::NoList => f.write_str("there is no list to remove"),
             Error::Version(it) => write!(f, "libyektrod has version {}.{}.{}", it >> 16, it >> 8 & 0xff, it & 0xff),
             Error::Status(status) => write!(f, "libyektrod returned the status {status}"),

@@ -117,7 +117,7 @@ fn what_is_refused_changes_nothing() {
     assert_eq!(engine.select(&[&b"b"[..], b"\xff"]), Err(Error::InvalidName));
     let answers = engine.ask(b"f", Case::Sensitive, None).unwrap();
     assert_eq!((answers.len(), answers.get(0).unwrap().state), (1, State::Set));
-    assert_eq!(Error::InvalidName.to_string(), "a selected name is no UTF-8");
+    assert_eq!(Error::InvalidName.to_string(), "a selected name is not UTF-8");
     assert_eq!(Error::Version(0x01_02_03).to_string(), "libyektrod has version 1.2.3");
 }
 

@@ -5,9 +5,9 @@ use Rattle.attr_wildmatch.specs.declared.case.Case.{Case}
 use Rattle.attr_lists.specs.ListViews.{Entry}
 use Rattle.attr_table.specs.Setting.{Line}
 use Rattle.attr_table.specs.shared.Walk.{Task, line_tasks}
-use Rattle.attr_index.specs.declared.path_query.PathQuery.{PathQuery}
-use Rattle.attr_index.specs.ListView.{Listed}
-use Rattle.attr_index.specs.shared.PlacedLines.{entry_at}
+use Rattle.attr_search.specs.declared.path_query.PathQuery.{PathQuery}
+use Rattle.attr_search.specs.ListView.{Listed}
+use Rattle.attr_search.specs.inner.PlacedLines.{entry_at}
 use Rattle.attr_search.specs.Settings.{line_of, lines_of}
 
 -- the tasks of a line, for what is left of a path below the base

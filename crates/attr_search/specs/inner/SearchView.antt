@@ -10,6 +10,7 @@ search_view s =
       answers = s.filler.slots.answers;
       wanted = s.filler.slots.wanted;
       bodies = s.filler.slots.bodies;
+      kept = s.filler.slots.kept;
       taken = s.filler.taken;
       tested = s.tested;
     }

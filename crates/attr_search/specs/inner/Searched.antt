@@ -6,8 +6,8 @@ use Rattle.attr_lists.specs.declared.types.TrackedAssignment.{TrackedAssignment}
 use Rattle.attr_table.specs.Setting.{Item, Setting}
 use Rattle.attr_table.specs.Table.{IsStable, Slots, Table}
 use Rattle.attr_table.specs.shared.Walk.{Searches, Task, list_tasks, tasks_of}
-use Rattle.attr_index.specs.declared.path_query.PathQuery.{PathQuery}
-use Rattle.attr_index.specs.ListView.{Listed}
+use Rattle.attr_search.specs.declared.path_query.PathQuery.{PathQuery}
+use Rattle.attr_search.specs.ListView.{Listed}
 use Rattle.attr_search.specs.Roots.{RootsAtMost}
 use Rattle.attr_search.specs.SearchContents.{SearchContents}
 use Rattle.attr_search.specs.Settings.{BodiesAreNamed, HeldAreNamed, LinesAreNamed, ListsAreNamed, candidate_lines, setting_of}

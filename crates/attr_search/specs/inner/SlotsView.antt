@@ -1,5 +1,5 @@
 -- The answers in slots and the bodies, that the places they refer to are in use, and that the numbers of filled slots are listed (own).
-use Rattle.std.specs.Prelude.{◌≡◌, ⊤, ◌<◌, ◌≤◌, length, MatchOption, option_map}
+use Rattle.std.specs.Prelude.{◌≡◌, ⊤, ◌<◌, ◌≤◌, ◌+◌, length, MatchOption, option_map}
 use Rattle.std.specs.Prelude.{true}
 use Rattle.std.specs.List.Sorted.{IsNonDecreasing}
 use Rattle.attr_search.specs.Slots.{filled_in}
@@ -14,6 +14,7 @@ slots_view b =
       wanted = b.wanted;
       line = option_map (line_by_ref b.parts) b.parts.line;
       bodies = b.parts.bodies;
+      kept = length b.parts.lines + length b.parts.assignments;
     }
 
 pub record AreSoundSlots (b : Inside) : Type 0 where

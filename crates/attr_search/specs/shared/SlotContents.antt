@@ -5,16 +5,18 @@ use Rattle.attr_lists.specs.declared.types.TrackedAssignment.{TrackedAssignment}
 use Rattle.attr_table.specs.Setting.{Origin}
 use Rattle.attr_search.specs.Slots.{Matched}
 
--- the answers by number, which numbers are wanted, the line at hand if it has answered, and the bodies by number
+-- the answers by number, which numbers are wanted, the line at hand if it has answered, the bodies by number, and how many lines
+-- and assignments are kept for the answers
 pub record SlotContents : Type 0 where
   pub answers : List (Option Matched)
   pub wanted : List Bool
   pub line : Option Origin
   pub bodies : List (List TrackedAssignment)
+  pub kept : ℕ
 
 -- empty slots, of which some are wanted, with bodies
 abbrev pub empty_slots : List Bool → List (List TrackedAssignment) → SlotContents
-empty_slots wanted bodies = record { answers = map (λ w. None) wanted; wanted = wanted; line = None; bodies = bodies }
+empty_slots wanted bodies = record { answers = map (λ w. None) wanted; wanted = wanted; line = None; bodies = bodies; kept = 0 }
 
 -- the numbers that are wanted
 abbrev pub wanted_numbers : List Bool → List ℕ

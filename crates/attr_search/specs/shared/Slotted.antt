@@ -7,9 +7,9 @@ use Rattle.attr_lists.specs.ListViews.{Entry}
 use Rattle.attr_lists.specs.declared.types.TrackedAssignment.{TrackedAssignment}
 use Rattle.attr_lists.specs.declared.types.Value.{Value as LineValue}
 use Rattle.attr_table.specs.Setting.{Origin}
-use Rattle.attr_index.specs.ListView.{Listed}
-use Rattle.attr_index.specs.declared.line_index.LineIndex.{LineIndex}
-use Rattle.attr_index.specs.declared.indexed_line.IndexedLine.{IndexedLine}
+use Rattle.attr_search.specs.ListView.{Listed}
+use Rattle.attr_search.specs.declared.line_index.LineIndex.{LineIndex}
+use Rattle.attr_search.specs.declared.indexed_line.IndexedLine.{IndexedLine}
 use Rattle.attr_search.specs.Settings.{HaveSlots}
 
 -- the items of all bodies, and of all lines of lists, have slots

@@ -4,8 +4,8 @@ use Rattle.std.specs.List.{IsDistinct}
 use Rattle.attr_lists.specs.Collections.{Collection}
 use Rattle.attr_lists.specs.Definitions.{HoldsList}
 use Rattle.attr_lists.specs.ListViews.{entries_view}
-use Rattle.attr_index.specs.IndexedLists.{list_ids_of}
-use Rattle.attr_index.specs.declared.indexed_list.IndexedList.{IndexedList}
+use Rattle.attr_search.specs.IndexedLists.{list_ids_of}
+use Rattle.attr_search.specs.declared.indexed_list.IndexedList.{IndexedList}
 
 -- the list is registered in the collection under its list id
 abbrev pub IsHeldList : Collection → IndexedList → Type 0

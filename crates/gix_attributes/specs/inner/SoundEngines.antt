@@ -1,6 +1,9 @@
 -- What is true of each engine (own).
-use Rattle.std.specs.Prelude.{◌≡◌, ◌==◌, ℕ, Bool, true, false, List, map, length, Option, None, Some, slice_index_or}
+use Rattle.std.specs.Prelude.{◌≡◌, ◌==◌, ◌-◌, ℕ, Bool, true, false, List, [], map, length, Option, None, Some}
+use Rattle.std.specs.Prelude.{option_map, slice_get, slice_index_or, unwrap_or}
+use Rattle.attr_search.specs.ListView.{Listed}
 use Rattle.attr_lists.specs.Collections.{Collection}
+use Rattle.attr_lists.specs.ListViews.{Entry}
 use Rattle.gix_attributes.specs.Contents.{Content, found_in, initial_content, looked_up, names_selected, reset_content}
 use Rattle.gix_attributes.specs.SearchViews.{Holds, list_ids_in, lists_in}
 use Rattle.attr_search.specs.Settings.{HeldAreNamed}
@@ -22,6 +25,10 @@ is_slot_specified (Some m) = is_specified m.assignment.state
 abbrev pub AreNumbered : Content → List ℕ → Type 0
 AreNumbered held numbers =
     (length held.selection == 0) ≡ true → ArePlacesOf held.slots (specified_among (found_in held.slots)) numbers
+
+-- the lines of the last list, none if there is no list
+abbrev pub last_lines : List Listed → List Entry
+last_lines lists = unwrap_or (option_map (λ list. list.lines) (slice_get lists (length lists - 1))) []
 
 -- a reset leaves the outcome as it is initialised with the collection
 abbrev pub IsCurrentFor : Collection → Content → Type 0

@@ -6,8 +6,8 @@ ghost use Rattle.attr_glob.specs.Views.{base_bytes};
 ghost use Rattle.attr_lists.specs.Definitions.{free_id};
 ghost use Rattle.attr_lists.specs.KeptLists.{defines_no_macro, kept_list_where, dropped_lines, macros_valid};
 ghost use Rattle.attr_lists.specs.ListViews.{entries_view};
-ghost use Rattle.attr_index.specs.ListView.{list_view};
-ghost use Rattle.attr_index.specs.shared.ReadLines.{AreRead};
+ghost use Rattle.attr_search.specs.ListView.{list_view};
+ghost use Rattle.attr_search.specs.shared.ReadLines.{AreRead};
 ghost use Rattle.attr_table.specs.Cut.{IsSearched};
 ghost use Rattle.attr_table.specs.Table.{IsStable, OneTable, Table};
 ghost use Rattle.attr_table.specs.Work.{newly_filled, work_of};
@@ -18,6 +18,8 @@ ghost use Rattle.attr_search.specs.Roots.{RootsAtMost};
 ghost use Rattle.gix_attributes.specs.Searching.{JoinsSearches, KeepsAllButAnswers, KeepsNames, answers_in, is_complete, setting_for};
 ghost use Rattle.attr_search.specs.Settings.{candidate_lines, is_found};
 ghost use Rattle.attr_lists.specs.Collections.{Collection};
+ghost use Rattle.attr_lists.specs.shared.MacroNumbers.{defines_macros};
+ghost use Rattle.gix_attributes.specs.inner.SoundEngines.{last_lines};
 ghost use Rattle.gix_attributes.specs.Additions.{buffer_list, list_below, registered_lists, with_registered};
 ghost use Rattle.gix_attributes.specs.Keeping.{Adds, Keeps, Removes};
 ghost use Rattle.gix_attributes.specs.SearchViews.{lists_in, list_ids_in, Holds, LosesLast, RemovesLast};
@@ -25,11 +27,11 @@ ghost use Rattle.gix_attributes.specs.SearchViews.{lists_in, list_ids_in, Holds,
 use crate::search::{MetadataCollection, Outcome};
 use attr_glob::pattern::Case;
 use attr_glob::search::pattern::{List, Mapping, base_of};
-use attr_index::indexed_list::IndexedList;
-use attr_index::indexed_lists::IndexedLists;
-use attr_index::path_query::PathQuery;
-use attr_lists::parser::without_macros;
+use attr_lists::parser::{defines_macros, without_macros};
 use attr_lists::types::{Attributes, Dropped, Value};
+use attr_search::indexed_list::IndexedList;
+use attr_search::indexed_lists::IndexedLists;
+use attr_search::path_query::PathQuery;
 use bstr::BStr;
 use std::alloc::{AllocError, Global};
 
@@ -249,6 +251,16 @@ impl Search {
         Ok(Search {
             patterns: self.patterns.clone(alloc)?,
         })
+    }
+
+    // Whether the last list defines a macro.
+    pub(crate) fn last_defines_macros(&self) -> bool
+        ensures { result ≡ defines_macros (last_lines (lists_in self.now)) }
+    {
+        match self.patterns.lists.last() {
+            Some(last) => defines_macros(&last.list.patterns),
+            None => false,
+        }
     }
 
     // The lists, each with its index.

@@ -12,7 +12,7 @@ ghost use Rattle.attr_table.specs.Table.{IsStable, Slots, Table};
 ghost use Rattle.gix_attributes.specs.Contents.{Content, reset_content, initial_content, wanted_of};
 ghost use Rattle.gix_attributes.specs.Lookups.{IsLookedUp, IsSearchedFurther, Lookup, OfTheOnlyTable, ReturnsAnswers, SelectsNoMore, setting_in, with_lists_searched};
 ghost use Rattle.gix_attributes.specs.Searching.{KeepsAllButAnswers, answers_in, is_complete, setting_for};
-ghost use Rattle.attr_index.specs.ListView.{Listed, rest_for};
+ghost use Rattle.attr_search.specs.ListView.{Listed, rest_for};
 ghost use Rattle.attr_search.specs.Settings.{gives, setting_of};
 ghost use Rattle.std.specs.Cmp.Lexicographic.{pointwise, slice_cmp};
 ghost use Rattle.gix_attributes.specs.SearchViews.{pattern_lists_in};

@@ -7,7 +7,7 @@ ghost use Rattle.attr_lists.specs.ListViews.{entry_view};
 ghost use Rattle.gix_attributes.specs.Contents.{IsCurrent, IsNextFound, reset_content, found_in, initial_content, looked_up, names_selected, empty_content, selected_answer, selected_in, wanted_of};
 ghost use Rattle.gix_attributes.specs.inner.Consistency.{flags_of, nothing_wanted};
 ghost use Rattle.gix_attributes.specs.Covered.{AreCovered, IsCovered, ListsAreCovered};
-ghost use Rattle.attr_index.specs.IndexedLists.{listed_view};
+ghost use Rattle.attr_search.specs.IndexedLists.{listed_view};
 ghost use Rattle.gix_attributes.specs.SearchViews.{lists_in};
 ghost use Rattle.attr_search.specs.Settings.{HaveSlots};
 ghost use Rattle.attr_search.specs.Matches.{match_view};
@@ -23,7 +23,7 @@ use crate::search::{AttributeId, Match, TrackedAssignment, Value, selection};
 use attr_glob::Pattern;
 use attr_glob::pattern::Mode;
 use attr_glob::search::pattern::Mapping;
-use attr_index::indexed_list::IndexedList;
+use attr_search::indexed_list::IndexedList;
 use attr_search::search_state::SearchState;
 use attr_text::AssignmentRef;
 use bitflags::Flags;
@@ -35,7 +35,7 @@ use std::marker::Model;
 /// The answers that searches found: one for each attribute that a matching line assigns.
 ///
 /// It has a slot for each number of a collection: the answer for the attribute with that number, if one was found. So
-/// it is initialised with a collection, and has to be initialised again after that has changed.
+/// it is initialised with a collection, and has to be initialised again once that has other names or macros.
 pub struct Outcome {
     // The answers, the body of each attribute, and the buffers of a search.
     pub(crate) state: SearchState,
@@ -88,7 +88,7 @@ impl Outcome {
     }
 
     /// Makes an empty slot for each name of a collection, and looks the selected names up again. It has to be called
-    /// whenever the collection has changed. Of the bodies only those that have changed are copied; the selection and
+    /// whenever the collection has other names or macros. Of the bodies only those that have changed are copied; the selection and
     /// the set of macros are made anew.
     ///
     /// # Errors
@@ -179,7 +179,7 @@ impl Outcome {
         requires current { IsCurrent self.now collection.now }
         ensures ok { OnOk result (dest.new
             ≡ record (initial_content collection.now (names_selected dest.old.selection))
-            { slots = self.now.slots }) }
+            { slots = self.now.slots; kept = self.now.kept }) }
         ensures refused { OnErr result (dest.new ≡ dest.old) }
     {
         let selected = selection::look_up_again(alloc, collection, &dest.selected)?;
@@ -239,7 +239,7 @@ impl Outcome {
         self.is_initialized
     }
 
-    /// Whether the collection is as it was when the outcome was initialised with it.
+    /// Whether the collection has as many names as the outcome has slots, and the same macros as it was initialised with.
     pub fn is_current(&self, collection: &MetadataCollection) -> bool
         ensures { IsTrue result ↔ IsCurrent self.now collection.now }
     {
@@ -252,7 +252,8 @@ impl Outcome {
     /// How many lines and assignments are kept for the answers (own): at most one of each for an answer, so none after
     /// [`Outcome::reset`]. A line keeps the index of its list, which a removed list's answers outlive.
     pub fn kept(&self) -> usize
-        ensures { result ≤ 2 * length (found_in self.now.slots) }
+        ensures kept { result ≡ self.now.kept }
+        ensures few { self.now.kept ≤ 2 * length (found_in self.now.slots) }
     {
         self.state.kept()
     }

@@ -33,7 +33,7 @@ impl Chance {
     }
 }
 
-/// Names of directories. Some differ in case alone, some are no UTF-8 or have blanks.
+/// Names of directories. Some differ in case alone, some are not UTF-8 or have blanks.
 const DIRECTORIES: [&[u8]; 10] = [b"a", b"A", b"b", b"src", b"Src", b"docs", b"two words", b"z\xc3\xbc", b"\xe9", b"x.c"];
 const FRONTS: [&[u8]; 7] = [b"a", b"Main", b"main", b"x", b"two words", b"\xff", b"lib.core"];
 const ENDS: [&[u8]; 5] = [b".c", b".h", b".md", b".C", b""];

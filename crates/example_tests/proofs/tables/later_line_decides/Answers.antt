@@ -1,5 +1,6 @@
 use Rattle.std.proofs.Common.{◌≡◌, ◌⊎◌, inl, inr, ℕ, zero, suc, [], Option, Some, None, refl, arith}
 use Rattle.std.specs.Prelude.{option_and_then, slice_get}
+use Rattle.bstr.specs.Text.{line_len, lines_from}
 use Rattle.attr_table.specs.Setting.{Item, Unset, body_of}
 use Rattle.attr_table.specs.Table.{Inside, IsEarlier, Occurrence, Root, item_at}
 use Rattle.example_tests.specs.Tables.{two_lines}
@@ -20,7 +21,11 @@ earliest (Root zero (suc (suc line)) item) i e = absurd cc
 earliest (Root (suc list) line item) i e = absurd cc
 earliest (Inside parent place) i e = absurd (no_body (item_at two_lines parent) place i e)
 
-pub returns : goal.returns
-returns c zero =
+pub returns-clause-setting : goal.returns-clause-setting
+unfolding line_len lines_from
+returns-clause-setting c = refl
+
+pub returns-clause-stable : goal.returns-clause-stable
+returns-clause-stable c zero =
     ((record { attribute = 0; state = Unset }, record { item = refl; reached = tt }, refl), λ p i live same. (earliest p i live.item).1)
-returns c (suc a) = λ p i live same. omega (arith, same, (earliest p i live.item).0)
+returns-clause-stable c (suc a) = λ p i live same. omega (arith, same, (earliest p i live.item).0)

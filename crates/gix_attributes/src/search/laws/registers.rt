@@ -5,7 +5,7 @@ ghost use Rattle.attr_lists.specs.Collections.{Collection};
 ghost use Rattle.attr_lists.specs.Definitions.{IsSoundCollection};
 ghost use Rattle.attr_lists.specs.Numbers.{AppendsNames};
 ghost use Rattle.attr_lists.specs.declared.types.TrackedAssignment.{TrackedAssignment};
-ghost use Rattle.attr_index.specs.ListView.{Listed};
+ghost use Rattle.attr_search.specs.ListView.{Listed};
 ghost use Rattle.attr_search.specs.Settings.{BodiesAreNamed, HeldAreNamed, ListsAreNamed};
 ghost use Rattle.attr_search.specs.Slots.{Matched};
 ghost use Rattle.gix_attributes.specs.Additions.{RegisteredLists};

@@ -3,7 +3,7 @@ use Rattle.attr_table.specs.shared.Walk.{stops}
 use Rattle.attr_table.proofs.ForCallers.{taken_most, taken_least}
 use Rattle.attr_table.proofs.ForCallers.{walked_searched}
 use Rattle.attr_table.proofs.ForCallers.{OneTable-of}
-use Rattle.attr_index.specs.IndexedLists.{lists_view}
+use Rattle.attr_search.specs.IndexedLists.{lists_view}
 use Rattle.attr_search.specs.inner.Searched.{query_candidates, query_setting, state_bodies, state_slots, state_wanted}
 use Rattle.attr_search.proofs.TaggedLines.{roots_most}
 use Rattle.attr_search.proofs.FoundAnswers.{found_is, nothing_found, extends}

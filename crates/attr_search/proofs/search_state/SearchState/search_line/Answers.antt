@@ -1,7 +1,7 @@
 use Rattle.std.proofs.Common.{refl, inl, inr, arith}
 use Rattle.std.proofs.lemmas.Result.{on_ok_weaker}
 use Rattle.bstr.specs.BStr.{bstr_bytes}
-use Rattle.attr_index.specs.IndexedLists.{listed_view}
+use Rattle.attr_search.specs.IndexedLists.{listed_view}
 use Rattle.attr_search.specs.Slots.{slots_of}
 use Rattle.attr_search.specs.inner.Searched.{state_bodies, state_slots, state_wanted}
 use Rattle.attr_search.specs.shared.Slotted.{index_origin}

@@ -1,7 +1,7 @@
 use Rattle.std.proofs.Common.{refl, sym, ◌∙◌}
 use Rattle.std.proofs.lemmas.Result.{on_ok_weaker}
 use Rattle.bstr.specs.BStr.{bstr_bytes}
-use Rattle.attr_index.specs.IndexedLists.{listed_view}
+use Rattle.attr_search.specs.IndexedLists.{listed_view}
 use Rattle.attr_search.proofs.CandidateLemmas.{tried_fit, tested_most}
 use Rattle.attr_search.proofs.SearchedLemmas.{list_apart, list_by_candidates, list_idle, state_kept}
 use Rattle.attr_search.proofs.search_state.SearchState.search_list.Goals as goal

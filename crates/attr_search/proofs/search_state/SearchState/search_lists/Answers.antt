@@ -1,6 +1,6 @@
 use Rattle.std.proofs.Common.{subst, sym}
 use Rattle.bstr.specs.BStr.{bstr_bytes}
-use Rattle.attr_index.specs.shared.FoundLists.{AreListsFor}
+use Rattle.attr_search.specs.inner.FoundLists.{AreListsFor}
 use Rattle.attr_search.proofs.search_state.SearchState.search_lists.Goals as goal
 
 pub search_numbers-searched-requires-clause-numbers : goal.search_numbers-searched-requires-clause-numbers

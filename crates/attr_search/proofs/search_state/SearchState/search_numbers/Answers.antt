@@ -2,7 +2,7 @@ use Rattle.std.proofs.Common.{◌≡◌, ◌+◌, ◌-◌, ◌<◌, Some, get_or
 use Rattle.std.specs.Prelude.{slice_get}
 use Rattle.std.proofs.lemmas.Option.{slice_get_read}
 use Rattle.bstr.specs.BStr.{bstr_bytes}
-use Rattle.attr_index.specs.IndexedLists.{listed_view}
+use Rattle.attr_search.specs.IndexedLists.{listed_view}
 use Rattle.attr_search.specs.Settings.{candidates_in}
 use Rattle.attr_search.proofs.ListLemmas.{count_stopped, list_named, list_slots}
 use Rattle.attr_search.proofs.SearchedLemmas.{AreLeft, all_left, all_lists_searched, apart_above, apart_below, counted_more, left_less, lists_done}

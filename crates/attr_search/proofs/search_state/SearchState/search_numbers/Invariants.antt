@@ -1,5 +1,5 @@
 use Rattle.std.proofs.Common.{◌≤◌, length}
-use Rattle.attr_index.specs.IndexedLists.{lists_view}
+use Rattle.attr_search.specs.IndexedLists.{lists_view}
 use Rattle.attr_search.specs.inner.Searched.{KeepsState, ListsKeepNamed}
 use Rattle.attr_search.proofs.SearchedLemmas.{AreLeft, CountedFrom}
 use Rattle.attr_search.proofs.search_state.SearchState.search_numbers.Given as goal

@@ -1,6 +1,6 @@
 use Rattle.std.proofs.Common.{sym, arith}
 use Rattle.std.proofs.lemmas.List.{get_or_default}
-use Rattle.attr_index.specs.IndexedLists.{listed_view}
+use Rattle.attr_search.specs.IndexedLists.{listed_view}
 use Rattle.attr_search.proofs.SearchedLemmas.{more_places, no_places, places_done, state_kept, then_kept}
 use Rattle.attr_search.proofs.search_state.SearchState.search_places.Goals as goal
 

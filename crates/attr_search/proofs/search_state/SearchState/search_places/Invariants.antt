@@ -1,5 +1,5 @@
 use Rattle.std.proofs.Common.{◌+◌, ◌≤◌, take}
-use Rattle.attr_index.specs.IndexedLists.{listed_view}
+use Rattle.attr_search.specs.IndexedLists.{listed_view}
 use Rattle.attr_search.specs.inner.Searched.{KeepsState, ListKeepsNamed, SearchedPlaces}
 use Rattle.attr_search.proofs.search_state.SearchState.search_places.Given as goal
 

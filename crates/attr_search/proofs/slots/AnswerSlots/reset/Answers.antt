@@ -28,7 +28,7 @@ pub returns : goal.returns
 returns c =
     let b = c.self.inside in
     let Emptied : List (Option Matched) → SlotContents = λ answers. record
-    { answers = answers; wanted = b.wanted; line = None; bodies = b.parts.bodies } in
+    { answers = answers; wanted = b.wanted; line = None; bodies = b.parts.bodies; kept = 0 } in
     rw (← c.self.view_is) (rw c.keep_none.ensures
     (ap Emptied (emptied_seen b.parts (record b.parts { lines = []; line = None; assignments = [] }) b.slots.items c.empty.new.slots.items
     (matches_by_ref b.parts b.slots.items) refl

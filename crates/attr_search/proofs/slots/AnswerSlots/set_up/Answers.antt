@@ -1,4 +1,4 @@
-use Rattle.std.proofs.Common.{arith, ◌≡◌, List, Option, None, length, map, option_map, refl, sym, ap, ◌∙◌}
+use Rattle.std.proofs.Common.{arith, ℕ, ◌+◌, ◌≡◌, List, Option, None, length, map, option_map, refl, sym, ap, ◌∙◌}
 use Rattle.std.proofs.lemmas.List.{length-map}
 use Rattle.attr_table.specs.Setting.{Origin}
 use Rattle.attr_search.specs.Slots.{Matched}
@@ -45,8 +45,11 @@ returns-clause-ok c =
     ∙ ap (λ v. changed_bodies c.args.changes.items (sized_bodies (length wanted) v.bodies)) c.self.view_is in
     let cut = empty_cut c.self.inside.slots.items c.grow.new.slots.items c.empty.new.slots.items slots c.len-count.result wanted c.len-count.ensures
     c.in_ok-grow.ensures.ok c.empty.ensures.items c.truncate-2.ensures.items in
-    let View : List (Option Matched) → Option Origin → List (List TrackedAssignment) → SlotContents = λ answers line bodies. record
-    { answers = answers; wanted = wanted; line = line; bodies = bodies } in
-    ap (λ a. View a (option_map (line_by_ref parts) parts.line) parts.bodies) (empty_seen parts slots wanted cut)
-    ∙ ap (λ l. View (map (λ flag. None) wanted) (option_map (line_by_ref parts) l) parts.bodies) line
-    ∙ ap (View (map (λ flag. None) wanted) None) changed
+    let kept : length parts.lines + length parts.assignments ≡ 0 = ap (λ (p : PartsContent). length p.lines + length p.assignments) made in
+    let View : List (Option Matched) → Option Origin → List (List TrackedAssignment) → ℕ → SlotContents = λ answers line bodies kept. record
+    { answers = answers; wanted = wanted; line = line; bodies = bodies; kept = kept } in
+    let before = length parts.lines + length parts.assignments in
+    ap (λ a. View a (option_map (line_by_ref parts) parts.line) parts.bodies before) (empty_seen parts slots wanted cut)
+    ∙ ap (λ l. View (map (λ flag. None) wanted) (option_map (line_by_ref parts) l) parts.bodies before) line
+    ∙ ap (λ b. View (map (λ flag. None) wanted) None b before) changed
+    ∙ ap (View (map (λ flag. None) wanted) None bodies) kept

@@ -2,7 +2,7 @@ use Rattle.std.proofs.Common.{◌≡◌, ◌∙◌, sym, ap, subst, List, filter
 use Rattle.attr_lists.specs.ListViews.{Entry, entries_view}
 use Rattle.attr_lists.specs.KeptLists.{defines_no_macro, kept_list_where, macros_valid}
 use Rattle.attr_lists.proofs.ForCallers.{kept_macros_valid_where}
-use Rattle.attr_index.specs.shared.ReadLines.{AreRead}
+use Rattle.attr_search.specs.shared.ReadLines.{AreRead}
 use Rattle.gix_attributes.proofs.ReadLemmas.{kept_list_where-read}
 use Rattle.gix_attributes.proofs.search.attributes.read_list.Goals as goal
 use Rattle.gix_attributes.proofs.search.attributes.read_list.Goals.{After-allowed}

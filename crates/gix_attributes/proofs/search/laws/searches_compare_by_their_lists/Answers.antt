@@ -1,4 +1,4 @@
-use Rattle.attr_index.proofs.ForCallers.{equal_alone, ordered_alone}
+use Rattle.attr_search.proofs.ForCallers.{equal_alone, ordered_alone}
 use Rattle.gix_attributes.proofs.search.laws.searches_compare_by_their_lists.Goals as goal
 
 pub returns-clause-equal : goal.returns-clause-equal

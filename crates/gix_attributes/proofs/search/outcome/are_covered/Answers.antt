@@ -1,9 +1,9 @@
-use Rattle.std.proofs.Common.{rules, ◌≡◌}
+use Rattle.std.proofs.Common.{rules}
 use Rattle.std.proofs.lemmas.Iterator.{YieldsList-from_slice, cases_from_all}
 use Rattle.std.proofs.lemmas.Iterator.Search.{true_from_All}
 use Rattle.std.proofs.lemmas.List.Elements.{All-from_all_within}
-use Rattle.attr_index.specs.IndexedLists.{listed_view}
-use Rattle.attr_index.specs.declared.indexed_list.IndexedList.{IndexedList}
+use Rattle.attr_search.specs.IndexedLists.{listed_view}
+use Rattle.attr_search.specs.declared.indexed_list.IndexedList.{IndexedList}
 use Rattle.gix_attributes.specs.Covered.{AreCovered}
 use Rattle.gix_attributes.proofs.search.outcome.are_covered.Goals as goal
 

@@ -1,5 +1,5 @@
 use Rattle.std.proofs.Common.{ap}
-use Rattle.attr_index.specs.IndexedLists.{lists_view}
+use Rattle.attr_search.specs.IndexedLists.{lists_view}
 use Rattle.gix_attributes.proofs.FileLemmas.{none_held}
 use Rattle.gix_attributes.proofs.search.attributes.Search.new.Goals as goal
 

@@ -2,7 +2,7 @@ use Rattle.std.proofs.Common.{◌≡◌, ◌∙◌, true, List, [], ℕ, None, a
 use Rattle.gix_attributes.specs.Additions.{RegisteredLists, registered_lists, with_buffer}
 use Rattle.gix_attributes.specs.Globals.{built_in, built_in_source}
 use Rattle.gix_attributes.specs.SearchViews.{list_ids_in}
-use Rattle.attr_index.specs.ListView.{Listed}
+use Rattle.attr_search.specs.ListView.{Listed}
 use Rattle.gix_attributes.specs.Keeping.{Adds, Keeps}
 use Rattle.gix_attributes.proofs.FileLemmas.{buffer_added}
 use Rattle.gix_attributes.proofs.KeepingLemmas.{as_no_lists}

@@ -1,6 +1,6 @@
 use Rattle.std.proofs.Common.{◌∷◌, [], ap, sym, subst, ◌∙◌}
 use Rattle.std.proofs.lemmas.List.{map-append}
-use Rattle.attr_index.specs.IndexedLists.{list_ids_of}
+use Rattle.attr_search.specs.IndexedLists.{list_ids_of}
 use Rattle.attr_lists.specs.Definitions.{HoldsList}
 use Rattle.attr_lists.specs.ListViews.{entries_view}
 use Rattle.gix_attributes.specs.inner.HeldLists.{AreHeldLists}

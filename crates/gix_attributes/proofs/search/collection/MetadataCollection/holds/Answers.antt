@@ -1,5 +1,5 @@
 use Rattle.std.proofs.Common.{subst, sym}
-use Rattle.attr_index.specs.declared.indexed_lists.IndexedLists.{IndexedLists}
+use Rattle.attr_search.specs.declared.indexed_lists.IndexedLists.{IndexedLists}
 use Rattle.gix_attributes.specs.inner.HeldLists.{AreHeldLists}
 use Rattle.gix_attributes.proofs.HoldsLemmas.{held_lists, held_views}
 use Rattle.gix_attributes.proofs.search.collection.MetadataCollection.holds.Goals as goal

@@ -38,4 +38,5 @@ returns-clause-ok c =
     c.in_ok-selected.ensures ∙ ap (λ l. looked_up known.names (names_selected (selection_view l))) c.deref.ensures.value ∙ ap
     (λ v. looked_up known.names (names_selected v.selection)) c.dest.view_is in
     rw c.in_ok-copy_from.ensures.copied (held_as known _ own.answers c.args.self.now.slots own.bodies
-    (selection_view c.in_ok-selected.selected.items) (ap (λ v. v.slots) c.self.view_is) bodies selected)
+    (selection_view c.in_ok-selected.selected.items) own.kept c.args.self.now.kept
+    (ap (λ v. v.slots) c.self.view_is) bodies selected (ap (λ v. v.kept) c.self.view_is))

@@ -2,9 +2,9 @@ use Rattle.std.proofs.Common.{◌∙◌, ap, length, subst, sym, List, ℕ}
 use Rattle.std.specs.Prelude.{All}
 use Rattle.std.proofs.lemmas.List.Elements.{All-map}
 use Rattle.gix_attributes.specs.Covered.{AreCovered}
-use Rattle.attr_index.specs.IndexedLists.{listed_view}
-use Rattle.attr_index.specs.declared.indexed_list.IndexedList.{IndexedList}
-use Rattle.attr_index.specs.declared.indexed_lists.IndexedLists.{IndexedLists}
+use Rattle.attr_search.specs.IndexedLists.{listed_view}
+use Rattle.attr_search.specs.declared.indexed_list.IndexedList.{IndexedList}
+use Rattle.attr_search.specs.declared.indexed_lists.IndexedLists.{IndexedLists}
 use Rattle.gix_attributes.proofs.OutcomeLemmas.{all_seen}
 use Rattle.gix_attributes.proofs.search.outcome.Outcome.covers.Goals as goal
 

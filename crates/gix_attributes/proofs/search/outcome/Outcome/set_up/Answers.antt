@@ -1,4 +1,4 @@
-use Rattle.std.proofs.Common.{◌≡◌, ◌∙◌, length, map, true, None, sym, ap}
+use Rattle.std.proofs.Common.{◌≡◌, ◌∙◌, length, map, true, None, refl, sym, ap}
 use Rattle.std.proofs.lemmas.List.{length-map}
 use Rattle.attr_search.specs.SearchContents.{SearchContents}
 use Rattle.attr_search.specs.shared.BodyChanges.{changed_bodies, sized_bodies}
@@ -67,7 +67,8 @@ returns-clause-ok c =
     let made = changed_to known changes own (bodies_view c.bodies.result.now) (length wanted) count c.bodies.ensures.bodies
     c.in_ok-changes.ensures.made in
     let Held : SearchContents → Content = λ s. record
-    { is_initialized = true; slots = s.answers; bodies = s.bodies; selection = seen; taken = s.taken; tested = s.tested } in
+    { is_initialized = true; slots = s.answers; bodies = s.bodies; selection = seen; kept = s.kept; taken = s.taken; tested = s.tested } in
     ap Held c.in_ok-set_up.ensures.ok
     ∙ held_as known _ (map (λ flag. None) wanted) (map (λ name. None) known.names)
-    (changed_bodies changes (sized_bodies (length wanted) own)) seen (same_empty None wanted known.names count) made c.requires
+    (changed_bodies changes (sized_bodies (length wanted) own)) seen 0 0
+    (same_empty None wanted known.names count) made c.requires refl

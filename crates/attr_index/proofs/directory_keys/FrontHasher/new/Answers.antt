@@ -1,5 +1,0 @@
-use Rattle.attr_index.proofs.DirectoryLemmas.{hashed_none}
-use Rattle.attr_index.proofs.directory_keys.FrontHasher.new.Goals as goal
-
-pub returns-clause-front : goal.returns-clause-front
-returns-clause-front c = λ text. hashed_none c.new.result c.new.ensures

@@ -1,5 +1,0 @@
-pub mod IndexedLists
-pub mod KeyedNumbers
-pub mod ListView
-pub mod inner
-pub mod shared

@@ -1,7 +1,0 @@
--- What contracts of functions of this crate and of those above it name (own). No contract of a public call reaches it, so nothing
--- of it has to be believed.
-pub mod FoundLists
-pub mod LineIndexes
-pub mod PlacedLines
-pub mod ReadLines
-pub mod Trying

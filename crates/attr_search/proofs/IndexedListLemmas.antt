@@ -1,0 +1,165 @@
+-- What is made of a list's patterns stays theirs when the list is numbered.
+use Rattle.std.proofs.Common.{arith}
+use Rattle.std.proofs.Common.{◌≡◌, ℕ, ◌+◌, ◌<◌, List, [], ◌∷◌, ◌++◌, length, get_or, take, map, Option, Some, None, refl, sym, ap, ◌∙◌}
+use Rattle.std.proofs.Common.{drop}
+use Rattle.std.specs.Prelude.{Box, option_map, string_bytes}
+use Rattle.std.proofs.Math.Seq.{take-append_seam}
+use Rattle.std.proofs.lemmas.List.{take_more, map-append, length-map, get_or-map}
+use Rattle.std.proofs.lemmas.List.Elements.{All-nil, All-cons, All-head, All-tail}
+use Rattle.attr_glob.specs.declared.search.pattern.Mapping.{Mapping}
+use Rattle.attr_glob.specs.declared.search.pattern.List.{List as PatternList}
+use Rattle.attr_glob.specs.Clones.{AreMappingClones, IsMappingClone}
+use Rattle.attr_glob.specs.Patterns.{Reading}
+use Rattle.attr_glob.specs.Views.{base_bytes, pattern_view, patterns_of}
+use Rattle.attr_lists.specs.declared.parser.Attributes.{Attributes}
+use Rattle.attr_lists.specs.declared.types.Dropped.{Dropped}
+use Rattle.attr_lists.specs.declared.types.Value.{Value}
+use Rattle.attr_lists.specs.declared.types.Value.TheVariants.{MacroAssignments, Assignments}
+use Rattle.attr_lists.specs.ListViews.{Entry, SameValue, entry_view, entries_view, items_in, macro_id}
+use Rattle.attr_lists.specs.Numbers.{numbered, numbered_lines}
+use Rattle.attr_search.specs.ListView.{list_view}
+use Rattle.attr_search.specs.declared.indexed_line.IndexedLine.{IndexedLine}
+use Rattle.attr_search.specs.inner.LineIndexes.{NumberedPattern, indexed_keys, indexed_line, indexed_lines, listed_lines}
+use Rattle.attr_glob.specs.shared.LineShapes.{key_of_line, key_of_pattern}
+use Rattle.attr_search.specs.inner.PlacedLines.{entry_at, no_entry}
+use Rattle.attr_search.specs.shared.ReadLines.{IsRead, AreRead}
+
+map_map : {X Y Z : Type 0} (g : Y → Z) (f : X → Y) (xs : List X) → map g (map f xs) ≡ map (λ x. g (f x)) xs
+map_map g f [] = refl
+map_map g f (x ∷ xs) = ap (λ l. g (f x) ∷ l) (map_map g f xs)
+
+-- one more line of an index
+pub lines_more : {V : Type 0} (lines : List IndexedLine) (mappings : List (Mapping V)) (i : ℕ) (d : Mapping V) (more : List IndexedLine)
+    (line : IndexedLine) (mapping : Mapping V) → i < length mappings → mapping ≡ get_or mappings i d →
+    indexed_lines lines ≡ listed_lines (take i mappings) → more ≡ lines ++ line ∷ [] →
+    pattern_view line.pattern ≡ pattern_view mapping.pattern → line.number ≡ mapping.sequence_number →
+    indexed_lines more ≡ listed_lines (take (i + 1) mappings)
+lines_more {V} lines mappings i d more line mapping lt is before pushed pattern number =
+    let numbered : Mapping V → NumberedPattern = λ m. record { pattern = pattern_view m.pattern; number = m.sequence_number } in
+    let here : indexed_line line ≡ numbered mapping = cc (pattern, number) in
+    ap indexed_lines pushed ∙ map-append indexed_line lines (line ∷ [])
+    ∙ ap (λ r. r ++ indexed_line line ∷ []) before
+    ∙ ap (λ r. listed_lines (take i mappings) ++ r ∷ []) (here ∙ ap numbered is)
+    ∙ sym (ap listed_lines (take_more mappings i d lt) ∙ map-append numbered (take i mappings) (get_or mappings i d ∷ []))
+
+-- the keys of an index are those of its list
+pub keys_same : (lines : List IndexedLine) (mappings : List (Mapping Value)) → indexed_lines lines ≡ listed_lines mappings →
+    indexed_keys lines ≡ map (λ m. key_of_pattern m.pattern) mappings
+keys_same lines mappings e =
+    sym (map_map (λ (n : NumberedPattern). key_of_line n.pattern) indexed_line lines) ∙ ap (map (λ (n : NumberedPattern). key_of_line n.pattern)) e
+    ∙ map_map (λ (n : NumberedPattern). key_of_line n.pattern)
+    (λ (m : Mapping Value). record { pattern = pattern_view m.pattern; number = m.sequence_number }) mappings
+
+-- and those of its patterns
+pub keys_read : (lines : List IndexedLine) (mappings : List (Mapping Value)) → indexed_lines lines ≡ listed_lines mappings →
+    indexed_keys lines ≡ map key_of_line (patterns_of mappings)
+keys_read lines mappings e =
+    keys_same lines mappings e ∙ sym (map_map key_of_line (λ (m : Mapping Value). pattern_view m.pattern) mappings)
+
+-- as many lines
+pub lines_length : {V : Type 0} (lines : List IndexedLine) (mappings : List (Mapping V)) → indexed_lines lines ≡ listed_lines mappings →
+    length lines ≡ length mappings
+lines_length {V} lines mappings e =
+    sym (length-map lines indexed_line) ∙ ap length e
+    ∙ length-map mappings (λ (m : Mapping V). record { pattern = pattern_view m.pattern; number = m.sequence_number })
+
+-- the patterns of a list, as its lines have them
+patterns_in : List Entry → List Reading
+patterns_in entries = map (λ e. e.pattern) entries
+
+lines-patterns : (mappings : List (Mapping Value)) → patterns_of mappings ≡ patterns_in (entries_view mappings)
+unfolding patterns_in
+lines-patterns [] = refl
+lines-patterns (m ∷ ms) = ap (λ r. pattern_view m.pattern ∷ r) (lines-patterns ms)
+
+-- and so have the numbers of its lines
+abbrev numbered_pattern : Entry → NumberedPattern
+numbered_pattern e = record { pattern = e.pattern; number = e.line }
+
+lines-entries : (mappings : List (Mapping Value)) → listed_lines mappings ≡ map numbered_pattern (entries_view mappings)
+lines-entries [] = refl
+lines-entries (m ∷ ms) = ap (λ r. record { pattern = pattern_view m.pattern; number = m.sequence_number } ∷ r) (lines-entries ms)
+
+numbered-entries : (names : List (List ℕ)) (entries : List Entry) → map numbered_pattern (numbered_lines names entries)
+    ≡ map numbered_pattern entries
+numbered-entries names [] = refl
+numbered-entries names (e ∷ es) = ap (λ r. numbered_pattern e ∷ r) (numbered-entries names es)
+
+-- the pattern of the line with an index is that of the line of the list there
+pub entry_pattern : (lines : List IndexedLine) (ms : List (Mapping Value)) (place : ℕ) (line : IndexedLine) →
+    indexed_lines lines ≡ listed_lines ms → place < length ms → line ≡ get_or lines place line →
+    (entry_at (entries_view ms) place).pattern ≡ pattern_view line.pattern
+entry_pattern lines ms place line e lt is =
+    let same = lines_length lines ms e in
+    let n = length-map ms entry_view in
+    let d = indexed_line line in
+    ap (λ (x : NumberedPattern). x.pattern)
+    (sym (get_or-map numbered_pattern (entries_view ms) place no_entry d (omega (arith, n, lt)))
+    ∙ (ap (λ ns. get_or ns place d) (sym (e ∙ lines-entries ms))
+    ∙ (get_or-map indexed_line lines place line d (omega (arith, same, lt)) ∙ ap indexed_line (sym is))))
+
+-- lists that have the same lines
+pub same_lines : (before after : List (Mapping Value)) → entries_view after ≡ entries_view before → listed_lines after ≡ listed_lines before
+same_lines before after e = lines-entries after ∙ ap (map numbered_pattern) e ∙ sym (lines-entries before)
+
+pub same_patterns : (before after : List (Mapping Value)) → entries_view after ≡ entries_view before → patterns_of after ≡ patterns_of before
+same_patterns before after e = lines-patterns after ∙ ap patterns_in e ∙ sym (lines-patterns before)
+
+pub numbered_lines_in : (names : List (List ℕ)) (before after : List (Mapping Value)) → entries_view after ≡ numbered_lines names
+    (entries_view before) → listed_lines after ≡ listed_lines before
+numbered_lines_in names before after e =
+    lines-entries after ∙ ap (map numbered_pattern) e ∙ numbered-entries names (entries_view before) ∙ sym (lines-entries before)
+
+entry-numbered : (names : List (List ℕ)) (pattern : Reading) (items : List _) (line : ℕ) (macro : Option _)
+    → IsRead (record { pattern = pattern; macro = macro; items = items; line = line }) → IsRead
+    (numbered names (record { pattern = pattern; macro = macro; items = items; line = line }))
+entry-numbered names pattern items line None h = h
+entry-numbered names pattern items line (Some id) h = h
+
+-- and what was read of pattern texts still is
+pub numbered_read : (names : List (List ℕ)) (entries : List Entry) → AreRead entries → AreRead (numbered_lines names entries)
+numbered_read names [] h = All-nil IsRead
+numbered_read names (e ∷ es) h =
+    All-cons IsRead (numbered names e) (numbered_lines names es) (entry-numbered names e.pattern e.items e.line e.macro (All-head IsRead e es h))
+    (numbered_read names es (All-tail IsRead e es h))
+
+take-all : {X : Type 0} (xs ys : List X) (n : ℕ) → n ≡ length xs → take n (xs ++ ys) ≡ xs
+take-all xs ys n e = ap (λ k. take k (xs ++ ys)) e ∙ take-append_seam xs ys
+
+-- what is written through a slice over all of a vector
+pub written : {X : Type 0} (old new : List X) (n : ℕ) → n ≡ length old → length new ≡ length old → take n (new ++ drop (length new) old) ≡ new
+written old new n e same = take-all new (drop (length new) old) n (e ∙ sym same)
+
+-- a numbered list is as long as it was
+pub numbered_length : (names : List (List ℕ)) (before after : List (Mapping Value)) → entries_view after ≡ numbered_lines names (entries_view before)
+    → length after ≡ length before
+numbered_length names before after e =
+    sym (length-map after entry_view) ∙ ap length e ∙ length-map (entries_view before) (numbered names) ∙ length-map before entry_view
+
+-- a copy of a list has its lines, its source and its base
+copied_value : (v w : Value) → SameValue v w → (macro_id w ≡ macro_id v) × (items_in w ≡ items_in v)
+copied_value (MacroAssignments i v) (MacroAssignments j w) same = (ap Some same.0, same.1)
+copied_value (MacroAssignments i v) (Assignments w) same = absurd same
+copied_value (Assignments v) (MacroAssignments j w) same = absurd same
+copied_value (Assignments v) (Assignments w) same = (refl, same)
+
+copied_line : (m copy : Mapping Value) → IsMappingClone SameValue m copy → entry_view copy ≡ entry_view m
+copied_line m copy same =
+    let value = copied_value m.value copy.value same.value in
+    cc (same.pattern, value.0, value.1, same.sequence_number)
+
+pub copied_lines : (ms copies : List (Mapping Value)) → AreMappingClones SameValue ms copies → entries_view copies ≡ entries_view ms
+copied_lines [] [] same = refl
+copied_lines [] (c ∷ copies) same = absurd same
+copied_lines (m ∷ ms) [] same = absurd same
+copied_lines (m ∷ ms) (c ∷ copies) same =
+    let first = copied_line m c same.0 in
+    let rest = copied_lines ms copies same.1 in
+    cc (first, rest)
+
+pub copied_list : (list copy : PatternList Attributes Value Dropped) → AreMappingClones SameValue list.patterns.items copy.patterns.items →
+    option_map string_bytes copy.source ≡ option_map string_bytes list.source → base_bytes copy.base ≡ base_bytes list.base →
+    list_view copy ≡ list_view list
+copied_list list copy lines source base =
+    let rest = copied_lines list.patterns.items copy.patterns.items lines in
+    cc (rest, source, base)

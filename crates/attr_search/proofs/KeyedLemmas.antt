@@ -1,0 +1,334 @@
+-- Numbers by key: the greatest with a key, after one more and after one less.
+use Rattle.std.proofs.Common.{◌≡◌, ◌≢◌, ℕ, zero, suc, ◌+◌, ◌<◌, ◌≤◌, ◌⊎◌, inl, inr, true, false, cond, List, [], ◌∷◌, ◌++◌, length, get_or}
+use Rattle.std.proofs.Common.{Option, Some, None}
+use Rattle.std.proofs.Common.{refl, sym, ap, subst, ◌∙◌, ◌-◌, arith, eq-eqb, nat_eq, take}
+use Rattle.std.specs.Prelude.{Contains, MatchOption, ⊤, ◌↔◌, IsTrue, is_none, option_map, slice_get}
+use Rattle.std.specs.List.{AllPairs, IsDistinct, list_all}
+use Rattle.std.specs.Bool.{Decides}
+use Rattle.std.proofs.lemmas.Bool.{eqb-true}
+use Rattle.std.proofs.lemmas.List.Sums.{AllPass-from_list_all, list_all-from_AllPass}
+use Rattle.std.proofs.lemmas.Cmp.{nat_eq_equiv}
+use Rattle.std.proofs.lemmas.Map.Views.{Contains-from_any, list_any-from_Contains}
+use Rattle.std.proofs.lemmas.Map.Made.{AllPairs-from_IsDistinct, IsDistinct-from_AllPairs}
+use Rattle.attr_search.specs.inner.DirectoryKeys.{HasNumbersOf, IncludesNumbersOf}
+use Rattle.std.proofs.lemmas.Bool.Decides.{eqb_tells}
+use Rattle.std.proofs.lemmas.List.{get_or-map, length-append, length-map}
+use Rattle.std.proofs.lemmas.List.Elements.{Contains-append_left, Contains-push}
+use Rattle.std.proofs.lemmas.Option.{get_or_from_slice_get, slice_get-get_or, slice_get-map, slice_get_read, slice_get_within}
+use Rattle.std.specs.Option.{unwrap_or}
+use Rattle.attr_search.specs.declared.numbers_by_key.Link.{Link}
+use Rattle.attr_search.specs.inner.KeyLinks.{AppendsKeyed, IsLatest}
+use Rattle.attr_search.specs.inner.NumbersView.{AreLatest, LeadOn, link_keys}
+
+pub some_inside : {X : Type 0} (a b : X) → Some a ≡ Some b → a ≡ b
+some_inside a b same = ap (λ o. unwrap_or o a) same
+
+-- an element of the front part, and the one after it
+pub get_front : {X : Type 0} (xs ys : List X) (m : ℕ) → m < length xs → slice_get (xs ++ ys) m ≡ slice_get xs m
+get_front [] ys m lt = absurd (omega (arith, lt))
+get_front (x ∷ xs) ys zero lt = refl
+get_front (x ∷ xs) ys (suc m) lt = get_front xs ys m (omega (arith, lt))
+
+pub get_seam : {X : Type 0} (xs : List X) (y : X) (ys : List X) → slice_get (xs ++ y ∷ ys) (length xs) ≡ Some y
+get_seam [] y ys = refl
+get_seam (x ∷ xs) y ys = get_seam xs y ys
+
+-- the keys below the bound are the same
+latest_has : (keys others : List ℕ) (bound key : ℕ) (latest : Option ℕ) → ((m : ℕ) → m < bound → slice_get others m ≡ slice_get keys m) →
+    MatchOption latest ⊤ (λ n. (n < bound) × (slice_get keys n ≡ Some key)) →
+    MatchOption latest ⊤ (λ n. (n < bound) × (slice_get others n ≡ Some key))
+latest_has keys others bound key None same h = h
+latest_has keys others bound key (Some n) same h = (h.0, same n h.0 ∙ h.1)
+
+latest_same : (keys others : List ℕ) (bound key : ℕ) (latest : Option ℕ) → ((m : ℕ) → m < bound → slice_get others m ≡ slice_get keys m) →
+    IsLatest keys bound key latest → IsLatest others bound key latest
+latest_same keys others bound key latest same is =
+    record {
+      has = latest_has keys others bound key latest same is.has;
+      greatest = λ number lt has. is.greatest number lt (sym (same number lt) ∙ has);
+    }
+
+-- one more number of this key, and one of another
+latest_own : (keys : List ℕ) (bound key : ℕ) → slice_get keys bound ≡ Some key → IsLatest keys (bound + 1) key (Some bound)
+latest_own keys bound key is = record { has = (omega arith, is); greatest = λ number lt has. omega (arith, lt) }
+
+pub below_or : (number bound : ℕ) → number < bound + 1 → (number < bound) ⊎ (number ≡ bound)
+below_or number bound lt = elim (eqb_tells number bound) [ inl same ↦ inr same.1 | inr other ↦ let ne = other.1 in inl (omega (arith, lt, ne)) ]
+
+other_has : (keys : List ℕ) (bound key : ℕ) (latest : Option ℕ) → MatchOption latest ⊤ (λ n. (n < bound) × (slice_get keys n ≡ Some key)) →
+    MatchOption latest ⊤ (λ n. (n < bound + 1) × (slice_get keys n ≡ Some key))
+other_has keys bound key None h = h
+other_has keys bound key (Some n) h = let lt = h.0 in (omega (arith, lt), h.1)
+
+other_greatest : (keys : List ℕ) (bound own key : ℕ) (latest : Option ℕ) → slice_get keys bound ≡ Some own → own ≢ key →
+    IsLatest keys bound key latest → (number : ℕ) → (number < bound) ⊎ (number ≡ bound) → slice_get keys number ≡ Some key →
+    MatchOption latest ⊥ (λ n. number ≤ n)
+other_greatest keys bound own key latest is other l number (inl lt) has = l.greatest number lt has
+other_greatest keys bound own key latest is other l number (inr same) has =
+    absurd (other (some_inside own key (sym is ∙ ap (slice_get keys) (sym same) ∙ has)))
+
+latest_other : (keys : List ℕ) (bound own key : ℕ) (latest : Option ℕ) → slice_get keys bound ≡ Some own → own ≢ key →
+    IsLatest keys bound key latest → IsLatest keys (bound + 1) key latest
+latest_other keys bound own key latest is other l =
+    record {
+      has = other_has keys bound key latest l.has;
+      greatest = λ number lt has. other_greatest keys bound own key latest is other l number (below_or number bound lt) has;
+    }
+
+-- and back
+less_has : (keys : List ℕ) (bound own key : ℕ) (latest : Option ℕ) → slice_get keys bound ≡ Some own → own ≢ key →
+    MatchOption latest ⊤ (λ n. (n < bound + 1) × (slice_get keys n ≡ Some key)) →
+    MatchOption latest ⊤ (λ n. (n < bound) × (slice_get keys n ≡ Some key))
+less_has keys bound own key None is other h = h
+less_has keys bound own key (Some n) is other h =
+    let below : (n < bound) ⊎ (n ≡ bound) = below_or n bound h.0 in
+    elim below [
+      | inl lt ↦ (lt, h.1)
+      | inr same ↦ absurd (other (some_inside own key (sym is ∙ ap (slice_get keys) (sym same) ∙ h.1)))
+    ]
+
+latest_less : (keys : List ℕ) (bound own key : ℕ) (latest : Option ℕ) → slice_get keys bound ≡ Some own → own ≢ key →
+    IsLatest keys (bound + 1) key latest → IsLatest keys bound key latest
+latest_less keys bound own key latest is other l =
+    record {
+      has = less_has keys bound own key latest is other l.has;
+      greatest = λ number lt has. l.greatest number (omega (arith, lt)) has;
+    }
+
+abbrev option_key : Option Link → Option ℕ
+option_key link = option_map (λ l. l.key) link
+
+-- the keys of links, with one more link
+keys_front : (links : List Link) (link : Link) (m : ℕ) → m < length links →
+    slice_get (link_keys (links ++ link ∷ [])) m ≡ slice_get (link_keys links) m
+keys_front links link m lt =
+    slice_get-map (λ (l : Link). l.key) (links ++ link ∷ []) m ∙ ap option_key (get_front links (link ∷ []) m lt)
+    ∙ sym (slice_get-map (λ (l : Link). l.key) links m)
+
+keys_seam : (links : List Link) (link : Link) → slice_get (link_keys (links ++ link ∷ [])) (length links) ≡ Some link.key
+keys_seam links link =
+    slice_get-map (λ (l : Link). l.key) (links ++ link ∷ []) (length links) ∙ ap option_key (get_seam links link [])
+
+length_more : (links : List Link) (link : Link) → length (links ++ link ∷ []) ≡ length links + 1
+length_more links link = length-append links (link ∷ [])
+
+-- one more link
+more_latest : (links : List Link) (link : Link) (key : ℕ) (before after : Option ℕ) →
+    ((nat_eq link.key key ≡ true) × (link.key ≡ key)) ⊎ ((nat_eq link.key key ≡ false) × (link.key ≢ key)) →
+    IsLatest (link_keys links) (length links) key before → after ≡ cond (nat_eq link.key key) (Some (length links)) before →
+    IsLatest (link_keys (links ++ link ∷ [])) (length links + 1) key after
+more_latest links link key before after (inl own) l is =
+    let latest : after ≡ Some (length links) = is ∙ ap (λ t. cond t (Some (length links)) before) own.0 in
+    subst (IsLatest (link_keys (links ++ link ∷ [])) (length links + 1) key) (sym latest)
+    (latest_own (link_keys (links ++ link ∷ [])) (length links) key (keys_seam links link ∙ ap Some own.1))
+more_latest links link key before after (inr other) l is =
+    let latest : after ≡ before = is ∙ ap (λ t. cond t (Some (length links)) before) other.0 in
+    subst (IsLatest (link_keys (links ++ link ∷ [])) (length links + 1) key) (sym latest)
+    (latest_other (link_keys (links ++ link ∷ [])) (length links) link.key key before (keys_seam links link) other.1
+    (latest_same (link_keys links) (link_keys (links ++ link ∷ [])) (length links) key before (keys_front links link) l))
+
+pub pushed_latest : (links : List Link) (link : Link) (before after : ℕ → Option ℕ) → AreLatest links before →
+    ((key : ℕ) → after key ≡ cond (nat_eq link.key key) (Some (length links)) (before key)) → AreLatest (links ++ link ∷ []) after
+pushed_latest links link before after l is = λ key.
+    subst (λ n. IsLatest (link_keys (links ++ link ∷ [])) n key (after key)) (sym (length_more links link))
+    (more_latest links link key (before key) (after key) (eqb_tells link.key key) (l key) (is key))
+
+one_leads : (links : List Link) (link : Link) → LeadOn links → IsLatest (link_keys links) (length links) link.key link.earlier →
+    (number : ℕ) (other : Link) → (number < length links) ⊎ (number ≡ length links) → slice_get (links ++ link ∷ []) number ≡ Some other →
+    IsLatest (link_keys (links ++ link ∷ [])) number other.key other.earlier
+one_leads links link lead l number other (inl lt) is =
+    latest_same (link_keys links) (link_keys (links ++ link ∷ [])) number other.key other.earlier
+    (λ m below. keys_front links link m (omega (arith, lt, below))) (lead number other (sym (get_front links (link ∷ []) number lt) ∙ is))
+one_leads links link lead l number other (inr same) is =
+    let own : link ≡ other =
+    some_inside link other (sym (get_seam links link []) ∙ ap (slice_get (links ++ link ∷ [])) (sym same) ∙ is) in
+    subst (λ n. IsLatest (link_keys (links ++ link ∷ [])) n other.key other.earlier) (sym same)
+    (subst (λ (o : Link). IsLatest (link_keys (links ++ link ∷ [])) (length links) o.key o.earlier) own
+    (latest_same (link_keys links) (link_keys (links ++ link ∷ [])) (length links) link.key link.earlier (keys_front links link) l))
+
+pub pushed_lead : (links : List Link) (link : Link) (before : ℕ → Option ℕ) → AreLatest links before → link.earlier ≡ before link.key →
+    LeadOn links → LeadOn (links ++ link ∷ [])
+pushed_lead links link before l is lead = λ number other has.
+    let lt = slice_get_within (links ++ link ∷ []) number other has in
+    let long = length_more links link in
+    one_leads links link lead (subst (IsLatest (link_keys links) (length links) link.key) (sym is) (l link.key)) number other
+    (below_or number (length links) (omega (arith, lt, long))) has
+
+-- one less
+less_latest : (links : List Link) (link : Link) (key : ℕ) (before after : Option ℕ) →
+    ((nat_eq link.key key ≡ true) × (link.key ≡ key)) ⊎ ((nat_eq link.key key ≡ false) × (link.key ≢ key)) →
+    IsLatest (link_keys (links ++ link ∷ [])) (length links) link.key link.earlier →
+    IsLatest (link_keys (links ++ link ∷ [])) (length links + 1) key before → after ≡ cond (nat_eq link.key key) link.earlier before →
+    IsLatest (link_keys (links ++ link ∷ [])) (length links) key after
+less_latest links link key before after (inl own) lead l is =
+    let latest : after ≡ link.earlier = is ∙ ap (λ t. cond t link.earlier before) own.0 in
+    subst (IsLatest (link_keys (links ++ link ∷ [])) (length links) key) (sym latest)
+    (subst (λ k. IsLatest (link_keys (links ++ link ∷ [])) (length links) k link.earlier) own.1 lead)
+less_latest links link key before after (inr other) lead l is =
+    let latest : after ≡ before = is ∙ ap (λ t. cond t link.earlier before) other.0 in
+    subst (IsLatest (link_keys (links ++ link ∷ [])) (length links) key) (sym latest)
+    (latest_less (link_keys (links ++ link ∷ [])) (length links) link.key key before (keys_seam links link) other.1 l)
+
+pub popped_latest : (all links : List Link) (link : Link) (before after : ℕ → Option ℕ) → all ≡ links ++ link ∷ [] → AreLatest all before →
+    LeadOn all → ((key : ℕ) → after key ≡ cond (nat_eq link.key key) link.earlier (before key)) → AreLatest links after
+popped_latest all links link before after whole l lead is = λ key.
+    let own = subst LeadOn whole lead (length links) link (get_seam links link []) in
+    let last = subst (λ n. IsLatest (link_keys (links ++ link ∷ [])) n key (before key)) (length_more links link)
+    (subst (λ ls. AreLatest ls before) whole l key) in
+    latest_same (link_keys (links ++ link ∷ [])) (link_keys links) (length links) key (after key)
+    (λ m below. sym (keys_front links link m below))
+    (less_latest links link key (before key) (after key) (eqb_tells link.key key) own last (is key))
+
+pub popped_lead : (all links : List Link) (link : Link) → all ≡ links ++ link ∷ [] → LeadOn all → LeadOn links
+popped_lead all links link whole lead = λ number other has.
+    let lt = slice_get_within links number other has in
+    latest_same (link_keys (links ++ link ∷ [])) (link_keys links) number other.key other.earlier
+    (λ m below. sym (keys_front links link m (omega (arith, lt, below))))
+    (subst LeadOn whole lead number other (get_front links (link ∷ []) number lt ∙ has))
+
+-- where a walk down the links of a key is: at a number of the key, if at any; the greater ones are among those found
+pub record CoversDown (keys : List ℕ) (key : ℕ) (before after : List ℕ) (next : Option ℕ) : Type 0 where
+  pub kept : (number : ℕ) → Contains before number → Contains after number
+  pub at : MatchOption next ⊤ (λ n. (n < length keys) × (slice_get keys n ≡ Some key))
+  pub found : (number : ℕ) → slice_get keys number ≡ Some key → Contains after number ⊎ MatchOption next ⊥ (λ n. number ≤ n)
+
+-- how many numbers may be left
+abbrev pub count_down : Option ℕ → ℕ
+count_down None = 0
+count_down (Some n) = n + 1
+
+same_key : (links : List Link) (link : Link) (number key : ℕ) → slice_get links number ≡ Some link → slice_get (link_keys links) number ≡ Some key →
+    link.key ≡ key
+same_key links link number key is has =
+    some_inside link.key key (sym (ap option_key is) ∙ sym (slice_get-map (λ (l : Link). l.key) links number) ∙ has)
+
+at_earlier : (keys : List ℕ) (bound key : ℕ) (earlier : Option ℕ) → bound < length keys →
+    MatchOption earlier ⊤ (λ n. (n < bound) × (slice_get keys n ≡ Some key)) →
+    MatchOption earlier ⊤ (λ n. (n < length keys) × (slice_get keys n ≡ Some key))
+at_earlier keys bound key None lt h = h
+at_earlier keys bound key (Some n) lt h = let less = h.0 in (omega (arith, lt, less), h.1)
+
+walked_one : (keys : List ℕ) (key bound number : ℕ) (found : List ℕ) (earlier : Option ℕ) → IsLatest keys bound key earlier →
+    slice_get keys number ≡ Some key → Contains found number ⊎ (number ≤ bound) →
+    Contains (found ++ bound ∷ []) number ⊎ MatchOption earlier ⊥ (λ n. number ≤ n)
+walked_one keys key bound number found earlier is has (inl there) = inl (Contains-append_left found (bound ∷ []) number there)
+walked_one keys key bound number found earlier is has (inr le) =
+    elim (below_or number bound (omega (arith, le))) [
+      | inl lt ↦ inr (is.greatest number lt has)
+      | inr same ↦ inl (subst (Contains (found ++ bound ∷ [])) (sym same) (Contains-push found bound))
+    ]
+
+pub walk_on : (links : List Link) (link : Link) (key number : ℕ) (before found : List ℕ) → LeadOn links → slice_get links number ≡ Some link →
+    CoversDown (link_keys links) key before found (Some number) → CoversDown (link_keys links) key before (found ++ number ∷ []) link.earlier
+walk_on links link key number before found lead is covers =
+    let own = subst (λ k. IsLatest (link_keys links) number k link.earlier) (same_key links link number key is covers.at.1)
+    (lead number link is) in
+    record {
+      kept = λ n has. Contains-append_left found (number ∷ []) n (covers.kept n has);
+      at = at_earlier (link_keys links) number key link.earlier covers.at.0 own.has;
+      found = λ n has. walked_one (link_keys links) key number n found link.earlier own has (covers.found n has);
+    }
+
+pub link_at : (links : List Link) (link : Link) (key number : ℕ) (before found : List ℕ) (next : Option ℕ) → next ≡ Some number →
+    link ≡ get_or links number link → CoversDown (link_keys links) key before found next → slice_get links number ≡ Some link
+link_at links link key number before found next at is covers =
+    let here = subst (CoversDown (link_keys links) key before found) at covers in
+    slice_get_read links (length links) number link refl (subst (λ n. number < n) (length-map links (λ (l : Link). l.key)) here.at.0) is
+
+smaller_earlier : (keys : List ℕ) (bound key : ℕ) (earlier : Option ℕ) →
+    MatchOption earlier ⊤ (λ n. (n < bound) × (slice_get keys n ≡ Some key)) → count_down earlier < bound + 1
+smaller_earlier keys bound key None h = omega arith
+smaller_earlier keys bound key (Some n) h = let lt = h.0 in omega (arith, lt)
+
+pub walk_shorter : (links : List Link) (link : Link) (number : ℕ) → LeadOn links → slice_get links number ≡ Some link →
+    count_down link.earlier < count_down (Some number)
+walk_shorter links link number lead is = smaller_earlier (link_keys links) number link.key link.earlier (lead number link is).has
+
+-- the key of the last number is not missing
+pub last_present : (all links : List Link) (link : Link) (latest : ℕ → Option ℕ) → all ≡ links ++ link ∷ [] → AreLatest all latest →
+    latest link.key ≡ None → ⊥
+last_present all links link latest whole l none =
+    let is = subst (λ ls. AreLatest ls latest) whole l link.key in
+    let long = length_more links link in
+    subst (λ o. MatchOption o ⊥ (λ n. length links ≤ n)) none
+    (is.greatest (length links) (omega (arith, long)) (keys_seam links link))
+
+-- keys of which no two are the same have no earlier number, and the other way round
+same_tells : (a b : ℕ) → Decides (nat_eq a b) (a ≡ b)
+same_tells a b = (eqb-true a b, eq-eqb a b)
+
+alone : (option : Option ℕ) → is_none option ≡ true → option ≡ None
+alone None is = refl
+alone (Some n) is = absurd cc
+
+first_of_key : (keys : List ℕ) (bound key : ℕ) (latest : Option ℕ) → IsLatest keys bound key latest → latest ≡ None → (number : ℕ) → number < bound →
+    slice_get keys number ≡ Some key → ⊥
+first_of_key keys bound key latest l none number lt has =
+    subst (λ (o : Option ℕ). MatchOption o ⊥ (λ n. number ≤ n)) none (l.greatest number lt has)
+
+unlinked_differ : (links : List Link) → LeadOn links → list_all (λ (l : Link). is_none l.earlier) links ≡ true →
+    AllPairs (λ x y. x ≢ y) (link_keys links)
+unlinked_differ links lead all i j d lt below same =
+    let long = length-map links (λ (l : Link). l.key) in
+    let link = get_or links j (record { key = d; earlier = None }) in
+    let has = slice_get-get_or links j (record { key = d; earlier = None }) (omega (arith, below, long)) in
+    let own : get_or (link_keys links) j d ≡ link.key = get_or-map (λ (l : Link). l.key) links j (record { key = d; earlier = None }) d
+    (omega (arith, below, long)) in
+    let unlinked = alone link.earlier (AllPass-from_list_all (λ (l : Link). is_none l.earlier) links all j (record { key = d; earlier = None })
+    (omega (arith, below, long))) in
+    first_of_key (link_keys links) j link.key link.earlier (lead j link has) unlinked i lt
+    (slice_get-get_or (link_keys links) i d (omega (arith, lt, below)) ∙ ap Some (same ∙ own))
+
+linked_same : (keys : List ℕ) (bound key : ℕ) (latest : Option ℕ) → MatchOption latest ⊤ (λ n. (n < bound) × (slice_get keys n ≡ Some key)) →
+    AllPairs (λ x y. x ≢ y) keys → slice_get keys bound ≡ Some key → is_none latest ≡ true
+linked_same keys bound key None has differ is = refl
+linked_same keys bound key (Some n) has differ is =
+    absurd (differ n bound key has.0 (slice_get_within keys bound key is)
+    (get_or_from_slice_get keys n key key has.1 ∙ sym (get_or_from_slice_get keys bound key key is)))
+
+one_unlinked : (links : List Link) (link : Link) (number : ℕ) → LeadOn links → AllPairs (λ x y. x ≢ y) (link_keys links) →
+    slice_get links number ≡ Some link → is_none link.earlier ≡ true
+one_unlinked links link number lead differ is =
+    linked_same (link_keys links) number link.key link.earlier (lead number link is).has differ
+    (slice_get-map (λ (l : Link). l.key) links number ∙ ap option_key is)
+
+pub unlinked_distinct : (links : List Link) → LeadOn links →
+    IsTrue (list_all (λ (l : Link). is_none l.earlier) links) ↔ IsDistinct nat_eq (link_keys links)
+unlinked_distinct links lead = (
+  λ all. IsDistinct-from_AllPairs same_tells (link_keys links) (unlinked_differ links lead all),
+  λ distinct. list_all-from_AllPass (λ (l : Link). is_none l.earlier) links
+      (λ k d lt. one_unlinked links (get_or links k d) k lead (AllPairs-from_IsDistinct same_tells (link_keys links) distinct)
+      (slice_get-get_or links k d lt)),
+)
+
+pub includes_from : (keys numbers : List ℕ) (key : ℕ) → HasNumbersOf keys numbers key → IncludesNumbersOf keys numbers key
+includes_from keys numbers key has = λ number is. list_any-from_Contains nat_eq_equiv number numbers (has number is)
+
+pub includes_to : (keys numbers : List ℕ) (key : ℕ) → IncludesNumbersOf keys numbers key → HasNumbersOf keys numbers key
+includes_to keys numbers key includes = λ number is. Contains-from_any eqb-true number numbers (includes number is)
+
+-- the numbers of a key, after one more number and after one less
+pub rooted_pushed : (keys roots more : List ℕ) (key root : ℕ) → HasNumbersOf keys roots root →
+    ((other : ℕ) → Contains roots other → Contains more other) → (key ≡ root → Contains more (length keys)) →
+    HasNumbersOf (keys ++ key ∷ []) more root
+rooted_pushed keys roots more key root rooted kept own = λ number has.
+    let lt = slice_get_within (keys ++ key ∷ []) number root has in
+    let long = length-append keys (key ∷ []) in
+    elim (below_or number (length keys) (omega (arith, lt, long))) [
+      | inl less ↦ kept number (rooted number (sym (get_front keys (key ∷ []) number less) ∙ has))
+      | inr same ↦ subst (Contains more) (sym same) (own (some_inside key root
+          (sym (get_seam keys key []) ∙ ap (slice_get (keys ++ key ∷ [])) (sym same) ∙ has)))
+    ]
+
+slice_get-take : {X : Type 0} (xs : List X) (m i : ℕ) (x : X) → slice_get (take m xs) i ≡ Some x → (i < m) × (slice_get xs i ≡ Some x)
+slice_get-take xs zero i x is = let none = slice_get_within [] i x is in absurd (omega (arith, none))
+slice_get-take [] (suc m) i x is = let none = slice_get_within [] i x is in absurd (omega (arith, none))
+slice_get-take (y ∷ xs) (suc m) zero x is = (omega arith, is)
+slice_get-take (y ∷ xs) (suc m) (suc i) x is = let rest = slice_get-take xs m i x is in let lt = rest.0 in (omega (arith, lt), rest.1)
+
+pub rooted_popped : (keys roots fewer : List ℕ) (root last : ℕ) → HasNumbersOf keys roots root → last ≡ length keys - 1 →
+    ((other : ℕ) → other ≢ last → Contains roots other → Contains fewer other) → HasNumbersOf (take (length keys - 1) keys) fewer root
+rooted_popped keys roots fewer root last rooted is kept = λ number has.
+    let at = slice_get-take keys (length keys - 1) number root has in
+    let lt = at.0 in
+    kept number (λ same. omega (arith, same, is, lt)) (rooted number at.1)

@@ -1,0 +1,56 @@
+-- The line at a place of a list, and whether it matches a path.
+use Rattle.std.proofs.Common.{◌≡◌, ℕ, ◌<◌, Bool, true, false, not, ◌||◌, List, [], ◌∷◌, length, map, get_or, Option, Some, None, Ok}
+use Rattle.std.proofs.Common.{Err, Result, refl, sym, ap, ◌∙◌, arith}
+use Rattle.std.specs.Prelude.{IfOk}
+use Rattle.std.proofs.Math.Logic.{∥∥₁_elim}
+use Rattle.std.proofs.Math.Bool.{Bool-set}
+use Rattle.std.proofs.lemmas.List.{length-map, get_or-map}
+use Rattle.attr_wildmatch.specs.declared.case.Case.{Case}
+use Rattle.attr_glob.specs.declared.search.pattern.Mapping.{Mapping}
+use Rattle.attr_wildmatch.specs.Deciding.{text_matches}
+use Rattle.attr_glob.specs.Paths.{matched_part, is_directory, path_matches}
+use Rattle.attr_glob.specs.Patterns.{Reading, reading, has_flag, negative, must_be_dir}
+use Rattle.attr_glob.specs.Views.{pattern_view, patterns_of}
+use Rattle.attr_lists.specs.declared.types.Value.{Value}
+use Rattle.attr_lists.specs.ListViews.{Entry, entry_view, entries_view}
+use Rattle.attr_search.specs.inner.PlacedLines.{no_entry, entry_at}
+use Rattle.attr_search.specs.shared.ReadLines.{AreRead}
+
+-- the patterns of a list are those of its lines
+pub lines_patterns : (ms : List (Mapping Value)) → patterns_of ms ≡ map (λ entry. entry.pattern) (entries_view ms)
+lines_patterns [] = refl
+lines_patterns (m ∷ ms) = let e = lines_patterns ms in cc
+
+-- what is known of a line that defines no macro
+read_at : (lines : List Entry) (place : ℕ) → AreRead lines → place < length lines → (entry_at lines place).macro ≡ None →
+    (text : List ℕ) × (reading text ≡ Some (entry_at lines place).pattern) × (has_flag (entry_at lines place).pattern.mode negative ≡ false)
+read_at lines place all lt none = rw none at (all place no_entry lt)
+
+-- the line at a place is that of the mapping there
+pub entry_is : (ms : List (Mapping Value)) (place : ℕ) (m : Mapping Value) → place < length ms → m ≡ get_or ms place m →
+    entry_at (entries_view ms) place ≡ entry_view m
+entry_is ms place m lt is = get_or-map entry_view ms place m no_entry lt ∙ ap entry_view (sym is)
+
+-- a pattern that wants a directory matches no other path
+pub other_kind : (entry : Entry) (r : Reading) (case : Case) (path : List ℕ) (is_dir : Option Bool) → entry.pattern ≡ r →
+    (not (has_flag r.mode must_be_dir) || is_directory is_dir) ≡ false → false ≡ path_matches case entry.pattern path is_dir
+other_kind entry r case path is_dir same kind = rw (same, kind) refl
+
+-- else the answer for the matched part is the test of the line
+pub matched_answer : {E : Type 0} (ms : List (Mapping Value)) (place : ℕ) (r : Reading) (case : Case) (path part : List ℕ)
+    (is_dir : Option Bool) (result : Result Bool E) →
+    ∥ AreRead (entries_view ms) ∥₁ → place < length ms → (entry_at (entries_view ms) place).macro ≡ None →
+    (entry_at (entries_view ms) place).pattern ≡ r →
+    (not (has_flag r.mode must_be_dir) || is_directory is_dir) ≡ true →
+    part ≡ matched_part r path →
+    IfOk result (λ answer. (text : List ℕ) → reading text ≡ Some r → answer ≡ text_matches case r.text part) →
+    IfOk result (λ answer. answer ≡ path_matches case (entry_at (entries_view ms) place).pattern path is_dir)
+matched_answer ms place r case path part is_dir (Err e) read lt none here kind same told = tt
+matched_answer ms place r case path part is_dir (Ok answer) read lt none here kind same told =
+    let n = length-map ms entry_view in
+    let test : text_matches case r.text (matched_part r path) ≡ path_matches case (entry_at (entries_view ms) place).pattern path is_dir =
+    rw (here, kind) refl in
+    ∥∥₁_elim read (Bool-set answer (path_matches case (entry_at (entries_view ms) place).pattern path is_dir))
+    (λ lines. let known = read_at (entries_view ms) place lines (omega arith) none in
+    told known.0 (known.1 ∙ ap Some here)
+    ∙ (ap (text_matches case r.text) same ∙ test))

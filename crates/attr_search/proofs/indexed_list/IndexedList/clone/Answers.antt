@@ -1,0 +1,31 @@
+use Rattle.std.proofs.Common.{◌≡◌, ◌∙◌, ap, sym, subst, option_map, string_bytes}
+use Rattle.std.specs.List.{list_all}
+use Rattle.std.proofs.Math.Logic.{∥∥₁_map}
+use Rattle.attr_glob.specs.Candidates.{has_macro_mode}
+use Rattle.attr_lists.specs.ListViews.{entries_view}
+use Rattle.attr_search.specs.declared.line_index.LineIndex.{LineIndex}
+use Rattle.attr_search.specs.inner.DirectoryKeys.{base_key}
+use Rattle.attr_search.specs.inner.LineIndexes.{indexed_lines}
+use Rattle.attr_search.specs.shared.ReadLines.{AreRead}
+use Rattle.attr_search.proofs.IndexedListLemmas.{copied_lines, copied_list, same_lines, same_patterns}
+use Rattle.attr_search.proofs.indexed_list.IndexedList.clone.Goals as goal
+
+pub invariant_of-result : goal.invariant_of-result
+invariant_of-result c =
+    let own = c.args.self.now in
+    let before = own.list.patterns.items in
+    let copy = c.in_ok-list.list in
+    let lines : entries_view copy.patterns.items ≡ entries_view before =
+    copied_lines before copy.patterns.items c.in_ok-list.ensures.patterns in
+    record {
+      lines = ap (λ (x : LineIndex). indexed_lines x.lines.items) c.in_ok-index.ensures.cases ∙ own.lines
+          ∙ sym (same_lines before copy.patterns.items lines);
+      source = ap (λ (x : LineIndex). option_map string_bytes x.source) c.in_ok-index.ensures.cases ∙ own.source ∙ sym c.in_ok-list.ensures.source;
+      based = λ busy. own.based busy ∙ ap base_key (sym c.in_ok-list.ensures.base);
+      idle = own.idle ∙ ap (list_all has_macro_mode) (sym (same_patterns before copy.patterns.items lines));
+      read = ∥∥₁_map own.read (subst AreRead (sym lines));
+    }
+
+pub returns-clause-list : goal.returns-clause-list
+returns-clause-list c =
+    copied_list c.args.self.now.list c.in_ok-list.list c.in_ok-list.ensures.patterns c.in_ok-list.ensures.source c.in_ok-list.ensures.base

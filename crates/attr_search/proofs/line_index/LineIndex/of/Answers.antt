@@ -1,0 +1,16 @@
+use Rattle.std.proofs.Common.{◌≡◌, ◌∙◌, ap, map, subst, sym}
+use Rattle.attr_keys.specs.shared.KeyIndexes.{IsKeyIndex}
+use Rattle.attr_glob.specs.shared.LineShapes.{key_of_pattern}
+use Rattle.attr_search.specs.inner.LineIndexes.{indexed_lines, listed_lines}
+use Rattle.attr_search.proofs.IndexedListLemmas.{keys_same}
+use Rattle.attr_search.proofs.line_index.LineIndex.of.Goals as goal
+
+pub invariant_of-result : goal.invariant_of-result
+invariant_of-result c =
+    let mappings = c.args.list.now.patterns.items in
+    let lines = c.in_ok-lines.lines.items in
+    let same : indexed_lines lines ≡ listed_lines mappings = c.in_ok-lines.ensures ∙ ap listed_lines c.deref-2.ensures.value in
+    record {
+      keyed = subst (λ ks. IsKeyIndex ks c.in_ok-keys.keys)
+          (ap (map (λ m. key_of_pattern m.pattern)) c.deref.ensures.value ∙ sym (keys_same lines mappings same)) c.in_ok-keys.ensures;
+    }

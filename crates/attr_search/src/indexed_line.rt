@@ -1,0 +1,77 @@
+//! A line of an index: its pattern, with what is made of it once.
+
+ghost use Rattle.std.specs.Prelude.{◌≡◌, IfOk};
+ghost use Rattle.std.specs.Option.{option_copied};
+ghost use Rattle.attr_glob.specs.KeptTokens.{kept_tokens};
+ghost use Rattle.attr_glob.specs.Views.{pattern_view};
+ghost use Rattle.attr_search.specs.inner.LineTokens.{unboxed};
+
+use attr_glob::Pattern;
+use attr_glob::search::pattern::Mapping;
+use attr_glob::token::Tokens;
+use attr_keys::key::{Key, Keyed};
+use attr_lists::types::Value;
+use std::alloc::{AllocError, Global};
+
+/// A line as searches read it and as answers lend it.
+#[derive(Drop)]
+pub struct IndexedLine {
+    /// Its pattern.
+    pub pattern: Pattern,
+    /// Its number in its file, from 1.
+    pub number: usize,
+    /// The tokens of the pattern, where a match may need them.
+    pub tokens: Option<Box<Tokens>>,
+    ghost kept: { unboxed tokens ≡ kept_tokens (pattern_view pattern) },
+}
+
+impl IndexedLine {
+    /// The line of a mapping. It has a copy of the pattern.
+    ///
+    /// # Errors
+    ///
+    /// If memory runs out.
+    pub fn of(alloc: Global, mapping: &Mapping<Value>) -> Result<IndexedLine, AllocError>
+        ensures pattern { IfOk result (λ line.
+            pattern_view line.pattern ≡ pattern_view mapping.now.pattern) }
+        ensures number { IfOk result (λ line. line.number ≡ mapping.now.sequence_number) }
+    {
+        let tokens = boxed(alloc, mapping.pattern.kept_tokens(alloc)?)?;
+        let pattern = mapping.pattern.clone(alloc)?;
+        Ok(IndexedLine {
+            pattern,
+            number: mapping.sequence_number,
+            tokens,
+        })
+    }
+
+    /// The tokens of the pattern, where a match may need them.
+    pub fn tokens(&self) -> Option<&Tokens>
+        ensures { option_copied result ≡ kept_tokens (pattern_view self.now.pattern) }
+    {
+        match &self.tokens {
+            Some(tokens) => Some(&**tokens),
+            None => None,
+        }
+    }
+}
+
+fn boxed(alloc: Global, tokens: Option<Tokens>) -> Result<Option<Box<Tokens>>, AllocError>
+    ensures { IfOk result (λ kept. unboxed kept ≡ tokens) }
+{
+    match tokens {
+        Some(tokens) => Ok(Some(Box::new(alloc, tokens)?)),
+        None => Ok(None),
+    }
+}
+
+impl Keyed for IndexedLine {
+    ghost use Rattle.attr_glob.specs.shared.LineShapes.{key_of_pattern};
+
+    ghost content = { λ line. key_of_pattern line.pattern };
+
+    #[inline]
+    fn key(&self) -> Key<'_> {
+        self.pattern.key()
+    }
+}

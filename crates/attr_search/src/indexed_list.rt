@@ -1,0 +1,179 @@
+//! A list of a search, with the index of its lines, which is made once.
+
+ghost use Rattle.std.specs.Prelude.{◌≡◌, ◌<◌, None, length, true, false, IfOk, OnOk, OnErr, option_map, string_bytes};
+ghost use Rattle.bstr.specs.BStr.{bstr_bytes};
+ghost use Rattle.std.specs.List.{list_all};
+ghost use Rattle.attr_glob.specs.Candidates.{has_macro_mode};
+ghost use Rattle.attr_glob.specs.Paths.{path_matches};
+ghost use Rattle.attr_search.specs.inner.PlacedLines.{entry_at};
+ghost use Rattle.attr_search.specs.inner.Trying.{AreTried};
+ghost use Rattle.attr_glob.specs.Views.{base_bytes, patterns_of};
+ghost use Rattle.attr_search.specs.inner.DirectoryKeys.{base_key as key_of_base};
+ghost use Rattle.attr_lists.specs.Definitions.{free_id, is_active, with_list, HoldsList, IsSoundCollection};
+ghost use Rattle.attr_lists.specs.KeptLists.{macros_valid};
+ghost use Rattle.attr_lists.specs.ListViews.{entries_view};
+ghost use Rattle.attr_lists.specs.Numbers.{numbered_lines};
+ghost use Rattle.attr_search.specs.shared.ReadLines.{AreRead};
+ghost use Rattle.attr_search.specs.inner.LineIndexes.{indexed_lines, listed_lines};
+ghost use Rattle.attr_lists.specs.shared.Keeping.{StayRegistered};
+
+use crate::directory_keys::base_key;
+use crate::line_index::LineIndex;
+use crate::macro_lines::are_macros;
+use crate::path_query::PathQuery;
+use attr_glob::pattern::base_name;
+use attr_glob::search::pattern::List;
+use attr_glob::wildmatch::MatchBuffers;
+use attr_keys::key_index::Texts;
+use attr_lists::name_table::NameTable;
+use attr_lists::types::Attributes;
+use std::alloc::{AllocError, Global};
+use std::rc::Rc;
+
+// The key of the bases of idle lists. No directory of at most eight bytes has it.
+const IDLE_KEY: u64 = 0;
+
+/// A list of a search, with the keys of its lines. It compares as the list.
+#[derive(Drop)]
+#[derive_where(PartialEq, Eq, PartialOrd, Ord, Hash, Debug)]
+pub struct IndexedList {
+    /// The lines, their source, and the base below which they apply.
+    pub list: List<Attributes>,
+    /// The lines as searches read them, which is shared with the outcomes that have answers of the list.
+    #[derive_where(skip)]
+    pub index: Rc<LineIndex>,
+    /// The list id under which the list is registered in its collection.
+    #[derive_where(skip)]
+    pub list_id: usize,
+    /// The key of the base, by which a path finds the list. No path finds a list that is idle.
+    #[derive_where(skip)]
+    pub base_key: u64,
+    /// Whether each line defines a macro, so that none matches a path.
+    #[derive_where(skip)]
+    pub is_idle: bool,
+    ghost lines: { indexed_lines index.value.lines.items ≡ listed_lines list.patterns.items },
+    ghost source: { option_map string_bytes index.value.source ≡ option_map string_bytes list.source },
+    ghost based: { is_idle ≡ false → base_key ≡ key_of_base (base_bytes list.base) },
+    ghost idle: { is_idle ≡ list_all has_macro_mode (patterns_of list.patterns.items) },
+    ghost read: { ∥ AreRead (entries_view list.patterns.items) ∥₁ },
+}
+
+impl IndexedList {
+    ghost use Rattle.attr_search.specs.IndexedLists.{listed_view};
+
+    /// Registers a list in the table, under the least free list id: its items and macros get the numbers of their
+    /// names, and its definitions of macros are active from then on.
+    ///
+    /// # Errors
+    ///
+    /// If memory runs out. The table is unchanged then.
+    pub fn register(
+        alloc: Global,
+        mut list: List<Attributes>,
+        names: &mut NameTable,
+    ) -> Result<IndexedList, AllocError>
+        requires read { AreRead (entries_view list.patterns.items) }
+        requires valid { macros_valid (entries_view list.patterns.items) ≡ true }
+        ensures list_id { IfOk result (λ s. s.list_id ≡ free_id names.old.active) }
+        ensures fresh { IfOk result (λ s. is_active names.old.active s.list_id ≡ false) }
+        ensures lines { IfOk result (λ s. entries_view s.list.patterns.items
+            ≡ numbered_lines names.new.names (entries_view list.patterns.items)) }
+        ensures source { IfOk result (λ s. s.list.source ≡ list.source) }
+        ensures base { IfOk result (λ s. s.list.base ≡ list.base) }
+        ensures added { OnOk result (names.new
+            ≡ with_list (free_id names.old.active) (entries_view list.patterns.items) names.old) }
+        ensures holds { IfOk result (λ s.
+            HoldsList names.new s.list_id (entries_view s.list.patterns.items)) }
+        ensures others { OnOk result (StayRegistered names.old names.new) }
+        ensures sound { OnOk result (IsSoundCollection names.new) }
+        ensures refused { OnErr result (names.new ≡ names.old) }
+    {
+        let index = Rc::new(alloc, LineIndex::of(alloc, &list)?)?;
+        let key_of_base = base_key(alloc, &list.base)?;
+        let list_id = names.add(alloc, &mut list.patterns)?;
+        let is_idle = are_macros(&list.patterns);
+        let base_key = if is_idle { IDLE_KEY } else { key_of_base };
+        Ok(IndexedList {
+            list,
+            index,
+            list_id,
+            base_key,
+            is_idle,
+        })
+    }
+
+    /// Finds the places of the lines that may match what is left of a path, the greatest first. A place is the index
+    /// of a line, from 0. The places replace the contents of `places`. `reversed` is a buffer for the reversed base
+    /// name.
+    ///
+    /// # Errors
+    ///
+    /// If memory runs out. The contents of `places` are not specified then.
+    pub fn find_candidates(
+        &self,
+        rest: PathQuery<'_>,
+        reversed: &mut Vec<u8>,
+        places: &mut Vec<usize>,
+    ) -> Result<(), AllocError>
+        ensures { OnOk result (AreTried rest.entry.case (bstr_bytes rest.entry.path)
+            (patterns_of self.now.list.patterns.items) places.new.items) }
+    {
+        let path = rest.path.as_bytes();
+        let texts = Texts {
+            name: base_name(path, rest.name_place),
+            path,
+            fold: rest.folds(),
+        };
+        let index = self.index.as_ref();
+        index.keys.find(&index.lines, texts, reversed, places)
+    }
+
+    /// Whether the pattern of the line at a place matches what is left of a path. The line defines no macro.
+    ///
+    /// # Errors
+    ///
+    /// If memory runs out.
+    pub fn matches(
+        &self,
+        place: usize,
+        rest: PathQuery<'_>,
+        buffers: &mut MatchBuffers,
+    ) -> Result<bool, AllocError>
+        requires place { place < length self.now.list.patterns.items }
+        requires no_macro { (entry_at (entries_view self.now.list.patterns.items) place).macro
+            ≡ None }
+        ensures { IfOk result (λ answer. answer ≡ path_matches rest.entry.case
+            (entry_at (entries_view self.now.list.patterns.items) place).pattern
+            (bstr_bytes rest.entry.path) rest.entry.is_dir) }
+    {
+        let line = &self.index.lines[place];
+        if !line.pattern.takes_kind(rest.is_dir) {
+            return Ok(false);
+        }
+        let part = line
+            .pattern
+            .matched_part(rest.path.as_bytes(), rest.name_place);
+        line.pattern
+            .matches_part(line.tokens(), part, rest.case, buffers)
+    }
+
+    /// A copy, with the same list id.
+    ///
+    /// # Errors
+    ///
+    /// If memory runs out.
+    pub fn clone(&self, alloc: Global) -> Result<IndexedList, AllocError>
+        ensures list { IfOk result (λ copy. listed_view copy ≡ listed_view self.now) }
+        ensures list_id { IfOk result (λ copy. copy.list_id ≡ self.now.list_id) }
+    {
+        let list = self.list.clone(alloc)?;
+        let index = self.index.clone()?;
+        Ok(IndexedList {
+            list,
+            index,
+            list_id: self.list_id,
+            base_key: self.base_key,
+            is_idle: self.is_idle,
+        })
+    }
+}

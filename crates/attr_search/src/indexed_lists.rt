@@ -1,0 +1,219 @@
+//! The lists of a search, found by the directories below which they apply.
+
+ghost use Rattle.std.specs.Prelude.{◌≡◌, ◌≢◌, ◌↔◌, ◌<◌, ◌≤◌, ℕ, List, Contains, [], ◌∷◌, ◌++◌, IfSome, IfNone, IfOk, OnOk, IsTrue, length, map, nat_eq, vec_capacity, vec_len};
+ghost use Rattle.std.specs.List.{IsDistinct};
+ghost use Rattle.attr_glob.specs.Views.{base_bytes};
+ghost use Rattle.attr_search.specs.inner.BaseKeys.{base_keys, longest_base};
+ghost use Rattle.attr_search.specs.inner.DirectoryKeys.{GathersDirectories, IncludesNumbersOf, base_len, text_key};
+ghost use Rattle.attr_search.specs.IndexedLists.{listed_view, list_ids_of};
+
+use crate::directory_keys::{FrontHasher, fold_into, text_key};
+use crate::indexed_list::IndexedList;
+use crate::numbers_by_key::NumbersByKey;
+use std::alloc::{AllocError, Global};
+
+// The numbers of lists that are so few that all are searched: to compare their bases with a path costs less than the keys of
+// its directories.
+const FEW: &[usize] = &[0, 1, 2, 3];
+
+/// The lists of a search, the last of which takes precedence. They compare as the lists.
+#[derive_where(PartialEq, Eq, PartialOrd, Ord, Hash, Debug)]
+pub struct IndexedLists {
+    /// The lists, in the order of their addition.
+    pub lists: Vec<IndexedList>,
+    /// The numbers of the lists, by the keys of their bases.
+    #[derive_where(skip)]
+    pub numbers: NumbersByKey,
+    /// The numbers of the lists with the key of the root directory, below which all paths are.
+    #[derive_where(skip)]
+    pub roots: Vec<usize>,
+    /// The numbers of the lists, by their list ids.
+    #[derive_where(skip)]
+    pub by_id: NumbersByKey,
+    /// No base is longer, in bytes.
+    #[derive_where(skip)]
+    pub longest: usize,
+    ghost keyed: { numbers.keys ≡ base_keys lists.items },
+    ghost rooted: { IncludesNumbersOf numbers.keys roots.items (text_key []) },
+    ghost registered: { by_id.keys ≡ list_ids_of lists.items },
+    ghost within: { longest_base lists.items ≤ longest },
+}
+
+// By hand, so that a proof drops it by one call.
+impl Drop for IndexedLists {
+    fn drop(self) {
+        let IndexedLists {
+            lists: _,
+            numbers: _,
+            roots: _,
+            by_id: _,
+            longest: _,
+        } = self;
+    }
+}
+
+impl IndexedLists {
+    ghost use Rattle.attr_search.specs.inner.FoundLists.{HasListRoom, AreListsFor};
+    ghost use Rattle.attr_search.specs.IndexedLists.{listed_view, list_ids_of};
+
+    /// No lists. It takes no memory.
+    pub fn new(alloc: Global) -> IndexedLists
+        ensures { result.lists.items ≡ [] }
+    {
+        IndexedLists {
+            lists: Vec::new(alloc),
+            numbers: NumbersByKey::new(alloc),
+            roots: Vec::new(alloc),
+            by_id: NumbersByKey::new(alloc),
+            longest: 0,
+        }
+    }
+
+    /// Makes room for one more list.
+    ///
+    /// # Errors
+    ///
+    /// If memory runs out.
+    pub fn reserve(&mut self) -> Result<(), AllocError>
+        ensures lists { self.new.lists.items ≡ self.old.lists.items }
+        ensures room { OnOk result (HasListRoom self.new) }
+    {
+        self.lists.reserve(1)?;
+        self.roots.reserve(1)?;
+        self.by_id.reserve()?;
+        self.numbers.reserve()
+    }
+
+    /// Adds a list as the last one. There is room for it.
+    pub fn push_reserved(&mut self, list: IndexedList)
+        requires { HasListRoom self.old }
+        ensures { self.new.lists.items ≡ self.old.lists.items ++ list ∷ [] }
+    {
+        let len = base_len(&list.list.base);
+        self.longest = self.longest.max(len);
+        push_root(&mut self.roots, list.base_key, self.lists.len());
+        self.by_id.push_reserved(list.list_id as u64);
+        self.numbers.push_reserved(list.base_key);
+        self.lists.push_reserved(list);
+    }
+
+    /// Removes the last list and returns it, if there is one. It takes no memory.
+    pub fn pop(&mut self) -> Option<IndexedList>
+        ensures last { IfSome result (λ list.
+            self.old.lists.items ≡ self.new.lists.items ++ list ∷ []) }
+        ensures none { IfNone result (self.old.lists.items ≡ []) }
+        ensures unchanged { IfNone result (self.new.lists.items ≡ []) }
+    {
+        let last = self.lists.pop()?;
+        self.numbers.pop();
+        self.by_id.pop();
+        pop_root(&mut self.roots, self.lists.len());
+        Some(last)
+    }
+
+    /// Whether no two lists have the same list id. It takes a step for each list.
+    pub fn are_ids_distinct(&self) -> bool
+        ensures { IsTrue result ↔ IsDistinct nat_eq (list_ids_of self.now.lists.items) }
+    {
+        self.by_id.are_keys_distinct()
+    }
+
+    /// A copy: each list has the same number.
+    ///
+    /// # Errors
+    ///
+    /// If memory runs out.
+    pub fn clone(&self, alloc: Global) -> Result<IndexedLists, AllocError>
+        ensures lists { IfOk result (λ copy.
+            map listed_view copy.lists.items ≡ map listed_view self.now.lists.items) }
+        ensures list_ids { IfOk result (λ copy.
+            list_ids_of copy.lists.items ≡ list_ids_of self.now.lists.items) }
+    {
+        let mut copy = IndexedLists::new(alloc);
+        for list in &self.lists {
+            let list = list.clone(alloc)?;
+            copy.reserve()?;
+            copy.push_reserved(list);
+        }
+        Ok(copy)
+    }
+
+    /// The numbers of all lists, in their order, if they are few.
+    pub fn few(&self) -> Option<&[usize]>
+        ensures few { IfSome result (λ numbers. (path : List ℕ) →
+            AreListsFor path self.now.lists.items numbers.now) }
+        ensures many { IfNone result (4 < length self.now.lists.items) }
+    {
+        if self.lists.len() <= FEW.len() {
+            Some(&FEW[..self.lists.len()])
+        } else {
+            None
+        }
+    }
+
+    /// Finds the numbers of the lists that apply to a path, in whatever case, and maybe of others. They don't fall, and
+    /// take the place of what the buffer had. `folded` is another buffer.
+    ///
+    /// # Errors
+    ///
+    /// If memory runs out.
+    pub fn find(
+        &self,
+        path: &[u8],
+        folded: &mut Vec<u8>,
+        numbers: &mut Vec<usize>,
+    ) -> Result<(), AllocError>
+        ensures { OnOk result (AreListsFor path.now self.now.lists.items numbers.new.items) }
+    {
+        numbers.clear();
+        fold_into(&path[..path.len().min(self.longest)], folded)?;
+        self.gather(folded, numbers)?;
+        numbers.sort_unstable();
+        Ok(())
+    }
+
+    // Appends the numbers of the lists whose key the root directory has, or a directory in front of the text.
+    fn gather(&self, text: &[u8], numbers: &mut Vec<usize>) -> Result<(), AllocError>
+        ensures { OnOk result (GathersDirectories self.now.numbers.keys text.now (length text.now)
+            numbers.new.items) }
+    {
+        numbers.extend_from_slice(&self.roots)?;
+        let mut front = FrontHasher::new();
+        for place in 0..text.len() {
+            if text[place] == b'/' {
+                self.numbers.append(front.key(text, place + 1), numbers)?;
+            }
+        }
+        Ok(())
+    }
+}
+
+// Appends the number of a list with this key if it is that of the root directory. There is room for it.
+fn push_root(roots: &mut Vec<usize>, key: u64, number: usize)
+    requires { vec_len roots.old < vec_capacity roots.old }
+    ensures kept { (other : ℕ) → Contains roots.old.items other → Contains roots.new.items other }
+    ensures own { key ≡ text_key [] → Contains roots.new.items number }
+{
+    if key == text_key(b"") {
+        roots.push_reserved(number);
+    }
+}
+
+// Removes a number if it is the last one.
+fn pop_root(roots: &mut Vec<usize>, number: usize)
+    ensures { (other : ℕ) → other ≢ number → Contains roots.old.items other →
+        Contains roots.new.items other }
+{
+    if roots.last() == Some(&number) {
+        roots.pop();
+    }
+}
+
+fn base_len(base: &Option<Vec<u8>>) -> usize
+    ensures { result ≡ base_len (base_bytes base.now) }
+{
+    match base {
+        Some(base) => base.len(),
+        None => 0,
+    }
+}
