@@ -160,7 +160,8 @@ fn is_crowded(rows: &[HashedRow], index: usize) -> bool
 
 /// The bytes of the longest key of these rows.
 pub fn longest_key<K: Keyed>(keys: Keys<'_, K>, rows: &[HashedRow]) -> usize
-    ensures { AreNoLonger keys.entry.view.from_end (keys_seen K.content keys.entry) result rows.now }
+    ensures { AreNoLonger
+        keys.entry.view.from_end (keys_seen K.content keys.entry) result rows.now }
 {
     let mut longest = 0;
     for row in rows {

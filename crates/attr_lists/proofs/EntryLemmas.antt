@@ -1,12 +1,12 @@
 -- What is entries of names, by number.
-use Rattle.std.proofs.Common.{◌≡◌, ◌≢◌, ℕ, zero, suc, ◌+◌, ◌<◌, ◌≤◌, Bool, false, not, eqb, List, [], ◌∷◌, ◌++◌, length, get_or, set}
+use Rattle.std.proofs.Common.{◌≡◌, ◌≢◌, ℕ, zero, suc, ◌+◌, ◌<◌, Bool, false, not, eqb, List, [], ◌∷◌, ◌++◌, length, get_or, set}
 use Rattle.std.proofs.Common.{take, drop, map, filter, All, unwrap_or, option_map, refl, sym, ap, subst, ◌∙◌, ⊎_elim, arith, ne_eqb, eq-eqb}
 use Rattle.std.proofs.Common.{Option, Some, None, true, bytes_eq}
 use Rattle.std.specs.Prelude.{is_some, ◌&&◌}
 use Rattle.std.specs.Cmp.Lexicographic.{bytes_decides}
 use Rattle.std.proofs.lemmas.Bool.{cases_Bool, cases_eq, cond-true, cond-false}
 use Rattle.std.proofs.lemmas.List.{append-nil, append_assoc, map-append, map-set, length-map, length-append, length-set, get_or_push}
-use Rattle.std.proofs.lemmas.List.{get_or_append_left, get_or_past, get_or_default, get_or-set_same, get_or-set_other, at_drop_more, take_more}
+use Rattle.std.proofs.lemmas.List.{get_or_append_left, get_or_default, get_or-set_same, get_or-set_other, at_drop_more, take_more}
 use Rattle.std.proofs.lemmas.List.Elements.{All-nil, All-cons, All-head, All-tail, All-map, All-filter}
 use Rattle.attr_glob.specs.declared.search.pattern.Mapping.{Mapping}
 use Rattle.attr_lists.specs.declared.name_table.entry.Definition.{Definition}

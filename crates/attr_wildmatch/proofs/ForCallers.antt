@@ -5,7 +5,7 @@
 -- reverse of a list with one more element. same_answer: tests that imply each other are equal.
 pub use Rattle.attr_wildmatch.proofs.Basics.{by_test, and_parts, and_both, or_left, or_right, equal, equal_so, reverse-cons}
 pub use Rattle.attr_wildmatch.proofs.Ends.{same_answer}
--- text_match_of_test, test_of_text_match: the computed test of matching a text decides the relation. exact_answer: an answer by the
--- relation of tokens and a value is that of the test.
-pub use Rattle.attr_wildmatch.proofs.DecidingLemmas.{text_match_of_test, test_of_text_match}
+-- match_of_test: tokens that pass the computed test match. text_match_of_test, test_of_text_match: the test of matching a text
+-- decides the relation. exact_answer: an answer by the relation of tokens and a value is that of the test.
+pub use Rattle.attr_wildmatch.proofs.DecidingLemmas.{match_of_test, text_match_of_test, test_of_text_match}
 pub use Rattle.attr_wildmatch.proofs.Ends.{exact_answer}

@@ -1,6 +1,6 @@
 -- The members of a bracket, one after the other.
-use Rattle.std.proofs.Common.{◌≡◌, ◌≤◌, ℕ, zero, suc, Bool, true, false, not, ◌&&◌, ◌==◌, List, [], ◌∷◌, ◌++◌, length, Option, None, Some, option_map}
-use Rattle.std.proofs.Common.{refl, sym, ap, append_assoc, append-nil, arith}
+use Rattle.std.proofs.Common.{◌≡◌, ◌≤◌, ℕ, zero, suc, Bool, false, not, ◌&&◌, ◌==◌, List, [], ◌∷◌, ◌++◌, length, Option, None, Some, option_map}
+use Rattle.std.proofs.Common.{refl, sym, ap, append_assoc, arith}
 use Rattle.attr_wildmatch.specs.declared.bracket.Member.{Member}
 use Rattle.attr_wildmatch.specs.Bytes.{close_bracket}
 use Rattle.attr_wildmatch.specs.Brackets.{members, member_at}

@@ -2,7 +2,7 @@ use Rattle.std.proofs.Common.{[], ◌∷◌, arith, take, codes}
 use Rattle.attr_wildmatch.specs.declared.case.Case.TheVariants.{Sensitive}
 use Rattle.attr_wildmatch.specs.Deciding.{matches}
 use Rattle.attr_wildmatch.specs.Tokens.{lit, star}
-use Rattle.attr_wildmatch.proofs.DecidingLemmas.{match_of_test}
+use Rattle.attr_wildmatch.proofs.ForCallers.{match_of_test}
 use Rattle.example_tests.proofs.patterns.pairs_reached.Goals as goal
 
 pub returns-clause-two : goal.returns-clause-two
