@@ -38,7 +38,7 @@ import sys
 
 TOP = os.path.join(os.path.dirname(os.path.abspath(__file__)), "..")
 PUBLIC_CRATES = ["attr_wildmatch", "attr_glob", "attr_text", "gix_attributes", "yektrod", "check_attr"]
-TEST_CRATES = ["attr_vectors", "example_tests", "glob_tests", "list_tests", "rows", "search_tests", "small_settings", "worktree"]
+TEST_CRATES = ["attr_vectors", "example_tests", "rows", "small_settings", "unit_tests", "worktree"]
 READING = "docs/READING.md"
 # The page is what precedes all rows, tier 1, its footnotes, tier 2 and tier 3.
 PARTS = re.compile(r"^(?=## Tier 1\b|### Footnotes\b|## Tier 2\b|## Tier 3\b)", re.M)

@@ -8,7 +8,7 @@ here=$(cd "$(dirname "$0")" && pwd)
 crates=$(cd "$here/../crates" && pwd)
 program=$crates/check_attr_cli/out/check_attr_cli
 rows=$crates/rows/out/rows
-test_crates='search_tests attr_vectors'
+test_crates='unit_tests attr_vectors'
 for built in "$program" "$rows" $(for it in $test_crates; do echo "$crates/$it/out/${it}_tests"; done); do
     if [ ! -x "$built" ]; then
         echo "refused_memory: there is no program $built: build it by \`rt ci\` (or \`rt run\` and \`rt test\` in its crate)" >&2

@@ -1,16 +1,45 @@
-//! Runs over devices in memory that fail, and statuses.
-mod calls;
-mod failing;
+//! Runs over devices that no row has: writers that take nothing, those of std, and refused memory.
 mod memory;
 mod order;
 mod pieces;
-mod plays;
-mod runs;
-mod scripts;
-mod statuses;
+mod refusals;
 mod std_devices;
 
-// The worked input of the failing devices, and the text for it.
+use crate::devices::Source;
+use check_attr::{Fault, Push, globals, lines, run};
+use gix_attributes::files::Memory;
+use std::alloc::{AllocError, Global};
+
+// An attributes file, and the report on its lines.
 const INPUT: &[u8] = b"!a b\n* a =x b=\n";
 
 const TEXT: &[u8] = b"1! negative\n2: a ? b=\n";
+
+// A script, and the text that it writes.
+const SCRIPT: &[u8] =
+    b"add m 14 0 16\n.gitattributes*.sh text eol=lf\nnames 2\ntext\neol\nask l s f 9\nscript.sh\n";
+
+const ANSWERS: &[u8] = b"script.sh: text: set\nscript.sh: eol: lf\n";
+
+fn report<W: Push>(alloc: Global, input: &[u8], writer: &mut W) -> Result<(), Fault> {
+    lines(alloc, &mut Source::new(input), writer)
+}
+
+// Runs a script over the built-in list alone: there are no global files.
+fn run_script<W: Push>(alloc: Global, script: &[u8], writer: &mut W) -> Result<(), Fault> {
+    match globals(alloc, &mut Memory::new(alloc), &[]) {
+        Ok(lists) => run(alloc, &mut Source::new(script), writer, lists),
+        Err(_) => Err(Fault::OutOfMemory),
+    }
+}
+
+fn is_failed_write(ended: Result<(), Fault>) -> bool {
+    matches!(&ended, Err(Fault::Write))
+}
+
+// The arguments of a call that has one.
+fn argument(alloc: Global, word: &str) -> Result<Vec<String>, AllocError> {
+    let mut words = Vec::new(alloc);
+    words.push(String::from_str(alloc, word)?)?;
+    Ok(words)
+}

@@ -1,45 +1,48 @@
 //! Steps of an engine: lists are added and removed, names are selected, paths are asked for, and what it returns is reported.
 
-use crate::fault::NoAnswer;
-use crate::report::{push_debug_line, push_flag_line, push_number, push_number_line, push_shown};
+use crate::fault::Fault;
 use crate::row::Row;
+use crate::scenes::Stage;
 use bstr::BStr;
 use gix_attributes::engine::{Addition, Below, Engine, Question};
 use gix_attributes::glob::pattern::Case;
 use gix_attributes::search::{AttributeId, Match};
 use std::alloc::{AllocError, Global};
+use std::fmt::Write;
 
-/// Takes a step, and reports what it has to.
-///
-/// # Errors
-/// [`NoAnswer::NotARow`] if there is no such step; memory is refused.
-pub(crate) fn take(
-    engine: &mut Engine,
-    alloc: Global,
-    step: &Row,
-    out: &mut String,
-) -> Result<(), NoAnswer> {
-    match step.text(0) {
-        // `add | SOURCE | FILE` adds the lines of a file, which is seen from the top directory.
-        "add" => engine.add(alloc, addition(step, Some(""), true))?,
-        // `add_without_macros | SOURCE | FILE` adds lines that apply to all paths, and may define no macros.
-        "add_without_macros" => engine.add(alloc, addition(step, None, false))?,
-        // `add_below | SOURCE | DIRECTORY | FILE`
-        "add_below" => engine.add_below(alloc, list_below(step, true))?,
-        "add_below_without_macros" => engine.add_below(alloc, list_below(step, false))?,
-        // Removes the last list, and reports whether there was one.
-        "pop" => pop(engine, out)?,
-        // `select | NAME | ..` selects these names, and all if there are none.
-        "select" => select(engine, alloc, step)?,
-        // `ask | PATH | CASE` reports the number of answers for a path that is no directory.
-        "ask" => ask(engine, alloc, question(step, step.case(2)?, false), out)?,
-        "ask_directory" => ask(engine, alloc, question(step, Case::Sensitive, true), out)?,
-        _ => return report(engine, step, out),
-    }
-    Ok(())
+/// An engine in a box: a proof drops a box by one call.
+pub(crate) fn new_engine(alloc: Global) -> Result<Box<Engine>, AllocError> {
+    Ok(Box::new(alloc, Engine::new(alloc)?)?)
 }
 
-fn report(engine: &Engine, step: &Row, out: &mut String) -> Result<(), NoAnswer> {
+impl Stage for Engine {
+    fn take(&mut self, alloc: Global, step: &Row, out: &mut String) -> Result<(), Fault> {
+        match step.text(0) {
+            // `add | SOURCE | FILE` adds the lines of a file, which is seen from the top directory.
+            "add" => self.add(alloc, addition(step, Some(""), true))?,
+            // `add_without_macros | SOURCE | FILE` adds lines that apply to all paths, and may define no macros.
+            "add_without_macros" => self.add(alloc, addition(step, None, false))?,
+            // `add_below | SOURCE | DIRECTORY | FILE`
+            "add_below" => self.add_below(alloc, list_below(step, true))?,
+            "add_below_without_macros" => self.add_below(alloc, list_below(step, false))?,
+            // Removes the last list, and reports whether there was one.
+            "pop" => pop(self, out)?,
+            // `select | NAME | ..` selects these names, and all if there are none.
+            "select" => self.select(alloc, &step.texts(alloc, 1)?)?,
+            // `ask | PATH | CASE` reports the number of answers for a path that is no directory.
+            "ask" => ask(self, alloc, question(step, step.case(2)?, false), out)?,
+            "ask_directory" => ask(self, alloc, question(step, Case::Sensitive, true), out)?,
+            _ => return report(self, step, out),
+        }
+        Ok(())
+    }
+
+    fn push_state(&self, _step: &Row, out: &mut String) -> Result<(), AllocError> {
+        writeln!(out, "{}", self.num_answers())
+    }
+}
+
+fn report(engine: &Engine, step: &Row, out: &mut String) -> Result<(), Fault> {
     match step.text(0) {
         // Each answer with its line and the macro that it comes from.
         "rows" => push_rows(engine, out)?,
@@ -50,17 +53,22 @@ fn report(engine: &Engine, step: &Row, out: &mut String) -> Result<(), NoAnswer>
         // `number | INDEX`: the number of the attribute of that answer.
         "number" => push_number_of(engine, step.number(1)?, out)?,
         // How many names there are.
-        "names" => push_number_line(engine.num_names(), out)?,
+        "names" => writeln!(out, "{}", engine.num_names())?,
         // `name | NUMBER`
         "name" => push_name(engine, step.number(1)?, out)?,
         // The lines that were dropped of the last list.
         "dropped" => push_dropped(engine, out)?,
-        _ => return Err(NoAnswer::NotARow),
+        _ => return Err(Fault::NotARow),
     }
     Ok(())
 }
 
-fn addition<'a>(step: &'a Row, root: Option<&'a str>, allow_macros: bool) -> Addition<'a> {
+/// A list that a step adds: `.. | SOURCE | FILE`.
+pub(crate) fn addition<'a>(
+    step: &'a Row,
+    root: Option<&'a str>,
+    allow_macros: bool,
+) -> Addition<'a> {
     Addition {
         allow_macros,
         source: step.text(1),
@@ -88,12 +96,7 @@ fn question(step: &Row, case: Case, is_dir: bool) -> Question<'_> {
 
 fn pop(engine: &mut Engine, out: &mut String) -> Result<(), AllocError> {
     out.reserve(6)?;
-    push_flag_line(engine.pop(), out)
-}
-
-fn select(engine: &mut Engine, alloc: Global, step: &Row) -> Result<(), AllocError> {
-    let names = step.texts(alloc, 1)?;
-    engine.select(alloc, &names)
+    writeln!(out, "{}", engine.pop())
 }
 
 fn ask(
@@ -105,7 +108,7 @@ fn ask(
     // The report gets its memory first, so that only the question can be refused.
     out.reserve(8)?;
     let count = engine.ask(alloc, question)?;
-    push_number_line(count, out)
+    writeln!(out, "{count}")
 }
 
 fn push_rows(engine: &Engine, out: &mut String) -> Result<(), AllocError> {
@@ -124,36 +127,33 @@ fn push_found(
     let Some(found) = found else {
         return out.push_str("none\n");
     };
-    push_shown(&found.assignment, out)?;
-    out.push(' ')?;
-    out.push_str(found.location.source.unwrap_or("-"))?;
-    out.push(':')?;
-    push_number(found.location.sequence_number, out)?;
-    out.push(' ')?;
-    out.push_str(match found.kind.source_id() {
+    let (item, source) = (found.assignment, found.location.source.unwrap_or("-"));
+    let macro_name = match found.kind.source_id() {
         Some(id) => engine.name_of(id).unwrap_or("?"),
         None => "-",
-    })?;
-    out.push('\n')
+    };
+    writeln!(
+        out,
+        "{item} {source}:{} {macro_name}",
+        found.location.sequence_number
+    )
 }
 
 fn push_number_of(engine: &Engine, index: usize, out: &mut String) -> Result<(), AllocError> {
     match engine.number_of(index) {
-        Some(id) => push_number_line(id.0, out),
+        Some(id) => writeln!(out, "{}", id.0),
         None => out.push_str("none\n"),
     }
 }
 
 fn push_name(engine: &Engine, number: usize, out: &mut String) -> Result<(), AllocError> {
-    out.push_str(engine.name_of(AttributeId(number)).unwrap_or("none"))?;
-    out.push('\n')
+    let name = engine.name_of(AttributeId(number)).unwrap_or("none");
+    writeln!(out, "{name}")
 }
 
 fn push_dropped(engine: &Engine, out: &mut String) -> Result<(), AllocError> {
     for dropped in engine.dropped() {
-        push_number(dropped.line, out)?;
-        out.push(' ')?;
-        push_debug_line(&dropped.reason, out)?;
+        writeln!(out, "{} {:?}", dropped.line, dropped.reason)?;
     }
     Ok(())
 }

@@ -1,7 +1,7 @@
 //! The answers of rows about matching: the texts that a pattern takes, and the lines that are tried.
 
-use crate::answer::{Answer, Memory};
-use crate::fault::NoAnswer;
+use crate::answer::Answer;
+use crate::fault::Fault;
 use crate::patterns::list_of;
 use crate::row::Row;
 use attr_glob::Pattern;
@@ -14,41 +14,38 @@ use bstr::BStr;
 use std::alloc::{AllocError, Global};
 
 /// Whether a pattern's text matches a value. The tokens of the text, which are kept, have to match it, too.
-pub(crate) fn wildmatch(alloc: Global, row: &Row, answer: &mut Answer) -> Result<(), NoAnswer> {
+pub(crate) fn wildmatch(row: &Row, answer: &mut Answer) -> Result<(), Fault> {
     let (text, value, case) = (row.bytes(0), row.bytes(1), row.case(2)?);
-    let (matched, _) = count(alloc, text, value, case)?;
+    let (matched, _) = count(answer.alloc, text, value, case)?;
     answer.flag(matched)?;
-    let (kept, _) = kept_count(alloc, text, value, case)?;
-    if kept != matched {
-        answer.text("other tokens")?;
+    let (kept, _) = kept_count(answer.alloc, text, value, case)?;
+    push_kept(kept == matched, answer)
+}
+
+// The tokens of a pattern that are kept have to match what it does.
+fn push_kept(is_same: bool, answer: &mut Answer) -> Result<(), Fault> {
+    if is_same {
+        return Ok(());
     }
-    Ok(())
+    answer.text("other tokens")
 }
 
 /// Whether a pattern's text matches a value, and the number of pairs that are visited if that is less than the least or more than
-/// the most. Then follows the number for the kept tokens, if it is another one.
-pub(crate) fn pairs(alloc: Global, row: &Row, answer: &mut Answer) -> Result<(), NoAnswer> {
+/// the most. The kept tokens have to visit as many.
+pub(crate) fn pairs(row: &Row, answer: &mut Answer) -> Result<(), Fault> {
     let (text, value, case) = (row.bytes(0), row.bytes(1), row.case(2)?);
     let (least, most) = (row.number(3)? as u128, row.number(4)? as u128);
-    let (matched, pairs) = count(alloc, text, value, case)?;
+    let (matched, pairs) = count(answer.alloc, text, value, case)?;
     answer.flag(matched)?;
     if pairs < least || most < pairs {
-        answer.bytes(format!(in alloc; "{pairs}")?.as_bytes())?;
+        answer.text(&format!(in answer.alloc; "{pairs}")?)?;
     }
-    let kept = kept_count(alloc, text, value, case)?;
-    if kept != (matched, pairs) {
-        answer.bytes(format!(in alloc; "{kept:?}")?.as_bytes())?;
-    }
-    Ok(())
+    let kept = kept_count(answer.alloc, text, value, case)?;
+    push_kept(kept == (matched, pairs), answer)
 }
 
 // Whether the tokens of a text match a value, and the number of pairs that are visited; none where a bracket isn't closed.
-fn kept_count(
-    alloc: Global,
-    text: &[u8],
-    value: &[u8],
-    case: Case,
-) -> Result<(bool, u128), NoAnswer> {
+fn kept_count(alloc: Global, text: &[u8], value: &[u8], case: Case) -> Result<(bool, u128), Fault> {
     let mut buffers = MatchBuffers::new(alloc);
     match Tokens::read(alloc, text)? {
         Some(tokens) => count_in(&tokens, &mut buffers, value, case),
@@ -62,27 +59,24 @@ fn count_in(
     buffers: &mut MatchBuffers,
     value: &[u8],
     case: Case,
-) -> Result<(bool, u128), NoAnswer> {
+) -> Result<(bool, u128), Fault> {
     buffers.reserve(tokens.places())?;
     let (matched, pairs) = tokens.count(value, case, buffers);
     if buffers.reserve(tokens.places()).is_err()
         || tokens.matches(value, case, buffers) != matched
     {
-        return Err(NoAnswer::Changed);
+        return Err(Fault::Changed);
     }
     Ok((matched, pairs))
 }
 
 /// How many tokens a text has, and whether it has none.
-pub(crate) fn token_count(alloc: Global, row: &Row, answer: &mut Answer) -> Result<(), NoAnswer> {
-    match Tokens::read(alloc, row.bytes(0))? {
-        Some(tokens) => {
-            answer.number(tokens.len())?;
-            answer.flag(tokens.is_empty())?;
-        }
-        None => answer.text("-")?,
-    }
-    Ok(())
+pub(crate) fn token_count(row: &Row, answer: &mut Answer) -> Result<(), Fault> {
+    let Some(tokens) = Tokens::read(answer.alloc, row.bytes(0))? else {
+        return answer.text("-");
+    };
+    answer.number(tokens.len())?;
+    answer.flag(tokens.is_empty())
 }
 
 const SHORT_BYTES: [u8; 3] = *b"ab/";
@@ -92,14 +86,12 @@ const SHORT_VALUES: usize = 121;
 
 /// Which values of at most four bytes `a`, `b` and `/` a pattern's text matches, with blanks between them. Both cases, and the
 /// kept tokens, have to answer the same.
-pub(crate) fn short_values(alloc: Global, row: &Row, answer: &mut Answer) -> Result<(), NoAnswer> {
+pub(crate) fn short_values(row: &Row, answer: &mut Answer) -> Result<(), Fault> {
+    let (alloc, text) = (answer.alloc, row.bytes(0));
     let mut taken = Vec::new(alloc);
-    match Tokens::read(alloc, row.bytes(0))? {
-        Some(tokens) => push_taken(alloc, row.bytes(0), Some(&tokens), &mut taken)?,
-        None => push_taken(alloc, row.bytes(0), None, &mut taken)?,
-    }
-    answer.bytes(taken.trim_ascii())?;
-    Ok(())
+    let tokens = Tokens::read(alloc, text)?;
+    push_taken(alloc, text, tokens.as_ref(), &mut taken)?;
+    answer.bytes(taken.trim_ascii())
 }
 
 fn push_taken(
@@ -107,7 +99,7 @@ fn push_taken(
     text: &[u8],
     tokens: Option<&Tokens>,
     taken: &mut Vec<u8>,
-) -> Result<(), NoAnswer> {
+) -> Result<(), Fault> {
     let (mut buffers, mut value) = (MatchBuffers::new(alloc), Vec::new(alloc));
     for number in 0..SHORT_VALUES {
         value.clear();
@@ -116,7 +108,7 @@ fn push_taken(
         let folded = is_taken(alloc, text, &value, Case::Fold)?;
         let kept = is_taken_in(tokens, &mut buffers, &value)?;
         if folded != exact || kept != (exact, exact) {
-            return Err(NoAnswer::Changed);
+            return Err(Fault::Changed);
         }
         if exact {
             push_short(&value, taken)?;
@@ -162,52 +154,51 @@ fn push_short_value(number: usize, value: &mut Vec<u8>) -> Result<(), AllocError
     Ok(())
 }
 
-/// Whether a pattern matches a path. Where bytes alone decide, that takes no memory, so want of memory is an answer that such
-/// a row does not have.
-pub(crate) fn path(
-    alloc: Global,
-    memory: Memory,
-    row: &Row,
-    answer: &mut Answer,
-) -> Result<(), NoAnswer> {
-    let case = row.case(2)?;
-    let matched = match Pattern::from_bytes(alloc, row.bytes(0))? {
-        Some(pattern) => is_match(alloc, &pattern, row.bytes(1), case),
-        None => return Err(NoAnswer::NotARow),
+/// Whether a pattern matches a path, which is a `file`, a `directory` or not known to be either. The kept tokens have to match
+/// it, too. Where bytes alone decide, that takes no memory.
+pub(crate) fn path(row: &Row, answer: &mut Answer) -> Result<(), Fault> {
+    let (path, case) = (row.bytes(1), row.case(2)?);
+    let is_dir = match row.text(3) {
+        "directory" => Some(true),
+        "file" => Some(false),
+        _ => None,
     };
-    match (matched, memory) {
-        (Ok(matched), _) => answer.flag(matched)?,
-        (Err(_), Memory::Taken) => return Err(NoAnswer::OutOfMemory),
-        (Err(_), Memory::NotTaken) => answer.text("out of memory")?,
+    let Some(pattern) = Pattern::from_bytes(answer.alloc, row.bytes(0))? else {
+        return Err(Fault::NotARow);
+    };
+    let place = base_name_place(path);
+    match pattern.matches_repo_relative_path(answer.alloc, BStr::new(path), place, is_dir, case) {
+        Ok(matched) => {
+            answer.flag(matched)?;
+            let is_of_kind = pattern.takes_kind(is_dir);
+            let kept = is_of_kind && kept_matches(answer.alloc, &pattern, path, case)?;
+            push_kept(kept == matched, answer)
+        }
+        Err(_) => Err(Fault::CallOutOfMemory),
     }
-    Ok(())
 }
 
-fn is_match(alloc: Global, pattern: &Pattern, path: &[u8], case: Case) -> Result<bool, AllocError> {
-    let place = base_name_place(path);
-    pattern.matches_repo_relative_path(alloc, BStr::new(path), place, None, case)
+// Whether the kept tokens of a pattern match a path.
+fn kept_matches(
+    alloc: Global,
+    pattern: &Pattern,
+    path: &[u8],
+    case: Case,
+) -> Result<bool, AllocError> {
+    let tokens = pattern.kept_tokens(alloc)?;
+    let part = pattern.matched_part(path, base_name_place(path));
+    pattern.matches_part(tokens.as_ref(), part, case, &mut MatchBuffers::new(alloc))
 }
 
 /// The indices of the lines of a file that are tried for a path, last to first.
-pub(crate) fn candidates(alloc: Global, row: &Row, answer: &mut Answer) -> Result<(), NoAnswer> {
-    let case = row.case(2)?;
+pub(crate) fn candidates(row: &Row, answer: &mut Answer) -> Result<(), Fault> {
+    let (alloc, path, case) = (answer.alloc, row.bytes(1), row.case(2)?);
     let list = list_of(alloc, row.bytes(0), "", None)?;
-    push_candidates(alloc, &list, row.bytes(1), case, answer)?;
-    Ok(())
-}
-
-fn push_candidates(
-    alloc: Global,
-    list: &List<Attributes>,
-    path: &[u8],
-    case: Case,
-    answer: &mut Answer,
-) -> Result<(), AllocError> {
-    let index = index_of(alloc, list)?;
-    if !index.is_of(list) {
+    let index = index_of(alloc, &list)?;
+    if !index.is_of(&list) {
         return answer.text("another index");
     }
-    let found = index.candidates(alloc, list, BStr::new(path), base_name_place(path), case)?;
+    let found = index.candidates(alloc, &list, BStr::new(path), base_name_place(path), case)?;
     answer.numbers(&found)
 }
 
@@ -217,20 +208,10 @@ fn index_of(alloc: Global, list: &List<Attributes>) -> Result<Box<Index>, AllocE
 }
 
 /// Whether the index of a file is of its list, and whether it is of the list of another file.
-pub(crate) fn is_of_list(alloc: Global, row: &Row, answer: &mut Answer) -> Result<(), NoAnswer> {
-    let list = list_of(alloc, row.bytes(0), "", None)?;
-    let other = list_of(alloc, row.bytes(1), "", None)?;
-    push_is_of(alloc, &list, &other, answer)?;
-    Ok(())
-}
-
-fn push_is_of(
-    alloc: Global,
-    list: &List<Attributes>,
-    other: &List<Attributes>,
-    answer: &mut Answer,
-) -> Result<(), AllocError> {
-    let index = index_of(alloc, list)?;
-    answer.flag(index.is_of(list))?;
-    answer.flag(index.is_of(other))
+pub(crate) fn is_of_list(row: &Row, answer: &mut Answer) -> Result<(), Fault> {
+    let list = list_of(answer.alloc, row.bytes(0), "", None)?;
+    let other = list_of(answer.alloc, row.bytes(1), "", None)?;
+    let index = index_of(answer.alloc, &list)?;
+    answer.flag(index.is_of(&list))?;
+    answer.flag(index.is_of(&other))
 }

@@ -1,14 +1,15 @@
 //! Steps of a table of names: lists are added and removed, and the numbers and bodies of names are reported.
 
-use crate::fault::NoAnswer;
-use crate::lines::are_copied;
-use crate::report::{push_debug_line, push_flag_line, push_number, push_number_line};
+use crate::fault::Fault;
+use crate::lines::{are_copied, items_of};
 use crate::row::Row;
+use crate::scenes::Stage;
 use attr_glob::search::Pattern;
 use attr_glob::search::pattern::Mapping;
 use attr_lists::name_table::NameTable;
-use attr_lists::types::{AttributeId, Attributes, Metadata, TrackedAssignment, Value};
+use attr_lists::types::{AttributeId, Attributes, TrackedAssignment, Value};
 use std::alloc::{AllocError, Global};
+use std::fmt::Write;
 use std::mem;
 
 /// A table, another one, and the lists that were added, each with its id.
@@ -21,119 +22,112 @@ pub(crate) struct Numbering {
 
 impl Numbering {
     /// A table without names.
-    pub(crate) fn new(alloc: Global) -> Result<Numbering, AllocError> {
-        Ok(Numbering {
-            table: new_table(alloc)?,
-            other: new_table(alloc)?,
-            added: Vec::new(alloc),
-        })
-    }
-
-    /// Takes a step, and reports what it has to.
-    ///
-    /// # Errors
-    /// [`NoAnswer::NotARow`] if there is no such step or list; memory is refused.
-    pub(crate) fn take(
-        &mut self,
-        alloc: Global,
-        step: &Row,
-        out: &mut String,
-    ) -> Result<(), NoAnswer> {
-        match step.text(0) {
-            // `add | FILE` adds a list, and reports its id.
-            "add" => self.add(alloc, step.bytes(1), out)?,
-            // `remove | INDEX` removes the list that was added as this one, from 0, and reports whether it was there.
-            "remove" => self.remove(step.number(1)?, out)?,
-            // `remove_empty | ID` removes a list that defines nothing.
-            "remove_empty" => self.remove_empty(step.number(1)?, out)?,
-            // Changes to a copy of the table, and back.
-            "copy" => self.copy(alloc)?,
-            "turn" => mem::swap(&mut self.table, &mut self.other),
-            // `holds | ID | FILE`: whether the list of a file is held under an id.
-            "holds" => self.push_held(alloc, step, out)?,
-            // The numbers of the last list's items, line by line.
-            "numbers" => self.push_last(out)?,
-            // The names, each with the numbers of its body.
-            "names" => push_names(&self.table, out)?,
-            // How many names there are.
-            "len" => push_number_line(self.table.len(), out)?,
-            // `name | NUMBER`
-            "name" => push_debug_line(&self.table.name(step.number(1)?), out)?,
-            // `first | NAME`: the number of the first item in the body of a name.
-            "first" => push_debug_line(&first_number(&self.table, step.text(1)), out)?,
-            "show" => push_debug_line(&*self.table, out)?,
-            // Whether copies of the last list's lines, with their numbers, and of the bodies are equal to them.
-            "copies" => self.push_copied(alloc, out)?,
-            _ => return Err(NoAnswer::NotARow),
-        }
-        Ok(())
-    }
-
-    /// What a step that finds no memory has to leave as it was: the names with their bodies.
-    pub(crate) fn push_state(&self, out: &mut String) -> Result<(), AllocError> {
-        push_names(&self.table, out)?;
-        push_names(&self.other, out)
+    pub(crate) fn new(alloc: Global) -> Result<Box<Numbering>, AllocError> {
+        let (table, other) = (
+            Box::new(alloc, NameTable::new(alloc))?,
+            Box::new(alloc, NameTable::new(alloc))?,
+        );
+        let added = Vec::new(alloc);
+        Ok(Box::new(
+            alloc,
+            Numbering {
+                table,
+                other,
+                added,
+            },
+        )?)
     }
 
     // Its report gets its memory first, so that only the addition can be refused.
-    fn add(&mut self, alloc: Global, bytes: &[u8], out: &mut String) -> Result<(), NoAnswer> {
+    fn add(&mut self, alloc: Global, bytes: &[u8], out: &mut String) -> Result<(), Fault> {
         let (mut list, _) = Attributes.bytes_to_patterns(alloc, bytes, "")?;
         self.added.reserve(1)?;
         out.reserve(8)?;
         match self.table.add(alloc, &mut list) {
             Ok(list_id) => {
                 self.added.push((list_id, list))?;
-                push_number_line(list_id, out)?;
+                writeln!(out, "{list_id}")?;
                 Ok(())
             }
-            Err(_) if are_without_numbers(&list) => Err(NoAnswer::OutOfMemory),
-            Err(_) => Err(NoAnswer::Changed),
+            Err(_) if are_without_numbers(&list) => Err(Fault::OutOfMemory),
+            Err(_) => Err(Fault::Changed),
         }
     }
 
-    fn remove(&mut self, index: usize, out: &mut String) -> Result<(), NoAnswer> {
+    fn remove(&mut self, index: usize, out: &mut String) -> Result<(), Fault> {
         let Some((list_id, list)) = self.added.get(index) else {
-            return Err(NoAnswer::NotARow);
+            return Err(Fault::NotARow);
         };
-        remove_if_held(&mut self.table, *list_id, list, out)?;
-        Ok(())
+        remove_if_held(&mut self.table, *list_id, list, out)
     }
 
-    fn remove_empty(&mut self, list_id: usize, out: &mut String) -> Result<(), AllocError> {
-        remove_if_held(&mut self.table, list_id, &[], out)
-    }
-
-    fn copy(&mut self, alloc: Global) -> Result<(), AllocError> {
+    fn copy(&mut self, alloc: Global) -> Result<(), Fault> {
         self.other = copied(alloc, &self.table)?;
         mem::swap(&mut self.table, &mut self.other);
         Ok(())
     }
 
-    fn push_held(&self, alloc: Global, step: &Row, out: &mut String) -> Result<(), NoAnswer> {
-        let list_id = step.number(1)?;
-        push_flag_line(is_held(alloc, &self.table, list_id, step.bytes(2))?, out)?;
-        Ok(())
+    // Whether the list of a file is held, with the numbers that the table has for its names.
+    fn holds(&self, alloc: Global, list_id: usize, bytes: &[u8]) -> Result<bool, AllocError> {
+        let mut copy = copied(alloc, &self.table)?;
+        let (mut list, _) = Attributes.bytes_to_patterns(alloc, bytes, "")?;
+        copy.add(alloc, &mut list)?;
+        Ok(self.table.holds(list_id, &list))
     }
 
-    fn push_copied(&self, alloc: Global, out: &mut String) -> Result<(), AllocError> {
-        let are_lines_copied = match self.added.last() {
-            Some((_, list)) => are_copied(alloc, list)?,
-            None => true,
-        };
-        let are_bodies_copied = are_bodies_copied(alloc, &self.table)?;
-        push_flag_line(are_lines_copied && are_bodies_copied, out)
-    }
-
-    fn push_last(&self, out: &mut String) -> Result<(), AllocError> {
-        if let Some((_, list)) = self.added.last() {
-            push_list(list, out)?;
+    fn last(&self) -> &[Mapping<Value>] {
+        match self.added.last() {
+            Some((_, list)) => list.as_slice(),
+            None => &[],
         }
-        out.push('\n')
     }
 }
 
-fn new_table(alloc: Global) -> Result<Box<NameTable>, AllocError> {
-    Ok(Box::new(alloc, NameTable::new(alloc))?)
+impl Stage for Numbering {
+    fn take(&mut self, alloc: Global, step: &Row, out: &mut String) -> Result<(), Fault> {
+        match step.text(0) {
+            // `add | FILE` adds a list, and reports its id.
+            "add" => self.add(alloc, step.bytes(1), out)?,
+            // `remove | INDEX` removes the list that was added as this one, from 0, and reports whether it was there.
+            "remove" => self.remove(step.number(1)?, out)?,
+            // `remove_empty | ID` removes a list that defines nothing.
+            "remove_empty" => remove_if_held(&mut self.table, step.number(1)?, &[], out)?,
+            // Changes to a copy of the table, and back.
+            "copy" => self.copy(alloc)?,
+            "turn" => mem::swap(&mut self.table, &mut self.other),
+            // `holds | ID | FILE`: whether the list of a file is held under an id.
+            "holds" => writeln!(
+                out,
+                "{}",
+                self.holds(alloc, step.number(1)?, step.bytes(2))?
+            )?,
+            // The numbers of the last list's items, line by line.
+            "numbers" => push_list(self.last(), out)?,
+            // The names, each with the numbers of its body.
+            "names" => push_names(&self.table, out)?,
+            // How many names there are.
+            "len" => writeln!(out, "{}", self.table.len())?,
+            // `name | NUMBER`
+            "name" => writeln!(out, "{:?}", self.table.name(step.number(1)?))?,
+            // `first | NAME`: the number of the first item in the body of a name.
+            "first" => writeln!(out, "{:?}", first_number(&self.table, step.text(1)))?,
+            "show" => writeln!(out, "{:?}", *self.table)?,
+            // Whether copies of the last list's lines, with their numbers, and of the bodies are equal to them.
+            "copies" => {
+                let are_lines_copied = are_copied(alloc, self.last())?;
+                let are_bodies_copied = are_bodies_copied(alloc, &self.table)?;
+                writeln!(out, "{}", are_lines_copied && are_bodies_copied)?;
+            }
+            _ => return Err(Fault::NotARow),
+        }
+        Ok(())
+    }
+
+    // The names with their bodies.
+    fn push_state(&self, _step: &Row, out: &mut String) -> Result<(), AllocError> {
+        push_names(&self.table, out)?;
+        push_names(&self.other, out)
+    }
 }
 
 fn copied(alloc: Global, table: &NameTable) -> Result<Box<NameTable>, AllocError> {
@@ -146,49 +140,34 @@ fn remove_if_held(
     list_id: usize,
     list: &[Mapping<Value>],
     out: &mut String,
-) -> Result<(), AllocError> {
+) -> Result<(), Fault> {
     // The report gets its memory first, so that only what is done before the removal can be refused.
     out.reserve(6)?;
     let is_held = table.holds(list_id, list);
     if is_held {
         table.remove(list_id, list);
     }
-    push_flag_line(is_held, out)
-}
-
-// Whether the list of a file is held, with the numbers that the table has for its names.
-fn is_held(
-    alloc: Global,
-    table: &NameTable,
-    list_id: usize,
-    bytes: &[u8],
-) -> Result<bool, AllocError> {
-    let mut copy = copied(alloc, table)?;
-    let (mut list, _) = Attributes.bytes_to_patterns(alloc, bytes, "")?;
-    copy.add(alloc, &mut list)?;
-    Ok(table.holds(list_id, &list))
+    writeln!(out, "{is_held}")?;
+    Ok(())
 }
 
 fn are_bodies_copied(alloc: Global, table: &NameTable) -> Result<bool, AllocError> {
     let mut all = true;
     for (_, metadata) in table.iter() {
-        all &= is_body_copied(alloc, metadata)?;
+        all &= metadata.clone(alloc)? == *metadata;
     }
     Ok(all)
-}
-
-fn is_body_copied(alloc: Global, metadata: &Metadata) -> Result<bool, AllocError> {
-    Ok(metadata.clone(alloc)? == *metadata)
 }
 
 // Whether no line of a list and no item has a number.
 fn are_without_numbers(list: &[Mapping<Value>]) -> bool {
     let none = AttributeId::default();
-    list.iter().all(|mapping| match &mapping.value {
-        Value::MacroAssignments { id, assignments } => {
-            *id == none && assignments.iter().all(|item| item.id == none)
-        }
-        Value::Assignments(assignments) => assignments.iter().all(|item| item.id == none),
+    list.iter().all(|mapping| {
+        let is_without = match &mapping.value {
+            Value::MacroAssignments { id, .. } => *id == none,
+            Value::Assignments(_) => true,
+        };
+        is_without && items_of(&mapping.value).iter().all(|item| item.id == none)
     })
 }
 
@@ -208,18 +187,14 @@ fn push_names(table: &NameTable, out: &mut String) -> Result<(), AllocError> {
 
 fn push_list(list: &[Mapping<Value>], out: &mut String) -> Result<(), AllocError> {
     for mapping in list {
-        match &mapping.value {
-            Value::MacroAssignments { assignments, .. } => push_numbers(assignments, out)?,
-            Value::Assignments(assignments) => push_numbers(assignments, out)?,
-        }
+        push_numbers(items_of(&mapping.value), out)?;
     }
-    Ok(())
+    out.push('\n')
 }
 
 fn push_numbers(items: &[TrackedAssignment], out: &mut String) -> Result<(), AllocError> {
     for item in items {
-        out.push(' ')?;
-        push_number(item.id.0, out)?;
+        write!(out, " {}", item.id.0)?;
     }
-    out.push_str(";")
+    out.push(';')
 }

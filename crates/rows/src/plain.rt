@@ -1,8 +1,8 @@
 //! The answers of rows about the plain search. Names are numbers, so `* 0 -1 2=x` sets 0, unsets 1 and gives 2 a value.
 
 use crate::answer::Answer;
-use crate::fault::NoAnswer;
-use crate::row::Row;
+use crate::fault::Fault;
+use crate::row::{Row, number_of};
 use attr_table::plain::{self, Item, Origin, State, is_in_range};
 use bstr::BStr;
 use std::alloc::{AllocError, Global};
@@ -15,9 +15,10 @@ struct Line<'a> {
     items: Vec<Item<'a>>,
 }
 
-/// Of a number of names, two lists and the names that are looked for: each answer, with its line, whether its name is a macro, and
-/// the macro that it comes from; then how many items are taken.
-pub(crate) fn search(alloc: Global, row: &Row, answer: &mut Answer) -> Result<(), NoAnswer> {
+/// Of a number of names, two lists and the names that are looked for: each answer, with its line, whether its name is a macro,
+/// and the macro that it comes from; then how many items are taken.
+pub(crate) fn search(row: &Row, answer: &mut Answer) -> Result<(), Fault> {
+    let alloc = answer.alloc;
     let mut lines = Vec::new(alloc);
     push_lines(alloc, 0, row.text(1), &mut lines)?;
     push_lines(alloc, 1, row.text(2), &mut lines)?;
@@ -25,7 +26,7 @@ pub(crate) fn search(alloc: Global, row: &Row, answer: &mut Answer) -> Result<()
     let bodies = bodies_of(alloc, &lines, row.number(0)?)?;
     let lists = lists_of(alloc, &lines)?;
     let slices = slices_of(alloc, &lists)?;
-    push_found(alloc, &slices, &bodies, &wanted, answer)
+    push_found(&slices, &bodies, &wanted, answer)
 }
 
 fn push_lines<'a>(
@@ -33,7 +34,7 @@ fn push_lines<'a>(
     list: usize,
     text: &'a str,
     lines: &mut Vec<Line<'a>>,
-) -> Result<(), NoAnswer> {
+) -> Result<(), Fault> {
     for line in text.split('\n') {
         if let Some((pattern, words)) = line.split_once(' ') {
             let defines = match pattern.strip_prefix("[attr]") {
@@ -51,7 +52,7 @@ fn push_lines<'a>(
     Ok(())
 }
 
-fn items_of<'a>(alloc: Global, words: &'a str) -> Result<Vec<Item<'a>>, NoAnswer> {
+fn items_of<'a>(alloc: Global, words: &'a str) -> Result<Vec<Item<'a>>, Fault> {
     let mut items = Vec::new(alloc);
     for word in words.split(' ') {
         items.push(item_of(word)?)?;
@@ -59,7 +60,7 @@ fn items_of<'a>(alloc: Global, words: &'a str) -> Result<Vec<Item<'a>>, NoAnswer
     Ok(items)
 }
 
-fn item_of(word: &str) -> Result<Item<'_>, NoAnswer> {
+fn item_of(word: &str) -> Result<Item<'_>, Fault> {
     let (name, state) = match (word.strip_prefix('-'), word.split_once('=')) {
         (Some(name), _) => (name, State::Unset),
         (None, Some((name, value))) => (name, State::Value(value.as_bytes())),
@@ -69,14 +70,7 @@ fn item_of(word: &str) -> Result<Item<'_>, NoAnswer> {
     Ok(Item { attribute, state })
 }
 
-fn number_of(name: &str) -> Result<usize, NoAnswer> {
-    match name.parse::<usize>() {
-        Ok(number) => Ok(number),
-        Err(_) => Err(NoAnswer::NotARow),
-    }
-}
-
-fn numbers_of(alloc: Global, words: &str) -> Result<Vec<usize>, NoAnswer> {
+fn numbers_of(alloc: Global, words: &str) -> Result<Vec<usize>, Fault> {
     let mut numbers = Vec::new(alloc);
     for word in words.split(' ') {
         numbers.push(number_of(word)?)?;
@@ -159,37 +153,32 @@ fn rows_of<'l, 'a>(
 }
 
 fn push_found<'a>(
-    alloc: Global,
     lists: &[&[plain::Row<'_, 'a>]],
     bodies: &[&[Item<'a>]],
     wanted: &[usize],
     answer: &mut Answer,
-) -> Result<(), NoAnswer> {
+) -> Result<(), Fault> {
+    let alloc = answer.alloc;
     let mut slots: Vec<Option<plain::Answer<'a>>> = vec![in alloc; None; bodies.len()]?;
     if !is_in_range(lists, bodies, wanted, slots.len()) {
-        return Err(NoAnswer::NotARow);
+        return Err(Fault::NotARow);
     }
     let taken = plain::search(alloc, lists, bodies, wanted, slots.as_mut_slice())?;
     for slot in slots.as_slice() {
-        push_slot(alloc, slot, answer)?;
+        push_slot(slot, answer)?;
     }
-    answer.bytes(format!(in alloc; "{taken}")?.as_bytes())?;
-    Ok(())
+    answer.text(&format!(in alloc; "{taken}")?)
 }
 
 // `-1 3 macro 0`: the item, the line, whether its name is a macro, and the macro that it comes from.
-fn push_slot(
-    alloc: Global,
-    slot: &Option<plain::Answer<'_>>,
-    answer: &mut Answer,
-) -> Result<(), AllocError> {
+fn push_slot(slot: &Option<plain::Answer<'_>>, answer: &mut Answer) -> Result<(), Fault> {
     let Some(found) = slot else {
         return answer.text("-");
     };
     if found.origin != origin_of(found.origin.line) {
         return answer.text("another origin");
     }
-    answer.text(&item_text(alloc, found.assignment)?)?;
+    answer.text(&item_text(answer.alloc, found.assignment)?)?;
     answer.number(found.origin.line)?;
     answer.text(if found.is_macro { "macro" } else { "plain" })?;
     answer.index(found.cause)

@@ -1,13 +1,12 @@
 //! The answers of rows about scripts and reports, and the scripts that are files.
 
 use crate::answer::Answer;
-use crate::fault::{Fault, NoAnswer};
-use crate::row::Row;
-use crate::tables::{read, read_bytes};
+use crate::fault::Fault;
+use crate::files::read_bytes;
+use crate::row::{Row, words_of};
 use check_attr::{Globals, Pull, Reader, Writer, globals, play, program, run};
 use gix_attributes::engine::{Addition, Engine};
-use gix_attributes::files::{Files, Memory};
-use gix_attributes::search::AddError;
+use gix_attributes::files::{Disk, Memory};
 use std::alloc::{AllocError, Global};
 use std::io;
 use std::io::Read;
@@ -46,13 +45,8 @@ const SHORT: usize = 65_536;
 
 /// What an input writes, and the number of its malformed record or a hyphen. It is read at once and, if it is short, byte by
 /// byte; what it writes then follows if that differs.
-pub(crate) fn run_twice(
-    alloc: Global,
-    input: Input,
-    row: &Row,
-    answer: &mut Answer,
-) -> Result<(), NoAnswer> {
-    let bytes = row.bytes(0);
+pub(crate) fn run_twice(input: Input, row: &Row, answer: &mut Answer) -> Result<(), Fault> {
+    let (alloc, bytes) = (answer.alloc, row.bytes(0));
     let (mut written, mut slowly) = (Vec::new(alloc), Vec::new(alloc));
     let record = run_once(alloc, input, &mut Reader::new(bytes), &mut written)?;
     answer.bytes(&written)?;
@@ -73,80 +67,60 @@ fn run_once<R: Pull>(
     input: Input,
     reader: &mut R,
     written: &mut Vec<u8>,
-) -> Result<Option<usize>, NoAnswer> {
+) -> Result<Option<usize>, Fault> {
     let mut writer = Writer::new(written);
     match input {
-        Input::Script => match built_in(alloc) {
-            Ok(lists) => record_of(run(alloc, reader, &mut writer, lists)),
-            Err(_) => Err(NoAnswer::OutOfMemory),
-        },
+        Input::Script => record_of(run(alloc, reader, &mut writer, built_in(alloc)?)),
         Input::Lines => record_of(check_attr::lines(alloc, reader, &mut writer)),
     }
 }
 
-// There are no global files.
-fn built_in(alloc: Global) -> Result<Globals, AddError> {
-    globals(alloc, &mut Memory::new(alloc), &[])
+/// The built-in list alone: there are no global files.
+pub(crate) fn built_in(alloc: Global) -> Result<Globals, Fault> {
+    match globals(alloc, &mut Memory::new(alloc), &[]) {
+        Ok(lists) => Ok(lists),
+        Err(_) => Err(Fault::OutOfMemory),
+    }
 }
 
-fn record_of(ended: Result<(), check_attr::Fault>) -> Result<Option<usize>, NoAnswer> {
+fn record_of(ended: Result<(), check_attr::Fault>) -> Result<Option<usize>, Fault> {
     match ended {
         Ok(()) => Ok(None),
         Err(check_attr::Fault::Record(number)) => Ok(Some(number)),
-        Err(check_attr::Fault::OutOfMemory) => Err(NoAnswer::OutOfMemory),
-        Err(check_attr::Fault::Read | check_attr::Fault::Write) => Err(NoAnswer::NotARow),
+        Err(check_attr::Fault::OutOfMemory) => Err(Fault::OutOfMemory),
+        Err(check_attr::Fault::Read | check_attr::Fault::Write) => Err(Fault::NotARow),
     }
 }
 
 /// What a script writes over an engine with the list `*.c b c=d`, and the number of its malformed record or a hyphen.
-pub(crate) fn played(alloc: Global, row: &Row, answer: &mut Answer) -> Result<(), NoAnswer> {
-    let mut written = Vec::new(alloc);
-    let engine = engine(alloc)?;
+pub(crate) fn played(row: &Row, answer: &mut Answer) -> Result<(), Fault> {
+    let mut written = Vec::new(answer.alloc);
+    let engine = engine(answer.alloc)?;
     let mut writer = Writer::new(&mut written);
-    let record = record_of(play(alloc, row.bytes(0), engine, &mut writer))?;
+    let record = record_of(play(answer.alloc, row.bytes(0), engine, &mut writer))?;
     answer.bytes(&written)?;
-    answer.index(record)?;
-    Ok(())
+    answer.index(record)
 }
 
 /// Of the arguments of the program, and its input: its status, and what it writes to standard output and to standard error.
-pub(crate) fn call<F: Files>(
-    alloc: Global,
-    files: &mut F,
-    row: &Row,
-    answer: &mut Answer,
-) -> Result<(), NoAnswer> {
-    let words = arguments(alloc, row.text(0))?;
+pub(crate) fn call(rt: &HostRuntime, row: &Row, answer: &mut Answer) -> Result<(), Fault> {
+    let (alloc, words) = (answer.alloc, words_of(answer.alloc, row.text(0))?);
     let (mut written, mut errors) = (Vec::new(alloc), Vec::new(alloc));
-    let status = {
-        let (mut reader, mut writer) = (Reader::new(row.bytes(1)), Writer::new(&mut written));
-        program(
-            alloc,
-            files,
-            &words,
-            &mut reader,
-            &mut writer,
-            &mut Writer::new(&mut errors),
-        )
-    };
+    let status = program(
+        alloc,
+        &mut Disk::new(rt),
+        &words,
+        &mut Reader::new(row.bytes(1)),
+        &mut Writer::new(&mut written),
+        &mut Writer::new(&mut errors),
+    );
     answer.number(status as usize)?;
     answer.bytes(&written)?;
-    answer.bytes(&errors)?;
-    Ok(())
+    answer.bytes(&errors)
 }
 
-// Words between blanks; `''` is the empty one.
-fn arguments(alloc: Global, text: &str) -> Result<Vec<String>, AllocError> {
-    let mut words = Vec::new(alloc);
-    for word in text.split(' ') {
-        if !word.is_empty() {
-            words.push(String::from_str(alloc, if word == "''" { "" } else { word })?)?;
-        }
-    }
-    Ok(words)
-}
-
-fn engine(alloc: Global) -> Result<Engine, AllocError> {
+/// An engine with the list `*.c b c=d`.
+pub(crate) fn engine(alloc: Global) -> Result<Engine, AllocError> {
     let mut engine = Engine::new(alloc)?;
     let list = Addition {
         allow_macros: true,
@@ -158,67 +132,29 @@ fn engine(alloc: Global) -> Result<Engine, AllocError> {
     Ok(engine)
 }
 
-/// The file that names the scripts.
-pub(crate) const MANIFEST: &str = "scripts/manifest";
-
-/// Compares each script of the directory `scripts`, and reports how many there are.
-///
-/// It has a line for each: its kind, a blank and its name. The input is `NAME.in`, and the text that it must
-/// write is `NAME.out`. Of a script of the kind `malformed` a record is malformed, and what is written are the answers before it.
-pub(crate) fn compare_files<F: Files>(
-    alloc: Global,
-    files: &mut F,
-    differences: &mut String,
-) -> Result<u64, Fault> {
-    let manifest = read(alloc, files, MANIFEST)?;
-    let mut compared = 0u64;
-    for line in manifest.split('\n') {
-        if let Some((kind, name)) = line.split_once(' ') {
-            compared = compared.saturating_add(1);
-            if !agrees(alloc, files, kind, name)? {
-                push_difference(name, differences)?;
-            }
-        }
-    }
-    Ok(compared)
-}
-
-fn push_difference(name: &str, differences: &mut String) -> Result<(), AllocError> {
-    differences.push_str("scripts/")?;
-    differences.push_str(name)?;
-    differences.push_str(" differs\n")
-}
-
-// Whether a script writes the text beside it, and ends as its kind wants.
-fn agrees<F: Files>(alloc: Global, files: &mut F, kind: &str, name: &str) -> Result<bool, Fault> {
-    let script = read_part(alloc, files, name, ".in")?;
-    let wanted = read_part(alloc, files, name, ".out")?;
+/// Of a kind, a blank and a name: whether the input `NAME.in` of the directory `scripts` writes the text `NAME.out`. Of a
+/// script of the kind `malformed` a record is malformed, and what is written are the answers before it.
+pub(crate) fn written_beside(
+    rt: &HostRuntime,
+    row: &Row,
+    answer: &mut Answer,
+) -> Result<(), Fault> {
+    let (kind, name) = row.text(0).split_once(' ').ok_or(Fault::NotARow)?;
+    let script = read_part(rt, name, ".in")?;
+    let wanted = read_part(rt, name, ".out")?;
     let input = match kind {
         "script" | "malformed" => Input::Script,
         "lines" => Input::Lines,
-        _ => return Ok(false),
+        _ => return Err(Fault::NotARow),
     };
-    let mut written = Vec::new(alloc);
-    let record = run_once(
-        alloc,
-        input,
-        &mut Reader::new(script.as_slice()),
-        &mut written,
-    );
-    let is_malformed = match record {
-        Ok(record) => record.is_some(),
-        Err(NoAnswer::OutOfMemory) => return Err(Fault::OutOfMemory),
-        Err(NoAnswer::NotARow | NoAnswer::Changed) => return Ok(false),
-    };
-    Ok(is_malformed == (kind == "malformed") && written == wanted)
+    let (mut written, mut reader) = (Vec::new(answer.alloc), Reader::new(script.as_slice()));
+    let record = run_once(answer.alloc, input, &mut reader, &mut written)?;
+    if record.is_some() != (kind == "malformed") || written != wanted {
+        answer.text("another text")?;
+    }
+    Ok(())
 }
 
-fn read_part<F: Files>(
-    alloc: Global,
-    files: &mut F,
-    name: &str,
-    extension: &str,
-) -> Result<Vec<u8>, Fault> {
-    let path = format!(in alloc; "scripts/{name}{extension}")?;
-    read_bytes(alloc, files, &path)
+fn read_part(rt: &HostRuntime, name: &str, extension: &str) -> Result<Vec<u8>, Fault> {
+    read_bytes(rt, &format!(in rt.alloc(); "scripts/{name}{extension}")?)
 }

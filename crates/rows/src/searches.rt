@@ -1,19 +1,19 @@
 //! Steps of searches: lists are added and removed, outcomes are initialised and searched, and what they have is reported.
 
-use crate::fault::NoAnswer;
-use crate::report::{
-    push_debug, push_debug_line, push_flag_line, push_number, push_number_line, push_shown,
-};
+use crate::engines::addition;
+use crate::fault::Fault;
 use crate::row::Row;
+use crate::scenes::Stage;
 use bstr::BStr;
 use gix_attributes::Search;
+use gix_attributes::engine::Addition;
 use gix_attributes::files::Memory;
-use gix_attributes::glob::Pattern;
 use gix_attributes::glob::search::pattern::List;
 use gix_attributes::search::{
     AttributeId, Attributes, Dropped, Match, MatchKind, MetadataCollection, Outcome,
 };
 use std::alloc::{AllocError, Global};
+use std::fmt::Write;
 use std::mem;
 
 /// Two collections, two searches and two outcomes, of which steps use one each. They are in boxes: a proof drops a box by one
@@ -58,35 +58,19 @@ impl Others {
     }
 }
 
-impl Scene {
-    /// Collections, searches and outcomes without lists.
-    pub(crate) fn new(alloc: Global) -> Result<Scene, AllocError> {
-        Ok(Scene {
-            collection: new_collection(alloc)?,
-            search: new_search(alloc)?,
-            outcome: new_outcome(alloc)?,
-            others: Others::new(alloc)?,
-        })
-    }
-
-    /// Takes a step, and reports what it has to.
-    ///
-    /// # Errors
-    /// [`NoAnswer::NotARow`] if there is no such step, or a call's requirement isn't met; memory is refused.
-    pub(crate) fn take(
-        &mut self,
-        alloc: Global,
-        step: &Row,
-        out: &mut String,
-    ) -> Result<(), NoAnswer> {
+impl Stage for Scene {
+    fn take(&mut self, alloc: Global, step: &Row, out: &mut String) -> Result<(), Fault> {
         match step.text(0) {
             // `add | SOURCE | FILE` adds the lines of a file.
-            "add" => self.add(alloc, step.text(1), step.bytes(2), true)?,
+            "add" => drop(self.add(alloc, addition(step, Some(""), true))?),
             // `add_without_macros | SOURCE | FILE` adds lines among which macros are not allowed.
-            "add_without_macros" => self.add(alloc, step.text(1), step.bytes(2), false)?,
+            "add_without_macros" => drop(self.add(alloc, addition(step, Some(""), false))?),
             // `dropped | FILE` adds lines without a base, and reports those that are dropped.
-            "dropped" => self.push_dropped(alloc, step.bytes(1), true, out)?,
-            "dropped_without_macros" => self.push_dropped(alloc, step.bytes(1), false, out)?,
+            "dropped" => push_lines(&self.add(alloc, without_base(step, true))?, out)?,
+            "dropped_without_macros" => push_lines(
+                &self.add(alloc, without_base(step, false))?,
+                out,
+            )?,
             // Changes to a search of the global lists, without files.
             "globals" => self.read_globals(alloc)?,
             // Removes the last list, and reports whether there was one.
@@ -107,20 +91,50 @@ impl Scene {
         Ok(())
     }
 
+    // The lists, the names with the bodies of macros, and the answers. But a search leaves an outcome that is reset, and a
+    // copy for names may have initialised the other outcome.
+    fn push_state(&self, step: &Row, out: &mut String) -> Result<(), AllocError> {
+        writeln!(out, "{:?}\n{:?}", *self.search, *self.others.search)?;
+        push_known(&self.collection, out)?;
+        if step.text(0) != "find" {
+            push_answers(&self.outcome, out)?;
+        }
+        if step.text(0) != "copy_for" {
+            push_answers(&self.others.outcome, out)?;
+        }
+        Ok(())
+    }
+}
+
+impl Scene {
+    /// Collections, searches and outcomes without lists.
+    pub(crate) fn new(alloc: Global) -> Result<Box<Scene>, AllocError> {
+        let scene = Scene {
+            collection: new_collection(alloc)?,
+            search: new_search(alloc)?,
+            outcome: new_outcome(alloc)?,
+            others: Others::new(alloc)?,
+        };
+        Ok(Box::new(alloc, scene)?)
+    }
+
     fn take_of_outcomes(
         &mut self,
         alloc: Global,
         step: &Row,
         out: &mut String,
-    ) -> Result<(), NoAnswer> {
+    ) -> Result<(), Fault> {
         match step.text(0) {
             // `select | NAME | ..` initialises the outcome for these names, and for all if there are none.
-            "select" => self.select(alloc, step)?,
+            "select" => select(alloc, &mut self.outcome, &self.collection, step)?,
             // Initialises the outcome again, for the same names.
             "begin" => self.outcome.initialize(alloc, &self.collection)?,
             "reset" => self.outcome.reset(),
             // Copies the answers to the other outcome, which `copy_for` initialises for its names, and changes to that.
-            "copy_for" => self.copy_for(alloc, step)?,
+            "copy_for" => {
+                select(alloc, &mut self.others.outcome, &self.collection, step)?;
+                self.copy(alloc)?;
+            }
             "copy" => self.copy(alloc)?,
             "turn_outcomes" => mem::swap(&mut self.outcome, &mut self.others.outcome),
             // Changes to a clone of the outcome, and resets the outcome itself.
@@ -132,18 +146,24 @@ impl Scene {
         Ok(())
     }
 
-    fn report(&self, step: &Row, out: &mut String) -> Result<(), NoAnswer> {
+    fn report(&self, step: &Row, out: &mut String) -> Result<(), Fault> {
         match step.text(0) {
             // Whether the collection holds the search.
-            "held" => push_flag_line(self.collection.holds(&self.search), out)?,
+            "held" => writeln!(out, "{}", self.collection.holds(&self.search))?,
+            // How the search compares with the other one.
+            "compare" => writeln!(out, "{:?}", self.search.cmp(&self.others.search))?,
             // The names by number, each with its body.
             "names" => push_known(&self.collection, out)?,
             // `name | NUMBER`
-            "name" => self.push_name(step.number(1)?, out)?,
+            "name" => writeln!(
+                out,
+                "{:?}",
+                self.collection.name_of(AttributeId(step.number(1)?))
+            )?,
             // The number of lists.
-            "lists" => push_number_line(self.search.num_pattern_lists(), out)?,
+            "lists" => writeln!(out, "{}", self.search.num_pattern_lists())?,
             // The outcome as `Debug` prints it.
-            "show" => push_debug_line(&*self.outcome, out)?,
+            "show" => writeln!(out, "{:?}", *self.outcome)?,
             // Whether the outcome is done, and how many items were taken and patterns tested; `count | LEAST` reports no fewer.
             "count" => self.count(step, out)?,
             // Whether the outcome covers the search, and whether it is current.
@@ -154,56 +174,25 @@ impl Scene {
             "places" => push_places(&self.outcome, out)?,
             // Which of the first eight numbers have a match.
             "numbers" => push_answered(&self.outcome, out)?,
-            _ => return Err(NoAnswer::NotARow),
+            _ => return Err(Fault::NotARow),
         }
         Ok(())
     }
 
-    /// What a step that finds no memory has to leave as it was: the lists, the names with the bodies of macros, and the answers.
-    /// But a search leaves an outcome that is reset, and a copy for names may have initialised the other outcome.
-    pub(crate) fn push_state(&self, step: &Row, out: &mut String) -> Result<(), AllocError> {
-        push_debug_line(&*self.search, out)?;
-        push_debug_line(&*self.others.search, out)?;
-        push_known(&self.collection, out)?;
-        if step.text(0) != "find" {
-            push_answers(&self.outcome, out)?;
-        }
-        if step.text(0) != "copy_for" {
-            push_answers(&self.others.outcome, out)?;
-        }
-        Ok(())
+    fn add(&mut self, alloc: Global, list: Addition<'_>) -> Result<Vec<Dropped>, AllocError> {
+        let source = String::from_str(alloc, list.source)?;
+        let (bytes, collection) = (list.buffer, &mut self.collection);
+        self.search.add_patterns_buffer(
+            alloc,
+            bytes,
+            source,
+            list.root,
+            collection,
+            list.allow_macros,
+        )
     }
 
-    fn add(
-        &mut self,
-        alloc: Global,
-        source: &str,
-        bytes: &[u8],
-        allow_macros: bool,
-    ) -> Result<(), AllocError> {
-        let source = String::from_str(alloc, source)?;
-        let collection = &mut self.collection;
-        self.search
-            .add_patterns_buffer(alloc, bytes, source, Some(""), collection, allow_macros)?;
-        Ok(())
-    }
-
-    fn push_dropped(
-        &mut self,
-        alloc: Global,
-        bytes: &[u8],
-        allow_macros: bool,
-        out: &mut String,
-    ) -> Result<(), AllocError> {
-        let source = String::from_str(alloc, "s")?;
-        let collection = &mut self.collection;
-        let dropped = self
-            .search
-            .add_patterns_buffer(alloc, bytes, source, None, collection, allow_macros)?;
-        push_lines(&dropped, out)
-    }
-
-    fn read_globals(&mut self, alloc: Global) -> Result<(), NoAnswer> {
+    fn read_globals(&mut self, alloc: Global) -> Result<(), Fault> {
         let (mut files, mut buf) = (Memory::new(alloc), Vec::new(alloc));
         let collection = &mut self.collection;
         match Search::new_globals_from(alloc, &mut files, &[], &mut buf, collection) {
@@ -211,41 +200,45 @@ impl Scene {
                 *self.search = search;
                 Ok(())
             }
-            Err(_) => Err(NoAnswer::OutOfMemory),
+            Err(_) => Err(Fault::OutOfMemory),
         }
     }
 
-    fn pop(&mut self, out: &mut String) -> Result<(), NoAnswer> {
+    fn pop(&mut self, out: &mut String) -> Result<(), Fault> {
         out.reserve(8)?;
         let is_popped = self.removed()?.is_some();
         out.push_str(if is_popped { "removed\n" } else { "no list\n" })?;
         Ok(())
     }
 
-    fn removed(&mut self) -> Result<Option<List<Attributes>>, NoAnswer> {
+    fn removed(&mut self) -> Result<Option<List<Attributes>>, Fault> {
         if !self.collection.holds(&self.search) {
-            return Err(NoAnswer::NotARow);
+            return Err(Fault::NotARow);
         }
         Ok(self.search.pop_pattern_list(&mut self.collection))
     }
 
-    fn add_and_remove(&mut self, alloc: Global, step: &Row) -> Result<(), NoAnswer> {
+    fn add_and_remove(&mut self, alloc: Global, step: &Row) -> Result<(), Fault> {
+        let list = Addition {
+            source: ".gitattributes",
+            ..addition(step, Some(""), true)
+        };
         for _ in 0..step.number(1)? {
-            self.add(alloc, ".gitattributes", step.bytes(2), true)?;
+            drop(self.add(alloc, list)?);
             if self.removed()?.is_none() {
-                return Err(NoAnswer::Changed);
+                return Err(Fault::Changed);
             }
         }
         Ok(())
     }
 
     // The report gets its memory before the list is removed.
-    fn push_moved(&mut self, alloc: Global, out: &mut String) -> Result<(), NoAnswer> {
+    fn push_moved(&mut self, alloc: Global, out: &mut String) -> Result<(), Fault> {
         let mut collection = new_collection(alloc)?;
         out.reserve(64)?;
         match self.removed()? {
             Some(mut list) => push_numbered(alloc, &mut list, &mut collection, out),
-            None => Err(NoAnswer::NotARow),
+            None => Err(Fault::NotARow),
         }
     }
 
@@ -267,23 +260,9 @@ impl Scene {
         Ok(())
     }
 
-    fn select(&mut self, alloc: Global, step: &Row) -> Result<(), AllocError> {
-        let names = step.texts(alloc, 1)?;
-        self.outcome
-            .initialize_with_selection(alloc, &self.collection, &names)
-    }
-
-    fn copy_for(&mut self, alloc: Global, step: &Row) -> Result<(), NoAnswer> {
-        let names = step.texts(alloc, 1)?;
-        self.others
-            .outcome
-            .initialize_with_selection(alloc, &self.collection, &names)?;
-        self.copy(alloc)
-    }
-
-    fn copy(&mut self, alloc: Global) -> Result<(), NoAnswer> {
+    fn copy(&mut self, alloc: Global) -> Result<(), Fault> {
         if !self.outcome.is_initialized() || !self.outcome.is_current(&self.collection) {
-            return Err(NoAnswer::NotARow);
+            return Err(Fault::NotARow);
         }
         let copy = &mut self.others.outcome;
         self.outcome.copy_into(alloc, &self.collection, copy)?;
@@ -298,10 +277,10 @@ impl Scene {
         Ok(())
     }
 
-    fn find(&mut self, alloc: Global, step: &Row, out: &mut String) -> Result<(), NoAnswer> {
+    fn find(&mut self, alloc: Global, step: &Row, out: &mut String) -> Result<(), Fault> {
         let (path, case) = (BStr::new(step.bytes(1)), step.case(2)?);
         if !self.outcome.is_initialized() || !self.outcome.covers(&self.search) {
-            return Err(NoAnswer::NotARow);
+            return Err(Fault::NotARow);
         }
         // The report of a search gets its memory first, so that only the search can be refused.
         out.reserve(6)?;
@@ -309,9 +288,9 @@ impl Scene {
             .search
             .pattern_matching_relative_path(alloc, path, case, Some(false), &mut self.outcome);
         match searched {
-            Ok(is_found) => out.push_str(if is_found { "true\n" } else { "false\n" })?,
-            Err(_) if self.is_reset() => return Err(NoAnswer::OutOfMemory),
-            Err(_) => return Err(NoAnswer::Changed),
+            Ok(is_found) => writeln!(out, "{is_found}")?,
+            Err(_) if self.is_reset() => return Err(Fault::OutOfMemory),
+            Err(_) => return Err(Fault::Changed),
         }
         Ok(())
     }
@@ -321,33 +300,48 @@ impl Scene {
         outcome.iter().next().is_none() && outcome.taken() == 0 && outcome.tested() == 0
     }
 
-    fn push_name(&self, number: usize, out: &mut String) -> Result<(), AllocError> {
-        push_debug_line(&self.collection.name_of(AttributeId(number)), out)
-    }
-
-    fn count(&self, step: &Row, out: &mut String) -> Result<(), NoAnswer> {
+    fn count(&self, step: &Row, out: &mut String) -> Result<(), Fault> {
         if !self.outcome.is_initialized() {
-            return Err(NoAnswer::NotARow);
+            return Err(Fault::NotARow);
         }
         let state = if self.outcome.is_done() {
-            "done "
+            "done"
         } else {
-            "open "
+            "open"
         };
+        let (taken, tested) = (self.outcome.taken(), self.outcome.tested());
         let least = step.number_or_zero(1)? as u128;
-        out.push_str(state)?;
-        push_shown(&self.outcome.taken(), out)?;
-        out.push(' ')?;
-        push_shown(&self.outcome.tested().max(least), out)?;
-        out.push('\n')?;
+        writeln!(out, "{state} {taken} {}", tested.max(least))?;
         Ok(())
     }
 
     fn fit(&self, out: &mut String) -> Result<(), AllocError> {
         let covers = self.outcome.covers(&self.search);
-        out.push_str(if covers { "true " } else { "false " })?;
-        push_flag_line(self.outcome.is_current(&self.collection), out)
+        writeln!(
+            out,
+            "{covers} {}",
+            self.outcome.is_current(&self.collection)
+        )
     }
+}
+
+fn without_base(step: &Row, allow_macros: bool) -> Addition<'_> {
+    Addition {
+        allow_macros,
+        source: "s",
+        root: None,
+        buffer: step.bytes(1),
+    }
+}
+
+fn select(
+    alloc: Global,
+    outcome: &mut Outcome,
+    collection: &MetadataCollection,
+    step: &Row,
+) -> Result<(), AllocError> {
+    let names = step.texts(alloc, 1)?;
+    outcome.initialize_with_selection(alloc, collection, &names)
 }
 
 fn push_rows(outcome: &Outcome, first: usize, out: &mut String) -> Result<(), AllocError> {
@@ -364,17 +358,16 @@ fn push_rows(outcome: &Outcome, first: usize, out: &mut String) -> Result<(), Al
 
 // `x=1 macro 0 2`: the assignment, the kind, the number of the macro that it comes from, and the line.
 fn push_row(out: &mut String, found: Match<'_>) -> Result<(), AllocError> {
-    push_shown(&found.assignment, out)?;
-    out.push_str(match found.kind {
-        MatchKind::Attribute { macro_id: _ } => " attribute ",
-        MatchKind::Macro { parent_macro_id: _ } => " macro ",
-    })?;
+    let kind = match found.kind {
+        MatchKind::Attribute { macro_id: _ } => "attribute",
+        MatchKind::Macro { parent_macro_id: _ } => "macro",
+    };
+    write!(out, "{} {kind} ", found.assignment)?;
     match found.kind.source_id() {
-        Some(id) => push_number(id.0, out)?,
+        Some(id) => write!(out, "{}", id.0)?,
         None => out.push('-')?,
     }
-    out.push(' ')?;
-    push_number_line(found.location.sequence_number, out)
+    writeln!(out, " {}", found.location.sequence_number)
 }
 
 fn push_places(outcome: &Outcome, out: &mut String) -> Result<(), AllocError> {
@@ -385,23 +378,18 @@ fn push_places(outcome: &Outcome, out: &mut String) -> Result<(), AllocError> {
 }
 
 fn push_place(out: &mut String, found: Match<'_>) -> Result<(), AllocError> {
-    out.push_str(found.location.source.unwrap_or("-"))?;
-    out.push(':')?;
-    push_number(found.location.sequence_number, out)?;
-    out.push(':')?;
-    push_pattern(found.pattern, out)?;
-    out.push('\n')
-}
-
-fn push_pattern(pattern: &Pattern, out: &mut String) -> Result<(), AllocError> {
-    let text = pattern.write_text(*out.allocator())?;
-    push_shown(&BStr::new(text.as_slice()), out)
+    let (source, line) = (
+        found.location.source.unwrap_or("-"),
+        found.location.sequence_number,
+    );
+    let text = found.pattern.write_text(*out.allocator())?;
+    writeln!(out, "{source}:{line}:{}", BStr::new(text.as_slice()))
 }
 
 fn push_answered(outcome: &Outcome, out: &mut String) -> Result<(), AllocError> {
     for number in 0..8 {
         if outcome.match_by_id(AttributeId(number)).is_some() {
-            push_number_line(number, out)?;
+            writeln!(out, "{number}")?;
         }
     }
     Ok(())
@@ -412,8 +400,7 @@ fn push_known(collection: &MetadataCollection, out: &mut String) -> Result<(), A
         out.push_str(name)?;
         out.push(':')?;
         for item in metadata.macro_attributes.iter() {
-            out.push(' ')?;
-            push_shown(&item.inner.as_ref(), out)?;
+            write!(out, " {}", item.inner.as_ref())?;
         }
         out.push('\n')?;
     }
@@ -426,9 +413,9 @@ fn push_numbered(
     list: &mut List<Attributes>,
     collection: &mut MetadataCollection,
     out: &mut String,
-) -> Result<(), NoAnswer> {
+) -> Result<(), Fault> {
     if !MetadataCollection::macros_valid(list) {
-        return Err(NoAnswer::NotARow);
+        return Err(Fault::NotARow);
     }
     if collection.update_from_list(alloc, list).is_err() {
         push_known(collection, out)?;
@@ -439,18 +426,12 @@ fn push_numbered(
 }
 
 fn push_answers(outcome: &Outcome, out: &mut String) -> Result<(), AllocError> {
-    push_debug(outcome, out)?;
-    out.push(' ')?;
-    push_shown(&outcome.taken(), out)?;
-    out.push(' ')?;
-    push_debug_line(&outcome.tested(), out)
+    writeln!(out, "{outcome:?} {} {}", outcome.taken(), outcome.tested())
 }
 
 fn push_lines(dropped: &[Dropped], out: &mut String) -> Result<(), AllocError> {
     for line in dropped {
-        push_number(line.line, out)?;
-        out.push(':')?;
-        push_debug_line(&line.reason, out)?;
+        writeln!(out, "{}:{:?}", line.line, line.reason)?;
     }
     Ok(())
 }

@@ -1,11 +1,11 @@
 //! The answers of rows about files: those of sources, global ones, and those that are added.
 
 use crate::answer::Answer;
-use crate::fault::NoAnswer;
-use crate::lines::push_dropped_line;
-use crate::row::Row;
+use crate::fault::Fault;
+use crate::lines::push_dropped;
+use crate::row::{Row, words_of};
 use crate::searches::{new_collection, new_search};
-use gix_attributes::files::Files;
+use gix_attributes::files::Disk;
 use gix_attributes::search::{AddError, Added, Dropped, MetadataCollection};
 use gix_attributes::{Prefixes, Search, Source};
 use std::alloc::{AllocError, Global};
@@ -13,23 +13,18 @@ use std::fmt::Write;
 
 /// Of a source, a prefix for git's installation and for the system, and variables: which of these are looked up, and the path of
 /// the source's file.
-pub(crate) fn location(alloc: Global, row: &Row, answer: &mut Answer) -> Result<(), NoAnswer> {
-    let source = source_of(row.text(0))?;
-    let mut looked_up = String::new(alloc);
-    let path = located(alloc, source, row, &mut looked_up)?;
+pub(crate) fn location(row: &Row, answer: &mut Answer) -> Result<(), Fault> {
+    let source = match row.text(0) {
+        "GitInstallation" => Source::GitInstallation,
+        "System" => Source::System,
+        "Git" => Source::Git,
+        "Local" => Source::Local,
+        _ => return Err(Fault::NotARow),
+    };
+    let mut looked_up = String::new(answer.alloc);
+    let path = located(answer.alloc, source, row, &mut looked_up)?;
     answer.text(looked_up.trim_ascii())?;
-    answer.text(path.as_deref().unwrap_or("-"))?;
-    Ok(())
-}
-
-fn source_of(word: &str) -> Result<Source, NoAnswer> {
-    match word {
-        "GitInstallation" => Ok(Source::GitInstallation),
-        "System" => Ok(Source::System),
-        "Git" => Ok(Source::Git),
-        "Local" => Ok(Source::Local),
-        _ => Err(NoAnswer::NotARow),
-    }
+    answer.text(path.as_deref().unwrap_or("-"))
 }
 
 fn located(
@@ -37,28 +32,43 @@ fn located(
     source: Source,
     row: &Row,
     looked_up: &mut String,
-) -> Result<Option<String>, AllocError> {
+) -> Result<Option<String>, Fault> {
     let prefixes = Prefixes {
         installation: owned(alloc, row.optional(1))?,
         system: owned(alloc, row.optional(1))?,
     };
-    let variables = row.text(2);
-    source.storage_location(alloc, &prefixes, |name: &str| {
-        let _ = write!(looked_up, "{name} ");
-        owned(alloc, value_of(variables, name)).unwrap_or(None)
-    })
+    let (variables, mut is_refused) = (row.text(2), false);
+    let path = source.storage_location(alloc, &prefixes, |name: &str| {
+        match looked_up_value(alloc, variables, name, looked_up) {
+            Ok(value) => value,
+            Err(_) => {
+                is_refused = true;
+                None
+            }
+        }
+    })?;
+    if is_refused {
+        return Err(Fault::OutOfMemory);
+    }
+    Ok(path)
 }
 
-// The value of a name in `NAME=VALUE NAME=VALUE`.
-fn value_of<'a>(variables: &'a str, name: &str) -> Option<&'a str> {
+// The value of a name in `NAME=VALUE NAME=VALUE`. The name is noted.
+fn looked_up_value(
+    alloc: Global,
+    variables: &str,
+    name: &str,
+    looked_up: &mut String,
+) -> Result<Option<String>, AllocError> {
+    write!(looked_up, "{name} ")?;
     for variable in variables.split(' ') {
         if let Some((known, value)) = variable.split_once('=') {
             if known == name {
-                return Some(value);
+                return owned(alloc, Some(value));
             }
         }
     }
-    None
+    Ok(None)
 }
 
 fn owned(alloc: Global, text: Option<&str>) -> Result<Option<String>, AllocError> {
@@ -66,97 +76,6 @@ fn owned(alloc: Global, text: Option<&str>) -> Result<Option<String>, AllocError
         Some(text) => Ok(Some(String::from_str(alloc, text)?)),
         None => Ok(None),
     }
-}
-
-/// Of names of files: the number of global lists, whether the collection holds them, and the lines that are dropped of each file, or
-/// the error; then the names that are known.
-pub(crate) fn globals<F: Files>(
-    alloc: Global,
-    files: &mut F,
-    row: &Row,
-    answer: &mut Answer,
-) -> Result<(), NoAnswer> {
-    let mut collection = new_collection(alloc)?;
-    let names = all_owned(alloc, row.text(0))?;
-    push_globals(alloc, files, &names, &mut collection, answer)?;
-    push_names(&collection, answer)?;
-    Ok(())
-}
-
-fn all_owned(alloc: Global, names: &str) -> Result<Vec<String>, AllocError> {
-    let mut owned = Vec::new(alloc);
-    push_owned(alloc, names, &mut owned)?;
-    Ok(owned)
-}
-
-fn push_owned(alloc: Global, names: &str, owned: &mut Vec<String>) -> Result<(), AllocError> {
-    for name in names.split(' ') {
-        if !name.is_empty() {
-            owned.push(String::from_str(alloc, name)?)?;
-        }
-    }
-    Ok(())
-}
-
-fn push_globals<F: Files>(
-    alloc: Global,
-    files: &mut F,
-    names: &[String],
-    collection: &mut MetadataCollection,
-    answer: &mut Answer,
-) -> Result<(), AllocError> {
-    let mut buf = Vec::new(alloc);
-    match &Search::new_globals_from(alloc, files, names, &mut buf, collection) {
-        Ok((search, dropped)) => push_search(search, dropped, collection, answer),
-        Err(error) => push_error(error, answer),
-    }
-}
-
-fn push_search(
-    search: &Search,
-    dropped: &[Vec<Dropped>],
-    collection: &MetadataCollection,
-    answer: &mut Answer,
-) -> Result<(), AllocError> {
-    push_lists(search, collection, answer)?;
-    for lines in dropped {
-        push_dropped(lines, answer)?;
-    }
-    Ok(())
-}
-
-fn push_lists(
-    search: &Search,
-    collection: &MetadataCollection,
-    answer: &mut Answer,
-) -> Result<(), AllocError> {
-    answer.number(search.num_pattern_lists())?;
-    answer.flag(collection.holds(search))
-}
-
-fn push_dropped(lines: &[Dropped], answer: &mut Answer) -> Result<(), AllocError> {
-    let mut text = String::new(answer.allocator());
-    for line in lines {
-        push_dropped_line(line, &mut text)?;
-    }
-    answer.text(&text)
-}
-
-fn push_error(error: &AddError, answer: &mut Answer) -> Result<(), AllocError> {
-    match error {
-        AddError::Io(_) => answer.text("reading failed"),
-        AddError::OutOfMemory => Err(AllocError),
-    }
-}
-
-// The names by number.
-fn push_names(collection: &MetadataCollection, answer: &mut Answer) -> Result<(), AllocError> {
-    let mut text = String::new(answer.allocator());
-    for (name, _) in collection.iter() {
-        text.push_str(name)?;
-        text.push(' ')?;
-    }
-    answer.text(text.trim_ascii())
 }
 
 /// A search, the collection that holds its lists, and the buffer for files.
@@ -177,50 +96,116 @@ fn no_lists(alloc: Global) -> Result<Lists, AllocError> {
     })
 }
 
-/// Of each of some files that are added: whether it is there, and the lines that are dropped; then the number of lists, whether the
-/// collection holds them, the names that are known, and what is left in the buffer.
-pub(crate) fn additions<F: Files>(
-    alloc: Global,
-    files: &mut F,
-    row: &Row,
-    answer: &mut Answer,
-) -> Result<(), NoAnswer> {
-    let mut lists = no_lists(alloc)?;
-    push_all_added(alloc, files, row.text(0), &mut lists, answer)?;
-    Ok(())
+/// Of names of files: the number of global lists, whether the collection holds them, and the lines that are dropped of each
+/// file, or the error; then the names that are known.
+pub(crate) fn globals(rt: &HostRuntime, row: &Row, answer: &mut Answer) -> Result<(), Fault> {
+    let mut lists = no_lists(answer.alloc)?;
+    push_globals(rt, Reads::Device, row.text(0), &mut lists, answer)?;
+    push_names(&lists.collection, answer)
 }
 
-fn push_all_added<F: Files>(
-    alloc: Global,
-    files: &mut F,
+/// Who reads files.
+#[derive(Clone, Copy)]
+enum Reads {
+    /// A device that is passed to the calls.
+    Device,
+    /// The calls themselves.
+    Calls,
+}
+
+fn push_globals(
+    rt: &HostRuntime,
+    reads: Reads,
     names: &str,
     lists: &mut Lists,
     answer: &mut Answer,
-) -> Result<(), AllocError> {
-    for name in names.split(' ') {
-        push_added(alloc, files, name, lists, answer)?;
+) -> Result<(), Fault> {
+    let (alloc, buf, collection) = (answer.alloc, &mut lists.buf, &mut lists.collection);
+    let names = words_of(alloc, names)?;
+    let read = match reads {
+        Reads::Calls => Search::new_globals(rt, alloc, &names, buf, collection),
+        Reads::Device => {
+            Search::new_globals_from(alloc, &mut Disk::new(rt), &names, buf, collection)
+        }
+    };
+    push_search(&read, collection, answer)
+}
+
+fn push_search(
+    read: &Result<(Search, Vec<Vec<Dropped>>), AddError>,
+    collection: &MetadataCollection,
+    answer: &mut Answer,
+) -> Result<(), Fault> {
+    match read {
+        Ok((search, dropped)) => {
+            push_lists(search, collection, answer)?;
+            for lines in dropped {
+                push_dropped(lines, answer)?;
+            }
+            Ok(())
+        }
+        Err(error) => push_error(error, answer),
+    }
+}
+
+fn push_lists(
+    search: &Search,
+    collection: &MetadataCollection,
+    answer: &mut Answer,
+) -> Result<(), Fault> {
+    answer.number(search.num_pattern_lists())?;
+    answer.flag(collection.holds(search))
+}
+
+fn push_error(error: &AddError, answer: &mut Answer) -> Result<(), Fault> {
+    match error {
+        AddError::Io(_) => answer.text(&format!(in answer.alloc; "{error}")?),
+        AddError::OutOfMemory => Err(Fault::OutOfMemory),
+    }
+}
+
+// The names by number.
+fn push_names(collection: &MetadataCollection, answer: &mut Answer) -> Result<(), Fault> {
+    let mut text = String::new(answer.alloc);
+    for (name, _) in collection.iter() {
+        write!(text, "{name} ")?;
+    }
+    answer.text(text.trim_ascii())
+}
+
+/// Of each of some files that are added: whether it is there, and the lines that are dropped; then the number of lists,
+/// whether the collection holds them, the names that are known, and what is left in the buffer.
+pub(crate) fn additions(rt: &HostRuntime, row: &Row, answer: &mut Answer) -> Result<(), Fault> {
+    let mut lists = no_lists(answer.alloc)?;
+    for name in row.text(0).split(' ') {
+        push_added(rt, Reads::Device, name, &mut lists, answer)?;
     }
     push_lists(&lists.search, &lists.collection, answer)?;
     push_names(&lists.collection, answer)?;
     answer.bytes(&lists.buf)
 }
 
-fn push_added<F: Files>(
-    alloc: Global,
-    files: &mut F,
+// A file that a device reads may define no macros, and has the top as its root.
+fn push_added(
+    rt: &HostRuntime,
+    reads: Reads,
     name: &str,
     lists: &mut Lists,
     answer: &mut Answer,
-) -> Result<(), AllocError> {
-    let source = String::from_str(alloc, name)?;
-    let (buf, collection) = (&mut lists.buf, &mut lists.collection);
-    let added = lists
-        .search
-        .add_patterns_file_from(alloc, files, source, Some(""), buf, collection, false);
+) -> Result<(), Fault> {
+    let (alloc, buf, collection) = (answer.alloc, &mut lists.buf, &mut lists.collection);
+    let (source, search) = (String::from_str(alloc, name)?, &mut lists.search);
+    let added = match reads {
+        Reads::Calls => search.add_patterns_file(rt, alloc, source, None, buf, collection, true),
+        Reads::Device => {
+            let (files, root) = (&mut Disk::new(rt), Some(""));
+            search.add_patterns_file_from(alloc, files, source, root, buf, collection, false)
+        }
+    };
     push_addition(&added, answer)
 }
 
-fn push_addition(added: &Result<Added, AddError>, answer: &mut Answer) -> Result<(), AllocError> {
+fn push_addition(added: &Result<Added, AddError>, answer: &mut Answer) -> Result<(), Fault> {
     match added {
         Ok(added) => {
             answer.text(if added.was_added { "added" } else { "missing" })?;
@@ -228,4 +213,13 @@ fn push_addition(added: &Result<Added, AddError>, answer: &mut Answer) -> Result
         }
         Err(error) => push_error(error, answer),
     }
+}
+
+/// Of the name of a file that the calls read from the disk themselves, as global lists and then as one that is added: the same.
+pub(crate) fn of_disk(rt: &HostRuntime, row: &Row, answer: &mut Answer) -> Result<(), Fault> {
+    let mut lists = no_lists(answer.alloc)?;
+    push_globals(rt, Reads::Calls, row.text(0), &mut lists, answer)?;
+    lists.buf.clear();
+    push_added(rt, Reads::Calls, row.text(0), &mut lists, answer)?;
+    push_names(&lists.collection, answer)
 }

@@ -1,9 +1,7 @@
 //! Runs that pass whichever request for memory is refused.
-use super::calls::{arguments, status_of};
-use super::runs::{End, Program};
-use super::{INPUT, TEXT, scripts};
+use super::{ANSWERS, INPUT, SCRIPT, TEXT, argument, report};
 use crate::devices::{Sink, Source};
-use check_attr::{Globals, globals, run};
+use check_attr::{Fault, Globals, globals, program, run};
 use gix_attributes::files::Memory;
 use gix_attributes::search::AddError;
 use std::alloc::{AllocError, Global};
@@ -14,11 +12,11 @@ fn with_room(alloc: Global) -> Result<Sink, AllocError> {
 }
 
 // Whether a run wrote its text, or a beginning of it for want of memory. No device failed.
-fn wrote_what_it_could(end: End, written: &[u8], text: &[u8]) -> bool {
-    match end {
-        End::Whole => written == text,
-        End::NoMemory => text.starts_with(written),
-        End::Malformed(_) | End::FailedRead | End::FailedWrite => false,
+fn wrote_what_it_could(ended: Result<(), Fault>, written: &[u8], text: &[u8]) -> bool {
+    match ended {
+        Ok(()) => written == text,
+        Err(Fault::OutOfMemory) => text.starts_with(written),
+        Err(Fault::Record(_) | Fault::Read | Fault::Write) => false,
     }
 }
 
@@ -28,17 +26,15 @@ fn without_memory_a_beginning_is_written(rt: HostRuntime) {
     let Ok(mut sink) = with_room(rt.alloc()) else {
         return;
     };
-    let end = Program::Lines.end(rt.alloc(), &mut Source::new(INPUT), &mut sink);
-    let is_right = wrote_what_it_could(end, sink.bytes(), TEXT);
-    assert!(rt; is_right, "{end:?}");
+    let ended = report(rt.alloc(), INPUT, &mut sink);
+    assert!(rt; wrote_what_it_could(ended, sink.bytes(), TEXT));
 }
 
 // The lists of a global file, of which one line is dropped.
 fn lists_of_a_file(alloc: Global) -> Result<Globals, AddError> {
     let mut files = Memory::new(alloc);
     files.insert("g1", b"*.sh -eol\n!b c\n")?;
-    let names = arguments(alloc, &["g1"])?;
-    globals(alloc, &mut files, &names)
+    globals(alloc, &mut files, &argument(alloc, "g1")?)
 }
 
 // How many lines of that file are dropped.
@@ -62,16 +58,11 @@ fn without_memory_global_files_are_read_again(rt: HostRuntime) -> Result<(), Add
 // The lists and the memory of the writer are there before the run.
 #[test]
 fn without_memory_a_beginning_of_the_answers_is_written(rt: HostRuntime) {
-    let Ok(mut sink) = with_room(rt.alloc()) else {
+    let (Ok(mut sink), Ok(lists)) = (with_room(rt.alloc()), lists_of_a_file(rt.alloc())) else {
         return;
     };
-    let Ok(lists) = lists_of_a_file(rt.alloc()) else {
-        return;
-    };
-    let mut source = Source::new(scripts::SCRIPT);
-    let end = End::of(run(rt.alloc(), &mut source, &mut sink, lists));
-    let is_right = wrote_what_it_could(end, sink.bytes(), scripts::TEXT);
-    assert!(rt; is_right, "{end:?}");
+    let ended = run(rt.alloc(), &mut Source::new(SCRIPT), &mut sink, lists);
+    assert!(rt; wrote_what_it_could(ended, sink.bytes(), ANSWERS));
 }
 
 // Whether the program printed its text, or a beginning of it and the words for want of memory.
@@ -86,14 +77,22 @@ fn printed_what_it_could(status: u8, written: &[u8], errors: &[u8]) -> bool {
 // The line on standard error takes no memory, and `errors` has its own.
 #[test]
 fn without_memory_the_program_prints_it(rt: HostRuntime) {
-    let Ok(args) = arguments(rt.alloc(), &["--lines"]) else {
+    let alloc = rt.alloc();
+    let Ok(args) = argument(alloc, "--lines") else {
         return;
     };
-    let (Ok(mut writer), Ok(mut errors)) = (with_room(rt.alloc()), with_room(rt.alloc())) else {
+    let (Ok(mut writer), Ok(mut errors)) = (with_room(alloc), with_room(alloc)) else {
         return;
     };
-    let mut source = Source::new(INPUT);
-    let status = status_of(rt.alloc(), &args, &mut source, &mut writer, &mut errors);
+    let (mut files, mut source) = (Memory::new(alloc), Source::new(INPUT));
+    let status = program(
+        alloc,
+        &mut files,
+        &args,
+        &mut source,
+        &mut writer,
+        &mut errors,
+    );
     let is_right = printed_what_it_could(status, writer.bytes(), errors.bytes());
     assert!(rt; is_right, "status {status}");
 }

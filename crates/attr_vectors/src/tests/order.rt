@@ -1,6 +1,6 @@
 //! The program prints the lines that global files leave out, and flushes them, before it reads its script. A contract knows no order
 //! of calls of two devices, so here a cell tells the reader how much standard error has flushed.
-use super::calls::arguments;
+use super::argument;
 use check_attr::{Reader, Writer, program};
 use gix_attributes::files::Memory;
 use std::alloc::{AllocError, Global};
@@ -52,7 +52,7 @@ fn status(alloc: Global, script: &[u8], text: &mut Vec<u8>) -> Result<u8, AllocE
     let flushed = Cell::new(0);
     let mut files = Memory::new(alloc);
     files.insert("g", b"!a b\n* builtin_c\n* d\n")?;
-    let args = arguments(alloc, &["g"])?;
+    let args = argument(alloc, "g")?;
     let mut reader = Reader::new(Waiting {
         rest: script,
         flushed: &flushed,

@@ -1,6 +1,6 @@
 //! Readers and writers of std, and the texts of faults.
-use super::runs::{End, lines_end};
-use check_attr::{Fault, Pull, Push, Reader, Writer};
+use super::is_failed_write;
+use check_attr::{Fault, Pull, Push, Reader, Writer, lines};
 use std::alloc::Global;
 use std::io;
 use std::io::{ErrorKind, Read, Write};
@@ -53,10 +53,10 @@ fn prints_between_readers_and_writers_of_std(rt: HostRuntime) {
     let mut out = Vec::new(rt.alloc());
     let mut reader = Reader::new(b"* text\n".as_slice());
     let mut writer = Writer::new(&mut out);
-    let end = lines_end(rt.alloc(), &mut reader, &mut writer);
+    let is_whole = lines(rt.alloc(), &mut reader, &mut writer).is_ok();
     let failures = (reader.failures(), writer.failures());
     let text = b"1: text\n".as_slice();
-    assert_eq!(rt; (end, failures, out.as_slice()), (End::Whole, (0, 0), text));
+    assert_eq!(rt; (is_whole, failures, out.as_slice()), (true, (0, 0), text));
 }
 
 #[derive(Drop)]
@@ -101,9 +101,9 @@ fn a_failed_flush_sets_no_flag(rt: HostRuntime) {
     assert_eq!(rt; (is_done, interrupted.is_flushed()), (false, false));
 }
 
-// How the report on a line ends.
-fn end_of_line<W: Write>(alloc: Global, writer: &mut Writer<W>) -> End {
-    lines_end(alloc, &mut Reader::new(b"* a\n".as_slice()), writer)
+// Whether the report on a line ends since a write failed.
+fn fails<W: Write>(alloc: Global, writer: &mut Writer<W>) -> bool {
+    is_failed_write(lines(alloc, &mut Reader::new(b"* a\n".as_slice()), writer))
 }
 
 // A write that has no byte to take stalls nothing, and a stall before a run is none of that run.
@@ -119,20 +119,17 @@ fn counts_each_write_that_took_no_byte_of_some(rt: HostRuntime) {
             (Some(0), stalls, 0)
         );
     }
-    let (is_flushed, end) = (full.is_flushed(), end_of_line(rt.alloc(), &mut full));
+    let (is_flushed, fails) = (full.is_flushed(), fails(rt.alloc(), &mut full));
     let counts = (full.stalls(), full.failures());
-    assert_eq!(rt;
-        (is_flushed, end, counts),
-        (false, End::FailedWrite, (4, 0))
-    );
+    assert_eq!(rt; (is_flushed, fails, counts), (false, true, (4, 0)));
 }
 
 #[test]
 fn a_failed_write_is_no_stall(rt: HostRuntime) {
     let mut interrupted = Writer::new(Interrupted);
-    let end = end_of_line(rt.alloc(), &mut interrupted);
+    let fails = fails(rt.alloc(), &mut interrupted);
     let counts = (interrupted.stalls(), interrupted.failures());
-    assert_eq!(rt; (end, counts), (End::FailedWrite, (0, 1)));
+    assert_eq!(rt; (fails, counts), (true, (0, 1)));
 }
 
 #[test]

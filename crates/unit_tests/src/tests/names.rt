@@ -2,12 +2,10 @@
 //!
 //! A function that owns a copy takes long to prove, once more for each place where it can end. So the functions that
 //! own one end in few places.
-use attr_lists::parse;
 use attr_text::state::{Value, ValueRef};
-use attr_text::{Name, NameRef, StateRef, name};
+use attr_text::{AssignmentRef, Name, NameRef, StateRef};
 use bstr::BStr;
 use std::alloc::{AllocError, Global};
-use std::process::Abort;
 use std::rc::RcStr;
 use std::test::Fail;
 
@@ -16,16 +14,10 @@ pub(super) fn name_of(text: &str) -> Result<NameRef<'_>, Fail> {
     Ok(NameRef::try_from(BStr::from(text))?)
 }
 
-#[test]
-fn refusals_have_their_texts(rt: HostRuntime) -> Result<(), AllocError> {
-    let text = format!(in rt.alloc(); "{}", name::Error::InvalidName(BStr::from("-a")))?;
-    assert_eq!(rt;
-        text.as_str(),
-        "Attribute has non-ascii characters or starts with '-'"
-    );
-    let text = format!(in rt.alloc(); "{}", parse::Error::OutOfMemory)?;
-    assert_eq!(rt; text.as_str(), "out of memory");
-    Ok(())
+/// The item that sets the attribute with this name.
+pub(super) fn set(name: &str) -> Result<AssignmentRef<'_>, Fail> {
+    let (name, state) = (name_of(name)?, StateRef::Set);
+    Ok(AssignmentRef { name, state })
 }
 
 fn printed(alloc: Global, borrowed: NameRef<'_>) -> Result<String, AllocError> {
@@ -40,27 +32,14 @@ fn names_are_printed(rt: HostRuntime) -> Result<(), Fail> {
     Ok(())
 }
 
-fn expect_made(rt: &impl Abort, alloc: Global, borrowed: NameRef<'_>) -> Result<(), AllocError> {
-    let text = RcStr::from_str(alloc, borrowed.as_str())?;
-    let name = Name::of(text.clone()?);
-    assert_eq!(rt; (name.as_ref(), name.as_str()), (borrowed, text.as_str()));
-    Ok(())
-}
-
 #[test]
 fn a_name_is_made_of_a_shared_text(rt: HostRuntime) -> Result<(), Fail> {
-    Ok(expect_made(&rt, rt.alloc(), name_of("diff")?)?)
-}
-
-fn are_copies_less(alloc: Global, a: NameRef<'_>, b: NameRef<'_>) -> Result<bool, AllocError> {
-    let copy = a.to_owned(alloc)?;
-    Ok(copy < b.to_owned(alloc)?)
-}
-
-#[test]
-fn names_compare_as_their_text(rt: HostRuntime) -> Result<(), Fail> {
-    let (a, b) = (name_of("a")?, name_of("b")?);
-    assert_eq!(rt; (a < b, are_copies_less(rt.alloc(), a, b)?), (true, true));
+    let text = RcStr::from_str(rt.alloc(), "diff")?;
+    let name = Name::of(text.clone()?);
+    assert_eq!(rt;
+        (name.as_ref(), name.as_str()),
+        (name_of("diff")?, text.as_str())
+    );
     Ok(())
 }
 

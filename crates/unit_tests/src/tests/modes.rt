@@ -1,16 +1,7 @@
-//! The modes of patterns, the order of modes and cases, and the text of a refusal.
+//! The modes of patterns, and the order of modes and cases.
 use attr_glob::pattern::{Case, Mode};
-use attr_glob::quote::ansi_c::UndoError;
 use bitflags::Flags;
-use std::alloc::AllocError;
 use std::process::Abort;
-
-#[test]
-fn want_of_memory_has_its_text(rt: HostRuntime) -> Result<(), AllocError> {
-    let text = format!(in rt.alloc(); "{}", UndoError::OutOfMemory)?;
-    assert_eq!(rt; text.as_str(), "out of memory");
-    Ok(())
-}
 
 #[test]
 fn orders_modes_and_cases(rt: HostRuntime) {

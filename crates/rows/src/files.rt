@@ -1,0 +1,203 @@
+//! Files of rows. In a table each line is a row: what is asked comes first in it, and then the answer. A file of scenes has a
+//! block of lines for each row.
+
+use crate::answer::Answer;
+use crate::fault::Fault;
+use crate::row::Row;
+use crate::scripts::Input;
+use crate::{devices, lines, matches, patterns, plain, scenes, scripts, sources};
+use bstr::BStr;
+use gix_attributes::files::{Disk, Files, ReadError};
+use std::fmt::Write;
+
+/// A file of rows, as a line of the file `files` names it.
+#[derive(Clone, Copy)]
+struct File<'a> {
+    name: &'a str,
+    about: &'a str,
+    /// How many fields of a row are asked, or nothing if it is a file of scenes.
+    asked: Option<usize>,
+}
+
+impl<'a> File<'a> {
+    fn of(row: &'a Row) -> Result<File<'a>, Fault> {
+        Ok(File {
+            name: row.text(0),
+            about: row.text(1),
+            asked: row.index(2)?,
+        })
+    }
+
+    // All files are compared if none are named.
+    fn is_chosen(self, chosen: &[String]) -> bool {
+        chosen.is_empty() || chosen.iter().any(|name| name.as_str() == self.name)
+    }
+
+    // Whether the rows are right whichever request for memory is refused.
+    fn is_of_memory(self) -> bool {
+        self.name.starts_with("memory/")
+    }
+
+    // Whether the calls that the rows are about take no memory.
+    fn is_plain(self) -> bool {
+        self.name.starts_with("memory/plain_")
+    }
+}
+
+/// Compares each chosen file, prints how many rows it has, and describes those that differ.
+///
+/// # Errors
+/// The list of files can't be read; printing failed; memory is refused.
+pub(crate) fn compare_files(
+    rt: &HostRuntime,
+    chosen: &[String],
+    differences: &mut String,
+) -> Result<(), Fault> {
+    let files = read(rt, "files")?;
+    for line in files.split('\n') {
+        if is_row(line) {
+            let row = Row::read(rt.alloc(), line)?;
+            compare_if_chosen(rt, File::of(&row)?, chosen, differences)?;
+        }
+    }
+    Ok(())
+}
+
+// Empty lines and lines that begin with `#` are no rows.
+fn is_row(line: &str) -> bool {
+    !line.is_empty() && !line.starts_with('#')
+}
+
+fn compare_if_chosen(
+    rt: &HostRuntime,
+    file: File<'_>,
+    chosen: &[String],
+    differences: &mut String,
+) -> Result<(), Fault> {
+    let name = file.name;
+    if !file.is_chosen(chosen) {
+        return Ok(());
+    }
+    match compare_file(rt, file, differences) {
+        Ok(compared) => println!(rt; "{name}: {compared} rows")?,
+        Err(Fault::OutOfMemory) => return Err(Fault::OutOfMemory),
+        Err(fault) => writeln!(differences, "{name}: {fault}")?,
+    }
+    Ok(())
+}
+
+// Compares each row of a file, describes those that differ, and reports how many there are.
+fn compare_file(rt: &HostRuntime, file: File<'_>, differences: &mut String) -> Result<u64, Fault> {
+    let contents = read(rt, file.name)?;
+    let mut compared = 0u64;
+    let is_table = file.asked.is_some();
+    for text in contents.split(if is_table { "\n" } else { "\n\n" }) {
+        if !is_table || is_row(text) {
+            compared = compared.saturating_add(1);
+            compare_row(rt, file, text, differences)?;
+        }
+    }
+    Ok(compared)
+}
+
+// A row that finds no memory is asked again, so that `tests/refused_memory.sh` can refuse each request. But a call that takes
+// none is not made again.
+fn compare_row(
+    rt: &HostRuntime,
+    file: File<'_>,
+    text: &str,
+    differences: &mut String,
+) -> Result<(), Fault> {
+    let mut answer = Answer::new(rt.alloc());
+    let mut answered = is_answered(rt, file, text, &mut answer);
+    let is_refused = answered == Err(Fault::OutOfMemory)
+        || answered == Err(Fault::CallOutOfMemory) && !file.is_plain();
+    if is_refused {
+        answer.clear();
+        answered = is_answered(rt, file, text, &mut answer);
+    }
+    match answered {
+        Ok(true) => return Ok(()),
+        Ok(false) => {
+            let answer = BStr::new(answer.as_slice());
+            writeln!(differences, "{}: {text}\nanswers {answer}", file.name)?;
+        }
+        Err(Fault::OutOfMemory) => return Err(Fault::OutOfMemory),
+        Err(fault) => writeln!(differences, "{}: {text}\n{fault}", file.name)?,
+    }
+    Ok(())
+}
+
+// Whether a row has the answer that it has to have.
+fn is_answered(
+    rt: &HostRuntime,
+    file: File<'_>,
+    text: &str,
+    answer: &mut Answer,
+) -> Result<bool, Fault> {
+    let mut wanted = Answer::new(rt.alloc());
+    match file.asked {
+        Some(asked) => {
+            let row = Row::read(rt.alloc(), text)?;
+            push_answer(rt, file.about, &row, answer)?;
+            wanted.push_all(row.rest(asked))?;
+        }
+        None => scenes::push_both(file.about, text, file.is_of_memory(), answer, &mut wanted)?,
+    }
+    Ok(answer.as_slice() == wanted.as_slice())
+}
+
+fn push_answer(rt: &HostRuntime, about: &str, row: &Row, answer: &mut Answer) -> Result<(), Fault> {
+    match about {
+        "parts" => patterns::pattern(row, answer),
+        "base_names" => patterns::base_name_of(row, answer),
+        "wildmatch" => matches::wildmatch(row, answer),
+        "short_values" => matches::short_values(row, answer),
+        "pairs" => matches::pairs(row, answer),
+        "tokens" => matches::token_count(row, answer),
+        "paths" => matches::path(row, answer),
+        "candidates" => matches::candidates(row, answer),
+        "indexes" => matches::is_of_list(row, answer),
+        "quotes" => patterns::quote(row, answer),
+        "bases" => patterns::base(row, answer),
+        "below_bases" => patterns::below_base(row, answer),
+        "names" => lines::name(row, answer),
+        "items" => lines::items(row, answer),
+        "states" => lines::states(row, answer),
+        "lines" => lines::lines(row, answer),
+        "kept" => lines::kept(row, answer),
+        "kept_counts" => lines::kept_counts(row, answer),
+        "plain" => plain::search(row, answer),
+        "locations" => sources::location(row, answer),
+        "globals" => sources::globals(rt, row, answer),
+        "added" => sources::additions(rt, row, answer),
+        "disk" => sources::of_disk(rt, row, answer),
+        "calls" => scripts::call(rt, row, answer),
+        "scripts" => scripts::run_twice(Input::Script, row, answer),
+        "reports" => scripts::run_twice(Input::Lines, row, answer),
+        "plays" => scripts::played(row, answer),
+        "devices" => devices::left(row, answer),
+        "failing_calls" => devices::left_by_call(row, answer),
+        "manifest" => scripts::written_beside(rt, row, answer),
+        _ => Err(Fault::NotARow),
+    }
+}
+
+/// The text of a file.
+fn read(rt: &HostRuntime, path: &str) -> Result<String, Fault> {
+    let contents = read_bytes(rt, path)?;
+    match str::from_utf8(&contents) {
+        Ok(text) => Ok(String::from_str(rt.alloc(), text)?),
+        Err(_) => Err(Fault::Unread),
+    }
+}
+
+/// The bytes of a file.
+pub(crate) fn read_bytes(rt: &HostRuntime, path: &str) -> Result<Vec<u8>, Fault> {
+    let mut contents = Vec::new(rt.alloc());
+    match Disk::new(rt).read_into(path, &mut contents) {
+        Ok(true) => Ok(contents),
+        Err(ReadError::OutOfMemory) => Err(Fault::OutOfMemory),
+        Ok(false) | Err(ReadError::Device(_)) => Err(Fault::Unread),
+    }
+}

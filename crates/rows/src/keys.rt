@@ -1,0 +1,118 @@
+//! Steps of an index of keys: lines are added, and those of a name and a path are looked up.
+
+use crate::fault::Fault;
+use crate::row::Row;
+use crate::scenes::Stage;
+use attr_glob::pattern::Case;
+use attr_keys::key_index::{KeyIndex, Texts};
+use attr_keys::line_key::Shape;
+use std::alloc::{AllocError, Global};
+use std::fmt::Write;
+
+/// A line: its text, the index of its first wildcard, and what it is.
+#[derive(Drop)]
+struct Line {
+    text: Vec<u8>,
+    wildcard: Option<usize>,
+    kind: Kind,
+}
+
+#[derive(Clone, Copy)]
+struct Kind {
+    is_macro: bool,
+    asks_name: bool,
+    is_end: bool,
+}
+
+/// The lines that were added.
+#[derive(Drop)]
+pub(crate) struct Keys {
+    lines: Vec<Line>,
+}
+
+impl Keys {
+    /// No lines.
+    pub(crate) fn new(alloc: Global) -> Keys {
+        let lines = Vec::new(alloc);
+        Keys { lines }
+    }
+
+    fn push_found(&self, alloc: Global, step: &Row, out: &mut String) -> Result<(), Fault> {
+        let mut shapes = Vec::new(alloc);
+        for line in self.lines.iter() {
+            shapes.push(shape_of(line))?;
+        }
+        let texts = Texts {
+            name: step.bytes(1),
+            path: step.bytes(2),
+            fold: step.case(3)? == Case::Fold,
+        };
+        let found = found(alloc, &shapes, texts, step.text(0) == "find")?;
+        writeln!(out, "{:?}", found.as_slice())?;
+        Ok(())
+    }
+}
+
+// The lines that are found, or those that may match.
+fn found(
+    alloc: Global,
+    lines: &[Shape<'_>],
+    texts: Texts<'_>,
+    are_looked_up: bool,
+) -> Result<Vec<usize>, AllocError> {
+    let keys = Box::new(alloc, KeyIndex::of(alloc, lines)?)?;
+    let (mut buffer, mut found) = (Vec::new(alloc), Vec::new(alloc));
+    if are_looked_up {
+        keys.find(lines, texts, &mut buffer, &mut found)?;
+    } else {
+        keys.find_candidates(lines, texts, &mut buffer, &mut found)?;
+    }
+    Ok(found)
+}
+
+impl Stage for Keys {
+    fn take(&mut self, alloc: Global, step: &Row, out: &mut String) -> Result<(), Fault> {
+        match step.text(0) {
+            // `line | KIND | TEXT | WILDCARD` adds a line, whose first wildcard is at this index or nowhere.
+            "line" => Ok(self.lines.push(line_of(alloc, step)?)?),
+            // `find | NAME | PATH | CASE` reports the lines that are found, last to first.
+            // `candidates | NAME | PATH | CASE` reports those that may match.
+            "find" | "candidates" => self.push_found(alloc, step, out),
+            _ => Err(Fault::NotARow),
+        }
+    }
+
+    fn push_state(&self, _step: &Row, out: &mut String) -> Result<(), AllocError> {
+        writeln!(out, "{}", self.lines.len())
+    }
+}
+
+fn line_of(alloc: Global, step: &Row) -> Result<Line, Fault> {
+    let wildcard = step.index(3)?;
+    let (is_macro, asks_name, is_end) = match step.text(1) {
+        "name" => (false, true, false),
+        "path" => (false, false, false),
+        "end" => (false, true, true),
+        "macro" => (true, true, true),
+        _ => return Err(Fault::NotARow),
+    };
+    Ok(Line {
+        text: Vec::from_slice(alloc, step.bytes(2))?,
+        wildcard,
+        kind: Kind {
+            is_macro,
+            asks_name,
+            is_end,
+        },
+    })
+}
+
+fn shape_of(line: &Line) -> Shape<'_> {
+    Shape {
+        text: line.text.as_slice(),
+        wildcard: line.wildcard,
+        is_macro: line.kind.is_macro,
+        asks_name: line.kind.asks_name,
+        is_end: line.kind.is_end,
+    }
+}
