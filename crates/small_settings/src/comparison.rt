@@ -5,11 +5,11 @@ use crate::lists::Lists;
 use crate::plain_search::{PlainSearch, Slots, rows_of};
 use crate::real_search::RealSearch;
 use crate::settings::{
-    COUNT, Items, SELECTIONS, STARTS, Selection, files, push_macros, push_names, push_rows,
-    short_lists,
+    COUNT, Items, SELECTIONS, STARTS, files, push_macros, push_rows, short_lists,
 };
 use attr_table::plain::Row;
 use std::alloc::{AllocError, Global};
+use std::fmt::Write;
 
 /// Compares the searches in each small setting, and reports how many settings there are.
 ///
@@ -59,7 +59,7 @@ fn compare_bodies(
 /// What is looked for, the slot that is filled before, and which list is searched.
 #[derive(Clone, Copy)]
 struct Setting {
-    selection: Selection,
+    wanted: &'static [usize],
     start: Option<usize>,
     list: usize,
 }
@@ -75,12 +75,12 @@ struct Comparison<'b, 'l> {
 impl<'b, 'l> Comparison<'b, 'l> {
     fn compare(&mut self, lists: &[&[Row<'_, 'static>]]) -> Result<u64, Fault> {
         let mut compared = 0u64;
-        for selection in SELECTIONS {
-            self.real.select(&selection)?;
+        for (wanted, names) in SELECTIONS {
+            self.real.select(names)?;
             for start in STARTS {
                 for (list, rows) in lists.chunks(1).enumerate() {
                     let setting = Setting {
-                        selection,
+                        wanted,
                         start,
                         list,
                     };
@@ -96,7 +96,7 @@ impl<'b, 'l> Comparison<'b, 'l> {
 
     /// Runs both searches, and reports whether they agree and keep their bounds.
     fn agrees(&mut self, setting: Setting, lists: &[&[Row<'_, 'static>]]) -> Result<bool, Fault> {
-        let wanted = setting.selection.wanted;
+        let wanted = setting.wanted;
         let before = self.plain.begin(setting.start);
         let mut after = before;
         let taken = self.plain.search(self.alloc, lists, wanted, &mut after)?;
@@ -117,7 +117,7 @@ impl<'b, 'l> Comparison<'b, 'l> {
         )
     }
 
-    /// A setting as attributes files, with what is looked for and what is filled before.
+    /// A setting as attributes files, with the numbers of what is looked for and of what is filled before.
     fn description(
         &self,
         setting: Setting,
@@ -128,12 +128,8 @@ impl<'b, 'l> Comparison<'b, 'l> {
         for rows in lists {
             push_rows(&mut text, rows)?;
         }
-        text.push_str("looked for:")?;
-        push_names(&mut text, setting.selection.wanted)?;
-        text.push_str("\nfilled before:")?;
-        if let Some(attribute) = setting.start {
-            push_names(&mut text, &[attribute])?;
-        }
+        let (wanted, start) = (setting.wanted, setting.start);
+        write!(text, "looked for: {wanted:?}\nfilled before: {start:?}")?;
         Ok(text)
     }
 }
@@ -156,29 +152,19 @@ impl Change {
     fn allows(&self, taken: u128) -> bool {
         let mut least = 0u128;
         for attribute in 0..COUNT {
-            if self.is_newly_filled(attribute) {
-                least = least.saturating_add(1);
-            }
+            least = least.saturating_add(self.is_newly_filled(attribute) as u128);
         }
         least <= taken && taken <= self.most
     }
 
     fn is_found(&self, wanted: &[usize]) -> bool {
-        for attribute in wanted {
-            if self.is_newly_filled(*attribute) {
-                return true;
-            }
-        }
-        false
+        wanted
+            .iter()
+            .any(|attribute| self.is_newly_filled(*attribute))
     }
 
     // A search changes nothing then, nor does it count.
     fn was_complete(&self, wanted: &[usize]) -> bool {
-        for attribute in wanted {
-            if *attribute < COUNT && self.before[*attribute].is_none() {
-                return false;
-            }
-        }
-        true
+        wanted.iter().all(|attribute| matches!(self.before.get(*attribute), Some(Some(_))))
     }
 }

@@ -66,19 +66,8 @@ impl Lists {
     // A search of one list.
     fn search_of(&mut self, alloc: Global, source: &str, text: &str) -> Result<Search, AllocError> {
         let mut search = Search::new(alloc);
-        add_list(alloc, &mut search, &mut self.collection, source, text)?;
+        let (source, collection) = (String::from_str(alloc, source)?, &mut self.collection);
+        search.add_patterns_buffer(alloc, text.as_bytes(), source, None, collection, true)?;
         Ok(search)
     }
-}
-
-fn add_list(
-    alloc: Global,
-    search: &mut Search,
-    collection: &mut MetadataCollection,
-    source: &str,
-    text: &str,
-) -> Result<(), AllocError> {
-    let source = String::from_str(alloc, source)?;
-    search.add_patterns_buffer(alloc, text.as_bytes(), source, None, collection, true)?;
-    Ok(())
 }

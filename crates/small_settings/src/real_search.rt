@@ -3,7 +3,7 @@
 use crate::fault::Fault;
 use crate::lists::Lists;
 use crate::plain_search::Slots;
-use crate::settings::{COUNT, NAMES, PATH, Selection};
+use crate::settings::{COUNT, NAMES, PATH};
 use attr_table::plain::{Answer, Item, Origin, State};
 use bitflags::Flags;
 use bstr::BStr;
@@ -39,9 +39,8 @@ impl<'l> RealSearch<'l> {
         })
     }
 
-    /// Selects the attributes that are looked for from here on.
-    pub(crate) fn select(&mut self, selection: &Selection) -> Result<(), AllocError> {
-        let names = selection.names;
+    /// Selects the attributes with these names, which are looked for from here on.
+    pub(crate) fn select(&mut self, names: &[&str]) -> Result<(), AllocError> {
         self.outcome
             .initialize_with_selection(self.alloc, &self.lists.collection, names)
     }
@@ -133,7 +132,7 @@ fn answer_of(found: Match<'_>) -> Answer<'_> {
             attribute: number_of(found.assignment.name.as_str()),
             state: state_of(found.assignment.state),
         },
-        is_macro: is_macro(found.kind),
+        is_macro: matches!(found.kind, MatchKind::Macro { .. }),
         cause: found.kind.source_id().map(|id| id.0),
     }
 }
@@ -152,12 +151,5 @@ fn state_of(state: StateRef<'_>) -> State<'_> {
         StateRef::Unset => State::Unset,
         StateRef::Value(value) => State::Value(value.as_bstr().as_bytes()),
         StateRef::Unspecified => State::Unspecified,
-    }
-}
-
-fn is_macro(kind: MatchKind) -> bool {
-    match kind {
-        MatchKind::Attribute { macro_id: _ } => false,
-        MatchKind::Macro { parent_macro_id: _ } => true,
     }
 }

@@ -31,48 +31,17 @@ pub type Items = Vec<Item<'static>>;
 /// The items of each line of a file, in its order.
 pub type Lines = Vec<Items>;
 
-/// Which attributes are looked for: their numbers, and names that select them.
-#[derive(Clone, Copy)]
-pub struct Selection {
-    pub wanted: &'static [usize],
-    pub names: &'static [&'static str],
-}
-
-/// Each selection of some of the attributes. A name that no list has selects nothing, and no names
-/// select all.
-pub static SELECTIONS: [Selection; 8] = [
-    Selection {
-        wanted: &[],
-        names: &["other"],
-    },
-    Selection {
-        wanted: &[0],
-        names: &["m"],
-    },
-    Selection {
-        wanted: &[1],
-        names: &["n"],
-    },
-    Selection {
-        wanted: &[2],
-        names: &["a"],
-    },
-    Selection {
-        wanted: &[0, 1],
-        names: &["m", "n"],
-    },
-    Selection {
-        wanted: &[0, 2],
-        names: &["m", "a"],
-    },
-    Selection {
-        wanted: &[1, 2],
-        names: &["n", "a"],
-    },
-    Selection {
-        wanted: &[0, 1, 2],
-        names: &[],
-    },
+/// Each selection of some of the attributes: their numbers, and names that select them. A name that no list has selects nothing,
+/// and no names select all.
+pub static SELECTIONS: [(&[usize], &[&str]); 8] = [
+    (&[], &["other"]),
+    (&[0], &["m"]),
+    (&[1], &["n"]),
+    (&[2], &["a"]),
+    (&[0, 1], &["m", "n"]),
+    (&[0, 2], &["m", "a"]),
+    (&[1, 2], &["n", "a"]),
+    (&[0, 1, 2], &[]),
 ];
 
 /// The attributes whose slot is filled before the search: none, or one.
@@ -128,17 +97,11 @@ pub const START: Place = Place {
 fn items(alloc: Global) -> Result<Items, AllocError> {
     let mut items = Vec::new(alloc);
     for attribute in 0..COUNT {
-        push_states(&mut items, attribute)?;
+        for state in [State::Set, State::Unset] {
+            items.push(Item { attribute, state })?;
+        }
     }
     Ok(items)
-}
-
-fn push_states(items: &mut Items, attribute: usize) -> Result<(), AllocError> {
-    let state = State::Set;
-    items.push(Item { attribute, state })?;
-    let state = State::Unset;
-    items.push(Item { attribute, state })?;
-    Ok(())
 }
 
 /// Every list of at most two items: 43 lists.
@@ -212,15 +175,6 @@ pub(crate) fn push_rows(text: &mut String, rows: &[Row<'_, 'static>]) -> Result<
     for (place, row) in PLACES.iter().zip(rows.iter()) {
         text.push_str(place.spelling)?;
         push_items(text, row.items)?;
-    }
-    Ok(())
-}
-
-/// Appends names of attributes, each after a blank.
-pub(crate) fn push_names(text: &mut String, attributes: &[usize]) -> Result<(), AllocError> {
-    for attribute in attributes {
-        text.push(' ')?;
-        text.push_str(NAMES.get(*attribute).copied().unwrap_or("?"))?;
     }
     Ok(())
 }
