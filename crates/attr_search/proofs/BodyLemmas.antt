@@ -1,9 +1,9 @@
 -- How bodies grow and change.
 use Rattle.std.proofs.Common.{◌≡◌, ℕ, ◌+◌, ◌-◌, ◌<◌, ◌≤◌, List, [], ◌∷◌, ◌++◌, length, length-take, set, take, replicate, All, Vec, append_assoc}
-use Rattle.std.proofs.Common.{Bool, true, false, Result, Ok, Err, is_err, length-append, refl, sym, ap, ◌∙◌, arith}
+use Rattle.std.proofs.Common.{Bool, false, Result, Ok, Err, is_err, length-append, refl, sym, ap, ◌∙◌, arith}
 use Rattle.std.specs.Global.{Global}
-use Rattle.std.specs.Result.{OnErr, OnOk}
-use Rattle.std.proofs.lemmas.List.{length-replicate, take-map, take_all, length-map, length-set, map_push, map-set, replicate_more, take-append-le}
+use Rattle.std.specs.Result.{OnOk}
+use Rattle.std.proofs.lemmas.List.{length-replicate, take-map, length-map, length-set, map_push, map-set, replicate_more, take-append-le}
 use Rattle.std.proofs.lemmas.List.Elements.{All-same, All-tail, All-weaker}
 use Rattle.attr_lists.specs.declared.types.TrackedAssignment.{TrackedAssignment}
 use Rattle.attr_search.specs.declared.bodies.BodyChange.{BodyChange}

@@ -3,7 +3,7 @@ use Rattle.std.proofs.Common.{◌≡◌, ℕ, ◌+◌, ◌<◌, ◌≤◌, min, 
 use Rattle.std.proofs.Common.{subst, ◌∙◌, ⊎_elim, arith, Bool, true, false}
 use Rattle.std.specs.Prelude.{is_some, option_map, not, ◌==◌, All, slice_get, slice_index_or}
 use Rattle.std.proofs.Math.ListN
-use Rattle.std.proofs.lemmas.Bool.{cases_eq, eq-eqb, ne_eqb, cases_lt}
+use Rattle.std.proofs.lemmas.Bool.{false≢true, cases_eq, eq-eqb, ne_eqb, cases_lt}
 use Rattle.std.proofs.lemmas.List.{map-append, take_more, append-nil, length-append, get_or_past, get_or-set_same, get_or-set_other}
 use Rattle.std.proofs.lemmas.List.{get_or_default}
 use Rattle.std.proofs.lemmas.List.Elements.{All-push}
@@ -12,14 +12,16 @@ use Rattle.attr_lists.specs.declared.types.TrackedAssignment.{TrackedAssignment}
 use Rattle.attr_table.specs.Setting.{Item, Origin, Answer, body_of}
 use Rattle.attr_table.specs.Table.{Slots}
 use Rattle.attr_table.specs.Cut.{is_done, is_filled}
+use Rattle.attr_table.specs.Skipped.{narrowed}
 use Rattle.attr_table.specs.shared.Walk.{Task, expands, tasks_in, free_items, fill, left_in, Searches}
 use Rattle.attr_table.proofs.ForCallers.{backwards-append}
 use Rattle.attr_table.proofs.ForCallers.{length-tasks_in}
 use Rattle.attr_table.proofs.ForCallers.{top, length-free, row_searched, taken_skip, taken_closed, taken_open, left_in-less, left_in-open}
 use Rattle.attr_table.proofs.ForCallers.{tasks_push, tasks_pass}
 use Rattle.attr_search.specs.declared.pending_item.PendingItem.{PendingItem}
-use Rattle.attr_search.specs.Slots.{Matched, table_item, table_items, table_answer, table_state, slots_of}
-use Rattle.attr_search.specs.shared.SlotContents.{SlotContents, wanted_numbers}
+use Rattle.attr_search.specs.Slots.{SkipsSlots, Matched, is_needed, table_item, table_items, table_answer, table_state, slots_of}
+use Rattle.attr_search.specs.shared.SlotContents.{SlotContents, open_slots, wanted_numbers}
+use Rattle.attr_search.proofs.OpenLemmas.{open_needed}
 use Rattle.attr_search.specs.Settings.{HaveSlots, BodiesAreNamed, HeldAreNamed}
 use Rattle.attr_search.specs.shared.Slotted.{BodiesHaveSlots}
 use Rattle.attr_lists.specs.Numbers.{AreNamed}
@@ -27,8 +29,7 @@ use Rattle.attr_search.specs.declared.matching_line.MatchingLine.{MatchingLine}
 use Rattle.attr_search.specs.declared.slot_filler.SlotFiller.{SlotFiller}
 use Rattle.attr_lists.specs.declared.types.MatchKind.{MatchKind}
 use Rattle.attr_search.specs.Matches.{is_macro_kind, cause_of}
-use Rattle.attr_search.specs.inner.Filling.{AtLine, BodiesFit, KeepsFiller}
-use Rattle.std.specs.Prelude.{MatchOption, ⊤}
+use Rattle.attr_search.specs.inner.Filling.{BodiesFit, KeepsFiller}
 use Rattle.attr_search.specs.inner.Pending.{item_match, line_origin, items_beside, pending_item, IsPlaced, task_of, pending_tasks, no_item}
 
 -- a test and its denial
@@ -105,7 +106,7 @@ match_made x is_macro cause e f =
     let Made : Bool → Option ℕ → Matched = λ k c. record { origin = x.origin; assignment = x.assignment; is_macro = k; cause = c } in
     ap (λ k. Made k x.cause) e ∙ ap (Made is_macro) f
 
-pub item_filled : (line : MatchingLine) (bs : List (List TrackedAssignment)) (body : List TrackedAssignment) (top : PendingItem)
+item_filled : (line : MatchingLine) (bs : List (List TrackedAssignment)) (body : List TrackedAssignment) (top : PendingItem)
     (item : TrackedAssignment) (kind : MatchKind) (empty : Bool) (held new : List (Option Matched)) →
     item ≡ pending_item line.items.now bs top → item.id.0 < length held → body ≡ slice_index_or bs item.id.0 [] →
     empty ≡ (length body == 0) → is_macro_kind kind ≡ not empty → cause_of kind ≡ top.cause →
@@ -114,6 +115,48 @@ pub item_filled : (line : MatchingLine) (bs : List (List TrackedAssignment)) (bo
 item_filled line bs body top item kind empty held new is lt bodied e k d written =
     fill_is bs (line_origin line) line.items.now body top item empty held new is lt bodied e
     (written ∙ ap (λ m. set held item.id.0 (Some m)) (match_made (item_match line item kind) (not empty) top.cause k d))
+
+-- what fills a needed slot fills it where others are skipped
+fill_narrowed : (bodies : List (List Item)) (t : Task) (needed : ℕ → Bool) (held new : Slots) → needed t.item.attribute ≡ true →
+    new ≡ fill bodies t held → narrowed needed new ≡ fill bodies t (narrowed needed held)
+fill_narrowed bodies t needed held new own filled = fun_ext at
+  where
+    at : (a : ℕ) → narrowed needed new a ≡ fill bodies t (narrowed needed held) a
+    at a =
+        ⊎_elim
+        (λ (same : a ≡ t.item.attribute).
+        let here : needed a ≡ true = ap needed same ∙ own in
+        let n : (a == t.item.attribute) ≡ true = eq-eqb a t.item.attribute same in
+        rw (here, filled, n) refl)
+        (λ (ne : a ≡ t.item.attribute → ⊥).
+        let n : (a == t.item.attribute) ≡ false = ne_eqb a t.item.attribute ne in
+        rw (filled, n) refl)
+        (cases_eq a t.item.attribute)
+
+pub item_opened : (line : MatchingLine) (bs : List (List TrackedAssignment)) (body : List TrackedAssignment) (top : PendingItem)
+    (item : TrackedAssignment) (kind : MatchKind) (empty : Bool) (held new : SlotContents) → new.needed ≡ held.needed →
+    true ≡ not (is_some (open_slots held item.id.0)) →
+    item ≡ pending_item line.items.now bs top → item.id.0 < length held.answers → body ≡ slice_index_or bs item.id.0 [] →
+    empty ≡ (length body == 0) → is_macro_kind kind ≡ not empty → cause_of kind ≡ top.cause →
+    new.answers ≡ set held.answers item.id.0 (Some (item_match line item kind)) →
+    open_slots new ≡ fill (map table_items bs) (task_of (line_origin line) line.items.now bs top) (open_slots held)
+item_opened line bs body top item kind empty held new same free is lt bodied e k d written =
+    let t = task_of (line_origin line) line.items.now bs top in
+    let own : is_needed held.needed item.id.0 ≡ true =
+    open_needed (is_needed held.needed) (slots_of held.answers) item.id.0 (free_of (is_some (open_slots held item.id.0)) free) in
+    let taken : is_needed held.needed t.item.attribute ≡ true = ap (λ (i : TrackedAssignment). is_needed held.needed i.id.0) (sym is) ∙ own in
+    ap (λ flags. narrowed (is_needed flags) (slots_of new.answers)) same
+    ∙ fill_narrowed (map table_items bs) t (is_needed held.needed) (slots_of held.answers) (slots_of new.answers) taken
+    (item_filled line bs body top item kind empty held.answers new.answers is lt bodied e k d written)
+
+-- filling a slot that is open leaves those that are not needed as they are
+pub set_skips : (held new : SlotContents) (i : ℕ) (x : Option Matched) → new.answers ≡ set held.answers i x →
+    true ≡ not (is_some (open_slots held i)) → SkipsSlots held.needed held.answers new.answers
+set_skips held new i x written free a skip =
+    let own : is_needed held.needed i ≡ true =
+    open_needed (is_needed held.needed) (slots_of held.answers) i (free_of (is_some (open_slots held i)) free) in
+    let apart : a ≡ i → ⊥ = λ e. absurd (false≢true (sym skip ∙ ap (is_needed held.needed) e ∙ own)) in
+    ap (λ l. get_or l a None) written ∙ get_or-set_other held.answers i a x None apart
 
 -- the slot of the item that waited was filled, and so that of the item which it is
 pub filled_as : (line : MatchingLine) (bs : List (List TrackedAssignment)) (w : PendingItem) (item : TrackedAssignment) (kind : MatchKind)
@@ -310,18 +353,18 @@ pub line_walked : (bs : List (List TrackedAssignment)) (origin : Origin) (items 
     (stack laid : List PendingItem) (a b : ℕ) →
     fresh ≡ record old { line = None } → stack ≡ [] →
     pending_tasks origin items bs laid
-    ≡ tasks_in origin None (free_items (slots_of fresh.answers) (table_items items)) ++ pending_tasks origin items bs stack →
-    Searches (map table_items bs) (wanted_numbers fresh.wanted) (pending_tasks origin items bs laid) (slots_of fresh.answers) after a b →
-    Searches (map table_items bs) (wanted_numbers old.wanted) (tasks_in origin None (table_items items)) (slots_of old.answers) after a b
+    ≡ tasks_in origin None (free_items (open_slots fresh) (table_items items)) ++ pending_tasks origin items bs stack →
+    Searches (map table_items bs) (wanted_numbers fresh.wanted) (pending_tasks origin items bs laid) (open_slots fresh) after a b →
+    Searches (map table_items bs) (wanted_numbers old.wanted) (tasks_in origin None (table_items items)) (open_slots old) after a b
 line_walked bs origin items old fresh after stack laid a b begun empty is p =
-    let bare : pending_tasks origin items bs laid ≡ tasks_in origin None (free_items (slots_of fresh.answers) (table_items items)) =
-    is ∙ (ap (λ (s : List PendingItem). tasks_in origin None (free_items (slots_of fresh.answers) (table_items items)) ++ pending_tasks origin items
+    let bare : pending_tasks origin items bs laid ≡ tasks_in origin None (free_items (open_slots fresh) (table_items items)) =
+    is ∙ (ap (λ (s : List PendingItem). tasks_in origin None (free_items (open_slots fresh) (table_items items)) ++ pending_tasks origin items
     bs s) empty
-    ∙ append-nil (tasks_in origin None (free_items (slots_of fresh.answers) (table_items items)))) in
+    ∙ append-nil (tasks_in origin None (free_items (open_slots fresh) (table_items items)))) in
     let q = row_searched (map table_items bs) (wanted_numbers fresh.wanted) origin None (table_items items)
-    (pending_tasks origin items bs laid) (slots_of fresh.answers) after a b bare p in
+    (pending_tasks origin items bs laid) (open_slots fresh) after a b bare p in
     subst (λ (f : SlotContents). Searches (map table_items bs) (wanted_numbers f.wanted) (tasks_in origin None (table_items items))
-    (slots_of f.answers) after a b) begun q
+    (open_slots f) after a b) begun q
 
 -- bodies fit slots that are as many as before
 pub still_fit : (before after : SlotFiller) → KeepsFiller before after → BodiesFit (length before.slots.answers) before.slots.bodies →

@@ -4,6 +4,8 @@
 pub use Rattle.attr_search.proofs.SlotLemmas.{on_ok, on_err}
 -- bodies are as many as they are sized to, and stay so many when they are changed
 pub use Rattle.attr_search.proofs.BodyLemmas.{length_sized, length_changed}
+-- any flags are among as many that are all set
+pub use Rattle.attr_search.proofs.OpenLemmas.{all_among}
 -- in a set of numbers, a number is not at another's place
 pub use Rattle.attr_search.proofs.WantedLemmas.{at_other}
 -- a number below the next one is below a bound, or is the bound

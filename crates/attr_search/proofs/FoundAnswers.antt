@@ -13,9 +13,12 @@ use Rattle.attr_table.specs.shared.Walk.{Task, Walks, ends, stops, skips, fills,
 use Rattle.attr_table.proofs.ForCallers.{fill_keeps}
 use Rattle.attr_table.proofs.ForCallers.{searched_joined}
 use Rattle.attr_search.specs.ListView.{Listed}
-use Rattle.attr_search.specs.shared.SlotContents.{wanted_numbers, remaining_at, count_remaining}
-use Rattle.attr_search.specs.Slots.{Matched, table_answer, slots_of}
+use Rattle.attr_search.specs.SearchContents.{SearchContents}
+use Rattle.attr_search.specs.inner.Searched.{KeepsState, state_slots, state_wanted}
+use Rattle.attr_search.specs.shared.SlotContents.{AreFlagsAmong, wanted_numbers, remaining_at, count_remaining}
+use Rattle.attr_search.specs.Slots.{is_needed, table_answer, slots_of}
 use Rattle.attr_search.specs.Settings.{is_found, lines_of}
+use Rattle.attr_search.proofs.OpenLemmas.{flag_needed, narrowed_needed}
 
 -- slots that are filled stay so
 walks_keep : (bodies : List (List Item)) (done : Slots → Bool) {ts : List Task} {before after : Slots} →
@@ -63,14 +66,14 @@ left_past found old new h left =
     }
 
 left_here : {X : Type 0} (w : Bool) (o n : Option X) (rest : Bool) (old new : ℕ) →
-    (is_some o ≡ true → is_some n ≡ true) → IsLeft rest old new →
+    (w ≡ true → is_some o ≡ true → is_some n ≡ true) → IsLeft rest old new →
     IsLeft ((w && (is_none o && is_some n)) || rest) (remaining_at w o + old) (remaining_at w n + new)
 left_here false o n rest old new kept left = left_past rest old new 0 left
 left_here true None None rest old new kept left = left_past rest old new 1 left
 left_here true None (Some y) rest old new kept left =
     let le = less_left rest old new left in
     record { some = λ t. omega arith; none = λ f. absurd (cc) }
-left_here true (Some x) None rest old new kept left = let e : false ≡ true = kept refl in absurd (cc)
+left_here true (Some x) None rest old new kept left = let e : false ≡ true = kept refl refl in absurd (cc)
 left_here true (Some x) (Some y) rest old new kept left = left_past rest old new 0 left
 
 -- whether a slot was filled
@@ -83,7 +86,7 @@ any_wanted true flags p = ap (λ b. p 0 || b) (any-map p suc (wanted_numbers fla
 any_wanted false flags p = any-map p suc (wanted_numbers flags)
 
 left_by : {X : Type 0} (flags : List Bool) (old new : List (Option X)) → length old ≡ length new →
-    ((a : ℕ) → is_some (get_or old a None) ≡ true → is_some (get_or new a None) ≡ true) →
+    ((a : ℕ) → get_or flags a false ≡ true → is_some (get_or old a None) ≡ true → is_some (get_or new a None) ≡ true) →
     IsLeft (list_any (newly old new) (wanted_numbers flags)) (count_remaining flags old) (count_remaining flags new)
 left_by [] old new same kept = record { some = λ t. absurd (cc); none = λ f. refl }
 left_by {X = X} (w ∷ flags) [] [] same kept =
@@ -96,23 +99,53 @@ left_by (w ∷ flags) (o ∷ os) (n ∷ ns) same kept =
     rw (any_wanted w flags (newly (o ∷ os) (n ∷ ns)))
     (left_here w o n (list_any (newly os ns) (wanted_numbers flags)) (count_remaining flags os) (count_remaining flags ns) (kept 0) rest)
 
+-- a test of the wanted numbers alone
+wanted_same : (flags : List Bool) (p q : ℕ → Bool) → ((a : ℕ) → get_or flags a false ≡ true → p a ≡ q a) →
+    list_any p (wanted_numbers flags) ≡ list_any q (wanted_numbers flags)
+wanted_same [] p q same = refl
+wanted_same (w ∷ flags) p q same =
+    any_wanted w flags p
+    ∙ ap (λ b. b || list_any (λ a. p (suc a)) (wanted_numbers flags)) (here w (same 0))
+    ∙ ap (λ b. (w && q 0) || b) (wanted_same flags (λ a. p (suc a)) (λ a. q (suc a)) (λ a. same (suc a)))
+    ∙ sym (any_wanted w flags q)
+  where
+    here : (w : Bool) → (w ≡ true → p 0 ≡ q 0) → (w && p 0) ≡ (w && q 0)
+    here true h = h refl
+    here false h = refl
+
+-- the slot of a wanted number is seen as it is
+wanted_seen : (state : SearchContents) (a : ℕ) → AreFlagsAmong state.wanted state.needed → get_or state.wanted a false ≡ true →
+    state_slots state a ≡ slots_of state.answers a
+wanted_seen state a among w =
+    narrowed_needed (is_needed state.needed) (slots_of state.answers) a (flag_needed state.needed a (among a w))
+
 -- the answer of a search
-pub found_is : (bodies : List (List Item)) (wanted : List ℕ) (ts : List Task) (flags flags' : List Bool) (old new : List (Option Matched))
-    (left left' a b : ℕ) →
-    Searches bodies wanted ts (slots_of old) (slots_of new) a b → length new ≡ length old → flags' ≡ flags →
-    left ≡ count_remaining flags old → left' ≡ count_remaining flags' new →
-    nat_lt left' left ≡ is_found (wanted_numbers flags) (slots_of old) (slots_of new)
-found_is bodies wanted ts flags flags' old new left left' a b p same flagged e e' =
-    let kept : (k : ℕ) → is_some (get_or old k None) ≡ true → is_some (get_or new k None) ≡ true =
-    λ k t. sym (some-map (table_answer k) (get_or new k None))
-    ∙ walks_keep bodies (is_done wanted) p.walks k (some-map (table_answer k) (get_or old k None) ∙ t) in
-    let told : list_any (newly old new) (wanted_numbers flags) ≡ is_found (wanted_numbers flags) (slots_of old) (slots_of new) =
-    any-same (newly old new) (λ w. is_none (slots_of old w) && is_some (slots_of new w)) (wanted_numbers flags)
-    (λ w. ap (λ x. x && is_some (get_or new w None)) (sym (none-map (table_answer w) (get_or old w None)))
-    ∙ ap (λ x. is_none (slots_of old w) && x) (sym (some-map (table_answer w) (get_or new w None)))) in
-    let counted : left' ≡ count_remaining flags new = e' ∙ ap (λ (f : List Bool). count_remaining f new) flagged in
-    let l = left_by flags old new (sym same) kept in
-    by_test (list_any (newly old new) (wanted_numbers flags))
+pub found_is : (bodies : List (List Item)) (wanted : List ℕ) (ts : List Task) (old new : SearchContents) (left left' a b : ℕ) →
+    AreFlagsAmong old.wanted old.needed → Searches bodies wanted ts (state_slots old) (state_slots new) a b → KeepsState old new →
+    left ≡ count_remaining old.wanted old.answers → left' ≡ count_remaining new.wanted new.answers →
+    nat_lt left' left ≡ is_found (state_wanted old) (state_slots old) (state_slots new)
+found_is bodies wanted ts old new left left' a b among p same e e' =
+    let flags = old.wanted in
+    let new_among : AreFlagsAmong new.wanted new.needed = rw (same.wanted, same.needed) among in
+    let was : (k : ℕ) → get_or flags k false ≡ true → state_slots old k ≡ slots_of old.answers k = λ k w. wanted_seen old k among w in
+    let is : (k : ℕ) → get_or flags k false ≡ true → state_slots new k ≡ slots_of new.answers k =
+    λ k w. wanted_seen new k new_among (ap (λ f. get_or f k false) same.wanted ∙ w) in
+    let some_was : (k : ℕ) → is_some (slots_of old.answers k) ≡ is_some (get_or old.answers k None) =
+    λ k. some-map (table_answer k) (get_or old.answers k None) in
+    let some_is : (k : ℕ) → is_some (slots_of new.answers k) ≡ is_some (get_or new.answers k None) =
+    λ k. some-map (table_answer k) (get_or new.answers k None) in
+    let kept : (k : ℕ) → get_or flags k false ≡ true → is_some (get_or old.answers k None) ≡ true →
+    is_some (get_or new.answers k None) ≡ true =
+    λ k w t. sym (some_is k) ∙ sym (ap is_some (is k w))
+    ∙ walks_keep bodies (is_done wanted) p.walks k (ap is_some (was k w) ∙ some_was k ∙ t) in
+    let told : list_any (newly old.answers new.answers) (wanted_numbers flags) ≡ is_found (state_wanted old) (state_slots old) (state_slots new) =
+    wanted_same flags (newly old.answers new.answers) (λ w. is_none (state_slots old w) && is_some (state_slots new w))
+    (λ k w. ap (λ x. x && is_some (get_or new.answers k None))
+    (sym (none-map (table_answer k) (get_or old.answers k None)) ∙ sym (ap is_none (was k w)))
+    ∙ ap (λ x. is_none (state_slots old k) && x) (sym (some_is k) ∙ sym (ap is_some (is k w)))) in
+    let counted : left' ≡ count_remaining flags new.answers = e' ∙ ap (λ (f : List Bool). count_remaining f new.answers) same.wanted in
+    let l = left_by flags old.answers new.answers (sym same.len) kept in
+    by_test (list_any (newly old.answers new.answers) (wanted_numbers flags))
     (λ t. let less = l.some t in let lt : left' < left = omega (arith, e, counted, less) in
     let yes : nat_lt left' left ≡ true = grind (arith, nat_tests) in yes ∙ (sym t ∙ told))
     (λ f. let equal = l.none f in

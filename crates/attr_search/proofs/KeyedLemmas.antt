@@ -17,7 +17,7 @@ use Rattle.std.proofs.lemmas.List.Elements.{Contains-append_left, Contains-push}
 use Rattle.std.proofs.lemmas.Option.{get_or_from_slice_get, slice_get-get_or, slice_get-map, slice_get_read, slice_get_within}
 use Rattle.std.specs.Option.{unwrap_or}
 use Rattle.attr_search.specs.declared.numbers_by_key.Link.{Link}
-use Rattle.attr_search.specs.inner.KeyLinks.{AppendsKeyed, IsLatest}
+use Rattle.attr_search.specs.inner.KeyLinks.{IsLatest}
 use Rattle.attr_search.specs.inner.NumbersView.{AreLatest, LeadOn, link_keys}
 
 pub some_inside : {X : Type 0} (a b : X) → Some a ≡ Some b → a ≡ b

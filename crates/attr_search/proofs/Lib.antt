@@ -6,6 +6,7 @@ pub mod PlacedLemmas
 pub mod TryingLemmas
 pub mod PartLemmas
 pub mod SlotLemmas
+pub mod OpenLemmas
 pub mod FillingLemmas
 pub mod LineLemmas
 pub mod CandidateLemmas

@@ -1,7 +1,7 @@
 -- The lines of a list, of which a search goes through the candidates alone.
 use Rattle.std.proofs.Common.{◌≡◌, ℕ, ◌+◌, ◌<◌, Bool, true, false, ◌&&◌, List, [], ◌∷◌, ◌++◌, length, get_or, take, drop, Option, Some, None}
 use Rattle.std.proofs.Common.{refl, sym, ap, subst, map, ◌∙◌, arith}
-use Rattle.std.specs.Prelude.{All, is_none, option_map, string_bytes}
+use Rattle.std.specs.Prelude.{is_none, option_map, string_bytes}
 use Rattle.std.specs.List.{flat_map, list_any}
 use Rattle.std.proofs.lemmas.Bool.{or_parts}
 use Rattle.std.proofs.lemmas.List.{length-map, append-nil, get_or-map, take_more, take-append-drop}

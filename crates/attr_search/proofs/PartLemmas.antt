@@ -1,13 +1,10 @@
 -- What was kept keeps its index.
-use Rattle.std.proofs.Common.{◌≡◌, ℕ, ◌+◌, ◌<◌, ◌≤◌, List, [], ◌∷◌, ◌++◌, length, get_or, map, take, Option, Some, option_map}
-use Rattle.std.proofs.Common.{slice_get, refl, sym, ap, ◌∙◌, arith, length-append}
-use Rattle.std.proofs.lemmas.List.{append-nil, map-append, get_or_append_left, take_more}
+use Rattle.std.proofs.Common.{◌≡◌, ℕ, ◌<◌, ◌≤◌, List, [], ◌∷◌, ◌++◌, length, get_or, map, Some, option_map}
+use Rattle.std.proofs.Common.{slice_get, sym, ap, ◌∙◌, arith, length-append}
+use Rattle.std.proofs.lemmas.List.{append-nil, map-append, get_or_append_left}
 use Rattle.std.proofs.Math.Seq.{get_or-append_seam}
-use Rattle.std.proofs.lemmas.Option.{slice_get-get_or, slice_get-map, slice_get_within, get_or_from_slice_get}
-use Rattle.attr_search.specs.declared.matching_line.AnsweringLine.{AnsweringLine}
+use Rattle.std.proofs.lemmas.Option.{slice_get-get_or, slice_get-map}
 use Rattle.attr_search.specs.inner.PartsContents.{Grows}
-use Rattle.attr_search.specs.inner.PartsView.{origin_of_line, origins}
-use Rattle.attr_search.specs.shared.Slotted.{index_origin}
 
 -- a list that stays grows by nothing
 pub grows_same : {X : Type 0} (xs : List X) → Grows xs xs

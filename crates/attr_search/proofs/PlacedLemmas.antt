@@ -10,7 +10,7 @@ use Rattle.attr_glob.specs.declared.search.pattern.Mapping.{Mapping}
 use Rattle.attr_wildmatch.specs.Deciding.{text_matches}
 use Rattle.attr_glob.specs.Paths.{matched_part, is_directory, path_matches}
 use Rattle.attr_glob.specs.Patterns.{Reading, reading, has_flag, negative, must_be_dir}
-use Rattle.attr_glob.specs.Views.{pattern_view, patterns_of}
+use Rattle.attr_glob.specs.Views.{patterns_of}
 use Rattle.attr_lists.specs.declared.types.Value.{Value}
 use Rattle.attr_lists.specs.ListViews.{Entry, entry_view, entries_view}
 use Rattle.attr_search.specs.inner.PlacedLines.{no_entry, entry_at}

@@ -24,7 +24,7 @@ use Rattle.attr_search.proofs.KeyedLemmas.{below_or}
 use Rattle.attr_search.proofs.TryingLemmas.{idle_tried}
 use Rattle.attr_search.specs.SearchContents.{SearchContents}
 use Rattle.attr_search.specs.Settings.{candidates_in}
-use Rattle.attr_search.specs.Slots.{table_items}
+use Rattle.attr_search.specs.Slots.{is_needed, table_items}
 use Rattle.attr_search.specs.inner.Lines.{place_tasks, query_lines}
 use Rattle.attr_search.specs.inner.Rounds.{Rounds, over, rounds_of}
 use Rattle.attr_search.specs.inner.Searched.{KeepsState, Searched, SearchedLine, SearchedList, SearchedLists, SearchedPlaces, state_bodies}
@@ -39,10 +39,17 @@ use Rattle.attr_search.proofs.RoundLemmas.{rounds_stopped}
 
 -- what is kept, and what is kept twice
 pub state_kept : (state : SearchContents) → KeepsState state state
-state_kept state = record { wanted = refl; bodies = refl; len = refl }
+state_kept state = record { wanted = refl; needed = refl; bodies = refl; len = refl; skipped = λ a skip. refl }
 
 pub then_kept : (first second third : SearchContents) → KeepsState first second → KeepsState second third → KeepsState first third
-then_kept first second third p q = record { wanted = q.wanted ∙ p.wanted; bodies = q.bodies ∙ p.bodies; len = q.len ∙ p.len }
+then_kept first second third p q =
+    record {
+      wanted = q.wanted ∙ p.wanted;
+      needed = q.needed ∙ p.needed;
+      bodies = q.bodies ∙ p.bodies;
+      len = q.len ∙ p.len;
+      skipped = λ a skip. q.skipped a (ap (λ flags. is_needed flags a) p.needed ∙ skip) ∙ p.skipped a skip;
+    }
 
 -- a part that follows another, with the bodies and what is wanted at the beginning
 searches_from : (ts : List Task) (first second third : SearchContents) → KeepsState first second →

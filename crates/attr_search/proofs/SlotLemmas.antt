@@ -15,7 +15,6 @@ use Rattle.std.proofs.lemmas.List.{drop_all, drop_more, get_or-set_other, get_or
 use Rattle.std.proofs.lemmas.List.{get_or_default, take_more, map-set}
 use Rattle.std.proofs.lemmas.List.Elements.{All-set, All-weaker, All-head, All-tail, All-same, All-map, All-nil, All-push}
 use Rattle.std.proofs.lemmas.List.Folds.{list_any-append}
-use Rattle.attr_table.specs.Cut.{is_done}
 use Rattle.attr_table.specs.Setting.{Origin}
 use Rattle.attr_search.specs.shared.SlotContents.{AreListed, count_remaining, remaining_at, wanted_numbers}
 use Rattle.attr_search.specs.Matches.{cause_of}
@@ -59,20 +58,20 @@ more_left n = grind arith
 
 -- nothing is left where each wanted slot is filled
 pub left_done : {X Y : Type 0} (flags : List Bool) (slots : List (Option X)) (found : ℕ → Option Y) → length flags ≡ length slots →
-    ((a : ℕ) → is_some (found a) ≡ is_some (get_or slots a None)) → nat_eq (count_remaining flags slots) 0 ≡ list_all (λ w. is_some (found w))
-    (wanted_numbers flags)
+    ((a : ℕ) → get_or flags a false ≡ true → is_some (found a) ≡ is_some (get_or slots a None)) →
+    nat_eq (count_remaining flags slots) 0 ≡ list_all (λ w. is_some (found w)) (wanted_numbers flags)
 left_done [] slots found e same = refl
 left_done (w ∷ flags) [] found e same = absurd (omega arith)
 left_done (true ∷ flags) (None ∷ slots) found e same =
-    more_left (count_remaining flags slots) ∙ sym (ap (λ b. b && list_all (λ v. is_some (found v)) (map suc (wanted_numbers flags))) (same 0))
+    more_left (count_remaining flags slots) ∙ sym (ap (λ b. b && list_all (λ v. is_some (found v)) (map suc (wanted_numbers flags))) (same 0 refl))
 left_done (true ∷ flags) (Some x ∷ slots) found e same =
     ap (λ n. nat_eq n 0) (zero-add (count_remaining flags slots))
-    ∙ left_done flags slots (λ a. found (suc a)) (omega arith) (λ a. same (suc a))
+    ∙ left_done flags slots (λ a. found (suc a)) (omega arith) (λ a w. same (suc a) w)
     ∙ sym (all_mapped (λ v. is_some (found v)) suc (wanted_numbers flags))
-    ∙ sym (ap (λ b. b && list_all (λ v. is_some (found v)) (map suc (wanted_numbers flags))) (same 0))
+    ∙ sym (ap (λ b. b && list_all (λ v. is_some (found v)) (map suc (wanted_numbers flags))) (same 0 refl))
 left_done (false ∷ flags) (o ∷ slots) found e same =
     ap (λ n. nat_eq n 0) (zero-add (count_remaining flags slots))
-    ∙ left_done flags slots (λ a. found (suc a)) (omega arith) (λ a. same (suc a))
+    ∙ left_done flags slots (λ a. found (suc a)) (omega arith) (λ a w. same (suc a) w)
     ∙ sym (all_mapped (λ v. is_some (found v)) suc (wanted_numbers flags))
 
 -- a slot is seen as filled where it is filled
@@ -83,12 +82,6 @@ seen_filled store (o ∷ slots) zero = is_some_map (table_answer 0) (option_map 
 seen_filled store (o ∷ slots) (suc a) =
     is_some_map (table_answer (suc a)) (get_or (matches_by_ref store slots) a None) ∙ sym
     (is_some_map (table_answer a) (get_or (matches_by_ref store slots) a None)) ∙ seen_filled store slots a
-
-pub is_done_left : (flags : List Bool) (store : PartsContent) (slots : List (Option MatchRef)) (left : ℕ) → length flags ≡ length slots → left ≡
-    count_remaining flags slots →
-    nat_eq left 0 ≡ is_done (wanted_numbers flags) (slots_of (matches_by_ref store slots))
-is_done_left flags store slots left same counted =
-    ap (λ n. nat_eq n 0) counted ∙ left_done flags slots (slots_of (matches_by_ref store slots)) same (seen_filled store slots)
 
 count_left_push : {X : Type 0} (flags : List Bool) (slots : List (Option X)) (w : Bool) (o : Option X) → length flags ≡ length slots →
     count_remaining (flags ++ w ∷ []) (slots ++ o ∷ []) ≡ count_remaining flags slots + remaining_at w o
@@ -298,7 +291,7 @@ pub all_emptied : {X Y : Type 0} (slots : List (Option X)) (old : List Y) (numbe
 all_emptied slots old numbers i same le others =
     all_empty slots old same (λ k lt. others k (ap (list_any (nat_eq k)) (drop_all i numbers le)))
 
-none_at : {Y : Type 0} (X : Type 0) (xs : List Y) (a : ℕ) → get_or {A = Option X} (map (λ x. None) xs) a None ≡ None
+pub none_at : {Y : Type 0} (X : Type 0) (xs : List Y) (a : ℕ) → get_or {A = Option X} (map (λ x. None) xs) a None ≡ None
 none_at X [] a = refl
 none_at X (x ∷ xs) zero = refl
 none_at X (x ∷ xs) (suc a) = none_at X xs a

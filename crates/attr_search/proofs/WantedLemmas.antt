@@ -1,10 +1,13 @@
 -- How many flags are set.
 use Rattle.std.proofs.Common.{◌≡◌, ℕ, zero, suc, ◌+◌, ◌<◌, ◌≤◌, Bool, true, false, not, cond, List, [], ◌∷◌, length, get_or, set, map, replicate}
-use Rattle.std.proofs.Common.{None, refl, sym, ap, ◌∙◌, arith}
+use Rattle.std.proofs.Common.{None, refl, sym, ap, ◌∙◌, arith, ◌++◌, ◌⊎◌}
+use mathlib.Core.Bool.{beq}
 use mir.Val.{bool_byte}
 use Rattle.std.proofs.lemmas.List.{length-set}
 use Rattle.std.proofs.lemmas.List.Sums.{sum_by-cons, sum_by-set}
-use Rattle.std.proofs.Common.{◌≢◌, ◌%◌, ◌||◌, BTreeSet, ⊎_elim, Less, Greater}
+use Rattle.std.proofs.Common.{◌≢◌, ◌%◌, ◌||◌, BTreeSet, ⊎_elim, Less, Greater, Equal}
+use Rattle.std.specs.Prelude.{if◌then◌else◌}
+use Rattle.std.proofs.lemmas.List.Folds.{list_any-append}
 use Rattle.std.specs.BTreeMap.{is_at}
 use Rattle.std.specs.BTreeSet.{contains}
 use Rattle.std.specs.Cmp.{nat_cmp_is}
@@ -148,3 +151,81 @@ count_empty X (false ∷ flags) (x ∷ xs) e =
     let cons = sum_by-cons (λ w. cond w 1 0) false flags in
     let rest = count_empty X flags xs (omega arith) in
     omega arith
+
+-- a flag after flags of some numbers were set, by its number: of these it has the value, and else what it had
+abbrev pub after_set : List ℕ → Bool → ℕ → Bool → Bool
+after_set seen value number before = if list_any (is_at (nat_cmp number)) seen then value else before
+
+any_last : (p : ℕ → Bool) (xs : List ℕ) (n : ℕ) (b : Bool) → p n ≡ b → list_any p (xs ++ n ∷ []) ≡ (list_any p xs || b)
+any_last p xs n b e = list_any-append p xs (n ∷ []) ∙ ap (λ d. list_any p xs || d) (or_false (p n) ∙ e)
+
+at_same : (n : ℕ) → is_at (nat_cmp n) n ≡ true
+at_same n = ap is_eq (sym (nat_cmp_is n n Equal refl))
+
+-- one more flag is set
+pub one_set : (flags : List Bool) (seen : List ℕ) (a n : ℕ) (value before : Bool) → a < length flags →
+    get_or flags a false ≡ after_set seen value a before →
+    get_or (set flags n value) a false ≡ after_set (seen ++ n ∷ []) value a before
+one_set flags seen a n value before lt so_far =
+    ⊎_elim
+    (λ (same : a ≡ n). ap (λ k. get_or (set flags k value) a false) (sym same) ∙ get_or-set_same flags a value false lt
+    ∙ sym (ap (λ b. if b then value else before)
+    (any_last (is_at (nat_cmp a)) seen n true (ap (is_at (nat_cmp a)) (sym same) ∙ at_same a) ∙ or_true (list_any (is_at (nat_cmp a)) seen))))
+    (λ (apart : a ≢ n). get_or-set_other flags n a value false apart ∙ so_far
+    ∙ sym (ap (λ b. if b then value else before)
+    (any_last (is_at (nat_cmp a)) seen n false (at_other a n (λ e. apart (sym e))) ∙ or_false (list_any (is_at (nat_cmp a)) seen))))
+    (cases_eq a n)
+
+-- and none of a number past the flags
+pub none_set : (flags : List Bool) (seen : List ℕ) (a n : ℕ) (value before : Bool) → a < length flags → length flags ≤ n →
+    get_or flags a false ≡ after_set seen value a before → get_or flags a false ≡ after_set (seen ++ n ∷ []) value a before
+none_set flags seen a n value before lt past so_far =
+    so_far ∙ sym (ap (λ b. if b then value else before)
+    (any_last (is_at (nat_cmp a)) seen n false (at_other a n (λ e. absurd (omega (arith, lt, past, e))))
+    ∙ or_false (list_any (is_at (nat_cmp a)) seen)))
+
+if_set : (b value : Bool) → (if b then true else value) ≡ (b || value)
+if_set true value = refl
+if_set false value = refl
+
+if_unset : (b : Bool) → (if b then false else b) ≡ false
+if_unset true = refl
+if_unset false = refl
+
+if_same : (b value : Bool) → (if b then value else value) ≡ value
+if_same true value = refl
+if_same false value = refl
+
+-- flags that are all set, or cleared, and then set at some numbers are those of these numbers
+pub written_flags : (w : Inside) (flags : List Bool) → length flags ≡ w.len →
+    ((a : ℕ) → a < length flags → get_or flags a false ≡ after_set w.numbers.keys true a w.all) → flags ≡ wanted_flags_view w
+written_flags w flags same at =
+    fill_by_all (is_flag_set w) flags w.len false same
+    (λ k lt. at k (omega (arith, same, lt)) ∙ if_set (contains nat_cmp w.numbers k) w.all ∙ swap (contains nat_cmp w.numbers k) w.all)
+  where
+    swap : (a b : Bool) → (a || b) ≡ (b || a)
+    swap true b = sym (or_true b)
+    swap false b = sym (or_false b)
+
+-- a flag is that of all, or where these are the same it is as it was
+abbrev pub IsBase : Inside → Inside → ℕ → Bool → Type 0
+IsBase w v a flag = (flag ≡ w.all) ⊎ ((w.all ≡ v.all) × (flag ≡ is_flag_set v a))
+
+pub base_set : (w v : Inside) (a : ℕ) (flag : Bool) → w.all ≡ true → IsBase w v a flag → flag ≡ w.all
+base_set w v a flag all base =
+    ⊎_elim (λ (e : flag ≡ w.all). e)
+    (λ (p : (w.all ≡ v.all) × (flag ≡ is_flag_set v a)). p.1 ∙ ap (λ b. b || contains nat_cmp v.numbers a) (sym p.0 ∙ all) ∙ sym all) base
+
+pub base_cleared : (w v : Inside) (a : ℕ) (flag : Bool) → w.all ≡ false → IsBase w v a flag →
+    after_set v.numbers.keys false a flag ≡ w.all
+base_cleared w v a flag none base =
+    ⊎_elim
+    (λ (e : flag ≡ w.all). ap (after_set v.numbers.keys false a) (e ∙ none) ∙ if_same (contains nat_cmp v.numbers a) false ∙ sym none)
+    (λ (p : (w.all ≡ v.all) × (flag ≡ is_flag_set v a)). ap (after_set v.numbers.keys false a)
+    (p.1 ∙ ap (λ b. b || contains nat_cmp v.numbers a) (sym p.0 ∙ none)) ∙ if_unset (contains nat_cmp v.numbers a) ∙ sym none) base
+
+pub beq_same : (a b : Bool) → beq a b ≡ true → a ≡ b
+beq_same true true e = refl
+beq_same true false e = absurd cc
+beq_same false true e = absurd cc
+beq_same false false e = refl

@@ -3,11 +3,12 @@ use Rattle.std.specs.Prelude.{ℕ, Bool, List, Option}
 use Rattle.attr_lists.specs.declared.types.TrackedAssignment.{TrackedAssignment}
 use Rattle.attr_search.specs.Slots.{Matched}
 
--- the answers by number, which numbers are wanted, what each number is as a macro, how many lines and assignments are kept for
--- the answers, and how many items the last search took and how many lines it tested
+-- the answers by number, which numbers are wanted and which are needed, what each number is as a macro, how many lines and
+-- assignments are kept for the answers, and how many items the last search took and how many lines it tested
 pub record SearchContents : Type 0 where
   pub answers : List (Option Matched)
   pub wanted : List Bool
+  pub needed : List Bool
   pub bodies : List (List TrackedAssignment)
   pub kept : ℕ
   pub taken : ℕ

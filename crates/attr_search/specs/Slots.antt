@@ -1,5 +1,5 @@
 -- The answer of an outcome for each attribute, and how it is seen as a slot of the table in attr_table (own).
-use Rattle.std.specs.Prelude.{◌≡◌, ℕ, ◌≤◌, ◌<◌, Bool, true, List, map, Option, None, is_some, option_map, slice_index_or}
+use Rattle.std.specs.Prelude.{◌≡◌, ℕ, ◌≤◌, ◌<◌, Bool, true, false, List, map, Option, None, is_some, option_map, slice_index_or}
 use Rattle.std.specs.List.{filter_map}
 use Rattle.attr_text.specs.declared.assignment.Assignment.{Assignment}
 use Rattle.attr_text.specs.declared.state.State.{State}
@@ -43,6 +43,14 @@ table_answer a m =
 -- the answers for all numbers, as the table's slots
 abbrev pub slots_of : List (Option Matched) → Slots
 slots_of answers a = option_map (table_answer a) (slice_index_or answers a None)
+
+-- by these flags the attribute is needed; one without a flag is
+abbrev pub is_needed : List Bool → ℕ → Bool
+is_needed flags a = slice_index_or flags a true
+
+-- slots that are not needed stay as they are
+abbrev pub SkipsSlots : List Bool → List (Option Matched) → List (Option Matched) → Type 0
+SkipsSlots needed before after = (a : ℕ) → is_needed needed a ≡ false → slice_index_or after a None ≡ slice_index_or before a None
 
 -- each slot from this number on is free
 abbrev pub AreFreeFrom : {X : Type 0} → List (Option X) → ℕ → Type 0

@@ -1,6 +1,6 @@
 //! The state of a search over lists: slots that are filled by the lines that match a path.
 
-ghost use Rattle.std.specs.Prelude.{◌≡◌, ◌+◌, ◌*◌, ◌<◌, ◌≤◌, [], length, map, All, OnErr, OnOk, IfOk, IfSome, IsNone, MatchOption, is_none, false, true, Ok, None, option_map, slice_index_or};
+ghost use Rattle.std.specs.Prelude.{◌≡◌, ◌+◌, ◌*◌, ◌<◌, ◌≤◌, [], length, map, All, OnErr, OnOk, IfOk, IfSome, IsNone, MatchOption, is_none, false, true, Ok, None, option_map, replicate, slice_index_or};
 ghost use Rattle.bstr.specs.BStr.{bstr_bytes};
 ghost use Rattle.attr_glob.specs.Views.{patterns_of};
 ghost use Rattle.attr_lists.specs.ListViews.{items_in, macro_id};
@@ -19,7 +19,7 @@ ghost use Rattle.attr_search.specs.shared.Slotted.{BodiesHaveSlots, LinesHaveSlo
 ghost use Rattle.attr_search.specs.shared.Slotted.{bodies_view};
 ghost use Rattle.attr_search.specs.inner.Filling.{BodiesFit};
 ghost use Rattle.attr_search.specs.inner.Searched.{KeepsState, ListKeepsNamed, ListsKeepNamed, SearchedLine, SearchedList, SearchedLists, SearchedPlaces, TestsRoots, has_free_item, query_candidates, query_setting, state_slots, state_wanted};
-ghost use Rattle.attr_search.specs.shared.SlotContents.{count_remaining};
+ghost use Rattle.attr_search.specs.shared.SlotContents.{AreFlagsAmong, count_remaining};
 
 use crate::bodies::BodyChange;
 use crate::indexed_list::IndexedList;
@@ -80,17 +80,26 @@ impl Model for SearchState {
 impl SearchState {
     /// A state without slots. It takes no memory.
     pub fn new(alloc: Global) -> SearchState
-        ensures { result ≡ record
-            { answers = []; wanted = []; bodies = []; kept = 0; taken = 0; tested = 0 } }
+        ensures { result ≡ record {
+          answers = [];
+          wanted = [];
+          needed = [];
+          bodies = [];
+          kept = 0;
+          taken = 0;
+          tested = 0;
+        } }
     {
         SearchState::of(alloc, AnswerSlots::new(alloc))
     }
 
     fn of(alloc: Global, slots: AnswerSlots) -> SearchState
-        requires { BodiesFit (length slots.answers) slots.bodies }
+        requires bodies { BodiesFit (length slots.answers) slots.bodies }
+        requires among { AreFlagsAmong slots.wanted slots.needed }
         ensures { result ≡ record {
           answers = slots.answers;
           wanted = slots.wanted;
+          needed = slots.needed;
           bodies = slots.bodies;
           kept = slots.kept;
           taken = 0;
@@ -113,8 +122,8 @@ impl SearchState {
         }
     }
 
-    /// Makes an empty slot for each flag in place of its own, keeps or makes a body for each, and changes some of these. It
-    /// costs what is changed, and takes memory for more slots only.
+    /// Makes an empty slot for each flag in place of its own, keeps or makes a body for each, and changes some of these. A search
+    /// fills the needed slots alone. It costs what is changed, and takes memory for more slots only.
     ///
     /// # Errors
     ///
@@ -123,14 +132,18 @@ impl SearchState {
         &mut self,
         alloc: Global,
         wanted: WantedFlags,
+        needed: WantedFlags,
         changes: Vec<BodyChange>,
     ) -> Result<(), AllocError>
         requires numbers { All (λ change. change.number < length wanted) changes.items }
+        requires needed { length needed ≡ length wanted }
+        requires among { AreFlagsAmong wanted needed }
         requires within { BodiesHaveSlots (length wanted)
             (changed_bodies changes.items (sized_bodies (length wanted) self.old.bodies)) }
         ensures ok { OnOk result (self.new ≡ record {
           answers = map (λ flag. None) wanted;
           wanted = wanted;
+          needed = needed;
           bodies = changed_bodies changes.items (sized_bodies (length wanted) self.old.bodies);
           kept = 0;
           taken = 0;
@@ -138,7 +151,7 @@ impl SearchState {
         }) }
         ensures refused { OnErr result (self.new ≡ self.old) }
     {
-        self.filler.slots.set_up(alloc, wanted, changes)?;
+        self.filler.slots.set_up(alloc, wanted, needed, changes)?;
         self.filler.taken = 0;
         self.tested = 0;
         Ok(())
@@ -168,7 +181,7 @@ impl SearchState {
         Ok(copy)
     }
 
-    /// Replaces the slots and bodies by copies of another state's. The slots whose flags are set are wanted.
+    /// Replaces the slots and bodies by copies of another state's. The slots whose flags are set are wanted, and all are needed.
     ///
     /// # Errors
     ///
@@ -180,11 +193,16 @@ impl SearchState {
         wanted: WantedFlags,
     ) -> Result<(), AllocError>
         requires { length wanted ≡ length other.now.answers }
-        ensures copied { OnOk result (self.new ≡ record other.now
-            { wanted = wanted; taken = 0; tested = 0 }) }
+        ensures copied { OnOk result (self.new ≡ record other.now {
+          wanted = wanted;
+          needed = replicate (length other.now.answers) true;
+          taken = 0;
+          tested = 0;
+        }) }
         ensures refused { OnErr result (self.new ≡ self.old) }
     {
-        let mut copy = SearchState::of(alloc, other.filler.slots.copy(alloc, wanted)?);
+        let needed = WantedFlags::all_or_none(alloc, other.len(), true);
+        let mut copy = SearchState::of(alloc, other.filler.slots.copy(alloc, wanted, needed)?);
         mem::swap(&mut self.buffers, &mut copy.buffers);
         *self = copy;
         Ok(())
@@ -192,7 +210,8 @@ impl SearchState {
 
     /// How many slots there are.
     pub fn len(&self) -> usize
-        ensures { result ≡ length self.now.answers }
+        ensures answers { result ≡ length self.now.answers }
+        ensures needed { result ≡ length self.now.needed }
     {
         self.filler.slots.len()
     }
@@ -206,7 +225,8 @@ impl SearchState {
 
     /// How many wanted slots are free.
     pub fn remaining(&self) -> usize
-        ensures { result ≡ count_remaining self.now.wanted self.now.answers }
+        ensures count { result ≡ count_remaining self.now.wanted self.now.answers }
+        ensures among { AreFlagsAmong self.now.wanted self.now.needed }
     {
         self.filler.slots.remaining()
     }

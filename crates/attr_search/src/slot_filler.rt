@@ -4,7 +4,8 @@ ghost use Rattle.std.specs.Prelude.{◌≡◌, ◌≤◌, None, OnOk, length};
 ghost use Rattle.attr_table.specs.shared.Walk;
 ghost use Rattle.attr_table.specs.shared.Walk.{tasks_in};
 ghost use Rattle.attr_search.specs.Settings.{HaveSlots};
-ghost use Rattle.attr_search.specs.Slots.{slots_of, table_items, table_state};
+ghost use Rattle.attr_search.specs.Slots.{table_items, table_state};
+ghost use Rattle.attr_search.specs.shared.SlotContents.{open_slots};
 ghost use Rattle.attr_search.specs.inner.Filling.{AtLine, CanFill, Fills, FillsNamed, KeepsFiller, Processes, most_left, stack_tasks};
 ghost use Rattle.attr_search.specs.inner.Pending.{IsPlaced, PushesFree, PushesPlaced, line_origin};
 
@@ -113,7 +114,7 @@ fn is_set(state: &State) -> bool
     }
 }
 
-// Pushes the items whose attributes have no answer, the last on top.
+// Pushes the items whose attributes are needed and have no answer, the last on top.
 fn push_free(
     stack: &mut Vec<PendingItem>,
     items: &[TrackedAssignment],
@@ -122,7 +123,7 @@ fn push_free(
 ) -> Result<(), AllocError>
     requires { HaveSlots (length slots.now.answers) items.now }
     ensures pushed { OnOk result (PushesFree
-        (slots_of slots.now.answers) cause items.now stack.old.items stack.new.items) }
+        (open_slots slots.now) cause items.now stack.old.items stack.new.items) }
     ensures placed { OnOk result (PushesPlaced cause items.now stack.old.items stack.new.items) }
 {
     for (place, item) in items.iter().enumerate() {

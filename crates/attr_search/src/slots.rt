@@ -1,7 +1,7 @@
-//! What a search fills: a slot for each attribute. A slot has the answer for its attribute, or is free. The wanted
-//! slots are those that a search looks for.
+//! What a search fills: a slot for each attribute. A slot has the answer for its attribute, or none. The wanted slots are
+//! those that a search looks for. It fills the needed slots alone, and skips the others.
 
-ghost use Rattle.std.specs.Prelude.{◌≡◌, ◌<◌, ◌≤◌, ◌*◌, ◌-◌, ◌++◌, ◌&&◌, ⊤, All, false, None, Some, [], IfOk, OnErr, OnOk, MatchOption, is_none, is_some, length, map, not, option_map, replicate, set, slice_index_or};
+ghost use Rattle.std.specs.Prelude.{◌≡◌, Bool, List, ◌<◌, ◌≤◌, ◌*◌, ◌-◌, ◌++◌, ◌&&◌, ⊤, All, false, None, Some, [], IfOk, OnErr, OnOk, MatchOption, is_none, is_some, length, map, not, option_map, replicate, set, slice_index_or};
 ghost use Rattle.std.specs.List.{list_any};
 ghost use Rattle.attr_table.specs.Cut.{is_done};
 ghost use Rattle.attr_search.specs.Matches.{cause_of, match_view};
@@ -11,7 +11,8 @@ ghost use Rattle.attr_search.specs.Slots.{AreFreeFrom, IsNextFilled, filled_in, 
 ghost use Rattle.attr_search.specs.shared.BodyChanges.{changed_bodies, sized_bodies};
 ghost use Rattle.attr_search.specs.inner.Pending.{IsPlaced, item_match, line_origin, pending_item};
 ghost use Rattle.attr_search.specs.shared.Slotted.{bodies_view};
-ghost use Rattle.attr_search.specs.shared.SlotContents.{AreListed, SlotContents, count_remaining, empty_slots, wanted_numbers};
+ghost use Rattle.attr_search.specs.shared.SlotContents.{AreFlagsAmong, AreListed, SlotContents, count_remaining, empty_slots, open_slots, wanted_numbers};
+ghost use Rattle.attr_search.specs.inner.SlotsView.{AllAreNeeded, AreOpen};
 
 use crate::answer_parts::{AnswerParts, MatchRef};
 use crate::bodies::BodyChange;
@@ -22,7 +23,7 @@ use attr_lists::types::{Match, MatchKind, TrackedAssignment};
 use std::alloc::{AllocError, Global};
 use std::marker::Model;
 
-/// A slot and a body for each attribute, and which of them are wanted.
+/// A slot and a body for each attribute, and which slots are wanted and which are needed. A wanted one is needed.
 #[derive(Drop)]
 pub struct AnswerSlots {
     slots: Vec<Option<MatchRef>>,
@@ -31,6 +32,9 @@ pub struct AnswerSlots {
     // Whether these numbers are in their order.
     is_ordered: bool,
     wanted: WantedFlags,
+    needed: WantedFlags,
+    // For each slot whether it is needed and has no answer.
+    is_open: Vec<bool>,
     // How many wanted slots are free.
     remaining: usize,
     // What the answers in slots refer to.
@@ -53,19 +57,22 @@ impl AnswerSlots {
     /// No slots.
     pub fn new(alloc: Global) -> AnswerSlots
         ensures { result ≡ record
-            { answers = []; wanted = []; line = None; bodies = []; kept = 0 } }
+            { answers = []; wanted = []; needed = []; line = None; bodies = []; kept = 0 } }
     {
         AnswerSlots {
             slots: Vec::new(alloc),
             filled: Vec::new(alloc),
             is_ordered: true,
             wanted: WantedFlags::new(alloc),
+            needed: WantedFlags::new(alloc),
+            is_open: Vec::new(alloc),
             remaining: 0,
             parts: AnswerParts::new(alloc),
         }
     }
 
-    /// Makes an empty slot for each flag in place of its own, keeps or makes a body for each, and changes some of these. It costs what was filled and what is changed, and takes memory for more slots only.
+    /// Makes an empty slot for each flag in place of its own, keeps or makes a body for each, and changes some of these. It
+    /// costs what was filled and what is changed.
     ///
     /// # Errors
     ///
@@ -74,25 +81,32 @@ impl AnswerSlots {
         &mut self,
         alloc: Global,
         wanted: WantedFlags,
+        needed: WantedFlags,
         changes: Vec<BodyChange>,
     ) -> Result<(), AllocError>
-        requires { All (λ change. change.number < length wanted) changes.items }
-        ensures ok { OnOk result (self.new ≡ empty_slots wanted
+        requires numbers { All (λ change. change.number < length wanted) changes.items }
+        requires needed { length needed ≡ length wanted }
+        requires among { AreFlagsAmong wanted needed }
+        ensures ok { OnOk result (self.new ≡ empty_slots wanted needed
             (changed_bodies changes.items (sized_bodies (length wanted) self.old.bodies))) }
         ensures refused { OnErr result (self.new ≡ self.old) }
     {
         let (before, count) = (self.slots.len(), wanted.len());
-        grow(&mut self.slots, count)?;
+        grow(&mut self.slots, &mut self.is_open, count)?;
         if self.parts.set_up(alloc, count, changes).is_err() {
             self.slots.truncate(before);
+            self.is_open.truncate(before);
             return Err(AllocError);
         }
-        empty(&mut self.slots, &self.filled);
+        empty(&mut self.slots, &mut self.is_open, &self.filled);
         self.filled.clear();
         self.is_ordered = true;
         self.slots.truncate(count);
+        self.is_open.truncate(count);
+        needed.write(&mut self.is_open, &self.needed);
         self.remaining = wanted.count();
         self.wanted = wanted;
+        self.needed = needed;
         Ok(())
     }
 
@@ -110,15 +124,25 @@ impl AnswerSlots {
         self.remaining
     }
 
-    /// A copy of the slots and the bodies, with other slots wanted.
+    /// A copy of the slots and the bodies, with other slots wanted. Those that are needed here have to be needed there.
     ///
     /// # Errors
     ///
     /// If memory runs out.
-    pub fn copy(&self, alloc: Global, wanted: WantedFlags) -> Result<AnswerSlots, AllocError>
-        requires { length wanted ≡ length self.now.answers }
-        ensures { IfOk result (λ slots. slots ≡ record self.now { wanted = wanted }) }
+    pub fn copy(
+        &self,
+        alloc: Global,
+        wanted: WantedFlags,
+        needed: WantedFlags,
+    ) -> Result<AnswerSlots, AllocError>
+        requires wanted { length wanted ≡ length self.now.answers }
+        requires needed { length needed ≡ length self.now.answers }
+        requires among { AreFlagsAmong wanted needed }
+        requires more { AreFlagsAmong self.now.needed needed }
+        ensures { IfOk result (λ slots. slots
+            ≡ record self.now { wanted = wanted; needed = needed }) }
     {
+        let is_open = open_ones(alloc, &self.slots, &needed)?;
         let slots = Vec::from_slice(alloc, &self.slots)?;
         let filled = Vec::from_slice(alloc, &self.filled)?;
         let parts = self.parts.clone(alloc)?;
@@ -128,12 +152,14 @@ impl AnswerSlots {
             filled,
             is_ordered: self.is_ordered,
             wanted,
+            needed,
+            is_open,
             remaining,
             parts,
         })
     }
 
-    /// A copy of the slots, of which the same are wanted, and of the bodies.
+    /// A copy of the slots, of which the same are wanted and needed, and of the bodies.
     ///
     /// # Errors
     ///
@@ -141,30 +167,30 @@ impl AnswerSlots {
     pub fn clone(&self, alloc: Global) -> Result<AnswerSlots, AllocError>
         ensures { IfOk result (λ slots. slots ≡ self.now) }
     {
-        let wanted = self.wanted.clone()?;
-        self.copy(alloc, wanted)
+        self.copy(alloc, self.wanted.clone()?, self.needed.clone()?)
     }
 
     /// How many slots there are.
     pub fn len(&self) -> usize
         ensures answers { result ≡ length self.now.answers }
         ensures wanted { result ≡ length self.now.wanted }
+        ensures needed { result ≡ length self.now.needed }
     {
         self.slots.len()
     }
 
-    /// Whether the slot of an attribute has no answer.
-    pub fn is_free(&self, attribute: usize) -> bool
-        requires { attribute < length self.now.answers }
-        ensures { result ≡ not (is_some (slots_of self.now.answers attribute)) }
+    /// Whether the slot of the attribute with this number is needed and has no answer.
+    pub fn is_free(&self, number: usize) -> bool
+        requires { number < length self.now.answers }
+        ensures { result ≡ not (is_some (open_slots self.now number)) }
     {
-        self.slots[attribute].is_none()
+        self.is_open[number]
     }
 
-    /// Whether some item's attribute has no answer.
+    /// Whether some item's attribute is needed and has no answer.
     pub fn has_free(&self, items: &[TrackedAssignment]) -> bool
         requires { HaveSlots (length self.now.answers) items.now }
-        ensures { result ≡ list_any (λ i. is_none (slots_of self.now.answers i.id.0)) items.now }
+        ensures { result ≡ list_any (λ i. is_none (open_slots self.now i.id.0)) items.now }
     {
         for item in items {
             if self.is_free(item.id.0) {
@@ -176,7 +202,7 @@ impl AnswerSlots {
 
     /// Whether each wanted slot is filled.
     pub fn is_done(&self) -> bool
-        ensures { result ≡ is_done (wanted_numbers self.now.wanted) (slots_of self.now.answers) }
+        ensures { result ≡ is_done (wanted_numbers self.now.wanted) (open_slots self.now) }
     {
         self.remaining == 0
     }
@@ -204,7 +230,7 @@ impl AnswerSlots {
         requires cause { cause_of kind ≡ top.cause }
         requires within { (pending_item line.items.now self.old.bodies top).id.0
             < length self.old.answers }
-        requires free { is_some (slots_of self.old.answers
+        requires free { is_some (open_slots self.old
             (pending_item line.items.now self.old.bodies top).id.0) ≡ false }
         requires line { MatchOption self.old.line ⊤ (λ o. o ≡ line_origin line) }
         ensures answers { OnOk result (
@@ -213,6 +239,7 @@ impl AnswerSlots {
             ≡ set self.old.answers item.id.0 (Some (item_match line.entry item kind))) }
         ensures refused { OnErr result (self.new.answers ≡ self.old.answers) }
         ensures wanted { self.new.wanted ≡ self.old.wanted }
+        ensures needed { self.new.needed ≡ self.old.needed }
         ensures bodies { self.new.bodies ≡ self.old.bodies }
         ensures line { MatchOption self.new.line ⊤ (λ o. o ≡ line_origin line.entry) }
     {
@@ -223,6 +250,7 @@ impl AnswerSlots {
         self.filled.push_reserved(attribute);
         self.remaining -= usize::from(self.wanted.has(attribute));
         self.slots[attribute] = Some(found);
+        self.is_open[attribute] = false;
         Ok(())
     }
 
@@ -261,7 +289,7 @@ impl AnswerSlots {
         ensures { self.new ≡ record self.old
             { answers = map (λ a. None) self.old.answers; line = None; kept = 0 } }
     {
-        empty(&mut self.slots, &self.filled);
+        empty(&mut self.slots, &mut self.is_open, &self.filled);
         self.filled.clear();
         self.is_ordered = true;
         self.remaining = self.wanted.count();
@@ -328,25 +356,60 @@ fn next_slot(slots: &[Option<MatchRef>], from: usize) -> Option<usize>
     None
 }
 
-// Appends free slots, until there are as many as the count if there were fewer.
-fn grow(slots: &mut Vec<Option<MatchRef>>, count: usize) -> Result<(), AllocError>
-    ensures ok { OnOk result (slots.new.items
+// Appends empty slots that are not open, until there are as many as the count if there were fewer.
+fn grow(
+    slots: &mut Vec<Option<MatchRef>>,
+    is_open: &mut Vec<bool>,
+    count: usize,
+) -> Result<(), AllocError>
+    requires { length is_open.old.items ≡ length slots.old.items }
+    ensures slots { OnOk result (slots.new.items
         ≡ slots.old.items ++ replicate (count - length slots.old.items) None) }
+    ensures opened { OnOk result (is_open.new.items
+        ≡ is_open.old.items ++ replicate (count - length is_open.old.items) false) }
     ensures refused { OnErr result (slots.new.items ≡ slots.old.items) }
+    ensures unopened { OnErr result (is_open.new.items ≡ is_open.old.items) }
 {
-    if slots.len() < count {
-        slots.resize(count, None)?;
+    let before = slots.len();
+    if before >= count {
+        return Ok(());
+    }
+    slots.resize(count, None)?;
+    if is_open.resize(count, false).is_err() {
+        slots.truncate(before);
+        return Err(AllocError);
     }
     Ok(())
 }
 
-// Empties the slots with these numbers, if the others are free.
-fn empty(slots: &mut Vec<Option<MatchRef>>, numbers: &[usize])
-    requires { AreListed slots.old.items numbers.now }
+// Empties the slots with these numbers, if the others have no answer. All that are needed are open then.
+fn empty(slots: &mut Vec<Option<MatchRef>>, is_open: &mut Vec<bool>, numbers: &[usize])
+    requires listed { AreListed slots.old.items numbers.now }
+    requires flags { length is_open.old.items ≡ length slots.old.items }
     ensures items { slots.new.items ≡ map (λ slot. None) slots.old.items }
     ensures len { length slots.new.items ≡ length slots.old.items }
+    ensures opened { (needed : List Bool) → length needed ≡ length slots.old.items →
+        AreOpen needed slots.old.items is_open.old.items → AllAreNeeded needed numbers.now →
+        is_open.new.items ≡ needed }
 {
     for number in numbers {
         slots[*number] = None;
+        is_open[*number] = true;
     }
+}
+
+// For each slot whether it is needed and has no answer.
+fn open_ones(
+    alloc: Global,
+    slots: &[Option<MatchRef>],
+    needed: &WantedFlags,
+) -> Result<Vec<bool>, AllocError>
+    requires { length needed.now ≡ length slots.now }
+    ensures { IfOk result (λ is_open. AreOpen needed.now slots.now is_open.items) }
+{
+    let mut is_open = Vec::new(alloc);
+    for number in 0..slots.len() {
+        is_open.push(is_remaining(needed.has(number), slots[number]))?;
+    }
+    Ok(is_open)
 }

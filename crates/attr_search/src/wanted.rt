@@ -1,6 +1,8 @@
-//! Which numbers a search looks for.
+//! Flags of numbers: which ones a search looks for, and which ones it needs.
 
-ghost use Rattle.std.specs.Prelude.{◌≡◌, ◌<◌, true, [], IfOk, OnErr, OnOk, length, replicate, set, slice_index_or, false};
+ghost use Rattle.std.specs.Prelude.{◌≡◌, ◌<◌, ℕ, true, [], IfOk, OnErr, OnOk, length, replicate, set, slice_index_or, false, if◌then◌else◌};
+ghost use Rattle.std.specs.BTreeSet.{contains};
+ghost use Rattle.std.specs.Ordering.{nat_cmp};
 ghost use Rattle.attr_search.specs.shared.SlotContents.{count_wanted};
 
 use std::alloc::{AllocError, Global};
@@ -112,5 +114,41 @@ impl WantedFlags {
         self.noted[number % REMAINDERS] = true;
         self.count += 1;
         Ok(())
+    }
+
+    /// Writes the flags over others of as many numbers, which have the flags before for those that had one. It costs what is set in
+    /// either, if not all are in one of them alone, and the numbers that are new.
+    pub fn write(&self, flags: &mut Vec<bool>, before: &WantedFlags)
+        requires len { length flags.old.items ≡ length self.now }
+        requires before { (number : ℕ) → number < length self.now → number < length before.now →
+            slice_index_or flags.old.items number false ≡ slice_index_or before.now number false }
+        ensures { flags.new.items ≡ self.now }
+    {
+        let start = if self.all == before.all {
+            before.len
+        } else {
+            0
+        };
+        for number in start..flags.len() {
+            flags[number] = self.all;
+        }
+        if !self.all {
+            set_each(flags, &before.numbers, false);
+        }
+        set_each(flags, &self.numbers, true);
+    }
+}
+
+// Sets the flags of some numbers, of those that have one, to a value.
+fn set_each(flags: &mut Vec<bool>, numbers: &BTreeSet<usize>, value: bool)
+    ensures len { length flags.new.items ≡ length flags.old.items }
+    ensures flags { (number : ℕ) → number < length flags.old.items →
+        slice_index_or flags.new.items number false ≡ (if contains nat_cmp numbers.now number
+        then value else slice_index_or flags.old.items number false) }
+{
+    for number in numbers.iter() {
+        if *number < flags.len() {
+            flags[*number] = value;
+        }
     }
 }

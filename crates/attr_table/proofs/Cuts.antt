@@ -178,7 +178,7 @@ walked_searched s wanted start final w =
     (one.0, one.1, end_cut s start wanted final end one.0 one.1)
 
 -- there is such a walk, so whether an entry is kept is decided
-some_walk : (s : Setting) (wanted : List ℕ) (start : Slots) →
+pub some_walk : (s : Setting) (wanted : List ℕ) (start : Slots) →
     (final : Slots) × Walks s.bodies (is_done wanted) (tasks_of s.lists) start final
 some_walk s wanted start =
     let ts = tasks_of s.lists in

@@ -34,3 +34,6 @@ pub use Rattle.attr_table.proofs.Stable.{entry_is, some_or_none, none_value}
 -- `seen_others`: any other attribute has that answer or none. `Mem`: membership, in which a setting is read.
 pub use Rattle.attr_table.proofs.Cuts.{walked_searched, searched_walked, searched_joined, seen_wanted, seen_others}
 pub use Rattle.attr_table.proofs.Listed.{Mem}
+-- Searches that skip attributes. `skipping_unseen`: the law `skipping_is_unseen`. `narrowed_all`: if each attribute is needed, no slot
+-- is skipped. `narrowed_at`: a needed attribute keeps its slot.
+pub use Rattle.attr_table.proofs.Skipping.{skipping_unseen, narrowed_all, narrowed_at}

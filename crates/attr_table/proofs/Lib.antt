@@ -8,6 +8,7 @@ pub mod Fills
 pub mod Walked
 pub mod Ends
 pub mod Cuts
+pub mod Skipping
 pub mod Seen
 pub mod Counted
 pub mod ForCallers

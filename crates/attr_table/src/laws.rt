@@ -5,10 +5,11 @@
 //! searches found. The cut of a table is what is left of it if the search stops once each wanted attribute has an
 //! answer.
 
-ghost use Rattle.std.specs.Prelude.{◌≡◌, ℕ, ◌⊎◌, List, [], ◌∷◌, ◌++◌, None, Contains};
+ghost use Rattle.std.specs.Prelude.{◌≡◌, ℕ, ◌⊎◌, List, [], ◌∷◌, ◌++◌, Bool, true, None, All, Contains};
 ghost use Rattle.attr_table.specs.Setting.{Item, Line, Setting};
 ghost use Rattle.attr_table.specs.Table.{Table, Slots, item_at, IsEarlier, IsStable, OneTable};
 ghost use Rattle.attr_table.specs.Cut.{IsCut, IsSearched, ExtendsCuts, full_answer, is_done, no_answers};
+ghost use Rattle.attr_table.specs.Skipped.{IsClosed, narrowed};
 ghost use Rattle.attr_table.specs.Work.{work_of};
 ghost use Rattle.attr_table.specs.inner.Worked.{cycle, cycle_answers, a_set, b_set, a_on_line, b_in_a, a_in_b};
 ghost use Rattle.attr_table.specs.shared.Walk.{Walks, tasks_of};
@@ -60,6 +61,16 @@ pub fn searches_join()
 pub fn searches_extend_cuts()
     ensures { (s : Setting) (wanted : List ℕ) (before after : Slots) →
         IsSearched s wanted before after → ExtendsCuts s.lists s.bodies wanted before after }
+{}
+
+/// A search may skip attributes. The wanted attributes are needed, and if an attribute is needed, so is each macro
+/// whose body has an item of it. A search that counts the slots of all others as filled returns for each needed
+/// attribute what the search returns that skips nothing.
+pub fn skipping_is_unseen()
+    ensures { (s : Setting) (needed : ℕ → Bool) (wanted : List ℕ) (start slots : Slots) →
+        IsClosed s.bodies needed → All (λ w. needed w ≡ true) wanted →
+        IsSearched s wanted (narrowed needed start) slots →
+        (all : Slots) × IsSearched s wanted start all × (slots ≡ narrowed needed all) }
 {}
 
 /// An example: two macros name each other, and a line sets one of them. That one is decided by the line, and the other

@@ -7,17 +7,18 @@ use Rattle.std.proofs.lemmas.List.{length-map, drop_more, drop_all}
 use Rattle.std.proofs.lemmas.Option.{get_or_from_slice_get, slice_get_cases, slice_get_within}
 use Rattle.attr_lists.specs.Collections.{Collection}
 use Rattle.gix_attributes.specs.Contents.{Content, Wanted, found_in, initial_content, looked_up, names_selected, reset_content, selected_in}
-use Rattle.gix_attributes.specs.Contents.{wanted_of}
+use Rattle.gix_attributes.specs.Contents.{bodies_of, wanted_of}
 use Rattle.attr_table.specs.Cut.{IsSearched}
-use Rattle.gix_attributes.specs.Lookups.{FindsAnswers, IsLookedUp, Lookup, OfTheOnlyTable, answers_by_number, selected_answers}
+use Rattle.gix_attributes.specs.Lookups.{FindsAnswers, Lookup, OfTheOnlyTable, answers_by_number, selected_answers}
 use Rattle.attr_lists.specs.Numbers.{number_of}
 use Rattle.gix_attributes.specs.Searching.{KeepsAllButAnswers, KeepsNames, answers_in, setting_for}
-use Rattle.attr_search.specs.Settings.{HeldAreNamed, setting_of}
+use Rattle.attr_search.specs.Settings.{BodiesAreNamed, HeldAreNamed, setting_of}
 use Rattle.attr_search.specs.Slots.{Matched}
 use Rattle.attr_table.specs.Table.{Slots}
 use Rattle.attr_lists.proofs.ForCallers.{number_at}
 use Rattle.gix_attributes.proofs.KeepingLemmas.{bodies_have_names}
-use Rattle.gix_attributes.proofs.LookupLemmas.{all_named, looked_up_answers, looked_up_found}
+use Rattle.gix_attributes.proofs.NarrowedLemmas.{narrowed_answers, narrowed_found, narrowed_named}
+use Rattle.gix_attributes.specs.inner.Needed.{AreNeeded, IsNarrowed}
 use Rattle.gix_attributes.proofs.OutcomeLemmas.{emptied_again}
 use Rattle.gix_attributes.proofs.OutcomeLemmas.{reset_at_first, reset_searched}
 use Rattle.gix_attributes.specs.EngineStates.{EngineState, is_specified, path_setting, returned_answers, specified_among, texts_answered}
@@ -35,32 +36,38 @@ names_again names [] = refl
 names_again names (name ∷ selected) = ap (λ all. name ∷ all) (names_again names selected)
 
 -- an outcome that is initialised is current
-pub current_at_first : (known : Collection) (selected : List (List ℕ)) (held : Content) → held ≡ initial_content known selected
+pub current_at_first : (known : Collection) (selected : List (List ℕ)) (held : Content) → IsNarrowed known selected held
     → IsCurrentFor known held
-current_at_first known selected held e =
-    ap reset_content e
-    ∙ (reset_at_first known selected
-    ∙ ap (initial_content known) (sym (ap (λ (h : Content). names_selected h.selection) e ∙ names_again known.names selected)))
+current_at_first known selected held fresh =
+    let First : List (List ℕ) → Content = λ texts. record (initial_content known texts) { needed = held.needed } in
+    let texts : names_selected held.selection ≡ selected =
+    ap (λ (h : Content). names_selected h.selection) fresh.content ∙ names_again known.names selected in
+    record {
+      content = ap reset_content fresh.content
+          ∙ ap (λ (h : Content). record h { needed = held.needed }) (reset_at_first known selected) ∙ ap First (sym texts);
+      needed = subst (λ l. AreNeeded known (looked_up known.names l) held.needed) (sym texts) fresh.needed;
+    }
+
+-- what a reset leaves decides whether an outcome is current
+current_alike : (known : Collection) (before after : Content) → reset_content after ≡ reset_content before → IsCurrentFor known before
+    → IsCurrentFor known after
+current_alike known before after e current = subst (λ (h : Content). IsNarrowed known (names_selected h.selection) h) (sym e) current
 
 -- and stays so by searches and resets, for the names and the selection stay
 pub current_searched : (known : Collection) (before after : Content) → KeepsAllButAnswers before after → IsCurrentFor known before
     → IsCurrentFor known after
-current_searched known before after kept current =
-    reset_searched before after kept
-    ∙ (current ∙ ap (λ selection. initial_content known (names_selected selection)) (sym (ap (λ (h : Content). h.selection) kept.rest)))
+current_searched known before after kept current = current_alike known before after (reset_searched before after kept) current
 
 pub current_reset : (known : Collection) (before after : Content) → after ≡ reset_content before → IsCurrentFor known before
     → IsCurrentFor known after
 current_reset known before after e current =
-    ap reset_content e
-    ∙ (emptied_again before
-    ∙ (current ∙ ap (λ (h : Content). initial_content known (names_selected h.selection)) (sym e)))
+    current_alike known before after (ap reset_content e ∙ emptied_again before) current
 
 -- an outcome that is initialised or searched has the selection that it is initialised with
-pub selection_kept : (known : Collection) (selected : List (List ℕ)) (before after : Content) → before ≡ initial_content known selected
+pub selection_kept : (known : Collection) (selected : List (List ℕ)) (before after : Content) → IsNarrowed known selected before
     → KeepsAllButAnswers before after → after.selection ≡ looked_up known.names selected
 selection_kept known selected before after fresh kept =
-    ap (λ (h : Content). h.selection) kept.rest ∙ ap (λ (h : Content). h.selection) fresh
+    ap (λ (h : Content). h.selection) kept.rest ∙ ap (λ (h : Content). h.selection) fresh.content
 
 -- ---- answers
 
@@ -73,22 +80,14 @@ if_false true x y e = absurd (cc)
 if_false false x y e = refl
 
 module _ (q : Lookup) (list_ids : List ℕ) (before after : Content)
-    (same : length list_ids ≡ length q.lists) (knows : RegistersAlone q.known list_ids q.lists) (fresh : before ≡ initial_content q.known q.selected)
+    (same : length list_ids ≡ length q.lists) (knows : RegistersAlone q.known list_ids q.lists) (fresh : IsNarrowed q.known q.selected before)
     (searched : IsSearched (setting_for q.lists before q.path q.case q.is_dir) (wanted_of before) (answers_in before) (answers_in after))
     (keeps : KeepsNames q.lists before after) (kept : KeepsAllButAnswers before after) where
   abbrev state : EngineState
   state = record { names = q.known.names; lists = q.lists; selection = q.selected }
 
-  looked : IsLookedUp q before after
-  looked =
-      record {
-        initialized = fresh;
-        lists_named = knows.named;
-        bodies_named = bodies_have_names q.known knows.exactly.sound;
-        searched = searched;
-        named = keeps;
-        kept = kept;
-      }
+  bodies_named : BodiesAreNamed q.known.names (bodies_of q.known)
+  bodies_named = bodies_have_names q.known knows.exactly.sound
 
   -- an outcome selects as many names as are selected
   count : length after.selection ≡ length q.selected
@@ -109,12 +108,12 @@ module _ (q : Lookup) (list_ids : List ℕ) (before after : Content)
   -- the answers that are returned are those of the only stable table of the lists
   pub answered : OfTheOnlyTable (path_setting state q.path q.case q.is_dir) (λ answers. returned_by after ≡ returned_answers state answers)
   answered =
-      let found = looked_up_answers q before after looked in
+      let found = narrowed_answers q before after fresh knows.named bodies_named searched keeps kept in
       subst
       (λ bodies. OfTheOnlyTable (setting_of q.lists bodies q.path q.case q.is_dir)
       (λ answers. returned_by after ≡ returned_answers state answers))
       (bodies_registered q.known list_ids q.lists q.selected same knows)
-      (found.0, returned _ (length q.selected == 0) refl found.1.all found.1.selected)
+      (found.0, returned _ (length q.selected == 0) refl found.1.0 found.1.1)
 
   -- and so is what is found by number
   pub found : OfTheOnlyTable (path_setting state q.path q.case q.is_dir) (λ answers. FindsAnswers q.known.names q.selected answers after.slots)
@@ -123,7 +122,7 @@ module _ (q : Lookup) (list_ids : List ℕ) (before after : Content)
       (λ bodies. OfTheOnlyTable (setting_of q.lists bodies q.path q.case q.is_dir)
       (λ answers. FindsAnswers q.known.names q.selected answers after.slots))
       (bodies_registered q.known list_ids q.lists q.selected same knows)
-      (looked_up_found q before after looked)
+      (narrowed_found q before after fresh knows.named bodies_named searched keeps kept)
 
   -- with the names of the collection
   pub of_names : IsOfNames q.known.names after
@@ -132,7 +131,7 @@ module _ (q : Lookup) (list_ids : List ℕ) (before after : Content)
       record {
         selection = selection
             ∙ ap (looked_up q.known.names) (sym (ap names_selected selection ∙ names_again q.known.names q.selected));
-        answers = all_named q before after looked;
+        answers = narrowed_named q before after fresh knows.named bodies_named searched keeps kept;
       }
 
 -- ---- where the answers are, if nothing is selected

@@ -1,7 +1,9 @@
 -- After a search from nothing, the macro whose body has the item of an answer has its answer too.
-use Rattle.std.proofs.Common.{◌≡◌, ℕ, ◌⊎◌, List, [], Option, Some, None, refl, inl, inr, ⊎_elim, sym, ap, ◌∙◌, subst}
+use Rattle.std.proofs.Common.{◌≡◌, Bool, get_or, slice_get, true, ℕ, ◌⊎◌, List, [], Option, Some, None, refl, inl, inr, ⊎_elim, sym, ap, ◌∙◌, subst}
 use Rattle.std.specs.Prelude.{Contains, option_and_then, option_map}
-use Rattle.attr_table.specs.Setting.{Answer, Item, Origin, Setting}
+use Rattle.std.proofs.lemmas.Option.{get_or_from_slice_get, slice_get_within}
+use Rattle.attr_table.specs.Setting.{Answer, Item, Origin, Setting, body_of}
+use Rattle.attr_table.specs.Skipped.{IsClosed}
 use Rattle.attr_table.specs.Table.{Inside, IsEarlier, IsStable, Occurrence, Root, Slots, Table, item_at, path}
 use Rattle.attr_table.specs.Cut.{IsCut, IsCutAt, IsKept, answer_at, answer_of, cause_at, full_answer, no_answers, origin_at}
 use Rattle.attr_table.proofs.ForCallers.{entry_is, first_beginning, first_trans, seen_others}
@@ -70,6 +72,37 @@ module _ (s : Setting) (wanted : List ℕ) (slots : Slots) (table : Table) (stab
           (parent_seen parent place a reached.0.attribute reached.0 reached.1 reached.3 e there)
 
       by_entry : (o : Option Occurrence) → table a ≡ o → slots cause ≡ full_answer s None (table cause)
+      by_entry None e =
+          let none : slots a ≡ None = subst (λ entry. IsCutAt s no_answers table wanted entry (slots a)) e (cut a) in absurd cc
+      by_entry (Some o) e =
+          ⊎_elim
+          (λ (none : slots a ≡ None). absurd cc)
+          (λ (full : slots a ≡ full_answer s None (table a)).
+          by_occurrence o e (sym (ap (full_answer s None) e) ∙ (sym full ∙ here)))
+          (seen_others s no_answers wanted table slots a stable cut)
+
+  -- the macro that is the cause of a needed attribute's answer is needed, since its body has an item of the attribute
+  pub cause_needed : (needed : ℕ → Bool) (a cause : ℕ) (x : Answer) → IsClosed s.bodies needed → slots a ≡ Some x → x.cause ≡ Some cause →
+      needed a ≡ true → needed cause ≡ true
+  cause_needed needed a cause x closed here is_cause own = by_entry (table a) refl
+    where
+      by_occurrence : (o : Occurrence) → table a ≡ Some o → answer_at s o ≡ Some x → needed cause ≡ true
+      by_occurrence (Root list line item) e h = let none : x.cause ≡ None = cause_is s (Root list line item) x h in absurd cc
+      by_occurrence (Inside parent place) e h =
+          let live = (entry_is s no_answers table stable a (Inside parent place) e).0 in
+          let reached = live.1.reached in
+          let named : x.cause ≡ Some reached.0.attribute =
+          cause_is s (Inside parent place) x h ∙ ap (option_map (λ (i : Item). i.attribute)) reached.1 in
+          let same : reached.0.attribute ≡ cause = cc in
+          let body = body_of s.bodies reached.0.attribute in
+          let item : slice_get body place ≡ Some live.0 =
+          sym (ap (option_and_then (λ (i : Item). slice_get (body_of s.bodies i.attribute) place)) reached.1) ∙ live.1.item in
+          let within = slice_get_within body place live.0 item in
+          let there : get_or body place live.0 ≡ live.0 = get_or_from_slice_get body place live.0 live.0 item in
+          ap needed (sym same)
+          ∙ closed reached.0.attribute place live.0 within (ap (λ (i : Item). needed i.attribute) there ∙ ap needed live.2 ∙ own)
+
+      by_entry : (o : Option Occurrence) → table a ≡ o → needed cause ≡ true
       by_entry None e =
           let none : slots a ≡ None = subst (λ entry. IsCutAt s no_answers table wanted entry (slots a)) e (cut a) in absurd cc
       by_entry (Some o) e =

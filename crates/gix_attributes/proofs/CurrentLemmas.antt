@@ -20,7 +20,7 @@ use Rattle.attr_lists.proofs.ForCallers.{number_at, of_other_lists-free, with_na
 use Rattle.attr_search.specs.ListView.{Listed}
 use Rattle.gix_attributes.specs.Additions.{with_registered}
 use Rattle.gix_attributes.specs.SearchViews.{AreHeld, RemovesLast}
-use Rattle.gix_attributes.specs.Contents.{Content, initial_content, names_selected}
+use Rattle.gix_attributes.specs.Contents.{Content}
 use Rattle.gix_attributes.specs.inner.SoundEngines.{IsCurrentFor, last_lines}
 
 both : (a b : Bool) → not (a && b) ≡ false → (a ≡ true) × (not b ≡ false)
@@ -84,9 +84,18 @@ definitions_left list_id lines known sound held none =
 pub current_for : (known now : Collection) (held : Content) → now.names ≡ known.names → now.definitions ≡ known.definitions →
     IsCurrentFor known held → IsCurrentFor now held
 current_for known now held names definitions current =
-    current ∙ ap (λ (n : List (List ℕ)). initial_content (record known { names = n }) (names_selected held.selection)) (sym names)
-    ∙ ap (λ (d : List (List MacroDefinition)). initial_content (record known { names = now.names; definitions = d }) (names_selected held.selection))
-    (sym definitions)
+    let Current : List (List ℕ) → List (List MacroDefinition) → Type 0 = λ n d. IsCurrentFor (record now { names = n; definitions = d }) held in
+    let same : Current known.names known.definitions = record {
+      content = current.content;
+      needed = record {
+        count = current.needed.count;
+        selected = current.needed.selected;
+        closed = current.needed.closed;
+        all = current.needed.all;
+        least = current.needed.least;
+      };
+    } in
+    subst (λ n. Current n now.definitions) (sym names) (subst (Current known.names) (sym definitions) same)
 
 -- the lines of the last list
 at_last : (lists : List Listed) (last : Listed) → slice_get (lists ++ last ∷ []) (length lists) ≡ Some last

@@ -3,6 +3,7 @@ pub mod HoldsLemmas
 pub mod KeepingLemmas
 pub mod CauseLemmas
 pub mod LookupLemmas
+pub mod NarrowedLemmas
 pub mod SelectionLemmas
 pub mod OutcomeLemmas
 pub mod SearchingLemmas
@@ -16,3 +17,4 @@ pub mod LabelLemmas
 pub mod ToldLemmas
 pub mod ForCallers
 pub mod CurrentLemmas
+pub mod NeededLemmas

@@ -1,5 +1,5 @@
 -- What an outcome returns after a search, by the only stable table, with names.
-use Rattle.std.proofs.Common.{◌≡◌, inl, inr, ℕ, zero, suc, ◌+◌, ◌<◌, ◌==◌, Bool, true, false, List, [], ◌∷◌, ◌++◌, length, get_or, map}
+use Rattle.std.proofs.Common.{◌≡◌, inl, inr, ℕ, zero, suc, ◌+◌, ◌<◌, ◌==◌, Bool, true, false, List, [], ◌∷◌, ◌++◌, length, get_or, map, replicate}
 use Rattle.std.proofs.Common.{filter, slice_get, All, Option, Some, None, MatchOption, option_map, unwrap_or, refl, sym, ap, ◌∙◌, arith}
 use Rattle.std.proofs.Common.{subst, ⊎_elim, eqb-true}
 use Rattle.std.specs.Prelude.{bytes_eq, option_and_then, ⊤, is_some}
@@ -8,6 +8,7 @@ use Rattle.std.proofs.lemmas.Bool.{or_cases}
 use Rattle.std.proofs.lemmas.List.{length-map, map-append}
 use Rattle.std.proofs.lemmas.List.Elements.{All-append, All-contains, All-contains_itself, All-filter, All-head, All-map, All-tail, All-weaker}
 use Rattle.std.proofs.lemmas.List.Elements.{Contains-append_left, Contains-append_right, filter_passes}
+use Rattle.std.proofs.lemmas.List.FromFn.{get_or-map-range_with_len}
 use Rattle.std.proofs.lemmas.List.Folds.{Any-from_list_any, list_all_at}
 use Rattle.std.proofs.lemmas.List.Quantifiers.{position-Some}
 use Rattle.std.proofs.lemmas.Slice.Eq.{bytes_eq-Decides}
@@ -22,16 +23,19 @@ use Rattle.attr_table.specs.Cut.{IsSearched, answer_at, full_answer, is_done, no
 use Rattle.attr_table.proofs.ForCallers.{OneTable-of}
 use Rattle.attr_search.specs.ListView.{Listed}
 use Rattle.attr_search.specs.Settings.{BodiesAreNamed, HeldAreNamed, LinesAreNamed, lines_of, setting_of}
-use Rattle.attr_search.specs.Slots.{Matched, table_answer, table_items, table_state}
+use Rattle.attr_search.specs.Slots.{Matched, is_needed, slots_of, table_answer, table_items, table_state}
+use Rattle.attr_table.specs.Skipped.{narrowed}
+use Rattle.attr_table.proofs.ForCallers.{narrowed_at}
 use Rattle.gix_attributes.specs.Contents.{Content, Wanted, found_in, has_number, initial_content}
 use Rattle.gix_attributes.specs.Contents.{is_wanted, looked_up, selected_in, unspecified, wanted_of}
+use Rattle.gix_attributes.specs.inner.Consistency.{flags_of}
 use Rattle.gix_attributes.specs.Lookups.{ArePartOf, FindsAnswers, IsFound, IsLookedUp, IsSearchedFurther, Lookup, OfTheOnlyTable}
 use Rattle.gix_attributes.specs.Lookups.{ReturnsAnswers, SelectsNoMore}
 use Rattle.gix_attributes.specs.Lookups.{answer_of_name, answers_by_number, attribute_state, named_answer, answer_for, selected_answers}
 use Rattle.gix_attributes.specs.Lookups.{setting_in, table_answers, with_lists_searched}
 use Rattle.gix_attributes.specs.Searching.{JoinsSearches, KeepsAllButAnswers, KeepsNames, answers_in, is_complete, setting_for}
 use Rattle.gix_attributes.proofs.CauseLemmas.{cause_seen}
-use Rattle.gix_attributes.proofs.SearchLaws.{all_wanted, answered_by, answered_or_not, cut_of, empty_at}
+use Rattle.gix_attributes.proofs.SearchLaws.{all_are_needed, all_seen, all_wanted, answered_by, answered_or_not, cut_of, empty_at}
 use Rattle.gix_attributes.proofs.SearchLaws.{name_wanted, not_done, nothing_in, whole_from, whole_table}
 
 -- ---- lists
@@ -144,16 +148,23 @@ wanted_in_selection names name (x ∷ xs) (suc k, lt, e) =
 
 -- ---- what is returned of slots that have the answers of a table
 
+-- the number is needed, and this is what the table sees there
+abbrev pub IsSeen : Content → ℕ → Option Answer → Type 0
+IsSeen held number answer = (is_needed held.needed number ≡ true) × (answers_in held number ≡ answer)
+
 module _ (q : Lookup) (held : Content) (answers : Slots) (count : length held.slots ≡ length q.known.names)
     (named : HeldAreNamed q.known.names held.slots) (selection : held.selection ≡ looked_up q.known.names q.selected)
     (asked : (name : List ℕ) (number : ℕ) → Contains q.selected name → number_of q.known.names name ≡ Some number →
-    answers_in held number ≡ answers number) where
-  -- each slot by what the table sees
-  slot_is : (number : ℕ) →
-      get_or held.slots number None ≡ option_map (named_answer (get_or q.known.names number [])) (answers_in held number)
-  slot_is number = named_again q.known.names number (get_or held.slots number None) (named number)
+    IsSeen held number (answers number)) where
+  -- each slot that is needed, by what the table sees
+  pub slot_is : (number : ℕ) (answer : Option Answer) → IsSeen held number answer →
+      get_or held.slots number None ≡ option_map (named_answer (get_or q.known.names number [])) answer
+  slot_is number answer seen =
+      named_again q.known.names number (get_or held.slots number None) (named number)
+      ∙ ap (option_map (named_answer (get_or q.known.names number [])))
+      (sym (narrowed_at (is_needed held.needed) (slots_of held.slots) number seen.0) ∙ seen.1)
 
-  found_of : (part : Slots) → ((number : ℕ) → number < length q.known.names → answers_in held number ≡ part number) →
+  pub found_of : (part : Slots) → ((number : ℕ) → number < length q.known.names → IsSeen held number (part number)) →
       found_in held.slots ≡ answers_by_number q.known.names part
   found_of part same =
       let g : ℕ → Option Matched = λ number. option_map (named_answer (get_or q.known.names number [])) (part number) in
@@ -161,14 +172,14 @@ module _ (q : Lookup) (held : Content) (answers : Slots) (count : length held.sl
       (λ i number lt e.
       let at : number ≡ i = omega (arith, e) in
       subst (λ k. get_or held.slots k None ≡ g number) at
-      (slot_is number ∙ ap (option_map (named_answer (get_or q.known.names number []))) (same number (omega (arith, lt, at, count)))))
+      (slot_is number (part number) (same number (omega (arith, lt, at, count)))))
       ∙ ap (λ n. filter_map g (range_with_len 0 n)) count
 
   slot_of_name : (name : List ℕ) (number : ℕ) → Contains q.selected name → number_of q.known.names name ≡ Some number →
       get_or held.slots number None ≡ option_map (named_answer name) (answers number)
   slot_of_name name number c e =
-      slot_is number ∙ (ap (option_map (named_answer (get_or q.known.names number []))) (asked name number c e)
-      ∙ ap (λ text. option_map (named_answer text) (answers number)) (named_at q.known.names name number e).1)
+      slot_is number (answers number) (asked name number c e)
+      ∙ ap (λ text. option_map (named_answer text) (answers number)) (named_at q.known.names name number e).1
 
   one_selected : (name : List ℕ) → Contains q.selected name → (o : Option ℕ) → number_of q.known.names name ≡ o →
       unwrap_or (option_and_then (λ number. get_or held.slots number None) o) (unspecified name)
@@ -176,7 +187,7 @@ module _ (q : Lookup) (held : Content) (answers : Slots) (count : length held.sl
   one_selected name c None e = refl
   one_selected name c (Some number) e = ap (λ slot. unwrap_or slot (unspecified name)) (slot_of_name name number c e)
 
-  all_selected : (texts : List (List ℕ)) → All (Contains q.selected) texts →
+  pub all_selected : (texts : List (List ℕ)) → All (Contains q.selected) texts →
       selected_in held.slots (looked_up q.known.names texts) ≡ selected_answers q.known.names answers texts
   all_selected [] h = refl
   all_selected (text ∷ texts) h =
@@ -195,15 +206,15 @@ module _ (q : Lookup) (held : Content) (answers : Slots) (count : length held.sl
       at (Some x) h = in_found held.slots number (named_answer name x) h
 
   returned : ArePartOf (answers_in held) answers →
-      (length q.selected ≡ 0 → (number : ℕ) → number < length q.known.names → answers_in held number ≡ answers number) →
-      (is_complete held ≡ false → (number : ℕ) → number < length q.known.names → answers_in held number ≡ answers number) →
-      ReturnsAnswers q held answers
-  returned part unselected unfinished =
+      (length q.selected ≡ 0 → (number : ℕ) → number < length q.known.names → IsSeen held number (answers number)) →
+      (is_complete held ≡ false → (number : ℕ) → number < length q.known.names → IsSeen held number (answers number)) →
+      ((number : ℕ) → is_needed held.needed number ≡ true) → ReturnsAnswers q held answers
+  returned part unselected unfinished own =
       record {
         selected = ap (selected_in held.slots) selection ∙ all_selected q.selected (All-contains_itself q.selected);
         all = λ none. found_of answers (unselected none);
         unfinished = λ left. found_of answers (unfinished left);
-        found = (answers_in held, part, found_of (answers_in held) (λ number lt. refl));
+        found = (answers_in held, part, found_of (answers_in held) (λ number lt. (own number, refl)));
         among = All-weaker (Contains q.selected)
             (λ text. MatchOption (answer_of_name q.known.names answers text) ⊤ (Contains (found_in held.slots)))
             (λ text c. one_among text c (number_of q.known.names text) refl) q.selected (All-contains_itself q.selected);
@@ -211,11 +222,11 @@ module _ (q : Lookup) (held : Content) (answers : Slots) (count : length held.sl
 
 -- ---- after a lookup
 
-full_is : (s : Setting) (o : Option Occurrence) → full_answer s None o ≡ option_and_then (answer_at s) o
+pub full_is : (s : Setting) (o : Option Occurrence) → full_answer s None o ≡ option_and_then (answer_at s) o
 full_is s None = refl
 full_is s (Some o) = refl
 
-nothing_named : {X : Type 0} (names : List (List ℕ)) (xs : List X) →
+pub nothing_named : {X : Type 0} (names : List (List ℕ)) (xs : List X) →
     HeldAreNamed names (map (λ (x : X). let none : Option Matched = None in none) xs)
 nothing_named names xs a =
     subst (λ (o : Option Matched). MatchOption o ⊤ (λ m. slice_get names a ≡ Some m.assignment.name)) (sym (empty_at xs a)) tt
@@ -237,15 +248,49 @@ unfinished_whole lists path case is_dir before after table number searched kept 
     whole_from (setting_for lists before path case is_dir) (wanted_of before) (answers_in before) (answers_in after) table searched stable
     (ap (λ wanted. is_done wanted (answers_in after)) (sym (wanted_kept before after kept)) ∙ left) number
 
-module _ (q : Lookup) (before after : Content) (looked : IsLookedUp q before after) where
-  abbrev start : Content
+module _ (q : Lookup) where
+  abbrev pub start : Content
   start = initial_content q.known q.selected
 
-  from : IsLookedUp q start after
+  pub counted : length start.slots ≡ length q.known.names
+  counted = length-map q.known.names (λ (x : List ℕ). let none : Option Matched = None in none)
+
+  -- the number of a selected name is wanted
+  pub asked_for : (name : List ℕ) (number : ℕ) → Contains q.selected name → number_of q.known.names name ≡ Some number →
+      Contains (wanted_of start) number
+  asked_for name number c e =
+      name_wanted start (look q.known.names name) number (wanted_in_selection q.known.names name q.selected c) e
+      (omega (arith, counted, (named_at q.known.names name number e).0))
+
+  -- and without a selection each is
+  pub all_asked_for : length q.selected ≡ 0 → (number : ℕ) → number < length q.known.names → Contains (wanted_of start) number
+  all_asked_for none number lt =
+      all_wanted start number (length-map q.selected (look q.known.names) ∙ none) (omega (arith, counted, lt))
+
+  -- what is wanted has the number of a name
+  pub wanted_flag : (number : ℕ) → Contains (wanted_of start) number →
+      get_or (flags_of start.selection (length q.known.names)) number false ≡ true
+  wanted_flag number c =
+      let found = from_filter (is_wanted start.selection) (range_with_len 0 (length start.slots)) number c in
+      let lt = below_range 0 (length start.slots) number found.1 in
+      get_or-map-range_with_len (is_wanted start.selection) 0 (length q.known.names) number number false (omega (arith, lt, counted)) (omega arith)
+      ∙ found.0
+
+module _ (q : Lookup) (before after : Content) (looked : IsLookedUp q before after) where
+  from : IsLookedUp q (start q) after
   from = subst (λ b. IsLookedUp q b after) looked.initialized looked
 
-  empty : answers_in start ≡ no_answers
-  empty = nothing_in q.known.names
+  empty : answers_in (start q) ≡ no_answers
+  empty = all_seen (start q).needed (length q.known.names) (slots_of (start q).slots) refl ∙ nothing_in q.known.names
+
+  needed : after.needed ≡ replicate (length q.known.names) true
+  needed = ap (λ (h : Content). h.needed) from.kept.rest
+
+  own : (number : ℕ) → is_needed after.needed number ≡ true
+  own = all_are_needed after.needed (length q.known.names) needed
+
+  shown : answers_in after ≡ slots_of after.slots
+  shown = all_seen after.needed (length q.known.names) (slots_of after.slots) needed
 
   only : OneTable (setting_in q) no_answers
   only = OneTable-of (setting_in q) no_answers
@@ -253,72 +298,60 @@ module _ (q : Lookup) (before after : Content) (looked : IsLookedUp q before aft
   abbrev answers : Slots
   answers = table_answers (setting_in q) only.0
 
-  answered : (number : ℕ) → Contains (wanted_of start) number → answers_in after number ≡ answers number
+  answered : (number : ℕ) → Contains (wanted_of (start q)) number → answers_in after number ≡ answers number
   answered number c =
-      answered_by (setting_in q) (wanted_of start) (answers_in start) (answers_in after) only.0 number empty from.searched only.1 c
+      answered_by (setting_in q) (wanted_of (start q)) (answers_in (start q)) (answers_in after) only.0 number empty from.searched only.1 c
       ∙ full_is (setting_in q) (only.0 number)
 
   part : ArePartOf (answers_in after) answers
   part number =
       ⊎_elim inl (λ e. inr (e ∙ full_is (setting_in q) (only.0 number)))
-      (answered_or_not (setting_in q) (wanted_of start) (answers_in start) (answers_in after) only.0 number empty from.searched only.1)
+      (answered_or_not (setting_in q) (wanted_of (start q)) (answers_in (start q)) (answers_in after) only.0 number empty from.searched only.1)
 
-  whole : is_done (wanted_of start) (answers_in after) ≡ false → (number : ℕ) → answers_in after number ≡ answers number
+  whole : is_done (wanted_of (start q)) (answers_in after) ≡ false → (number : ℕ) → answers_in after number ≡ answers number
   whole left number =
-      whole_table (setting_in q) (wanted_of start) (answers_in start) (answers_in after) only.0 empty from.searched only.1 left number
+      whole_table (setting_in q) (wanted_of (start q)) (answers_in (start q)) (answers_in after) only.0 empty from.searched only.1 left number
       ∙ full_is (setting_in q) (only.0 number)
 
   pub all_named : HeldAreNamed q.known.names after.slots
   all_named = from.named q.known.names looked.lists_named looked.bodies_named (nothing_named q.known.names q.known.names)
 
-  counted : length start.slots ≡ length q.known.names
-  counted = length-map q.known.names (λ (x : List ℕ). let none : Option Matched = None in none)
-
-  -- the number of a selected name is wanted
-  asked_for : (name : List ℕ) (number : ℕ) → Contains q.selected name → number_of q.known.names name ≡ Some number →
-      Contains (wanted_of start) number
-  asked_for name number c e =
-      name_wanted start (look q.known.names name) number (wanted_in_selection q.known.names name q.selected c) e
-      (omega (arith, counted, (named_at q.known.names name number e).0))
-
-  -- and without a selection each is
-  all_asked_for : length q.selected ≡ 0 → (number : ℕ) → number < length q.known.names → Contains (wanted_of start) number
-  all_asked_for none number lt =
-      all_wanted start number (length-map q.selected (look q.known.names) ∙ none) (omega (arith, counted, lt))
-
   pub looked_up_answers : OfTheOnlyTable (setting_in q) (ReturnsAnswers q after)
   looked_up_answers = (
     only,
-    returned q after answers (from.kept.count ∙ counted) all_named (ap (λ (h : Content). h.selection) from.kept.rest)
-        (λ name number c e. answered number (asked_for name number c e)) part
-        (λ none number lt. answered number (all_asked_for none number lt))
-        (λ left number lt. whole (ap (λ wanted. is_done wanted (answers_in after)) (sym (wanted_kept start after from.kept)) ∙ left) number),
+    returned q after answers (from.kept.count ∙ (counted q)) all_named (ap (λ (h : Content). h.selection) from.kept.rest)
+        (λ name number c e. (own number, answered number (asked_for q name number c e))) part
+        (λ none number lt. (own number, answered number (all_asked_for q none number lt)))
+        (λ left number lt. (
+          own number,
+          whole (ap (λ wanted. is_done wanted (answers_in after)) (sym (wanted_kept (start q) after from.kept)) ∙ left) number,
+        )) own,
   )
 
   -- what is found is the answer, with its name
   found_if : (number : ℕ) → answers_in after number ≡ answers number → IsFound q.known.names answers after.slots number
   found_if number e =
       named_again q.known.names number (get_or after.slots number None) (all_named number)
-      ∙ ap (option_map (named_answer (get_or q.known.names number []))) e
+      ∙ ap (option_map (named_answer (get_or q.known.names number []))) (sym (ap (λ (s : Slots). s number) shown) ∙ e)
 
   not_found_if : (number : ℕ) → answers_in after number ≡ None → get_or after.slots number None ≡ None
   not_found_if number e =
       named_again q.known.names number (get_or after.slots number None) (all_named number)
-      ∙ ap (option_map (named_answer (get_or q.known.names number []))) e
+      ∙ ap (option_map (named_answer (get_or q.known.names number []))) (sym (ap (λ (s : Slots). s number) shown) ∙ e)
 
   selected_found : (text : List ℕ) → Contains q.selected text → (o : Option ℕ) → number_of q.known.names text ≡ o →
       MatchOption o ⊤ (IsFound q.known.names answers after.slots)
   selected_found text c None e = tt
-  selected_found text c (Some number) e = found_if number (answered number (asked_for text number c e))
+  selected_found text c (Some number) e = found_if number (answered number (asked_for q text number c e))
 
   cause_found : (number : ℕ) (m : Matched) → get_or after.slots number None ≡ Some m → (o : Option ℕ) → m.cause ≡ o →
       MatchOption o ⊤ (IsFound q.known.names answers after.slots)
   cause_found number m here None e = tt
   cause_found number m here (Some cause) e =
-      let cut = cut_of (setting_in q) (wanted_of start) (answers_in start) (answers_in after) only.0 empty from.searched only.1 in
+      let cut = cut_of (setting_in q) (wanted_of (start q)) (answers_in (start q)) (answers_in after) only.0 empty from.searched only.1 in
       found_if cause
-      (cause_seen (setting_in q) (wanted_of start) (answers_in after) only.0 only.1 cut number cause (table_answer number m)
-      (ap (option_map (table_answer number)) here) e
+      (cause_seen (setting_in q) (wanted_of (start q)) (answers_in after) only.0 only.1 cut number cause (table_answer number m)
+      (ap (λ (s : Slots). s number) shown ∙ ap (option_map (table_answer number)) here) e
       ∙ full_is (setting_in q) (only.0 cause))
 
   causes_found : (number : ℕ) (slot : Option Matched) → get_or after.slots number None ≡ slot →
@@ -331,7 +364,7 @@ module _ (q : Lookup) (before after : Content) (looked : IsLookedUp q before aft
     only,
     record {
       part = λ number. ⊎_elim (λ none. inl (not_found_if number none)) (λ e. inr (found_if number e)) (part number);
-      all = λ none number lt. found_if number (answered number (all_asked_for none number lt));
+      all = λ none number lt. found_if number (answered number (all_asked_for q none number lt));
       selected = All-weaker (Contains q.selected)
           (λ text. MatchOption (number_of q.known.names text) ⊤ (IsFound q.known.names answers after.slots))
           (λ text c. selected_found text c (number_of q.known.names text) refl) q.selected (All-contains_itself q.selected);
@@ -345,27 +378,27 @@ module _ (q : Lookup) (before after : Content) (looked : IsLookedUp q before aft
     copy = record (initial_content q.known names) { slots = after.slots }
 
     asked_there : (name : List ℕ) (number : ℕ) → Contains names name → number_of q.known.names name ≡ Some number →
-        Contains (wanted_of start) number
+        Contains (wanted_of (start q)) number
     asked_there name number c e =
         ⊎_elim
-        (λ (none : length q.selected ≡ 0). all_asked_for none number (named_at q.known.names name number e).0)
+        (λ (none : length q.selected ≡ 0). all_asked_for q none number (named_at q.known.names name number e).0)
         (λ (some : (0 < length names) × All (Contains q.selected) names).
-        asked_for name number (All-contains (Contains q.selected) names name some.1 c) e)
+        asked_for q name number (All-contains (Contains q.selected) names name some.1 c) e)
         fewer
 
-    all_asked_there : length names ≡ 0 → (number : ℕ) → number < length q.known.names → Contains (wanted_of start) number
+    all_asked_there : length names ≡ 0 → (number : ℕ) → number < length q.known.names → Contains (wanted_of (start q)) number
     all_asked_there none number lt =
         ⊎_elim
-        (λ (all : length q.selected ≡ 0). all_asked_for all number lt)
+        (λ (all : length q.selected ≡ 0). all_asked_for q all number lt)
         (λ (some : (0 < length names) × All (Contains q.selected) names). absurd (omega (arith, none, some.0)))
         fewer
 
     -- what is wanted there is wanted here
-    wanted_there : (number : ℕ) → Contains (wanted_of copy) number → Contains (wanted_of start) number
+    wanted_there : (number : ℕ) → Contains (wanted_of copy) number → Contains (wanted_of (start q)) number
     wanted_there number c =
         let found = from_filter (is_wanted copy.selection) (range_with_len 0 (length after.slots)) number c in
         let lt : number < length q.known.names =
-        omega (arith, below_range 0 (length after.slots) number found.1, from.kept.count, counted) in
+        omega (arith, below_range 0 (length after.slots) number found.1, from.kept.count, (counted q)) in
         ⊎_elim
         (λ (none : (length copy.selection == 0) ≡ true).
         all_asked_there (sym (length-map names (look q.known.names)) ∙ eqb-true (length copy.selection) 0 none) number lt)
@@ -375,13 +408,25 @@ module _ (q : Lookup) (before after : Content) (looked : IsLookedUp q before aft
         asked_there text.0 number text.1 (ap (λ (w : Wanted). w.number) text.2 ∙ number_had number any.1.number any.4))
         (or_cases (length copy.selection == 0) (list_any (has_number number) copy.selection) found.0)
 
+    -- and it is seen there as it is here
+    same : answers_in copy ≡ answers_in after
+    same = ap (λ flags. narrowed (is_needed flags) (slots_of after.slots)) (sym needed)
+
+    seen_there : (number : ℕ) (answer : Option Answer) → answers_in after number ≡ answer → IsSeen copy number answer
+    seen_there number answer e =
+        (all_are_needed copy.needed (length q.known.names) refl number, ap (λ (s : Slots). s number) same ∙ e)
+
     pub copied_answers : OfTheOnlyTable (setting_in q) (ReturnsAnswers (record q { selected = names }) copy)
     copied_answers = (
       only,
-      returned (record q { selected = names }) copy answers (from.kept.count ∙ counted) all_named refl
-          (λ name number c e. answered number (asked_there name number c e)) part
-          (λ none number lt. answered number (all_asked_there none number lt))
-          (λ left number lt. whole (still_left (wanted_of copy) (wanted_of start) (answers_in after) wanted_there left) number),
+      returned (record q { selected = names }) copy answers (from.kept.count ∙ (counted q)) all_named refl
+          (λ name number c e. seen_there number (answers number) (answered number (asked_there name number c e)))
+          (subst (λ s. ArePartOf s answers) (sym same) part)
+          (λ none number lt. seen_there number (answers number) (answered number (all_asked_there none number lt)))
+          (λ left number lt. seen_there number (answers number)
+          (whole (still_left (wanted_of copy) (wanted_of (start q)) (answers_in after) wanted_there
+          (ap (is_done (wanted_of copy)) (sym same) ∙ left)) number))
+          (all_are_needed copy.needed (length q.known.names) refl),
     )
 
 -- ---- one search after another
@@ -391,6 +436,8 @@ keeps_both : (before middle after : Content) → KeepsAllButAnswers before middl
 keeps_both before middle after first second =
     record {
       count = second.count ∙ first.count;
+      skipped = λ number skip.
+          second.skipped number (ap (λ (h : Content). is_needed h.needed number) first.rest ∙ skip) ∙ first.skipped number skip;
       rest = second.rest ∙ ap
           (λ (h : Content). record h { slots = after.slots; kept = after.kept; taken = after.taken; tested = after.tested }) first.rest;
     }
@@ -420,7 +467,7 @@ module _ (q : Lookup) (others : List Listed) (before middle after : Content) (lo
   seen = subst (λ b. IsLookedUp q b middle) looked.initialized looked
 
   nothing : answers_in begin ≡ no_answers
-  nothing = nothing_in q.known.names
+  nothing = all_seen begin.needed (length q.known.names) (slots_of begin.slots) refl ∙ nothing_in q.known.names
 
   joined : JoinsSearches others q.path q.case q.is_dir (record middle { bodies = begin.bodies }) after
   joined =

@@ -1,6 +1,7 @@
 -- What initialising leaves is consistent, and what is wanted of it.
 use Rattle.std.proofs.Common.{◌≡◌, ℕ, zero, suc, ◌+◌, ◌<◌, ◌≤◌, Bool, true, false, cond, List, [], ◌∷◌, length, get_or, drop, slice_get, map, filter}
 use Rattle.std.proofs.Common.{⊎_elim, is_some, All, Option, Some, None, MatchOption, option_map, unwrap_or, refl, sym, ap, ◌∙◌, ◌-◌, arith}
+use Rattle.std.proofs.Common.{subst}
 use Rattle.std.specs.Bool.{⊤}
 use Rattle.std.specs.List.{range_with_len, cons_option}
 use Rattle.std.specs.Str.{bytes_eq}
@@ -23,6 +24,7 @@ use Rattle.gix_attributes.specs.Contents.{names_selected}
 use Rattle.attr_search.specs.Settings.{HaveSlots}
 use Rattle.attr_search.specs.shared.Slotted.{BodiesHaveSlots}
 use Rattle.gix_attributes.specs.Searching.{KeepsAllButAnswers}
+use Rattle.gix_attributes.specs.inner.Needed.{AreNeeded, IsNarrowed}
 use Rattle.gix_attributes.specs.Selection.{wanted_view, selection_view}
 use Rattle.attr_search.specs.Slots.{AreFreeFrom, IsNextFilled, Matched}
 use Rattle.gix_attributes.specs.declared.search.selected_name.SelectedName.{SelectedName}
@@ -35,6 +37,18 @@ names_looked_up names (name ∷ selected) = ap (λ l. name ∷ l) (names_looked_
 pub looked_up_again : (names selected : List (List ℕ)) (seen : List Wanted) → seen ≡ looked_up names selected → seen ≡ looked_up names
     (names_selected seen)
 looked_up_again names selected seen e = e ∙ ap (looked_up names) (sym (ap names_selected e ∙ names_looked_up names selected))
+
+-- an outcome that looks for what the texts depend on
+pub narrowed_by : (known : Collection) (texts : List (List ℕ)) (seen : List Wanted) (flags : List Bool) (held : Content) →
+    seen ≡ looked_up known.names texts → held ≡ record (initial_content known (names_selected seen)) { needed = flags } →
+    AreNeeded known seen flags → IsNarrowed known texts held
+narrowed_by known texts seen flags held e is needed =
+    let First : List (List ℕ) → List Bool → Content = λ l f. record (initial_content known l) { needed = f } in
+    let own : held.needed ≡ flags = ap (λ (h : Content). h.needed) is in
+    record {
+      content = is ∙ ap (λ l. First l flags) (ap names_selected e ∙ names_looked_up known.names texts) ∙ ap (First texts) (sym own);
+      needed = subst (AreNeeded known (looked_up known.names texts)) (sym own) (subst (λ w. AreNeeded known w flags) e needed);
+    }
 
 pub initialized_by : (known : Collection) (selected : List (List ℕ)) (seen : List Wanted) → seen ≡ looked_up known.names selected → initial_content
     known (names_selected seen) ≡ initial_content known selected
@@ -136,12 +150,13 @@ changes_below changes n m same below = All-weaker (λ c. c.number < n) (λ c. c.
 
 -- what is held once all is made
 pub held_as : (known : Collection) (texts : List (List ℕ)) (slots slots' : List (Option Matched)) (bodies : List (List TrackedAssignment))
-    (seen : List Wanted) (kept kept' : ℕ) → slots ≡ slots' → bodies ≡ bodies_of known → seen ≡ looked_up known.names texts → kept ≡ kept' →
-    record { is_initialized = true; slots = slots; bodies = bodies; selection = seen; kept = kept; taken = 0; tested = 0 }
-    ≡ record (initial_content known texts) { slots = slots'; kept = kept' }
-held_as known texts slots slots' bodies seen kept kept' e f g h =
+    (needed : List Bool) (seen : List Wanted) (kept kept' : ℕ) → slots ≡ slots' → bodies ≡ bodies_of known →
+    seen ≡ looked_up known.names texts → kept ≡ kept' →
+    record { is_initialized = true; slots = slots; bodies = bodies; needed = needed; selection = seen; kept = kept; taken = 0; tested = 0 }
+    ≡ record (initial_content known texts) { slots = slots'; needed = needed; kept = kept' }
+held_as known texts slots slots' bodies needed seen kept kept' e f g h =
     let Held : List (Option Matched) → List (List TrackedAssignment) → List Wanted → ℕ → Content = λ s b w k. record
-    { is_initialized = true; slots = s; bodies = b; selection = w; kept = k; taken = 0; tested = 0 } in
+    { is_initialized = true; slots = s; bodies = b; needed = needed; selection = w; kept = k; taken = 0; tested = 0 } in
     ap (λ s. Held s bodies seen kept) e ∙ ap (λ b. Held slots' b seen kept) f ∙ ap (λ w. Held slots' (bodies_of known) w kept) g
     ∙ ap (Held slots' (bodies_of known) (looked_up known.names texts)) h
 

@@ -1,6 +1,6 @@
 -- The laws of searches, from the laws of the table.
 use Rattle.std.proofs.Common.{◌≡◌, ◌⊎◌, inl, ◌↔◌, ℕ, zero, suc, ◌+◌, ◌<◌, ◌==◌, ◌||◌}
-use Rattle.std.proofs.Common.{Bool, true, false, cond, List, [], ◌∷◌, ◌++◌, length, get_or, map}
+use Rattle.std.proofs.Common.{Bool, true, false, cond, List, [], ◌∷◌, ◌++◌, length, get_or, map, replicate}
 use Rattle.std.proofs.Common.{filter, All, Option, Some, None, MatchOption, option_map, unwrap_or, refl, sym, ap, ◌∙◌, arith, eq-eqb}
 use Rattle.std.proofs.Math.Path.{subst, fun_ext}
 use Rattle.std.specs.Prelude.{◌&&◌, is_some, option_and_then, slice_get}
@@ -19,7 +19,9 @@ use Rattle.attr_table.proofs.ForCallers.{OneTable-of}
 use Rattle.gix_attributes.specs.Contents.{Content, Wanted, has_number, is_wanted, wanted_of}
 use Rattle.attr_search.specs.ListView.{Listed, rest_for}
 use Rattle.attr_search.specs.Settings.{gives, line_of, lines_of, origin_in, setting_of}
-use Rattle.attr_search.specs.Slots.{Matched, slots_of, table_answer, table_items}
+use Rattle.attr_search.specs.Slots.{Matched, is_needed, slots_of, table_answer, table_items}
+use Rattle.attr_table.specs.Skipped.{narrowed}
+use Rattle.attr_table.proofs.ForCallers.{narrowed_all}
 
 -- empty slots have no answers
 abbrev no_slot : {X : Type 0} → X → Option Matched
@@ -32,6 +34,18 @@ empty_at (x ∷ xs) (suc a) = empty_at xs a
 
 pub nothing_in : {X : Type 0} (xs : List X) → slots_of (map no_slot xs) ≡ no_answers
 nothing_in xs = fun_ext (λ a. ap (option_map (table_answer a)) (empty_at xs a))
+
+-- where all are needed, slots are seen as they are
+pub all_are_needed : (flags : List Bool) (n : ℕ) → flags ≡ replicate n true → (a : ℕ) → is_needed flags a ≡ true
+all_are_needed flags n e a = ap (λ l. is_needed l a) e ∙ each n a
+  where
+    each : (n a : ℕ) → is_needed (replicate n true) a ≡ true
+    each zero a = refl
+    each (suc n) zero = refl
+    each (suc n) (suc a) = each n a
+
+pub all_seen : (flags : List Bool) (n : ℕ) (slots : Slots) → flags ≡ replicate n true → narrowed (is_needed flags) slots ≡ slots
+all_seen flags n slots e = narrowed_all (is_needed flags) slots (all_are_needed flags n e)
 
 -- what a filter lets through is in what it leaves
 in_rest : {X : Type 0} (b : Bool) (y x : X) (zs : List X) → Contains zs x → Contains (cond b (y ∷ zs) zs) x

@@ -15,7 +15,9 @@ use Rattle.gix_attributes.specs.ContentView.{outcome_view}
 use Rattle.gix_attributes.specs.Contents.{Content, reset_content, is_wanted, wanted_of}
 use Rattle.gix_attributes.specs.inner.Consistency.{flags_of}
 use Rattle.gix_attributes.specs.Selection.{selection_view}
-use Rattle.attr_search.specs.Slots.{Matched}
+use Rattle.attr_search.specs.Slots.{Matched, is_needed, slots_of}
+use Rattle.attr_table.specs.Skipped.{narrowed}
+use Rattle.attr_table.specs.Table.{Slots}
 use Rattle.attr_lists.specs.declared.types.TrackedAssignment.{TrackedAssignment}
 use Rattle.gix_attributes.specs.declared.search.outcome.Outcome.TheInside.{Inside}
 use Rattle.gix_attributes.proofs.OutcomeLemmas.{same_empty, wanted_by_flags}
@@ -25,42 +27,61 @@ pub as_seen : (o : Inside) (held : Content) (lists searched : List IndexedList) 
     (is_dir : Option Bool) →
     outcome_view o ≡ held → o.state.wanted ≡ flags_of (selection_view o.selected.items) (length o.state.answers) → searched ≡ lists →
     bstr_bytes query.path ≡ path → query.case ≡ case → query.is_dir ≡ is_dir →
-    (P : List Listed → List (List TrackedAssignment) → List ℕ → List (Option Matched) → List ℕ → Case → Option Bool → Type 0) →
-    P (lists_view searched) o.state.bodies (wanted_numbers o.state.wanted) o.state.answers (bstr_bytes query.path) query.case query.is_dir →
-    P (lists_view lists) held.bodies (wanted_of held) held.slots path case is_dir
+    (P : List Listed → List (List TrackedAssignment) → List ℕ → List Bool → List (Option Matched) → List ℕ → Case → Option Bool → Type 0) →
+    P (lists_view searched) o.state.bodies (wanted_numbers o.state.wanted) o.state.needed o.state.answers
+    (bstr_bytes query.path) query.case query.is_dir →
+    P (lists_view lists) held.bodies (wanted_of held) held.needed held.slots path case is_dir
 as_seen o held lists searched query path case is_dir view wanted e p c d P known =
     let w : wanted_numbers o.state.wanted ≡ wanted_of (outcome_view o) =
     ap wanted_numbers wanted ∙ wanted_by_flags (is_wanted (selection_view o.selected.items)) (length o.state.answers) in
-    subst (λ h. P (lists_view lists) h.bodies (wanted_of h) h.slots path case is_dir) view
-    (subst (λ ws. P (lists_view lists) o.state.bodies ws o.state.answers path case is_dir) w
-    (subst (λ ls. P (lists_view ls) o.state.bodies (wanted_numbers o.state.wanted) o.state.answers path case is_dir) e
-    (subst (λ q. P (lists_view searched) o.state.bodies (wanted_numbers o.state.wanted) o.state.answers q case is_dir) p
-    (subst (λ k. P (lists_view searched) o.state.bodies (wanted_numbers o.state.wanted) o.state.answers (bstr_bytes query.path) k is_dir) c
-    (subst (λ f. P (lists_view searched) o.state.bodies (wanted_numbers o.state.wanted) o.state.answers (bstr_bytes query.path) query.case f) d
+    subst (λ h. P (lists_view lists) h.bodies (wanted_of h) h.needed h.slots path case is_dir) view
+    (subst (λ ws. P (lists_view lists) o.state.bodies ws o.state.needed o.state.answers path case is_dir) w
+    (subst (λ ls. P (lists_view ls) o.state.bodies (wanted_numbers o.state.wanted) o.state.needed o.state.answers path case is_dir) e
+    (subst (λ q. P (lists_view searched) o.state.bodies (wanted_numbers o.state.wanted) o.state.needed o.state.answers q case is_dir) p
+    (subst (λ k. P (lists_view searched) o.state.bodies (wanted_numbers o.state.wanted) o.state.needed o.state.answers
+    (bstr_bytes query.path) k is_dir) c
+    (subst (λ f. P (lists_view searched) o.state.bodies (wanted_numbers o.state.wanted) o.state.needed o.state.answers
+    (bstr_bytes query.path) query.case f) d
     known)))))
+
+-- the slots of a state as the table has them
+abbrev pub slots_seen : SearchContents → Slots
+slots_seen state = narrowed (is_needed state.needed) (slots_of state.answers)
 
 -- an outcome with this state of a search
 abbrev pub with_state : Content → SearchContents → Content
 with_state held state =
-    record held { slots = state.answers; bodies = state.bodies; kept = state.kept; taken = state.taken; tested = state.tested }
+    record held
+    { slots = state.answers; bodies = state.bodies; needed = state.needed; kept = state.kept; taken = state.taken; tested = state.tested }
 
 -- with the same state it is the same outcome
 pub same_state : (o : Inside) (state : SearchContents) → state ≡ o.state → with_state (outcome_view o) state ≡ outcome_view o
 same_state o state e = ap (with_state (outcome_view o)) e
 
--- with the same bodies it differs in its answers and counts
-pub same_bodies : (o : Inside) (state : SearchContents) → state.bodies ≡ o.state.bodies →
+-- with the same bodies, if the same is needed, it differs in its answers and counts
+pub same_bodies : (o : Inside) (state : SearchContents) → state.bodies ≡ o.state.bodies → state.needed ≡ o.state.needed →
     with_state (outcome_view o) state
     ≡ record (outcome_view o) { slots = state.answers; kept = state.kept; taken = state.taken; tested = state.tested }
-same_bodies o state e =
-    ap (λ bs. record (outcome_view o) { slots = state.answers; bodies = bs; kept = state.kept; taken = state.taken; tested = state.tested }) e
+same_bodies o state e f =
+    let Held : List (List TrackedAssignment) → List Bool → Content = λ bodies needed. record (outcome_view o)
+    { slots = state.answers; bodies = bodies; needed = needed; kept = state.kept; taken = state.taken; tested = state.tested } in
+    ap (λ bodies. Held bodies state.needed) e ∙ ap (Held o.state.bodies) f
 
 -- what is left of an outcome that is reset does not depend on its answers
-pub emptied_alike : (o : Inside) (state : SearchContents) → state.bodies ≡ o.state.bodies → length state.answers ≡ length o.state.answers →
+pub emptied_alike : (o : Inside) (state : SearchContents) → state.bodies ≡ o.state.bodies → state.needed ≡ o.state.needed →
+    length state.answers ≡ length o.state.answers →
     reset_content (with_state (outcome_view o) state) ≡ reset_content (outcome_view o)
-emptied_alike o state same e =
-    ap (λ bs. record (outcome_view o)
-    { is_initialized = true; slots = map (λ slot. None) state.answers; bodies = bs; kept = 0; taken = 0; tested = 0 }) same
+emptied_alike o state same f e =
+    let Emptied : List (List TrackedAssignment) → List Bool → Content = λ bodies needed. record (outcome_view o) {
+      is_initialized = true;
+      slots = map (λ slot. None) state.answers;
+      bodies = bodies;
+      needed = needed;
+      kept = 0;
+      taken = 0;
+      tested = 0;
+    } in
+    ap (λ bodies. Emptied bodies state.needed) same ∙ ap (Emptied o.state.bodies) f
     ∙ ap (λ slots. record (outcome_view o) { is_initialized = true; slots = slots; kept = 0; taken = 0; tested = 0 })
     (same_empty None state.answers o.state.answers e)
 

@@ -9,6 +9,7 @@ outcome_view o =
       is_initialized = o.is_initialized;
       slots = o.state.answers;
       bodies = o.state.bodies;
+      needed = o.state.needed;
       selection = selection_view o.selected.items;
       kept = o.state.kept;
       taken = o.state.taken;

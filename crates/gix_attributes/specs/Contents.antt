@@ -1,6 +1,6 @@
 -- The contents of an outcome: its slots, what it reports of them, and what initialising it leaves (own; what an unspecified
 -- attribute is: the gitattributes page).
-use Rattle.std.specs.Prelude.{◌≡◌, ℕ, ◌≤◌, Bool, true, false, ◌==◌, ◌||◌, List, [], drop, map, length, filter, is_some, slice_index_or, codes}
+use Rattle.std.specs.Prelude.{◌≡◌, ℕ, ◌≤◌, Bool, true, false, ◌==◌, ◌||◌, List, [], drop, map, length, filter, replicate, is_some, slice_index_or, codes}
 use Rattle.std.specs.Prelude.{Option, None, unwrap_or, option_map, option_and_then, if◌then◌else◌}
 use Rattle.std.specs.List.{list_any, filter_map, range_with_len}
 use Rattle.attr_text.specs.Names.{is_valid_name}
@@ -16,13 +16,14 @@ pub record Wanted : Type 0 where
   pub name : List ℕ
   pub number : Option ℕ
 
--- Whether the outcome was initialised, the match of each attribute and its body as a macro, by number, the names that are
--- selected, how many lines and assignments are kept for the matches, and how many items the last search took and how many
--- patterns it tested.
+-- Whether the outcome was initialised, the match of each attribute, its body as a macro, and whether it is needed, by number, the
+-- names that are selected, how many lines and assignments are kept for the matches, and how many items the last search took and how
+-- many patterns it tested. All attributes are needed but in an engine's outcome: a search skips the others.
 pub record Content : Type 0 where
   pub is_initialized : Bool
   pub slots : List (Option Matched)
   pub bodies : List (List TrackedAssignment)
+  pub needed : List Bool
   pub selection : List Wanted
   pub kept : ℕ
   pub taken : ℕ
@@ -30,7 +31,7 @@ pub record Content : Type 0 where
 
 -- a new outcome
 abbrev pub empty_content : Content
-empty_content = record { is_initialized = false; slots = []; bodies = []; selection = []; kept = 0; taken = 0; tested = 0 }
+empty_content = record { is_initialized = false; slots = []; bodies = []; needed = []; selection = []; kept = 0; taken = 0; tested = 0 }
 
 -- the selected name has this number
 abbrev pub has_number : ℕ → Wanted → Bool
@@ -62,6 +63,7 @@ initial_content known selected =
       is_initialized = true;
       slots = map (λ name. None) known.names;
       bodies = bodies_of known;
+      needed = replicate (length known.names) true;
       selection = looked_up known.names selected;
       kept = 0;
       taken = 0;

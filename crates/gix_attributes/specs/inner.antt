@@ -6,3 +6,4 @@ pub mod HeldLists
 pub mod MissingFiles
 pub mod Registering
 pub mod SoundEngines
+pub mod Needed

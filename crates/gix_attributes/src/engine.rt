@@ -18,7 +18,8 @@ ghost use Rattle.gix_attributes.specs.EngineStates.{AnswersTo, FindsFor, number_
 ghost use Rattle.gix_attributes.specs.EngineView.{addition_view, below_view, state_by, started};
 ghost use Rattle.gix_attributes.specs.Registration.{RegistersAlone};
 ghost use Rattle.gix_attributes.specs.inner.SoundEngines.{IsCurrentFor, last_lines};
-ghost use Rattle.gix_attributes.specs.Contents.{initial_content, names_selected};
+ghost use Rattle.gix_attributes.specs.Contents.{names_selected};
+ghost use Rattle.gix_attributes.specs.inner.Needed.{IsNarrowed};
 ghost use Rattle.attr_lists.specs.shared.MacroNumbers.{defines_macros};
 ghost use Rattle.attr_search.specs.Matches.{match_view};
 ghost use Rattle.attr_glob.specs.Views.{base_bytes};
@@ -245,7 +246,7 @@ impl Engine {
         ensures refused { OnErr result (self.new ≡ self.old) }
     {
         self.outcome
-            .initialize_with_selection(alloc, &self.collection, names)?;
+            .select_narrowed(alloc, &self.collection, names)?;
         self.is_current = true;
         self.has_answers = false;
         Ok(())
@@ -323,8 +324,8 @@ impl Engine {
     /// attribute that a line sets to unspecified (`!x`) has an answer, and one that no line assigns has none.
     ///
     /// Without a selection it is there for each attribute that has one, and otherwise for the selected names and for each macro
-    /// that is the cause of an answer, of its cause's, and so on. For other attributes it may be missing, since a search stops
-    /// once the selected names have answers.
+    /// that is the cause of an answer, of its cause's, and so on. For other attributes it may be missing, since a search skips
+    /// those that no selected name depends on, and stops once the selected names have answers.
     pub fn found(&self, id: AttributeId) -> Option<Match<'_>>
         ensures { option_map match_view result ≡ slice_index_or self.now.found id.0 None }
     {
@@ -393,13 +394,13 @@ fn prepare(
     collection: &MetadataCollection,
 ) -> Result<(), AllocError>
     requires { is_current ≡ true → IsCurrentFor collection.now outcome.old }
-    ensures ready { OnOk result (outcome.new
-        ≡ initial_content collection.now (names_selected outcome.old.selection)) }
+    ensures ready { OnOk result (IsNarrowed
+        collection.now (names_selected outcome.old.selection) outcome.new) }
     ensures refused { OnErr result (outcome.new ≡ outcome.old) }
 {
     if is_current {
         outcome.reset();
         return Ok(());
     }
-    outcome.initialize(alloc, collection)
+    outcome.initialize_narrowed(alloc, collection)
 }

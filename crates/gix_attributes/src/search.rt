@@ -5,6 +5,7 @@
 //! - `collection`: [`MetadataCollection`], the names of attributes by number, with the bodies of macros.
 //! - `outcome`: [`Outcome`], which a search fills.
 //! - `selection`, `selected_name`: the names that an outcome looks for.
+//! - `needed`: the attributes that their answers depend on.
 //! - `matches`: [`Matches`] and [`Selected`], the iterators over an outcome.
 //! - [`laws`]: facts of all searches.
 
@@ -13,6 +14,7 @@ mod collection;
 mod files;
 pub mod laws;
 mod matches;
+mod needed;
 mod outcome;
 mod selected_name;
 mod selection;

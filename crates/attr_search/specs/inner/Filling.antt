@@ -4,15 +4,15 @@ use Rattle.attr_lists.specs.declared.types.TrackedAssignment.{TrackedAssignment}
 use Rattle.attr_table.specs.Table.{Slots}
 use Rattle.attr_table.specs.Cut.{is_done}
 use Rattle.attr_table.specs.shared.Walk.{Task, Searches, left_in}
+use Rattle.attr_search.specs.Slots.{SkipsSlots}
 use Rattle.attr_search.specs.declared.matching_line.MatchingLine.{MatchingLine}
 use Rattle.attr_search.specs.declared.pending_item.PendingItem.{PendingItem}
 use Rattle.attr_search.specs.declared.slot_filler.SlotFiller.{SlotFiller}
 use Rattle.attr_search.specs.Settings.{BodiesAreNamed, HaveSlots, HeldAreNamed}
 use Rattle.attr_lists.specs.Numbers.{AreNamed}
 use Rattle.attr_search.specs.shared.Slotted.{BodiesHaveSlots}
-use Rattle.attr_search.specs.Slots.{slots_of}
 use Rattle.attr_search.specs.inner.Pending.{IsPlaced, line_origin, pending_tasks, table_bodies, task_of}
-use Rattle.attr_search.specs.shared.SlotContents.{wanted_numbers}
+use Rattle.attr_search.specs.shared.SlotContents.{open_slots, wanted_numbers}
 
 -- there is a body for each slot, and each item of a body has a slot
 pub record BodiesFit (slots : ℕ) (bodies : List (List TrackedAssignment)) : Type 0 where
@@ -33,8 +33,10 @@ pub record AtLine (line : MatchingLine) (filler : SlotFiller) : Type 0 where
 -- what filling leaves as it is
 pub record KeepsFiller (before after : SlotFiller) : Type 0 where
   pub wanted : after.slots.wanted ≡ before.slots.wanted
+  pub needed : after.slots.needed ≡ before.slots.needed
   pub len : length after.slots.answers ≡ length before.slots.answers
   pub bodies : after.slots.bodies ≡ before.slots.bodies
+  pub skipped : SkipsSlots before.slots.needed before.slots.answers after.slots.answers
 
 -- answers have the names of their numbers, if the items and the answers before have them
 abbrev pub FillsNamed : List TrackedAssignment → SlotFiller → SlotFiller → Type 0
@@ -50,7 +52,7 @@ abbrev pub item_task : MatchingLine → List (List TrackedAssignment) → Pendin
 item_task line bodies w = task_of (line_origin line) line.items.now bodies w
 
 abbrev pub filler_slots : SlotFiller → Slots
-filler_slots filler = slots_of filler.slots.answers
+filler_slots filler = open_slots filler.slots
 
 -- some tasks were gone through
 abbrev pub Fills : List Task → SlotFiller → SlotFiller → Type 0

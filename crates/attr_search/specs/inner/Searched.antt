@@ -4,6 +4,7 @@ use Rattle.std.specs.List.{flat_map, list_any}
 use Rattle.bstr.specs.BStr.{bstr_bytes}
 use Rattle.attr_lists.specs.declared.types.TrackedAssignment.{TrackedAssignment}
 use Rattle.attr_table.specs.Setting.{Item, Setting}
+use Rattle.attr_table.specs.Skipped.{narrowed}
 use Rattle.attr_table.specs.Table.{IsStable, Slots, Table}
 use Rattle.attr_table.specs.shared.Walk.{Searches, Task, list_tasks, tasks_of}
 use Rattle.attr_search.specs.declared.path_query.PathQuery.{PathQuery}
@@ -11,14 +12,15 @@ use Rattle.attr_search.specs.ListView.{Listed}
 use Rattle.attr_search.specs.Roots.{RootsAtMost}
 use Rattle.attr_search.specs.SearchContents.{SearchContents}
 use Rattle.attr_search.specs.Settings.{BodiesAreNamed, HeldAreNamed, LinesAreNamed, ListsAreNamed, candidate_lines, setting_of}
-use Rattle.attr_search.specs.Slots.{slots_of, table_items}
+use Rattle.attr_search.specs.Slots.{SkipsSlots, is_needed, slots_of, table_items}
 use Rattle.attr_search.specs.inner.Lines.{all_lines, place_tasks, query_lines}
 use Rattle.attr_search.specs.inner.Rounds.{Rounds, list_rounds, rounds_of}
 use Rattle.attr_search.specs.shared.SlotContents.{wanted_numbers}
 
--- the answers as the table's slots, the numbers that are looked for, and the bodies as the table knows them
+-- the table's slots, of which those that are not needed count as filled, the numbers that are looked for, and the bodies as the table
+-- knows them
 abbrev pub state_slots : SearchContents → Slots
-state_slots state = slots_of state.answers
+state_slots state = narrowed (is_needed state.needed) (slots_of state.answers)
 
 abbrev pub state_wanted : SearchContents → List ℕ
 state_wanted state = wanted_numbers state.wanted
@@ -41,8 +43,10 @@ has_free_item state items = list_any (λ i. is_none (state_slots state i.id.0)) 
 -- what a search leaves as it is
 pub record KeepsState (before after : SearchContents) : Type 0 where
   pub wanted : after.wanted ≡ before.wanted
+  pub needed : after.needed ≡ before.needed
   pub bodies : after.bodies ≡ before.bodies
   pub len : length after.answers ≡ length before.answers
+  pub skipped : SkipsSlots before.needed before.answers after.answers
 
 -- a part of a search was done: it went through some tasks, and through some lines one by one
 pub record Searched (tasks : List Task) (lines : List (List Task)) (before after : SearchContents) : Type 0 where

@@ -1,9 +1,9 @@
 -- The answers in slots and the bodies, that the places they refer to are in use, and that the numbers of filled slots are listed (own).
-use Rattle.std.specs.Prelude.{◌≡◌, ⊤, ◌<◌, ◌≤◌, ◌+◌, length, MatchOption, option_map}
-use Rattle.std.specs.Prelude.{true}
+use Rattle.std.specs.Prelude.{◌≡◌, ⊤, ℕ, ◌<◌, ◌≤◌, ◌+◌, ◌&&◌, Bool, true, false, List, length, All, Option, None, is_none, MatchOption, option_map}
+use Rattle.std.specs.Prelude.{slice_index_or}
 use Rattle.std.specs.List.Sorted.{IsNonDecreasing}
 use Rattle.attr_search.specs.Slots.{filled_in}
-use Rattle.attr_search.specs.shared.SlotContents.{AreListed, SlotContents, count_remaining}
+use Rattle.attr_search.specs.shared.SlotContents.{AreFlagsAmong, AreListed, SlotContents, count_remaining}
 use Rattle.attr_search.specs.inner.AnswerRefs.{AreMatchRefs, line_by_ref, matches_by_ref}
 use Rattle.attr_search.specs.declared.slots.AnswerSlots.TheInside.{Inside}
 
@@ -12,13 +12,28 @@ slots_view b =
     record {
       answers = matches_by_ref b.parts b.slots.items;
       wanted = b.wanted;
+      needed = b.needed;
       line = option_map (line_by_ref b.parts) b.parts.line;
       bodies = b.parts.bodies;
       kept = length b.parts.lines + length b.parts.assignments;
     }
 
+-- each of some numbers is needed
+abbrev pub AllAreNeeded : List Bool → List ℕ → Type 0
+AllAreNeeded needed numbers = All (λ number. slice_index_or needed number false ≡ true) numbers
+
+-- the slots that are needed and have no answer are open, and no others
+abbrev pub AreOpen : {X : Type 0} → List Bool → List (Option X) → List Bool → Type 0
+AreOpen needed slots is_open =
+    (length is_open ≡ length slots) × ((number : ℕ) →
+    slice_index_or is_open number false ≡ (slice_index_or needed number false && is_none (slice_index_or slots number None)))
+
 pub record AreSoundSlots (b : Inside) : Type 0 where
   pub same_length : length b.wanted ≡ length b.slots.items
+  pub needed_length : length b.needed ≡ length b.slots.items
+  pub among : AreFlagsAmong b.wanted b.needed
+  pub opened : AreOpen b.needed b.slots.items b.is_open.items
+  pub filled_needed : AllAreNeeded b.needed b.filled.items
   pub within : AreMatchRefs b.parts b.slots.items
   pub line : MatchOption b.parts.line ⊤ (λ l. l < length b.parts.lines)
   pub counted : b.remaining ≡ count_remaining b.wanted b.slots.items

@@ -1,22 +1,34 @@
 -- What a search fills (own).
-use Rattle.std.specs.Prelude.{◌≡◌, ℕ, suc, ◌+◌, ◌<◌, nat_eq, Bool, false, cond, List, [], ◌∷◌, length, map, sum_by, slice_index_or, All, Option, None, is_none, ◌&&◌}
+use Rattle.std.specs.Prelude.{◌≡◌, ℕ, suc, ◌+◌, ◌<◌, nat_eq, Bool, true, false, cond, List, [], ◌∷◌, length, map, sum_by, slice_index_or, All, Option, None, is_none, ◌&&◌}
 use Rattle.std.specs.List.{list_any}
 use Rattle.attr_lists.specs.declared.types.TrackedAssignment.{TrackedAssignment}
 use Rattle.attr_table.specs.Setting.{Origin}
-use Rattle.attr_search.specs.Slots.{Matched}
+use Rattle.attr_table.specs.Skipped.{narrowed}
+use Rattle.attr_table.specs.Table.{Slots}
+use Rattle.attr_search.specs.Slots.{Matched, is_needed, slots_of}
 
--- the answers by number, which numbers are wanted, the line at hand if it has answered, the bodies by number, and how many lines
--- and assignments are kept for the answers
+-- the answers by number, which numbers are wanted and which are needed, the line at hand if it has answered, the bodies by number,
+-- and how many lines and assignments are kept for the answers
 pub record SlotContents : Type 0 where
   pub answers : List (Option Matched)
   pub wanted : List Bool
+  pub needed : List Bool
   pub line : Option Origin
   pub bodies : List (List TrackedAssignment)
   pub kept : ℕ
 
 -- empty slots, of which some are wanted, with bodies
-abbrev pub empty_slots : List Bool → List (List TrackedAssignment) → SlotContents
-empty_slots wanted bodies = record { answers = map (λ w. None) wanted; wanted = wanted; line = None; bodies = bodies; kept = 0 }
+abbrev pub empty_slots : List Bool → List Bool → List (List TrackedAssignment) → SlotContents
+empty_slots wanted needed bodies =
+    record { answers = map (λ w. None) wanted; wanted = wanted; needed = needed; line = None; bodies = bodies; kept = 0 }
+
+-- the table's slots: those that are not needed count as filled
+abbrev pub open_slots : SlotContents → Slots
+open_slots b = narrowed (is_needed b.needed) (slots_of b.answers)
+
+-- each number whose flag is set here has its flag set there
+abbrev pub AreFlagsAmong : List Bool → List Bool → Type 0
+AreFlagsAmong some others = (number : ℕ) → slice_index_or some number false ≡ true → slice_index_or others number false ≡ true
 
 -- the numbers that are wanted
 abbrev pub wanted_numbers : List Bool → List ℕ

@@ -4,12 +4,13 @@ use Rattle.std.specs.Prelude.{option_map, slice_get, slice_index_or, unwrap_or}
 use Rattle.attr_search.specs.ListView.{Listed}
 use Rattle.attr_lists.specs.Collections.{Collection}
 use Rattle.attr_lists.specs.ListViews.{Entry}
-use Rattle.gix_attributes.specs.Contents.{Content, found_in, initial_content, looked_up, names_selected, reset_content}
+use Rattle.gix_attributes.specs.Contents.{Content, found_in, looked_up, names_selected, reset_content}
 use Rattle.gix_attributes.specs.SearchViews.{Holds, list_ids_in, lists_in}
 use Rattle.attr_search.specs.Settings.{HeldAreNamed}
 use Rattle.attr_search.specs.Slots.{Matched}
 use Rattle.gix_attributes.specs.EngineStates.{is_specified, specified_among}
 use Rattle.gix_attributes.specs.Registration.{RegistersAlone}
+use Rattle.gix_attributes.specs.inner.Needed.{IsNarrowed}
 use Rattle.gix_attributes.specs.declared.engine.Engine.TheInside.{Inside}
 
 -- the slots with these numbers have these matches
@@ -32,7 +33,7 @@ last_lines lists = unwrap_or (option_map (λ list. list.lines) (slice_get lists 
 
 -- a reset leaves the outcome as it is initialised with the collection
 abbrev pub IsCurrentFor : Collection → Content → Type 0
-IsCurrentFor known held = reset_content held ≡ initial_content known (names_selected held.selection)
+IsCurrentFor known held = IsNarrowed known (names_selected held.selection) (reset_content held)
 
 -- an outcome has the numbers of the selected names, and each answer has the name of its number
 pub record IsOfNames (names : List (List ℕ)) (held : Content) : Type 0 where

@@ -1,23 +1,25 @@
 //! What searches find.
 
 ghost use Rattle.std.specs.Prelude.{◌≡◌, ◌↔◌, ◌<◌, ◌≤◌, ◌*◌, [], All, None, IfOk, IsTrue, MatchOption, OnErr, OnOk, true, drop, length, map, option_and_then, option_map, slice_get, slice_index_or};
-ghost use Rattle.attr_table.specs.Cut.{is_done};
 ghost use Rattle.attr_glob.specs.Views.{pattern_view};
 ghost use Rattle.attr_lists.specs.ListViews.{entry_view};
 ghost use Rattle.gix_attributes.specs.Contents.{IsCurrent, IsNextFound, reset_content, found_in, initial_content, looked_up, names_selected, empty_content, selected_answer, selected_in, wanted_of};
 ghost use Rattle.gix_attributes.specs.inner.Consistency.{flags_of, nothing_wanted};
+ghost use Rattle.gix_attributes.specs.Searching.{is_complete};
+ghost use Rattle.gix_attributes.specs.inner.Needed.{IsNarrowed};
+ghost use Rattle.attr_search.specs.shared.SlotContents.{AreFlagsAmong};
 ghost use Rattle.gix_attributes.specs.Covered.{AreCovered, IsCovered, ListsAreCovered};
 ghost use Rattle.attr_search.specs.IndexedLists.{listed_view};
 ghost use Rattle.gix_attributes.specs.SearchViews.{lists_in};
 ghost use Rattle.attr_search.specs.Settings.{HaveSlots};
 ghost use Rattle.attr_search.specs.Matches.{match_view};
 ghost use Rattle.gix_attributes.specs.Selection.{selection_view};
-ghost use Rattle.attr_search.specs.Slots.{slots_of};
 ghost use Rattle.attr_search.specs.Matches.{no_pattern};
 
 use crate::Search;
 use crate::search::collection::MetadataCollection;
 use crate::search::matches::{Matches, Selected, unspecified};
+use crate::search::needed::needed;
 use crate::search::selected_name::SelectedName;
 use crate::search::{AttributeId, Match, TrackedAssignment, Value, selection};
 use attr_glob::Pattern;
@@ -25,6 +27,7 @@ use attr_glob::pattern::Mode;
 use attr_glob::search::pattern::Mapping;
 use attr_search::indexed_list::IndexedList;
 use attr_search::search_state::SearchState;
+use attr_search::wanted::WantedFlags;
 use attr_text::AssignmentRef;
 use bitflags::Flags;
 use std::alloc::{AllocError, Global};
@@ -104,7 +107,8 @@ impl Outcome {
         ensures refused { OnErr result (self.new ≡ self.old) }
     {
         let selected = selection::look_up_again(alloc, collection, &self.selected)?;
-        self.set_up(alloc, collection, selected)
+        let needed = WantedFlags::all_or_none(alloc, collection.len(), true);
+        self.set_up(alloc, collection, selected, needed)
     }
 
     /// Selects the attributes that are looked for, and initialises the outcome. No names select all attributes.
@@ -125,7 +129,47 @@ impl Outcome {
         ensures refused { OnErr result (self.new ≡ self.old) }
     {
         let selected = selection::look_up(alloc, collection, attribute_names)?;
-        self.set_up(alloc, collection, selected)
+        let needed = WantedFlags::all_or_none(alloc, collection.len(), true);
+        self.set_up(alloc, collection, selected, needed)
+    }
+
+    /// The same as [`Outcome::initialize`], but searches skip what the selected names don't depend on.
+    ///
+    /// # Errors
+    ///
+    /// If memory runs out. Nothing changes then.
+    pub(crate) fn initialize_narrowed(
+        &mut self,
+        alloc: Global,
+        collection: &MetadataCollection,
+    ) -> Result<(), AllocError>
+        ensures ok { OnOk result (IsNarrowed
+            collection.now (names_selected self.old.selection) self.new) }
+        ensures refused { OnErr result (self.new ≡ self.old) }
+    {
+        let again = selection::look_up_again(alloc, collection, &self.selected)?;
+        let needed = needed(alloc, collection, &again)?;
+        self.set_up(alloc, collection, again, needed)
+    }
+
+    /// The same as [`Outcome::initialize_with_selection`], but searches skip what the selected names don't depend on.
+    ///
+    /// # Errors
+    ///
+    /// If memory runs out. Nothing changes then.
+    pub(crate) fn select_narrowed(
+        &mut self,
+        alloc: Global,
+        collection: &MetadataCollection,
+        names: &[&str],
+    ) -> Result<(), AllocError>
+        ensures ok { OnOk result (IsNarrowed
+            collection.now (map (λ name. name.now) names.now) self.new) }
+        ensures refused { OnErr result (self.new ≡ self.old) }
+    {
+        let selected = selection::look_up(alloc, collection, names)?;
+        let needed = needed(alloc, collection, &selected)?;
+        self.set_up(alloc, collection, selected, needed)
     }
 
     // What takes memory comes first, so that nothing has changed if it is refused.
@@ -134,11 +178,16 @@ impl Outcome {
         alloc: Global,
         collection: &MetadataCollection,
         selected: Vec<SelectedName>,
+        needed: WantedFlags,
     ) -> Result<(), AllocError>
-        requires { selection_view selected.items
+        requires selected { selection_view selected.items
             ≡ looked_up collection.now.names (names_selected (selection_view selected.items)) }
+        requires needed { length needed ≡ length collection.now.names }
+        requires among { AreFlagsAmong
+            (flags_of (selection_view selected.items) (length collection.now.names)) needed }
         ensures ok { OnOk result (self.new
-            ≡ initial_content collection.now (names_selected (selection_view selected.items))) }
+            ≡ (let texts = names_selected (selection_view selected.items) in
+            record (initial_content collection.now texts) { needed = needed })) }
         ensures refused { OnErr result (self.new ≡ self.old) }
     {
         let wanted = selection::flags(alloc, &selected, collection.len())?;
@@ -149,7 +198,7 @@ impl Outcome {
             &self.macros,
             collection,
         )?;
-        self.state.set_up(alloc, wanted, changes)?;
+        self.state.set_up(alloc, wanted, needed, changes)?;
         self.macros = macros;
         self.selected = selected;
         self.is_initialized = true;
@@ -220,7 +269,7 @@ impl Outcome {
     /// Whether each attribute that is looked for has an answer. A search of such an outcome changes nothing.
     pub fn is_done(&self) -> bool
         requires { IsTrue self.now.is_initialized }
-        ensures { result ≡ is_done (wanted_of self.now) (slots_of self.now.slots) }
+        ensures { result ≡ is_complete self.now }
     {
         self.state.is_done()
     }

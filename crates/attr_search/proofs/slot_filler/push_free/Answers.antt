@@ -1,5 +1,5 @@
 use Rattle.std.proofs.Common.{ap, ◌∙◌}
-use Rattle.attr_search.specs.Slots.{slots_of}
+use Rattle.attr_search.specs.shared.SlotContents.{open_slots}
 use Rattle.attr_search.proofs.FillingLemmas.{pushed_more, pushed_same, placed_push}
 use Rattle.attr_search.proofs.slot_filler.push_free.Goals as goal
 use Rattle.attr_search.proofs.slot_filler.push_free.Goals.{then-is_free+in_ok-push, else-is_free}
@@ -11,7 +11,7 @@ loop-place-preserved c =
           let same = ap (λ v. v.items) w.stack-is ∙ w.in_ok-push.ensures.items in
           record {
             pushed = λ origin line bodies source.
-                pushed_more origin line bodies c.args.cause c.args.items.now c.loop-place.place _ (slots_of c.args.slots.now.answers)
+                pushed_more origin line bodies c.args.cause c.args.items.now c.loop-place.place _ (open_slots c.args.slots.now)
                 c.args.stack.now.items c.loop-place.stack.items c.if-is_free.stack.items source c.loop-place-test.true
                 c.index-items-place.is w.if-is_free.ensures same (c.loop-place.invariant.pushed origin line bodies source);
             placed = λ line bodies source before.
@@ -22,7 +22,7 @@ loop-place-preserved c =
           let same = ap (λ v. v.items) w.stack-is in
           record {
             pushed = λ origin line bodies source.
-                pushed_same origin line bodies c.args.cause c.args.items.now c.loop-place.place _ (slots_of c.args.slots.now.answers)
+                pushed_same origin line bodies c.args.cause c.args.items.now c.loop-place.place _ (open_slots c.args.slots.now)
                 c.args.stack.now.items c.loop-place.stack.items c.if-is_free.stack.items c.loop-place-test.true
                 c.index-items-place.is w.if-is_free.ensures same (c.loop-place.invariant.pushed origin line bodies source);
             placed = λ line bodies source before.

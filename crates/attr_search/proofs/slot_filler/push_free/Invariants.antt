@@ -2,7 +2,8 @@ use Rattle.std.proofs.Common.{◌≡◌, ◌++◌, List, take, All}
 use Rattle.attr_lists.specs.declared.types.TrackedAssignment.{TrackedAssignment}
 use Rattle.attr_table.specs.Setting.{Origin}
 use Rattle.attr_table.specs.shared.Walk.{tasks_in, free_items}
-use Rattle.attr_search.specs.Slots.{slots_of, table_items}
+use Rattle.attr_search.specs.Slots.{table_items}
+use Rattle.attr_search.specs.shared.SlotContents.{open_slots}
 use Rattle.attr_search.specs.inner.Pending.{items_beside, IsPlaced, pending_tasks}
 use Rattle.attr_search.proofs.slot_filler.push_free.Given as goal
 
@@ -11,7 +12,7 @@ invariant-loop-place l = record {
   pushed : (origin : Origin) (line : List TrackedAssignment) (bodies : List (List TrackedAssignment)) →
       items_beside line bodies l.cause ≡ l.items →
       pending_tasks origin line bodies l.stack.items
-      ≡ tasks_in origin l.cause (free_items (slots_of l.slots.answers) (table_items (take l.place l.items)))
+      ≡ tasks_in origin l.cause (free_items (open_slots l.slots) (table_items (take l.place l.items)))
       ++ pending_tasks origin line bodies l.initial.stack.items;
   placed : (line : List TrackedAssignment) (bodies : List (List TrackedAssignment)) →
       items_beside line bodies l.cause ≡ l.items → All (IsPlaced line bodies) l.initial.stack.items →

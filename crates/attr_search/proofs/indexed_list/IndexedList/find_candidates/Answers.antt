@@ -1,11 +1,11 @@
-use Rattle.std.proofs.Common.{◌≡◌, ◌∙◌, ap, map, subst, sym}
+use Rattle.std.proofs.Common.{◌∙◌, ap, subst, sym}
 use Rattle.std.specs.Prelude.{slice_get}
 use Rattle.bstr.specs.BStr.{bstr_bytes}
 use Rattle.attr_keys.specs.shared.KeyIndexes.{IsKeyIndex}
 use Rattle.attr_keys.specs.shared.Meeting.{content_met_at}
 use Rattle.attr_glob.specs.BaseNames.{base_name}
 use Rattle.attr_glob.specs.Views.{patterns_of}
-use Rattle.attr_glob.specs.shared.LineShapes.{folds, key_of_line}
+use Rattle.attr_glob.specs.shared.LineShapes.{folds}
 use Rattle.attr_search.specs.declared.line_index.LineIndex.{LineIndex}
 use Rattle.attr_search.specs.inner.LineIndexes.{indexed_keys}
 use Rattle.attr_search.proofs.IndexedListLemmas.{keys_read}

@@ -39,7 +39,7 @@ search_lists-requires c = record { in_lists = rw c.begin_counts.ensures c.requir
 pub returns-in_err-search_lists-clause-kept : goal.returns-in_err-search_lists-clause-kept
 returns-in_err-search_lists-clause-kept c =
     let kept = rw c.begin_counts.ensures at c.search_lists.ensures.kept in
-    record { wanted = kept.wanted; bodies = kept.bodies; len = kept.len }
+    record { wanted = kept.wanted; needed = kept.needed; bodies = kept.bodies; len = kept.len; skipped = kept.skipped }
 
 pub returns-in_err-search_lists-clause-one : goal.returns-in_err-search_lists-clause-one
 returns-in_err-search_lists-clause-one c =
@@ -48,7 +48,7 @@ returns-in_err-search_lists-clause-one c =
 pub returns-clause-kept : goal.returns-clause-kept
 returns-clause-kept c =
     let kept = rw c.begin_counts.ensures at c.search_lists.ensures.kept in
-    record { wanted = kept.wanted; bodies = kept.bodies; len = kept.len }
+    record { wanted = kept.wanted; needed = kept.needed; bodies = kept.bodies; len = kept.len; skipped = kept.skipped }
 
 pub returns-clause-one : goal.returns-clause-one
 returns-clause-one c =
@@ -71,9 +71,12 @@ pub returns-clause-found : goal.returns-clause-found
 returns-clause-found c =
     let p = rw c.begin_counts.ensures at c.in_ok-search_lists.ensures.searched in
     let kept = rw c.begin_counts.ensures at c.search_lists.ensures.kept in
-    found_is (state_bodies c.args.self.now) (state_wanted c.args.self.now) _ c.args.self.now.wanted c.search_lists.new.self.wanted
-    c.args.self.now.answers c.search_lists.new.self.answers c.remaining-remaining.result c.remaining.result
-    0 c.search_lists.new.self.taken p.searches kept.len kept.wanted c.remaining-remaining.ensures c.remaining.ensures
+    let before = c.args.self.now in
+    let after = c.search_lists.new.self in
+    found_is (state_bodies before) (state_wanted before) _ before after c.remaining-remaining.result c.remaining.result 0 after.taken
+    c.remaining-remaining.ensures.among p.searches
+    (record { wanted = kept.wanted; needed = kept.needed; bodies = kept.bodies; len = kept.len; skipped = kept.skipped })
+    c.remaining-remaining.ensures.count c.remaining.ensures.count
 
 pub returns-clause-named : goal.returns-clause-named
 returns-clause-named c = rw c.begin_counts.ensures at c.in_ok-search_lists.ensures.named

@@ -2,7 +2,7 @@ use Rattle.std.proofs.Common.{refl, inl, inr, arith}
 use Rattle.std.proofs.lemmas.Result.{on_ok_weaker}
 use Rattle.bstr.specs.BStr.{bstr_bytes}
 use Rattle.attr_search.specs.IndexedLists.{listed_view}
-use Rattle.attr_search.specs.Slots.{slots_of}
+use Rattle.attr_search.specs.shared.SlotContents.{open_slots}
 use Rattle.attr_search.specs.inner.Searched.{state_bodies, state_slots, state_wanted}
 use Rattle.attr_search.specs.shared.Slotted.{index_origin}
 use Rattle.attr_search.specs.inner.SearchView.{search_view}
@@ -43,10 +43,12 @@ returns-then-not-has_free-clause-searched c =
     (inl refl) (omega arith))
 
 pub returns-in_err-matches-clause-kept : goal.returns-in_err-matches-clause-kept
-returns-in_err-matches-clause-kept c = rw (← c.self.view_is) (record { wanted = refl; bodies = refl; len = refl })
+returns-in_err-matches-clause-kept c = rw (← c.self.view_is)
+    (record { wanted = refl; needed = refl; bodies = refl; len = refl; skipped = λ a skip. refl })
 
 pub returns-then-not-branch-clause-kept : goal.returns-then-not-branch-clause-kept
-returns-then-not-branch-clause-kept c = rw (← c.self.view_is) (record { wanted = refl; bodies = refl; len = refl })
+returns-then-not-branch-clause-kept c = rw (← c.self.view_is)
+    (record { wanted = refl; needed = refl; bodies = refl; len = refl; skipped = λ a skip. refl })
 
 pub returns-then-not-branch-clause-passed : goal.returns-then-not-branch-clause-passed
 returns-then-not-branch-clause-passed c =
@@ -69,19 +71,31 @@ pub fill_attributes-requires : goal.fill_attributes-requires
 fill_attributes-requires c = record {
   can_fill =
       record {
-        bodies = c.self.invariant;
+        bodies = c.self.invariant.bodies;
         in_line = slots_at _ c.args.list.now.list.patterns.items c.args.place c.index-mapping.result.now c.in-Some.items.now c.requires.place
             c.index-mapping.ensures c.in-Some.ensures.items (rw (← c.self.view_is) at c.requires.in_lines);
       };
 }
 
 pub invariant_of-self-2 : goal.invariant_of-self-2
-invariant_of-self-2 c = still_fit c.self.inside.filler c.fill_attributes.new.self c.fill_attributes.ensures.kept c.self.invariant
+invariant_of-self-2 c =
+    let kept = c.fill_attributes.ensures.kept in
+    record {
+      bodies = still_fit c.self.inside.filler c.fill_attributes.new.self kept c.self.invariant.bodies;
+      among = rw (kept.wanted, kept.needed) c.self.invariant.among;
+    }
 
 pub returns-clause-kept : goal.returns-clause-kept
 returns-clause-kept c =
     let kept = c.fill_attributes.ensures.kept in
-    rw (← c.self.view_is) (record { wanted = kept.wanted; bodies = rw kept.bodies refl; len = kept.len })
+    rw (← c.self.view_is) (record {
+      wanted = kept.wanted;
+      needed = kept.needed;
+      bodies = rw kept.bodies refl;
+      len = kept.len;
+      skipped =
+          kept.skipped;
+    })
 
 pub returns-clause-named : goal.returns-clause-named
 returns-clause-named c =
@@ -108,7 +122,7 @@ returns-clause-searched c =
     (λ fills. line_searched c.args.rest (listed_view list) c.args.place state _
     (line_matched (state_bodies state) (state_wanted state) c.args.rest.case c.args.rest.is_dir (listed_view list).source
     (bstr_bytes c.args.rest.path) list.list.patterns.items c.args.place c.index-mapping.result.now c.in-Some.items.now (state_slots state)
-    (slots_of c.fill_attributes.new.self.slots.answers) state.taken c.fill_attributes.new.self.taken c.in_ok-matches.field-0
+    (open_slots c.fill_attributes.new.self.slots) state.taken c.fill_attributes.new.self.taken c.in_ok-matches.field-0
     (index_origin list.index.value c.args.place) c.requires.place
     c.index-mapping.ensures c.in-Some.ensures.items c.in-Some.ensures.line c.in_ok-matches.ensures c.if-not-branch.false
     (origin_is list.index.value (listed_view list).source list.list.patterns.items c.args.place c.index-mapping.result.now list.lines list.source

@@ -1,4 +1,5 @@
-use Rattle.std.proofs.Common.{◌∙◌, ap, length, refl}
+use Rattle.std.proofs.Common.{None, ◌∙◌, ap, get_or, length, refl}
+use Rattle.attr_search.specs.Slots.{is_needed}
 use Rattle.std.proofs.lemmas.List.Elements.{All-nil}
 use Rattle.std.proofs.lemmas.Result.{on_ok_weaker}
 use Rattle.attr_search.specs.inner.Filling.{filler_slots}
@@ -12,8 +13,10 @@ push_free-requires c = rw c.begin_line.ensures c.requires.can_fill.in_line
 pub returns-in_err-push_free-clause-kept : goal.returns-in_err-push_free-clause-kept
 returns-in_err-push_free-clause-kept c = record {
   wanted = ap (λ s. s.wanted) c.begin_line.ensures;
+  needed = ap (λ s. s.needed) c.begin_line.ensures;
   len = ap (λ s. length s.answers) c.begin_line.ensures;
   bodies = ap (λ s. s.bodies) c.begin_line.ensures;
+  skipped = λ a skip. ap (λ s. get_or s.answers a None) c.begin_line.ensures;
 }
 
 pub run_stack-requires : goal.run_stack-requires
@@ -36,8 +39,11 @@ run_stack-requires c =
 pub returns-clause-kept : goal.returns-clause-kept
 returns-clause-kept c = record {
   wanted = c.run_stack.ensures.kept.wanted ∙ ap (λ s. s.wanted) c.begin_line.ensures;
+  needed = c.run_stack.ensures.kept.needed ∙ ap (λ s. s.needed) c.begin_line.ensures;
   len = c.run_stack.ensures.kept.len ∙ ap (λ s. length s.answers) c.begin_line.ensures;
   bodies = c.run_stack.ensures.kept.bodies ∙ ap (λ s. s.bodies) c.begin_line.ensures;
+  skipped = λ a skip. c.run_stack.ensures.kept.skipped a (ap (λ s. is_needed s.needed a) c.begin_line.ensures ∙ skip)
+      ∙ ap (λ s. get_or s.answers a None) c.begin_line.ensures;
 }
 
 pub returns-clause-named : goal.returns-clause-named

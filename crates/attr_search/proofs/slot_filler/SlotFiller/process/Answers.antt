@@ -1,11 +1,12 @@
-use Rattle.std.proofs.Common.{◌∙◌, ap, sym, length, refl, []}
+use Rattle.std.proofs.Common.{None, ◌∙◌, ap, get_or, sym, length, refl, []}
 use Rattle.std.proofs.Math.ListN.{length-set}
 use Rattle.std.specs.Prelude.{slice_index_or}
 use Rattle.std.proofs.lemmas.Result.{on_ok_weaker}
-use Rattle.attr_search.specs.Slots.{slots_of}
+use Rattle.attr_search.specs.shared.SlotContents.{open_slots}
 use Rattle.attr_search.specs.inner.Pending.{line_origin, pending_item, table_bodies}
 use Rattle.attr_search.specs.inner.Filling.{stack_tasks}
-use Rattle.attr_search.proofs.FillingLemmas.{filled_as, has_slot, item_filled, less_closed, less_open, named_fill, step_closed, step_open, step_skip}
+use Rattle.attr_search.proofs.FillingLemmas.{filled_as, has_slot, item_opened, less_closed, less_open, named_fill, set_skips, step_closed}
+use Rattle.attr_search.proofs.FillingLemmas.{step_open, step_skip}
 use Rattle.attr_search.proofs.slot_filler.SlotFiller.process.Goals as goal
 
 pub is_free-requires : goal.is_free-requires
@@ -16,27 +17,61 @@ is_free-requires c =
     can.bodies.in_bodies c.requires.placed
     (c.item-item.ensures ∙ ap (λ bs. pending_item c.args.line.items.now bs c.args.top) c.bodies.ensures)
 
+pub fill-requires-clause-within : goal.fill-requires-clause-within
+fill-requires-clause-within c =
+    let before = c.args.self.now in
+    let can = c.requires.at_line.can_fill in
+    has_slot (length before.slots.answers) c.args.line.items.now before.slots.bodies c.args.top _ can.in_line
+    can.bodies.in_bodies c.requires.placed refl
+
 pub returns-then-not-is_free-clause-kept : goal.returns-then-not-is_free-clause-kept
-returns-then-not-is_free-clause-kept c = record { wanted = refl; len = refl; bodies = refl }
+returns-then-not-is_free-clause-kept c = record { wanted = refl; needed = refl; len = refl; bodies = refl; skipped = λ a skip. refl }
 
 pub returns-then-not-is_free-clause-processed : goal.returns-then-not-is_free-clause-processed
 returns-then-not-is_free-clause-processed c = λ undone final earlier later counted p.
     let before = c.args.self.now in
     step_skip (table_bodies before.slots.bodies) before.slots.bodies _ (line_origin c.args.line)
-    c.args.line.items.now c.args.top _ _ (slots_of before.slots.answers) final earlier before.taken later
+    c.args.line.items.now c.args.top _ _ (open_slots before.slots) final earlier before.taken later
     (c.item-item.ensures ∙ ap (λ bs. pending_item c.args.line.items.now bs c.args.top) c.bodies.ensures)
     c.if-not-is_free.ensures counted p
 
 pub returns-in_err-fill-clause-kept : goal.returns-in_err-fill-clause-kept
 returns-in_err-fill-clause-kept c =
-    record { wanted = c.fill.ensures.wanted; len = ap length c.in_err-fill.ensures.refused; bodies = c.fill.ensures.bodies }
+    record {
+      wanted = c.fill.ensures.wanted;
+      needed = c.fill.ensures.needed;
+      len = ap length c.in_err-fill.ensures.refused;
+      bodies = c.fill.ensures.bodies;
+      skipped = λ a skip. ap (λ l. get_or l a None) c.in_err-fill.ensures.refused;
+    }
 
 pub returns-then-not-is_expanded-clause-kept : goal.returns-then-not-is_expanded-clause-kept
-returns-then-not-is_expanded-clause-kept c = record {
-  wanted = c.fill.ensures.wanted;
-  len = ap length c.in_ok-fill.ensures.answers ∙ length-set c.args.self.now.slots.answers _ _;
-  bodies = c.fill.ensures.bodies;
-}
+returns-then-not-is_expanded-clause-kept c =
+    let before = c.args.self.now in
+    let is = c.item-item.ensures ∙ ap (λ bs. pending_item c.args.line.items.now bs c.args.top) c.bodies.ensures in
+    record {
+      wanted = c.fill.ensures.wanted;
+      needed = c.fill.ensures.needed;
+      len = ap length c.in_ok-fill.ensures.answers ∙ length-set before.slots.answers _ _;
+      bodies = c.fill.ensures.bodies;
+      skipped = set_skips before.slots c.fill.new.self _ _
+          (filled_as c.args.line before.slots.bodies c.args.top _ _ before.slots.answers c.fill.new.self.answers is c.in_ok-fill.ensures.answers)
+          c.if-not-is_free.ensures;
+    }
+
+pub returns-clause-kept : goal.returns-clause-kept
+returns-clause-kept c =
+    let before = c.args.self.now in
+    let is = c.item-item.ensures ∙ ap (λ bs. pending_item c.args.line.items.now bs c.args.top) c.bodies.ensures in
+    record {
+      wanted = c.fill.ensures.wanted;
+      needed = c.fill.ensures.needed;
+      len = ap length c.in_ok-fill.ensures.answers ∙ length-set before.slots.answers _ _;
+      bodies = c.fill.ensures.bodies;
+      skipped = set_skips before.slots c.fill.new.self _ _
+          (filled_as c.args.line before.slots.bodies c.args.top _ _ before.slots.answers c.fill.new.self.answers is c.in_ok-fill.ensures.answers)
+          c.if-not-is_free.ensures;
+    }
 
 pub returns-then-not-is_expanded-clause-named : goal.returns-then-not-is_expanded-clause-named
 returns-then-not-is_expanded-clause-named c = λ names line bodies.
@@ -54,8 +89,8 @@ returns-then-not-is_expanded-clause-less c =
     let can = c.requires.at_line.can_fill in
     let is = c.item-item.ensures ∙ ap (λ bs. pending_item c.args.line.items.now bs c.args.top) c.bodies.ensures in
     rw c.fill.ensures.bodies (less_closed before.slots.bodies (line_origin c.args.line) c.args.line.items.now c.args.top _
-    (slots_of before.slots.answers) (slots_of c.fill.new.self.answers) (length before.stack.items) is c.if-not-is_free.ensures
-    (item_filled c.args.line before.slots.bodies _ c.args.top _ _ _ before.slots.answers c.fill.new.self.answers is
+    (open_slots before.slots) (open_slots c.fill.new.self) (length before.stack.items) is c.if-not-is_free.ensures
+    (item_opened c.args.line before.slots.bodies _ c.args.top _ _ _ before.slots c.fill.new.self c.fill.ensures.needed c.if-not-is_free.ensures is
     (has_slot (length before.slots.answers) c.args.line.items.now before.slots.bodies c.args.top _ can.in_line
     can.bodies.in_bodies c.requires.placed is)
     (c.body_of.ensures ∙ ap (λ bs. slice_index_or bs c.item-item.result.now.id.0 []) c.bodies-2.ensures)
@@ -69,9 +104,9 @@ returns-then-not-is_expanded-clause-processed c = λ undone final earlier later 
     let is = c.item-item.ensures ∙ ap (λ bs. pending_item c.args.line.items.now bs c.args.top) c.bodies.ensures in
     step_closed before.slots.bodies _ (line_origin c.args.line) c.args.line.items.now c.args.top _
     (stack_tasks c.args.line before.slots.bodies before.stack.items)
-    (slots_of before.slots.answers) (slots_of c.fill.new.self.answers) final earlier before.taken later
+    (open_slots before.slots) (open_slots c.fill.new.self) final earlier before.taken later
     is c.if-not-is_free.ensures c.if-not-is_expanded.ensures
-    (item_filled c.args.line before.slots.bodies _ c.args.top _ _ _ before.slots.answers c.fill.new.self.answers is
+    (item_opened c.args.line before.slots.bodies _ c.args.top _ _ _ before.slots c.fill.new.self c.fill.ensures.needed c.if-not-is_free.ensures is
     (has_slot (length before.slots.answers) c.args.line.items.now before.slots.bodies c.args.top _ can.in_line
     can.bodies.in_bodies c.requires.placed is)
     (c.body_of.ensures ∙ ap (λ bs. slice_index_or bs c.item-item.result.now.id.0 []) c.bodies-2.ensures)
@@ -100,9 +135,9 @@ returns-clause-less c =
     let old = c.body_of.ensures ∙ ap (λ bs. slice_index_or bs c.item-item.result.now.id.0 []) c.bodies-2.ensures in
     rw c.fill.ensures.bodies (on_ok_weaker c.push_free.result
     (λ pushed. less_open before.slots.bodies (line_origin c.args.line) c.args.line.items.now _ c.args.top _
-    (slots_of before.slots.answers) (slots_of c.fill.new.self.answers) before.stack.items c.push_free.new.stack.items _
+    (open_slots before.slots) (open_slots c.fill.new.self) before.stack.items c.push_free.new.stack.items _
     is c.if-not-is_free.ensures
-    (item_filled c.args.line before.slots.bodies _ c.args.top _ _ _ before.slots.answers c.fill.new.self.answers is
+    (item_opened c.args.line before.slots.bodies _ c.args.top _ _ _ before.slots c.fill.new.self c.fill.ensures.needed c.if-not-is_free.ensures is
     (has_slot (length before.slots.answers) c.args.line.items.now before.slots.bodies c.args.top _ can.in_line
     can.bodies.in_bodies c.requires.placed is)
     old c.is_empty-is_macro.ensures c.kind.ensures.kind c.kind.ensures.cause
@@ -122,9 +157,9 @@ returns-clause-processed c =
     step_open before.slots.bodies _ (line_origin c.args.line) c.args.line.items.now _ c.args.top _
     (stack_tasks c.args.line before.slots.bodies before.stack.items)
     (stack_tasks c.args.line before.slots.bodies c.push_free.new.stack.items)
-    (slots_of before.slots.answers) (slots_of c.fill.new.self.answers) final earlier before.taken later
+    (open_slots before.slots) (open_slots c.fill.new.self) final earlier before.taken later
     is c.if-not-is_free.ensures c.if-not-is_expanded.ensures
-    (item_filled c.args.line before.slots.bodies _ c.args.top _ _ _ before.slots.answers c.fill.new.self.answers is
+    (item_opened c.args.line before.slots.bodies _ c.args.top _ _ _ before.slots c.fill.new.self c.fill.ensures.needed c.if-not-is_free.ensures is
     (has_slot (length before.slots.answers) c.args.line.items.now before.slots.bodies c.args.top _ can.in_line
     can.bodies.in_bodies c.requires.placed is)
     old c.is_empty-is_macro.ensures c.kind.ensures.kind c.kind.ensures.cause

@@ -1,8 +1,13 @@
-use Rattle.std.proofs.Common.{◌≡◌, ◌<◌, ◌++◌, [], ◌∷◌, length, false, get_or, option_map, is_some, None, Some, refl, set, sym, ap, ◌∙◌, arith}
+use Rattle.std.proofs.Common.{◌≡◌, ◌<◌, ◌++◌, [], ◌∷◌, length, false, true, get_or, option_map, is_some, None, Some, refl, set, sym, ap, ◌∙◌, arith}
 use Rattle.std.proofs.Math.ListN.{length-set, length-map}
 use Rattle.attr_search.specs.inner.Pending.{pending_item}
 use Rattle.attr_search.specs.inner.AnswerRefs.{match_by_ref, matches_by_ref}
-use Rattle.attr_search.specs.Slots.{slots_of}
+use Rattle.std.proofs.lemmas.List.{get_or_default}
+use Rattle.std.proofs.lemmas.List.Elements.{All-push}
+use Rattle.attr_search.specs.Slots.{is_needed, slots_of}
+use Rattle.attr_search.specs.inner.SlotsView.{slots_view}
+use Rattle.attr_search.specs.shared.SlotContents.{open_slots}
+use Rattle.attr_search.proofs.OpenLemmas.{open_filled, open_free, open_needed}
 use Rattle.attr_search.proofs.SlotLemmas.{filled_set, listed_filled, listed_more, fill_counts, line_kept, line_seen, slots_filled, matches_filled}
 use Rattle.attr_search.proofs.SlotLemmas.{item_is, seen_filled}
 use Rattle.std.proofs.lemmas.Bool.{false≢true}
@@ -17,8 +22,10 @@ overflow_sub-self c =
     let place = c.item.result.now.id.0 in
     let at = item_is c.args.line.items.now c.args.top c.item.result.now c.bodies.result.now b.parts.bodies c.args.self.now.bodies
     c.item.ensures c.bodies.ensures (ap (λ v. v.bodies) c.self.view_is) in
-    let free : is_some (get_or b.slots.items place None) ≡ false = sym (seen_filled b.parts b.slots.items place) ∙ ap
-    (λ v. is_some (slots_of v.answers place)) c.self.view_is ∙ ap (λ i. is_some (slots_of c.args.self.now.answers i.id.0)) at ∙ c.requires.free in
+    let closed : is_some (open_slots (slots_view b) place) ≡ false = ap (λ v. is_some (open_slots v place)) c.self.view_is
+    ∙ ap (λ i. is_some (open_slots c.args.self.now i.id.0)) at ∙ c.requires.free in
+    let free : is_some (get_or b.slots.items place None) ≡ false = sym (seen_filled b.parts b.slots.items place)
+    ∙ open_free (is_needed b.needed) (slots_of (matches_by_ref b.parts b.slots.items)) place closed in
     let within : place < length b.slots.items = omega (
       arith,
       c.requires.within,
@@ -40,8 +47,10 @@ invariant_of-self-2 c =
     ∙ ap (λ l. l ++ place ∷ []) c.reserve.ensures.items in
     let at = item_is c.args.line.items.now c.args.top c.item.result.now c.bodies.result.now b.parts.bodies c.args.self.now.bodies
     c.item.ensures c.bodies.ensures (ap (λ v. v.bodies) c.self.view_is) in
-    let free : is_some (get_or b.slots.items place None) ≡ false = sym (seen_filled b.parts b.slots.items place) ∙ ap
-    (λ v. is_some (slots_of v.answers place)) c.self.view_is ∙ ap (λ i. is_some (slots_of c.args.self.now.answers i.id.0)) at ∙ c.requires.free in
+    let closed : is_some (open_slots (slots_view b) place) ≡ false = ap (λ v. is_some (open_slots v place)) c.self.view_is
+    ∙ ap (λ i. is_some (open_slots c.args.self.now i.id.0)) at ∙ c.requires.free in
+    let free : is_some (get_or b.slots.items place None) ≡ false = sym (seen_filled b.parts b.slots.items place)
+    ∙ open_free (is_needed b.needed) (slots_of (matches_by_ref b.parts b.slots.items)) place closed in
     let within : place < length b.slots.items = omega (
       arith,
       c.requires.within,
@@ -50,8 +59,15 @@ invariant_of-self-2 c =
       length-map b.slots.items
           (λ o. option_map (match_by_ref b.parts) o),
     ) in
+    let own : get_or b.needed place false ≡ true = sym (get_or_default b.needed place true false (omega
+    (arith, within, c.self.invariant.needed_length)))
+    ∙ open_needed (is_needed b.needed) (slots_of (matches_by_ref b.parts b.slots.items)) place closed in
     record {
       same_length = c.self.invariant.same_length ∙ sym (length-set b.slots.items place (Some c.in_ok-found.found));
+      needed_length = c.self.invariant.needed_length ∙ sym (length-set b.slots.items place (Some c.in_ok-found.found));
+      among = c.self.invariant.among;
+      opened = open_filled b.needed b.slots.items b.is_open.items place c.in_ok-found.found within c.self.invariant.opened;
+      filled_needed = rw pushed (All-push (λ n. get_or b.needed n false ≡ true) b.filled.items place c.self.invariant.filled_needed own);
       within = slots_filled b.parts stored b.slots.items place c.in_ok-found.found c.in_ok-found.ensures.kept.extends c.self.invariant.within
           c.in_ok-found.ensures.kept.within;
       line = line_kept stored _ c.keep.new.self.line c.in_ok-found.ensures.kept.at_hand;

@@ -1,4 +1,5 @@
-use Rattle.std.proofs.lemmas.List.Sorted.{IsNonDecreasingBy-from_sort}
+use Rattle.std.specs.Prelude.{◌≡◌, false, slice_index_or, true}
+use Rattle.std.proofs.lemmas.List.Sorted.{All-permutation, IsNonDecreasingBy-from_sort}
 use Rattle.attr_search.proofs.ListedLemmas.{listed_permuted}
 use Rattle.attr_search.proofs.slots.AnswerSlots.order.Goals as goal
 
@@ -8,6 +9,11 @@ invariant_of-self c =
     let sorted = c.sort_unstable.new.self.items in
     record {
       same_length = c.self.invariant.same_length;
+      needed_length = c.self.invariant.needed_length;
+      among = c.self.invariant.among;
+      opened = c.self.invariant.opened;
+      filled_needed = All-permutation (λ n. slice_index_or b.needed n false ≡ true) b.filled.items sorted c.sort_unstable.ensures.permutation
+          c.self.invariant.filled_needed;
       within = c.self.invariant.within;
       line = c.self.invariant.line;
       counted = c.self.invariant.counted;

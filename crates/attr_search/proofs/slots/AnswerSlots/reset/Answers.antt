@@ -1,4 +1,6 @@
-use Rattle.std.proofs.Common.{arith, List, [], Option, None, ap, refl, ◌∙◌, sym}
+use Rattle.std.proofs.lemmas.List.Elements.{All-nil}
+use Rattle.attr_search.proofs.OpenLemmas.{open_all}
+use Rattle.std.proofs.Common.{◌≡◌, false, get_or, true, arith, List, [], Option, None, ap, refl, ◌∙◌, sym}
 use Rattle.attr_search.specs.shared.SlotContents.{SlotContents, count_remaining}
 use Rattle.attr_search.specs.inner.AnswerRefs.{matches_by_ref}
 use Rattle.attr_search.specs.Slots.{Matched}
@@ -14,6 +16,13 @@ invariant_of-self c =
     let same = c.self.invariant.same_length in
     record {
       same_length = same ∙ sym c.empty.ensures.len;
+      needed_length = c.self.invariant.needed_length ∙ sym c.empty.ensures.len;
+      among = c.self.invariant.among;
+      opened = open_all b.needed c.empty.new.is_open.items c.empty.new.slots.items b.slots.items
+          (c.empty.ensures.opened b.needed c.self.invariant.needed_length c.self.invariant.opened
+          (rw c.deref.ensures.value c.self.invariant.filled_needed))
+          (c.self.invariant.needed_length ∙ sym c.empty.ensures.len) c.empty.ensures.items;
+      filled_needed = rw c.clear.ensures.items (All-nil (λ n. get_or b.needed n false ≡ true));
       within = empty_within c.keep_none.new.self c.empty.new.slots.items b.slots.items c.empty.ensures.items;
       line = rw c.keep_none.ensures tt;
       counted = c.count-self-inside.ensures ∙ sym (count_empty MatchRef b.wanted b.slots.items same)
@@ -28,7 +37,7 @@ pub returns : goal.returns
 returns c =
     let b = c.self.inside in
     let Emptied : List (Option Matched) → SlotContents = λ answers. record
-    { answers = answers; wanted = b.wanted; line = None; bodies = b.parts.bodies; kept = 0 } in
+    { answers = answers; wanted = b.wanted; needed = b.needed; line = None; bodies = b.parts.bodies; kept = 0 } in
     rw (← c.self.view_is) (rw c.keep_none.ensures
     (ap Emptied (emptied_seen b.parts (record b.parts { lines = []; line = None; assignments = [] }) b.slots.items c.empty.new.slots.items
     (matches_by_ref b.parts b.slots.items) refl

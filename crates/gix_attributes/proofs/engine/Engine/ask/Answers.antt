@@ -29,7 +29,7 @@ looked_for e selected question =
 -- an outcome that is initialised has a slot for each name
 pub pattern_matching_relative_path-requires-clause-covered : goal.pattern_matching_relative_path-requires-clause-covered
 pattern_matching_relative_path-requires-clause-covered c =
-    let made = ap (λ (held : Content). length held.slots) c.in_ok-prepare.ensures.ready ∙ length-map c.self.inside.collection.names _ in
+    let made = ap (λ (held : Content). length held.slots) c.in_ok-prepare.ensures.ready.content ∙ length-map c.self.inside.collection.names _ in
     subst (λ n. ListsAreCovered n (lists_in c.self.inside.search)) (sym made) c.self.invariant.known.covered
 
 pub invariant_of-self-in_err-pattern_matching_relative_path : goal.invariant_of-self-in_err-pattern_matching_relative_path
@@ -92,7 +92,7 @@ returns-in_err-pattern_matching_relative_path-clause-refused c =
     let e = c.self.inside in
     unanswered c.from_residual-in_err-pattern_matching_relative_path.result (engine_view e) c.args.self.now _
     (ap (λ (h : Content). names_selected h.selection) c.in_err-pattern_matching_relative_path.ensures.refused
-    ∙ (ap (λ (h : Content). names_selected h.selection) c.in_ok-prepare.ensures.ready
+    ∙ (ap (λ (h : Content). names_selected h.selection) c.in_ok-prepare.ensures.ready.content
     ∙ names_again e.collection.names (names_selected e.outcome.selection)))
     c.self.view_is
 
@@ -101,7 +101,7 @@ returns-in_err-number_answers-clause-refused c =
     let e = c.self.inside in
     unanswered c.from_residual-in_err-number_answers.result (engine_view e) c.args.self.now _
     (ap (λ (h : Content). names_selected h.selection) c.in_ok-pattern_matching_relative_path.ensures.kept.rest
-    ∙ (ap (λ (h : Content). names_selected h.selection) c.in_ok-prepare.ensures.ready
+    ∙ (ap (λ (h : Content). names_selected h.selection) c.in_ok-prepare.ensures.ready.content
     ∙ names_again e.collection.names (names_selected e.outcome.selection)))
     c.self.view_is
 
@@ -115,7 +115,7 @@ returns-clause-answers c =
     (same_count e.search) c.self.invariant.known c.in_ok-prepare.ensures.ready searched.searched searched.named searched.kept in
     let selection : names_selected after.selection ≡ names_selected e.outcome.selection =
     ap (λ (h : Content). names_selected h.selection) searched.kept.rest
-    ∙ (ap (λ (h : Content). names_selected h.selection) c.in_ok-prepare.ensures.ready
+    ∙ (ap (λ (h : Content). names_selected h.selection) c.in_ok-prepare.ensures.ready.content
     ∙ names_again e.collection.names (names_selected e.outcome.selection)) in
     subst
     (λ (held : EngineContent). OfTheOnlyTable (path_setting held.state question.path.bytes.now question.case question.is_dir)

@@ -1,5 +1,5 @@
-use Rattle.std.proofs.Common.{◌≡◌, ◌∙◌, length, sym, ap}
-use Rattle.gix_attributes.specs.Contents.{looked_up, names_selected}
+use Rattle.std.proofs.Common.{◌≡◌, ◌∙◌, length, replicate, sym, ap, true}
+use Rattle.gix_attributes.specs.Contents.{initial_content, looked_up, names_selected}
 use Rattle.gix_attributes.specs.inner.Consistency.{flags_of}
 use Rattle.gix_attributes.specs.Selection.{selection_view}
 use Rattle.gix_attributes.proofs.OutcomeLemmas.{held_as, length_flags, selected_below}
@@ -37,6 +37,10 @@ returns-clause-ok c =
     let selected : selection_view c.in_ok-selected.selected.items ≡ looked_up known.names (names_selected c.args.dest.now.selection) =
     c.in_ok-selected.ensures ∙ ap (λ l. looked_up known.names (names_selected (selection_view l))) c.deref.ensures.value ∙ ap
     (λ v. looked_up known.names (names_selected v.selection)) c.dest.view_is in
-    rw c.in_ok-copy_from.ensures.copied (held_as known _ own.answers c.args.self.now.slots own.bodies
+    let all = replicate (length own.answers) true in
+    rw c.in_ok-copy_from.ensures.copied (held_as known _ own.answers c.args.self.now.slots own.bodies all
     (selection_view c.in_ok-selected.selected.items) own.kept c.args.self.now.kept
-    (ap (λ v. v.slots) c.self.view_is) bodies selected (ap (λ v. v.kept) c.self.view_is))
+    (ap (λ v. v.slots) c.self.view_is) bodies selected (ap (λ v. v.kept) c.self.view_is)
+    ∙ ap (λ n. record (initial_content known (names_selected c.args.dest.now.selection))
+    { slots = c.args.self.now.slots; needed = replicate n true; kept = c.args.self.now.kept })
+    (ap (λ v. length v.slots) c.self.view_is ∙ c.requires.current.slots))

@@ -13,7 +13,7 @@ use Rattle.gix_attributes.proofs.search.outcome.Outcome.set_up.Goals as goal
 
 pub flags-requires : goal.flags-requires
 flags-requires c =
-    rw (c.deref.ensures.value, c.len.ensures.count) (selected_below c.args.selected.items c.args.collection.now.names _ c.requires)
+    rw (c.deref.ensures.value, c.len.ensures.count) (selected_below c.args.selected.items c.args.collection.now.names _ c.requires.selected)
 
 pub set_up-requires-clause-numbers : goal.set_up-requires-clause-numbers
 set_up-requires-clause-numbers c =
@@ -34,6 +34,16 @@ set_up-requires-clause-within c =
     let made = changed_to known changes own (bodies_view c.bodies.result.now) (length wanted) count c.bodies.ensures.bodies
     c.in_ok-changes.ensures.made in
     changed_within known (changed_bodies changes (sized_bodies (length wanted) own)) (length wanted) c.len.ensures.sound count made
+
+pub set_up-requires-clause-needed : goal.set_up-requires-clause-needed
+set_up-requires-clause-needed c =
+    c.requires.needed ∙ sym (length_flags (selection_view c.deref.result.now) c.len.result c.in_ok-wanted.wanted c.in_ok-wanted.ensures
+    ∙ c.len.ensures.count)
+
+pub set_up-requires-clause-among : goal.set_up-requires-clause-among
+set_up-requires-clause-among c =
+    rw (c.in_ok-wanted.ensures ∙ ap (λ l. flags_of (selection_view l) c.len.result) c.deref.ensures.value
+    ∙ ap (flags_of (selection_view c.args.selected.items)) c.len.ensures.count) c.requires.among
 
 pub invariant_of-self-2 : goal.invariant_of-self-2
 invariant_of-self-2 c =
@@ -66,9 +76,18 @@ returns-clause-ok c =
     c.len.ensures.count in
     let made = changed_to known changes own (bodies_view c.bodies.result.now) (length wanted) count c.bodies.ensures.bodies
     c.in_ok-changes.ensures.made in
-    let Held : SearchContents → Content = λ s. record
-    { is_initialized = true; slots = s.answers; bodies = s.bodies; selection = seen; kept = s.kept; taken = s.taken; tested = s.tested } in
+    let Held : SearchContents → Content = λ s. record {
+      is_initialized = true;
+      slots = s.answers;
+      bodies = s.bodies;
+      needed = s.needed;
+      selection = seen;
+      kept = s.kept;
+      taken = s.taken;
+      tested =
+          s.tested;
+    } in
     ap Held c.in_ok-set_up.ensures.ok
     ∙ held_as known _ (map (λ flag. None) wanted) (map (λ name. None) known.names)
-    (changed_bodies changes (sized_bodies (length wanted) own)) seen 0 0
-    (same_empty None wanted known.names count) made c.requires refl
+    (changed_bodies changes (sized_bodies (length wanted) own)) c.args.needed seen 0 0
+    (same_empty None wanted known.names count) made c.requires.selected refl

@@ -1,0 +1,467 @@
+-- Marks of attributes, and the items of one attribute.
+use Rattle.std.proofs.Common.{◌≡◌, ◌≢◌, ◌⊎◌, ◌==◌, ◌||◌, ℕ, zero, suc, ◌+◌, ◌-◌, ◌<◌, ◌≤◌, Bool, true, false, not, cond}
+use Rattle.std.proofs.Common.{List, [], ◌∷◌, ◌++◌, length, get_or, set, take, drop, replicate, map, BTreeSet}
+use Rattle.std.proofs.Common.{Option, Some, None, ⊎_elim, inl, inr, refl, sym, ap, ◌∙◌, subst, leb, ltb, arith}
+use Rattle.std.specs.Prelude.{All, MatchOption, ⊤, option_map, unwrap_or}
+use Rattle.std.specs.BTreeMap.{is_at}
+use Rattle.std.specs.BTreeSet.{contains}
+use Rattle.std.specs.List.{Contains, list_any}
+use Rattle.std.specs.List.Sorted.{IsPartitionPoint, IsPermutation}
+use Rattle.std.specs.Ordering.{nat_cmp}
+use Rattle.std.proofs.Math.ListN.{length-map}
+use Rattle.std.proofs.lemmas.List.FromFn.{get_or-map-range_with_len, length-map-range_with_len}
+use Rattle.std.proofs.lemmas.List.Sorted.{All-permutation, Contains-permutation}
+use Rattle.std.proofs.lemmas.List.Folds.{list_any_at}
+use Rattle.std.proofs.lemmas.Option.{MatchOption-at_some}
+use Rattle.std.proofs.lemmas.Bool.{cases_eq, cases_lt, false≢true}
+use Rattle.std.proofs.lemmas.Bool.Decides.{nat_tests}
+use Rattle.std.proofs.lemmas.List.{get_or_default, get_or-drop, get_or-map, get_or_past, get_or-replicate, get_or-set_other, get_or-set_same}
+use Rattle.std.proofs.lemmas.List.{get_or-take, flat_map_more, length-drop, length_push, length-replicate, length-set, length-take, take_all}
+use Rattle.std.proofs.lemmas.List.Elements.{All-append, All-contains, All-contains_itself, All-drop, All-head, All-map, All-more}
+use Rattle.std.proofs.lemmas.List.Elements.{All-nil, All-push, All-same, All-tail, All-take, All-weaker}
+use Rattle.std.proofs.lemmas.List.Elements.{Contains-append_left, Contains-append_right, Contains-push, Contains-push_cases}
+use Rattle.std.proofs.lemmas.List.Sums.{sum_by-set}
+use Rattle.attr_lists.specs.Collections.{Collection}
+use Rattle.attr_lists.specs.Definitions.{IsSoundCollection}
+use Rattle.attr_lists.specs.shared.MacroNumbers.{ListsMacros}
+use Rattle.attr_lists.specs.declared.types.TrackedAssignment.{TrackedAssignment}
+use Rattle.attr_search.proofs.ForCallers.{at_other}
+use Rattle.gix_attributes.specs.Contents.{Wanted, bodies_of, has_number, is_wanted}
+use Rattle.gix_attributes.specs.Selection.{selection_view, wanted_view}
+use Rattle.gix_attributes.specs.inner.Consistency.{flags_of}
+use Rattle.gix_attributes.proofs.OutcomeLemmas.{bodies_within}
+use Rattle.gix_attributes.proofs.SelectionLemmas.{length_bodies, listed_elsewhere}
+use Rattle.gix_attributes.specs.declared.search.selected_name.SelectedName.{SelectedName}
+use Rattle.gix_attributes.specs.declared.search.needed.BodyItem.{BodyItem}
+use Rattle.gix_attributes.specs.inner.Needed.{AreClosedBut, AreNeeded, AreOwnersSet, AreSelectedSet, HasFlags, HasOwners, HasSelected, HaveBodies}
+use Rattle.gix_attributes.specs.inner.Needed.{IsClosedFor, IsClosedOver, IsFlagSet, IsMarked, SetsOnly}
+use Rattle.gix_attributes.specs.inner.Needed.{body_item, body_items, count_unset, items_with}
+
+-- nothing is marked
+pub marked_none : (flags : List Bool) (stack : List ℕ) → IsMarked flags stack flags stack
+marked_none flags stack = record {
+  count = refl;
+  set = λ a is. is;
+  pushed = λ a is. inr is;
+  stays = λ a is. is;
+  stacked = λ all. all;
+  left = refl;
+}
+
+-- marks after others
+pub marked_then : (flags flags' flags'' : List Bool) (stack stack' stack'' : List ℕ) →
+    IsMarked flags stack flags' stack' → IsMarked flags' stack' flags'' stack'' → IsMarked flags stack flags'' stack''
+marked_then flags flags' flags'' stack stack' stack'' first second = record {
+  count = second.count ∙ first.count;
+  set = λ a is. second.set a (first.set a is);
+  pushed = λ a is. ⊎_elim (λ on. inl on) (λ before. ⊎_elim (λ on. inl (second.stays a on)) (λ set. inr set) (first.pushed a before))
+      (second.pushed a is);
+  stays = λ a on. second.stays a (first.stays a on);
+  stacked = λ all. second.stacked (first.stacked all);
+  left = second.left ∙ first.left;
+}
+
+abbrev unset : Bool → ℕ
+unset flag = cond (not flag) 1 0
+
+or_true : (b : Bool) → b || true ≡ true
+or_true true = refl
+or_true false = refl
+
+unset_fewer : (flags : List Bool) (a : ℕ) → a < length flags → get_or flags a false ≡ false →
+    count_unset (set flags a true) + 1 ≡ count_unset flags
+unset_fewer flags a lt free =
+    let step : count_unset (set flags a true) + unset (get_or flags a false) ≡ count_unset flags + 0 = sum_by-set unset flags a true false lt in
+    let one : unset (get_or flags a false) ≡ unset false = ap unset free in
+    omega (arith, step, one)
+
+set_kept : (flags : List Bool) (a : ℕ) → a < length flags → (b : ℕ) → IsFlagSet flags b → IsFlagSet (set flags a true) b
+set_kept flags a lt b is =
+    ⊎_elim (λ (here : b ≡ a). ap (λ i. get_or (set flags a true) i false) here ∙ get_or-set_same flags a true false lt)
+    (λ (apart : b ≢ a). get_or-set_other flags a b true false apart ∙ is) (cases_eq b a)
+
+-- one flag is set, and its number is pushed
+pub marked_one : (flags : List Bool) (stack : List ℕ) (a : ℕ) → a < length flags → get_or flags a false ≡ false →
+    IsMarked flags stack (set flags a true) (stack ++ a ∷ [])
+marked_one flags stack a lt free = record {
+  count = length-set flags a true;
+  set = set_kept flags a lt;
+  pushed = λ b is. ⊎_elim (λ (here : b ≡ a). inl (subst (Contains (stack ++ a ∷ [])) (sym here) (Contains-push stack a)))
+      (λ (apart : b ≢ a). inr (sym (get_or-set_other flags a b true false apart) ∙ is)) (cases_eq b a);
+  stays = λ b on. Contains-append_left stack (a ∷ []) b on;
+  stacked = λ all. All-push (IsFlagSet (set flags a true)) stack a
+      (All-weaker (IsFlagSet flags) (IsFlagSet (set flags a true)) (set_kept flags a lt) stack all) (get_or-set_same flags a true false lt);
+  left = omega (arith, length_push stack a, unset_fewer flags a lt free);
+}
+
+-- no other flag is set
+pub set_only : (flags : List Bool) (a : ℕ) → SetsOnly flags (set flags a true) (λ has. has a ≡ true)
+set_only flags a = λ has held here b is.
+    ⊎_elim (λ (same : b ≡ a). ap has same ∙ here)
+    (λ (apart : b ≢ a). held b (sym (get_or-set_other flags a b true false apart) ∙ is)) (cases_eq b a)
+
+-- macros stay marked
+pub owners_kept : (flags flags' : List Bool) (items : List BodyItem) → ((a : ℕ) → IsFlagSet flags a → IsFlagSet flags' a) →
+    AreOwnersSet flags items → AreOwnersSet flags' items
+owners_kept flags flags' items kept set =
+    All-weaker (λ i. IsFlagSet flags i.owner) (λ i. IsFlagSet flags' i.owner) (λ i is. kept i.owner is) items set
+
+number_kept : (flags flags' : List Bool) (number : Option ℕ) → ((a : ℕ) → IsFlagSet flags a → IsFlagSet flags' a) →
+    MatchOption number ⊤ (IsFlagSet flags) → MatchOption number ⊤ (IsFlagSet flags')
+number_kept flags flags' None kept set = set
+number_kept flags flags' (Some a) kept set = kept a set
+
+-- selected attributes stay marked
+pub selected_kept : (flags flags' : List Bool) (selected : List SelectedName) → ((a : ℕ) → IsFlagSet flags a → IsFlagSet flags' a) →
+    AreSelectedSet flags selected → AreSelectedSet flags' selected
+selected_kept flags flags' selected kept set =
+    All-weaker (λ s. MatchOption s.number ⊤ (IsFlagSet flags)) (λ s. MatchOption s.number ⊤ (IsFlagSet flags'))
+    (λ s is. number_kept flags flags' s.number kept is) selected set
+
+-- marks keep what is closed
+pub closed_marked : (items : List BodyItem) (flags flags' : List Bool) (stack stack' : List ℕ) →
+    AreClosedBut stack flags items → IsMarked flags stack flags' stack' → AreClosedBut stack' flags' items
+closed_marked items flags flags' stack stack' closed marked = λ k d lt is.
+    let x = get_or items k d in
+    ⊎_elim (λ on. inl on)
+    (λ (before : IsFlagSet flags x.attribute).
+    ⊎_elim (λ on. inl (marked.stays x.attribute on)) (λ owner. inr (marked.set x.owner owner)) (closed k d lt before))
+    (marked.pushed x.attribute is)
+
+-- the macros of an attribute that leaves the stack are marked
+pub closed_step : (items part : List BodyItem) (attribute : ℕ) (flags flags' : List Bool) (stack rest stack' : List ℕ) →
+    stack ≡ rest ++ attribute ∷ [] → AreClosedBut stack flags items →
+    All (λ i. i.attribute ≡ attribute → Contains part i) items → IsMarked flags rest flags' stack' → AreOwnersSet flags' part →
+    AreClosedBut stack' flags' items
+closed_step items part attribute flags flags' stack rest stack' split closed all marked owners = λ k d lt is.
+    let x = get_or items k d in
+    ⊎_elim (λ on. inl on)
+    (λ (before : IsFlagSet flags x.attribute).
+    ⊎_elim
+    (λ (on : Contains stack x.attribute). ⊎_elim
+    (λ other. inl (marked.stays x.attribute other))
+    (λ (here : attribute ≡ x.attribute).
+    inr (All-contains (λ i. IsFlagSet flags' i.owner) part x owners (all k d lt (sym here))))
+    (Contains-push_cases rest attribute x.attribute (subst (λ l. Contains l x.attribute) split on)))
+    (λ owner. inr (marked.set x.owner owner))
+    (closed k d lt before))
+    (marked.pushed x.attribute is)
+
+none_set : (count a : ℕ) → get_or (replicate count false) a false ≡ false
+none_set zero a = refl
+none_set (suc count) zero = refl
+none_set (suc count) (suc a) = none_set count a
+
+-- without marks all is closed
+pub closed_first : (items : List BodyItem) (count : ℕ) → AreClosedBut [] (replicate count false) items
+closed_first items count = λ k d lt is. absurd (false≢true (sym (none_set count (get_or items k d).attribute) ∙ is))
+
+-- the last items, as a slice has them
+pub rest_is : (items : List BodyItem) (start : ℕ) → take (length items - start) (drop start items) ≡ drop start items
+rest_is items start = take_all (length items - start) (drop start items) (omega (arith, length-drop start items))
+
+-- what stands between two points of halving are all items of the attribute
+pub all_between : (items rest : List BodyItem) (attribute start len : ℕ) → rest ≡ drop start items →
+    IsPartitionPoint (λ i. ltb i.attribute attribute ≡ true) (λ i. ltb i.attribute attribute ≡ false) items start →
+    IsPartitionPoint (λ i. leb i.attribute attribute ≡ true) (λ i. leb i.attribute attribute ≡ false) rest len →
+    All (λ i. i.attribute ≡ attribute → Contains (take len rest) i) items
+all_between items rest attribute start len is first second = λ k d lt same.
+    ⊎_elim
+    (λ (before : k < start). absurd (below (get_or items k d).attribute same (first.0 k d (omega arith) before)))
+    (λ (from : start ≤ k).
+    let x = get_or items k d in
+    let place = k - start in
+    let inside : place < length rest = omega (arith, lt, from, ap length is, length-drop start items) in
+    let at : (e : BodyItem) → get_or rest place e ≡ get_or items k e =
+    λ e. ap (λ l. get_or l place e) is ∙ get_or-drop start items place e ∙ ap (λ i. get_or items i e) (omega arith) in
+    ⊎_elim
+    (λ (early : place < len).
+    (place, omega (arith, length-take len rest), get_or-take len rest place x early ∙ at x ∙ get_or_default items k x d lt))
+    (λ (late : len ≤ place).
+    absurd (above x.attribute same (ap (λ i. leb i.attribute attribute) (sym (at d)) ∙ second.1 place d late inside)))
+    (cases_lt place len))
+    (cases_lt k start)
+  where
+    below : (a : ℕ) → a ≡ attribute → ltb a attribute ≡ true → ⊥
+    below a e t = grind (arith, nat_tests)
+
+    above : (a : ℕ) → a ≡ attribute → leb a attribute ≡ false → ⊥
+    above a e t = grind (arith, nat_tests)
+
+-- and no others
+pub same_between : (items rest : List BodyItem) (attribute start len : ℕ) → rest ≡ drop start items → start ≤ length items →
+    IsPartitionPoint (λ i. ltb i.attribute attribute ≡ true) (λ i. ltb i.attribute attribute ≡ false) items start →
+    IsPartitionPoint (λ i. leb i.attribute attribute ≡ true) (λ i. leb i.attribute attribute ≡ false) rest len →
+    All (λ i. i.attribute ≡ attribute) (take len rest)
+same_between items rest attribute start len is within first second = λ k d lt.
+    let early : k < len = omega (arith, lt, length-take len rest) in
+    let inside : start + k < length items = omega (arith, lt, within, length-take len rest, ap length is, length-drop start items) in
+    let at : get_or rest k d ≡ get_or items (start + k) d = ap (λ l. get_or l k d) is ∙ get_or-drop start items k d in
+    ap (λ i. i.attribute) (get_or-take len rest k d early)
+    ∙ exact (get_or rest k d).attribute
+    (ap (λ i. ltb i.attribute attribute) at ∙ first.1 (start + k) d (omega arith) inside) (second.0 k d (omega arith) early)
+  where
+    exact : (a : ℕ) → ltb a attribute ≡ false → leb a attribute ≡ true → a ≡ attribute
+    exact a above upto = grind (arith, nat_tests)
+
+-- a part of a list has its elements
+pub part_within : (items rest : List BodyItem) (start len : ℕ) → rest ≡ drop start items → All (Contains items) (take len rest)
+part_within items rest start len is =
+    All-take (Contains items) len rest (rw is (All-drop (Contains items) start items (All-contains_itself items)))
+
+-- what holds of each element holds of those of a part
+pub all_within : (P : BodyItem → Type 0) (items part : List BodyItem) → All P items → All (Contains items) part → All P part
+all_within P items part all within = All-weaker (Contains items) P (λ x on. All-contains P items x all on) part within
+
+-- one more selected attribute is marked
+pub selected_more : (selected : List SelectedName) (index : ℕ) (name : SelectedName) (flags flags' : List Bool) → index < length selected →
+    name ≡ get_or selected index name → ((a : ℕ) → IsFlagSet flags a → IsFlagSet flags' a) →
+    AreSelectedSet flags (take index selected) → MatchOption name.number ⊤ (IsFlagSet flags') →
+    AreSelectedSet flags' (take (index + 1) selected)
+selected_more selected index name flags flags' lt is kept set here =
+    let Marked : SelectedName → Type 0 = λ s. MatchOption s.number ⊤ (IsFlagSet flags') in
+    All-more Marked selected index name lt (selected_kept flags flags' (take index selected) kept set) (subst Marked is here)
+
+-- one more macro is marked
+pub owners_more : (items : List BodyItem) (index : ℕ) (d : BodyItem) (flags flags' : List Bool) → index < length items →
+    ((a : ℕ) → IsFlagSet flags a → IsFlagSet flags' a) → AreOwnersSet flags (take index items) → IsFlagSet flags' (get_or items index d).owner →
+    AreOwnersSet flags' (take (index + 1) items)
+owners_more items index d flags flags' lt kept set here =
+    All-more (λ i. IsFlagSet flags' i.owner) items index d lt (owners_kept flags flags' (take index items) kept set) here
+
+-- without a number there is no body
+pub body_past : (known : Collection) (owner : ℕ) → length known.definitions ≡ length known.names → length known.names ≤ owner →
+    body_items known owner ≡ []
+body_past known owner counted past =
+    ap (λ body. map (body_item owner) body) (get_or_past (bodies_of known) owner [] (omega (arith, counted, past, length_bodies known)))
+
+-- one more body
+pub items_more : (known : Collection) (owners : List ℕ) (owner : ℕ) →
+    items_with known owners ++ body_items known owner ≡ items_with known (owners ++ owner ∷ [])
+items_more known owners owner = flat_map_more (body_items known) [] owners owner
+
+-- the items of a body whose number is among some are among theirs
+items_among : (known : Collection) (owners : List ℕ) (m : ℕ) → list_any (is_at (nat_cmp m)) owners ≡ true →
+    All (Contains (items_with known owners)) (body_items known m)
+items_among known [] m found = absurd (false≢true found)
+items_among known (owner ∷ owners) m found =
+    ⊎_elim
+    (λ (here : owner ≡ m).
+    All-weaker (Contains (body_items known m)) (Contains (items_with known (owner ∷ owners)))
+    (λ x on. Contains-append_left (body_items known owner) (items_with known owners) x (subst (λ n. Contains (body_items known n) x) (sym here) on))
+    (body_items known m) (All-contains_itself (body_items known m)))
+    (λ (apart : owner ≢ m).
+    All-weaker (Contains (items_with known owners)) (Contains (items_with known (owner ∷ owners)))
+    (λ x on. Contains-append_right (body_items known owner) (items_with known owners) x on)
+    (body_items known m)
+    (items_among known owners m (sym (ap (λ b. b || list_any (is_at (nat_cmp m)) owners) (at_other m owner apart)) ∙ found)))
+    (cases_eq owner m)
+
+-- all items are those of the macros' bodies
+pub bodies_had : (known : Collection) (macros : BTreeSet ℕ) → ListsMacros macros known → HaveBodies known (items_with known macros.keys)
+bodies_had known macros listed = λ m. case m (contains nat_cmp macros m) refl
+  where
+    case : (m : ℕ) (b : Bool) → contains nat_cmp macros m ≡ b → All (Contains (items_with known macros.keys)) (body_items known m)
+    case m true e = items_among known macros.keys m e
+    case m false e =
+        All-same (Contains (items_with known macros.keys)) (body_items known m) []
+        (ap (λ body. map (body_item m) body) (listed_elsewhere known macros listed m e)) (All-nil (Contains (items_with known macros.keys)))
+
+owner_below : (known : Collection) (owner : ℕ) → length known.definitions ≡ length known.names →
+    All (λ i. i.owner < length known.names) (body_items known owner)
+owner_below known owner counted =
+    ⊎_elim
+    (λ (lt : owner < length known.names).
+    All-map (λ i. i.owner < length known.names) (body_item owner) (get_or (bodies_of known) owner []) (λ k d inside. lt))
+    (λ (past : length known.names ≤ owner).
+    All-same (λ i. i.owner < length known.names) (body_items known owner) [] (body_past known owner counted past)
+    (All-nil (λ (i : BodyItem). i.owner < length known.names)))
+    (cases_lt owner (length known.names))
+
+-- the macros of items have numbers of names
+pub owners_below : (known : Collection) (owners : List ℕ) → length known.definitions ≡ length known.names →
+    All (λ i. i.owner < length known.names) (items_with known owners)
+owners_below known [] counted = All-nil (λ (i : BodyItem). i.owner < length known.names)
+owners_below known (owner ∷ owners) counted =
+    All-append (λ i. i.owner < length known.names) (body_items known owner) (items_with known owners)
+    (owner_below known owner counted) (owners_below known owners counted)
+
+-- another order of the items
+pub bodies_sorted : (known : Collection) (items items' : List BodyItem) → IsPermutation items items' → HaveBodies known items →
+    HaveBodies known items'
+bodies_sorted known items items' moved had = λ m.
+    All-weaker (Contains items) (Contains items') (λ x on. Contains-permutation items items' x moved on) (body_items known m) (had m)
+
+-- what is closed is so over the items of bodies
+closed_over : (known : Collection) (owners : List ℕ) (has : ℕ → Bool) → IsClosedFor known has → IsClosedOver (items_with known owners) has
+closed_over known [] has closed = All-nil (λ (i : BodyItem). has i.attribute ≡ true → has i.owner ≡ true)
+closed_over known (owner ∷ owners) has closed =
+    All-append (λ i. has i.attribute ≡ true → has i.owner ≡ true) (body_items known owner) (items_with known owners)
+    (All-map (λ i. has i.attribute ≡ true → has i.owner ≡ true) (body_item owner) (get_or (bodies_of known) owner []) (closed owner))
+    (closed_over known owners has closed)
+
+-- and over them in another order
+pub closed_sorted : (known : Collection) (owners : List ℕ) (items items' : List BodyItem) → items ≡ items_with known owners →
+    IsPermutation items items' → (has : ℕ → Bool) → IsClosedFor known has → IsClosedOver items' has
+closed_sorted known owners items items' is moved has closed =
+    All-permutation (λ i. has i.attribute ≡ true → has i.owner ≡ true) items items' moved
+    (subst (λ l. IsClosedOver l has) (sym is) (closed_over known owners has closed))
+
+-- a closed set has the macros of an attribute that it has
+pub owners_had : (items part : List BodyItem) (attribute : ℕ) (has : ℕ → Bool) → IsClosedOver items has → All (Contains items) part →
+    All (λ i. i.attribute ≡ attribute) part → has attribute ≡ true → HasOwners part has
+owners_had items part attribute has closed within same is = λ k d lt.
+    All-contains (λ i. has i.attribute ≡ true → has i.owner ≡ true) items (get_or part k d) closed (within k d lt) (ap has (same k d lt) ∙ is)
+
+-- a set has the number of a selected name
+pub selected_had : (selected : List SelectedName) (index : ℕ) (name : SelectedName) (number : ℕ) (has : ℕ → Bool) → index < length selected →
+    name ≡ get_or selected index name → name.number ≡ Some number → HasSelected selected has → has number ≡ true
+selected_had selected index name number has lt is some had =
+    MatchOption-at_some ⊤ (λ n. has n ≡ true) number (ap (λ s. s.number) (sym is) ∙ some) (had index name lt)
+
+all_set : (count a : ℕ) → get_or (replicate count true) a true ≡ true
+all_set zero a = refl
+all_set (suc count) zero = refl
+all_set (suc count) (suc a) = all_set count a
+
+flags_below : (selection : List Wanted) (count a : ℕ) → get_or (flags_of selection count) a false ≡ true → a < count
+flags_below selection count a is =
+    ⊎_elim (λ lt. lt)
+    (λ (past : count ≤ a).
+    let len = length-map-range_with_len (is_wanted selection) 0 count in
+    absurd (false≢true (sym (get_or_past (flags_of selection count) a false (omega (arith, past, len))) ∙ is)))
+    (cases_lt a count)
+
+flag_at : (selection : List Wanted) (count a : ℕ) → a < count → get_or (flags_of selection count) a false ≡ is_wanted selection a
+flag_at selection count a lt = get_or-map-range_with_len (is_wanted selection) 0 count a a false lt (omega arith)
+
+flag_below : (count a : ℕ) → get_or (replicate count true) a false ≡ true → a < count
+flag_below count a is =
+    ⊎_elim (λ lt. lt)
+    (λ (past : count ≤ a).
+    absurd (false≢true (sym (get_or_past (replicate count true) a false (omega (arith, past, length-replicate count true))) ∙ is)))
+    (cases_lt a count)
+
+-- without a selection all are needed
+pub needed_all : (known : Collection) (selected : List SelectedName) → (length selected == 0) ≡ true →
+    AreNeeded known (selection_view selected) (replicate (length known.names) true)
+needed_all known selected none =
+    let n = length known.names in
+    let selection = selection_view selected in
+    let none' : (length selection == 0) ≡ true = ap (λ k. k == 0) (length-map selected wanted_view) ∙ none in
+    record {
+      count = length-replicate n true;
+      selected = λ a is. get_or-replicate n a true false (flags_below selection n a is);
+      closed = λ m k d lt is. all_set n m;
+      all = λ none. refl;
+      least = λ has held closed a is. held a (flag_at selection n a (flag_below n a is)
+          ∙ ap (λ b. b || list_any (has_number a) selection) none');
+    }
+
+number_set : (flags : List Bool) (number : Option ℕ) (a : ℕ) → MatchOption number ⊤ (IsFlagSet flags) →
+    unwrap_or (option_map (λ n. n == a) number) false ≡ true → IsFlagSet flags a
+number_set flags None a set is = absurd (false≢true is)
+number_set flags (Some n) a set is = let same : n ≡ a = grind (arith, nat_tests) in subst (IsFlagSet flags) same set
+
+names_step : (flags : List Bool) (number : Option ℕ) (a : ℕ) (here others : Bool) → unwrap_or (option_map (λ n. n == a) number) false ≡ here →
+    MatchOption number ⊤ (IsFlagSet flags) → (others ≡ true → IsFlagSet flags a) → here || others ≡ true → IsFlagSet flags a
+names_step flags number a true others e set later is = number_set flags number a set e
+names_step flags number a false others e set later is = later is
+
+names_set : (flags : List Bool) (selected : List SelectedName) (a : ℕ) → AreSelectedSet flags selected →
+    list_any (has_number a) (selection_view selected) ≡ true → IsFlagSet flags a
+names_set flags [] a set is = absurd (false≢true is)
+names_set flags (name ∷ selected) a set is =
+    let Marked : SelectedName → Type 0 = λ s. MatchOption s.number ⊤ (IsFlagSet flags) in
+    names_step flags name.number a (has_number a (wanted_view name)) (list_any (has_number a) (selection_view selected)) refl
+    (All-head Marked name selected set) (λ found. names_set flags selected a (All-tail Marked name selected set) found) is
+
+set_any : (flags : List Bool) (m : ℕ) → get_or flags m false ≡ true → get_or flags m true ≡ true
+set_any [] m is = refl
+set_any (f ∷ flags) zero is = is
+set_any (f ∷ flags) (suc m) is = set_any flags m is
+
+-- without a stack the macro of each item of a marked attribute is marked
+owner_set : (flags : List Bool) (items : List BodyItem) (item : BodyItem) → AreClosedBut [] flags items → Contains items item →
+    IsFlagSet flags item.attribute → IsFlagSet flags item.owner
+owner_set flags items item closed on is =
+    ⊎_elim (λ (stacked : Contains [] item.attribute). absurd (omega (arith, stacked.1))) (λ set. set)
+    (All-contains (λ i. IsFlagSet flags i.attribute → Contains [] i.attribute ⊎ IsFlagSet flags i.owner) items item closed on is)
+
+item_on : (known : Collection) (items : List BodyItem) (m k : ℕ) (d : TrackedAssignment) → HaveBodies known items →
+    k < length (get_or (bodies_of known) m []) → Contains items (body_item m (get_or (get_or (bodies_of known) m []) k d))
+item_on known items m k d had lt =
+    let body = get_or (bodies_of known) m [] in
+    let item = body_item m (get_or body k d) in
+    subst (Contains items) (get_or-map (body_item m) body k d item lt) (had m k item (omega (arith, lt, length-map body (body_item m))))
+
+item_below : (known : Collection) (m k : ℕ) (d : TrackedAssignment) → IsSoundCollection known →
+    k < length (get_or (bodies_of known) m []) → (get_or (get_or (bodies_of known) m []) k d).id.0 < length known.names
+item_below known m k d sound lt =
+    ⊎_elim
+    (λ (inside : m < length (bodies_of known)). bodies_within known sound m [] inside k d lt)
+    (λ (past : length (bodies_of known) ≤ m).
+    absurd (omega (arith, lt, ap length (get_or_past (bodies_of known) m [] past))))
+    (cases_lt m (length (bodies_of known)))
+
+number_found : (a : ℕ) → (a == a) ≡ true
+number_found a = grind (arith, nat_tests)
+
+number_had : (selected : List SelectedName) (count k : ℕ) (d : SelectedName) (has : ℕ → Bool) → k < length selected →
+    HasFlags (flags_of (selection_view selected) count) has → (number : Option ℕ) → (get_or selected k d).number ≡ number →
+    MatchOption number ⊤ (λ n. n < count) → MatchOption number ⊤ (λ n. has n ≡ true)
+number_had selected count k d has lt held None e below = below
+number_had selected count k d has lt held (Some a) e below =
+    let selection = selection_view selected in
+    let here : has_number a (get_or selection k (wanted_view d)) ≡ true =
+    ap (has_number a) (get_or-map wanted_view selected k d (wanted_view d) lt)
+    ∙ ap (λ o. unwrap_or (option_map (λ n. n == a) o) false) e ∙ number_found a in
+    let found : list_any (has_number a) selection ≡ true =
+    list_any_at (has_number a) selection k (wanted_view d) (omega (arith, lt, length-map selected wanted_view)) here in
+    held a (flag_at selection count a below ∙ ap (λ b. (length selection == 0) || b) found ∙ or_true (length selection == 0))
+
+-- a set with the flags of a selection has its numbers
+selection_had : (selected : List SelectedName) (count : ℕ) (has : ℕ → Bool) → All (λ s. MatchOption s.number ⊤ (λ n. n < count)) selected →
+    HasFlags (flags_of (selection_view selected) count) has → HasSelected selected has
+selection_had selected count has below held = λ k d lt.
+    number_had selected count k d has lt held (get_or selected k d).number refl (below k d lt)
+
+-- no others are marked
+pub needed_least : (known : Collection) (selected : List SelectedName) (items : List BodyItem) (first flags : List Bool) →
+    All (λ s. MatchOption s.number ⊤ (λ n. n < length known.names)) selected →
+    SetsOnly (replicate (length known.names) false) first (HasSelected selected) → SetsOnly first flags (IsClosedOver items) →
+    ((has : ℕ → Bool) → IsClosedFor known has → IsClosedOver items has) →
+    (has : ℕ → Bool) → HasFlags (flags_of (selection_view selected) (length known.names)) has → IsClosedFor known has → HasFlags flags has
+needed_least known selected items first flags below before after over = λ has held closed.
+    let n = length known.names in
+    after has
+    (before has (λ a is. absurd (false≢true (sym (none_set n a) ∙ is))) (selection_had selected n has below held))
+    (over has closed)
+
+-- the marks of selected attributes, and of what depends on them
+pub needed_marked : (known : Collection) (selected : List SelectedName) (items : List BodyItem) (first flags : List Bool) →
+    IsSoundCollection known → (length selected ≡ 0 → ⊥) → HaveBodies known items → AreSelectedSet first selected →
+    ((a : ℕ) → IsFlagSet first a → IsFlagSet flags a) → length flags ≡ length known.names → AreClosedBut [] flags items →
+    ((has : ℕ → Bool) → HasFlags (flags_of (selection_view selected) (length known.names)) has → IsClosedFor known has → HasFlags flags has) →
+    AreNeeded known (selection_view selected) flags
+needed_marked known selected items first flags sound some had set kept count closed least =
+    let n = length known.names in
+    let selection = selection_view selected in
+    let none : (length selection ≡ 0) → ⊥ = λ e. some (sym (length-map selected wanted_view) ∙ e) in
+    record {
+      count = count;
+      selected = λ a is.
+          let is' : is_wanted selection a ≡ true =
+          sym (flag_at selection n a (flags_below selection n a is)) ∙ is in
+          kept a (names_set first selected a set (sym (ap (λ b. b || list_any (has_number a) selection) (not_none (length selection) none)) ∙ is'));
+      closed = λ m k d lt is.
+          let item = get_or (get_or (bodies_of known) m []) k d in
+          let below : item.id.0 < length flags = omega (arith, item_below known m k d sound lt, count) in
+          set_any flags m (owner_set flags items (body_item m item) closed (item_on known items m k d had lt)
+          (get_or_default flags item.id.0 false true below ∙ is));
+      all = λ e. absurd (none e);
+      least = least;
+    }
+  where
+    not_none : (k : ℕ) → (k ≡ 0 → ⊥) → (k == 0) ≡ false
+    not_none k apart = grind (arith, nat_tests)

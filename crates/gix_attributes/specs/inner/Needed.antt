@@ -1,0 +1,98 @@
+-- Which attributes the answers for selected ones depend on (own).
+use Rattle.std.specs.Prelude.{◌≡◌, ℕ, ◌+◌, ◌⊎◌, Bool, true, false, not, List, [], ⊤, length, map, replicate, All, MatchOption, slice_index_or}
+use Rattle.std.specs.List.{Contains, count_by, flat_map}
+use Rattle.attr_lists.specs.Collections.{Collection}
+use Rattle.attr_lists.specs.declared.types.TrackedAssignment.{TrackedAssignment}
+use Rattle.gix_attributes.specs.Contents.{Content, Wanted, bodies_of, initial_content, looked_up}
+use Rattle.gix_attributes.specs.inner.Consistency.{flags_of}
+use Rattle.gix_attributes.specs.declared.search.needed.BodyItem.{BodyItem}
+use Rattle.gix_attributes.specs.declared.search.selected_name.SelectedName.{SelectedName}
+
+-- the flag of the number is set
+abbrev pub IsFlagSet : List Bool → ℕ → Type 0
+IsFlagSet flags number = slice_index_or flags number false ≡ true
+
+-- a set has each number whose flag is set
+abbrev pub HasFlags : List Bool → (ℕ → Bool) → Type 0
+HasFlags flags has = (a : ℕ) → IsFlagSet flags a → has a ≡ true
+
+-- a set has each macro whose body has an item of an attribute that the set has
+abbrev pub IsClosedFor : Collection → (ℕ → Bool) → Type 0
+IsClosedFor known has = (m : ℕ) → All (λ i. has i.id.0 ≡ true → has m ≡ true) (slice_index_or (bodies_of known) m [])
+
+-- The flags of attributes that are needed for a selection are set. Those past the flags count as needed.
+pub record AreNeeded (known : Collection) (selection : List Wanted) (flags : List Bool) : Type 0 where
+  -- each name has a flag
+  pub count : length flags ≡ length known.names
+  -- each selected attribute is needed
+  pub selected : (a : ℕ) → slice_index_or (flags_of selection (length known.names)) a false ≡ true → slice_index_or flags a false ≡ true
+  -- a macro is needed if its body has an item of a needed attribute
+  pub closed : (m : ℕ) → All (λ i. slice_index_or flags i.id.0 true ≡ true → slice_index_or flags m true ≡ true)
+      (slice_index_or (bodies_of known) m [])
+  -- without a selection all are needed
+  pub all : length selection ≡ 0 → flags ≡ replicate (length known.names) true
+  -- no others are: each closed set that has the selected attributes has all needed ones
+  pub least : (has : ℕ → Bool) → HasFlags (flags_of selection (length known.names)) has → IsClosedFor known has → HasFlags flags has
+
+-- an item of the body of a macro
+abbrev pub body_item : ℕ → TrackedAssignment → BodyItem
+body_item owner item = record { attribute = item.id.0; owner = owner }
+
+-- the items of the body of a macro
+abbrev pub body_items : Collection → ℕ → List BodyItem
+body_items known owner = map (body_item owner) (slice_index_or (bodies_of known) owner [])
+
+-- the items of the bodies of some macros
+abbrev pub items_with : Collection → List ℕ → List BodyItem
+items_with known owners = flat_map (body_items known) owners
+
+-- the items of all bodies are among these
+abbrev pub HaveBodies : Collection → List BodyItem → Type 0
+HaveBodies known items = (m : ℕ) → All (Contains items) (body_items known m)
+
+-- the flags of all numbers of selected names are set
+abbrev pub AreSelectedSet : List Bool → List SelectedName → Type 0
+AreSelectedSet flags selected = All (λ s. MatchOption s.number ⊤ (IsFlagSet flags)) selected
+
+-- a set has the numbers of selected names
+abbrev pub HasSelected : List SelectedName → (ℕ → Bool) → Type 0
+HasSelected selected has = All (λ s. MatchOption s.number ⊤ (λ n. has n ≡ true)) selected
+
+-- a set has the macros of items
+abbrev pub HasOwners : List BodyItem → (ℕ → Bool) → Type 0
+HasOwners items has = All (λ i. has i.owner ≡ true) items
+
+-- a set has the macro of each item whose attribute it has
+abbrev pub IsClosedOver : List BodyItem → (ℕ → Bool) → Type 0
+IsClosedOver items has = All (λ i. has i.attribute ≡ true → has i.owner ≡ true) items
+
+-- no flags are set but those that each allowed set has
+abbrev pub SetsOnly : List Bool → List Bool → ((ℕ → Bool) → Type 0) → Type 0
+SetsOnly flags flags' IsAllowed = (has : ℕ → Bool) → HasFlags flags has → IsAllowed has → HasFlags flags' has
+
+-- the flag of each item's macro is set
+abbrev pub AreOwnersSet : List Bool → List BodyItem → Type 0
+AreOwnersSet flags items = All (λ i. IsFlagSet flags i.owner) items
+
+-- the flag of each item's macro is set, if that of its attribute is and the attribute is not on the stack
+abbrev pub AreClosedBut : List ℕ → List Bool → List BodyItem → Type 0
+AreClosedBut stack flags items =
+    All (λ i. IsFlagSet flags i.attribute → Contains stack i.attribute ⊎ IsFlagSet flags i.owner) items
+
+-- how many flags are not set
+abbrev pub count_unset : List Bool → ℕ
+count_unset flags = count_by not flags
+
+-- Flags and a stack after some attributes were marked: the number of each flag that was set is on the stack.
+pub record IsMarked (flags : List Bool) (stack : List ℕ) (flags' : List Bool) (stack' : List ℕ) : Type 0 where
+  pub count : length flags' ≡ length flags
+  pub set : (a : ℕ) → IsFlagSet flags a → IsFlagSet flags' a
+  pub pushed : (a : ℕ) → IsFlagSet flags' a → Contains stack' a ⊎ IsFlagSet flags a
+  pub stays : (a : ℕ) → Contains stack a → Contains stack' a
+  pub stacked : All (IsFlagSet flags) stack → All (IsFlagSet flags') stack'
+  pub left : length stack' + count_unset flags' ≡ length stack + count_unset flags
+
+-- An outcome that was initialised for the selected texts. Its searches skip what these don't depend on.
+pub record IsNarrowed (known : Collection) (texts : List (List ℕ)) (held : Content) : Type 0 where
+  pub content : held ≡ record (initial_content known texts) { needed = held.needed }
+  pub needed : AreNeeded known (looked_up known.names texts) held.needed
