@@ -51,6 +51,7 @@ impl search::Pattern for Attributes {
             let read = read_line(alloc, &mut known, line)?;
             push_line(&mut mappings, &mut dropped, read)?;
         }
+        mappings.shrink_to_fit();
         Ok((mappings, dropped))
     }
 }
@@ -208,7 +209,6 @@ pub fn without_macros(mut mappings: Vec<Mapping<Value>>) -> Vec<Mapping<Value>>
     mappings
 }
 
-/// Whether the line defines no macro.
 /// Whether a line defines a macro.
 pub fn defines_macros(mappings: &[Mapping<Value>]) -> bool
     ensures { result ≡ defines_macros (entries_view mappings.now) }
@@ -216,6 +216,7 @@ pub fn defines_macros(mappings: &[Mapping<Value>]) -> bool
     !mappings.iter().all(|mapping| defines_no_macro(mapping))
 }
 
+/// Whether the line defines no macro.
 pub(crate) fn defines_no_macro(mapping: &Mapping<Value>) -> bool
     ensures { result ≡ defines_no_macro (entry_view mapping.now) }
 {

@@ -90,6 +90,7 @@ pub(crate) fn read_all<R: Pull>(alloc: Global, reader: &mut R) -> Result<Vec<u8>
             return Err(Fault::Read);
         };
         if count == 0 {
+            input.shrink_to_fit();
             return Ok(input);
         }
         input.extend_from_slice(&chunk[..count])?;

@@ -16,8 +16,8 @@ loop-line-preserved c = record {
 
 pub returns : goal.returns
 returns c =
-    let kept : entries_view c.loop-line.mappings.items ≡ kept_list c.args.bytes.now = given-all _ _ _ _ c.loop-line.invariant.kept
-    c.in-None.ensures.steps.0 in
+    let kept : entries_view c.shrink_to_fit.new.self.items ≡ kept_list c.args.bytes.now =
+      ap entries_view c.shrink_to_fit.ensures.items ∙ given-all _ _ _ _ c.loop-line.invariant.kept c.in-None.ensures.steps.0 in
     record {
       kept = kept;
       left_out = given-all _ _ _ _ c.loop-line.invariant.left_out c.in-None.ensures.steps.0;
