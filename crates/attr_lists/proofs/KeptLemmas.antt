@@ -1,18 +1,19 @@
 -- The entries so far, and those of the lines that are left.
-use Rattle.std.proofs.Common.{◌≡◌, Bool, true, false, List, [], ◌∷◌, ◌++◌, map, filter, cond, Option, Some, None, MatchOption, Result, refl, sym, ap}
+use Rattle.std.proofs.Common.{◌≡◌, ℕ, not, if◌then◌else◌, Bool, true, false, List, [], ◌∷◌, ◌++◌, map, filter, cond, Option, Some, None, MatchOption, Result, Ok, Err, refl, sym, ap, subst}
 use Rattle.std.proofs.Common.{◌∙◌, append_assoc, append-nil}
 use Rattle.std.specs.List.{filter_map, cons_option, list_all}
 use Rattle.std.specs.Option.{option_to_list}
 use Rattle.std.proofs.lemmas.List.Folds.{list_all-map}
-use Rattle.std.specs.Result.{result_ok, result_err}
+use Rattle.std.specs.Result.{result_ok, result_err, result_map_both}
 use Rattle.attr_glob.specs.declared.search.pattern.Mapping.{Mapping}
-use Rattle.attr_text.specs.Items.{Refusal}
+use Rattle.attr_text.specs.Items.{Refusal, checked_name, invalid_name, reserved}
+use Rattle.attr_text.specs.Names.{is_valid_name, is_reserved_name}
 use Rattle.attr_text.specs.declared.assignment.Assignment.{Assignment}
 use Rattle.attr_lists.specs.declared.types.TrackedAssignment.{TrackedAssignment}
 use Rattle.attr_lists.specs.declared.types.Value.{Value}
 use Rattle.attr_lists.specs.declared.types.DropReason.{DropReason}
 use Rattle.attr_lists.specs.ListViews.{entry_view, entries_view}
-use Rattle.attr_lists.specs.KeptLists.{tracked, unless_refused, defines_no_macro, macro_valid, macros_valid}
+use Rattle.attr_lists.specs.KeptLists.{tracked, reason_of, unless_refused, defines_no_macro, macro_valid, macros_valid}
 
 -- a filter before or after a function
 map-filter : {X Y : Type 0} (f : X → Y) (p : Y → Bool) (xs : List X) → map f (filter (λ x. p (f x)) xs) ≡ filter p (map f xs)
@@ -31,6 +32,38 @@ entries_without_macros mappings = map-filter entry_view defines_no_macro mapping
 -- the result of items after these assignments
 abbrev pub read_after : List TrackedAssignment → List (Result Assignment Refusal) → Result (List TrackedAssignment) DropReason
 read_after before items = unless_refused (filter_map result_err items) (before ++ map tracked (filter_map result_ok items))
+
+-- one more assignment was read
+pub read-more : (before : List TrackedAssignment) (items : List (Result Assignment Refusal)) (whole : Result (List TrackedAssignment) DropReason)
+    (one : Result Assignment Refusal) (others : List (Result Assignment Refusal)) (assignment : TrackedAssignment)
+    (after : List TrackedAssignment) → after ≡ before ++ assignment ∷ [] → read_after before items ≡ whole → items ≡ one ∷ others
+    → Ok assignment ≡ result_map_both tracked reason_of one → read_after after others ≡ whole
+read-more before items whole (Err refusal) others assignment after grown so_far first is = absurd (cc)
+read-more before items whole (Ok a) others assignment after grown so_far first is =
+    let same : assignment ≡ tracked a = cc in
+    ap (λ read. read_after read others) grown
+    ∙ (ap (λ xs. unless_refused (filter_map result_err others) xs) (append_assoc before (assignment ∷ []) (map tracked (filter_map result_ok others)))
+    ∙ (ap (λ x. unless_refused (filter_map result_err others) (before ++ x ∷ map tracked (filter_map result_ok others))) same
+    ∙ (ap (λ l. read_after before l) (sym first) ∙ so_far)))
+
+-- an item was refused, so all are
+pub read-refused : (before : List TrackedAssignment) (items : List (Result Assignment Refusal)) (whole : Result (List TrackedAssignment) DropReason)
+    (one : Result Assignment Refusal) (others : List (Result Assignment Refusal)) (reason : DropReason)
+    → read_after before items ≡ whole → items ≡ one ∷ others → Err reason ≡ result_map_both tracked reason_of one → Err reason ≡ whole
+read-refused before items whole (Ok a) others reason so_far first is = absurd (cc)
+read-refused before items whole (Err refusal) others reason so_far first is =
+    let same : reason ≡ reason_of refusal = cc in
+    ap (λ r. Err r) same ∙ (ap (λ l. read_after before l) (sym first) ∙ so_far)
+
+-- a name that passes its check is the one that was checked
+pub checked-again : (text name : List ℕ) → Ok name ≡ checked_name text → checked_name name ≡ Ok name
+checked-again text name is = subst (λ n. checked_name n ≡ Ok name) (passed (is_valid_name text) (is_reserved_name text) (sym is)) (sym is)
+  where
+    passed : (valid reserved_too : Bool)
+        → (if not valid then Err (invalid_name text) else if reserved_too then Err (reserved text) else Ok text) ≡ Ok name → text ≡ name
+    passed false reserved_too h = absurd (cc)
+    passed true true h = absurd (cc)
+    passed true false h = cc
 
 -- the test of mappings is that of what is kept
 pub macros_of_mappings : (mappings : List (Mapping Value)) → list_all (λ m. macro_valid (entry_view m)) mappings ≡ macros_valid

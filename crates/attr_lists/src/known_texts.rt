@@ -1,8 +1,12 @@
 //! Names and values that were read lately, so that the items of a file share the texts of their names and values.
 
-ghost use Rattle.std.specs.Prelude.{◌≡◌, ◌<◌, IfOk};
+ghost use Rattle.std.specs.Prelude.{◌≡◌, ◌<◌, Ok, IfOk};
+ghost use Rattle.std.specs.Result.{result_map_both};
+ghost use Rattle.attr_text.specs.Items.{checked_name};
 ghost use Rattle.attr_text.specs.TextViews.{name_text, state_view, value_bytes};
+ghost use Rattle.attr_lists.specs.LineViews.{refusal_view};
 
+use crate::parse::{AttrError, check_attr};
 use crate::text_place::{PLACES, text_place};
 use attr_text::state::{Value, ValueRef};
 use attr_text::{Name, NameRef, State, StateRef};
@@ -13,7 +17,7 @@ use std::alloc::{AllocError, Global};
 /// many names and values.
 #[derive(Drop)]
 pub(crate) struct KnownTexts {
-    names: LastRead<Name>,
+    names: LastRead<KnownName>,
     values: LastRead<Value>,
 }
 
@@ -26,23 +30,49 @@ impl KnownTexts {
         }
     }
 
-    /// The name, which shares its text with a known name if that is the same.
+    /// The name of an item, which shares its text with a known name if that is the same, or why the item has none. Only a name
+    /// that is not known is checked.
     ///
     /// # Errors
     ///
     /// If memory runs out, or if there are `usize::MAX` copies of the known name.
-    pub(crate) fn name(&mut self, alloc: Global, name: NameRef<'_>) -> Result<Name, AllocError>
+    pub(crate) fn name<'a>(
+        &mut self,
+        alloc: Global,
+        name: &'a [u8],
+    ) -> Result<Result<Name, AttrError<'a>>, AllocError>
+        ensures { IfOk result (λ own.
+            result_map_both (λ name. name) refusal_view own ≡ checked_name name.now) }
+    {
+        let place = text_place(name);
+        if let Some(known) = self.names.get(place)
+            && known.name.as_str().as_bytes() == name
+        {
+            return Ok(Ok(known.name.clone(alloc)?));
+        }
+        match check_attr(name) {
+            Ok(name) => Ok(Ok(self.keep_name(alloc, place, name)?)),
+            Err(error) => Ok(Err(error)),
+        }
+    }
+
+    // The name, which is known from then on.
+    fn keep_name(
+        &mut self,
+        alloc: Global,
+        place: usize,
+        name: NameRef<'_>,
+    ) -> Result<Name, AllocError>
+        requires place { place < 64 }
+        requires checked { checked_name (name_text name) ≡ Ok (name_text name) }
         ensures { IfOk result (λ own. own ≡ name_text name.entry) }
     {
-        let place = text_place(name.as_str().as_bytes());
-        if let Some(known) = self.names.get(place)
-            && known.as_str() == name.as_str()
-        {
-            return known.clone(alloc);
-        }
-        let own = name.to_owned(alloc)?;
-        self.names.keep(place, own.clone(alloc)?)?;
-        Ok(own)
+        let name = name.to_owned(alloc)?;
+        let known = KnownName {
+            name: name.clone(alloc)?,
+        };
+        self.names.keep(place, known)?;
+        Ok(name)
     }
 
     /// The state, whose value shares its bytes with a known value if that is the same.
@@ -74,6 +104,13 @@ impl KnownTexts {
         self.values.keep(place, own.clone(alloc)?)?;
         Ok(own)
     }
+}
+
+// A name that an item may have: it is not reserved.
+#[derive(Drop)]
+struct KnownName {
+    name: Name,
+    ghost checked: { checked_name name ≡ Ok name },
 }
 
 // What was read last at each place of texts. It takes room for those that were read, so that small files cost little.

@@ -127,6 +127,24 @@ impl<'a> Iter<'a> {
             text: input.as_bytes(),
         }
     }
+
+    /// The name and the state of the next item. The name is not checked.
+    pub(crate) fn next_parts(&mut self) -> Option<(&'a [u8], StateRef<'a>)>
+        ensures none { IfNone result ((self.old ≡ []) × (self.new ≡ [])) }
+        ensures some { IfSome result (λ parts. self.old
+            ≡ with_state (checked_name parts.0.now) (state_view parts.1) ∷ self.new) }
+    {
+        match first_word(self.text) {
+            None => {
+                self.text = b"";
+                None
+            }
+            Some((word, equals, rest)) => {
+                self.text = rest;
+                Some(parts_of(word, equals))
+            }
+        }
+    }
 }
 
 impl<'a> Iterator for Iter<'a> {
@@ -137,16 +155,8 @@ impl<'a> Iterator for Iter<'a> {
     ghost remaining = { item_count (λ items. items) };
 
     fn next(&mut self) -> Option<Result<AssignmentRef<'a>, AttrError<'a>>> {
-        match first_word(self.text) {
-            None => {
-                self.text = b"";
-                None
-            }
-            Some((word, equals, rest)) => {
-                self.text = rest;
-                Some(parse_attr(word, equals))
-            }
-        }
+        let (name, state) = self.next_parts()?;
+        Some(assign(name, state))
     }
 }
 
@@ -238,17 +248,17 @@ fn after_blanks(text: &[u8]) -> &[u8]
     &text[first_not_blank(text)..]
 }
 
-// The assignment of a word whose first `=` has this place, or why it is none.
-fn parse_attr<'a>(word: &'a [u8], equals: Option<usize>) -> Result<AssignmentRef<'a>, AttrError<'a>>
+// The name, which is not checked, and the state of a word whose first `=` has this place.
+fn parts_of<'a>(word: &'a [u8], equals: Option<usize>) -> (&'a [u8], StateRef<'a>)
     requires place { equals ≡ position is_equals word.now }
     requires inside { ForSome equals (λ i. i < length word.now) }
-    ensures { item_view result ≡ item_of word.now }
+    ensures { with_state (checked_name result.0.now) (state_view result.1) ≡ item_of word.now }
 {
     let name = &word[..equals.unwrap_or(word.len())];
     match name.first() {
-        Some(b'-') => assign(&name[1..], StateRef::Unset),
-        Some(b'!') => assign(&name[1..], StateRef::Unspecified),
-        _ => assign(name, state_from(word, equals)),
+        Some(b'-') => (&name[1..], StateRef::Unset),
+        Some(b'!') => (&name[1..], StateRef::Unspecified),
+        _ => (name, state_from(word, equals)),
     }
 }
 

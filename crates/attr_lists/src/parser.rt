@@ -5,8 +5,10 @@ ghost use Rattle.std.specs.Option.{option_to_list};
 ghost use Rattle.std.specs.Result.{result_ok, result_err, result_map_both};
 ghost use Rattle.attr_glob.specs.Patterns.{all_flags};
 ghost use Rattle.attr_glob.specs.Views.{mode_bits, pattern_view};
+ghost use Rattle.attr_text.specs.Items.{checked_name, with_state};
 ghost use Rattle.attr_text.specs.Names.{is_valid_name};
-ghost use Rattle.attr_lists.specs.LineViews.{item_view, target_view, line_view};
+ghost use Rattle.attr_text.specs.TextViews.{state_view};
+ghost use Rattle.attr_lists.specs.LineViews.{target_view, line_view};
 ghost use Rattle.attr_lists.specs.inner.LineSteps.{given_by, IsLineRead, kept_line_view};
 ghost use Rattle.attr_lists.specs.ListViews.{entry_view, entries_view};
 ghost use Rattle.attr_lists.specs.shared.MacroNumbers.{defines_macros};
@@ -18,7 +20,7 @@ use crate::types::{Assignments, AttributeId, DropReason, Dropped, TrackedAssignm
 use attr_glob::pattern::Mode;
 use attr_glob::search;
 use attr_glob::search::pattern::Mapping;
-use attr_text::{Assignment, AssignmentRef, NameRef};
+use attr_text::{Assignment, NameRef, StateRef};
 use bitflags::Flags;
 use bstr::BStr;
 use smallvec::SmallVec;
@@ -116,14 +118,14 @@ fn read_given(
 fn read_items(
     alloc: Global,
     known: &mut KnownTexts,
-    items: Iter<'_>,
+    mut items: Iter<'_>,
 ) -> Result<Result<Assignments, DropReason>, AllocError>
     ensures { IfOk result (λ read. result_map_both (λ a. a.items) (λ reason. reason) read
         ≡ items_read items.entry) }
 {
     let mut assignments = SmallVec::new(alloc);
-    for item in items {
-        match read_item(alloc, known, item)? {
+    while let Some((name, state)) = items.next_parts() {
+        match read_item(alloc, known, name, state)? {
             Ok(assignment) => assignments.push(assignment)?,
             Err(reason) => return Ok(Err(reason)),
         }
@@ -134,17 +136,18 @@ fn read_items(
 fn read_item(
     alloc: Global,
     known: &mut KnownTexts,
-    item: Result<AssignmentRef<'_>, AttrError<'_>>,
+    name: &[u8],
+    state: StateRef<'_>,
 ) -> Result<Result<TrackedAssignment, DropReason>, AllocError>
-    ensures { IfOk result (λ read. read
-        ≡ result_map_both tracked reason_of (item_view item.entry)) }
+    ensures { IfOk result (λ read. read ≡ result_map_both tracked reason_of
+        (with_state (checked_name name.now) (state_view state.entry))) }
 {
-    match item {
-        Ok(assignment) => Ok(Ok(TrackedAssignment {
+    match known.name(alloc, name)? {
+        Ok(name) => Ok(Ok(TrackedAssignment {
             id: AttributeId::default(),
             inner: Assignment {
-                name: known.name(alloc, assignment.name)?,
-                state: known.state(alloc, assignment.state)?,
+                name,
+                state: known.state(alloc, state)?,
             },
         })),
         Err(AttrError::InvalidName(_)) => Ok(Err(DropReason::InvalidName)),
