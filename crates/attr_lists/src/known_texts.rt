@@ -1,4 +1,4 @@
-//! Names and values that were read lately, so that the items of a file share the texts of their names and values.
+//! Names and values that were read lately, so that items share the texts of their names and values.
 
 ghost use Rattle.std.specs.Prelude.{◌≡◌, ◌<◌, Ok, IfOk};
 ghost use Rattle.std.specs.Result.{result_map_both};
@@ -12,18 +12,21 @@ use attr_text::state::{Value, ValueRef};
 use attr_text::{Name, NameRef, State, StateRef};
 use std::alloc::{AllocError, Global};
 
+// Longer names and values are not kept, so that what is known takes no more than some hundred KB.
+const LONGEST: usize = 1_024;
+
 /// For each place of texts, the name and the value that were read there last. Files have few names and values, most of them in
-/// many lines, so most items find theirs. Only what is at the place is compared, so that an item takes no longer if a file has
-/// many names and values.
-#[derive(Drop)]
-pub(crate) struct KnownTexts {
+/// many lines and in many files, so most items find theirs. Only what is at the place is compared, so that an item takes no longer
+/// if a file has many names and values.
+#[derive(Debug, Drop)]
+pub struct KnownTexts {
     names: LastRead<KnownName>,
     values: LastRead<Value>,
 }
 
 impl KnownTexts {
     /// No names and values. It takes no memory.
-    pub(crate) fn new(alloc: Global) -> KnownTexts {
+    pub fn new(alloc: Global) -> KnownTexts {
         KnownTexts {
             names: LastRead::new(alloc),
             values: LastRead::new(alloc),
@@ -67,12 +70,14 @@ impl KnownTexts {
         requires checked { checked_name (name_text name) ≡ Ok (name_text name) }
         ensures { IfOk result (λ own. own ≡ name_text name.entry) }
     {
-        let name = name.to_owned(alloc)?;
-        let known = KnownName {
-            name: name.clone(alloc)?,
-        };
-        self.names.keep(place, known)?;
-        Ok(name)
+        let own = name.to_owned(alloc)?;
+        if name.as_str().len() <= LONGEST {
+            let known = KnownName {
+                name: own.clone(alloc)?,
+            };
+            self.names.keep(place, known)?;
+        }
+        Ok(own)
     }
 
     /// The state, whose value shares its bytes with a known value if that is the same.
@@ -101,20 +106,22 @@ impl KnownTexts {
             return known.clone(alloc);
         }
         let own = value.to_owned(alloc)?;
-        self.values.keep(place, own.clone(alloc)?)?;
+        if value.as_bstr().as_bytes().len() <= LONGEST {
+            self.values.keep(place, own.clone(alloc)?)?;
+        }
         Ok(own)
     }
 }
 
 // A name that an item may have: it is not reserved.
-#[derive(Drop)]
+#[derive(Debug, Drop)]
 struct KnownName {
     name: Name,
     ghost checked: { checked_name name ≡ Ok name },
 }
 
 // What was read last at each place of texts. It takes room for those that were read, so that small files cost little.
-#[derive(Drop)]
+#[derive(Debug, Drop)]
 struct LastRead<T> {
     // For each place the index of its text: past the end if none was read there.
     indexes: [usize; PLACES],

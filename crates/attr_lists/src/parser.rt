@@ -12,7 +12,7 @@ ghost use Rattle.attr_lists.specs.LineViews.{target_view, line_view};
 ghost use Rattle.attr_lists.specs.inner.LineSteps.{given_by, IsLineRead, kept_line_view};
 ghost use Rattle.attr_lists.specs.ListViews.{entry_view, entries_view};
 ghost use Rattle.attr_lists.specs.shared.MacroNumbers.{defines_macros};
-ghost use Rattle.attr_lists.specs.KeptLists.{tracked, reason_of, items_read, macro_pattern, entry_for, line_read, defines_no_macro, macro_valid, macros_valid};
+ghost use Rattle.attr_lists.specs.KeptLists.{IsReadAs, tracked, reason_of, items_read, macro_pattern, entry_for, line_read, defines_no_macro, macro_valid, macros_valid};
 
 use crate::known_texts::KnownTexts;
 use crate::parse::{AttrError, Error, Iter, Kind, parse};
@@ -35,8 +35,6 @@ impl search::Pattern for Attributes {
 
     type Dropped = Dropped;
 
-    ghost use Rattle.attr_lists.specs.KeptLists.{IsReadAs};
-
     ghost reads = { λ parse bytes source mappings dropped. IsReadAs bytes mappings dropped };
 
     // The path of the file changes nothing in the lines.
@@ -46,16 +44,32 @@ impl search::Pattern for Attributes {
         bytes: &[u8],
         _source: &str,
     ) -> Result<(Vec<Mapping<Value>>, Vec<Dropped>), AllocError> {
-        let mut mappings = Vec::new(alloc);
-        let mut dropped = Vec::new(alloc);
         let mut known = KnownTexts::new(alloc);
-        for line in parse(alloc, bytes) {
-            let read = read_line(alloc, &mut known, line)?;
-            push_line(&mut mappings, &mut dropped, read)?;
-        }
-        mappings.shrink_to_fit();
-        Ok((mappings, dropped))
+        read_buffer(alloc, &mut known, bytes)
     }
+}
+
+/// Reads a buffer as the mappings of a list, and returns them with the lines that are left out. The items share their names and
+/// values with those that are known.
+///
+/// # Errors
+///
+/// If memory runs out.
+pub fn read_buffer(
+    alloc: Global,
+    known: &mut KnownTexts,
+    bytes: &[u8],
+) -> Result<(Vec<Mapping<Value>>, Vec<Dropped>), AllocError>
+    ensures { IfOk result (λ r. IsReadAs bytes.now r.0.items r.1.items) }
+{
+    let mut mappings = Vec::new(alloc);
+    let mut dropped = Vec::new(alloc);
+    for line in parse(alloc, bytes) {
+        let read = read_line(alloc, known, line)?;
+        push_line(&mut mappings, &mut dropped, read)?;
+    }
+    mappings.shrink_to_fit();
+    Ok((mappings, dropped))
 }
 
 // Pushes a line to the mappings, or to the dropped lines.

@@ -138,7 +138,12 @@ impl Search {
         ensures unchanged { OnErr result (collection.new ≡ collection.old) }
     {
         self.patterns.reserve()?;
-        let (list, dropped) = read_list(alloc, bytes, source, base, allow_macros)?;
+        let (patterns, dropped) = read_lines(alloc, collection, bytes, allow_macros)?;
+        let list = List {
+            patterns,
+            source: Some(source),
+            base,
+        };
         let indexed = collection.register(alloc, list)?;
         self.patterns.push_reserved(indexed);
         Ok(dropped)
@@ -271,26 +276,22 @@ impl Search {
     }
 }
 
-// The list of a buffer below a base, without numbers so far, and its dropped lines.
-fn read_list(
+// The mappings of a buffer, without numbers so far, and its dropped lines.
+fn read_lines(
     alloc: Global,
+    collection: &mut MetadataCollection,
     bytes: &[u8],
-    source: String,
-    base: Option<Vec<u8>>,
     allow_macros: bool,
-) -> Result<(List<Attributes>, Vec<Dropped>), AllocError>
+) -> Result<(Vec<Mapping<Value>>, Vec<Dropped>), AllocError>
     ensures lines { IfOk result (λ r.
-        entries_view r.0.patterns.items ≡ kept_list_where allow_macros bytes.now) }
+        entries_view r.0.items ≡ kept_list_where allow_macros bytes.now) }
     ensures dropped { IfOk result (λ r. r.1.items ≡ dropped_lines bytes.now) }
-    ensures source { IfOk result (λ r. r.0.source ≡ Some source) }
-    ensures base { IfOk result (λ r. base_bytes r.0.base ≡ base_bytes base) }
-    ensures read { IfOk result (λ r. AreRead (entries_view r.0.patterns.items)) }
-    ensures valid { IfOk result (λ r. macros_valid (entries_view r.0.patterns.items) ≡ true) }
+    ensures read { IfOk result (λ r. AreRead (entries_view r.0.items)) }
+    ensures valid { IfOk result (λ r. macros_valid (entries_view r.0.items) ≡ true) }
+    ensures same { collection.new ≡ collection.old }
 {
-    let (mut list, dropped) = List::from_bytes(alloc, bytes, source, None, Attributes)?;
-    list.base = base;
-    list.patterns = allowed(list.patterns, allow_macros);
-    Ok((list, dropped))
+    let (mappings, dropped) = collection.read_buffer(alloc, bytes)?;
+    Ok((allowed(mappings, allow_macros), dropped))
 }
 
 // The mappings, without those that define a macro if macros are not allowed.

@@ -4,7 +4,7 @@ ghost use Rattle.std.specs.Prelude.{◌≡◌, ◌↔◌, ◌<◌, [], length, t
 ghost use Rattle.attr_lists.specs.Collections.{empty_collection};
 ghost use Rattle.attr_lists.specs.Numbers.{AppendsNames, number_of, numbered_lines};
 ghost use Rattle.attr_lists.specs.Definitions.{IsSoundCollection, free_id, macro_body, without_list, HoldsList};
-ghost use Rattle.attr_lists.specs.KeptLists.{macros_valid};
+ghost use Rattle.attr_lists.specs.KeptLists.{macros_valid, IsReadAs};
 ghost use Rattle.attr_lists.specs.ListViews.{entries_view};
 ghost use Rattle.attr_lists.specs.NameViews.{names_from, names_left};
 ghost use Rattle.std.specs.List.{IsDistinct, list_any};
@@ -23,9 +23,10 @@ ghost use Rattle.gix_attributes.specs.inner.Registering.{Registers};
 
 use crate::Search;
 use attr_glob::search::pattern::{List, Mapping};
+use attr_lists::known_texts::KnownTexts;
 use attr_lists::name_table::{NameTable, Names};
-use attr_lists::parser::macros_valid;
-use attr_lists::types::{Assignments, AttributeId, Attributes, Value};
+use attr_lists::parser::{macros_valid, read_buffer};
+use attr_lists::types::{Assignments, AttributeId, Attributes, Dropped, Value};
 use attr_search::indexed_list::IndexedList;
 use attr_search::indexed_lists::IndexedLists;
 use std::alloc::{AllocError, Global};
@@ -36,10 +37,15 @@ use std::marker::Model;
 ///
 /// A name gets the next number when it is first seen, and keeps it for good. The definitions of a list are active as
 /// long as the list is registered, and the body of a macro is that of its last active definition (gitattributes page: a
-/// later definition replaces an earlier one). Each list is registered under a list id of its own.
-#[derive(Debug, Drop)]
+/// later definition replaces an earlier one). Each list is registered under a list id of its own. Lists that a search reads
+/// share their names and values with those that were read of late, of which the collection has up to 64 each.
+#[derive(Drop)]
+#[derive_where(Debug)]
 pub struct MetadataCollection {
     numbering: NameTable,
+    // The names and values that lists had of late.
+    #[derive_where(skip)]
+    known: KnownTexts,
 }
 
 impl Model for MetadataCollection {
@@ -63,6 +69,7 @@ impl MetadataCollection {
     {
         MetadataCollection {
             numbering: NameTable::new(alloc),
+            known: KnownTexts::new(alloc),
         }
     }
 
@@ -143,6 +150,18 @@ impl MetadataCollection {
         self.numbering.iter()
     }
 
+    // Reads a buffer as the mappings of a list, and returns them with the lines that are left out.
+    pub(crate) fn read_buffer(
+        &mut self,
+        alloc: Global,
+        bytes: &[u8],
+    ) -> Result<(Vec<Mapping<Value>>, Vec<Dropped>), AllocError>
+        ensures read { IfOk result (λ r. IsReadAs bytes.now r.0.items r.1.items) }
+        ensures same { self.new ≡ self.old }
+    {
+        read_buffer(alloc, &mut self.known, bytes)
+    }
+
     // Registers a list under the least free list id, until it is removed.
     pub(crate) fn register(
         &mut self,
@@ -205,6 +224,7 @@ impl MetadataCollection {
     {
         Ok(MetadataCollection {
             numbering: self.numbering.clone(alloc)?,
+            known: KnownTexts::new(alloc),
         })
     }
 }

@@ -2,7 +2,7 @@
 use Rattle.std.proofs.Common.{◌≡◌, ◌++◌}
 use Rattle.attr_lists.specs.ListViews.{entries_view}
 use Rattle.attr_lists.specs.KeptLists.{kept_lines, lines_left_out, kept_list, dropped_lines}
-use Rattle.attr_lists.proofs.parser.AttributesPattern.bytes_to_patterns.Given as goal
+use Rattle.attr_lists.proofs.parser.read_buffer.Given as goal
 
 abbrev pub invariant-loop-line : goal.invariant-loop-line
 invariant-loop-line l = record {

@@ -4,7 +4,7 @@ use Rattle.attr_lists.specs.ListViews.{entries_view}
 use Rattle.attr_lists.specs.KeptLists.{line_read, kept_list, macros_valid}
 use Rattle.attr_lists.proofs.KeptLemmas.{given-more, given-all}
 use Rattle.attr_lists.proofs.KeptLaws.{kept_macros_valid}
-use Rattle.attr_lists.proofs.parser.AttributesPattern.bytes_to_patterns.Goals as goal
+use Rattle.attr_lists.proofs.parser.read_buffer.Goals as goal
 
 pub loop-line-preserved : goal.loop-line-preserved
 loop-line-preserved c = record {
@@ -17,7 +17,7 @@ loop-line-preserved c = record {
 pub returns : goal.returns
 returns c =
     let kept : entries_view c.shrink_to_fit.new.self.items ≡ kept_list c.args.bytes.now =
-      ap entries_view c.shrink_to_fit.ensures.items ∙ given-all _ _ _ _ c.loop-line.invariant.kept c.in-None.ensures.steps.0 in
+    ap entries_view c.shrink_to_fit.ensures.items ∙ given-all _ _ _ _ c.loop-line.invariant.kept c.in-None.ensures.steps.0 in
     record {
       kept = kept;
       left_out = given-all _ _ _ _ c.loop-line.invariant.left_out c.in-None.ensures.steps.0;
