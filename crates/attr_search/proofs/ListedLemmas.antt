@@ -57,6 +57,14 @@ free_more slots numbers from place number at free so_far = λ n le past.
     after : (j : ℕ) → place ≤ j → j ≢ place → place + 1 ≤ j
     after j ge apart = ⊎_elim (λ (lt : place < j). omega (arith, lt)) (λ (le : j ≤ place). absurd (apart (omega (arith, ge, le)))) (cases_lt place j)
 
+-- up to the number that is next in the order, slots are free
+pub free_up_to : {X : Type 0} (slots : List (Option X)) (numbers : List ℕ) (from place number : ℕ) → IsNonDecreasing numbers →
+    place < length numbers → ((d : ℕ) → get_or numbers place d ≡ number) → AreFreeButLeft slots numbers from place →
+    (k : ℕ) → from ≤ k → k < number → get_or slots k None ≡ None
+free_up_to slots numbers from place number rising within at so_far = λ k ge lt. so_far k ge (λ j d later below e.
+    let rises = rising place j d later below in
+    absurd (omega (arith, rises, ap (λ i. i) (at d), e, lt)))
+
 -- this one is filled
 pub next_is : {X : Type 0} (slots : List (Option X)) (numbers : List ℕ) (from place number : ℕ) → IsNonDecreasing numbers →
     place < length numbers → ((d : ℕ) → get_or numbers place d ≡ number) → from ≤ number → is_some (get_or slots number None) ≡ true →
@@ -64,9 +72,7 @@ pub next_is : {X : Type 0} (slots : List (Option X)) (numbers : List ℕ) (from 
 next_is slots numbers from place number rising within at le filled so_far = record {
   reached = le;
   filled = filled;
-  free = λ k ge lt. so_far k ge (λ j d later below e.
-      let rises = rising place j d later below in
-      absurd (omega (arith, rises, ap (λ i. i) (at d), e, lt)));
+  free = free_up_to slots numbers from place number rising within at so_far;
 }
 
 -- none is left
@@ -108,3 +114,16 @@ listed_permuted slots numbers sorted same listed = record {
   below = All-permutation (λ n. n < length slots) numbers sorted same listed.below;
   others = λ a none. listed.others a (list_any-IsPermutation (nat_eq a) numbers sorted same ∙ none);
 }
+
+-- from a later number on, a slot is free if its number isn't left but for this one, which is before
+pub free_on : {X : Type 0} (slots : List (Option X)) (numbers : List ℕ) (from after place number : ℕ) → ((d : ℕ) → get_or numbers place d ≡ number) →
+    from ≤ after → number < after → AreFreeButLeft slots numbers from place → AreFreeButLeft slots numbers after (place + 1)
+free_on slots numbers from after place number at le lt so_far = λ n ge past.
+    so_far n (omega (arith, le, ge)) (λ j d later below e.
+    ⊎_elim
+    (λ (same : j ≡ place). let here : number ≡ n = sym (at d) ∙ ap (λ i. get_or numbers i d) (sym same) ∙ e in absurd (omega (arith, here, lt, ge)))
+    (λ (apart : j ≢ place). past j d (next j later apart) below e)
+    (cases_eq j place))
+  where
+    next : (j : ℕ) → place ≤ j → j ≢ place → place + 1 ≤ j
+    next j ge apart = ⊎_elim (λ (lt : place < j). omega (arith, lt)) (λ (le : j ≤ place). absurd (apart (omega (arith, ge, le)))) (cases_lt place j)

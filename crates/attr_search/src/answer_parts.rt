@@ -200,6 +200,14 @@ impl AnswerParts {
         }
     }
 
+    /// What the match with these parts assigns.
+    pub fn assigned(&self, found: MatchRef) -> &Assignment
+        requires { IsMatchRef self.now found }
+        ensures { result.now ≡ (match_by_ref self.now found).assignment }
+    {
+        self.assignment_at(found.kind, found.assignment)
+    }
+
     fn assignment_at(&self, kind: MatchKind, index: usize) -> &Assignment
         requires { HasAssignment self.now (cause_of kind) index }
         ensures { result.now ≡ assignment_at self.now (cause_of kind) index }

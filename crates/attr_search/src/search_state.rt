@@ -19,7 +19,9 @@ ghost use Rattle.attr_search.specs.shared.Slotted.{BodiesHaveSlots, LinesHaveSlo
 ghost use Rattle.attr_search.specs.shared.Slotted.{bodies_view};
 ghost use Rattle.attr_search.specs.inner.Filling.{BodiesFit};
 ghost use Rattle.attr_search.specs.inner.Searched.{KeepsState, ListKeepsNamed, ListsKeepNamed, SearchedLine, SearchedList, SearchedLists, SearchedPlaces, TestsRoots, has_free_item, query_candidates, query_setting, state_slots, state_wanted};
-ghost use Rattle.attr_search.specs.shared.SlotContents.{AreFlagsAmong, count_remaining};
+ghost use Rattle.attr_search.specs.shared.SlotContents.{AreFlagsAmong, AreListed, count_remaining};
+ghost use Rattle.std.specs.List.Sorted.{IsNonDecreasing};
+ghost use Rattle.std.specs.Option.{option_copied};
 
 use crate::bodies::BodyChange;
 use crate::indexed_list::IndexedList;
@@ -31,6 +33,7 @@ use crate::slots::AnswerSlots;
 use crate::wanted::WantedFlags;
 use attr_glob::wildmatch::MatchBuffers;
 use attr_lists::types::{Match, TrackedAssignment, Value};
+use attr_text::Assignment;
 use std::alloc::{AllocError, Global};
 use std::marker::Model;
 use std::mem;
@@ -245,6 +248,22 @@ impl SearchState {
             (AreFreeFrom self.now.answers from) (IsNextFilled self.now.answers from) }
     {
         self.filler.slots.next_filled(from)
+    }
+
+    /// The numbers of the slots that may have an answer, if they are in their order, as after a search for all attributes.
+    pub fn listed(&self) -> Option<&[usize]>
+        ensures listed { IfSome result (λ numbers. AreListed self.now.answers numbers.now) }
+        ensures ordered { IfSome result (λ numbers. IsNonDecreasing numbers.now) }
+    {
+        self.filler.slots.listed()
+    }
+
+    /// What is assigned to the attribute with this number. None if its slot is free, or if there is no such slot.
+    pub fn assigned(&self, number: usize) -> Option<&Assignment>
+        ensures { option_copied result
+            ≡ option_map (λ m. m.assignment) (slice_index_or self.now.answers number None) }
+    {
+        self.filler.slots.assigned(number)
     }
 
     /// The body of each attribute, by number: empty if it is no macro.

@@ -1,12 +1,13 @@
 //! What a search fills: a slot for each attribute. A slot has the answer for its attribute, or none. The wanted slots are
 //! those that a search looks for. It fills the needed slots alone, and skips the others.
 
-ghost use Rattle.std.specs.Prelude.{◌≡◌, Bool, List, ◌<◌, ◌≤◌, ◌*◌, ◌-◌, ◌++◌, ◌&&◌, ⊤, All, false, None, Some, [], IfOk, OnErr, OnOk, MatchOption, is_none, is_some, length, map, not, option_map, replicate, set, slice_index_or};
+ghost use Rattle.std.specs.Prelude.{◌≡◌, Bool, List, ◌<◌, ◌≤◌, ◌*◌, ◌-◌, ◌++◌, ◌&&◌, ⊤, All, false, None, Some, [], IfOk, IfSome, OnErr, OnOk, MatchOption, is_none, is_some, length, map, not, option_map, replicate, set, slice_index_or};
 ghost use Rattle.std.specs.List.{list_any};
 ghost use Rattle.attr_table.specs.Cut.{is_done};
 ghost use Rattle.attr_search.specs.Matches.{cause_of, match_view};
 ghost use Rattle.attr_search.specs.Settings.{HaveSlots};
 ghost use Rattle.std.specs.List.Sorted.{IsNonDecreasing};
+ghost use Rattle.std.specs.Option.{option_copied};
 ghost use Rattle.attr_search.specs.Slots.{AreFreeFrom, IsNextFilled, filled_in, slots_of};
 ghost use Rattle.attr_search.specs.shared.BodyChanges.{changed_bodies, sized_bodies};
 ghost use Rattle.attr_search.specs.inner.Pending.{IsPlaced, item_match, line_origin, pending_item};
@@ -20,6 +21,7 @@ use crate::matching_line::MatchingLine;
 use crate::pending_item::PendingItem;
 use crate::wanted::WantedFlags;
 use attr_lists::types::{Match, MatchKind, TrackedAssignment};
+use attr_text::Assignment;
 use std::alloc::{AllocError, Global};
 use std::marker::Model;
 
@@ -281,6 +283,29 @@ impl AnswerSlots {
             next_listed(&self.slots, &self.filled, from)
         } else {
             next_slot(&self.slots, from)
+        }
+    }
+
+    /// The numbers of the slots that may have an answer, if they are in their order, as after a search for all attributes.
+    pub fn listed(&self) -> Option<&[usize]>
+        ensures listed { IfSome result (λ numbers. AreListed self.now.answers numbers.now) }
+        ensures ordered { IfSome result (λ numbers. IsNonDecreasing numbers.now) }
+    {
+        if self.is_ordered {
+            Some(&self.filled)
+        } else {
+            None
+        }
+    }
+
+    /// What is assigned to the attribute with this number. None if its slot is free, or if there is no such slot.
+    pub fn assigned(&self, number: usize) -> Option<&Assignment>
+        ensures { option_copied result
+            ≡ option_map (λ m. m.assignment) (slice_index_or self.now.answers number None) }
+    {
+        match self.slots.get(number) {
+            Some(Some(found)) => Some(self.parts.assigned(*found)),
+            _ => None,
         }
     }
 

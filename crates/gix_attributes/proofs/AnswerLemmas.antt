@@ -1,9 +1,11 @@
 -- The answers of an engine after a search: those of the only stable table, and where they are.
-use Rattle.std.proofs.Common.{◌≡◌, ℕ, ◌+◌, ◌<◌, ◌≤◌, Bool, true, false, List, [], ◌∷◌, length, drop, map, Option, Some, None}
+use Rattle.std.proofs.Common.{◌≡◌, ℕ, ◌++◌, ◌-◌, append_assoc, ◌+◌, ◌<◌, ◌≤◌, Bool, true, false, List, [], ◌∷◌, length, drop, map, Option, Some, None}
 use Rattle.std.proofs.Common.{⊎_elim, MatchOption, option_map, slice_get, get_or, refl, sym, ap, ◌∙◌, arith, subst, eqb-true}
 use Rattle.std.specs.Prelude.{◌==◌, ⊤, bytes_eq, if◌then◌else◌, option_and_then, unwrap_or}
 use Rattle.std.specs.List.{IsDistinct}
-use Rattle.std.proofs.lemmas.List.{length-map, drop_more, drop_all}
+use Rattle.std.proofs.lemmas.List.{append-nil, length-map, map-append, drop_more, drop_all}
+use Rattle.std.specs.List.Sorted.{IsNonDecreasing}
+use Rattle.attr_search.proofs.ForCallers.{AreFreeButLeft, free_up_to, none_left as none_listed}
 use Rattle.std.proofs.lemmas.Option.{get_or_from_slice_get, slice_get_cases, slice_get_within}
 use Rattle.attr_lists.specs.Collections.{Collection}
 use Rattle.gix_attributes.specs.Contents.{Content, Wanted, found_in, initial_content, looked_up, names_selected, reset_content, selected_in}
@@ -19,12 +21,12 @@ use Rattle.attr_lists.proofs.ForCallers.{number_at}
 use Rattle.gix_attributes.proofs.KeepingLemmas.{bodies_have_names}
 use Rattle.gix_attributes.proofs.NarrowedLemmas.{narrowed_answers, narrowed_found, narrowed_named}
 use Rattle.gix_attributes.specs.inner.Needed.{AreNeeded, IsNarrowed}
-use Rattle.gix_attributes.proofs.OutcomeLemmas.{emptied_again}
+use Rattle.gix_attributes.proofs.OutcomeLemmas.{emptied_again, found_at, found_over, nothing_found}
 use Rattle.gix_attributes.proofs.OutcomeLemmas.{reset_at_first, reset_searched}
 use Rattle.gix_attributes.specs.EngineStates.{EngineState, is_specified, path_setting, returned_answers, specified_among, texts_answered}
 use Rattle.gix_attributes.specs.EngineView.{returned_by}
 use Rattle.gix_attributes.specs.Registration.{RegistersAlone}
-use Rattle.gix_attributes.specs.inner.SoundEngines.{AreNumbered, ArePlacesOf, IsCurrentFor, IsOfNames}
+use Rattle.gix_attributes.specs.inner.SoundEngines.{AreNumbered, ArePlacesOf, IsCurrentFor, IsOfNames, is_slot_specified}
 use Rattle.std.proofs.lemmas.Option.{slice_get-map}
 use Rattle.gix_attributes.proofs.RegistrationLemmas.{bodies_registered}
 
@@ -232,3 +234,64 @@ pub next_answer : {X : Type 0} (answers : Option (List X)) (i : ℕ) (x : X) →
 next_answer None i x e = absurd (cc)
 next_answer (Some xs) i x e =
     drop_more xs i x (slice_get_within xs i x (sym e)) ∙ ap (λ y. y ∷ drop (i + 1) xs) (get_or_from_slice_get xs i x x (sym e))
+
+-- ---- the numbers of the answers
+
+-- what is left from a number on is its answer, if that is specified, and what is left from the next one on
+left_more : (slots : List (Option Matched)) (number : ℕ) (o : Option Matched) → number < length slots → get_or slots number None ≡ o →
+    left_from slots number ≡ (if is_slot_specified o then o ∷ left_from slots (number + 1) else left_from slots (number + 1))
+left_more slots number None lt e = ap (λ l. map Some (specified_among l)) (found_at slots number None lt e)
+left_more slots number (Some m) lt e =
+    ap (λ l. map Some (specified_among l)) (found_at slots number (Some m) lt e)
+    ∙ more (is_specified m.assignment.state) refl
+  where
+    rest : List Matched
+    rest = found_in (drop (number + 1) slots)
+
+    more : (b : Bool) → is_specified m.assignment.state ≡ b →
+        map Some (specified_among (m ∷ rest)) ≡ (if b then Some m ∷ left_from slots (number + 1) else left_from slots (number + 1))
+    more true is = ap (map Some) (kept_one m rest is)
+    more false is = ap (map Some) (left_out m rest is)
+
+-- one more number is looked at
+pub numbered_more : (slots : List (Option Matched)) (before after : List ℕ) (number : ℕ) → number < length slots →
+    after ≡ (if is_slot_specified (get_or slots number None) then before ++ number ∷ [] else before) →
+    map (λ n. get_or slots n None) before ++ left_from slots number ≡ left_from slots 0 →
+    map (λ n. get_or slots n None) after ++ left_from slots (number + 1) ≡ left_from slots 0
+numbered_more slots before after number lt e so_far = by_case (is_slot_specified (get_or slots number None)) refl
+  where
+    at : ℕ → Option Matched
+    at n = get_or slots n None
+
+    by_case : (b : Bool) → is_slot_specified (get_or slots number None) ≡ b →
+        map (λ n. get_or slots n None) after ++ left_from slots (number + 1) ≡ left_from slots 0
+    by_case true is =
+        ap (λ l. map at l ++ left_from slots (number + 1)) (e ∙ ap (λ b. if b then before ++ number ∷ [] else before) is)
+        ∙ ap (λ l. l ++ left_from slots (number + 1)) (map-append at before (number ∷ []))
+        ∙ append_assoc (map at before) (at number ∷ []) (left_from slots (number + 1))
+        ∙ ap (λ l. map at before ++ l) (sym (left_more slots number (at number) lt refl
+        ∙ ap (λ b. if b then at number ∷ left_from slots (number + 1) else left_from slots (number + 1)) is))
+        ∙ so_far
+    by_case false is =
+        ap (λ l. map at l ++ left_from slots (number + 1)) (e ∙ ap (λ b. if b then before ++ number ∷ [] else before) is)
+        ∙ ap (λ l. map at before ++ l) (sym (left_more slots number (at number) lt refl
+        ∙ ap (λ b. if b then at number ∷ left_from slots (number + 1) else left_from slots (number + 1)) is))
+        ∙ so_far
+
+-- nothing is left before the number that is listed next
+pub left_at : (slots : List (Option Matched)) (listed : List ℕ) (from place number : ℕ) → IsNonDecreasing listed → place < length listed →
+    ((d : ℕ) → get_or listed place d ≡ number) → from ≤ number → number < length slots → AreFreeButLeft slots listed from place →
+    left_from slots from ≡ left_from slots number
+left_at slots listed from place number rising within at le lt free =
+    ap (λ l. map Some (specified_among l)) (found_over slots from number (number - from) (omega (arith, le)) (omega (arith, lt))
+    (free_up_to slots listed from place number rising within at free))
+
+-- nothing is left once all that is listed was looked at
+pub all_numbered : (slots : List (Option Matched)) (listed numbers : List ℕ) (from place : ℕ) → length listed ≤ place →
+    AreFreeButLeft slots listed from place → map (λ n. get_or slots n None) numbers ++ left_from slots from ≡ left_from slots 0 →
+    ArePlacesOf slots (specified_among (found_in slots)) numbers
+all_numbered slots listed numbers from place past free so_far =
+    sym (append-nil (map (λ n. get_or slots n None) numbers))
+    ∙ ap (λ l. map (λ n. get_or slots n None) numbers ++ l)
+    (sym (ap (λ l. map Some (specified_among l)) (nothing_found slots from (none_listed slots listed from place past free))))
+    ∙ so_far

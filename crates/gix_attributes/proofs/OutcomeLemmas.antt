@@ -160,7 +160,8 @@ held_as known texts slots slots' bodies needed seen kept kept' e f g h =
     ap (λ s. Held s bodies seen kept) e ∙ ap (λ b. Held slots' b seen kept) f ∙ ap (λ w. Held slots' (bodies_of known) w kept) g
     ∙ ap (Held slots' (bodies_of known) (looked_up known.names texts)) h
 
-found_at : (slots : List (Option Matched)) (i : ℕ) (o : Option Matched) → i < length slots → get_or slots i None ≡ o → found_in (drop i slots) ≡
+-- what is found from a number on is its answer, if there is one, and what is found from the next number on
+pub found_at : (slots : List (Option Matched)) (i : ℕ) (o : Option Matched) → i < length slots → get_or slots i None ≡ o → found_in (drop i slots) ≡
     cons_option o (found_in (drop (i + 1) slots))
 found_at slots i o lt e = ap found_in (drop_more slots i None lt) ∙ ap (λ x. cons_option x (found_in (drop (i + 1) slots))) e
 

@@ -1,9 +1,13 @@
 //! The numbers of the answers without a selection.
 
-ghost use Rattle.std.specs.Prelude.{◌≡◌, None, OnOk, slice_index_or};
-ghost use Rattle.gix_attributes.specs.inner.SoundEngines.{AreNumbered, is_slot_specified};
+ghost use Rattle.std.specs.Prelude.{◌≡◌, ◌++◌, ◌∷◌, [], None, OnOk, slice_index_or, if◌then◌else◌};
+ghost use Rattle.std.specs.List.Sorted.{IsNonDecreasing};
+ghost use Rattle.attr_search.specs.shared.SlotContents.{AreListed};
+ghost use Rattle.gix_attributes.specs.Contents.{found_in};
+ghost use Rattle.gix_attributes.specs.EngineStates.{specified_among};
+ghost use Rattle.gix_attributes.specs.inner.SoundEngines.{AreNumbered, ArePlacesOf, is_slot_specified};
 
-use crate::search::{AttributeId, Outcome};
+use crate::search::Outcome;
 use std::alloc::AllocError;
 
 // The numbers of the attributes that are found and not unspecified, if nothing is selected, in place of those that are there.
@@ -14,15 +18,62 @@ pub(crate) fn number_answers(outcome: &Outcome, numbers: &mut Vec<usize>) -> Res
     if outcome.selected_len() > 0 {
         return Ok(());
     }
-    let mut from = 0;
-    while let Some(id) = outcome.next_found(AttributeId(from)) {
-        if is_specified(outcome, id.0) {
-            numbers.push(id.0)?;
-        }
+    match outcome.state.listed() {
+        Some(listed) => number_listed(outcome, listed, numbers),
+        None => number_all(outcome, numbers),
+    }
+}
 
-        // Slots can be counted.
-        prove!(id.0 < outcome.len());
-        from = id.0 + 1;
+// The numbers among those of slots that may have an answer, which are in their order.
+fn number_listed(
+    outcome: &Outcome,
+    listed: &[usize],
+    numbers: &mut Vec<usize>,
+) -> Result<(), AllocError>
+    requires listed { AreListed outcome.now.slots listed.now }
+    requires ordered { IsNonDecreasing listed.now }
+    requires none { numbers.old.items ≡ [] }
+    ensures { OnOk result (ArePlacesOf
+        outcome.now.slots (specified_among (found_in outcome.now.slots)) numbers.new.items) }
+{
+    let mut from = 0;
+    for number in listed {
+        // A number may be there again.
+        if *number >= from {
+            push_specified(outcome, *number, numbers)?;
+
+            // Slots can be counted.
+            prove!(*number < outcome.len());
+            from = *number + 1;
+        }
+    }
+    Ok(())
+}
+
+// The same, slot by slot.
+fn number_all(outcome: &Outcome, numbers: &mut Vec<usize>) -> Result<(), AllocError>
+    requires { numbers.old.items ≡ [] }
+    ensures { OnOk result (ArePlacesOf
+        outcome.now.slots (specified_among (found_in outcome.now.slots)) numbers.new.items) }
+{
+    for number in 0..outcome.len() {
+        push_specified(outcome, number, numbers)?;
+    }
+    Ok(())
+}
+
+// Pushes a number if its slot has an answer that is not unspecified.
+fn push_specified(
+    outcome: &Outcome,
+    number: usize,
+    numbers: &mut Vec<usize>,
+) -> Result<(), AllocError>
+    ensures { OnOk result (numbers.new.items ≡ (if is_slot_specified (slice_index_or
+        outcome.now.slots number None) then numbers.old.items ++ number ∷ []
+        else numbers.old.items)) }
+{
+    if is_specified(outcome, number) {
+        numbers.push(number)?;
     }
     Ok(())
 }
@@ -31,8 +82,8 @@ pub(crate) fn number_answers(outcome: &Outcome, numbers: &mut Vec<usize>) -> Res
 fn is_specified(outcome: &Outcome, number: usize) -> bool
     ensures { result ≡ is_slot_specified (slice_index_or outcome.now.slots number None) }
 {
-    match outcome.match_by_id(AttributeId(number)) {
-        Some(found) => !found.assignment.state.is_unspecified(),
+    match outcome.state.assigned(number) {
+        Some(assignment) => !assignment.state.as_ref().is_unspecified(),
         None => false,
     }
 }
