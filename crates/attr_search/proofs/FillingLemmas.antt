@@ -30,7 +30,7 @@ use Rattle.attr_search.specs.declared.slot_filler.SlotFiller.{SlotFiller}
 use Rattle.attr_lists.specs.declared.types.MatchKind.{MatchKind}
 use Rattle.attr_search.specs.Matches.{is_macro_kind, cause_of}
 use Rattle.attr_search.specs.inner.Filling.{BodiesFit, KeepsFiller}
-use Rattle.attr_search.specs.inner.Pending.{item_match, line_origin, items_beside, pending_item, IsPlaced, task_of, pending_tasks, no_item}
+use Rattle.attr_search.specs.inner.Pending.{item_answer, line_origin, items_beside, pending_item, IsPlaced, task_of, pending_tasks, no_item}
 
 -- a test and its denial
 free_of : (x : Bool) → true ≡ not x → x ≡ false
@@ -99,22 +99,13 @@ fill_is bs origin line body top item empty held new is lt bodied e written = fun
         rw (n, written, g) refl)
         (cases_eq a item.id.0)
 
--- what the match by an item was made of
-match_made : (x : Matched) (is_macro : Bool) (cause : Option ℕ) → x.is_macro ≡ is_macro → x.cause ≡ cause →
-    x ≡ record { origin = x.origin; assignment = x.assignment; is_macro = is_macro; cause = cause }
-match_made x is_macro cause e f =
-    let Made : Bool → Option ℕ → Matched = λ k c. record { origin = x.origin; assignment = x.assignment; is_macro = k; cause = c } in
-    ap (λ k. Made k x.cause) e ∙ ap (Made is_macro) f
-
-item_filled : (line : MatchingLine) (bs : List (List TrackedAssignment)) (body : List TrackedAssignment) (top : PendingItem)
-    (item : TrackedAssignment) (kind : MatchKind) (empty : Bool) (held new : List (Option Matched)) →
-    item ≡ pending_item line.items.now bs top → item.id.0 < length held → body ≡ slice_index_or bs item.id.0 [] →
-    empty ≡ (length body == 0) → is_macro_kind kind ≡ not empty → cause_of kind ≡ top.cause →
-    new ≡ set held item.id.0 (Some (item_match line item kind)) →
+item_filled : (line : MatchingLine) (bs : List (List TrackedAssignment)) (top : PendingItem) (item : TrackedAssignment)
+    (held new : List (Option Matched)) → item ≡ pending_item line.items.now bs top → item.id.0 < length held →
+    new ≡ set held item.id.0 (Some (item_answer line bs item top.cause)) →
     slots_of new ≡ fill (map table_items bs) (task_of (line_origin line) line.items.now bs top) (slots_of held)
-item_filled line bs body top item kind empty held new is lt bodied e k d written =
-    fill_is bs (line_origin line) line.items.now body top item empty held new is lt bodied e
-    (written ∙ ap (λ m. set held item.id.0 (Some m)) (match_made (item_match line item kind) (not empty) top.cause k d))
+item_filled line bs top item held new is lt written =
+    let body = slice_index_or bs item.id.0 [] in
+    fill_is bs (line_origin line) line.items.now body top item (length body == 0) held new is lt refl refl written
 
 -- what fills a needed slot fills it where others are skipped
 fill_narrowed : (bodies : List (List Item)) (t : Task) (needed : ℕ → Bool) (held new : Slots) → needed t.item.attribute ≡ true →
@@ -133,21 +124,19 @@ fill_narrowed bodies t needed held new own filled = fun_ext at
         rw (filled, n) refl)
         (cases_eq a t.item.attribute)
 
-pub item_opened : (line : MatchingLine) (bs : List (List TrackedAssignment)) (body : List TrackedAssignment) (top : PendingItem)
-    (item : TrackedAssignment) (kind : MatchKind) (empty : Bool) (held new : SlotContents) → new.needed ≡ held.needed →
-    true ≡ not (is_some (open_slots held item.id.0)) →
-    item ≡ pending_item line.items.now bs top → item.id.0 < length held.answers → body ≡ slice_index_or bs item.id.0 [] →
-    empty ≡ (length body == 0) → is_macro_kind kind ≡ not empty → cause_of kind ≡ top.cause →
-    new.answers ≡ set held.answers item.id.0 (Some (item_match line item kind)) →
+pub item_opened : (line : MatchingLine) (bs : List (List TrackedAssignment)) (top : PendingItem) (item : TrackedAssignment)
+    (held new : SlotContents) → new.needed ≡ held.needed → true ≡ not (is_some (open_slots held item.id.0)) →
+    item ≡ pending_item line.items.now bs top → item.id.0 < length held.answers →
+    new.answers ≡ set held.answers item.id.0 (Some (item_answer line bs item top.cause)) →
     open_slots new ≡ fill (map table_items bs) (task_of (line_origin line) line.items.now bs top) (open_slots held)
-item_opened line bs body top item kind empty held new same free is lt bodied e k d written =
+item_opened line bs top item held new same free is lt written =
     let t = task_of (line_origin line) line.items.now bs top in
     let own : is_needed held.needed item.id.0 ≡ true =
     open_needed (is_needed held.needed) (slots_of held.answers) item.id.0 (free_of (is_some (open_slots held item.id.0)) free) in
     let taken : is_needed held.needed t.item.attribute ≡ true = ap (λ (i : TrackedAssignment). is_needed held.needed i.id.0) (sym is) ∙ own in
     ap (λ flags. narrowed (is_needed flags) (slots_of new.answers)) same
     ∙ fill_narrowed (map table_items bs) t (is_needed held.needed) (slots_of held.answers) (slots_of new.answers) taken
-    (item_filled line bs body top item kind empty held.answers new.answers is lt bodied e k d written)
+    (item_filled line bs top item held.answers new.answers is lt written)
 
 -- filling a slot that is open leaves those that are not needed as they are
 pub set_skips : (held new : SlotContents) (i : ℕ) (x : Option Matched) → new.answers ≡ set held.answers i x →
@@ -159,12 +148,12 @@ set_skips held new i x written free a skip =
     ap (λ l. get_or l a None) written ∙ get_or-set_other held.answers i a x None apart
 
 -- the slot of the item that waited was filled, and so that of the item which it is
-pub filled_as : (line : MatchingLine) (bs : List (List TrackedAssignment)) (w : PendingItem) (item : TrackedAssignment) (kind : MatchKind)
+pub filled_as : (line : MatchingLine) (bs : List (List TrackedAssignment)) (w : PendingItem) (item : TrackedAssignment)
     (held new : List (Option Matched)) → item ≡ pending_item line.items.now bs w →
-    new ≡ set held (pending_item line.items.now bs w).id.0 (Some (item_match line (pending_item line.items.now bs w) kind)) →
-    new ≡ set held item.id.0 (Some (item_match line item kind))
-filled_as line bs w item kind held new is written =
-    written ∙ ap (λ (i : TrackedAssignment). set held i.id.0 (Some (item_match line i kind))) (sym is)
+    new ≡ set held item.id.0 (Some (item_answer line bs (pending_item line.items.now bs w) w.cause)) →
+    new ≡ set held item.id.0 (Some (item_answer line bs item w.cause))
+filled_as line bs w item held new is written =
+    written ∙ ap (λ (i : TrackedAssignment). set held item.id.0 (Some (item_answer line bs i w.cause))) (sym is)
 
 -- the items among which one waits have the names of their numbers
 named_source : (names : List (List ℕ)) (line : List TrackedAssignment) (bs : List (List TrackedAssignment)) (cause : Option ℕ) →

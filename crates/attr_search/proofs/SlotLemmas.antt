@@ -1,5 +1,5 @@
 -- What is left to fill, and slots over what is stored.
-use Rattle.std.proofs.Common.{◌≡◌, ℕ, zero, suc, ◌+◌, ◌-◌, ◌<◌, ◌≤◌, Bool, true, false, ◌&&◌, ◌||◌, cond, nat_eq, List, [], ◌∷◌, ◌++◌, length, get_or}
+use Rattle.std.proofs.Common.{◌≡◌, ◌==◌, ℕ, zero, suc, ◌+◌, ◌-◌, ◌<◌, ◌≤◌, Bool, true, false, ◌&&◌, ◌||◌, cond, nat_eq, List, [], ◌∷◌, ◌++◌, length, get_or}
 use Rattle.std.proofs.Common.{set}
 use Rattle.std.proofs.Common.{take, map, Option, Some, None, is_some, option_map, MatchOption, refl, sym, ap, ◌∙◌, arith, Result, Ok, Err, zero-add}
 use Rattle.std.proofs.Common.{length-take}
@@ -17,7 +17,8 @@ use Rattle.std.proofs.lemmas.List.Elements.{All-set, All-weaker, All-head, All-t
 use Rattle.std.proofs.lemmas.List.Folds.{list_any-append}
 use Rattle.attr_table.specs.Setting.{Origin}
 use Rattle.attr_search.specs.shared.SlotContents.{AreListed, count_remaining, remaining_at, wanted_numbers}
-use Rattle.attr_search.specs.Matches.{cause_of}
+use Rattle.std.specs.Prelude.{not, slice_index_or}
+use Rattle.attr_search.specs.Matches.{cause_of, is_macro_kind}
 use Rattle.attr_search.specs.inner.AnswerRefs.{HasAssignment, KeepsAnswer, RefersTo, IsMatchRef}
 use Rattle.attr_search.specs.inner.AnswerRefs.{AreMatchRefs, assignment_at, line_by_ref, match_by_ref}
 use Rattle.attr_search.specs.inner.AnswerRefs.{matches_by_ref}
@@ -30,7 +31,7 @@ use Rattle.attr_text.specs.declared.assignment.Assignment.{Assignment}
 use Rattle.attr_lists.specs.declared.types.MatchKind.{MatchKind}
 use Rattle.attr_search.specs.declared.matching_line.MatchingLine.{MatchingLine}
 use Rattle.attr_search.specs.declared.pending_item.PendingItem.{PendingItem}
-use Rattle.attr_search.specs.inner.Pending.{items_beside, line_origin, no_item, pending_item}
+use Rattle.attr_search.specs.inner.Pending.{item_answer, item_match, items_beside, line_origin, no_item, pending_item}
 use Rattle.attr_search.specs.shared.Slotted.{bodies_view, no_origin}
 use Rattle.attr_search.specs.declared.answer_parts.MatchRef.{MatchRef}
 use Rattle.std.proofs.lemmas.Option.{get_or_from_slice_get, slice_get_within}
@@ -232,11 +233,14 @@ fill_counts flags slots i x w left taken same lt free counted read byte =
     let one : taken ≡ cond (get_or flags i false) 1 0 = byte ∙ byte_is w ∙ ap (λ b. cond b 1 0) read in
     (omega arith, omega arith)
 
--- the item that waits, by bodies that are seen as others
-pub item_is : (line : List TrackedAssignment) (top : PendingItem) (item : TrackedAssignment) (given : List (Vec TrackedAssignment Global))
-    (bodies seen : List (List TrackedAssignment)) → item ≡ pending_item line (bodies_view given) top → bodies_view given ≡ bodies → bodies ≡ seen →
-    item ≡ pending_item line seen top
-item_is line top item given bodies seen is same e = is ∙ ap (λ bs. pending_item line bs top) (same ∙ e)
+-- the match by an item is the answer by it, if its kind tells whether there is a body
+pub match_made : (line : MatchingLine) (item : TrackedAssignment) (kind : MatchKind) (cause : Option ℕ) (bodies : List (List TrackedAssignment))
+    (body : List TrackedAssignment) (empty : Bool) → body ≡ slice_index_or bodies item.id.0 [] → empty ≡ (length body == 0) →
+    is_macro_kind kind ≡ not empty → cause_of kind ≡ cause → item_match line item kind ≡ item_answer line bodies item cause
+match_made line item kind cause bodies body empty bodied counted told caused =
+    let Made : Bool → Option ℕ → Matched = λ k c. record { origin = line_origin line; assignment = item.inner; is_macro = k; cause = c } in
+    ap (λ k. Made k (cause_of kind)) (told ∙ ap not (counted ∙ ap (λ (b : List TrackedAssignment). length b == 0) bodied))
+    ∙ ap (Made (not (length (slice_index_or bodies item.id.0 []) == 0))) caused
 
 pub line_kept : (store : PartsContent) (origin : Origin) (l : Option ℕ) → MatchOption l ⊤ (λ s. RefersTo store s origin) → MatchOption l ⊤
     (λ s. s < length store.lines)

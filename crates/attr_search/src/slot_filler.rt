@@ -93,9 +93,8 @@ impl SlotFiller {
         if !self.slots.is_free(attribute) {
             return Ok(());
         }
-        let is_macro = !body_of(self.slots.bodies(), attribute).is_empty();
         let is_expanded = is_set(&item.inner.state);
-        self.slots.fill(alloc, line, top, top.kind(is_macro))?;
+        self.slots.fill(alloc, line, top, attribute)?;
         if !is_expanded {
             return Ok(());
         }

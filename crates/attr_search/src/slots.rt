@@ -4,13 +4,13 @@
 ghost use Rattle.std.specs.Prelude.{◌≡◌, Bool, List, ◌<◌, ◌≤◌, ◌*◌, ◌-◌, ◌++◌, ◌&&◌, ⊤, All, false, None, Some, [], IfOk, IfSome, OnErr, OnOk, MatchOption, is_none, is_some, length, map, not, option_map, replicate, set, slice_index_or};
 ghost use Rattle.std.specs.List.{list_any};
 ghost use Rattle.attr_table.specs.Cut.{is_done};
-ghost use Rattle.attr_search.specs.Matches.{cause_of, match_view};
+ghost use Rattle.attr_search.specs.Matches.{match_view};
 ghost use Rattle.attr_search.specs.Settings.{HaveSlots};
 ghost use Rattle.std.specs.List.Sorted.{IsNonDecreasing};
 ghost use Rattle.std.specs.Option.{option_copied};
 ghost use Rattle.attr_search.specs.Slots.{AreFreeFrom, IsNextFilled, filled_in, slots_of};
 ghost use Rattle.attr_search.specs.shared.BodyChanges.{changed_bodies, sized_bodies};
-ghost use Rattle.attr_search.specs.inner.Pending.{IsPlaced, item_match, line_origin, pending_item};
+ghost use Rattle.attr_search.specs.inner.Pending.{IsPlaced, item_answer, line_origin, pending_item};
 ghost use Rattle.attr_search.specs.shared.Slotted.{bodies_view};
 ghost use Rattle.attr_search.specs.shared.SlotContents.{AreFlagsAmong, AreListed, SlotContents, count_remaining, empty_slots, open_slots, wanted_numbers};
 ghost use Rattle.attr_search.specs.inner.SlotsView.{AllAreNeeded, AreOpen};
@@ -18,9 +18,9 @@ ghost use Rattle.attr_search.specs.inner.SlotsView.{AllAreNeeded, AreOpen};
 use crate::answer_parts::{AnswerParts, MatchRef};
 use crate::bodies::BodyChange;
 use crate::matching_line::MatchingLine;
-use crate::pending_item::PendingItem;
+use crate::pending_item::{PendingItem, body_of};
 use crate::wanted::WantedFlags;
-use attr_lists::types::{Match, MatchKind, TrackedAssignment};
+use attr_lists::types::{Match, TrackedAssignment};
 use attr_text::Assignment;
 use std::alloc::{AllocError, Global};
 use std::marker::Model;
@@ -216,7 +216,7 @@ impl AnswerSlots {
         self.parts.begin_line();
     }
 
-    /// Fills a free slot with an item of the line, or of a macro's body to which the line expands.
+    /// Fills the free slot of an attribute with an item of the line, or of a macro's body to which the line expands.
     ///
     /// # Errors
     ///
@@ -226,26 +226,26 @@ impl AnswerSlots {
         alloc: Global,
         line: MatchingLine<'_>,
         top: PendingItem,
-        kind: MatchKind,
+        attribute: usize,
     ) -> Result<(), AllocError>
         requires placed { IsPlaced line.items.now self.old.bodies top }
-        requires cause { cause_of kind ≡ top.cause }
-        requires within { (pending_item line.items.now self.old.bodies top).id.0
-            < length self.old.answers }
-        requires free { is_some (open_slots self.old
-            (pending_item line.items.now self.old.bodies top).id.0) ≡ false }
+        requires own { attribute ≡ (pending_item line.items.now self.old.bodies top).id.0 }
+        requires within { attribute < length self.old.answers }
+        requires bodies { length self.old.bodies ≡ length self.old.answers }
+        requires free { is_some (open_slots self.old attribute) ≡ false }
         requires line { MatchOption self.old.line ⊤ (λ o. o ≡ line_origin line) }
         ensures answers { OnOk result (
             let item = pending_item line.entry.items.now self.old.bodies top in
-            self.new.answers
-            ≡ set self.old.answers item.id.0 (Some (item_match line.entry item kind))) }
+            self.new.answers ≡ set self.old.answers attribute
+            (Some (item_answer line.entry self.old.bodies item top.cause))) }
         ensures refused { OnErr result (self.new.answers ≡ self.old.answers) }
         ensures wanted { self.new.wanted ≡ self.old.wanted }
         ensures needed { self.new.needed ≡ self.old.needed }
         ensures bodies { self.new.bodies ≡ self.old.bodies }
         ensures line { MatchOption self.new.line ⊤ (λ o. o ≡ line_origin line.entry) }
     {
-        let attribute = top.item(line.items, self.parts.bodies()).id.0;
+        let is_macro = !body_of(self.parts.bodies(), attribute).is_empty();
+        let kind = top.kind(is_macro);
         self.filled.reserve(1)?;
         let found = self.parts.keep(alloc, line, top, kind)?;
         self.is_ordered = false;

@@ -1,5 +1,5 @@
 -- What waits on the stack of a search (own). Nothing here has to be believed.
-use Rattle.std.specs.Prelude.{◌≡◌, ℕ, ◌<◌, List, [], ◌∷◌, ◌++◌, map, length, All, Option, Some, None, slice_index_or}
+use Rattle.std.specs.Prelude.{◌≡◌, ◌==◌, ℕ, ◌<◌, not, List, [], ◌∷◌, ◌++◌, map, length, All, Option, Some, None, slice_index_or}
 use Rattle.attr_text.specs.declared.state.State.TheVariants.{Unspecified}
 use Rattle.attr_lists.specs.declared.types.MatchKind.{MatchKind}
 use Rattle.attr_lists.specs.declared.types.TrackedAssignment.{TrackedAssignment}
@@ -20,6 +20,16 @@ line_origin line = index_origin line.index.now.value line.line
 abbrev pub item_match : MatchingLine → TrackedAssignment → MatchKind → Matched
 item_match line item kind =
     record { origin = line_origin line; assignment = item.inner; is_macro = is_macro_kind kind; cause = cause_of kind }
+
+-- the answer by an item of a line, or of a cause's body: its attribute is a macro if it has a body
+abbrev pub item_answer : MatchingLine → List (List TrackedAssignment) → TrackedAssignment → Option ℕ → Matched
+item_answer line bodies item cause =
+    record {
+      origin = line_origin line;
+      assignment = item.inner;
+      is_macro = not (length (slice_index_or bodies item.id.0 []) == 0);
+      cause = cause;
+    }
 
 -- the bodies, as the table knows them
 abbrev pub table_bodies : List (List TrackedAssignment) → List (List Item)

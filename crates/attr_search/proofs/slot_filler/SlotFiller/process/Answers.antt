@@ -1,6 +1,7 @@
 use Rattle.std.proofs.Common.{None, ◌∙◌, ap, get_or, sym, length, refl, []}
 use Rattle.std.proofs.Math.ListN.{length-set}
 use Rattle.std.specs.Prelude.{slice_index_or}
+use Rattle.attr_lists.specs.declared.types.TrackedAssignment.{TrackedAssignment}
 use Rattle.std.proofs.lemmas.Result.{on_ok_weaker}
 use Rattle.attr_search.specs.shared.SlotContents.{open_slots}
 use Rattle.attr_search.specs.inner.Pending.{line_origin, pending_item, table_bodies}
@@ -17,12 +18,18 @@ is_free-requires c =
     can.bodies.in_bodies c.requires.placed
     (c.item-item.ensures ∙ ap (λ bs. pending_item c.args.line.items.now bs c.args.top) c.bodies.ensures)
 
+pub fill-requires-clause-own : goal.fill-requires-clause-own
+fill-requires-clause-own c =
+    ap (λ (i : TrackedAssignment). i.id.0)
+    (c.item-item.ensures ∙ ap (λ bs. pending_item c.args.line.items.now bs c.args.top) c.bodies.ensures)
+
 pub fill-requires-clause-within : goal.fill-requires-clause-within
 fill-requires-clause-within c =
     let before = c.args.self.now in
     let can = c.requires.at_line.can_fill in
     has_slot (length before.slots.answers) c.args.line.items.now before.slots.bodies c.args.top _ can.in_line
-    can.bodies.in_bodies c.requires.placed refl
+    can.bodies.in_bodies c.requires.placed
+    (c.item-item.ensures ∙ ap (λ bs. pending_item c.args.line.items.now bs c.args.top) c.bodies.ensures)
 
 pub returns-then-not-is_free-clause-kept : goal.returns-then-not-is_free-clause-kept
 returns-then-not-is_free-clause-kept c = record { wanted = refl; needed = refl; len = refl; bodies = refl; skipped = λ a skip. refl }
@@ -55,7 +62,7 @@ returns-then-not-is_expanded-clause-kept c =
       len = ap length c.in_ok-fill.ensures.answers ∙ length-set before.slots.answers _ _;
       bodies = c.fill.ensures.bodies;
       skipped = set_skips before.slots c.fill.new.self _ _
-          (filled_as c.args.line before.slots.bodies c.args.top _ _ before.slots.answers c.fill.new.self.answers is c.in_ok-fill.ensures.answers)
+          (filled_as c.args.line before.slots.bodies c.args.top _ before.slots.answers c.fill.new.self.answers is c.in_ok-fill.ensures.answers)
           c.if-not-is_free.ensures;
     }
 
@@ -69,7 +76,7 @@ returns-clause-kept c =
       len = ap length c.in_ok-fill.ensures.answers ∙ length-set before.slots.answers _ _;
       bodies = c.fill.ensures.bodies;
       skipped = set_skips before.slots c.fill.new.self _ _
-          (filled_as c.args.line before.slots.bodies c.args.top _ _ before.slots.answers c.fill.new.self.answers is c.in_ok-fill.ensures.answers)
+          (filled_as c.args.line before.slots.bodies c.args.top _ before.slots.answers c.fill.new.self.answers is c.in_ok-fill.ensures.answers)
           c.if-not-is_free.ensures;
     }
 
@@ -77,11 +84,14 @@ pub returns-then-not-is_expanded-clause-named : goal.returns-then-not-is_expande
 returns-then-not-is_expanded-clause-named c = λ names line bodies.
     let before = c.args.self.now in
     let can = c.requires.at_line.can_fill in
-    named_fill names c.args.line.items.now before.slots.bodies c.args.top _ _ before.slots.answers c.fill.new.self.answers refl
+    let is = c.item-item.ensures ∙ ap (λ bs. pending_item c.args.line.items.now bs c.args.top) c.bodies.ensures in
+    named_fill names c.args.line.items.now before.slots.bodies c.args.top _ _ before.slots.answers c.fill.new.self.answers is
     c.requires.placed
     (has_slot (length before.slots.answers) c.args.line.items.now before.slots.bodies c.args.top _ can.in_line
-    can.bodies.in_bodies c.requires.placed refl)
-    refl c.in_ok-fill.ensures.answers line bodies
+    can.bodies.in_bodies c.requires.placed is)
+    refl
+    (filled_as c.args.line before.slots.bodies c.args.top _ before.slots.answers c.fill.new.self.answers is c.in_ok-fill.ensures.answers)
+    line bodies
 
 pub returns-then-not-is_expanded-clause-less : goal.returns-then-not-is_expanded-clause-less
 returns-then-not-is_expanded-clause-less c =
@@ -90,12 +100,10 @@ returns-then-not-is_expanded-clause-less c =
     let is = c.item-item.ensures ∙ ap (λ bs. pending_item c.args.line.items.now bs c.args.top) c.bodies.ensures in
     rw c.fill.ensures.bodies (less_closed before.slots.bodies (line_origin c.args.line) c.args.line.items.now c.args.top _
     (open_slots before.slots) (open_slots c.fill.new.self) (length before.stack.items) is c.if-not-is_free.ensures
-    (item_opened c.args.line before.slots.bodies _ c.args.top _ _ _ before.slots c.fill.new.self c.fill.ensures.needed c.if-not-is_free.ensures is
+    (item_opened c.args.line before.slots.bodies c.args.top _ before.slots c.fill.new.self c.fill.ensures.needed c.if-not-is_free.ensures is
     (has_slot (length before.slots.answers) c.args.line.items.now before.slots.bodies c.args.top _ can.in_line
     can.bodies.in_bodies c.requires.placed is)
-    (c.body_of.ensures ∙ ap (λ bs. slice_index_or bs c.item-item.result.now.id.0 []) c.bodies-2.ensures)
-    c.is_empty-is_macro.ensures c.kind.ensures.kind c.kind.ensures.cause
-    (filled_as c.args.line before.slots.bodies c.args.top _ _ before.slots.answers c.fill.new.self.answers is c.in_ok-fill.ensures.answers)))
+    (filled_as c.args.line before.slots.bodies c.args.top _ before.slots.answers c.fill.new.self.answers is c.in_ok-fill.ensures.answers)))
 
 pub returns-then-not-is_expanded-clause-processed : goal.returns-then-not-is_expanded-clause-processed
 returns-then-not-is_expanded-clause-processed c = λ undone final earlier later counted p.
@@ -106,12 +114,10 @@ returns-then-not-is_expanded-clause-processed c = λ undone final earlier later 
     (stack_tasks c.args.line before.slots.bodies before.stack.items)
     (open_slots before.slots) (open_slots c.fill.new.self) final earlier before.taken later
     is c.if-not-is_free.ensures c.if-not-is_expanded.ensures
-    (item_opened c.args.line before.slots.bodies _ c.args.top _ _ _ before.slots c.fill.new.self c.fill.ensures.needed c.if-not-is_free.ensures is
+    (item_opened c.args.line before.slots.bodies c.args.top _ before.slots c.fill.new.self c.fill.ensures.needed c.if-not-is_free.ensures is
     (has_slot (length before.slots.answers) c.args.line.items.now before.slots.bodies c.args.top _ can.in_line
     can.bodies.in_bodies c.requires.placed is)
-    (c.body_of.ensures ∙ ap (λ bs. slice_index_or bs c.item-item.result.now.id.0 []) c.bodies-2.ensures)
-    c.is_empty-is_macro.ensures c.kind.ensures.kind c.kind.ensures.cause
-    (filled_as c.args.line before.slots.bodies c.args.top _ _ before.slots.answers c.fill.new.self.answers is c.in_ok-fill.ensures.answers))
+    (filled_as c.args.line before.slots.bodies c.args.top _ before.slots.answers c.fill.new.self.answers is c.in_ok-fill.ensures.answers))
     undone counted (rw (c.fill.ensures.bodies, c.in_ok-fill.ensures.wanted) at p)
 
 pub returns-clause-named : goal.returns-clause-named
@@ -119,11 +125,14 @@ returns-clause-named c =
     on_ok_weaker c.push_free.result (λ pushed names line bodies.
     let before = c.args.self.now in
     let can = c.requires.at_line.can_fill in
-    named_fill names c.args.line.items.now before.slots.bodies c.args.top _ _ before.slots.answers c.fill.new.self.answers refl
+    let is = c.item-item.ensures ∙ ap (λ bs. pending_item c.args.line.items.now bs c.args.top) c.bodies.ensures in
+    named_fill names c.args.line.items.now before.slots.bodies c.args.top _ _ before.slots.answers c.fill.new.self.answers is
     c.requires.placed
     (has_slot (length before.slots.answers) c.args.line.items.now before.slots.bodies c.args.top _ can.in_line
-    can.bodies.in_bodies c.requires.placed refl)
-    refl c.in_ok-fill.ensures.answers line bodies)
+    can.bodies.in_bodies c.requires.placed is)
+    refl
+    (filled_as c.args.line before.slots.bodies c.args.top _ before.slots.answers c.fill.new.self.answers is c.in_ok-fill.ensures.answers)
+    line bodies)
     c.push_free.ensures.pushed
 
 pub returns-clause-less : goal.returns-clause-less
@@ -131,17 +140,15 @@ returns-clause-less c =
     let before = c.args.self.now in
     let can = c.requires.at_line.can_fill in
     let is = c.item-item.ensures ∙ ap (λ bs. pending_item c.args.line.items.now bs c.args.top) c.bodies.ensures in
-    let body = c.body_of-body.ensures ∙ ap (λ bs. slice_index_or bs c.item-item.result.now.id.0 []) (c.bodies-3.ensures ∙ c.fill.ensures.bodies) in
-    let old = c.body_of.ensures ∙ ap (λ bs. slice_index_or bs c.item-item.result.now.id.0 []) c.bodies-2.ensures in
+    let body = c.body_of-body.ensures ∙ ap (λ bs. slice_index_or bs c.item-item.result.now.id.0 []) (c.bodies-2.ensures ∙ c.fill.ensures.bodies) in
     rw c.fill.ensures.bodies (on_ok_weaker c.push_free.result
     (λ pushed. less_open before.slots.bodies (line_origin c.args.line) c.args.line.items.now _ c.args.top _
     (open_slots before.slots) (open_slots c.fill.new.self) before.stack.items c.push_free.new.stack.items _
     is c.if-not-is_free.ensures
-    (item_opened c.args.line before.slots.bodies _ c.args.top _ _ _ before.slots c.fill.new.self c.fill.ensures.needed c.if-not-is_free.ensures is
+    (item_opened c.args.line before.slots.bodies c.args.top _ before.slots c.fill.new.self c.fill.ensures.needed c.if-not-is_free.ensures is
     (has_slot (length before.slots.answers) c.args.line.items.now before.slots.bodies c.args.top _ can.in_line
     can.bodies.in_bodies c.requires.placed is)
-    old c.is_empty-is_macro.ensures c.kind.ensures.kind c.kind.ensures.cause
-    (filled_as c.args.line before.slots.bodies c.args.top _ _ before.slots.answers c.fill.new.self.answers is c.in_ok-fill.ensures.answers))
+    (filled_as c.args.line before.slots.bodies c.args.top _ before.slots.answers c.fill.new.self.answers is c.in_ok-fill.ensures.answers))
     body (pushed (line_origin c.args.line) c.args.line.items.now before.slots.bodies (sym body)))
     c.push_free.ensures.pushed)
 
@@ -150,8 +157,7 @@ returns-clause-processed c =
     let before = c.args.self.now in
     let can = c.requires.at_line.can_fill in
     let is = c.item-item.ensures ∙ ap (λ bs. pending_item c.args.line.items.now bs c.args.top) c.bodies.ensures in
-    let body = c.body_of-body.ensures ∙ ap (λ bs. slice_index_or bs c.item-item.result.now.id.0 []) (c.bodies-3.ensures ∙ c.fill.ensures.bodies) in
-    let old = c.body_of.ensures ∙ ap (λ bs. slice_index_or bs c.item-item.result.now.id.0 []) c.bodies-2.ensures in
+    let body = c.body_of-body.ensures ∙ ap (λ bs. slice_index_or bs c.item-item.result.now.id.0 []) (c.bodies-2.ensures ∙ c.fill.ensures.bodies) in
     on_ok_weaker c.push_free.result
     (λ pushed undone final earlier later counted p.
     step_open before.slots.bodies _ (line_origin c.args.line) c.args.line.items.now _ c.args.top _
@@ -159,11 +165,10 @@ returns-clause-processed c =
     (stack_tasks c.args.line before.slots.bodies c.push_free.new.stack.items)
     (open_slots before.slots) (open_slots c.fill.new.self) final earlier before.taken later
     is c.if-not-is_free.ensures c.if-not-is_expanded.ensures
-    (item_opened c.args.line before.slots.bodies _ c.args.top _ _ _ before.slots c.fill.new.self c.fill.ensures.needed c.if-not-is_free.ensures is
+    (item_opened c.args.line before.slots.bodies c.args.top _ before.slots c.fill.new.self c.fill.ensures.needed c.if-not-is_free.ensures is
     (has_slot (length before.slots.answers) c.args.line.items.now before.slots.bodies c.args.top _ can.in_line
     can.bodies.in_bodies c.requires.placed is)
-    old c.is_empty-is_macro.ensures c.kind.ensures.kind c.kind.ensures.cause
-    (filled_as c.args.line before.slots.bodies c.args.top _ _ before.slots.answers c.fill.new.self.answers is c.in_ok-fill.ensures.answers))
+    (filled_as c.args.line before.slots.bodies c.args.top _ before.slots.answers c.fill.new.self.answers is c.in_ok-fill.ensures.answers))
     body (pushed (line_origin c.args.line) c.args.line.items.now before.slots.bodies (sym body))
     undone counted (rw (c.fill.ensures.bodies, c.in_ok-fill.ensures.wanted) at p))
     c.push_free.ensures.pushed

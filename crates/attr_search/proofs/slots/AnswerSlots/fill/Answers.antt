@@ -1,5 +1,6 @@
 use Rattle.std.proofs.Common.{◌≡◌, ◌<◌, ◌++◌, [], ◌∷◌, length, false, true, get_or, option_map, is_some, None, Some, refl, set, sym, ap, ◌∙◌, arith}
 use Rattle.std.proofs.Math.ListN.{length-set, length-map}
+use Rattle.std.specs.Prelude.{slice_index_or}
 use Rattle.attr_search.specs.inner.Pending.{pending_item}
 use Rattle.attr_search.specs.inner.AnswerRefs.{match_by_ref, matches_by_ref}
 use Rattle.std.proofs.lemmas.List.{get_or_default}
@@ -9,7 +10,7 @@ use Rattle.attr_search.specs.inner.SlotsView.{slots_view}
 use Rattle.attr_search.specs.shared.SlotContents.{open_slots}
 use Rattle.attr_search.proofs.OpenLemmas.{open_filled, open_free, open_needed}
 use Rattle.attr_search.proofs.SlotLemmas.{filled_set, listed_filled, listed_more, fill_counts, line_kept, line_seen, slots_filled, matches_filled}
-use Rattle.attr_search.proofs.SlotLemmas.{item_is, seen_filled}
+use Rattle.attr_search.proofs.SlotLemmas.{match_made, seen_filled}
 use Rattle.std.proofs.lemmas.Bool.{false≢true}
 use Rattle.attr_search.proofs.slots.AnswerSlots.fill.Goals as goal
 
@@ -19,17 +20,14 @@ returns-clause-line c = line_seen c.keep.new.self _ c.keep.new.self.line c.in_ok
 pub overflow_sub-self : goal.overflow_sub-self
 overflow_sub-self c =
     let b = c.self.inside in
-    let place = c.item.result.now.id.0 in
-    let at = item_is c.args.line.items.now c.args.top c.item.result.now c.bodies.result.now b.parts.bodies c.args.self.now.bodies
-    c.item.ensures c.bodies.ensures (ap (λ v. v.bodies) c.self.view_is) in
+    let place = c.args.attribute in
     let closed : is_some (open_slots (slots_view b) place) ≡ false = ap (λ v. is_some (open_slots v place)) c.self.view_is
-    ∙ ap (λ i. is_some (open_slots c.args.self.now i.id.0)) at ∙ c.requires.free in
+    ∙ c.requires.free in
     let free : is_some (get_or b.slots.items place None) ≡ false = sym (seen_filled b.parts b.slots.items place)
     ∙ open_free (is_needed b.needed) (slots_of (matches_by_ref b.parts b.slots.items)) place closed in
     let within : place < length b.slots.items = omega (
       arith,
       c.requires.within,
-      ap (λ i. i.id.0) at,
       ap (λ v. length v.answers) c.self.view_is,
       length-map b.slots.items
           (λ o. option_map (match_by_ref b.parts) o),
@@ -41,20 +39,17 @@ overflow_sub-self c =
 pub invariant_of-self-2 : goal.invariant_of-self-2
 invariant_of-self-2 c =
     let b = c.self.inside in
-    let place = c.item.result.now.id.0 in
+    let place = c.args.attribute in
     let stored = c.keep.new.self in
     let pushed : c.push_reserved.new.self.items ≡ b.filled.items ++ place ∷ [] = c.push_reserved.ensures.items
     ∙ ap (λ l. l ++ place ∷ []) c.reserve.ensures.items in
-    let at = item_is c.args.line.items.now c.args.top c.item.result.now c.bodies.result.now b.parts.bodies c.args.self.now.bodies
-    c.item.ensures c.bodies.ensures (ap (λ v. v.bodies) c.self.view_is) in
     let closed : is_some (open_slots (slots_view b) place) ≡ false = ap (λ v. is_some (open_slots v place)) c.self.view_is
-    ∙ ap (λ i. is_some (open_slots c.args.self.now i.id.0)) at ∙ c.requires.free in
+    ∙ c.requires.free in
     let free : is_some (get_or b.slots.items place None) ≡ false = sym (seen_filled b.parts b.slots.items place)
     ∙ open_free (is_needed b.needed) (slots_of (matches_by_ref b.parts b.slots.items)) place closed in
     let within : place < length b.slots.items = omega (
       arith,
       c.requires.within,
-      ap (λ i. i.id.0) at,
       ap (λ v. length v.answers) c.self.view_is,
       length-map b.slots.items
           (λ o. option_map (match_by_ref b.parts) o),
@@ -95,8 +90,12 @@ pub returns-clause-answers : goal.returns-clause-answers
 returns-clause-answers c =
     let b = c.self.inside in
     let item = pending_item c.args.line.items.now b.parts.bodies c.args.top in
-    let at = item_is c.args.line.items.now c.args.top c.item.result.now c.bodies.result.now b.parts.bodies b.parts.bodies
-    c.item.ensures c.bodies.ensures refl in
-    rw (← c.self.view_is) (ap (λ i. matches_by_ref c.keep.new.self (set b.slots.items i.id.0 (Some c.in_ok-found.found))) at
-    ∙ matches_filled b.parts c.keep.new.self b.slots.items item.id.0 c.in_ok-found.found _
-    c.in_ok-found.ensures.kept.extends c.self.invariant.within c.in_ok-found.ensures.kept.found)
+    let own : c.args.attribute ≡ item.id.0 = c.requires.own
+    ∙ ap (λ v. (pending_item c.args.line.items.now v.bodies c.args.top).id.0) (sym c.self.view_is) in
+    rw (← c.self.view_is) (matches_filled b.parts c.keep.new.self b.slots.items c.args.attribute c.in_ok-found.found _
+    c.in_ok-found.ensures.kept.extends c.self.invariant.within
+    (c.in_ok-found.ensures.kept.found
+    ∙ match_made c.args.line item _ c.args.top.cause b.parts.bodies c.body_of.result.now c.is_empty-is_macro.result
+    (c.body_of.ensures ∙ ap (λ bs. slice_index_or bs c.args.attribute []) c.bodies.ensures
+    ∙ ap (λ n. slice_index_or b.parts.bodies n []) own)
+    c.is_empty-is_macro.ensures c.kind-kind.ensures.kind c.kind-kind.ensures.cause))
