@@ -113,30 +113,6 @@ flags_more w v number lt len all here others =
     ∙ sym (ap (λ b. b || contains nat_cmp v.numbers k) all ∙ ap (λ b. w.all || b) (others k (at_other number k apart))))
     (cases_eq k number)))
 
--- an empty set has no number
-pub none_has : (number : ℕ) (numbers : BTreeSet ℕ) → contains nat_cmp numbers number ≡ true → numbers.keys ≡ [] → ⊥
-none_has number numbers has none = let e = sym (ap (list_any (is_at (nat_cmp number))) none) ∙ has in cc
-
-if_true : (a b : Bool) → (a ≡ true → b ≡ true) → b ≡ false → a ≡ false
-if_true true b h out = absurd (let e = sym (h refl) ∙ out in cc)
-if_true false b h out = refl
-
--- a number whose remainder is not noted is not set
-pub not_noted : (w : Inside) (k : ℕ) → AreSoundFlags w → get_or w.noted (k % 64) false ≡ false → contains nat_cmp w.numbers k ≡ false
-not_noted w k sound out = if_true (contains nat_cmp w.numbers k) (get_or w.noted (k % 64) false) (sound.noted k) out
-
--- the remainder of one more number is noted
-pub more_noted : (w : Inside) (numbers : BTreeSet ℕ) (number k : ℕ) → AreSoundFlags w → length w.noted ≡ 64 →
-    ((k : ℕ) → is_at (nat_cmp number) k ≡ false → contains nat_cmp numbers k ≡ contains nat_cmp w.numbers k) →
-    contains nat_cmp numbers k ≡ true → get_or (set w.noted (number % 64) true) (k % 64) false ≡ true
-more_noted w numbers number k sound len others has =
-    ⊎_elim
-    (λ (same : k % 64 ≡ number % 64). ap (λ i. get_or (set w.noted (number % 64) true) i false) same
-    ∙ get_or-set_same w.noted (number % 64) true false (omega (arith, len)))
-    (λ (apart : k % 64 ≢ number % 64). get_or-set_other w.noted (number % 64) (k % 64) true false apart
-    ∙ sound.noted k (sym (others k (at_other number k (λ e. apart (ap (λ n. n % 64) e)))) ∙ has))
-    (cases_eq (k % 64) (number % 64))
-
 -- where all slots are free, each wanted one is left
 pub count_empty : {Y : Type 0} (X : Type 0) (flags : List Bool) (xs : List Y) → length flags ≡ length xs →
     count_remaining {X = X} flags (map (λ x. None) xs) ≡ count_wanted flags

@@ -37,6 +37,8 @@ pub struct AnswerSlots {
     needed: WantedFlags,
     // For each slot whether it is needed and has no answer.
     is_open: Vec<bool>,
+    // For each slot whether it is wanted.
+    is_wanted: Vec<bool>,
     // How many wanted slots are free.
     remaining: usize,
     // What the answers in slots refer to.
@@ -68,6 +70,7 @@ impl AnswerSlots {
             wanted: WantedFlags::new(alloc),
             needed: WantedFlags::new(alloc),
             is_open: Vec::new(alloc),
+            is_wanted: Vec::new(alloc),
             remaining: 0,
             parts: AnswerParts::new(alloc),
         }
@@ -94,10 +97,16 @@ impl AnswerSlots {
         ensures refused { OnErr result (self.new ≡ self.old) }
     {
         let (before, count) = (self.slots.len(), wanted.len());
-        grow(&mut self.slots, &mut self.is_open, count)?;
+        grow(
+            &mut self.slots,
+            &mut self.is_open,
+            &mut self.is_wanted,
+            count,
+        )?;
         if self.parts.set_up(alloc, count, changes).is_err() {
             self.slots.truncate(before);
             self.is_open.truncate(before);
+            self.is_wanted.truncate(before);
             return Err(AllocError);
         }
         empty(&mut self.slots, &mut self.is_open, &self.filled);
@@ -105,7 +114,9 @@ impl AnswerSlots {
         self.is_ordered = true;
         self.slots.truncate(count);
         self.is_open.truncate(count);
+        self.is_wanted.truncate(count);
         needed.write(&mut self.is_open, &self.needed);
+        wanted.write(&mut self.is_wanted, &self.wanted);
         self.remaining = wanted.count();
         self.wanted = wanted;
         self.needed = needed;
@@ -145,6 +156,7 @@ impl AnswerSlots {
             ≡ record self.now { wanted = wanted; needed = needed }) }
     {
         let is_open = open_ones(alloc, &self.slots, &needed)?;
+        let is_wanted = wanted.to_vec(alloc)?;
         let slots = Vec::from_slice(alloc, &self.slots)?;
         let filled = Vec::from_slice(alloc, &self.filled)?;
         let parts = self.parts.clone(alloc)?;
@@ -156,6 +168,7 @@ impl AnswerSlots {
             wanted,
             needed,
             is_open,
+            is_wanted,
             remaining,
             parts,
         })
@@ -250,7 +263,7 @@ impl AnswerSlots {
         let found = self.parts.keep(alloc, line, top, kind)?;
         self.is_ordered = false;
         self.filled.push_reserved(attribute);
-        self.remaining -= usize::from(self.wanted.has(attribute));
+        self.remaining -= usize::from(self.is_wanted[attribute]);
         self.slots[attribute] = Some(found);
         self.is_open[attribute] = false;
         Ok(())
@@ -381,27 +394,56 @@ fn next_slot(slots: &[Option<MatchRef>], from: usize) -> Option<usize>
     None
 }
 
-// Appends empty slots that are not open, until there are as many as the count if there were fewer.
+// Appends empty slots that are neither open nor wanted, until there are as many as the count if there were fewer.
 fn grow(
     slots: &mut Vec<Option<MatchRef>>,
     is_open: &mut Vec<bool>,
+    is_wanted: &mut Vec<bool>,
     count: usize,
 ) -> Result<(), AllocError>
-    requires { length is_open.old.items ≡ length slots.old.items }
+    requires open_flags { length is_open.old.items ≡ length slots.old.items }
+    requires wanted_flags { length is_wanted.old.items ≡ length slots.old.items }
     ensures slots { OnOk result (slots.new.items
         ≡ slots.old.items ++ replicate (count - length slots.old.items) None) }
     ensures opened { OnOk result (is_open.new.items
         ≡ is_open.old.items ++ replicate (count - length is_open.old.items) false) }
+    ensures wanted { OnOk result (is_wanted.new.items
+        ≡ is_wanted.old.items ++ replicate (count - length is_wanted.old.items) false) }
     ensures refused { OnErr result (slots.new.items ≡ slots.old.items) }
     ensures unopened { OnErr result (is_open.new.items ≡ is_open.old.items) }
+    ensures unwanted { OnErr result (is_wanted.new.items ≡ is_wanted.old.items) }
 {
     let before = slots.len();
     if before >= count {
         return Ok(());
     }
     slots.resize(count, None)?;
-    if is_open.resize(count, false).is_err() {
+    if grow_flags(is_open, is_wanted, count).is_err() {
         slots.truncate(before);
+        return Err(AllocError);
+    }
+    Ok(())
+}
+
+// Appends flags that are not set to both, up to a count.
+fn grow_flags(
+    is_open: &mut Vec<bool>,
+    is_wanted: &mut Vec<bool>,
+    count: usize,
+) -> Result<(), AllocError>
+    requires few { length is_open.old.items ≤ count }
+    requires same { length is_wanted.old.items ≡ length is_open.old.items }
+    ensures opened { OnOk result (is_open.new.items
+        ≡ is_open.old.items ++ replicate (count - length is_open.old.items) false) }
+    ensures wanted { OnOk result (is_wanted.new.items
+        ≡ is_wanted.old.items ++ replicate (count - length is_wanted.old.items) false) }
+    ensures unopened { OnErr result (is_open.new.items ≡ is_open.old.items) }
+    ensures unwanted { OnErr result (is_wanted.new.items ≡ is_wanted.old.items) }
+{
+    let before = is_open.len();
+    is_open.resize(count, false)?;
+    if is_wanted.resize(count, false).is_err() {
+        is_open.truncate(before);
         return Err(AllocError);
     }
     Ok(())

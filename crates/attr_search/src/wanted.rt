@@ -9,9 +9,6 @@ use std::alloc::{AllocError, Global};
 use std::collections::BTreeSet;
 use std::marker::Model;
 
-// Of so many remainders of numbers it is noted whether a number that is set has them.
-const REMAINDERS: usize = 64;
-
 /// For each number below a count whether it is wanted, and how many are. What it costs grows with those that were set one by one.
 #[derive(Drop)]
 pub struct WantedFlags {
@@ -19,8 +16,6 @@ pub struct WantedFlags {
     // Whether all flags are set. If not, those of these numbers are.
     all: bool,
     numbers: BTreeSet<usize>,
-    // Whether any of these numbers has the remainder, which tells of most others that they are not set.
-    noted: [bool; REMAINDERS],
     // How many flags are set.
     count: usize,
 }
@@ -53,7 +48,6 @@ impl WantedFlags {
             len,
             all,
             numbers: BTreeSet::new(alloc),
-            noted: [false; REMAINDERS],
             count: if all { len } else { 0 },
         }
     }
@@ -70,7 +64,6 @@ impl WantedFlags {
             len: self.len,
             all: self.all,
             numbers: self.numbers.clone()?,
-            noted: self.noted,
             count: self.count,
         })
     }
@@ -94,7 +87,7 @@ impl WantedFlags {
         requires { number < length self.now }
         ensures { result ≡ slice_index_or self.now number false }
     {
-        self.all || (self.noted[number % REMAINDERS] && self.numbers.contains(&number))
+        self.all || self.numbers.contains(&number)
     }
 
     /// Sets the flag of a number.
@@ -111,9 +104,22 @@ impl WantedFlags {
             return Ok(());
         }
         self.numbers.insert(number)?;
-        self.noted[number % REMAINDERS] = true;
         self.count += 1;
         Ok(())
+    }
+
+    /// The flags, one for each number.
+    ///
+    /// # Errors
+    ///
+    /// If memory runs out.
+    pub fn to_vec(&self, alloc: Global) -> Result<Vec<bool>, AllocError>
+        ensures { IfOk result (λ flags. flags.items ≡ self.now) }
+    {
+        let mut flags = Vec::new(alloc);
+        flags.resize(self.len(), false)?;
+        self.write(&mut flags, &WantedFlags::new(alloc));
+        Ok(flags)
     }
 
     /// Writes the flags over others of as many numbers, which have the flags before for those that had one. It costs what is set in

@@ -33,6 +33,7 @@ pub record AreSoundSlots (b : Inside) : Type 0 where
   pub needed_length : length b.needed ≡ length b.slots.items
   pub among : AreFlagsAmong b.wanted b.needed
   pub opened : AreOpen b.needed b.slots.items b.is_open.items
+  pub flagged : b.is_wanted.items ≡ b.wanted
   pub filled_needed : AllAreNeeded b.needed b.filled.items
   pub within : AreMatchRefs b.parts b.slots.items
   pub line : MatchOption b.parts.line ⊤ (λ l. l < length b.parts.lines)

@@ -1,5 +1,5 @@
 -- The flags of wanted numbers, and what is kept of the set ones (own).
-use Rattle.std.specs.Prelude.{◌≡◌, ℕ, ◌%◌, Bool, true, false, List, map, ◌||◌, slice_index_or}
+use Rattle.std.specs.Prelude.{◌≡◌, ℕ, Bool, List, map, ◌||◌}
 use Rattle.std.specs.BTreeSet.{contains}
 use Rattle.std.specs.List.{range_with_len}
 use Rattle.std.specs.Ordering.{nat_cmp}
@@ -13,7 +13,6 @@ is_flag_set w number = w.all || contains nat_cmp w.numbers number
 abbrev pub wanted_flags_view : Inside → List Bool
 wanted_flags_view w = map (is_flag_set w) (range_with_len 0 w.len)
 
--- the set ones are counted, and their remainders are noted
+-- the set ones are counted
 pub record AreSoundFlags (w : Inside) : Type 0 where
   pub counted : w.count ≡ count_wanted (wanted_flags_view w)
-  pub noted : (number : ℕ) → contains nat_cmp w.numbers number ≡ true → slice_index_or w.noted (number % 64) false ≡ true

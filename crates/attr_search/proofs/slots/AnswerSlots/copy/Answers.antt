@@ -21,6 +21,7 @@ invariant_of-result c =
           ∙ length-map b.slots.items (λ slot. option_map (match_by_ref b.parts) slot) ∙ sym (ap length same);
       among = c.requires.among;
       opened = rw (same ∙ sym c.deref.ensures.value) c.in_ok-is_open.ensures;
+      flagged = c.in_ok-is_wanted.ensures;
       filled_needed = rw same_numbers (needed_among b.needed c.args.needed b.filled.items more c.self.invariant.filled_needed);
       same_length = c.requires.wanted ∙ sym (ap (λ v. length v.answers) c.self.view_is)
           ∙ length-map b.slots.items (λ slot. option_map (match_by_ref b.parts) slot) ∙ sym (ap length same);

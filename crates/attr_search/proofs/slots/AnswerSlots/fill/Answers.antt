@@ -32,9 +32,13 @@ overflow_sub-self c =
       length-map b.slots.items
           (λ o. option_map (match_by_ref b.parts) o),
     ) in
-    (fill_counts b.wanted b.slots.items place c.in_ok-found.found c.has.result b.remaining c.from.result c.self.invariant.same_length
+    let read : c.index.result.now ≡ get_or b.wanted place false = c.index.ensures
+    ∙ get_or_default b.is_wanted.items place c.index.result.now false
+    (omega (arith, within, c.self.invariant.same_length, ap length c.self.invariant.flagged))
+    ∙ ap (λ l. get_or l place false) c.self.invariant.flagged in
+    (fill_counts b.wanted b.slots.items place c.in_ok-found.found c.index.result.now b.remaining c.from.result c.self.invariant.same_length
     within
-    free c.self.invariant.counted c.has.ensures c.from.ensures).0
+    free c.self.invariant.counted read c.from.ensures).0
 
 pub invariant_of-self-2 : goal.invariant_of-self-2
 invariant_of-self-2 c =
@@ -54,6 +58,10 @@ invariant_of-self-2 c =
       length-map b.slots.items
           (λ o. option_map (match_by_ref b.parts) o),
     ) in
+    let read : c.index.result.now ≡ get_or b.wanted place false = c.index.ensures
+    ∙ get_or_default b.is_wanted.items place c.index.result.now false
+    (omega (arith, within, c.self.invariant.same_length, ap length c.self.invariant.flagged))
+    ∙ ap (λ l. get_or l place false) c.self.invariant.flagged in
     let own : get_or b.needed place false ≡ true = sym (get_or_default b.needed place true false (omega
     (arith, within, c.self.invariant.needed_length)))
     ∙ open_needed (is_needed b.needed) (slots_of (matches_by_ref b.parts b.slots.items)) place closed in
@@ -62,12 +70,13 @@ invariant_of-self-2 c =
       needed_length = c.self.invariant.needed_length ∙ sym (length-set b.slots.items place (Some c.in_ok-found.found));
       among = c.self.invariant.among;
       opened = open_filled b.needed b.slots.items b.is_open.items place c.in_ok-found.found within c.self.invariant.opened;
+      flagged = c.self.invariant.flagged;
       filled_needed = rw pushed (All-push (λ n. get_or b.needed n false ≡ true) b.filled.items place c.self.invariant.filled_needed own);
       within = slots_filled b.parts stored b.slots.items place c.in_ok-found.found c.in_ok-found.ensures.kept.extends c.self.invariant.within
           c.in_ok-found.ensures.kept.within;
       line = line_kept stored _ c.keep.new.self.line c.in_ok-found.ensures.kept.at_hand;
-      counted = (fill_counts b.wanted b.slots.items place c.in_ok-found.found c.has.result b.remaining c.from.result
-          c.self.invariant.same_length within free c.self.invariant.counted c.has.ensures c.from.ensures).1;
+      counted = (fill_counts b.wanted b.slots.items place c.in_ok-found.found c.index.result.now b.remaining c.from.result
+          c.self.invariant.same_length within free c.self.invariant.counted read c.from.ensures).1;
       listed = rw pushed (listed_filled b.slots.items b.filled.items place (Some c.in_ok-found.found)
           (listed_more b.slots.items b.filled.items place within c.self.invariant.listed));
       ordered = λ t. absurd (false≢true t);

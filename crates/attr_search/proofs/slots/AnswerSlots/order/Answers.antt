@@ -12,6 +12,7 @@ invariant_of-self c =
       needed_length = c.self.invariant.needed_length;
       among = c.self.invariant.among;
       opened = c.self.invariant.opened;
+      flagged = c.self.invariant.flagged;
       filled_needed = All-permutation (λ n. slice_index_or b.needed n false ≡ true) b.filled.items sorted c.sort_unstable.ensures.permutation
           c.self.invariant.filled_needed;
       within = c.self.invariant.within;

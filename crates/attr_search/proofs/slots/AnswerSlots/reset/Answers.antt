@@ -22,6 +22,7 @@ invariant_of-self c =
           (c.empty.ensures.opened b.needed c.self.invariant.needed_length c.self.invariant.opened
           (rw c.deref.ensures.value c.self.invariant.filled_needed))
           (c.self.invariant.needed_length ∙ sym c.empty.ensures.len) c.empty.ensures.items;
+      flagged = c.self.invariant.flagged;
       filled_needed = rw c.clear.ensures.items (All-nil (λ n. get_or b.needed n false ≡ true));
       within = empty_within c.keep_none.new.self c.empty.new.slots.items b.slots.items c.empty.ensures.items;
       line = rw c.keep_none.ensures tt;

@@ -49,6 +49,7 @@ invariant_of-self-2 c =
       among = c.requires.among;
       opened = open_all c.args.needed c.write.new.flags.items slots wanted c.write.ensures
           (c.requires.needed ∙ sym (ap length cut ∙ length-map wanted (λ flag. None))) cut;
+      flagged = c.write-2.ensures;
       filled_needed = rw c.clear.ensures.items (All-nil (λ n. get_or c.args.needed n false ≡ true));
       within = empty_within c.set_up.new.self slots wanted cut;
       line = rw made tt;

@@ -1,7 +1,7 @@
 use Rattle.std.proofs.Common.{◌<◌, ◌∙◌, ◌||◌, ap, false, get_or, length, sym, arith}
 use Rattle.std.specs.BTreeSet.{contains}
 use Rattle.std.specs.Ordering.{nat_cmp}
-use Rattle.attr_search.proofs.WantedLemmas.{flag_at, length_flags, not_noted}
+use Rattle.attr_search.proofs.WantedLemmas.{flag_at, length_flags}
 use Rattle.attr_search.proofs.wanted.WantedFlags.has.Goals as goal
 
 pub returns-then-self : goal.returns-then-self
@@ -11,17 +11,9 @@ returns-then-self c =
     c.if-self.true ∙ sym (ap (λ b. b || contains nat_cmp w.numbers c.args.number) c.if-self.true) ∙ sym (flag_at w c.args.number lt)
     ∙ ap (λ l. get_or l c.args.number false) c.self.view_is
 
-pub returns-then-self-number : goal.returns-then-self-number
-returns-then-self-number c =
+pub returns-else-self : goal.returns-else-self
+returns-else-self c =
     let w = c.self.inside in
     let lt : c.args.number < w.len = omega (arith, c.requires, ap length c.self.view_is, length_flags w) in
     c.contains.ensures ∙ sym (ap (λ b. b || contains nat_cmp w.numbers c.args.number) c.if-self.false) ∙ sym (flag_at w c.args.number lt)
-    ∙ ap (λ l. get_or l c.args.number false) c.self.view_is
-
-pub returns-else-self-number : goal.returns-else-self-number
-returns-else-self-number c =
-    let w = c.self.inside in
-    let lt : c.args.number < w.len = omega (arith, c.requires, ap length c.self.view_is, length_flags w) in
-    let out = not_noted w c.args.number c.self.invariant c.if-self-number.false in
-    c.if-self-number.false ∙ sym (ap (λ b. b || contains nat_cmp w.numbers c.args.number) c.if-self.false ∙ out) ∙ sym (flag_at w c.args.number lt)
     ∙ ap (λ l. get_or l c.args.number false) c.self.view_is

@@ -1,7 +1,7 @@
-use Rattle.std.proofs.Common.{◌≡◌, ◌+◌, ◌<◌, ◌∙◌, false, get_or, length, refl, sym, ap, arith, rules}
+use Rattle.std.proofs.Common.{◌≡◌, ◌+◌, ◌<◌, ◌∙◌, false, get_or, length, refl, sym, ap, arith}
 use Rattle.attr_search.specs.inner.WantedView.{wanted_flags_view}
 use Rattle.attr_search.specs.shared.SlotContents.{count_wanted}
-use Rattle.attr_search.proofs.WantedLemmas.{count_set, flags_more, length_flags, more_noted}
+use Rattle.attr_search.proofs.WantedLemmas.{count_set, flags_more, length_flags}
 use Rattle.attr_search.proofs.wanted.WantedFlags.set.Goals as goal
 
 pub overflow_add-self : goal.overflow_add-self
@@ -22,12 +22,9 @@ invariant_of-self-2 c =
     let free : get_or flags c.args.number false ≡ false =
     ap (λ l. get_or l c.args.number false) c.self.view_is ∙ sym c.has.ensures ∙ c.if-has.false in
     let counted = count_set flags c.args.number w.count 1 false lt c.self.invariant.counted (sym free) refl in
-    let len : length w.noted ≡ 64 = search rules in
     record {
       counted = counted.1 ∙ ap count_wanted (sym (flags_more w (record w { numbers = c.insert.new.self; count = w.count + 1 })
           c.args.number (omega (arith, lt, length_flags w)) refl refl c.in_ok-insert.ensures.updates.1 c.in_ok-insert.ensures.updates.2));
-      noted = λ number has.
-          more_noted w c.insert.new.self c.args.number number c.self.invariant len c.in_ok-insert.ensures.updates.2 has;
     }
 
 pub returns-clause-ok : goal.returns-clause-ok
