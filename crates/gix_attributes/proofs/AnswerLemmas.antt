@@ -8,7 +8,7 @@ use Rattle.std.specs.List.Sorted.{IsNonDecreasing}
 use Rattle.attr_search.proofs.ForCallers.{AreFreeButLeft, free_up_to, none_left as none_listed}
 use Rattle.std.proofs.lemmas.Option.{get_or_from_slice_get, slice_get_cases, slice_get_within}
 use Rattle.attr_lists.specs.Collections.{Collection}
-use Rattle.gix_attributes.specs.Contents.{Content, Wanted, found_in, initial_content, looked_up, names_selected, reset_content, selected_in}
+use Rattle.gix_attributes.specs.Contents.{Content, IsCurrent, Wanted, found_in, initial_content, looked_up, names_selected, reset_content, selected_in}
 use Rattle.gix_attributes.specs.Contents.{bodies_of, wanted_of}
 use Rattle.attr_table.specs.Cut.{IsSearched}
 use Rattle.gix_attributes.specs.Lookups.{FindsAnswers, Lookup, OfTheOnlyTable, answers_by_number, selected_answers}
@@ -295,3 +295,12 @@ all_numbered slots listed numbers from place past free so_far =
     ∙ ap (λ l. map (λ n. get_or slots n None) numbers ++ l)
     (sym (ap (λ l. map Some (specified_among l)) (nothing_found slots from (none_listed slots listed from place past free))))
     ∙ so_far
+
+-- ---- selections
+
+-- a current outcome has the bodies of the collection
+pub current_bodies : (known : Collection) (held : Content) → IsCurrentFor known held → IsCurrent held known
+current_bodies known held current = record {
+  slots = sym (length-map held.slots (λ slot. None)) ∙ ap (λ (h : Content). length h.slots) current.content ∙ length-map known.names (λ name. None);
+  bodies = ap (λ (h : Content). h.bodies) current.content;
+}

@@ -6,7 +6,8 @@ use Rattle.std.specs.Bool.{⊤}
 use Rattle.std.specs.List.{range_with_len, cons_option}
 use Rattle.std.specs.Str.{bytes_eq}
 use Rattle.std.proofs.lemmas.Bool.{cases_lt, false≢true}
-use Rattle.std.proofs.lemmas.List.{length-map, drop_more, drop_all, get_or_past}
+use Rattle.std.proofs.lemmas.List.{append-nil, length-map, drop_more, drop_all, get_or_past, take_all}
+use Rattle.std.proofs.Common.{◌++◌, replicate, take}
 use Rattle.std.proofs.lemmas.List.FromFn.{length-map-range_with_len}
 use Rattle.std.proofs.lemmas.List.Elements.{All-nil, All-cons, All-head, All-tail, All-map, All-weaker, All-from_get_or}
 use Rattle.std.proofs.lemmas.Option.{slice_get_within, get_or_from_slice_get}
@@ -144,6 +145,18 @@ changed_to known changes bodies seen n counted same made =
 pub changed_within : (known : Collection) (bodies : List (List TrackedAssignment)) (n : ℕ) → IsSoundCollection known → n ≡ length known.names →
     bodies ≡ bodies_of known → BodiesHaveSlots n bodies
 changed_within known bodies n sound counted same = rw (same, counted) (bodies_within known sound)
+
+-- without changes they stay those of a collection
+pub kept_as : (known : Collection) (changes : List BodyChange) (bodies : List (List TrackedAssignment)) (n : ℕ) → IsSoundCollection known →
+    n ≡ length known.names → changes ≡ [] → bodies ≡ bodies_of known → changed_bodies changes (sized_bodies n bodies) ≡ bodies_of known
+kept_as known changes bodies n sound counted none current =
+    let all : length bodies ≡ n = ap length current ∙ length-map known.definitions last_body ∙ sound.counted ∙ sym counted in
+    let nothing : List (List TrackedAssignment) = [] in
+    ap (λ l. changed_bodies l (sized_bodies n bodies)) none
+    ∙ ap (λ k. take n (bodies ++ replicate k [])) (let gap : n - length bodies ≡ 0 = omega (arith, all) in gap)
+    ∙ ap (take n) (append-nil bodies)
+    ∙ take_all n bodies (omega (arith, all))
+    ∙ current
 
 pub changes_below : (changes : List BodyChange) (n m : ℕ) → m ≡ n → All (λ c. c.number < n) changes → All (λ c. c.number < m) changes
 changes_below changes n m same below = All-weaker (λ c. c.number < n) (λ c. c.number < m) (λ c lt. omega arith) changes below

@@ -245,8 +245,13 @@ impl Engine {
             (self.new ≡ with_selection (map (λ name. name.now) names.now) self.old) }
         ensures refused { OnErr result (self.new ≡ self.old) }
     {
-        self.outcome
-            .select_narrowed(alloc, &self.collection, names)?;
+        select(
+            alloc,
+            &mut self.outcome,
+            self.is_current,
+            &self.collection,
+            names,
+        )?;
         self.is_current = true;
         self.has_answers = false;
         Ok(())
@@ -403,4 +408,23 @@ fn prepare(
         return Ok(());
     }
     outcome.initialize_narrowed(alloc, collection)
+}
+
+// Selects names in an outcome. The bodies of macros are gone through only if names or macros have changed.
+fn select(
+    alloc: Global,
+    outcome: &mut Outcome,
+    is_current: bool,
+    collection: &MetadataCollection,
+    names: &[&str],
+) -> Result<(), AllocError>
+    requires { is_current ≡ true → IsCurrentFor collection.now outcome.old }
+    ensures ready { OnOk result (IsNarrowed
+        collection.now (map (λ name. name.now) names.now) outcome.new) }
+    ensures refused { OnErr result (outcome.new ≡ outcome.old) }
+{
+    if is_current {
+        return outcome.select_current(alloc, collection, names);
+    }
+    outcome.select_narrowed(alloc, collection, names)
 }

@@ -172,6 +172,53 @@ impl Outcome {
         self.set_up(alloc, collection, selected, needed)
     }
 
+    /// The same as [`Outcome::select_narrowed`] for an outcome whose bodies are those of the collection. They aren't gone through.
+    ///
+    /// # Errors
+    ///
+    /// If memory runs out. Nothing changes then.
+    pub(crate) fn select_current(
+        &mut self,
+        alloc: Global,
+        collection: &MetadataCollection,
+        names: &[&str],
+    ) -> Result<(), AllocError>
+        requires { IsCurrent self.old collection.now }
+        ensures ok { OnOk result (IsNarrowed
+            collection.now (map (λ name. name.now) names.now) self.new) }
+        ensures refused { OnErr result (self.new ≡ self.old) }
+    {
+        let selected = selection::look_up(alloc, collection, names)?;
+        let needed = needed(alloc, collection, &selected)?;
+        self.set_up_current(alloc, collection, selected, needed)
+    }
+
+    // The same as `set_up` for an outcome whose bodies are those of the collection.
+    fn set_up_current(
+        &mut self,
+        alloc: Global,
+        collection: &MetadataCollection,
+        names: Vec<SelectedName>,
+        needed: WantedFlags,
+    ) -> Result<(), AllocError>
+        requires current { IsCurrent self.old collection.now }
+        requires selected { selection_view names.items
+            ≡ looked_up collection.now.names (names_selected (selection_view names.items)) }
+        requires needed { length needed ≡ length collection.now.names }
+        requires among { AreFlagsAmong
+            (flags_of (selection_view names.items) (length collection.now.names)) needed }
+        ensures ok { OnOk result (self.new
+            ≡ (let texts = names_selected (selection_view names.items) in
+            record (initial_content collection.now texts) { needed = needed })) }
+        ensures refused { OnErr result (self.new ≡ self.old) }
+    {
+        let wanted = selection::flags(alloc, &names, collection.len())?;
+        self.state.set_up(alloc, wanted, needed, Vec::new(alloc))?;
+        self.selected = names;
+        self.is_initialized = true;
+        Ok(())
+    }
+
     // What takes memory comes first, so that nothing has changed if it is refused.
     fn set_up(
         &mut self,

@@ -10,8 +10,8 @@ invariant_of-self-2 c =
     record {
       held = c.self.invariant.held;
       known = c.self.invariant.known;
-      current = λ yes. current_at_first c.self.inside.collection _ c.select_narrowed.new.self
-          c.in_ok-select_narrowed.ensures.ok;
+      current = λ yes. current_at_first c.self.inside.collection _ c.select.new.outcome
+          c.in_ok-select.ensures.ready;
       numbered = λ never. absurd (cc);
       named = λ never. absurd (cc);
     }
@@ -27,5 +27,5 @@ returns-clause-selected c =
       dropped = e.dropped.items;
     } in
     ap selecting
-    (ap (λ (h : Content). names_selected h.selection) c.in_ok-select_narrowed.ensures.ok.content ∙ names_again e.collection.names texts)
+    (ap (λ (h : Content). names_selected h.selection) c.in_ok-select.ensures.ready.content ∙ names_again e.collection.names texts)
     ∙ ap (with_selection texts) c.self.view_is
