@@ -20,13 +20,6 @@ pub on_false : {P : Type 0} (b : Bool) → (b ≡ false → P) → OnFalse b P
 on_false true f = tt
 on_false false f = f refl
 
--- a key that a text has is no longer than it
-found_short : (text key : List ℕ) → starts_with nat_eq text key ≡ true → length key ≤ length text
-found_short text [] h = omega arith
-found_short [] (c ∷ cs) h = absurd cc
-found_short (t ∷ ts) (c ∷ cs) h = let le = found_short ts cs (by_test (nat_eq c t) (λ e. rw e at h)
-    (λ e. let no : false ≡ true = rw e at h in absurd cc)) in omega arith
-
 long_in_case : (fold from_end : Bool) (part : List ℕ) → length (in_case fold (directed from_end part)) ≡ length part
 long_in_case fold from_end part = length-in_case fold (directed from_end part) ∙ length-directed from_end part
 
@@ -67,19 +60,17 @@ begins_if_cut fold from_end text part own cut b so back =
         back (directed_same from_end own (in_case fold part) (sym (directed_in_case from_end fold part ∙ e))) ∙ sym t)
         (λ f. sym f)
 
--- what is cut from a text that begins with a part, in lower case
-cut_same : (fold from_end : Bool) (text part own : List ℕ) → directed from_end own ≡ take (length part) (directed from_end text) →
-    starts_with nat_eq (in_case fold (directed from_end text)) (in_case fold (directed from_end part)) ≡ true → in_case fold own ≡ in_case fold part
-cut_same fold from_end text part own cut begins =
-    let part' = in_case fold (directed from_end part) in
-    let text' = in_case fold (directed from_end text) in
-    let is : pointwise nat_eq part' (in_case fold (directed from_end own)) ≡ true =
-    ap (λ l. pointwise nat_eq part' (in_case fold l)) cut
-    ∙ (ap (pointwise nat_eq part') (sym (take_in_case fold (length part) (directed from_end text)))
-    ∙ (ap (λ n. pointwise nat_eq part' (take n text')) (sym (long_in_case fold from_end part)) ∙ begins)) in
-    let e = (bytes_decides part' (in_case fold (directed from_end own))).0 is in
-    directed_same from_end (in_case fold own) (in_case fold part)
-    (directed_in_case from_end fold own ∙ (sym e ∙ sym (directed_in_case from_end fold part)))
+-- the same of a text as it is read
+pub seen_begins_if_cut : (fold from_end : Bool) (text part own : List ℕ) → directed from_end own ≡ take (length part) (directed from_end text) →
+    (b : Bool) → (b ≡ true → in_case fold own ≡ in_case fold part) → (in_case fold own ≡ in_case fold part → b ≡ true) →
+    b ≡ starts_with nat_eq (in_case fold (directed from_end text)) (in_case fold (directed from_end part))
+seen_begins_if_cut fold from_end text part own cut b so back =
+    begins_if_cut fold from_end (in_case fold text) part (in_case fold own)
+    (directed_in_case from_end fold own
+    ∙ (ap (in_case fold) cut
+    ∙ (sym (take_in_case fold (length part) (directed from_end text)) ∙ ap (take (length part)) (sym (directed_in_case from_end fold text)))))
+    b so back
+    ∙ ap (λ l. starts_with nat_eq l (in_case fold (directed from_end part))) (directed_in_case from_end fold text)
 
 -- codes that begin with others are those of texts that begin with others
 pub begin_below : (x y : List ℕ) (w v : Bool) → starts_with nat_eq (codes_of false x w) (codes_of false y v) ≡ true → starts_with nat_eq x y ≡ true
@@ -92,7 +83,7 @@ begin_below (b ∷ bs) (c ∷ cs) w v h =
     (λ f. let no : false ≡ true = rw (shifted c b, f) at h in absurd cc)
 
 -- codes don't begin with others if the texts don't
-none_begins : (fold from_end : Bool) (text part : List ℕ) (w v : Bool) (cs ds : List ℕ) → codes_of fold (directed from_end text) w ≡ cs →
+pub none_begins : (fold from_end : Bool) (text part : List ℕ) (w v : Bool) (cs ds : List ℕ) → codes_of fold (directed from_end text) w ≡ cs →
     codes_of fold (directed from_end part) v ≡ ds →
     (starts_with nat_eq (in_case fold (directed from_end text)) (in_case fold (directed from_end part)) ≡ true → ⊥) → starts_with nat_eq cs ds ≡ false
 none_begins fold from_end text part w v cs ds first second none =
@@ -101,22 +92,6 @@ none_begins fold from_end text part w v cs ds first second none =
     (ap (λ l. starts_with nat_eq l (codes_of false (in_case fold (directed from_end part)) v)) (codes_in_case fold (directed from_end text) w ∙ first)
     ∙ (ap (starts_with nat_eq cs) (codes_in_case fold (directed from_end part) v ∙ second) ∙ t)))))
     (λ f. f)
-
-pub none_begins_short : (fold from_end : Bool) (text part : List ℕ) (w v : Bool) (cs ds : List ℕ) → codes_of fold (directed from_end text) w ≡ cs →
-    codes_of fold (directed from_end part) v ≡ ds → length text < length part → starts_with nat_eq cs ds ≡ false
-none_begins_short fold from_end text part w v cs ds first second short =
-    none_begins fold from_end text part w v cs ds first second
-    (λ t.
-    let le = found_short (in_case fold (directed from_end text)) (in_case fold (directed from_end part)) t in
-    let a = long_in_case fold from_end text in
-    let b = long_in_case fold from_end part in
-    absurd (omega arith))
-
-pub none_begins_cut : (fold from_end : Bool) (text part own : List ℕ) (w v : Bool) (cs ds : List ℕ) → codes_of fold (directed from_end text) w ≡ cs →
-    codes_of fold (directed from_end part) v ≡ ds → directed from_end own ≡ take (length part) (directed from_end text) →
-    (in_case fold own ≡ in_case fold part → ⊥) → starts_with nat_eq cs ds ≡ false
-none_begins_cut fold from_end text part own w v cs ds first second cut other =
-    none_begins fold from_end text part w v cs ds first second (λ t. other (cut_same fold from_end text part own cut t))
 
 -- texts of which one has ended
 pub ends_order : (n : ℕ) (x y : List ℕ) → n ≤ length x → n ≤ length y → (n ≡ length x) ⊎ (n ≡ length y) →

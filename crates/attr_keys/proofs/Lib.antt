@@ -13,3 +13,4 @@ pub mod Links
 pub mod Hashing
 pub mod ExtensionTexts
 pub mod Buckets
+pub mod Descending

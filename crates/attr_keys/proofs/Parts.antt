@@ -11,7 +11,7 @@ use Rattle.attr_keys.specs.declared.key.View.{View}
 use Rattle.attr_keys.specs.inner.Cases.{in_case, seen_text}
 use Rattle.attr_keys.specs.shared.Codes.{codes_of}
 use Rattle.attr_keys.specs.shared.Meeting.{directed}
-use Rattle.attr_keys.proofs.SeenTexts.{codes_in_case, length-directed, length-in_case}
+use Rattle.attr_keys.proofs.SeenTexts.{codes_in_case, directed_in_case, length-directed, length-in_case}
 
 end_below : (b : ℕ) → nat_cmp 1 (b + 2) ≡ Less
 end_below b = grind (arith, nat_tests)
@@ -140,3 +140,28 @@ lacks_if_other fold from_end text part codes w is whole other =
     and_none : (a : Bool) → a && false ≡ false
     and_none true = refl
     and_none false = refl
+
+-- the codes of a text as it is read
+seen_codes : (fold from_end : Bool) (text : List ℕ) →
+    codes_of false (directed from_end (in_case fold text)) true ≡ codes_of fold (directed from_end text) true
+seen_codes fold from_end text =
+    ap (λ l. codes_of false l true) (directed_in_case from_end fold text) ∙ codes_in_case fold (directed from_end text) true
+
+-- both of these of a text as it is read
+pub seen_has_if_long : (fold from_end : Bool) (text part : List ℕ) (w : Bool) → ((w ≡ true) × (length part ≡ length text)) ⊎ (w ≡ false) →
+    starts_with nat_eq (in_case fold (directed from_end text)) (in_case fold (directed from_end part))
+    ≡ starts_with nat_eq (codes_of fold (directed from_end text) true) (codes_of fold (directed from_end part) w)
+seen_has_if_long fold from_end text part w long =
+    ap (λ l. starts_with nat_eq l (in_case fold (directed from_end part))) (sym (directed_in_case from_end fold text))
+    ∙ (has_if_long fold from_end (in_case fold text) part _ w refl (as_long long)
+    ∙ ap (λ l. starts_with nat_eq l (codes_of fold (directed from_end part) w)) (seen_codes fold from_end text))
+  where
+    as_long : ((w ≡ true) × (length part ≡ length text)) ⊎ (w ≡ false) → ((w ≡ true) × (length part ≡ length (in_case fold text))) ⊎ (w ≡ false)
+    as_long (inl e) = inl (e.0, e.1 ∙ sym (length-in_case fold text))
+    as_long (inr e) = inr e
+
+pub seen_lacks_if_other : (fold from_end : Bool) (text part : List ℕ) (w : Bool) → w ≡ true → length part ≢ length text →
+    false ≡ starts_with nat_eq (codes_of fold (directed from_end text) true) (codes_of fold (directed from_end part) w)
+seen_lacks_if_other fold from_end text part w whole other =
+    lacks_if_other fold from_end (in_case fold text) part _ w refl whole (λ e. other (e ∙ length-in_case fold text))
+    ∙ ap (λ l. starts_with nat_eq l (codes_of fold (directed from_end part) w)) (seen_codes fold from_end text)

@@ -9,7 +9,7 @@ ghost use Rattle.std.specs.Ordering.{nat_cmp};
 ghost use Rattle.attr_keys.specs.inner.Cases.{byte_in_case, in_case, keys_seen, seen_keys, seen_text, text_standing};
 ghost use Rattle.attr_keys.specs.shared.Codes.{codes_of, row_codes};
 ghost use Rattle.attr_keys.specs.inner.Hashes.{text_of_row};
-ghost use Rattle.attr_keys.specs.shared.Meeting.{directed, is_whole_row, text_has};
+ghost use Rattle.attr_keys.specs.shared.Meeting.{directed, has_content, is_end, is_whole_row, key_content, text_has};
 ghost use Rattle.attr_keys.specs.shared.Rows.{IsCommon, is_up_to};
 
 use std::cmp::Ordering;
@@ -271,15 +271,7 @@ pub fn may_begin_with<K: Keyed>(keys: Keys<'_, K>, row: usize, other: usize) -> 
 {
     let (text, _) = parts(keys.lines, row);
     let (part, _) = parts(keys.lines, other);
-    if text.len() < part.len() {
-        return false;
-    }
-    let own = cut(keys.view.from_end, text, part.len());
-    if keys.view.fold {
-        own.eq_ignore_ascii_case(part)
-    } else {
-        part == own
-    }
+    has_seen_part(keys.view, text, part)
 }
 
 // So many first bytes of a text, or last ones.
@@ -321,6 +313,34 @@ fn has_part(view: View, text: &[u8], part: &[u8]) -> bool
     let own = cut(view.from_end, text, part.len());
     if view.fold {
         is_lower_of(own, part)
+    } else {
+        part == own
+    }
+}
+
+/// Whether a text has a key, as both are read. A key of an end is read from its last byte on.
+#[inline(always)]
+pub fn has_text(fold: bool, from_end: bool, text: &[u8], key: Key<'_>) -> bool
+    requires { is_end key.subject ≡ from_end }
+    ensures { result ≡ has_content fold (directed from_end text.now) (key_content key.entry) }
+{
+    if key.is_whole && key.text.len() != text.len() {
+        return false;
+    }
+    has_seen_part(View { fold, from_end }, text, key.text)
+}
+
+// Whether a text begins with another one or, if it is read from its end, ends with it, as both are read.
+#[inline(always)]
+fn has_seen_part(view: View, text: &[u8], part: &[u8]) -> bool
+    ensures { result ≡ starts_with nat_eq (seen_text view text.now) (seen_text view part.now) }
+{
+    if text.len() < part.len() {
+        return false;
+    }
+    let own = cut(view.from_end, text, part.len());
+    if view.fold {
+        own.eq_ignore_ascii_case(part)
     } else {
         part == own
     }

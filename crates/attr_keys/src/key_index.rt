@@ -1,27 +1,37 @@
-//! The index of lines by their keys: it finds the lines that a path may match.
+//! The index of lines by their keys: it finds the lines that a path may match. Few lines have no tables: each one is tried.
 
-ghost use Rattle.std.specs.Prelude.{◌≡◌, ◌&&◌, ◌||◌, ◌++◌, ℕ, IfOk, OnOk, map, false, true, slice_get};
+ghost use Rattle.std.specs.Prelude.{◌≡◌, ◌&&◌, ◌||◌, ◌++◌, [], ℕ, IfOk, OnOk, map, false, true, slice_get};
 ghost use Rattle.std.specs.Bool.{OnFalse, OnTrue};
 ghost use Rattle.attr_keys.specs.shared.Candidates.{candidate_of};
 ghost use Rattle.attr_keys.specs.inner.Cases.{content_in_case, in_case, keys_seen};
 ghost use Rattle.attr_keys.specs.inner.Extensions.{is_hashed};
-ghost use Rattle.attr_keys.specs.shared.KeyIndexes.{IsKeyIndex};
+ghost use Rattle.attr_keys.specs.shared.KeyIndexes.{AreKeyTables, IsKeyIndex};
 ghost use Rattle.attr_keys.specs.inner.Kinds.{AreKinds};
-ghost use Rattle.attr_keys.specs.shared.Meeting.{content_met_at, directed, text_has};
+ghost use Rattle.attr_keys.specs.shared.Meeting.{content_met, content_met_at, directed, key_content, text_has};
 ghost use Rattle.attr_keys.specs.inner.Orders.{AreFindable, AreSorted, gathered, has_by_name, has_by_path, has_subject_row, has_unless_other, may_have, sorted_keys};
 ghost use Rattle.attr_keys.specs.shared.Rows.{IsFalling, has_row};
 
 use crate::by_hash::{append_by_hash, by_hash, longest_key, write_lower};
 use crate::hashed::HashedRows;
-use crate::key::{Keyed, Keys, View, has_row_key, is_row_whole};
+use crate::key::{Key, Keyed, Keys, Subject, View, has_row_key, has_text, is_row_whole};
 use crate::kinds::Kinds;
 use crate::order::fall;
 use crate::prefixes::Prefixes;
 use std::alloc::{AllocError, Global};
 
+// So few lines are tried one by one: to make tables of them costs more than some hundred look-ups save.
+const FEW: usize = 8;
+
 /// Where lines are found by their keys. It has the indexes of lines, and no texts: each look-up is given the lines.
 #[derive(Debug, Drop)]
 pub struct KeyIndex {
+    // None of few lines.
+    tables: Option<Box<KeyTables>>,
+}
+
+// The rows of lines by their keys.
+#[derive(Debug, Drop)]
+struct KeyTables {
     exact: KeyRows,
     // The rows by the keys in lower case, if any has a capital letter.
     folded: Option<KeyRows>,
@@ -74,34 +84,12 @@ impl KeyIndex {
     pub fn of<K: Keyed>(alloc: Global, lines: &[K]) -> Result<KeyIndex, AllocError>
         ensures { IfOk result (IsKeyIndex (map K.content lines.now)) }
     {
-        let mut kinds = Kinds::new(alloc);
-        let capitals = kinds.sort(lines)?;
-        KeyIndex::of_kinds(alloc, lines, &kinds, capitals)
-    }
-
-    fn of_kinds<K: Keyed>(
-        alloc: Global,
-        lines: &[K],
-        kinds: &Kinds,
-        capitals: bool,
-    ) -> Result<KeyIndex, AllocError>
-        requires kinds { AreKinds (map K.content lines.now) kinds.now }
-        requires capitals { OnFalse capitals (
-            map (content_in_case true) (map K.content lines.now) ≡ map K.content lines.now) }
-        ensures { IfOk result (IsKeyIndex (map K.content lines.now)) }
-    {
-        let mut others = Vec::from_slice(alloc, &kinds.anything)?;
-        others.reverse();
-        let exact = KeyRows::of(alloc, lines, false, kinds)?;
-        let folded = if capitals {
-            Some(KeyRows::of(alloc, lines, true, kinds)?)
-        } else {
-            None
-        };
+        if lines.len() <= FEW {
+            return Ok(KeyIndex { tables: None });
+        }
+        let tables = Box::new(alloc, KeyTables::of(alloc, lines)?)?;
         Ok(KeyIndex {
-            exact,
-            folded,
-            others,
+            tables: Some(tables),
         })
     }
 
@@ -125,10 +113,10 @@ impl KeyIndex {
         ensures falling { OnOk result (IsFalling found.new.items) }
     {
         found.clear();
-        gather(self.sorted(lines, texts.fold), texts, buffer, found)?;
-        append(&self.others, found)?;
-        fall(found);
-        Ok(())
+        match &self.tables {
+            Some(tables) => tables.find(lines, texts, buffer, found),
+            None => find_each(lines, texts, found),
+        }
     }
 
     /// Finds the indexes of the lines that a path with this base name may match, as far as base names alone can tell, the
@@ -152,6 +140,84 @@ impl KeyIndex {
         ensures falling { OnOk result (IsFalling found.new.items) }
     {
         found.clear();
+        match &self.tables {
+            Some(tables) => tables.find_candidates(lines, texts, buffer, found),
+            None => find_each_candidate(lines, texts, found),
+        }
+    }
+}
+
+impl KeyTables {
+    fn of<K: Keyed>(alloc: Global, lines: &[K]) -> Result<KeyTables, AllocError>
+        ensures { IfOk result (AreKeyTables (map K.content lines.now)) }
+    {
+        let mut kinds = Kinds::new(alloc);
+        let capitals = kinds.sort(lines)?;
+        KeyTables::of_kinds(alloc, lines, &kinds, capitals)
+    }
+
+    fn of_kinds<K: Keyed>(
+        alloc: Global,
+        lines: &[K],
+        kinds: &Kinds,
+        capitals: bool,
+    ) -> Result<KeyTables, AllocError>
+        requires kinds { AreKinds (map K.content lines.now) kinds.now }
+        requires capitals { OnFalse capitals (
+            map (content_in_case true) (map K.content lines.now) ≡ map K.content lines.now) }
+        ensures { IfOk result (AreKeyTables (map K.content lines.now)) }
+    {
+        let mut others = Vec::from_slice(alloc, &kinds.anything)?;
+        others.reverse();
+        let exact = KeyRows::of(alloc, lines, false, kinds)?;
+        let folded = if capitals {
+            Some(KeyRows::of(alloc, lines, true, kinds)?)
+        } else {
+            None
+        };
+        Ok(KeyTables {
+            exact,
+            folded,
+            others,
+        })
+    }
+
+    // Pushes the indexes of the lines whose keys the texts have, the greatest first.
+    fn find<K: Keyed>(
+        &self,
+        lines: &[K],
+        texts: Texts<'_>,
+        buffer: &mut Vec<u8>,
+        found: &mut Vec<usize>,
+    ) -> Result<(), AllocError>
+        requires tables { AreKeyTables (map K.content lines.now) self.now }
+        requires empty { found.old.items ≡ [] }
+        ensures found { OnOk result ((row : ℕ) → has_row found.new.items row
+            ≡ content_met_at texts.entry.fold texts.entry.name.now texts.entry.path.now
+            (slice_get (map K.content lines.now) row)) }
+        ensures falling { OnOk result (IsFalling found.new.items) }
+    {
+        gather(self.sorted(lines, texts.fold), texts, buffer, found)?;
+        append(&self.others, found)?;
+        fall(found);
+        Ok(())
+    }
+
+    // Pushes the indexes of the lines that a path with this base name may match, the greatest first.
+    fn find_candidates<K: Keyed>(
+        &self,
+        lines: &[K],
+        texts: Texts<'_>,
+        buffer: &mut Vec<u8>,
+        found: &mut Vec<usize>,
+    ) -> Result<(), AllocError>
+        requires tables { AreKeyTables (map K.content lines.now) self.now }
+        requires empty { found.old.items ≡ [] }
+        ensures found { OnOk result ((row : ℕ) → has_row found.new.items row
+            ≡ content_met_at texts.entry.fold texts.entry.name.now texts.entry.name.now
+            (slice_get (map candidate_of (map K.content lines.now)) row)) }
+        ensures falling { OnOk result (IsFalling found.new.items) }
+    {
         gather_candidates(self.sorted(lines, texts.fold), texts, buffer, found)?;
         append(&self.others, found)?;
         fall(found);
@@ -160,7 +226,7 @@ impl KeyIndex {
 
     // The rows by which lines are looked up: those of the keys as they are if none has a capital letter, which cost least.
     fn sorted<'a, K: Keyed>(&'a self, lines: &'a [K], fold: bool) -> Sorted<'a, K>
-        requires { IsKeyIndex (map K.content lines.now) self.now }
+        requires { AreKeyTables (map K.content lines.now) self.now }
         ensures sorted { AreSorted result.fold (map K.content result.lines.now) result.rows.now }
         ensures contents { map (content_in_case result.fold) (map K.content result.lines.now)
             ≡ map (content_in_case fold) (map K.content lines.now) }
@@ -266,6 +332,75 @@ impl SubjectRows {
         ensures { OnTrue result ((row : ℕ) → has_subject_row self.now row ≡ false) }
     {
         self.hashed.all().is_empty() && self.prefixes.rows.is_empty()
+    }
+}
+
+// Pushes the indexes of the lines whose keys the texts have, the greatest first.
+#[inline(never)]
+fn find_each<K: Keyed>(
+    lines: &[K],
+    texts: Texts<'_>,
+    found: &mut Vec<usize>,
+) -> Result<(), AllocError>
+    requires { found.old.items ≡ [] }
+    ensures found { OnOk result ((row : ℕ) → has_row found.new.items row
+        ≡ content_met_at texts.entry.fold texts.entry.name.now texts.entry.path.now
+        (slice_get (map K.content lines.now) row)) }
+    ensures falling { OnOk result (IsFalling found.new.items) }
+{
+    for row in (0..lines.len()).rev() {
+        if has_key(lines[row].key(), texts) {
+            found.push(row)?;
+        }
+    }
+    Ok(())
+}
+
+// Pushes the indexes of the lines that a path with this base name may match, the greatest first.
+fn find_each_candidate<K: Keyed>(
+    lines: &[K],
+    texts: Texts<'_>,
+    found: &mut Vec<usize>,
+) -> Result<(), AllocError>
+    requires { found.old.items ≡ [] }
+    ensures found { OnOk result ((row : ℕ) → has_row found.new.items row
+        ≡ content_met_at texts.entry.fold texts.entry.name.now texts.entry.name.now
+        (slice_get (map candidate_of (map K.content lines.now)) row)) }
+    ensures falling { OnOk result (IsFalling found.new.items) }
+{
+    for row in (0..lines.len()).rev() {
+        if is_candidate(lines[row].key(), texts) {
+            found.push(row)?;
+        }
+    }
+    Ok(())
+}
+
+// Whether the texts have the key.
+#[inline(always)]
+fn has_key(key: Key<'_>, texts: Texts<'_>) -> bool
+    ensures { result ≡ content_met
+        texts.entry.fold texts.entry.name.now texts.entry.path.now (key_content key.entry) }
+{
+    match key.subject {
+        Subject::Name => has_text(texts.fold, false, texts.name, key),
+        Subject::End => has_text(texts.fold, true, texts.name, key),
+        Subject::Path => has_text(texts.fold, false, texts.path, key),
+        Subject::Anything => true,
+        Subject::Nothing => false,
+    }
+}
+
+// Whether a path with this base name may have the key.
+fn is_candidate(key: Key<'_>, texts: Texts<'_>) -> bool
+    ensures { result ≡ content_met texts.entry.fold texts.entry.name.now texts.entry.name.now
+        (candidate_of (key_content key.entry)) }
+{
+    match key.subject {
+        Subject::Name => !key.is_whole || has_text(texts.fold, false, texts.name, key),
+        Subject::End => has_text(texts.fold, true, texts.name, key),
+        Subject::Path | Subject::Anything => true,
+        Subject::Nothing => false,
     }
 }
 

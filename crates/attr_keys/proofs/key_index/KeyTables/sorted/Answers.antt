@@ -1,8 +1,8 @@
 use Rattle.std.proofs.Common.{map, sym, ap, ◌∙◌}
 use Rattle.attr_keys.specs.inner.Cases.{content_in_case}
 use Rattle.attr_keys.proofs.SeenTexts.{any_case, same_in_case}
-use Rattle.attr_keys.proofs.key_index.KeyIndex.sorted.Goals as goal
-use Rattle.attr_keys.proofs.key_index.KeyIndex.sorted.Goals.{in_default-via-in-Some+else-fold, in_default-via-in_default}
+use Rattle.attr_keys.proofs.key_index.KeyTables.sorted.Goals as goal
+use Rattle.attr_keys.proofs.key_index.KeyTables.sorted.Goals.{in_default-via-in-Some+else-fold, in_default-via-in_default}
 
 pub returns-in_default-clause-contents : goal.returns-in_default-clause-contents
 returns-in_default-clause-contents g c =

@@ -10,8 +10,8 @@ use Rattle.attr_keys.specs.shared.Meeting.{is_about}
 use Rattle.attr_keys.specs.inner.Orders.{AreSorted}
 use Rattle.attr_keys.specs.shared.Rows.{has_row}
 use Rattle.attr_keys.proofs.Gathering.{others_are}
-use Rattle.attr_keys.proofs.key_index.KeyIndex.of_kinds.Goals as goal
-use Rattle.attr_keys.proofs.key_index.KeyIndex.of_kinds.Goals.{then-capitals+in_ok-of, else-capitals}
+use Rattle.attr_keys.proofs.key_index.KeyTables.of_kinds.Goals as goal
+use Rattle.attr_keys.proofs.key_index.KeyTables.of_kinds.Goals.{then-capitals+in_ok-of, else-capitals}
 
 pub returns : goal.returns
 returns g c =
