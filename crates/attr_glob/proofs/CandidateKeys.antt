@@ -11,9 +11,9 @@ use Rattle.attr_keys.specs.shared.Rows.{has_row, IsFalling}
 use Rattle.attr_wildmatch.specs.declared.case.Case.{Case}
 use Rattle.attr_glob.specs.Candidates.{has_macro_mode, matches_base_name, is_candidate, candidates}
 use Rattle.attr_glob.specs.Patterns.{Reading, has_flag, ends_with}
-use Rattle.attr_glob.specs.declared.pattern.Pattern.{Pattern}
+use Rattle.attr_glob.specs.declared.search.pattern.indexed_line.IndexedLine.{IndexedLine}
 use Rattle.attr_glob.specs.Views.{pattern_view}
-use Rattle.attr_glob.specs.shared.LineShapes.{folds, key_of_pattern, shape_reading}
+use Rattle.attr_glob.specs.shared.LineShapes.{folds, indexed_keys, shape_reading}
 use Rattle.attr_wildmatch.proofs.ForCallers.{by_test}
 use Rattle.attr_glob.proofs.FallingPlaces.{falling_places, passes}
 use Rattle.attr_glob.proofs.KeyTexts.{whole_met, end_met}
@@ -46,11 +46,11 @@ found_candidates case base lines keys found is down has =
     falling_places (is_candidate case base) lines found down
     (λ row. has row ∙ (ap (λ l. content_met_at (folds case) base base (slice_get l row)) is ∙ met_at case base lines row))
 
--- the keys of patterns, as far as base names alone tell
-pub keys_of_views : (patterns : List Pattern) → map candidate_of (map key_of_pattern patterns)
-    ≡ map (λ line. candidate_content (shape_reading line)) (map pattern_view patterns)
-keys_of_views [] = refl
-keys_of_views (p ∷ ps) =
-    let first = candidate_of_line (shape_reading (pattern_view p)) in
-    let rest = keys_of_views ps in
+-- the keys of the lines of an index, as far as base names alone tell
+pub keys_of_lines : (lines : List IndexedLine) → map candidate_of (indexed_keys lines)
+    ≡ map (λ line. candidate_content (shape_reading line)) (map (λ l. pattern_view l.pattern) lines)
+keys_of_lines [] = refl
+keys_of_lines (l ∷ ls) =
+    let first = candidate_of_line (shape_reading (pattern_view l.pattern)) in
+    let rest = keys_of_lines ls in
     cc (first, rest)

@@ -18,3 +18,5 @@ pub use Rattle.attr_glob.proofs.PathLemmas.{reading-wildcard}
 pub use Rattle.attr_glob.proofs.Literals.{no_wildcard, text_matches-literal, text_matches-front}
 pub use Rattle.attr_glob.proofs.KeyTexts.{whole_met, front_met, end_met, bytewise}
 pub use Rattle.attr_glob.proofs.FallingPlaces.{falling_places, passes}
+-- keys_read, lines_length: an index has the keys of its list's patterns, and as many lines.
+pub use Rattle.attr_glob.proofs.IndexedLemmas.{keys_read, lines_length}

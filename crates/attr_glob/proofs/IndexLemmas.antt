@@ -7,6 +7,7 @@ use Rattle.std.proofs.lemmas.Bool.{eqb-true}
 use Rattle.std.proofs.lemmas.List.{take_more, map-append}
 use Rattle.attr_glob.specs.declared.pattern.Pattern.{Pattern}
 use Rattle.attr_glob.specs.declared.search.pattern.Mapping.{Mapping}
+use Rattle.attr_glob.specs.declared.search.pattern.indexed_line.IndexedLine.{IndexedLine}
 use Rattle.attr_glob.specs.contracts.pattern.PatternPartialEq.TheImpl as pattern
 use Rattle.attr_glob.specs.Patterns.{Reading}
 use Rattle.attr_glob.specs.Views.{pattern_view, mode_bits, patterns_of}
@@ -53,22 +54,25 @@ same_read x y e =
     (eq-eqb (mode_bits x.mode) (mode_bits y.mode) (ap (λ (r : Reading). r.mode) e))
     (place_same x.first_wildcard_pos y.first_wildcard_pos (ap (λ (r : Reading). r.wildcard) e)))
 
+abbrev pub pattern_in : IndexedLine → Reading
+pattern_in line = pattern_view line.pattern
+
 -- one more pattern that is read the same
-pub lines_more : {V : Type 0} (xs : List Pattern) (ys : List (Mapping V)) (i : ℕ) (d : Pattern) (e : Mapping V) → i < length xs → i < length ys → map
-    pattern_view (take i xs) ≡ patterns_of (take i ys) → pattern_view (get_or xs i d) ≡ pattern_view (get_or ys i e).pattern → map pattern_view
-    (take (i + 1) xs) ≡ patterns_of (take (i + 1) ys)
+pub lines_more : {V : Type 0} (xs : List IndexedLine) (ys : List (Mapping V)) (i : ℕ) (d : IndexedLine) (e : Mapping V) →
+    i < length xs → i < length ys → map pattern_in (take i xs) ≡ patterns_of (take i ys) →
+    pattern_in (get_or xs i d) ≡ pattern_view (get_or ys i e).pattern → map pattern_in (take (i + 1) xs) ≡ patterns_of (take (i + 1) ys)
 lines_more xs ys i d e ltx lty same here =
-    ap (map pattern_view) (take_more xs i d ltx) ∙ map-append pattern_view (take i xs) (get_or xs i d ∷ [])
-    ∙ ap (λ l. l ++ pattern_view (get_or xs i d) ∷ []) same ∙ ap (λ r. patterns_of (take i ys) ++ r ∷ []) here
+    ap (map pattern_in) (take_more xs i d ltx) ∙ map-append pattern_in (take i xs) (get_or xs i d ∷ [])
+    ∙ ap (λ l. l ++ pattern_in (get_or xs i d) ∷ []) same ∙ ap (λ r. patterns_of (take i ys) ++ r ∷ []) here
     ∙ sym (ap patterns_of (take_more ys i e lty) ∙ map-append (λ m. pattern_view m.pattern) (take i ys) (get_or ys i e ∷ []))
 
 -- lists that are read the same are so at each place
-pub lines_at : {V : Type 0} (xs : List Pattern) (ys : List (Mapping V)) (i : ℕ) (d : Pattern) (e : Mapping V) → i < length xs → i < length ys → map
-    pattern_view xs ≡ patterns_of ys → pattern_view (get_or xs i d) ≡ pattern_view (get_or ys i e).pattern
+pub lines_at : {V : Type 0} (xs : List IndexedLine) (ys : List (Mapping V)) (i : ℕ) (d : IndexedLine) (e : Mapping V) →
+    i < length xs → i < length ys → map pattern_in xs ≡ patterns_of ys → pattern_in (get_or xs i d) ≡ pattern_view (get_or ys i e).pattern
 lines_at [] ys i d e ltx lty same = absurd (omega arith)
 lines_at (x ∷ xs) [] i d e ltx lty same = absurd (omega arith)
 lines_at (x ∷ xs) (y ∷ ys) zero d e ltx lty same = cc
-lines_at (x ∷ xs) (y ∷ ys) (suc i) d e ltx lty same = let rest : map pattern_view xs ≡ patterns_of ys = cc in lines_at xs ys i d e (omega arith)
+lines_at (x ∷ xs) (y ∷ ys) (suc i) d e ltx lty same = let rest : map pattern_in xs ≡ patterns_of ys = cc in lines_at xs ys i d e (omega arith)
     (omega arith) rest
 
 pub take_whole : {X : Type 0} (xs : List X) (i : ℕ) → length xs ≤ i → take i xs ≡ xs
@@ -78,16 +82,6 @@ take_whole (x ∷ xs) zero h = absurd (omega arith)
 take_whole (x ∷ xs) (suc i) h = ap (λ l. x ∷ l) (take_whole xs i (omega arith))
 
 -- all patterns are read the same
-pub lines_all : {V : Type 0} (xs : List Pattern) (ys : List (Mapping V)) (i : ℕ) → length xs ≤ i → length ys ≤ i → map pattern_view (take i xs) ≡
-    patterns_of (take i ys) → map pattern_view xs ≡ patterns_of ys
-lines_all xs ys i lx ly e = ap (map pattern_view) (sym (take_whole xs i lx)) ∙ e ∙ ap patterns_of (take_whole ys i ly)
-
--- one more pattern that was copied
-pub lines_push : {V : Type 0} (xs xs' : List Pattern) (x : Pattern) (ys lent : List (Mapping V)) (i : ℕ) (e : Mapping V) → lent ≡ ys → i < length lent
-    → e ≡ get_or lent i e → map pattern_view xs ≡ patterns_of (take i ys) → xs' ≡ xs ++ x ∷ [] → pattern_view x ≡ pattern_view e.pattern → map
-    pattern_view xs' ≡ patterns_of (take (i + 1) ys)
-lines_push xs xs' x ys lent i e same lt at lines pushed read =
-    let within : i < length ys = omega (arith, ap length same) in
-    ap (map pattern_view) pushed ∙ map-append pattern_view xs (x ∷ []) ∙ ap (λ l. l ++ pattern_view x ∷ []) lines
-    ∙ ap (λ r. patterns_of (take i ys) ++ r ∷ []) (read ∙ ap (λ m. pattern_view m.pattern) (at ∙ ap (λ l. get_or l i e) same))
-    ∙ sym (ap patterns_of (take_more ys i e within) ∙ map-append (λ m. pattern_view m.pattern) (take i ys) (get_or ys i e ∷ []))
+pub lines_all : {V : Type 0} (xs : List IndexedLine) (ys : List (Mapping V)) (i : ℕ) → length xs ≤ i → length ys ≤ i → map pattern_in (take i xs) ≡
+    patterns_of (take i ys) → map pattern_in xs ≡ patterns_of ys
+lines_all xs ys i lx ly e = ap (map pattern_in) (sym (take_whole xs i lx)) ∙ e ∙ ap patterns_of (take_whole ys i ly)

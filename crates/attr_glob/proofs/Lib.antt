@@ -13,6 +13,7 @@ pub mod CandidateKeys
 pub mod FallingPlaces
 pub mod Copies
 pub mod IndexLemmas
+pub mod IndexedLemmas
 pub mod Places
 pub mod MatchingLines
 pub mod ForCallers

@@ -4,3 +4,4 @@ pub mod Extensions
 pub mod Hashes
 pub mod Kinds
 pub mod Orders
+pub mod MetRows

@@ -5,6 +5,7 @@ ghost use Rattle.std.specs.Bool.{OnFalse, OnTrue};
 ghost use Rattle.attr_keys.specs.shared.Candidates.{candidate_of};
 ghost use Rattle.attr_keys.specs.inner.Cases.{content_in_case, in_case, keys_seen};
 ghost use Rattle.attr_keys.specs.inner.Extensions.{is_hashed};
+ghost use Rattle.attr_keys.specs.inner.MetRows.{AreMetRows};
 ghost use Rattle.attr_keys.specs.shared.KeyIndexes.{AreKeyTables, IsKeyIndex};
 ghost use Rattle.attr_keys.specs.inner.Kinds.{AreKinds};
 ghost use Rattle.attr_keys.specs.shared.Meeting.{content_met, content_met_at, directed, key_content, text_has};
@@ -192,10 +193,8 @@ impl KeyTables {
     ) -> Result<(), AllocError>
         requires tables { AreKeyTables (map K.content lines.now) self.now }
         requires empty { found.old.items ≡ [] }
-        ensures found { OnOk result ((row : ℕ) → has_row found.new.items row
-            ≡ content_met_at texts.entry.fold texts.entry.name.now texts.entry.path.now
-            (slice_get (map K.content lines.now) row)) }
-        ensures falling { OnOk result (IsFalling found.new.items) }
+        ensures { OnOk result (AreMetRows texts.entry.fold texts.entry.name.now texts.entry.path.now
+            (map K.content lines.now) found.new.items) }
     {
         gather(self.sorted(lines, texts.fold), texts, buffer, found)?;
         append(&self.others, found)?;
@@ -213,10 +212,8 @@ impl KeyTables {
     ) -> Result<(), AllocError>
         requires tables { AreKeyTables (map K.content lines.now) self.now }
         requires empty { found.old.items ≡ [] }
-        ensures found { OnOk result ((row : ℕ) → has_row found.new.items row
-            ≡ content_met_at texts.entry.fold texts.entry.name.now texts.entry.name.now
-            (slice_get (map candidate_of (map K.content lines.now)) row)) }
-        ensures falling { OnOk result (IsFalling found.new.items) }
+        ensures { OnOk result (AreMetRows texts.entry.fold texts.entry.name.now texts.entry.name.now
+            (map candidate_of (map K.content lines.now)) found.new.items) }
     {
         gather_candidates(self.sorted(lines, texts.fold), texts, buffer, found)?;
         append(&self.others, found)?;
@@ -343,10 +340,8 @@ fn find_each<K: Keyed>(
     found: &mut Vec<usize>,
 ) -> Result<(), AllocError>
     requires { found.old.items ≡ [] }
-    ensures found { OnOk result ((row : ℕ) → has_row found.new.items row
-        ≡ content_met_at texts.entry.fold texts.entry.name.now texts.entry.path.now
-        (slice_get (map K.content lines.now) row)) }
-    ensures falling { OnOk result (IsFalling found.new.items) }
+    ensures { OnOk result (AreMetRows texts.entry.fold texts.entry.name.now texts.entry.path.now
+        (map K.content lines.now) found.new.items) }
 {
     for row in (0..lines.len()).rev() {
         if has_key(lines[row].key(), texts) {
@@ -363,10 +358,8 @@ fn find_each_candidate<K: Keyed>(
     found: &mut Vec<usize>,
 ) -> Result<(), AllocError>
     requires { found.old.items ≡ [] }
-    ensures found { OnOk result ((row : ℕ) → has_row found.new.items row
-        ≡ content_met_at texts.entry.fold texts.entry.name.now texts.entry.name.now
-        (slice_get (map candidate_of (map K.content lines.now)) row)) }
-    ensures falling { OnOk result (IsFalling found.new.items) }
+    ensures { OnOk result (AreMetRows texts.entry.fold texts.entry.name.now texts.entry.name.now
+        (map candidate_of (map K.content lines.now)) found.new.items) }
 {
     for row in (0..lines.len()).rev() {
         if is_candidate(lines[row].key(), texts) {

@@ -18,50 +18,11 @@ use Rattle.attr_lists.specs.declared.types.Value.TheVariants.{MacroAssignments, 
 use Rattle.attr_lists.specs.ListViews.{Entry, SameValue, entry_view, entries_view, items_in, macro_id}
 use Rattle.attr_lists.specs.Numbers.{numbered, numbered_lines}
 use Rattle.attr_search.specs.ListView.{list_view}
-use Rattle.attr_search.specs.declared.indexed_line.IndexedLine.{IndexedLine}
-use Rattle.attr_search.specs.inner.LineIndexes.{NumberedPattern, indexed_keys, indexed_line, indexed_lines, listed_lines}
-use Rattle.attr_glob.specs.shared.LineShapes.{key_of_line, key_of_pattern}
+use Rattle.attr_glob.specs.declared.search.pattern.indexed_line.IndexedLine.{IndexedLine}
+use Rattle.attr_glob.specs.Indexed.{NumberedPattern, indexed_line, indexed_lines, listed_lines}
+use Rattle.attr_glob.proofs.ForCallers.{lines_length}
 use Rattle.attr_search.specs.inner.PlacedLines.{entry_at, no_entry}
 use Rattle.attr_search.specs.shared.ReadLines.{IsRead, AreRead}
-
-map_map : {X Y Z : Type 0} (g : Y → Z) (f : X → Y) (xs : List X) → map g (map f xs) ≡ map (λ x. g (f x)) xs
-map_map g f [] = refl
-map_map g f (x ∷ xs) = ap (λ l. g (f x) ∷ l) (map_map g f xs)
-
--- one more line of an index
-pub lines_more : {V : Type 0} (lines : List IndexedLine) (mappings : List (Mapping V)) (i : ℕ) (d : Mapping V) (more : List IndexedLine)
-    (line : IndexedLine) (mapping : Mapping V) → i < length mappings → mapping ≡ get_or mappings i d →
-    indexed_lines lines ≡ listed_lines (take i mappings) → more ≡ lines ++ line ∷ [] →
-    pattern_view line.pattern ≡ pattern_view mapping.pattern → line.number ≡ mapping.sequence_number →
-    indexed_lines more ≡ listed_lines (take (i + 1) mappings)
-lines_more {V} lines mappings i d more line mapping lt is before pushed pattern number =
-    let numbered : Mapping V → NumberedPattern = λ m. record { pattern = pattern_view m.pattern; number = m.sequence_number } in
-    let here : indexed_line line ≡ numbered mapping = cc (pattern, number) in
-    ap indexed_lines pushed ∙ map-append indexed_line lines (line ∷ [])
-    ∙ ap (λ r. r ++ indexed_line line ∷ []) before
-    ∙ ap (λ r. listed_lines (take i mappings) ++ r ∷ []) (here ∙ ap numbered is)
-    ∙ sym (ap listed_lines (take_more mappings i d lt) ∙ map-append numbered (take i mappings) (get_or mappings i d ∷ []))
-
--- the keys of an index are those of its list
-pub keys_same : (lines : List IndexedLine) (mappings : List (Mapping Value)) → indexed_lines lines ≡ listed_lines mappings →
-    indexed_keys lines ≡ map (λ m. key_of_pattern m.pattern) mappings
-keys_same lines mappings e =
-    sym (map_map (λ (n : NumberedPattern). key_of_line n.pattern) indexed_line lines) ∙ ap (map (λ (n : NumberedPattern). key_of_line n.pattern)) e
-    ∙ map_map (λ (n : NumberedPattern). key_of_line n.pattern)
-    (λ (m : Mapping Value). record { pattern = pattern_view m.pattern; number = m.sequence_number }) mappings
-
--- and those of its patterns
-pub keys_read : (lines : List IndexedLine) (mappings : List (Mapping Value)) → indexed_lines lines ≡ listed_lines mappings →
-    indexed_keys lines ≡ map key_of_line (patterns_of mappings)
-keys_read lines mappings e =
-    keys_same lines mappings e ∙ sym (map_map key_of_line (λ (m : Mapping Value). pattern_view m.pattern) mappings)
-
--- as many lines
-pub lines_length : {V : Type 0} (lines : List IndexedLine) (mappings : List (Mapping V)) → indexed_lines lines ≡ listed_lines mappings →
-    length lines ≡ length mappings
-lines_length {V} lines mappings e =
-    sym (length-map lines indexed_line) ∙ ap length e
-    ∙ length-map mappings (λ (m : Mapping V). record { pattern = pattern_view m.pattern; number = m.sequence_number })
 
 -- the patterns of a list, as its lines have them
 patterns_in : List Entry → List Reading

@@ -21,9 +21,9 @@ use Rattle.attr_table.specs.Cut.{is_done}
 use Rattle.attr_table.specs.shared.Walk.{Task, Searches, free_items, tasks_in}
 use Rattle.attr_table.proofs.ForCallers.{nothing_taken, done_taken, row_filled, then_searches}
 use Rattle.attr_glob.specs.Views.{pattern_view}
-use Rattle.attr_search.specs.declared.indexed_line.IndexedLine.{IndexedLine}
-use Rattle.attr_search.specs.declared.line_index.LineIndex.{LineIndex}
-use Rattle.attr_search.specs.inner.LineIndexes.{NumberedPattern, indexed_line, indexed_lines, listed_lines}
+use Rattle.attr_glob.specs.declared.search.pattern.indexed_line.IndexedLine.{IndexedLine}
+use Rattle.attr_glob.specs.declared.search.pattern.index.Index.{Index}
+use Rattle.attr_glob.specs.Indexed.{NumberedPattern, indexed_line, indexed_lines, listed_lines}
 use Rattle.attr_search.specs.inner.PlacedLines.{no_entry, entry_at}
 use Rattle.attr_search.proofs.PlacedLemmas.{entry_is}
 use Rattle.attr_search.specs.Slots.{table_items}
@@ -129,7 +129,7 @@ unfolding placed_origin
 listed_origins source ms =
     map_map (placed_origin source) (λ (m : Mapping Value). record { pattern = pattern_view m.pattern; number = m.sequence_number }) ms
 
-pub origin_is : (index : LineIndex) (source : Option (List ℕ)) (ms : List (Mapping Value)) (place : ℕ) (m : Mapping Value) →
+pub origin_is : (index : Index) (source : Option (List ℕ)) (ms : List (Mapping Value)) (place : ℕ) (m : Mapping Value) →
     indexed_lines index.lines.items ≡ listed_lines ms → option_map string_bytes index.source ≡ source → place < length ms → m ≡ get_or ms place m →
     index_origin index place ≡ origin_of source m
 origin_is index source ms place m lines e lt is =

@@ -16,9 +16,7 @@ pub mod Counting
 pub mod DirectoryKeys
 pub mod FrontHashers
 pub mod KeyLinks
-pub mod LineTokens
 pub mod NumbersView
 pub mod FoundLists
-pub mod LineIndexes
 pub mod PlacedLines
 pub mod Trying

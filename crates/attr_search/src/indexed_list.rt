@@ -14,15 +14,14 @@ ghost use Rattle.attr_lists.specs.KeptLists.{macros_valid};
 ghost use Rattle.attr_lists.specs.ListViews.{entries_view};
 ghost use Rattle.attr_lists.specs.Numbers.{numbered_lines};
 ghost use Rattle.attr_search.specs.shared.ReadLines.{AreRead};
-ghost use Rattle.attr_search.specs.inner.LineIndexes.{indexed_lines, listed_lines};
+ghost use Rattle.attr_glob.specs.Indexed.{indexed_lines, listed_lines};
 ghost use Rattle.attr_lists.specs.shared.Keeping.{StayRegistered};
 
 use crate::directory_keys::base_key;
-use crate::line_index::LineIndex;
 use crate::macro_lines::are_macros;
 use crate::path_query::PathQuery;
 use attr_glob::pattern::base_name;
-use attr_glob::search::pattern::List;
+use attr_glob::search::pattern::{Index, List};
 use attr_glob::wildmatch::MatchBuffers;
 use attr_keys::key_index::Texts;
 use attr_lists::name_table::NameTable;
@@ -41,7 +40,7 @@ pub struct IndexedList {
     pub list: List<Attributes>,
     /// The lines as searches read them, which is shared with the outcomes that have answers of the list.
     #[derive_where(skip)]
-    pub index: Rc<LineIndex>,
+    pub index: Rc<Index>,
     /// The list id under which the list is registered in its collection.
     #[derive_where(skip)]
     pub list_id: usize,
@@ -88,7 +87,7 @@ impl IndexedList {
         ensures sound { OnOk result (IsSoundCollection names.new) }
         ensures refused { OnErr result (names.new ≡ names.old) }
     {
-        let index = Rc::new(alloc, LineIndex::of(alloc, &list)?)?;
+        let index = Rc::new(alloc, Index::of(alloc, &list)?)?;
         let key_of_base = base_key(alloc, &list.base)?;
         let list_id = names.add(alloc, &mut list.patterns)?;
         let is_idle = are_macros(&list.patterns);

@@ -6,11 +6,9 @@
 pub mod answer_parts;
 pub mod bodies;
 mod directory_keys;
-pub mod indexed_line;
 pub mod indexed_list;
 pub mod indexed_lists;
 pub mod laws;
-pub mod line_index;
 mod macro_lines;
 pub mod matching_line;
 pub mod numbers_by_key;

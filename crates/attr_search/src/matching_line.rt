@@ -2,7 +2,7 @@
 
 ghost use Rattle.std.specs.Prelude.{◌<◌, length};
 
-use crate::line_index::LineIndex;
+use attr_glob::search::pattern::Index;
 use attr_lists::types::TrackedAssignment;
 use std::rc::Rc;
 
@@ -10,7 +10,7 @@ use std::rc::Rc;
 #[derive(Clone, Copy)]
 pub struct MatchingLine<'a> {
     /// The index of its list.
-    pub index: &'a Rc<LineIndex>,
+    pub index: &'a Rc<Index>,
     /// The offset of the line in its list, from 0.
     pub line: usize,
     /// The line's items.
@@ -22,7 +22,7 @@ pub struct MatchingLine<'a> {
 #[derive(Drop)]
 pub struct AnsweringLine {
     /// The index of its list.
-    pub index: Rc<LineIndex>,
+    pub index: Rc<Index>,
     /// The offset of the line in its list, from 0.
     pub line: usize,
     ghost within: { line < length index.value.lines.items },

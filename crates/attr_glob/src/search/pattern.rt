@@ -12,11 +12,13 @@ ghost use Rattle.attr_glob.specs.Views.{base_bytes};
 use crate::pattern::{Case, same_text, without_end};
 use crate::search;
 pub use crate::search::pattern::index::Index;
+pub use crate::search::pattern::indexed_line::IndexedLine;
 use attr_keys::key::{Key, Keyed};
 use bstr::BStr;
 use std::alloc::{AllocError, Global};
 
 mod index;
+mod indexed_line;
 pub mod laws;
 
 /// A line of a list: its pattern, and the value that goes with it.

@@ -8,8 +8,8 @@ use Rattle.attr_lists.specs.declared.types.TrackedAssignment.{TrackedAssignment}
 use Rattle.attr_lists.specs.declared.types.Value.{Value as LineValue}
 use Rattle.attr_table.specs.Setting.{Origin}
 use Rattle.attr_search.specs.ListView.{Listed}
-use Rattle.attr_search.specs.declared.line_index.LineIndex.{LineIndex}
-use Rattle.attr_search.specs.declared.indexed_line.IndexedLine.{IndexedLine}
+use Rattle.attr_glob.specs.declared.search.pattern.index.Index.{Index}
+use Rattle.attr_glob.specs.declared.search.pattern.indexed_line.IndexedLine.{IndexedLine}
 use Rattle.attr_search.specs.Settings.{HaveSlots}
 
 -- the items of all bodies, and of all lines of lists, have slots
@@ -48,7 +48,7 @@ indexed_origin source l =
 abbrev pub no_origin : Origin
 no_origin = record { text = []; mode = 0; wildcard = None; source = None; line = 0 }
 
-abbrev pub index_origin : LineIndex → ℕ → Origin
+abbrev pub index_origin : Index → ℕ → Origin
 index_origin index line =
     slice_index_or (map (indexed_origin (option_map string_bytes index.source)) index.lines.items) line no_origin
 

@@ -1,15 +1,19 @@
-//! Which patterns of a list a path has to be matched against.
+//! The lines of a list as searches read them, and which of them a path has to be matched against.
 
-ghost use Rattle.std.specs.Prelude.{◌≡◌, ◌↔◌, IfOk, IsTrue, map};
+ghost use Rattle.std.specs.Prelude.{◌≡◌, ◌↔◌, IfOk, IsTrue, option_map, string_bytes};
 ghost use Rattle.bstr.specs.BStr.{bstr_bytes};
 ghost use Rattle.attr_glob.specs.BaseNames.{base_name, base_name_place};
 ghost use Rattle.attr_glob.specs.Candidates.{candidates};
 ghost use Rattle.attr_glob.specs.Views.{pattern_view, patterns_of};
+ghost use Rattle.attr_glob.specs.Indexed.{indexed_lines, indexed_patterns, listed_lines};
+ghost use Rattle.attr_glob.specs.shared.LineShapes.{indexed_keys};
+ghost use Rattle.attr_keys.specs.shared.KeyIndexes.{IsKeyIndex};
 ghost use Rattle.attr_keys.specs.shared.LineKeys.{shape_content};
 ghost use Rattle.attr_glob.specs.shared.LineShapes.{folds, shape_reading};
 
 use crate::pattern::{Case, Mode, base_name};
-use crate::search::pattern::List;
+use crate::search::pattern::indexed_line::IndexedLine;
+use crate::search::pattern::{List, Mapping, copy_of_text};
 use crate::{Pattern, search};
 use attr_keys::key::{Key, Keyed};
 use attr_keys::key_index::{KeyIndex, Texts};
@@ -17,70 +21,64 @@ use attr_keys::line_key::{Shape, line_key};
 use bitflags::Flags;
 use bstr::BStr;
 use std::alloc::{AllocError, Global};
-use std::marker::Model;
 
-/// The patterns of a list by the base names that they need, so that a search tests only candidates. A candidate is a
-/// pattern that may match a path with a given base name (own: it changes no answer).
+/// The lines of a list as searches read them and as answers lend them, found by the base names and the paths that they need, so
+/// that a search tests only candidates. A candidate is a line whose pattern may match a path with a given base name (own: it
+/// changes no answer). An index is made once, and nothing changes it: a search and the outcomes that have answers of the list
+/// share it by counting.
 #[derive(Debug, Drop)]
 pub struct Index {
-    patterns: Vec<Pattern>,
-    keys: KeyIndex,
-}
-
-impl Model for Index {
-    ghost use Rattle.std.specs.Prelude.{List};
-    ghost use Rattle.attr_glob.specs.Patterns.{Reading};
-
-    ghost Value = { List Reading };
-
-    ghost use Rattle.attr_glob.specs.Indexed.{index_view};
-    ghost use Rattle.attr_glob.specs.inner.IndexInvariant.{IsIndex};
-
-    ghost view = { index_view };
-
-    ghost invariant = { IsIndex };
+    /// The lines, in their order.
+    pub lines: Vec<IndexedLine>,
+    /// The source of the list.
+    pub source: Option<String>,
+    /// The keys of the lines, by which those are found that may match a path.
+    pub keys: KeyIndex,
+    ghost keyed: { IsKeyIndex (indexed_keys lines.items) keys },
 }
 
 impl Index {
-    /// The index of a list. It has a copy of each pattern.
+    /// The index of a list. It has a copy of each pattern, and of the source.
     ///
     /// # Errors
     ///
     /// If memory runs out.
     pub fn of<T: search::Pattern>(alloc: Global, list: &List<T>) -> Result<Index, AllocError>
-        ensures { IfOk result (λ index. index ≡ patterns_of list.now.patterns.items) }
+        ensures patterns { IfOk result (λ index.
+            indexed_patterns index.lines.items ≡ patterns_of list.now.patterns.items) }
+        ensures lines { IfOk result (λ index.
+            indexed_lines index.lines.items ≡ listed_lines list.now.patterns.items) }
+        ensures source { IfOk result (λ index.
+            option_map string_bytes index.source ≡ option_map string_bytes list.now.source) }
     {
-        let mut patterns = Vec::with_capacity(alloc, list.patterns.len())?;
-        for mapping in &list.patterns {
-            patterns.push(mapping.pattern.clone(alloc)?)?;
-        }
-        Index::from_patterns(alloc, patterns)
-    }
-
-    fn from_patterns(alloc: Global, patterns: Vec<Pattern>) -> Result<Index, AllocError>
-        ensures { IfOk result (λ index. index ≡ map pattern_view patterns.items) }
-    {
-        let keys = KeyIndex::of(alloc, &patterns)?;
-        Ok(Index { patterns, keys })
+        let keys = KeyIndex::of(alloc, &list.patterns)?;
+        let lines = index_lines(alloc, &list.patterns)?;
+        let source = copy_of_text(alloc, &list.source)?;
+        Ok(Index {
+            lines,
+            source,
+            keys,
+        })
     }
 
     /// Whether the index was made of a list with the same patterns in the same order.
     pub fn is_of<T: search::Pattern>(&self, list: &List<T>) -> bool
-        ensures { IsTrue result ↔ (self.now ≡ patterns_of list.now.patterns.items) }
+        ensures { IsTrue result
+            ↔ (indexed_patterns self.now.lines.items ≡ patterns_of list.now.patterns.items) }
     {
-        if self.patterns.len() != list.patterns.len() {
+        if self.lines.len() != list.patterns.len() {
             return false;
         }
-        for (place, mapping) in list.patterns.iter().enumerate() {
-            if !is_same_pattern(&self.patterns[place], &mapping.pattern) {
+        for (index, mapping) in list.patterns.iter().enumerate() {
+            if !is_same_pattern(&self.lines[index].pattern, &mapping.pattern) {
                 return false;
             }
         }
         true
     }
 
-    /// The places of the candidates for a path, the greatest first. A place is the index of a pattern in the list,
-    /// from 0. `basename_pos` is the path's [`base_name_place`](crate::pattern::base_name_place).
+    /// The indexes of the candidates for a path, from 0 in the list, the greatest first. `basename_pos` is the path's
+    /// [`base_name_place`](crate::pattern::base_name_place).
     ///
     /// # Errors
     ///
@@ -93,7 +91,7 @@ impl Index {
         basename_pos: Option<usize>,
         case: Case,
     ) -> Result<Vec<usize>, AllocError>
-        requires of { self.now ≡ patterns_of list.now.patterns.items }
+        requires of { indexed_patterns self.now.lines.items ≡ patterns_of list.now.patterns.items }
         requires place { basename_pos ≡ base_name_place (bstr_bytes path) }
         ensures { IfOk result (λ found. let name = base_name (bstr_bytes path.entry) in
             found.items ≡ candidates case name (patterns_of list.now.patterns.items)) }
@@ -106,9 +104,20 @@ impl Index {
         };
         let (mut reversed, mut found) = (Vec::new(alloc), Vec::new(alloc));
         self.keys
-            .find_candidates(&self.patterns, texts, &mut reversed, &mut found)?;
+            .find_candidates(&self.lines, texts, &mut reversed, &mut found)?;
         Ok(found)
     }
+}
+
+// The mappings' lines, in their order.
+fn index_lines<V>(alloc: Global, mappings: &[Mapping<V>]) -> Result<Vec<IndexedLine>, AllocError>
+    ensures { IfOk result (λ lines. indexed_lines lines.items ≡ listed_lines mappings.now) }
+{
+    let mut lines = Vec::with_capacity(alloc, mappings.len())?;
+    for mapping in mappings {
+        lines.push(IndexedLine::of(alloc, mapping)?)?;
+    }
+    Ok(lines)
 }
 
 fn is_same_pattern(x: &Pattern, y: &Pattern) -> bool

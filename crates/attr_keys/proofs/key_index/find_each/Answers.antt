@@ -8,7 +8,8 @@ loop-row-preserved-in-Continue-1 g c =
     let texts = c.args.texts in
     let lines = c.args.lines.now in
     let row = c.loop-row.row - 1 in
-    let at = key_at g.K.Keyed.content lines row c.index-lines-row.result _ (omega (arith, c.loop-row-test.true, c.loop-row.auto.row)) c.index-lines-row.is c.key.ensures in
+    let at = key_at g.K.Keyed.content lines row c.index-lines-row.result _
+    (omega (arith, c.loop-row-test.true, c.loop-row.auto.row)) c.index-lines-row.is c.key.ensures in
     rw c.in_ok-push.ensures.items (push_from _ row c.loop-row.row c.loop-row.found.items (omega (arith, c.loop-row-test.true))
     (ap (content_met_at texts.fold texts.name.now texts.path.now) at ∙ (sym c.has_key.ensures ∙ c.if-has_key.true)) c.loop-row.invariant)
 
@@ -17,6 +18,7 @@ loop-row-preserved g c =
     let texts = c.args.texts in
     let lines = c.args.lines.now in
     let row = c.loop-row.row - 1 in
-    let at = key_at g.K.Keyed.content lines row c.index-lines-row.result _ (omega (arith, c.loop-row-test.true, c.loop-row.auto.row)) c.index-lines-row.is c.key.ensures in
+    let at = key_at g.K.Keyed.content lines row c.index-lines-row.result _
+    (omega (arith, c.loop-row-test.true, c.loop-row.auto.row)) c.index-lines-row.is c.key.ensures in
     skip_from _ row c.loop-row.row c.loop-row.found.items (omega (arith, c.loop-row-test.true))
     (ap (content_met_at texts.fold texts.name.now texts.path.now) at ∙ (sym c.has_key.ensures ∙ c.if-has_key.false)) c.loop-row.invariant

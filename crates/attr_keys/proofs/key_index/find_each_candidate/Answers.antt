@@ -12,7 +12,8 @@ loop-row-preserved-in-Continue-1 g c =
     let lines = c.args.lines.now in
     let row = c.loop-row.row - 1 in
     let at = slice_get-map candidate_of (map g.K.Keyed.content lines) row
-    ∙ ap (option_map candidate_of) (key_at g.K.Keyed.content lines row c.index-lines-row.result _ (omega (arith, c.loop-row-test.true, c.loop-row.auto.row)) c.index-lines-row.is c.key.ensures) in
+    ∙ ap (option_map candidate_of) (key_at g.K.Keyed.content lines row c.index-lines-row.result _
+    (omega (arith, c.loop-row-test.true, c.loop-row.auto.row)) c.index-lines-row.is c.key.ensures) in
     rw c.in_ok-push.ensures.items (push_from _ row c.loop-row.row c.loop-row.found.items (omega (arith, c.loop-row-test.true))
     (ap (content_met_at texts.fold texts.name.now texts.name.now) at ∙ (sym c.is_candidate.ensures ∙ c.if-is_candidate.true)) c.loop-row.invariant)
 
@@ -22,6 +23,7 @@ loop-row-preserved g c =
     let lines = c.args.lines.now in
     let row = c.loop-row.row - 1 in
     let at = slice_get-map candidate_of (map g.K.Keyed.content lines) row
-    ∙ ap (option_map candidate_of) (key_at g.K.Keyed.content lines row c.index-lines-row.result _ (omega (arith, c.loop-row-test.true, c.loop-row.auto.row)) c.index-lines-row.is c.key.ensures) in
+    ∙ ap (option_map candidate_of) (key_at g.K.Keyed.content lines row c.index-lines-row.result _
+    (omega (arith, c.loop-row-test.true, c.loop-row.auto.row)) c.index-lines-row.is c.key.ensures) in
     skip_from _ row c.loop-row.row c.loop-row.found.items (omega (arith, c.loop-row-test.true))
     (ap (content_met_at texts.fold texts.name.now texts.name.now) at ∙ (sym c.is_candidate.ensures ∙ c.if-is_candidate.false)) c.loop-row.invariant

@@ -7,19 +7,22 @@ use Rattle.attr_keys.specs.shared.Rows.{has_row}
 use Rattle.attr_keys.proofs.Meetings.{met_of_gathered}
 use Rattle.attr_keys.proofs.key_index.KeyTables.find.Goals as goal
 
-pub returns-clause-found : goal.returns-clause-found
-returns-clause-found g c = λ row.
-    let texts = c.args.texts in
-    let keys = map g.K.Keyed.content c.args.lines.now in
-    let cased = sorted_keys g.K.Keyed.content c.sorted.result in
-    let met = gathered (in_case texts.fold texts.name.now) (in_case texts.fold texts.path.now) (slice_get cased row) in
-    let found = c.gather.new.found.items in
-    let others = c.args.self.now.others.items in
-    c.fall.ensures.rows row
-    ∙ (ap (λ l. has_row l row) c.in_ok-append.ensures
-    ∙ (list_any-append (λ r. eqb r row) found c.deref.result.now
-    ∙ (ap (λ l. has_row found row || has_row l row) c.deref.ensures.value
-    ∙ (ap (λ b. b || has_row others row) (c.in_ok-gather.ensures row)
-    ∙ (ap (λ l. (has_row l row || met) || has_row others row) c.requires.empty
-    ∙ (ap (λ b. met || b) (c.requires.tables.others row)
-    ∙ met_of_gathered texts.fold texts.name.now texts.path.now keys cased row c.sorted.ensures.contents))))))
+pub returns : goal.returns
+returns g c = record {
+  falling = c.fall.ensures.falling;
+  has = λ row.
+      let texts = c.args.texts in
+      let keys = map g.K.Keyed.content c.args.lines.now in
+      let cased = sorted_keys g.K.Keyed.content c.sorted.result in
+      let met = gathered (in_case texts.fold texts.name.now) (in_case texts.fold texts.path.now) (slice_get cased row) in
+      let found = c.gather.new.found.items in
+      let others = c.args.self.now.others.items in
+      c.fall.ensures.rows row
+      ∙ (ap (λ l. has_row l row) c.in_ok-append.ensures
+      ∙ (list_any-append (λ r. eqb r row) found c.deref.result.now
+      ∙ (ap (λ l. has_row found row || has_row l row) c.deref.ensures.value
+      ∙ (ap (λ b. b || has_row others row) (c.in_ok-gather.ensures row)
+      ∙ (ap (λ l. (has_row l row || met) || has_row others row) c.requires.empty
+      ∙ (ap (λ b. met || b) (c.requires.tables.others row)
+      ∙ met_of_gathered texts.fold texts.name.now texts.path.now keys cased row c.sorted.ensures.contents))))));
+}

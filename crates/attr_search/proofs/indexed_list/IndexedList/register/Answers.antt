@@ -5,8 +5,8 @@ use Rattle.attr_glob.specs.Views.{patterns_of}
 use Rattle.attr_lists.specs.ListViews.{entries_view}
 use Rattle.attr_lists.specs.Numbers.{numbered_lines}
 use Rattle.attr_lists.specs.Definitions.{with_list, HoldsList}
-use Rattle.attr_search.specs.declared.line_index.LineIndex.{LineIndex}
-use Rattle.attr_search.specs.inner.LineIndexes.{indexed_lines, listed_lines}
+use Rattle.attr_glob.specs.declared.search.pattern.index.Index.{Index}
+use Rattle.attr_glob.specs.Indexed.{indexed_lines, listed_lines}
 use Rattle.attr_search.specs.shared.ReadLines.{AreRead}
 use Rattle.attr_search.proofs.IndexedListLemmas.{numbered_lines_in, numbered_read, numbered_length, written}
 use Rattle.attr_search.proofs.indexed_list.IndexedList.register.Goals as goal
@@ -19,12 +19,12 @@ invariant_of-result-clause-lines c =
     let numbered = c.in_ok-list_id.ensures.numbered ∙ ap (λ ms. numbered_lines names (entries_view ms)) c.deref_mut.ensures.value in
     let whole = written before after c.args.list.patterns.len (sym c.deref_mut.ensures.len ∙ ap length c.deref_mut.ensures.value)
     (numbered_length names before after numbered) in
-    ap (λ (x : LineIndex). indexed_lines x.lines.items) c.in_ok-index.ensures.ok ∙ c.in_ok-of.ensures.lines
+    ap (λ (x : Index). indexed_lines x.lines.items) c.in_ok-index.ensures.ok ∙ c.in_ok-of.ensures.lines
     ∙ sym (ap listed_lines whole ∙ numbered_lines_in names before after numbered)
 
 pub invariant_of-result-clause-source : goal.invariant_of-result-clause-source
 invariant_of-result-clause-source c =
-    ap (λ (x : LineIndex). option_map string_bytes x.source) c.in_ok-index.ensures.ok ∙ c.in_ok-of.ensures.source
+    ap (λ (x : Index). option_map string_bytes x.source) c.in_ok-index.ensures.ok ∙ c.in_ok-of.ensures.source
 
 pub invariant_of-result-clause-read : goal.invariant_of-result-clause-read
 invariant_of-result-clause-read c =

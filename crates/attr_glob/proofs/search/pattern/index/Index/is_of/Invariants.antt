@@ -1,6 +1,7 @@
 use Rattle.std.proofs.Common.{◌≡◌, map, take}
-use Rattle.attr_glob.specs.Views.{pattern_view, patterns_of}
+use Rattle.attr_glob.specs.Views.{patterns_of}
+use Rattle.attr_glob.proofs.IndexLemmas.{pattern_in}
 use Rattle.attr_glob.proofs.search.pattern.index.Index.is_of.Given as goal
 
-abbrev pub invariant-loop-place : goal.invariant-loop-place
-invariant-loop-place g l = map pattern_view (take l.place l.self-inside.patterns.items) ≡ patterns_of (take l.place l.list.patterns.items)
+abbrev pub invariant-loop-index : goal.invariant-loop-index
+invariant-loop-index g l = map pattern_in (take l.index l.self.lines.items) ≡ patterns_of (take l.index l.list.patterns.items)

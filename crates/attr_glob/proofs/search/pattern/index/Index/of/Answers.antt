@@ -1,20 +1,22 @@
-use Rattle.std.proofs.Common.{◌≤◌, ◌∙◌, ap, arith, length}
-use Rattle.std.proofs.lemmas.Result.{IfOk-weaker}
-use Rattle.attr_glob.specs.Views.{patterns_of}
-use Rattle.attr_glob.proofs.IndexLemmas.{lines_push, take_whole}
+use Rattle.std.proofs.Common.{◌≡◌, ◌∙◌, ap, map, subst, sym}
+use Rattle.attr_keys.specs.shared.KeyIndexes.{IsKeyIndex}
+use Rattle.attr_glob.specs.shared.LineShapes.{key_of_pattern}
+use Rattle.attr_glob.specs.Indexed.{indexed_lines, listed_lines}
+use Rattle.attr_glob.proofs.IndexedLemmas.{keys_same, patterns_same}
 use Rattle.attr_glob.proofs.search.pattern.index.Index.of.Goals as goal
 
-pub loop-mapping-preserved : goal.loop-mapping-preserved
-loop-mapping-preserved g c =
-    lines_push c.loop-mapping.patterns.items c.push.new.self.items c.in_ok-clone.field-0 c.args.list.now.patterns.items
-    c.deref-mapping-items.result.now c.loop-mapping.mapping-index c.mapping-item.result
-    c.deref-mapping-items.ensures.value c.loop-mapping-test.true c.mapping-item.is c.loop-mapping.invariant c.in_ok-push.ensures.items
-    c.in_ok-clone.ensures
-
-pub returns : goal.returns
-returns g c =
+pub invariant_of-result : goal.invariant_of-result
+invariant_of-result g c =
     let mappings = c.args.list.now.patterns.items in
-    let whole : length mappings ≤ c.loop-mapping.mapping-index = omega (arith, ap length c.deref-mapping-items.ensures.value) in
-    IfOk-weaker c.from_patterns.result _ _
-    (λ index made. made ∙ c.loop-mapping.invariant ∙ ap patterns_of (take_whole mappings c.loop-mapping.mapping-index whole))
-    c.from_patterns.ensures
+    let lines = c.in_ok-lines.lines.items in
+    let same : indexed_lines lines ≡ listed_lines mappings = c.in_ok-lines.ensures ∙ ap listed_lines c.deref-2.ensures.value in
+    record {
+      keyed = subst (λ ks. IsKeyIndex ks c.in_ok-keys.keys)
+          (ap (map (λ m. key_of_pattern m.pattern)) c.deref.ensures.value ∙ sym (keys_same lines mappings same)) c.in_ok-keys.ensures;
+    }
+
+pub returns-clause-patterns : goal.returns-clause-patterns
+returns-clause-patterns g c =
+    let mappings = c.args.list.now.patterns.items in
+    let lines = c.in_ok-lines.lines.items in
+    patterns_same lines mappings (c.in_ok-lines.ensures ∙ ap listed_lines c.deref-2.ensures.value)

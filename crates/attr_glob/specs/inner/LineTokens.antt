@@ -1,4 +1,4 @@
--- The tokens that a list keeps of its lines (own).
+-- The tokens that an index keeps of its lines (own).
 use Rattle.std.specs.Prelude.{List, Option, Box, option_map}
 use Rattle.attr_wildmatch.specs.Tokens.{Token}
 

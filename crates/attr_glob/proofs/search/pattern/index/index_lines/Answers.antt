@@ -1,16 +1,16 @@
 use Rattle.std.proofs.Common.{◌∙◌, ap}
-use Rattle.attr_glob.proofs.ForCallers.{take_whole}
-use Rattle.attr_search.specs.inner.LineIndexes.{listed_lines}
-use Rattle.attr_search.proofs.IndexedListLemmas.{lines_more}
-use Rattle.attr_search.proofs.line_index.index_lines.Goals as goal
+use Rattle.attr_glob.proofs.IndexLemmas.{take_whole}
+use Rattle.attr_glob.specs.Indexed.{listed_lines}
+use Rattle.attr_glob.proofs.IndexedLemmas.{index_more}
+use Rattle.attr_glob.proofs.search.pattern.index.index_lines.Goals as goal
 
 pub loop-mapping-preserved : goal.loop-mapping-preserved
-loop-mapping-preserved c =
-    lines_more c.loop-mapping.lines.items c.args.mappings.now c.loop-mapping.mapping-index c.mapping-item.result c.push.new.self.items
+loop-mapping-preserved g c =
+    index_more c.loop-mapping.lines.items c.args.mappings.now c.loop-mapping.mapping-index c.mapping-item.result c.push.new.self.items
     c.in_ok-of.field-0 c.mapping-item.result
     c.loop-mapping-test.true c.mapping-item.is c.loop-mapping.invariant c.in_ok-push.ensures.items
     c.in_ok-of.ensures.pattern c.in_ok-of.ensures.number
 
 pub returns : goal.returns
-returns c =
+returns g c =
     c.loop-mapping.invariant ∙ ap listed_lines (take_whole c.args.mappings.now c.loop-mapping.mapping-index c.loop-mapping-test.false)

@@ -4,17 +4,16 @@ ghost use Rattle.std.specs.Prelude.{◌≡◌, IfOk};
 ghost use Rattle.std.specs.Option.{option_copied};
 ghost use Rattle.attr_glob.specs.KeptTokens.{kept_tokens};
 ghost use Rattle.attr_glob.specs.Views.{pattern_view};
-ghost use Rattle.attr_search.specs.inner.LineTokens.{unboxed};
+ghost use Rattle.attr_glob.specs.inner.LineTokens.{unboxed};
 
-use attr_glob::Pattern;
-use attr_glob::search::pattern::Mapping;
-use attr_glob::token::Tokens;
+use crate::Pattern;
+use crate::search::pattern::Mapping;
+use crate::token::Tokens;
 use attr_keys::key::{Key, Keyed};
-use attr_lists::types::Value;
 use std::alloc::{AllocError, Global};
 
 /// A line as searches read it and as answers lend it.
-#[derive(Drop)]
+#[derive(Debug, Drop)]
 pub struct IndexedLine {
     /// Its pattern.
     pub pattern: Pattern,
@@ -31,7 +30,7 @@ impl IndexedLine {
     /// # Errors
     ///
     /// If memory runs out.
-    pub fn of(alloc: Global, mapping: &Mapping<Value>) -> Result<IndexedLine, AllocError>
+    pub fn of<V>(alloc: Global, mapping: &Mapping<V>) -> Result<IndexedLine, AllocError>
         ensures pattern { IfOk result (λ line.
             pattern_view line.pattern ≡ pattern_view mapping.now.pattern) }
         ensures number { IfOk result (λ line. line.number ≡ mapping.now.sequence_number) }
