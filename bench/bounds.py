@@ -68,14 +68,14 @@ WHOLE = "assets/" * 7 + "%07d.bin"
 
 
 def whole_paths(count):
-    return add("".join(WHOLE % place + " a\n" for place in range(count)).encode()) + b"".join(
-        ask(WHOLE % place) for place in range(count))
+    return add("".join(WHOLE % index + " a\n" for index in range(count)).encode()) + b"".join(
+        ask(WHOLE % index) for index in range(count))
 
 
 def listed_paths(count, paths):
     """A list of so many paths, and as many of them as are asked for, from all over it: each is a hit."""
-    return add("".join(WHOLE % place + " a\n" for place in range(count)).encode()) + b"".join(
-        ask(WHOLE % (place * 37 % count)) for place in range(paths))
+    return add("".join(WHOLE % index + " a\n" for index in range(count)).encode()) + b"".join(
+        ask(WHOLE % (index * 37 % count)) for index in range(paths))
 
 
 # Each with its name, what is compared, the count, the script, two sizes, and the most that the result may be.

@@ -68,7 +68,7 @@ def escaped(text):
 
 
 class Axes:
-    """The place of a point in a panel; both axes are logarithmic, and all panels have the same."""
+    """The position of a point in a panel; both axes are logarithmic, and all panels have the same."""
 
     def __init__(self, points):
         self.low_x, self.high_x = decades([x for found in points.values() for x, _ in found])
@@ -104,9 +104,9 @@ def panel(points, axes, left, top, kind, title, sample):
     yield f'  <tspan class="sample" dx="8">{escaped(sample)}</tspan></text>'
     yield from axes.drawn(left, top)
     for program, _ in PROGRAMS:
-        places = [(axes.x(left, x), axes.y(top, y)) for x, y in points.get((kind, program), ())]
-        yield f'<polyline class="{program}" points="{" ".join(f"{x:.1f},{y:.1f}" for x, y in places)}"/>'
-        yield from (mark(program, x, y) for x, y in places)
+        positions = [(axes.x(left, x), axes.y(top, y)) for x, y in points.get((kind, program), ())]
+        yield f'<polyline class="{program}" points="{" ".join(f"{x:.1f},{y:.1f}" for x, y in positions)}"/>'
+        yield from (mark(program, x, y) for x, y in positions)
 
 
 def legend(left, y):

@@ -1,4 +1,4 @@
-/* Writes names of attributes, one a line, that share a place of a table by hashes.
+/* Writes names of attributes, one a line, that share a bucket of a table by hashes.
  *
  * usage: crowd COUNT BITS
  *

@@ -73,11 +73,11 @@ def ask(path, form="l", case="s"):
 
 def lines(count, form):
     """A file of lines; a # stands for the number of the line."""
-    return "".join(form.replace("#", str(place)) + "\n" for place in range(count)).encode()
+    return "".join(form.replace("#", str(index)) + "\n" for index in range(count)).encode()
 
 
 def words(count, form="a#"):
-    return " ".join(form.replace("#", str(place)) for place in range(count))
+    return " ".join(form.replace("#", str(index)) for index in range(count))
 
 
 def spelling(number, length):
@@ -162,7 +162,7 @@ def cancelling():
 def colliding_names(n):
     """a line of n names of 48 bytes, made to have one hash"""
     front = cancelling()
-    return add(b"* " + " ".join("%s%08d%s" % (front, place, "A" * 16) for place in range(n)).encode() + b"\n")
+    return add(b"* " + " ".join("%s%08d%s" % (front, index, "A" * 16) for index in range(n)).encode() + b"\n")
 
 
 def crowd(n):
@@ -192,8 +192,8 @@ class CannotMake(Exception):
     """The input of a case can't be made here, for this reason."""
 
 
-def names_of_one_place(n):
-    """n names of six bytes that share one of 8,192 places of a table by std's hash, made in some 10 s for 270,000."""
+def names_of_one_bucket(n):
+    """n names of six bytes that share one of 8,192 buckets of a table by std's hash, made in some 10 s for 270,000."""
     if not shutil.which("cc"):
         raise CannotMake("there is no cc, the C compiler that crowd.c needs")
     with tempfile.TemporaryDirectory() as room:
@@ -204,8 +204,8 @@ def names_of_one_place(n):
 
 @case(67_500)
 def crowded_attributes(n):
-    """a line of n names that share a place of a table by std's hash"""
-    return add(b"* " + " ".join(names_of_one_place(n)).encode() + b"\n")
+    """a line of n names that share a bucket of a table by std's hash"""
+    return add(b"* " + " ".join(names_of_one_bucket(n)).encode() + b"\n")
 
 
 @case(67_500)
@@ -219,14 +219,14 @@ def scattered_attributes(n):
 @case(10_500)
 def long_names(n):
     """a line of n other names of 48 bytes"""
-    return add(b"* " + " ".join("%024d%08d%s" % (place * 7, place, "A" * 16) for place in range(n)).encode() + b"\n")
+    return add(b"* " + " ".join("%024d%08d%s" % (index * 7, index, "A" * 16) for index in range(n)).encode() + b"\n")
 
 
 @case(9_500)
 def like_values(n):
     """n values of 48 bytes that end and begin alike, and one path"""
     front = cancelling()
-    values = " ".join("a%d=%s%08d%s" % (place, front, place, "A" * 16) for place in range(n))
+    values = " ".join("a%d=%s%08d%s" % (index, front, index, "A" * 16) for index in range(n))
     return add(b"* " + values.encode() + b"\n") + ask("b")
 
 
@@ -277,7 +277,7 @@ def lists_asked(n):
 @case(13_000)
 def new_names(n):
     """n times: a list with a new name, its pop, a path"""
-    return b"".join(add(b"x a%d\n" % place) + POP + ask("b") for place in range(n))
+    return b"".join(add(b"x a%d\n" % index) + POP + ask("b") for index in range(n))
 
 
 @case(14_000)
@@ -295,21 +295,21 @@ def known_names_asked(n):
 @case(18_000)
 def selections(n):
     """n names known, then n times: a selection of one, a path"""
-    return add(b"x " + words(n).encode() + b"\n") + b"".join(select(["a%d" % place]) + ask("b") for place in range(n))
+    return add(b"x " + words(n).encode() + b"\n") + b"".join(select(["a%d" % index]) + ask("b") for index in range(n))
 
 
 @case(8_000)
 def directories(n):
     """n lists of n directories, and a path in each"""
-    return b"".join(add(b"* a\n", f"f{place}/x") for place in range(n)) + b"".join(
-        ask(f"f{place}/b") for place in range(n))
+    return b"".join(add(b"* a\n", f"f{index}/x") for index in range(n)) + b"".join(
+        ask(f"f{index}/b") for index in range(n))
 
 
 @case(8_000)
 def directories_folded(n):
     """the same, asked without regard to case"""
-    return b"".join(add(b"* a\n", f"f{place}/x") for place in range(n)) + b"".join(
-        ask(f"F{place}/b", case="i") for place in range(n))
+    return b"".join(add(b"* a\n", f"f{index}/x") for index in range(n)) + b"".join(
+        ask(f"F{index}/b", case="i") for index in range(n))
 
 
 @case(2 ** 18)
@@ -323,7 +323,7 @@ def deep_path(n):
 def deep_lists(n):
     """lists of directories in directories, n bytes together, and a path below all"""
     deep = math.isqrt(n)
-    return b"".join(add(b"* a\n", "a/" * place + "x") for place in range(deep)) + ask("a/" * deep + "b")
+    return b"".join(add(b"* a\n", "a/" * index + "x") for index in range(deep)) + ask("a/" * deep + "b")
 
 
 # What is asked.
@@ -338,41 +338,41 @@ def causes(n):
 @case(30_000)
 def causes_in_a_chain(n):
     """a chain of n macros, in the form o"""
-    return add("".join(f"[attr]a{place} a{place + 1}\n" for place in range(n)).encode() + b"* a0\n") + ask("b", "o")
+    return add("".join(f"[attr]a{index} a{index + 1}\n" for index in range(n)).encode() + b"* a0\n") + ask("b", "o")
 
 
 @case(30_000)
 def ring(n):
     """a ring of n macros"""
-    return add("".join(f"[attr]a{place} a{(place + 1) % n}\n" for place in range(n)).encode() + b"* a0\n") + ask("b")
+    return add("".join(f"[attr]a{index} a{(index + 1) % n}\n" for index in range(n)).encode() + b"* a0\n") + ask("b")
 
 
 @case(2 ** 17)
 def lengths_of_suffixes(n):
     """2 sqrt(n) suffixes of as many lengths, n lines `? a`, and one path"""
     longest = 2 * math.isqrt(n)
-    text = "".join("*" + "a" * place + " a\n" for place in range(1, longest)) + "? a\n" * n
+    text = "".join("*" + "a" * index + " a\n" for index in range(1, longest)) + "? a\n" * n
     return add(text.encode()) + ask("a" * longest)
 
 
 @case(2 ** 18)
 def suffixes_passed(n):
     """suffixes `*a`, `*aa`, .. of n bytes, and paths `za` of as many"""
-    text = "".join("*" + "a" * place + " a\n" for place in range(1, math.isqrt(2 * n)))
+    text = "".join("*" + "a" * index + " a\n" for index in range(1, math.isqrt(2 * n)))
     return add(text.encode()) + ask("za") * (n // 16)
 
 
 @case(2 ** 18)
 def prefixes_passed(n):
     """prefixes `a*`, `aa*`, .. of n bytes, and paths `az` of as many"""
-    text = "".join("a" * place + "* a\n" for place in range(1, math.isqrt(2 * n)))
+    text = "".join("a" * index + "* a\n" for index in range(1, math.isqrt(2 * n)))
     return add(text.encode()) + ask("az") * (n // 16)
 
 
 @case(2 ** 18)
 def prefixes_of_paths_passed(n):
     """prefixes `a/*`, `a/a/*`, .. of n bytes, and paths `a/z/b` of as many"""
-    text = "".join("a/" * place + "* a\n" for place in range(1, math.isqrt(n)))
+    text = "".join("a/" * index + "* a\n" for index in range(1, math.isqrt(n)))
     return add(text.encode()) + ask("a/z/b") * (n // 20)
 
 
@@ -380,15 +380,15 @@ def prefixes_of_paths_passed(n):
 def long_paths(n):
     """n whole paths of 60 bytes that differ at their ends, and as many asked"""
     form = "assets/" * 7 + "%07d.bin"
-    text = "".join(form % place + " a\n" for place in range(n))
-    return add(text.encode()) + b"".join(ask(form % (2 * place)) for place in range(n))
+    text = "".join(form % index + " a\n" for index in range(n))
+    return add(text.encode()) + b"".join(ask(form % (2 * index)) for index in range(n))
 
 
 @case(7_000)
 def capitals(n):
     """n names that differ in case alone, and as many asked with regard to it"""
 
-    names = [spelling(place, 20) for place in range(n)]
+    names = [spelling(index, 20) for index in range(n)]
     return add("".join(name + " a\n" for name in names).encode()) + b"".join(map(ask, names))
 
 
@@ -401,7 +401,7 @@ def one_suffix(n):
 @case(2 ** 18)
 def long_base_name(n):
     """1,000 lines of suffixes, and ten paths of n bytes together"""
-    return add(b"".join(b"*%s%d a\n" % (b"a" * (place % 100), place) for place in range(1000))) + ask("a" * (n // 10)) * 10
+    return add(b"".join(b"*%s%d a\n" % (b"a" * (index % 100), index) for index in range(1000))) + ask("a" * (n // 10)) * 10
 
 
 @case(2 ** 19)
@@ -435,7 +435,7 @@ def long_sources_in_turn(n):
 @case(2 ** 18)
 def long_lines_asked(n):
     """lines of items `!a#` that match, each of 2,047 bytes, n bytes together, and 20 paths"""
-    items = (f" !a{place:05x}" for place in range(n // 8))
+    items = (f" !a{index:05x}" for index in range(n // 8))
     text = "".join("*" + "".join(next(items) for _ in range(255)).ljust(2046) + "\n" for _ in range(n // 2048))
     return add(text.encode()) + ask("b") * 20
 
@@ -475,7 +475,7 @@ def macro_lists_asked(n):
 @case(7_000)
 def spellings_of_a_directory(n):
     """n lists in spellings of one directory that differ in case, and n paths below another one"""
-    lists = (add(b"* a\n", spelling(place, 18) + "/x") for place in range(n))
+    lists = (add(b"* a\n", spelling(index, 18) + "/x") for index in range(n))
     return b"".join(lists) + ask(spelling(2 ** 18 - 1, 18) + "/b") * n
 
 
@@ -524,7 +524,7 @@ def items_asked(n):
 @case(13_000)
 def selections_of_macros(n):
     """n macros, then n times: a selection of one, a path"""
-    return add(lines(n, "[attr]m# x")) + b"".join(select([f"m{place}"]) + ask("b") for place in range(n))
+    return add(lines(n, "[attr]m# x")) + b"".join(select([f"m{index}"]) + ask("b") for index in range(n))
 
 
 # What is written.
@@ -532,13 +532,13 @@ def selections_of_macros(n):
 @case(1_250)
 def answers(n):
     """n names selected, and n / 5 paths"""
-    return select([f"a{place}" for place in range(n)]) + ask("some/path/of/a/file") * (n // 5)
+    return select([f"a{index}" for index in range(n)]) + ask("some/path/of/a/file") * (n // 5)
 
 
 @case(1_250)
 def answers_of_one(n):
     """n names selected, and a path of 8 n bytes"""
-    return select([f"a{place}" for place in range(n)]) + ask("a" * (8 * n))
+    return select([f"a{index}" for index in range(n)]) + ask("a" * (8 * n))
 
 
 @case(1_250)
@@ -564,13 +564,13 @@ def lines_of_one_name(n):
 @case(2 ** 15)
 def lines_of_16_bytes(n):
     """n lines `*.e0000000 text`"""
-    return add(b"".join(b"*.e%07d text\n" % place for place in range(n)))
+    return add(b"".join(b"*.e%07d text\n" % index for index in range(n)))
 
 
 @case(2 ** 14)
 def lines_of_a_path(n):
     """n lines of a path of 26 bytes and `text`"""
-    return add(b"".join(b"assets/level/t%07d.psd text\n" % place for place in range(n)))
+    return add(b"".join(b"assets/level/t%07d.psd text\n" % index for index in range(n)))
 
 
 @case(80_000)

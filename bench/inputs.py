@@ -114,9 +114,9 @@ THREE_NAMES = ["text", "diff", "marker"]
 SEVEN_NAMES = ["text", "diff", "marker", "eol", "merge", "whitespace", "linguist-generated"]
 
 
-def item(place):
+def item(index):
     """One of a few assignments of the three names."""
-    return ("text", "-diff", "marker=v%d" % (place % 7), "-text", "diff=d%d" % (place % 5))[place % 5]
+    return ("text", "-diff", "marker=v%d" % (index % 7), "-text", "diff=d%d" % (index % 5))[index % 5]
 
 
 def directories(chance, count):
@@ -153,33 +153,33 @@ def typical(count):
 def names(lines, count):
     """Plain names; half of the paths have one of them."""
     chance = random.Random("names")
-    made = ["%s_%d.%s" % (chance.choice(STEMS), place, chance.choice(ENDS)) for place in range(lines)]
-    text = "".join("%s %s\n" % (name, item(place)) for place, name in enumerate(made))
+    made = ["%s_%d.%s" % (chance.choice(STEMS), index, chance.choice(ENDS)) for index in range(lines)]
+    text = "".join("%s %s\n" % (name, item(index)) for index, name in enumerate(made))
     return text.encode(), tree("names", count, lambda c: c.choice(made) if c.random() < 0.5 else base_name(c))
 
 
 def ends(lines, count):
     """A star and an end; half of the paths have one of the ends."""
-    text = "".join("*.e%d %s\n" % (place, item(place)) for place in range(lines))
+    text = "".join("*.e%d %s\n" % (index, item(index)) for index in range(lines))
     return text.encode(), tree("ends", count, lambda c: "%s_%d.e%d" % (
         c.choice(STEMS), c.randrange(1000), c.randrange(2 * lines)))
 
 
 def exact(lines, count):
     """Whole paths, as users of large files have them; half of the paths are listed."""
-    text = "".join("assets/level%d/textures/t%d.psd filter=lfs diff=lfs merge=lfs -text\n" % (place % 97, place)
-                   for place in range(lines))
+    text = "".join("assets/level%d/textures/t%d.psd filter=lfs diff=lfs merge=lfs -text\n" % (index % 97, index)
+                   for index in range(lines))
     chance = random.Random("exact")
     paths = []
     for _ in range(count):
-        place = chance.randrange(2 * lines)
-        paths.append("assets/level%d/textures/t%d.psd" % (place % 97, place))
+        index = chance.randrange(2 * lines)
+        paths.append("assets/level%d/textures/t%d.psd" % (index % 97, index))
     return text.encode(), sorted(paths)
 
 
 def globs(lines, count):
     """Wildcards below literal directories; a third of the paths match one line."""
-    text = "".join("dir%d/**/x?[a-c]*.gen %s\n" % (place, item(place)) for place in range(lines))
+    text = "".join("dir%d/**/x?[a-c]*.gen %s\n" % (index, item(index)) for index in range(lines))
     chance = random.Random("globs")
     paths = []
     for _ in range(count):
@@ -219,7 +219,7 @@ def large(lines):
     items = ("text -text diff -diff eol=lf eol=crlf merge=union -merge filter=lfs !filter whitespace=trailing-space "
              "export-ignore linguist-generated working-tree-encoding=UTF-16 marker=v1 -marker !eol").split()
     made = ["*.c text marker=first"]
-    for place in range(lines - 3):
+    for index in range(lines - 3):
         kind = chance.random()
         if kind < 0.06:
             made.append("# " + " ".join(chance.choice(STEMS) for _ in range(8)))
@@ -228,24 +228,24 @@ def large(lines):
             made.append("")
             continue
         if kind < 0.45:
-            pattern = "*.%s%d" % (chance.choice(STEMS), place)
+            pattern = "*.%s%d" % (chance.choice(STEMS), index)
         elif kind < 0.72:
-            pattern = "%s_%d.%s" % (chance.choice(STEMS), place, chance.choice(ENDS))
+            pattern = "%s_%d.%s" % (chance.choice(STEMS), index, chance.choice(ENDS))
         elif kind < 0.9:
-            pattern = "/".join(chance.choices(DIRECTORIES, k=chance.randrange(1, 4))) + "/%s%d" % (chance.choice(STEMS), place)
+            pattern = "/".join(chance.choices(DIRECTORIES, k=chance.randrange(1, 4))) + "/%s%d" % (chance.choice(STEMS), index)
         else:
-            pattern = "%s/**/%s*%d.[ch]" % (chance.choice(DIRECTORIES), chance.choice(STEMS), place)
+            pattern = "%s/**/%s*%d.[ch]" % (chance.choice(DIRECTORIES), chance.choice(STEMS), index)
         made.append(pattern + " " + " ".join(chance.choices(items, k=chance.choice((1, 1, 2, 3, 4)))))
     made.insert(lines // 2, "src/core/* -diff marker=middle")
     made.append("main.c eol=lf marker=last")
     return ("\n".join(made) + "\n").encode()
 
 
-def of_directory(place):
+def of_directory(index):
     """Ten lines of an attributes file of a directory."""
     return ("*.c text\n*.h text diff=cpp\n*.png -text -diff\n*.out%d -text\nfile%d.c marker=named\nREADME.md -marker\n"
             "/data%d/*.bin -text\ndocs/**/*.md text\ngen_* marker=made\nlocale/[a-m]*/*.po diff=po\n"
-            % (place, place % 50, place)).encode()
+            % (index, index % 50, index)).encode()
 
 
 def standing(lists, count):
@@ -270,7 +270,7 @@ def monorepo(scale):
     Gives a directory, its attributes file or None, and its paths, in the order of a walk.
     """
     chance = random.Random("monorepo")
-    place = 0
+    index = 0
     for top in range(max(1, round(60 * scale))):
         for middle in range(-1, 40):
             for low in range(-1, 24 if middle >= 0 else 0):
@@ -279,9 +279,9 @@ def monorepo(scale):
                     directory += "module%02d/" % middle
                 if low >= 0:
                     directory += "%s%02d/" % (DIRECTORIES[low], low)
-                paths = [directory + base_name(chance) for _ in range(17 if place % 3 else 16)]
-                yield directory, of_directory(place) if place % 6 == 0 else None, paths
-                place += 1
+                paths = [directory + base_name(chance) for _ in range(17 if index % 3 else 16)]
+                yield directory, of_directory(index) if index % 6 == 0 else None, paths
+                index += 1
 
 
 def below_files(count):
@@ -291,14 +291,14 @@ def below_files(count):
     """
     chance = random.Random("below")
     made = directories(chance, 1201)
-    files = [("", TYPICAL.encode()), *((directory, of_directory(place)) for place, directory in enumerate(made[1::3]))]
+    files = [("", TYPICAL.encode()), *((directory, of_directory(index)) for index, directory in enumerate(made[1::3]))]
     return files, made, sorted(chance.choice(made) + base_name(chance) for _ in range(count))
 
 
 def without_files(count):
     """A typical attributes file at the top, directories without one three deep, and a path in each of them."""
     chance = random.Random("without")
-    made = ["p%02d/m%02d/d%d/" % (place // 400, place // 20 % 20, place) for place in range(count)]
+    made = ["p%02d/m%02d/d%d/" % (index // 400, index // 20 % 20, index) for index in range(count)]
     return [("", TYPICAL.encode())], made, [directory + base_name(chance) for directory in made]
 
 
@@ -309,7 +309,7 @@ def shuffled(paths):
 
 def known(count):
     """A file that names many attributes, ten a line, in lines that no path matches."""
-    return "".join("never%d.x %s\n" % (first, " ".join("a%d" % place for place in range(first, min(first + 10, count))))
+    return "".join("never%d.x %s\n" % (first, " ".join("a%d" % index for index in range(first, min(first + 10, count))))
                    for first in range(0, count, 10)).encode()
 
 

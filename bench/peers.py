@@ -99,7 +99,7 @@ class Bench(table.Bench):
         if not self.valgrind:
             return [None] * len(PEERS)
         few, many, divisor = work.few_and_many_of_git()
-        others = [self.difference(work, (few, many), divisor, place) for place in range(GIT, len(PEERS))]
+        others = [self.difference(work, (few, many), divisor, index) for index in range(GIT, len(PEERS))]
         return [self.difference(work, *work.runs(), OURS), *others]
 
     def compare(self, work, commands):
@@ -119,10 +119,10 @@ class Bench(table.Bench):
         self.compare(work, commands)
         times = measure.alternating(commands, self.runs, self.limit)
 
-        def ratio(place):
-            if not commands[place] or not times[GIT]:
+        def ratio(index):
+            if not commands[index] or not times[GIT]:
                 return ""
-            return table.two_digits(times[place] / times[GIT]) if times[place] else f"> {self.limit / times[GIT]:.0f}"
+            return table.two_digits(times[index] / times[GIT]) if times[index] else f"> {self.limit / times[GIT]:.0f}"
 
         git = f"{1000 * times[GIT]:,.0f}" if times[GIT] else ""
         return (work.title, *map(table.three_digits, counts), git, ratio(OURS), ratio(CRATE), ratio(LIBGIT2))

@@ -250,7 +250,7 @@ def of_directories(names, quick):
     """One path in each directory, whose file of one line is added for it and popped after it."""
     count = 500 if quick else 2000
     steps = [("", inputs.known(names), ["a.c"])]
-    steps += [(f"f{place}/", b"*.c a1 -a2 a3=v\n", [f"f{place}/main.c"]) for place in range(count)]
+    steps += [(f"f{index}/", b"*.c a1 -a2 a3=v\n", [f"f{index}/main.c"]) for index in range(count)]
     title = f"add, ask, pop; {names:,} names known, 3 selected"
     return Walk(title, steps, ["a1", "a2", "a3"], max(50, counted(names) // 4), unit="directory")
 
@@ -387,13 +387,13 @@ class Bench:
         few, many, divisor = work.few_and_many_of_git()
         return self.difference(work, *work.runs(), 0), self.difference(work, (few, many), divisor, 1)
 
-    def difference(self, work, runs, divisor, place):
-        """The instructions of the program at a place of the pair, ours or git, for a path."""
+    def difference(self, work, runs, divisor, index):
+        """The instructions of the program at an index of the pair, ours or git, for a path."""
         counts, repository = [], None
         for files, paths in runs:
-            if (place or work.reads_tree) and self.git and (repository is None or files is not runs[0][0]):
+            if (index or work.reads_tree) and self.git and (repository is None or files is not runs[0][0]):
                 repository = self.repository(files, work.directories)
-            counts.append(self.count(self.commands(work, files, paths, repository)[place]))
+            counts.append(self.count(self.commands(work, files, paths, repository)[index]))
         return None if None in counts else statistics.median(more - less for less, more in zip(counts, counts[1:])) / divisor
 
     def count(self, command):
@@ -444,16 +444,16 @@ class Row:
         if ours is None and git:
             ratio = f"> {two_digits(self.limits[0] / git)}"
         title = self.work.title + ("; instructions a directory" if self.work.unit == "directory" else "")
-        times = [self.time(place) for place in (0, 1)]
+        times = [self.time(index) for index in (0, 1)]
         counts = [three_digits(count) for count in self.counts]
         peaks = ["" if peak is None else f"{peak:,}" for peak in self.peaks]
         size = f"{math.ceil(self.size / 1024):,}" if self.size else ""
         return (title, f"{len(self.work.paths):,}", size, *times, ratio, *counts, *peaks)
 
-    def time(self, place):
-        if self.times[place] is None:
-            return f"> {1000 * self.limits[place]:,.0f}" if self.limits[place] else ""
-        return f"{1000 * self.times[place]:,.0f}"
+    def time(self, index):
+        if self.times[index] is None:
+            return f"> {1000 * self.limits[index]:,.0f}" if self.limits[index] else ""
+        return f"{1000 * self.times[index]:,.0f}"
 
 
 def three_digits(number):

@@ -121,7 +121,7 @@ enum { YEKTROD_NAME = 0, YEKTROD_VALUE = 1, YEKTROD_SOURCE = 2, YEKTROD_PATTERN 
 /* The flags of a row. */
 enum { YEKTROD_IS_MACRO = 1, YEKTROD_HAS_SOURCE = 2, YEKTROD_HAS_CAUSE = 4 };
 
-/* An answer, with the places of its texts. It has integers alone, so memory that rows are written to need not be set before. */
+/* An answer, with the offset of its texts. It has integers alone, so memory that rows are written to need not be set before. */
 typedef struct {
     int32_t state;
     uint32_t flags;

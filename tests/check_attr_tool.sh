@@ -974,16 +974,16 @@ else
 fi
 GIT_CONFIG_GLOBAL=$room/others/config
 export GIT_CONFIG_GLOBAL
-for place in user .git/info/attributes .gitattributes sub/deep/.gitattributes sub/deep sub; do
-    chmod 0 $place
+for denied in user .git/info/attributes .gitattributes sub/deep/.gitattributes sub/deep sub; do
+    chmod 0 $denied
     theirs=0 status=0
     plainly git check-attr -a f sub/f sub/deep/f >"$room/git" 2>"$room/warnings" || theirs=$?
     plainly "$room/others/check-attr" -a f sub/f sub/deep/f >"$room/ours" 2>"$room/errors" || status=$?
-    as_git -a "without $place"
+    as_git -a "without $denied"
     grep 'Permission denied' "$room/warnings" | sort -u >"$room/wanted"
-    [ -s "$room/wanted" ] || failed "$place can be read"
-    grep 'Permission denied' "$room/errors" | sort -u | diff "$room/wanted" - || failed "git warns otherwise of $place"
-    chmod 755 $place
+    [ -s "$room/wanted" ] || failed "$denied can be read"
+    grep 'Permission denied' "$room/errors" | sort -u | diff "$room/wanted" - || failed "git warns otherwise of $denied"
+    chmod 755 $denied
 done
 unset GIT_CONFIG_GLOBAL
 

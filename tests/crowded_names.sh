@@ -1,5 +1,5 @@
 #!/bin/sh
-# Adds a file of 2.5 MB with 73,000 names of attributes that share one place of a table by std's hash, in five macros, and asks for a
+# Adds a file of 2.5 MB with 73,000 names of attributes that share one bucket of a table by std's hash, in five macros, and asks for a
 # path. It takes a second of the processor. A program that finds names by that hash would take many times the ten that it may.
 # usage: crowded_names.sh [PROGRAM]
 set -eu
@@ -32,4 +32,4 @@ if [ "$status" != 0 ]; then
     exit 1
 fi
 cmp "$room/wanted" "$room/told"
-echo "crowded_names: $(wc -c <"$room/file") bytes of names that share a place were read"
+echo "crowded_names: $(wc -c <"$room/file") bytes of names that share a bucket were read"

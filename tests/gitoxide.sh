@@ -193,12 +193,12 @@ watch() {
         done
         own=$(grep -c 'yektrod\|gix_attributes\|attr_\|rattle_' "$room/out/$tool.ours" || :)
         differences=$((differences + own))
-        echo "gitoxide: $tool of a checkout by threads: reports from $(places $tool real) places, with this crate from $(places $tool ours)," \
+        echo "gitoxide: $tool of a checkout by threads: reports from $(contexts $tool real) places, with this crate from $(contexts $tool ours)," \
             "and $own lines name it or the library"
     done
 }
 
-places() { sed -n 's/.*ERROR SUMMARY: [0-9]* errors from \([0-9]*\) contexts.*/\1/p' "$room/out/$1.$2"; }
+contexts() { sed -n 's/.*ERROR SUMMARY: [0-9]* errors from \([0-9]*\) contexts.*/\1/p' "$room/out/$1.$2"; }
 
 rm -rf "$room/repositories"
 python3 "$top/tests/gitoxide_repositories.py" "$room/repositories" "$seed"

@@ -78,9 +78,9 @@ def scripts():
     texts = [front + b'c%d]' % k for k in range(6)]
     in_turn = [texts[k] + b' x=%d\n' % k + b'\n' * 1023 + texts[k + 1] + b' y=%d\n' % k for k in range(0, 6, 2)]
     asks = b''.join(ask(b'%d' % k, form=b'o') for k in [0, 2, 4, 1, 3, 5] * 3)
-    place = [b'%s:%d\t%s' % (sources[k // 2], 1 + k % 2 * 1024, texts[k]) for k in range(6)]
-    told = [b'%d: x: %d\t%s\t-\n%d: y: unspecified\t-\t-\t-\n' % (k, k, place[k], k) if k % 2 == 0 else
-            b'%d: x: unspecified\t-\t-\t-\n%d: y: %d\t%s\t-\n' % (k, k, k - 1, place[k]) for k in range(6)]
+    origins = [b'%s:%d\t%s' % (sources[k // 2], 1 + k % 2 * 1024, texts[k]) for k in range(6)]
+    told = [b'%d: x: %d\t%s\t-\n%d: y: unspecified\t-\t-\t-\n' % (k, k, origins[k], k) if k % 2 == 0 else
+            b'%d: x: unspecified\t-\t-\t-\n%d: y: %d\t%s\t-\n' % (k, k, k - 1, origins[k]) for k in range(6)]
     yield ('long_in_turn', b''.join(map(add, in_turn, sources)) + names(b'x', b'y') + asks,
            b''.join(told[k] for k in [0, 2, 4, 1, 3, 5] * 3))
 

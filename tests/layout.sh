@@ -16,3 +16,10 @@ if grep -rniI --exclude-dir=out --exclude-dir=.git --exclude-dir=target --exclud
     echo 'layout: say directory, as git does' >&2
     exit 1
 fi
+# An element of a list has an index, and a byte of a text an offset. `Place` of the library for C says where a list applies.
+if grep -rnE --include='*.rt' --include='*.antt' --exclude-dir=out \
+    '^([^/-]|/[^/]|-[^-])*((^|[^A-Za-z])place|Place)[sd]?([^a-z]|$)' crates/*/src crates/*/specs |
+    grep -vE '^crates/yektrod/(src/lists\.rt|specs/(Lib|Places)\.antt):'; then
+    echo 'layout: say index of a list, or offset of a text' >&2
+    exit 1
+fi

@@ -207,7 +207,7 @@ class Source:
                 self.names[name] = (public, Source(crates, crate, path, self) if os.path.exists(path) else None)
 
     def scan(self, i, end, imports, type_, trait):
-        """Goes through the items between two places, of the file or of an impl or trait of this type."""
+        """Goes through the items between two offsets, of the file or of an impl or trait of this type."""
         public = False
         while m := self.ITEM.search(self.text, i, end):
             i = m.end()
@@ -261,7 +261,7 @@ class Source:
                 i = close
 
     def closing(self, i):
-        """The place after the brace that closes the one at a place."""
+        """The offset after the brace that closes the one at an offset."""
         depth = 0
         for m in re.compile(r"[{}]").finditer(self.text, i):
             depth += 1 if m[0] == "{" else -1

@@ -154,12 +154,12 @@ class Script:
         mark, end = (b'\0', b'\0') if form == b'z' else (b': ', b'\n')
         for it in engine.ask(path, None, case == b'i', {b'f': False, b'd': True, b'u': None}[kind]):
             state = it.state if isinstance(it.state, bytes) else {None: b'unspecified', True: b'set', False: b'unset'}[it.state]
-            place = b''
+            origin = b''
             if form == b'o':
-                place = b'\t-\t-\t-'
+                origin = b'\t-\t-\t-'
                 if it.source is not None:
-                    place = b'\t%s:%d\t%s\t%s' % (os.fsencode(it.source), it.line, it.pattern, (it.cause or '-').encode())
-            self.out.append(mark.join([path, it.name.encode(), state]) + place + end)
+                    origin = b'\t%s:%d\t%s\t%s' % (os.fsencode(it.source), it.line, it.pattern, (it.cause or '-').encode())
+            self.out.append(mark.join([path, it.name.encode(), state]) + origin + end)
 
 
 def played(directory: str) -> Iterator[tuple[str, str]]:

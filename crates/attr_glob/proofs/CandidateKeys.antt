@@ -15,7 +15,7 @@ use Rattle.attr_glob.specs.declared.search.pattern.indexed_line.IndexedLine.{Ind
 use Rattle.attr_glob.specs.Views.{pattern_view}
 use Rattle.attr_glob.specs.shared.LineShapes.{folds, indexed_keys, shape_reading}
 use Rattle.attr_wildmatch.proofs.ForCallers.{by_test}
-use Rattle.attr_glob.proofs.FallingPlaces.{falling_places, passes}
+use Rattle.attr_glob.proofs.FallingIndexes.{falling_indexes, passes}
 use Rattle.attr_glob.proofs.KeyTexts.{whole_met, end_met}
 
 pub candidate_met : (case : Case) (base : List ℕ) (line : Reading) →
@@ -38,12 +38,12 @@ met_at case base [] row = refl
 met_at case base (line ∷ lines) zero = candidate_met case base line
 met_at case base (line ∷ lines) (suc row) = met_at case base lines row
 
--- the places that were found by the keys of lines are those of the candidates
+-- the indexes that were found by the keys of lines are those of the candidates
 pub found_candidates : (case : Case) (base : List ℕ) (lines : List Reading) (keys : List KeyContent) (found : List ℕ) →
     keys ≡ map (λ line. candidate_content (shape_reading line)) lines → IsFalling found →
     ((row : ℕ) → has_row found row ≡ content_met_at (folds case) base base (slice_get keys row)) → found ≡ candidates case base lines
 found_candidates case base lines keys found is down has =
-    falling_places (is_candidate case base) lines found down
+    falling_indexes (is_candidate case base) lines found down
     (λ row. has row ∙ (ap (λ l. content_met_at (folds case) base base (slice_get l row)) is ∙ met_at case base lines row))
 
 -- the keys of the lines of an index, as far as base names alone tell

@@ -16,16 +16,17 @@ piece-unmarked : (b : ℕ) (bytes : List ℕ) → is_mark b ≡ false → piece 
 piece-unmarked b bytes e = grind (arith, nat_tests)
 
 -- bytes without a quote and a backslash stand for themselves
-pub undone_from-front : (place n : ℕ) (bytes : List ℕ) → n ≤ length bytes → ((k : ℕ) → k < n → is_mark (get_or bytes k 0) ≡ false) → undone_from place
-    0 bytes ≡ with_front (take n bytes) (undone_from (place + n) 0 (drop n bytes))
-undone_from-front place zero bytes inside unmarked = rw add-zero (sym (with_front-none (undone_from place 0 bytes)))
-undone_from-front place (suc n) [] inside unmarked = absurd (omega arith)
-undone_from-front place (suc n) (b ∷ bytes) inside unmarked =
-    let e : (place + 1) + n ≡ place + suc n = omega arith in
-    let rest = undone_from-front (place + 1) n bytes (omega arith) (λ k h. unmarked (suc k) (omega arith)) in
-    undone_from-piece place b bytes (spelled b 0) (piece-unmarked b bytes (unmarked 0 (omega arith)))
+pub undone_from-front : (offset n : ℕ) (bytes : List ℕ) → n ≤ length bytes → ((k : ℕ) → k < n → is_mark (get_or bytes k 0) ≡ false) →
+    undone_from offset
+    0 bytes ≡ with_front (take n bytes) (undone_from (offset + n) 0 (drop n bytes))
+undone_from-front offset zero bytes inside unmarked = rw add-zero (sym (with_front-none (undone_from offset 0 bytes)))
+undone_from-front offset (suc n) [] inside unmarked = absurd (omega arith)
+undone_from-front offset (suc n) (b ∷ bytes) inside unmarked =
+    let e : (offset + 1) + n ≡ offset + suc n = omega arith in
+    let rest = undone_from-front (offset + 1) n bytes (omega arith) (λ k h. unmarked (suc k) (omega arith)) in
+    undone_from-piece offset b bytes (spelled b 0) (piece-unmarked b bytes (unmarked 0 (omega arith)))
     ∙ ap (with_front (b ∷ [])) (rest ∙ ap (λ at. with_front (take n bytes) (undone_from at 0 (drop n bytes))) e)
-    ∙ sym (with_front-append (b ∷ []) (take n bytes) (undone_from (place + suc n) 0 (drop n bytes)))
+    ∙ sym (with_front-append (b ∷ []) (take n bytes) (undone_from (offset + suc n) 0 (drop n bytes)))
 
 position_or_len-Some : (bytes : List ℕ) (k : ℕ) → position is_mark bytes ≡ Some k → position_or_len is_mark bytes ≡ k
 position_or_len-Some bytes k e = grind (arith, nat_tests)
@@ -47,8 +48,8 @@ undone-unmarked text quoted e =
     ∙ ap (λ rest. with_front (take (length bytes) bytes) (undone_from (1 + length bytes) 0 rest)) none
 
 -- a quote closes
-undone_from-closing : (place b : ℕ) (bytes : List ℕ) → b ≡ quote → undone_from place 0 (b ∷ bytes) ≡ Ok ([], place + 1)
-undone_from-closing place b bytes e = undone_from-piece place b bytes closing (rw e refl)
+undone_from-closing : (offset b : ℕ) (bytes : List ℕ) → b ≡ quote → undone_from offset 0 (b ∷ bytes) ≡ Ok ([], offset + 1)
+undone_from-closing offset b bytes e = undone_from-piece offset b bytes closing (rw e refl)
 
 -- the bytes up to the closing quote, where that is the first mark
 pub undone-marked : (text : List ℕ) (k : ℕ) → BeginsQuoted text → position is_mark (drop 1 text) ≡ Some k → get_or (drop 1 text) k 0 ≡ quote → undone

@@ -19,17 +19,17 @@ and_true false b h = absurd cc
 and_on : (a b : Bool) → a ≡ true → b ≡ true → a && b ≡ true
 and_on a b e f = ap (λ t. t && b) e ∙ f
 
-place_is : (x y : Option ℕ) → option_eq nat_eq x y ≡ true → x ≡ y
-place_is None None e = refl
-place_is None (Some y) e = absurd cc
-place_is (Some x) None e = absurd cc
-place_is (Some x) (Some y) e = ap Some (eqb-true x y e)
+offset_is : (x y : Option ℕ) → option_eq nat_eq x y ≡ true → x ≡ y
+offset_is None None e = refl
+offset_is None (Some y) e = absurd cc
+offset_is (Some x) None e = absurd cc
+offset_is (Some x) (Some y) e = ap Some (eqb-true x y e)
 
-place_same : (x y : Option ℕ) → x ≡ y → option_eq nat_eq x y ≡ true
-place_same None None e = refl
-place_same None (Some y) e = absurd cc
-place_same (Some x) None e = absurd cc
-place_same (Some x) (Some y) e = eq-eqb x y cc
+offset_same : (x y : Option ℕ) → x ≡ y → option_eq nat_eq x y ≡ true
+offset_same None None e = refl
+offset_same None (Some y) e = absurd cc
+offset_same (Some x) None e = absurd cc
+offset_same (Some x) (Some y) e = eq-eqb x y cc
 
 -- equal patterns are read the same
 pub read_same : (x y : Pattern) → pattern.ghosts.eq x y ≡ true → pattern_view x ≡ pattern_view y
@@ -39,10 +39,10 @@ read_same x y e =
     let two = and_true (nat_eq (mode_bits x.mode) (mode_bits y.mode)) (option_eq nat_eq x.first_wildcard_pos y.first_wildcard_pos) one.1 in
     let text = (bytes_decides x.text.items y.text.items).0 one.0 in
     let mode = eqb-true (mode_bits x.mode) (mode_bits y.mode) two.0 in
-    let place = place_is x.first_wildcard_pos y.first_wildcard_pos two.1 in
+    let offset = offset_is x.first_wildcard_pos y.first_wildcard_pos two.1 in
     let Read : List ℕ → ℕ → Option ℕ → Reading = λ t m p. record { text = t; mode = m; wildcard = p } in
     ap (λ t. Read t (mode_bits x.mode) x.first_wildcard_pos) text ∙ ap (λ m. Read y.text.items m x.first_wildcard_pos) mode ∙ ap
-    (λ p. Read y.text.items (mode_bits y.mode) p) place
+    (λ p. Read y.text.items (mode_bits y.mode) p) offset
 
 -- patterns that are read the same are equal
 pub same_read : (x y : Pattern) → pattern_view x ≡ pattern_view y → pattern.ghosts.eq x y ≡ true
@@ -52,7 +52,7 @@ same_read x y e =
     ((bytes_decides x.text.items y.text.items).1 (ap (λ (r : Reading). r.text) e))
     (and_on (nat_eq (mode_bits x.mode) (mode_bits y.mode)) (option_eq nat_eq x.first_wildcard_pos y.first_wildcard_pos)
     (eq-eqb (mode_bits x.mode) (mode_bits y.mode) (ap (λ (r : Reading). r.mode) e))
-    (place_same x.first_wildcard_pos y.first_wildcard_pos (ap (λ (r : Reading). r.wildcard) e)))
+    (offset_same x.first_wildcard_pos y.first_wildcard_pos (ap (λ (r : Reading). r.wildcard) e)))
 
 abbrev pub pattern_in : IndexedLine → Reading
 pattern_in line = pattern_view line.pattern
@@ -66,7 +66,7 @@ lines_more xs ys i d e ltx lty same here =
     ∙ ap (λ l. l ++ pattern_in (get_or xs i d) ∷ []) same ∙ ap (λ r. patterns_of (take i ys) ++ r ∷ []) here
     ∙ sym (ap patterns_of (take_more ys i e lty) ∙ map-append (λ m. pattern_view m.pattern) (take i ys) (get_or ys i e ∷ []))
 
--- lists that are read the same are so at each place
+-- lists that are read the same are so at each index
 pub lines_at : {V : Type 0} (xs : List IndexedLine) (ys : List (Mapping V)) (i : ℕ) (d : IndexedLine) (e : Mapping V) →
     i < length xs → i < length ys → map pattern_in xs ≡ patterns_of ys → pattern_in (get_or xs i d) ≡ pattern_view (get_or ys i e).pattern
 lines_at [] ys i d e ltx lty same = absurd (omega arith)

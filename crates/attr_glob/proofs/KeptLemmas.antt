@@ -11,4 +11,4 @@ kept_if_undecided r wild other = by_wildcard r.wildcard refl
   where
     by_wildcard : (w : Option _) → r.wildcard ≡ w → kept_tokens r ≡ tokens r.text
     by_wildcard None e = absurd (wild e)
-    by_wildcard (Some place) e = by_test (has_flag r.mode ends_with) (λ t. absurd (other t)) (λ f. rw (e, f) refl)
+    by_wildcard (Some offset) e = by_test (has_flag r.mode ends_with) (λ t. absurd (other t)) (λ f. rw (e, f) refl)

@@ -10,10 +10,10 @@ pub mod KeptLemmas
 pub mod PathLemmas
 pub mod KeyTexts
 pub mod CandidateKeys
-pub mod FallingPlaces
+pub mod FallingIndexes
 pub mod Copies
 pub mod IndexLemmas
 pub mod IndexedLemmas
-pub mod Places
+pub mod BaseNameOffsets
 pub mod MatchingLines
 pub mod ForCallers

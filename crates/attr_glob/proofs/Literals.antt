@@ -218,7 +218,7 @@ front_taken case (c ∷ cs) others (suc n) border value h k =
     subst (λ v. starts_with (same_byte case) v (c ∷ cs) ≡ true) (sym t.whole)
     (and_both (same_byte case c t.byte) (starts_with (same_byte case) t.others cs) t.same rest)
 
--- no byte before a place passes the test
+-- no byte before an offset passes the test
 none_before : (p : ℕ → Bool) (n : ℕ) (text : List ℕ) → n ≤ length text → ((k : ℕ) → k < n → p (get_or text k 0) ≡ false) →
     list_any p (take n text) ≡ false
 none_before p zero text l h = refl
@@ -241,17 +241,17 @@ text_matches-front case text value n h k = by_test (text_matches case text value
         let e : true ≡ false = sym begins ∙ k in
         cc
 
--- without a place no byte passes the test
-none_placed : (p : ℕ → Bool) (n : ℕ) (text : List ℕ) → position_from p n text ≡ None → list_any p text ≡ false
-none_placed p n [] h = refl
-none_placed p n (b ∷ bs) h = by_test (p b) (λ t. let e = rw t at h in cc) (λ f. rw f (none_placed p (n + 1) bs (rw f at h)))
+-- without an offset no byte passes the test
+none_found : (p : ℕ → Bool) (n : ℕ) (text : List ℕ) → position_from p n text ≡ None → list_any p text ≡ false
+none_found p n [] h = refl
+none_found p n (b ∷ bs) h = by_test (p b) (λ t. let e = rw t at h in cc) (λ f. rw f (none_found p (n + 1) bs (rw f at h)))
 
 pub no_wildcard : (text : List ℕ) → position is_wildcard text ≡ None → list_any is_wildcard text ≡ false
-no_wildcard text h = none_placed is_wildcard 0 text (sym (position_from-zero is_wildcard text) ∙ h)
+no_wildcard text h = none_found is_wildcard 0 text (sym (position_from-zero is_wildcard text) ∙ h)
 
 -- the first wildcard stands inside
-pub place_inside : (text : List ℕ) (n : ℕ) → position is_wildcard text ≡ Some n → n < length text
-place_inside text n h = let found = position-Some is_wildcard text n 0 h in found.0
+pub offset_inside : (text : List ℕ) (n : ℕ) → position is_wildcard text ≡ Some n → n < length text
+offset_inside text n h = let found = position-Some is_wildcard text n 0 h in found.0
 
 -- texts whose lower forms are equal are the same under `Fold`
 fold_same : (text value : List ℕ) → map to_ascii_lowercase text ≡ map to_ascii_lowercase value → pointwise (same_byte Fold) text value ≡ true

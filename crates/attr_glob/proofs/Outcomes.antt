@@ -11,10 +11,10 @@ use Rattle.attr_glob.proofs.Cuts.{cut_escape, cut, Stops, at_end, at_quote, at_b
 
 pub undone-IsQuoted : (text plain : List ℕ) (taken : ℕ) → IsQuoted text plain taken → undone text ≡ Ok (plain, taken)
 undone-IsQuoted text plain taken q =
-    let place : 1 + length q.spelling + 1 ≡ taken = omega (arith, q.length_taken) in
+    let offset : 1 + length q.spelling + 1 ≡ taken = omega (arith, q.length_taken) in
     ap undone q.whole
     ∙ undone_from-spellings plain q.spelling q.spells 1 (quote ∷ q.rest)
-    ∙ rw (append-nil, place) refl
+    ∙ rw (append-nil, offset) refl
 
 pub undone-IsUnclosed : (text : List ℕ) → IsUnclosed text → undone text ≡ Err unclosed
 undone-IsUnclosed text u =
@@ -30,12 +30,12 @@ none_escaped rest (Some escape) e bad =
     let c = cut_escape rest escape e in
     absurd (bad (backslash ∷ c.tail) c.others escape.0 (ap (λ l. backslash ∷ l) c.whole) c.spells)
 
-undone_from-bad : (place : ℕ) (rest : List ℕ) → escaped rest ≡ None → undone_from place 0 (backslash ∷ rest) ≡ Err (bad_escape place)
-undone_from-bad place rest none = rw (none, undone_from) refl
+undone_from-bad : (offset : ℕ) (rest : List ℕ) → escaped rest ≡ None → undone_from offset 0 (backslash ∷ rest) ≡ Err (bad_escape offset)
+undone_from-bad offset rest none = rw (none, undone_from) refl
 
-pub undone-IsBadEscape : (text : List ℕ) (place : ℕ) → IsBadEscape text place → undone text ≡ Err (bad_escape place)
-undone-IsBadEscape text place b =
-    let at : 1 + length b.spelling ≡ place = omega (arith, b.at) in
+pub undone-IsBadEscape : (text : List ℕ) (offset : ℕ) → IsBadEscape text offset → undone text ≡ Err (bad_escape offset)
+undone-IsBadEscape text offset b =
+    let at : 1 + length b.spelling ≡ offset = omega (arith, b.at) in
     let none = none_escaped b.rest (escaped b.rest) refl b.bad in
     ap undone b.whole
     ∙ undone_from-spellings b.plain b.spelling b.spells 1 (backslash ∷ b.rest)
@@ -49,7 +49,7 @@ undone-unquoted text unquoted = grind (arith, nat_tests)
 pub data Outcome (text : List ℕ) : Type 0 where
   quoted : (plain : List ℕ) (taken : ℕ) → IsQuoted text plain taken → Outcome text
   ends : IsUnclosed text → Outcome text
-  bad : (place : ℕ) → IsBadEscape text place → Outcome text
+  bad : (offset : ℕ) → IsBadEscape text offset → Outcome text
   plain_text : ¬ BeginsQuoted text → Outcome text
 
 outcome_of : (spelling plain rest : List ℕ) → SpellsAll spelling plain → Stops rest → Outcome (quote ∷ (spelling ++ rest))

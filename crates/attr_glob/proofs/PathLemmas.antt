@@ -11,7 +11,7 @@ use Rattle.attr_glob.specs.Patterns.{without_root, without_end, first, has_flag,
 use Rattle.attr_wildmatch.specs.Deciding.{text_matches}
 use Rattle.attr_wildmatch.specs.Matching.{TextMatches}
 use Rattle.attr_glob.specs.Paths.{matched_part, is_directory, PathMatches, path_matches}
-use Rattle.attr_glob.specs.BaseNames.{base_name, base_name_place}
+use Rattle.attr_glob.specs.BaseNames.{base_name, base_name_offset}
 use Rattle.attr_wildmatch.proofs.ForCallers.{by_test, and_parts, and_both, or_left, or_right, reverse-cons}
 use Rattle.attr_wildmatch.proofs.ForCallers.{text_match_of_test, test_of_text_match}
 use Rattle.attr_glob.proofs.Modes.{added-ends_with, added-negative}
@@ -23,7 +23,7 @@ read_of false a b h = cc
 read_is : (text : List ℕ) (r : Reading) → reading text ≡ Some r → read_rest (is_negated text) (without_negation text) ≡ r
 read_is text r h = read_of (list_all is_space (without_negation text)) (read_rest (is_negated text) (without_negation text)) r h
 
--- a pattern that was read has the place of its first wildcard
+-- a pattern that was read has the offset of its first wildcard
 pub reading-wildcard : (text : List ℕ) (r : Reading) → reading text ≡ Some r → r.wildcard ≡ position is_wildcard r.text
 reading-wildcard text r h = let P : Reading → Type 0 = λ x. x.wildcard ≡ position is_wildcard x.text in subst P (read_is text r h) refl
 
@@ -92,9 +92,9 @@ base_name-whole path h =
     let n : length path - suffix_len (λ b. not (is_slash b)) path ≡ 0 = omega (arith, all, long) in
     ap (λ k. drop k path) n
 
--- a path without such a place is its own base name
-pub no_place : (path : List ℕ) → None ≡ base_name_place path → path ≡ base_name path
-no_place path h = by_test (list_any is_slash path)
+-- a path without such an offset is its own base name
+pub no_offset : (path : List ℕ) → None ≡ base_name_offset path → path ≡ base_name path
+no_offset path h = by_test (list_any is_slash path)
     (λ t. let e : None ≡ Some (length path - length (base_name path)) = rw t at h in cc)
     (λ f. sym (base_name-whole path f))
 
@@ -126,13 +126,13 @@ none_in : (p : ℕ → Bool) (xs : List ℕ) → ((k : ℕ) → k < length xs �
 none_in p [] h = refl
 none_in p (x ∷ xs) h = rw (h 0 (omega arith)) (none_in p xs (λ k l. h (suc k) (omega arith)))
 
--- the place after a slash, after which there is no other
-pub base_name_place-found : (path : List ℕ) (place : ℕ) → 0 < place → place ≤ length path → is_slash (get_or path (place - 1) 0) ≡ true →
-    ((k : ℕ) → place ≤ k → k < length path → is_slash (get_or path k 0) ≡ false) → Some place ≡ base_name_place path
-base_name_place-found path place some inside here tail =
-    let n = suffix_len_is (λ b. not (is_slash b)) path place 0 inside (λ k l m. ap not (tail k l m)) (λ _. ap not here) in
-    let long : length path - length (base_name path) ≡ place = rw length-drop (omega (arith, n)) in
-    rw (list_any-at is_slash path (place - 1) (omega arith) here) (ap Some (sym long))
+-- the offset after a slash, after which there is no other
+pub base_name_offset-found : (path : List ℕ) (offset : ℕ) → 0 < offset → offset ≤ length path → is_slash (get_or path (offset - 1) 0) ≡ true →
+    ((k : ℕ) → offset ≤ k → k < length path → is_slash (get_or path k 0) ≡ false) → Some offset ≡ base_name_offset path
+base_name_offset-found path offset some inside here tail =
+    let n = suffix_len_is (λ b. not (is_slash b)) path offset 0 inside (λ k l m. ap not (tail k l m)) (λ _. ap not here) in
+    let long : length path - length (base_name path) ≡ offset = rw length-drop (omega (arith, n)) in
+    rw (list_any-at is_slash path (offset - 1) (omega arith) here) (ap Some (sym long))
 
-pub base_name_place-none : (path : List ℕ) → ((k : ℕ) → k < length path → is_slash (get_or path k 0) ≡ false) → None ≡ base_name_place path
-base_name_place-none path h = rw (none_in is_slash path h) refl
+pub base_name_offset-none : (path : List ℕ) → ((k : ℕ) → k < length path → is_slash (get_or path k 0) ≡ false) → None ≡ base_name_offset path
+base_name_offset-none path h = rw (none_in is_slash path h) refl

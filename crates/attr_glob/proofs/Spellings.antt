@@ -43,29 +43,29 @@ piece-itself : (b : ℕ) (bytes : List ℕ) → b ≢ quote → b ≢ backslash 
 piece-itself b bytes no_quote no_backslash = grind (arith, nat_tests)
 
 -- a spelling is undone to its byte
-undone_from-spelling : (spelling : List ℕ) (byte : ℕ) → Spells spelling byte → (place : ℕ) (others : List ℕ) → undone_from place 0
-    (spelling ++ others) ≡ with_front (byte ∷ []) (undone_from (place + length spelling) 0 others)
-undone_from-spelling _ _ (itself {byte} no_quote no_backslash) place others =
-    undone_from-piece place byte others (spelled byte 0) (piece-itself byte others no_quote no_backslash)
-undone_from-spelling _ _ (by_letter {letter} {byte} e) place others =
-    let at : place + 1 + 1 ≡ place + 2 = omega arith in
-    undone_from-piece place backslash (letter ∷ others) (spelled byte 1) (rw (escaped-letter letter byte others e) refl)
+undone_from-spelling : (spelling : List ℕ) (byte : ℕ) → Spells spelling byte → (offset : ℕ) (others : List ℕ) → undone_from offset 0
+    (spelling ++ others) ≡ with_front (byte ∷ []) (undone_from (offset + length spelling) 0 others)
+undone_from-spelling _ _ (itself {byte} no_quote no_backslash) offset others =
+    undone_from-piece offset byte others (spelled byte 0) (piece-itself byte others no_quote no_backslash)
+undone_from-spelling _ _ (by_letter {letter} {byte} e) offset others =
+    let at : offset + 1 + 1 ≡ offset + 2 = omega arith in
+    undone_from-piece offset backslash (letter ∷ others) (spelled byte 1) (rw (escaped-letter letter byte others e) refl)
     ∙ ap (λ n. with_front (byte ∷ []) (undone_from n 0 others)) at
-undone_from-spelling _ _ (by_digits {high} {middle} {low} h m l) place others =
-    let at : place + 1 + 1 + 1 + 1 ≡ place + 4 = omega arith in
+undone_from-spelling _ _ (by_digits {high} {middle} {low} h m l) offset others =
+    let at : offset + 1 + 1 + 1 + 1 ≡ offset + 4 = omega arith in
     let bytes = digit high ∷ digit middle ∷ digit low ∷ others in
-    undone_from-piece place backslash bytes (spelled (octal_byte high middle low) 3) (rw (escaped-digits high middle low others h m l) refl)
+    undone_from-piece offset backslash bytes (spelled (octal_byte high middle low) 3) (rw (escaped-digits high middle low others h m l) refl)
     ∙ ap (λ n. with_front (octal_byte high middle low ∷ []) (undone_from n 0 others)) at
 
 -- spellings are undone to their bytes
-pub undone_from-spellings : (plain spelling : List ℕ) → SpellsAll spelling plain → (place : ℕ) (rest : List ℕ) → undone_from place 0
-    (spelling ++ rest) ≡ with_front plain (undone_from (place + length spelling) 0 rest)
-undone_from-spellings [] spelling none place rest = rw none (rw add-zero (sym (with_front-none (undone_from place 0 rest))))
-undone_from-spellings (byte ∷ plain) spelling (first, others, whole, spells, more) place rest =
+pub undone_from-spellings : (plain spelling : List ℕ) → SpellsAll spelling plain → (offset : ℕ) (rest : List ℕ) → undone_from offset 0
+    (spelling ++ rest) ≡ with_front plain (undone_from (offset + length spelling) 0 rest)
+undone_from-spellings [] spelling none offset rest = rw none (rw add-zero (sym (with_front-none (undone_from offset 0 rest))))
+undone_from-spellings (byte ∷ plain) spelling (first, others, whole, spells, more) offset rest =
     let split : spelling ++ rest ≡ first ++ (others ++ rest) = rw whole (append_assoc first others rest) in
-    let at : place + length first + length others ≡ place + length spelling = rw (whole, length-append) (omega arith) in
-    ap (undone_from place 0) split
-    ∙ undone_from-spelling first byte spells place (others ++ rest)
-    ∙ ap (with_front (byte ∷ [])) (undone_from-spellings plain others more (place + length first) rest)
-    ∙ sym (with_front-append (byte ∷ []) plain (undone_from (place + length first + length others) 0 rest))
+    let at : offset + length first + length others ≡ offset + length spelling = rw (whole, length-append) (omega arith) in
+    ap (undone_from offset 0) split
+    ∙ undone_from-spelling first byte spells offset (others ++ rest)
+    ∙ ap (with_front (byte ∷ [])) (undone_from-spellings plain others more (offset + length first) rest)
+    ∙ sym (with_front-append (byte ∷ []) plain (undone_from (offset + length first + length others) 0 rest))
     ∙ ap (λ n. with_front (byte ∷ plain) (undone_from n 0 rest)) at

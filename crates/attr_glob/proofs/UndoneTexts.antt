@@ -13,7 +13,7 @@ quoted_by text plain taken (quoted plain' taken' q) e =
     let same_taken : taken' ≡ taken = ap (λ p. p.1) pair in
     rw (same_plain, same_taken) at q
 quoted_by text plain taken (ends u) e = let e' = undone-IsUnclosed text u in absurd cc
-quoted_by text plain taken (bad place b) e = let e' = undone-IsBadEscape text place b in absurd cc
+quoted_by text plain taken (bad offset b) e = let e' = undone-IsBadEscape text offset b in absurd cc
 quoted_by text plain taken (plain_text n) e = let e' = undone-unquoted text n in absurd cc
 
 pub IsQuoted-undone : (text plain : List ℕ) (taken : ℕ) → undone text ≡ Ok (plain, taken) → IsQuoted text plain taken

@@ -8,6 +8,6 @@ use Rattle.attr_wildmatch.specs.Slashes.{is_slash}
 abbrev pub base_name : List ℕ → List ℕ
 base_name path = after_last is_slash path
 
--- the place after the last `/` of a path, none without one
-abbrev pub base_name_place : List ℕ → Option ℕ
-base_name_place path = if list_any is_slash path then Some (length path - length (base_name path)) else None
+-- the offset after the last `/` of a path, none without one
+abbrev pub base_name_offset : List ℕ → Option ℕ
+base_name_offset path = if list_any is_slash path then Some (length path - length (base_name path)) else None

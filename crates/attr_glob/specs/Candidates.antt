@@ -43,12 +43,12 @@ has_key case base nothing = false
 abbrev pub is_candidate : Case → List ℕ → Reading → Bool
 is_candidate case base line = has_key case base (key_of line)
 
--- The places of the lines that pass the test, the greatest first. The lines are given from the last to the first: a line's
--- place is how many come after it here.
-abbrev pub places_where : {X : Type 0} → (X → Bool) → List X → List ℕ
-places_where test [] = []
-places_where test (line ∷ before) = if test line then length before ∷ places_where test before else places_where test before
+-- The indexes of the lines that pass the test, the greatest first. The lines are given from the last to the first: a line's
+-- index is how many come after it here.
+abbrev pub indexes_where : {X : Type 0} → (X → Bool) → List X → List ℕ
+indexes_where test [] = []
+indexes_where test (line ∷ before) = if test line then length before ∷ indexes_where test before else indexes_where test before
 
--- the places of the candidates for paths of this base name, the greatest first
+-- the indexes of the candidates for paths of this base name, the greatest first
 abbrev pub candidates : Case → List ℕ → List Reading → List ℕ
-candidates case base lines = places_where (is_candidate case base) (reverse lines)
+candidates case base lines = indexes_where (is_candidate case base) (reverse lines)

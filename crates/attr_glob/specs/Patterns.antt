@@ -8,7 +8,7 @@ use Rattle.std.specs.Int.RustNames.{bit_and}
 use Rattle.attr_wildmatch.specs.Slashes.{is_slash, ends_in_slash}
 use Rattle.attr_wildmatch.specs.Bytes.{backslash, slash, asterisk, question_mark, open_bracket, exclamation_mark, number_sign}
 
--- what is read of a pattern text: the text that is left, the sum of the mode's flags, and the place of the first wildcard
+-- what is read of a pattern text: the text that is left, the sum of the mode's flags, and the offset of the first wildcard
 pub record Reading : Type 0 where
   pub text : List ℕ
   pub mode : ℕ

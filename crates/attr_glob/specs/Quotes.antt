@@ -58,17 +58,17 @@ pub record IsUnclosed (text : List ℕ) : Type 0 where
   pub whole : text ≡ quote ∷ spelling
   pub spells : SpellsAll spelling plain
 
--- after the quote in front and spellings, the backslash at this place begins no spelling
-pub record IsBadEscape (text : List ℕ) (place : ℕ) : Type 0 where
+-- after the quote in front and spellings, the backslash at this offset begins no spelling
+pub record IsBadEscape (text : List ℕ) (offset : ℕ) : Type 0 where
   pub spelling : List ℕ
   pub plain : List ℕ
   pub rest : List ℕ
   pub whole : text ≡ quote ∷ (spelling ++ backslash ∷ rest)
   pub spells : SpellsAll spelling plain
   pub bad : (escape others : List ℕ) (byte : ℕ) → backslash ∷ rest ≡ escape ++ others → Spells escape byte → ⊥
-  pub at : place ≡ length spelling + 1
+  pub at : offset ≡ length spelling + 1
 
--- why a text can't be undone; a bad escape has the place of its backslash
+-- why a text can't be undone; a bad escape has the offset of its backslash
 pub data Fault : Type 0 where
   not_quoted : Fault
   unclosed : Fault
@@ -115,15 +115,15 @@ abbrev pub with_front : List ℕ → Result (List ℕ × ℕ) Fault → Result (
 with_front front (Ok rest) = Ok (front ++ rest.0, rest.1)
 with_front front (Err fault) = Err fault
 
--- what is undone from a place on, if so many bytes still belong to the spelling before
+-- what is undone from an offset on, if so many bytes still belong to the spelling before
 abbrev pub undone_from : ℕ → ℕ → List ℕ → Result (List ℕ × ℕ) Fault
-undone_from place left [] = Err unclosed
-undone_from place (suc left) (first ∷ tail) = undone_from (place + 1) left tail
-undone_from place zero (first ∷ tail) =
+undone_from offset left [] = Err unclosed
+undone_from offset (suc left) (first ∷ tail) = undone_from (offset + 1) left tail
+undone_from offset zero (first ∷ tail) =
     elim (piece first tail) [
-      | closing ↦ Ok ([], place + 1)
-      | spelled byte left ↦ with_front (byte ∷ []) (undone_from (place + 1) left tail)
-      | broken ↦ Err (bad_escape place)
+      | closing ↦ Ok ([], offset + 1)
+      | spelled byte left ↦ with_front (byte ∷ []) (undone_from (offset + 1) left tail)
+      | broken ↦ Err (bad_escape offset)
     ]
 
 -- the plain bytes of the quoted text in front and how many bytes it takes, or the first fault

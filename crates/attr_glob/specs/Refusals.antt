@@ -8,5 +8,5 @@ use Rattle.attr_glob.specs.Quotes.{undone, not_quoted, unclosed, bad_escape, Hol
 abbrev pub IsRefusal : List ℕ → UndoError → Type 0
 IsRefusal text NotQuoted = undone text ≡ Err not_quoted
 IsRefusal text Unclosed = undone text ≡ Err unclosed
-IsRefusal text (BadEscape place) = undone text ≡ Err (bad_escape place)
+IsRefusal text (BadEscape offset) = undone text ≡ Err (bad_escape offset)
 IsRefusal text OutOfMemory = HoldsEscape text

@@ -1,4 +1,4 @@
--- What clauses see of the crate's values: their content, and not its place in memory (own).
+-- What clauses see of the crate's values: their content, and not its address in memory (own).
 use Rattle.std.specs.Prelude.{ℕ, List, map, Vec, Option, option_map}
 use Rattle.attr_glob.specs.declared.pattern.Mode.{Mode}
 use Rattle.attr_glob.specs.declared.pattern.Pattern.{Pattern}

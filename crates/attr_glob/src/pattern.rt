@@ -10,7 +10,7 @@ ghost use Rattle.attr_wildmatch.specs.Matching.{same_byte};
 ghost use Rattle.attr_wildmatch.specs.Deciding.{text_matches};
 ghost use Rattle.attr_glob.specs.Folding.{same_text};
 ghost use Rattle.attr_glob.specs.Paths.{matched_part, is_directory, PathMatches, path_matches};
-ghost use Rattle.attr_glob.specs.BaseNames.{base_name, base_name_place};
+ghost use Rattle.attr_glob.specs.BaseNames.{base_name, base_name_offset};
 ghost use Rattle.attr_glob.specs.Views.{mode_bits, pattern_view};
 ghost use Rattle.attr_glob.specs.inner.StarEnds.{ends_after_star};
 
@@ -102,7 +102,7 @@ pub struct Pattern {
     pub text: Vec<u8>,
     /// The flags of the pattern text.
     pub mode: Mode,
-    /// The place in `text`, in bytes from 0, of the first wildcard: `*`, `?`, `[` or a backslash. None without one.
+    /// The offset in `text`, in bytes from 0, of the first wildcard: `*`, `?`, `[` or a backslash. None without one.
     pub first_wildcard_pos: Option<usize>,
 }
 
@@ -162,7 +162,7 @@ impl Pattern {
     }
 
     /// Whether the pattern matches the path (gitignore page, "PATTERN FORMAT"). `basename_start_pos` is the path's
-    /// [`base_name_place`]. A path that isn't known to be a directory counts as none. The answer for a pattern that
+    /// [`base_name_offset`]. A path that isn't known to be a directory counts as none. The answer for a pattern that
     /// was not read from a text is not specified.
     ///
     /// # Errors
@@ -176,7 +176,7 @@ impl Pattern {
         is_dir: Option<bool>,
         case: Case,
     ) -> Result<bool, AllocError>
-        requires { basename_start_pos ≡ base_name_place (bstr_bytes path) }
+        requires { basename_start_pos ≡ base_name_offset (bstr_bytes path) }
         ensures matched { IfOk result (λ answer. let r = pattern_view self.now in
             (text : List ℕ) → reading text ≡ Some r →
             IsTrue answer ↔ PathMatches case r (bstr_bytes path.entry) is_dir) }
@@ -210,9 +210,9 @@ impl Pattern {
     }
 
     /// The part of the path that the text is matched against: the base name or the whole path. `basename_start_pos` is
-    /// the path's [`base_name_place`].
+    /// the path's [`base_name_offset`].
     pub fn matched_part<'a>(&self, path: &'a [u8], basename_start_pos: Option<usize>) -> &'a [u8]
-        requires { basename_start_pos ≡ base_name_place path.now }
+        requires { basename_start_pos ≡ base_name_offset path.now }
         ensures { result.now ≡ matched_part (pattern_view self.now) path.now }
     {
         if !self.mode.contains(Mode::NO_SUB_DIR) || self.mode.contains(Mode::ABSOLUTE) {
@@ -222,7 +222,7 @@ impl Pattern {
     }
 
     // Whether the text matches the value, if bytes decide without tokens. A pattern that was built by hand may have a
-    // wildcard place past the end of its text, or `ENDS_WITH` without a star.
+    // wildcard offset past the end of its text, or `ENDS_WITH` without a star.
     pub(crate) fn answer_by_bytes(&self, value: &[u8], case: Case) -> Option<bool>
         ensures matched { IfSome result (λ answer. (text : List ℕ) →
             reading text ≡ Some (pattern_view self.now) →
@@ -234,10 +234,10 @@ impl Pattern {
             starts_with (same_byte case) value.now (take n r.text) ≡ false → IsSome result }
     {
         let text = self.text.as_slice();
-        let Some(place) = self.first_wildcard_pos else {
+        let Some(offset) = self.first_wildcard_pos else {
             return Some(same_text(case, text, value));
         };
-        if place > 0 && !starts_with(value, &text[..place.min(text.len())], case) {
+        if offset > 0 && !starts_with(value, &text[..offset.min(text.len())], case) {
             return Some(false);
         }
         if self.mode.contains(Mode::ENDS_WITH) {
@@ -342,7 +342,7 @@ fn has_wildcard(text: &[u8]) -> bool
     text.iter().any(|byte| is_wildcard(*byte))
 }
 
-// The place of the first wildcard.
+// The offset of the first wildcard.
 fn first_wildcard(text: &[u8]) -> Option<usize>
     ensures { result ≡ position is_wildcard text.now }
 {
@@ -398,9 +398,9 @@ fn is_star_then(value: &[u8], end: &[u8], case: Case) -> bool
     ends_with(value, end, case) && !has_slash(before)
 }
 
-/// The place of a path's base name, in bytes from 0: after the last slash. None without a slash.
-pub fn base_name_place(path: &[u8]) -> Option<usize>
-    ensures { result ≡ base_name_place path.now }
+/// The offset of a path's base name, in bytes from 0: after the last slash. None without a slash.
+pub fn base_name_offset(path: &[u8]) -> Option<usize>
+    ensures { result ≡ base_name_offset path.now }
 {
     match path.rfind_byte(b'/') {
         Some(slash) => Some(slash + 1),
@@ -409,13 +409,13 @@ pub fn base_name_place(path: &[u8]) -> Option<usize>
 }
 
 /// The base name of a path: what follows its last slash, and all of a path without one. `basename_pos` is the path's
-/// `base_name_place`, so that the path is not read again.
+/// `base_name_offset`, so that the path is not read again.
 pub fn base_name(path: &[u8], basename_pos: Option<usize>) -> &[u8]
-    requires { basename_pos ≡ base_name_place path.now }
+    requires { basename_pos ≡ base_name_offset path.now }
     ensures { result.now ≡ base_name path.now }
 {
     match basename_pos {
-        Some(place) => &path[place..],
+        Some(offset) => &path[offset..],
         None => path,
     }
 }

@@ -74,7 +74,7 @@ impl Pattern {
         let Some(tokens) = tokens else {
             return Ok(false);
         };
-        rows.reserve(tokens.places())?;
+        rows.reserve(tokens.row_len())?;
         Ok(tokens.matches(part, case, rows))
     }
 }

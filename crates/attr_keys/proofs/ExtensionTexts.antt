@@ -118,7 +118,7 @@ extension_cons b rest =
     ap (λ t. eqb b dot_byte && not t) (sym (any_reversed rest))
     ∙ (snoc_extension b (reverse rest) ∙ ap is_reversed_extension (sym (reversed_snoc b rest)))
 
--- the dot before a offset from which on there is none
+-- the dot before an offset from which on there is none
 pub extension_from_dot_at : (name : List ℕ) (offset : ℕ) → 0 < offset → offset ≤ length name → get_or name (offset - 1) 0 ≡ dot_byte →
     extension (drop offset name) ≡ None → extension name ≡ Some (take (length name - (offset - 1)) (drop (offset - 1) name))
 extension_from_dot_at name offset some le is none =

@@ -111,7 +111,7 @@ definitions_at-within entries i d lt =
     definitions_view
     entries i d
 
--- the value that a write leaves is what is entries of the name at that place
+-- the value that a write leaves is what is entries of the name at that index
 pub AreEntries-set-element : (entries : List NameEntry) (i : ℕ) (d x : NameEntry) {n : ℕ} → length entries ≡ n → i < n →
     (IsEntry i (get_or entries i d) → IsEntry i x) → AreEntries entries → AreEntries (set entries i x)
 AreEntries-set-element entries i d x {n} len lt keeps all = AreEntries-set entries i x (keeps (all i d (omega arith))) all

@@ -25,14 +25,14 @@ no_feed line is k below = eqb-false (get_or line k 0) line_feed (not-true (eqb (
 last-push : (front : List ℕ) (b : ℕ) → get_or (front ++ b ∷ []) (length (front ++ b ∷ []) - 1) 0 ≡ b
 last-push front b =
     let len = length-append front (b ∷ []) in
-    let place : length (front ++ b ∷ []) - 1 ≡ length front + 0 = omega arith in
-    ap (λ n. get_or (front ++ b ∷ []) n 0) place ∙ get_or-append-add front (b ∷ []) 0 0
+    let offset : length (front ++ b ∷ []) - 1 ≡ length front + 0 = omega arith in
+    ap (λ n. get_or (front ++ b ∷ []) n 0) offset ∙ get_or-append-add front (b ∷ []) 0 0
 
 front-push : (front : List ℕ) (b : ℕ) → take (length (front ++ b ∷ []) - 1) (front ++ b ∷ []) ≡ front
 front-push front b =
     let len = length-append front (b ∷ []) in
-    let place : length (front ++ b ∷ []) - 1 ≡ length front = omega arith in
-    ap (λ n. take n (front ++ b ∷ [])) place ∙ take-append_seam front (b ∷ [])
+    let offset : length (front ++ b ∷ []) - 1 ≡ length front = omega arith in
+    ap (λ n. take n (front ++ b ∷ [])) offset ∙ take-append_seam front (b ∷ [])
 
 some-push : (front : List ℕ) (b : ℕ) → ltb 0 (length (front ++ b ∷ [])) ≡ true
 some-push front b = let len = length-append front (b ∷ []) in lt-ltb 0 (length (front ++ b ∷ [])) (omega arith)
@@ -126,8 +126,8 @@ Returned front = EndsNoReturn front ⊎ ((line : List ℕ) × (front ≡ line ++
 
 last-more : (b c : ℕ) (bs : List ℕ) → get_or (b ∷ c ∷ bs) (length (b ∷ c ∷ bs) - 1) 0 ≡ get_or (c ∷ bs) (length (c ∷ bs) - 1) 0
 last-more b c bs =
-    let place : length (b ∷ c ∷ bs) - 1 ≡ suc (length (c ∷ bs) - 1) = omega arith in
-    ap (λ n. get_or (b ∷ c ∷ bs) n 0) place
+    let offset : length (b ∷ c ∷ bs) - 1 ≡ suc (length (c ∷ bs) - 1) = omega arith in
+    ap (λ n. get_or (b ∷ c ∷ bs) n 0) offset
 
 returned-more : (b c : ℕ) (bs : List ℕ) → Returned (c ∷ bs) → Returned (b ∷ c ∷ bs)
 unfolding Returned

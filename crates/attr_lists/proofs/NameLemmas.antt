@@ -66,11 +66,11 @@ with_name-valid known name v all =
 pub not_before : (front : List (List ℕ)) (name : List ℕ) (rest : List (List ℕ)) → IsDistinct bytes_eq (front ++ name ∷ rest) →
     list_any (bytes_eq name) front ≡ false
 not_before front name rest distinct =
-    let place : get_or (front ++ name ∷ rest) (length front) name ≡ name = get_or_at front name rest name (length front) refl in
+    let index : get_or (front ++ name ∷ rest) (length front) name ≡ name = get_or_at front name rest name (length front) refl in
     list_any_none (bytes_eq name) front (λ k e lt.
     nat_list_eq_equiv.symm name (get_or front k e)
     ∙ ap (λ x. bytes_eq x name) (get_or_default front k e name lt ∙ sym (get_or_append_left front (name ∷ rest) name k lt))
-    ∙ ap (bytes_eq (get_or (front ++ name ∷ rest) k name)) (sym place)
+    ∙ ap (bytes_eq (get_or (front ++ name ∷ rest) k name)) (sym index)
     ∙ apart_from_distinct bytes_eq (front ++ name ∷ rest) k (length front) name distinct lt (omega (arith, length-append front (name ∷ rest))))
 
 -- one more name of the items

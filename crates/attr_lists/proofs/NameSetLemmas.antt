@@ -20,15 +20,15 @@ use Rattle.attr_lists.specs.Numbers.{number_of, with_name}
 use Rattle.attr_lists.specs.declared.name_table.name_set.NameSet.TheInside.{Inside}
 use Rattle.attr_lists.specs.inner.NameSets.{texts_of, number_under, IsNameSet}
 use Rattle.attr_lists.proofs.NameLemmas.{not_before, with_name-new}
-use Rattle.attr_lists.proofs.NamedDefinitions.{has_at, number_at, number_name, place_of}
+use Rattle.attr_lists.proofs.NamedDefinitions.{has_at, index_of, number_at, number_name}
 
 -- a name has a number where it is among the names
 pub absent : (names : List (List ℕ)) (name : List ℕ) → number_of names name ≡ None → list_any (bytes_eq name) names ≡ false
 absent names name none =
-    let place = position_or_len (bytes_eq name) names in
+    let index = position_or_len (bytes_eq name) names in
     ⊎_elim
-    (λ (has : list_any (bytes_eq name) names ≡ true). absurd (true≢false (ap is_some (sym (cond-true (ltb place (length names)) (Some place) None
-    (lt-ltb place (length names) (place_of names name has))) ∙ none))))
+    (λ (has : list_any (bytes_eq name) names ≡ true). absurd (true≢false (ap is_some (sym (cond-true (ltb index (length names)) (Some index) None
+    (lt-ltb index (length names) (index_of names name has))) ∙ none))))
     (λ no. no)
     (cases_Bool (list_any (bytes_eq name) names))
 

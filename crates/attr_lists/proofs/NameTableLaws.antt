@@ -18,7 +18,7 @@ use Rattle.attr_lists.specs.declared.types.TrackedAssignment.{TrackedAssignment}
 use Rattle.attr_lists.specs.Definitions.{is_definition, bodies_defined, bodies_named, definition_of, is_of_list, bodies_of_list, of_other_lists}
 use Rattle.attr_lists.specs.Definitions.{definitions_of, definitions_for}
 use Rattle.attr_lists.specs.shared.Keeping.{HasMacroNumber, IsNumbered}
-use Rattle.attr_lists.proofs.NamedDefinitions.{Has, itself, place_of, number_at, number_name, defined_by_name, none_by_name}
+use Rattle.attr_lists.proofs.NamedDefinitions.{Has, itself, index_of, number_at, number_name, defined_by_name, none_by_name}
 use Rattle.attr_lists.specs.Definitions.{is_active, free_id, with_active, with_list, without_list, HoldsList, IsWithin, IsSoundCollection}
 use Rattle.attr_lists.specs.inner.EntryViews.{AreValid}
 use Rattle.attr_lists.specs.ListViews.{Entry}
@@ -66,12 +66,12 @@ all_of_map P f (x ∷ xs) h = All-cons (λ y. P (f y)) x xs (All-head P (f x) (m
 
 pub number_is : (names : List (List ℕ)) (name : List ℕ) → Has names name → IsNumberOf names name (id_of names name)
 number_is names name h =
-    let place = position_or_len (bytes_eq name) names in
-    let lt = place_of names name h in
-    let at : place ≡ (id_of names name).0 = sym (ap (λ o. unwrap_or o (2 ^ 64 - 1))
-    (cond-true (ltb place (length names)) (Some place) None (lt-ltb place (length names) lt))) in
+    let index = position_or_len (bytes_eq name) names in
+    let lt = index_of names name h in
+    let at : index ≡ (id_of names name).0 = sym (ap (λ o. unwrap_or o (2 ^ 64 - 1))
+    (cond-true (ltb index (length names)) (Some index) None (lt-ltb index (length names) lt))) in
     subst (λ k. slice_get names k ≡ Some name) at
-    (slice_get-within names place name lt ∙ ap Some (sym ((bytes_decides name (get_or names place name)).0
+    (slice_get-within names index name lt ∙ ap Some (sym ((bytes_decides name (get_or names index name)).0
     (passes_at_first (bytes_eq name) names name lt))))
 
 below : {X : Type 0} (xs : List X) (i : ℕ) (x : X) → slice_get xs i ≡ Some x → i < length xs
@@ -113,18 +113,18 @@ list_numbered known entries = lines_numbered (with_names known (names_in entries
 pub number_kept : (known more : List (List ℕ)) (name : List ℕ) (number : ℕ) → number_of known name ≡ Some number → number_of (known ++ more) name ≡
     Some number
 number_kept known more name number h =
-    let place = position_or_len (bytes_eq name) known in
+    let index = position_or_len (bytes_eq name) known in
     ⊎_elim
     (λ lt.
-    let at : place ≡ number = some_is (sym (cond-true (ltb place (length known)) (Some place) None (lt-ltb place (length known) lt)) ∙ h) in
-    let same : position_or_len (bytes_eq name) (known ++ more) ≡ place =
-    prefix_len-append (λ x. not (bytes_eq name x)) known more ∙ cond-false (eqb place (length known))
-    (length known + position_or_len (bytes_eq name) more) place (ne_eqb place (length known) (λ e. omega arith)) in
-    let within : place < length (known ++ more) = omega (arith, length-append known more) in
-    ap (λ n. cond (ltb n (length (known ++ more))) (Some n) None) same ∙ cond-true (ltb place (length (known ++ more))) (Some place) None
-    (lt-ltb place (length (known ++ more)) within) ∙ ap Some at)
-    (λ past. absurd (none_is (sym (cond-false (ltb place (length known)) (Some place) None (le-ltb place (length known) past)) ∙ h)))
-    (cases_lt place (length known))
+    let at : index ≡ number = some_is (sym (cond-true (ltb index (length known)) (Some index) None (lt-ltb index (length known) lt)) ∙ h) in
+    let same : position_or_len (bytes_eq name) (known ++ more) ≡ index =
+    prefix_len-append (λ x. not (bytes_eq name x)) known more ∙ cond-false (eqb index (length known))
+    (length known + position_or_len (bytes_eq name) more) index (ne_eqb index (length known) (λ e. omega arith)) in
+    let within : index < length (known ++ more) = omega (arith, length-append known more) in
+    ap (λ n. cond (ltb n (length (known ++ more))) (Some n) None) same ∙ cond-true (ltb index (length (known ++ more))) (Some index) None
+    (lt-ltb index (length (known ++ more)) within) ∙ ap Some at)
+    (λ past. absurd (none_is (sym (cond-false (ltb index (length known)) (Some index) None (le-ltb index (length known) past)) ∙ h)))
+    (cases_lt index (length known))
   where
     some_is : {a b : ℕ} → Some a ≡ Some b → a ≡ b
     some_is e = cc

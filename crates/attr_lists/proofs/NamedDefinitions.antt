@@ -33,9 +33,9 @@ has_at (x ∷ xs) zero lt = or_left (bytes_eq x x) (list_any (bytes_eq x) xs) (i
 has_at (x ∷ xs) (suc n) lt =
     or_right (bytes_eq (get_or xs n []) x) (list_any (bytes_eq (get_or xs n [])) xs) (has_at xs n (omega arith))
 
--- a name among the names has the number of its place
-pub place_of : (names : List (List ℕ)) (name : List ℕ) → Has names name → position_or_len (bytes_eq name) names < length names
-place_of names name h =
+-- a name among the names has the number of its index
+pub index_of : (names : List (List ℕ)) (name : List ℕ) → Has names name → position_or_len (bytes_eq name) names < length names
+index_of names name h =
     ⊎_elim (λ lt. lt)
     (λ past. absurd (true≢false (sym h ∙ list_any_none (bytes_eq name) names (λ k d lt. fails_before_first (bytes_eq name) names k d (omega arith)))))
     (cases_lt (position_or_len (bytes_eq name) names) (length names))
@@ -50,20 +50,20 @@ none_is e = cc
 pub number_at : (names : List (List ℕ)) (n : ℕ) → IsDistinct bytes_eq names → n < length names → number_of names (get_or names n []) ≡ Some n
 number_at names n distinct lt =
     let name = get_or names n [] in
-    let place = position_or_len (bytes_eq name) names in
-    let some : number_of names name ≡ Some place = cond-true (ltb place (length names)) (Some place) None (lt-ltb place (length names)
-    (place_of names name (has_at names n lt))) in
-    let first = position-Some (bytes_eq name) names place [] some in
+    let index = position_or_len (bytes_eq name) names in
+    let some : number_of names name ≡ Some index = cond-true (ltb index (length names)) (Some index) None (lt-ltb index (length names)
+    (index_of names name (has_at names n lt))) in
+    let first = position-Some (bytes_eq name) names index [] some in
     ⊎_elim (λ before. absurd (true≢false (sym (itself name) ∙ first.2 n before)))
-    (λ (after : place ≤ n). ⊎_elim (λ (same : place ≡ n). some ∙ ap Some same)
-    (λ (other : place ≢ n).
-    let at : get_or names place [] ≡ name = sym ((bytes_decides name (get_or names place [])).0 first.1) in
+    (λ (after : index ≤ n). ⊎_elim (λ (same : index ≡ n). some ∙ ap Some same)
+    (λ (other : index ≢ n).
+    let at : get_or names index [] ≡ name = sym ((bytes_decides name (get_or names index [])).0 first.1) in
     absurd (true≢false (sym (itself name) ∙ ap (λ x. bytes_eq x name) (sym at)
-    ∙ apart_from_distinct bytes_eq names place n [] distinct (omega (arith, after, other)) lt)))
-    (cases_eq place n))
-    (cases_lt n place)
+    ∙ apart_from_distinct bytes_eq names index n [] distinct (omega (arith, after, other)) lt)))
+    (cases_eq index n))
+    (cases_lt n index)
 
--- the number of a name is that of its place
+-- the number of a name is that of its index
 pub number_name : (names : List (List ℕ)) (name : List ℕ) (n : ℕ) → number_of names name ≡ Some n → (n < length names) × (get_or names n [] ≡ name)
 number_name names name n e =
     let first = position-Some (bytes_eq name) names n [] e in (first.0, sym ((bytes_decides name (get_or names n [])).0 first.1))

@@ -7,7 +7,7 @@ ghost use Rattle.attr_text.specs.TextViews.{name_text, state_view, value_bytes};
 ghost use Rattle.attr_lists.specs.LineViews.{refusal_view};
 
 use crate::parse::{AttrError, check_attr};
-use crate::text_place::{PLACES, text_place};
+use crate::text_bucket::{BUCKETS, text_bucket};
 use attr_text::state::{Value, ValueRef};
 use attr_text::{Name, NameRef, State, StateRef};
 use std::alloc::{AllocError, Global};
@@ -15,8 +15,8 @@ use std::alloc::{AllocError, Global};
 // Longer names and values are not kept, so that what is known takes no more than some hundred KB.
 const LONGEST: usize = 1_024;
 
-/// For each place of texts, the name and the value that were read there last. Files have few names and values, most of them in
-/// many lines and in many files, so most items find theirs. Only what is at the place is compared, so that an item takes no longer
+/// For each bucket of texts, the name and the value that were read there last. Files have few names and values, most of them in
+/// many lines and in many files, so most items find theirs. Only what is in the bucket is compared, so that an item takes no longer
 /// if a file has many names and values.
 #[derive(Debug, Drop)]
 pub struct KnownTexts {
@@ -47,14 +47,14 @@ impl KnownTexts {
         ensures { IfOk result (λ own.
             result_map_both (λ name. name) refusal_view own ≡ checked_name name.now) }
     {
-        let place = text_place(name);
-        if let Some(known) = self.names.get(place)
+        let bucket = text_bucket(name);
+        if let Some(known) = self.names.get(bucket)
             && known.name.as_str().as_bytes() == name
         {
             return Ok(Ok(known.name.clone(alloc)?));
         }
         match check_attr(name) {
-            Ok(name) => Ok(Ok(self.keep_name(alloc, place, name)?)),
+            Ok(name) => Ok(Ok(self.keep_name(alloc, bucket, name)?)),
             Err(error) => Ok(Err(error)),
         }
     }
@@ -63,10 +63,10 @@ impl KnownTexts {
     fn keep_name(
         &mut self,
         alloc: Global,
-        place: usize,
+        bucket: usize,
         name: NameRef<'_>,
     ) -> Result<Name, AllocError>
-        requires place { place < 64 }
+        requires bucket { bucket < 64 }
         requires checked { checked_name (name_text name) ≡ Ok (name_text name) }
         ensures { IfOk result (λ own. own ≡ name_text name.entry) }
     {
@@ -75,7 +75,7 @@ impl KnownTexts {
             let known = KnownName {
                 name: own.clone(alloc)?,
             };
-            self.names.keep(place, known)?;
+            self.names.keep(bucket, known)?;
         }
         Ok(own)
     }
@@ -99,15 +99,15 @@ impl KnownTexts {
     fn value(&mut self, alloc: Global, value: ValueRef<'_>) -> Result<Value, AllocError>
         ensures { IfOk result (λ own. own ≡ value_bytes value.entry) }
     {
-        let place = text_place(value.as_bstr().as_bytes());
-        if let Some(known) = self.values.get(place)
+        let bucket = text_bucket(value.as_bstr().as_bytes());
+        if let Some(known) = self.values.get(bucket)
             && known.as_ref() == value
         {
             return known.clone(alloc);
         }
         let own = value.to_owned(alloc)?;
         if value.as_bstr().as_bytes().len() <= LONGEST {
-            self.values.keep(place, own.clone(alloc)?)?;
+            self.values.keep(bucket, own.clone(alloc)?)?;
         }
         Ok(own)
     }
@@ -120,11 +120,11 @@ struct KnownName {
     ghost checked: { checked_name name ≡ Ok name },
 }
 
-// What was read last at each place of texts. It takes room for those that were read, so that small files cost little.
+// What was read last in each bucket of texts. It takes room for those that were read, so that small files cost little.
 #[derive(Debug, Drop)]
 struct LastRead<T> {
-    // For each place the index of its text: past the end if none was read there.
-    indexes: [usize; PLACES],
+    // For each bucket the index of its text: past the end if none was read there.
+    indexes: [usize; BUCKETS],
     texts: Vec<T>,
 }
 
@@ -132,27 +132,27 @@ impl<T: Drop> LastRead<T> {
     // Nothing was read. It takes no memory.
     fn new(alloc: Global) -> LastRead<T> {
         LastRead {
-            indexes: [PLACES; PLACES],
+            indexes: [BUCKETS; BUCKETS],
             texts: Vec::new(alloc),
         }
     }
 
-    // The text that was read last at the place, if one was.
-    fn get(&self, place: usize) -> Option<&T>
-        requires { place < 64 }
+    // The text that was read last in the bucket, if one was.
+    fn get(&self, bucket: usize) -> Option<&T>
+        requires { bucket < 64 }
     {
-        self.texts.get(self.indexes[place])
+        self.texts.get(self.indexes[bucket])
     }
 
-    // Keeps a text at its place.
-    fn keep(&mut self, place: usize, text: T) -> Result<(), AllocError>
-        requires { place < 64 }
+    // Keeps a text in its bucket.
+    fn keep(&mut self, bucket: usize, text: T) -> Result<(), AllocError>
+        requires { bucket < 64 }
     {
-        let index = self.indexes[place];
+        let index = self.indexes[bucket];
         if index < self.texts.len() {
             self.texts[index] = text;
         } else {
-            self.indexes[place] = self.texts.len();
+            self.indexes[bucket] = self.texts.len();
             self.texts.push(text)?;
         }
         Ok(())

@@ -6,5 +6,5 @@ pub mod laws;
 pub mod name_table;
 pub mod parse;
 pub mod parser;
-mod text_place;
+mod text_bucket;
 pub mod types;

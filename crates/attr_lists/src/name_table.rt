@@ -1,6 +1,6 @@
 //! Numbers of attribute names, and the definitions of macros in the lists that are registered.
 //!
-//! A name's number is its place among all names in the order in which they are first seen, from 0. It never changes.
+//! A name's number is its index among all names in the order in which they are first seen, from 0. It never changes.
 //! Each list is registered under a list id that no other registered list has. A definition belongs to a list, and is
 //! removed with it.
 ghost use Rattle.std.specs.Prelude.{◌≡◌, true, false, ◌<◌, ◌↔◌, length, All, Some, None, nat_lt, if◌then◌else◌, option_map, IfOk, OnOk, OnErr, IfSome, IsSome, IsTrue, slice_get, option_copied};

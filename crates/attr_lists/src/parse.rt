@@ -160,7 +160,7 @@ impl<'a> Iterator for Iter<'a> {
     }
 }
 
-// The first word of a text, the place of the first `=` in the word, and the text after it.
+// The first word of a text, the offset of the first `=` in the word, and the text after it.
 fn first_word<'a>(text: &'a [u8]) -> Option<(&'a [u8], Option<usize>, &'a [u8])>
     ensures word { MatchOption result (words text.now ≡ []) (λ p. words text.now
         ≡ p.0.now ∷ words p.2.now) }
@@ -176,7 +176,7 @@ fn first_word<'a>(text: &'a [u8]) -> Option<(&'a [u8], Option<usize>, &'a [u8])>
     Some((word, equals, rest))
 }
 
-// The place of the first blank, and that of the first `=` before it. Each byte is looked at once.
+// The offset of the first blank, and that of the first `=` before it. Each byte is looked at once.
 fn first_end(text: &[u8]) -> (usize, Option<usize>)
     ensures end { result.0 ≡ position_or_len is_blank text.now }
     ensures equals { result.1 ≡ position is_equals (take result.0 text.now) }
@@ -192,16 +192,16 @@ fn first_end(text: &[u8]) -> (usize, Option<usize>)
     }
 }
 
-// The place of the first byte at which a name ends: a blank, or the `=` before a value.
+// The offset of the first byte at which a name ends: a blank, or the `=` before a value.
 fn position_of_stop(text: &[u8]) -> Option<usize>
     ensures { result ≡ position (λ b. is_blank b || is_equals b) text.now }
 {
     text.iter().position(|b| is_blank(*b) || *b == b'=')
 }
 
-#[tactic(auto, using(attr_text::proofs::ForCallers::place_of_first, attr_text::proofs::ForCallers::place_in_text))]
+#[tactic(auto, using(attr_text::proofs::ForCallers::offset_of_first, attr_text::proofs::ForCallers::offset_in_text))]
 fn first_stop(text: &[u8]) -> usize
-    ensures place { result ≡ position_or_len (λ b. is_blank b || is_equals b) text.now }
+    ensures offset { result ≡ position_or_len (λ b. is_blank b || is_equals b) text.now }
     ensures inside { result ≤ length text.now }
 {
     position_of_stop(text).unwrap_or(text.len())
@@ -226,17 +226,17 @@ fn position_of_blank(text: &[u8]) -> Option<usize>
     text.iter().position(|b| is_blank(*b))
 }
 
-#[tactic(auto, using(attr_text::proofs::ForCallers::place_of_first, attr_text::proofs::ForCallers::place_in_text))]
+#[tactic(auto, using(attr_text::proofs::ForCallers::offset_of_first, attr_text::proofs::ForCallers::offset_in_text))]
 fn first_not_blank(text: &[u8]) -> usize
-    ensures place { result ≡ position_or_len (λ b. not (is_blank b)) text.now }
+    ensures offset { result ≡ position_or_len (λ b. not (is_blank b)) text.now }
     ensures inside { result ≤ length text.now }
 {
     position_of_other(text).unwrap_or(text.len())
 }
 
-#[tactic(auto, using(attr_text::proofs::ForCallers::place_of_first, attr_text::proofs::ForCallers::place_in_text))]
+#[tactic(auto, using(attr_text::proofs::ForCallers::offset_of_first, attr_text::proofs::ForCallers::offset_in_text))]
 fn first_blank(text: &[u8]) -> usize
-    ensures place { result ≡ position_or_len is_blank text.now }
+    ensures offset { result ≡ position_or_len is_blank text.now }
     ensures inside { result ≤ length text.now }
 {
     position_of_blank(text).unwrap_or(text.len())
@@ -248,9 +248,9 @@ fn after_blanks(text: &[u8]) -> &[u8]
     &text[first_not_blank(text)..]
 }
 
-// The name, which is not checked, and the state of a word whose first `=` has this place.
+// The name, which is not checked, and the state of a word whose first `=` has this offset.
 fn parts_of<'a>(word: &'a [u8], equals: Option<usize>) -> (&'a [u8], StateRef<'a>)
-    requires place { equals ≡ position is_equals word.now }
+    requires offset { equals ≡ position is_equals word.now }
     requires inside { ForSome equals (λ i. i < length word.now) }
     ensures { with_state (checked_name result.0.now) (state_view result.1) ≡ item_of word.now }
 {

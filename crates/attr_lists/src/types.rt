@@ -189,7 +189,7 @@ impl Clone for TrackedAssignment {
     }
 }
 
-// A short list has this assignment at each place that is not filled yet.
+// A short list has this assignment at each index that is not filled yet.
 impl MadeWith<Global> for TrackedAssignment {
     fn made_with(alloc: Global) -> TrackedAssignment {
         TrackedAssignment {

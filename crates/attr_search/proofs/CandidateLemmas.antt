@@ -13,7 +13,7 @@ use Rattle.attr_wildmatch.specs.declared.case.Case.{Case}
 use Rattle.attr_glob.specs.declared.search.pattern.Mapping.{Mapping}
 use Rattle.attr_glob.specs.BaseNames.{base_name}
 use Rattle.attr_glob.specs.Bases.{rest_below}
-use Rattle.attr_glob.specs.Candidates.{has_macro_mode, is_candidate, places_where, candidates}
+use Rattle.attr_glob.specs.Candidates.{has_macro_mode, is_candidate, indexes_where, candidates}
 use Rattle.attr_glob.specs.Paths.{path_matches}
 use Rattle.attr_glob.specs.Patterns.{Reading, reading, has_flag, negative, no_sub_dir, ends_with, must_be_dir, absolute}
 use Rattle.attr_glob.specs.Views.{patterns_of}
@@ -27,16 +27,16 @@ use Rattle.attr_table.specs.shared.Walk.{Task, Searches, backwards, line_tasks, 
 use Rattle.attr_table.proofs.ForCallers.{nothing_taken}
 use Rattle.attr_search.specs.ListView.{Listed}
 use Rattle.attr_search.specs.shared.ReadLines.{AreRead}
-use Rattle.attr_search.specs.inner.PlacedLines.{no_entry, entry_at}
+use Rattle.attr_search.specs.inner.EntryAt.{no_entry, entry_at}
 use Rattle.attr_search.specs.inner.Trying.{AreTried, TakesMatching}
-use Rattle.attr_search.proofs.PlacedLemmas.{lines_patterns}
+use Rattle.attr_search.proofs.EntryAtLemmas.{lines_patterns}
 use Rattle.attr_search.specs.Settings.{gives, line_of, lines_of, candidates_in}
 use Rattle.attr_search.specs.inner.Lines.{entry_tasks}
 
--- the tasks of the lines at some places
+-- the tasks of the lines at some indexes
 abbrev tasks_at : Case → Option Bool → Option (List ℕ) → List ℕ → List Entry → List ℕ → List Task
-tasks_at case is_dir source rest lines places =
-    flat_map (λ place. entry_tasks case is_dir source rest (entry_at lines place)) places
+tasks_at case is_dir source rest lines indexes =
+    flat_map (λ index. entry_tasks case is_dir source rest (entry_at lines index)) indexes
 
 -- what has all flags is negative
 not_macro : (r : Reading) → has_flag r.mode negative ≡ false → has_macro_mode r ≡ false
@@ -81,13 +81,13 @@ backwards-reverse f (x ∷ xs) =
     ∙ (sym (flat_map-append f (reverse xs) (x ∷ [])) ∙ ap (flat_map f) (sym (reverse-cons x xs))))
 
 -- only those that pass the test give something
-by_places : {X Y : Type 0} (f : X → List Y) (test : X → Bool) (all rev : List X) (d : X) →
+by_indexes : {X Y : Type 0} (f : X → List Y) (test : X → Bool) (all rev : List X) (d : X) →
     ((k : ℕ) → k < length rev → get_or all (length rev - 1 - k) d ≡ get_or rev k d) →
     ((k : ℕ) → k < length rev → test (get_or rev k d) ≡ false → f (get_or rev k d) ≡ []) →
-    flat_map f rev ≡ flat_map (λ p. f (get_or all p d)) (places_where test rev)
-by_places f test all [] d same none = refl
-by_places {X} f test all (x ∷ before) d same none =
-    let rest = by_places f test all before d
+    flat_map f rev ≡ flat_map (λ p. f (get_or all p d)) (indexes_where test rev)
+by_indexes f test all [] d same none = refl
+by_indexes {X} f test all (x ∷ before) d same none =
+    let rest = by_indexes f test all before d
     (λ k lt. ap (λ n. get_or all n d) (index k lt) ∙ same (suc k) (omega arith))
     (λ k lt out. none (suc k) (omega arith) out) in
     let here : get_or all (length before) d ≡ x = ap (λ n. get_or all n d) first ∙ same 0 (omega arith) in
@@ -101,12 +101,12 @@ by_places {X} f test all (x ∷ before) d same none =
     first : length before ≡ length (x ∷ before) - 1 - 0
     first = omega arith
 
--- the places by a test of what the elements give
-places_where-map : {X Y : Type 0} (test : Y → Bool) (g : X → Y) (xs : List X) → places_where test (map g xs) ≡ places_where (λ x. test (g x)) xs
-places_where-map test g [] = refl
-places_where-map test g (x ∷ xs) =
-    ap (λ n. cond (test (g x)) (n ∷ places_where test (map g xs)) (places_where test (map g xs))) (length-map xs g)
-    ∙ ap (λ ps. cond (test (g x)) (length xs ∷ ps) ps) (places_where-map test g xs)
+-- the indexes by a test of what the elements give
+indexes_where-map : {X Y : Type 0} (test : Y → Bool) (g : X → Y) (xs : List X) → indexes_where test (map g xs) ≡ indexes_where (λ x. test (g x)) xs
+indexes_where-map test g [] = refl
+indexes_where-map test g (x ∷ xs) =
+    ap (λ n. cond (test (g x)) (n ∷ indexes_where test (map g xs)) (indexes_where test (map g xs))) (length-map xs g)
+    ∙ ap (λ ps. cond (test (g x)) (length xs ∷ ps) ps) (indexes_where-map test g xs)
 
 map-reverse : {X Y : Type 0} (g : X → Y) (xs : List X) → reverse (map g xs) ≡ map g (reverse xs)
 map-reverse g [] = refl
@@ -115,7 +115,7 @@ map-reverse g (x ∷ xs) =
     ∙ (ap (λ ys. ys ++ g x ∷ []) (map-reverse g xs)
     ∙ (sym (map-append g (reverse xs) (x ∷ [])) ∙ ap (map g) (sym (reverse-cons x xs))))
 
--- what stands at a place of the reversed list, and what it gives where it is no candidate
+-- what stands at an index of the reversed list, and what it gives where it is no candidate
 pub turned_at : {X : Type 0} (xs : List X) (k : ℕ) (d : X) → k < length (reverse xs) →
     get_or xs (length (reverse xs) - 1 - k) d ≡ get_or (reverse xs) k d
 turned_at xs k d lt =
@@ -136,21 +136,21 @@ passed_entry case is_dir source rest test takes lines read k lt out =
     rw nothing refl
 
 pub tried_turned : (test : Reading → Bool) (lines : List Entry) →
-    places_where test (reverse (map (λ entry. entry.pattern) lines)) ≡ places_where (λ entry. test entry.pattern) (reverse lines)
+    indexes_where test (reverse (map (λ entry. entry.pattern) lines)) ≡ indexes_where (λ entry. test entry.pattern) (reverse lines)
 tried_turned test lines =
-    ap (places_where test) (map-reverse (λ (entry : Entry). entry.pattern) lines)
-    ∙ places_where-map test (λ (entry : Entry). entry.pattern) (reverse lines)
+    ap (indexes_where test) (map-reverse (λ (entry : Entry). entry.pattern) lines)
+    ∙ indexes_where-map test (λ (entry : Entry). entry.pattern) (reverse lines)
 
 list_tried : (case : Case) (is_dir : Option Bool) (source : Option (List ℕ)) (rest : List ℕ) (taken : Reading → Bool) →
     TakesMatching case rest taken → (lines : List Entry) → ∥ AreRead lines ∥₁ →
     list_tasks (map (line_of case is_dir source (Some rest)) lines)
-    ≡ tasks_at case is_dir source rest lines (places_where taken (reverse (map (λ entry. entry.pattern) lines)))
+    ≡ tasks_at case is_dir source rest lines (indexes_where taken (reverse (map (λ entry. entry.pattern) lines)))
 list_tried case is_dir source rest taken takes lines read =
     let f : Entry → List Task = entry_tasks case is_dir source rest in
     let test : Entry → Bool = λ entry. taken entry.pattern in
     backwards-map (line_of case is_dir source (Some rest)) lines
     ∙ (backwards-reverse f lines
-    ∙ (by_places f test lines (reverse lines) no_entry
+    ∙ (by_indexes f test lines (reverse lines) no_entry
     (λ k lt. turned_at lines k no_entry lt)
     (λ k lt out. passed_entry case is_dir source rest taken takes lines read k lt out)
     ∙ ap (tasks_at case is_dir source rest lines) (sym (tried_turned taken lines))))
@@ -159,26 +159,26 @@ list_tried case is_dir source rest taken takes lines read =
     backwards-map g [] = refl
     backwards-map g (x ∷ xs) = ap (λ ts. ts ++ line_tasks (g x)) (backwards-map g xs)
 
--- the places of candidates are those of lines
+-- the indexes of candidates are those of lines
 fits_step : (n p : ℕ) (ps : List ℕ) → p < n → ((k d : ℕ) → k < length ps → get_or ps k d < n) →
     (k d : ℕ) → k < length (p ∷ ps) → get_or (p ∷ ps) k d < n
 fits_step n p ps lt all zero d l = lt
 fits_step n p ps lt all (suc k) d l = all k d (omega arith)
 
-places_fit : {X : Type 0} (test : X → Bool) (xs : List X) (n : ℕ) → length xs ≤ n →
-    (k d : ℕ) → k < length (places_where test xs) → get_or (places_where test xs) k d < n
-places_fit test [] n le = λ k d lt. absurd (omega arith)
-places_fit test (x ∷ xs) n le =
+indexes_fit : {X : Type 0} (test : X → Bool) (xs : List X) (n : ℕ) → length xs ≤ n →
+    (k d : ℕ) → k < length (indexes_where test xs) → get_or (indexes_where test xs) k d < n
+indexes_fit test [] n le = λ k d lt. absurd (omega arith)
+indexes_fit test (x ∷ xs) n le =
     by_test (test x)
-    (λ t. rw t (fits_step n (length xs) (places_where test xs) (omega arith) (places_fit test xs n (omega arith))))
-    (λ f. rw f (places_fit test xs n (omega arith)))
+    (λ t. rw t (fits_step n (length xs) (indexes_where test xs) (omega arith) (indexes_fit test xs n (omega arith))))
+    (λ f. rw f (indexes_fit test xs n (omega arith)))
 
 pub tried_fit : (case : Case) (rest : List ℕ) (ms : List (Mapping Value)) (found : List ℕ) →
-    AreTried case rest (patterns_of ms) found → All (λ place. place < length ms) found
+    AreTried case rest (patterns_of ms) found → All (λ index. index < length ms) found
 tried_fit case rest ms found are =
     let n = length-reverse (patterns_of ms) in
     let m = length-map ms (λ (m : Mapping Value). read m) in
-    rw are.tried (places_fit are.test (reverse (patterns_of ms)) (length ms) (omega arith))
+    rw are.tried (indexes_fit are.test (reverse (patterns_of ms)) (length ms) (omega arith))
   where
     read : Mapping Value → Reading
     read m = record { text = m.pattern.text.items; mode = m.pattern.mode.0; wildcard = m.pattern.first_wildcard_pos }
@@ -210,18 +210,18 @@ list_walked bodies wanted case case' is_dir is_dir' path rest listed ms found be
     ∙ (ap (λ (d : Option Bool). list_tasks (map (line_of case' d listed.source (Some rest)) listed.lines)) (sym dir)
     ∙ (ap (λ (ls : List Entry). list_tasks (map (line_of case' is_dir' listed.source (Some rest)) ls)) lines
     ∙ (list_tried case' is_dir' listed.source rest are.test are.matching (entries_view ms) read
-    ∙ (ap (λ (rs : List Reading). tasks_at case' is_dir' listed.source rest (entries_view ms) (places_where are.test (reverse rs)))
+    ∙ (ap (λ (rs : List Reading). tasks_at case' is_dir' listed.source rest (entries_view ms) (indexes_where are.test (reverse rs)))
     (sym (lines_patterns ms))
     ∙ (ap (λ (ps : List ℕ). tasks_at case' is_dir' listed.source rest (entries_view ms) ps) (sym are.tried)
     ∙ ap (λ (ls : List Entry). tasks_at case' is_dir' listed.source rest ls found) (sym lines))))))) in
     subst (λ (ts : List Task). Searches bodies wanted ts before after a b) (sym tasks) p
 
--- a test that implies another passes at no more places
-fewer_places : {X : Type 0} (p q : X → Bool) → ((x : X) → p x ≡ true → q x ≡ true) → (xs : List X) →
-    length (places_where p xs) ≤ length (places_where q xs)
-fewer_places p q so [] = omega arith
-fewer_places p q so (x ∷ xs) =
-    let rest = fewer_places p q so xs in
+-- a test that implies another passes at no more indexes
+fewer_indexes : {X : Type 0} (p q : X → Bool) → ((x : X) → p x ≡ true → q x ≡ true) → (xs : List X) →
+    length (indexes_where p xs) ≤ length (indexes_where q xs)
+fewer_indexes p q so [] = omega arith
+fewer_indexes p q so (x ∷ xs) =
+    let rest = fewer_indexes p q so xs in
     by_test (p x)
     (λ t. let u = so x t in rw (t, u) (omega arith))
     (λ f. by_test (q x) (λ u. rw (f, u) (omega arith)) (λ u. rw (f, u) rest))
@@ -231,7 +231,7 @@ pub tested_most : (case case' : Case) (path rest : List ℕ) (listed : Listed) (
     listed.lines ≡ entries_view ms → Some rest ≡ rest_below listed.base case path → case' ≡ case →
     AreTried case' rest (patterns_of ms) found → n ≤ m + length found → n ≤ m + candidates_in case path listed
 tested_most case case' path rest listed ms found m n lines below same are le =
-    let few = fewer_places are.test (is_candidate case' (base_name rest)) are.candidate (reverse (patterns_of ms)) in
+    let few = fewer_indexes are.test (is_candidate case' (base_name rest)) are.candidate (reverse (patterns_of ms)) in
     let those = ap length are.tried in
     let count : length (candidates case' (base_name rest) (patterns_of ms)) ≡ candidates_in case path listed =
     (ap (λ (c : Case). length (candidates c (base_name rest) (patterns_of ms))) same

@@ -76,13 +76,13 @@ one_within (l ∷ lists) zero list longest is le =
     subst (λ (x : IndexedList). base_len (base_bytes x.list.base) ≤ longest) (some_inside l list is) (omega (arith, le))
 one_within (l ∷ lists) (suc number) list longest is le = one_within lists number list longest is (omega (arith, le))
 
--- a hasher that has a text's first part, and then the part up to a place
-pub hashed_on : (text : List ℕ) (start place : ℕ) → start ≤ place →
-    sip.write (sip.write sip.initial (take start text)) (take (place - start) (drop start text)) ≡ sip.write sip.initial (take place text)
+-- a hasher that has a text's first part, and then the part up to an offset
+pub hashed_on : (text : List ℕ) (start offset : ℕ) → start ≤ offset →
+    sip.write (sip.write sip.initial (take start text)) (take (offset - start) (drop start text)) ≡ sip.write sip.initial (take offset text)
 unfolding sip.write
-hashed_on text start place le =
-    sym (fold-append sip.write_byte sip.initial (take start text) (take (place - start) (drop start text)))
-    ∙ ap (sip.write sip.initial) (sym (take-add start (place - start) text) ∙ ap (λ n. take n text) (omega (arith, le)))
+hashed_on text start offset le =
+    sym (fold-append sip.write_byte sip.initial (take start text) (take (offset - start) (drop start text)))
+    ∙ ap (sip.write sip.initial) (sym (take-add start (offset - start) text) ∙ ap (λ n. take n text) (omega (arith, le)))
 
 pub hashed_none : (hasher : DefaultHasher) → hasher ≡ sip.initial → hasher ≡ sip.write sip.initial []
 unfolding sip.write
@@ -96,32 +96,32 @@ key_of_long text long =
       | inr other ↦ ap (λ b. if b then short_key text else sip.finish (sip.write sip.initial text)) other.0
     ]
 
--- one more place
+-- one more offset
 pub gathered_on : (keys text : List ℕ) (k : ℕ) (found more : List ℕ) → GathersDirectories keys text k found →
     ((number : ℕ) → Contains found number → Contains more number) → HasNumbersOf keys more (text_key (take (k + 1) text)) →
     GathersDirectories keys text (k + 1) more
-gathered_on keys text k found more gathers kept own = λ place le ends number has.
-    elim (below_or place (k + 1) (omega (arith, le))) [
-      | inl lt ↦ kept number (gathers place (omega (arith, lt)) ends number has)
+gathered_on keys text k found more gathers kept own = λ offset le ends number has.
+    elim (below_or offset (k + 1) (omega (arith, le))) [
+      | inl lt ↦ kept number (gathers offset (omega (arith, lt)) ends number has)
       | inr same ↦ own number (subst (λ p. slice_get keys number ≡ Some (text_key (take p text))) same has)
     ]
 
 not_past : (text : List ℕ) (k : ℕ) → (slice_index text k ≡ slash → ⊥) → EndsDirectory text (k + 1) → ⊥
-not_past text k other (inl zero_place) = omega (arith, zero_place)
+not_past text k other (inl zero_offset) = omega (arith, zero_offset)
 not_past text k other (inr ends) = let less : k + 1 - 1 ≡ k = omega arith in other (subst (λ p. slice_index text p ≡ slash) less ends)
 
 pub gathered_past : (keys text : List ℕ) (k : ℕ) (found : List ℕ) → GathersDirectories keys text k found → (slice_index text k ≡ slash → ⊥) →
     GathersDirectories keys text (k + 1) found
-gathered_past keys text k found gathers other = λ place le ends number has.
-    elim (below_or place (k + 1) (omega (arith, le))) [
-      | inl lt ↦ gathers place (omega (arith, lt)) ends number has
+gathered_past keys text k found gathers other = λ offset le ends number has.
+    elim (below_or offset (k + 1) (omega (arith, le))) [
+      | inl lt ↦ gathers offset (omega (arith, lt)) ends number has
       | inr same ↦ absurd (not_past text k other (subst (EndsDirectory text) same ends))
     ]
 
 -- nothing was read so far
 pub gathered_none : (keys text : List ℕ) (found : List ℕ) → HasNumbersOf keys found (text_key []) → GathersDirectories keys text 0 found
-gathered_none keys text found own = λ place le ends number has.
-    let none : place ≡ 0 = omega (arith, le) in
+gathered_none keys text found own = λ offset le ends number has.
+    let none : offset ≡ 0 = omega (arith, le) in
     own number (subst (λ p. slice_get keys number ≡ Some (text_key (take p text))) none has)
 
 -- small letters of equal texts
@@ -136,14 +136,14 @@ take_less (suc p) (suc m) [] le = refl
 take_less (suc p) (suc m) (x ∷ xs) le = ap (λ ys. x ∷ ys) (take_less p m xs (omega (arith, le)))
 
 -- where the text has the key of a base
-pub record IsBasePlace (base : Option (List ℕ)) (text : List ℕ) : Type 0 where
-  pub place : ℕ
-  pub within : place ≤ length text
-  pub ends : EndsDirectory text place
-  pub same : base_text base ≡ take place text
+pub record IsBaseOffset (base : Option (List ℕ)) (text : List ℕ) : Type 0 where
+  pub offset : ℕ
+  pub within : offset ≤ length text
+  pub ends : EndsDirectory text offset
+  pub same : base_text base ≡ take offset text
 
-at_start : (base : Option (List ℕ)) (text : List ℕ) → base_text base ≡ [] → IsBasePlace base text
-at_start base text none = record { place = 0; within = omega arith; ends = inl refl; same = none }
+at_start : (base : Option (List ℕ)) (text : List ℕ) → base_text base ≡ [] → IsBaseOffset base text
+at_start base text none = record { offset = 0; within = omega arith; ends = inl refl; same = none }
 
 cut_short : (same : Bool) (rest left : List ℕ) → (if same then Some left else None) ≡ Some rest → same ≡ true
 cut_short true rest left is = refl
@@ -156,7 +156,7 @@ text_of base last is = ap (λ l. if l then small_letters base else []) is
 at_base : (b : ℕ) (bs path : List ℕ) (case : Case) (longest : ℕ) → length (b ∷ bs) ≤ longest →
     same_text case (b ∷ bs) (take (length (b ∷ bs)) path) ≡ true → slice_index (b ∷ bs) (length (b ∷ bs) - 1) ≡ slash →
     base_text (Some (b ∷ bs)) ≡ small_letters (b ∷ bs) →
-    IsBasePlace (Some (b ∷ bs)) (small_letters (take (min (length path) longest) path))
+    IsBaseOffset (Some (b ∷ bs)) (small_letters (take (min (length path) longest) path))
 at_base b bs path case longest le same last whole =
     let base : List ℕ = b ∷ bs in
     let m = min (length path) longest in
@@ -169,7 +169,7 @@ at_base b bs path case longest le same last whole =
     take-map to_ascii_lowercase (length base) (take m path) ∙ ap small_letters (take_less (length base) m path fits) ∙ sym letters in
     let below : length base - 1 < length base = omega arith in
     record {
-      place = length base;
+      offset = length base;
       within = omega (arith, fits, size);
       ends = inr (sym (get_or-take (length base) (small_letters (take m path)) (length base - 1) 0 below)
           ∙ ap (λ t. slice_index t (length base - 1)) front
@@ -177,11 +177,11 @@ at_base b bs path case longest le same last whole =
       same = whole ∙ sym front;
     }
 
-pub base_place : (base : Option (List ℕ)) (case : Case) (path rest : List ℕ) (longest : ℕ) → base_len base ≤ longest →
-    rest_below base case path ≡ Some rest → IsBasePlace base (small_letters (take (min (length path) longest) path))
-base_place None case path rest longest le is = at_start None _ refl
-base_place (Some []) case path rest longest le is = at_start (Some []) _ refl
-base_place (Some (b ∷ bs)) case path rest longest le is =
+pub base_offset : (base : Option (List ℕ)) (case : Case) (path rest : List ℕ) (longest : ℕ) → base_len base ≤ longest →
+    rest_below base case path ≡ Some rest → IsBaseOffset base (small_letters (take (min (length path) longest) path))
+base_offset None case path rest longest le is = at_start None _ refl
+base_offset (Some []) case path rest longest le is = at_start (Some []) _ refl
+base_offset (Some (b ∷ bs)) case path rest longest le is =
     let base : List ℕ = b ∷ bs in
     elim (eqb_tells (slice_index base (length base - 1)) slash) [
       | inl last ↦ at_base b bs path case longest le (cut_short _ rest (drop (length base) path) is) last.1 (text_of base true last.0)
@@ -197,9 +197,9 @@ pub list_found : (lists : List IndexedList) (keys path found rest : List ℕ) (l
     Contains found number
 list_found lists keys path found rest longest case number list is le gathers has busy applies =
     let text = small_letters (take (min (length path) longest) path) in
-    let at = base_place (base_bytes list.list.base) case path rest longest (one_within lists number list longest has le) applies in
-    let key : list.base_key ≡ text_key (take at.place text) = list.based busy ∙ ap text_key at.same in
-    gathers at.place at.within at.ends number
+    let at = base_offset (base_bytes list.list.base) case path rest longest (one_within lists number list longest has le) applies in
+    let key : list.base_key ≡ text_key (take at.offset text) = list.based busy ∙ ap text_key at.same in
+    gathers at.offset at.within at.ends number
     (ap (λ ks. slice_get ks number) is ∙ slice_get-map (λ (l : IndexedList). l.base_key) lists number
     ∙ ap (option_map (λ (l : IndexedList). l.base_key)) has ∙ ap Some key)
 
@@ -208,17 +208,17 @@ pub count_on : (count : ℕ) (numbers : List ℕ) → CountUp count numbers → 
 count_on count numbers up =
     record {
       len = length-append numbers (count ∷ []) ∙ ap (λ n. n + 1) up.len;
-      each = λ place lt. elim (below_or place count lt) [
-        | inl less ↦ get_or_append_left numbers (count ∷ []) 0 place (omega (arith, less, up.len)) ∙ up.each place (omega (arith, less))
+      each = λ offset lt. elim (below_or offset count lt) [
+        | inl less ↦ get_or_append_left numbers (count ∷ []) 0 offset (omega (arith, less, up.len)) ∙ up.each offset (omega (arith, less))
         | inr last ↦
-            let same : place ≡ length numbers = omega (arith, last, up.len) in
+            let same : offset ≡ length numbers = omega (arith, last, up.len) in
             ap (λ p. get_or (numbers ++ count ∷ []) p 0) same ∙ get_or-append_seam numbers count [] 0 ∙ omega (arith, last)
       ];
     }
 
 -- the numbers of few lists
 none_counted : CountUp 0 []
-none_counted = record { len = refl; each = λ place lt. absurd (omega (arith, lt)) }
+none_counted = record { len = refl; each = λ offset lt. absurd (omega (arith, lt)) }
 
 pub few_counted : (n : ℕ) → n ≤ 4 → CountUp n (take n (0 ∷ 1 ∷ 2 ∷ 3 ∷ []))
 few_counted zero le = none_counted

@@ -30,7 +30,7 @@ use Rattle.attr_search.specs.declared.slot_filler.SlotFiller.{SlotFiller}
 use Rattle.attr_lists.specs.declared.types.MatchKind.{MatchKind}
 use Rattle.attr_search.specs.Matches.{is_macro_kind, cause_of}
 use Rattle.attr_search.specs.inner.Filling.{BodiesFit, KeepsFiller}
-use Rattle.attr_search.specs.inner.Pending.{item_answer, line_origin, items_beside, pending_item, IsPlaced, task_of, pending_tasks, no_item}
+use Rattle.attr_search.specs.inner.Pending.{item_answer, line_origin, items_beside, pending_item, IsInside, task_of, pending_tasks, no_item}
 
 -- a test and its denial
 free_of : (x : Bool) → true ≡ not x → x ≡ false
@@ -176,19 +176,19 @@ slots_source n line bs (Some a) h b =
     (cases_lt a (length bs))
 
 pub has_slot : (n : ℕ) (line : List TrackedAssignment) (bs : List (List TrackedAssignment)) (w : PendingItem) (item : TrackedAssignment) →
-    HaveSlots n line → BodiesHaveSlots n bs → IsPlaced line bs w → item ≡ pending_item line bs w → item.id.0 < n
-has_slot n line bs w item h b placed is = rw is (slots_source n line bs w.cause h b w.place no_item placed)
+    HaveSlots n line → BodiesHaveSlots n bs → IsInside line bs w → item ≡ pending_item line bs w → item.id.0 < n
+has_slot n line bs w item h b inside is = rw is (slots_source n line bs w.cause h b w.index no_item inside)
 
 pub named_fill : (names : List (List ℕ)) (line : List TrackedAssignment) (bs : List (List TrackedAssignment)) (top : PendingItem)
     (item : TrackedAssignment) (m : Matched) (held new : List (Option Matched)) →
-    item ≡ pending_item line bs top → IsPlaced line bs top → item.id.0 < length held → m.assignment ≡ item.inner →
+    item ≡ pending_item line bs top → IsInside line bs top → item.id.0 < length held → m.assignment ≡ item.inner →
     new ≡ set held item.id.0 (Some m) →
     AreNamed names line → BodiesAreNamed names bs → HeldAreNamed names held → HeldAreNamed names new
-named_fill names line bs top item m held new is placed lt said written h b before a =
+named_fill names line bs top item m held new is inside lt said written h b before a =
     ⊎_elim
     (λ (f : a ≡ item.id.0).
     let g = get_or-set_same held item.id.0 (Some m) None lt in
-    let named = named_source names line bs top.cause h b top.place no_item placed in
+    let named = named_source names line bs top.cause h b top.index no_item inside in
     let named' : slice_get names item.id.0 ≡ Some item.inner.name = rw is named in
     rw (written, f, g, said) named')
     (λ (ne : a ≡ item.id.0 → ⊥).
@@ -288,13 +288,13 @@ pending_tasks-push origin line bs stack w = backwards-append (λ w. task_of orig
 pub pushed_more : (origin : Origin) (line : List TrackedAssignment) (bs : List (List TrackedAssignment)) (cause : Option ℕ)
     (items : List TrackedAssignment) (k : ℕ) (i : TrackedAssignment) (slots : Slots) (before stack after : List PendingItem) →
     items_beside line bs cause ≡ items → k < length items → i ≡ get_or items k i → true ≡ not (is_some (slots i.id.0)) →
-    after ≡ stack ++ record { cause = cause; place = k } ∷ [] →
+    after ≡ stack ++ record { cause = cause; index = k } ∷ [] →
     pending_tasks origin line bs stack
     ≡ tasks_in origin cause (free_items slots (table_items (take k items))) ++ pending_tasks origin line bs before →
     pending_tasks origin line bs after
     ≡ tasks_in origin cause (free_items slots (table_items (take (k + 1) items))) ++ pending_tasks origin line bs before
 pushed_more origin line bs cause items k i slots before stack after source lt is free pushed laid =
-    let w : PendingItem = record { cause = cause; place = k } in
+    let w : PendingItem = record { cause = cause; index = k } in
     let t : Task = record { origin = origin; item = table_item i; cause = cause } in
     let here : slice_index_or (items_beside line bs cause) k no_item ≡ i =
     ap (λ (xs : List TrackedAssignment). get_or xs k no_item) source ∙ (get_or_default items k no_item i lt ∙ sym is) in
@@ -317,14 +317,14 @@ pushed_same origin line bs cause items k i slots before stack after lt is filled
     let pass = tasks_pass slots origin cause (table_items (take k items)) (table_item i) (filled_of (is_some (slots i.id.0)) filled) in
     rw (same, more, pass) laid
 
-pub placed_push : (line : List TrackedAssignment) (bs : List (List TrackedAssignment)) (cause : Option ℕ) (items : List TrackedAssignment) (k : ℕ)
+pub inside_push : (line : List TrackedAssignment) (bs : List (List TrackedAssignment)) (cause : Option ℕ) (items : List TrackedAssignment) (k : ℕ)
     (stack after : List PendingItem) →
-    items_beside line bs cause ≡ items → k < length items → after ≡ stack ++ record { cause = cause; place = k } ∷ [] →
-    All (IsPlaced line bs) stack → All (IsPlaced line bs) after
-placed_push line bs cause items k stack after source lt pushed all =
-    let w : PendingItem = record { cause = cause; place = k } in
-    let placed : IsPlaced line bs w = let e = ap length source in omega arith in
-    rw pushed (All-push (IsPlaced line bs) stack w all placed)
+    items_beside line bs cause ≡ items → k < length items → after ≡ stack ++ record { cause = cause; index = k } ∷ [] →
+    All (IsInside line bs) stack → All (IsInside line bs) after
+inside_push line bs cause items k stack after source lt pushed all =
+    let w : PendingItem = record { cause = cause; index = k } in
+    let inside : IsInside line bs w = let e = ap length source in omega arith in
+    rw pushed (All-push (IsInside line bs) stack w all inside)
 
 -- the top of a stack waits first
 pub pending_tasks-top : (origin : Origin) (line : List TrackedAssignment) (bs : List (List TrackedAssignment)) (stack rest : List PendingItem)

@@ -6,12 +6,12 @@ pub use Rattle.attr_search.proofs.SlotLemmas.{on_ok, on_err}
 pub use Rattle.attr_search.proofs.BodyLemmas.{length_sized, length_changed}
 -- any flags are among as many that are all set
 pub use Rattle.attr_search.proofs.OpenLemmas.{all_among}
--- in a set of numbers, a number is not at another's place
+-- in a set of numbers, a number is not at another's index
 pub use Rattle.attr_search.proofs.WantedLemmas.{at_other}
 -- a number below the next one is below a bound, or is the bound
 pub use Rattle.attr_search.proofs.KeyedLemmas.{below_or}
--- the patterns of a list are those of its lines, and the line at a place is that of the mapping there
-pub use Rattle.attr_search.proofs.PlacedLemmas.{lines_patterns, entry_is}
+-- the patterns of a list are those of its lines, and the line at an index is that of the mapping there
+pub use Rattle.attr_search.proofs.EntryAtLemmas.{lines_patterns, entry_is}
 -- of lines that define macros none is tried
 pub use Rattle.attr_search.proofs.TryingLemmas.{idle_tried}
 -- lists compare one by one as what is compared of each

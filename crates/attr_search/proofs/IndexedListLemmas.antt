@@ -21,7 +21,7 @@ use Rattle.attr_search.specs.ListView.{list_view}
 use Rattle.attr_glob.specs.declared.search.pattern.indexed_line.IndexedLine.{IndexedLine}
 use Rattle.attr_glob.specs.Indexed.{NumberedPattern, indexed_line, indexed_lines, listed_lines}
 use Rattle.attr_glob.proofs.ForCallers.{lines_length}
-use Rattle.attr_search.specs.inner.PlacedLines.{entry_at, no_entry}
+use Rattle.attr_search.specs.inner.EntryAt.{entry_at, no_entry}
 use Rattle.attr_search.specs.shared.ReadLines.{IsRead, AreRead}
 
 -- the patterns of a list, as its lines have them
@@ -47,17 +47,17 @@ numbered-entries names [] = refl
 numbered-entries names (e ∷ es) = ap (λ r. numbered_pattern e ∷ r) (numbered-entries names es)
 
 -- the pattern of the line with an index is that of the line of the list there
-pub entry_pattern : (lines : List IndexedLine) (ms : List (Mapping Value)) (place : ℕ) (line : IndexedLine) →
-    indexed_lines lines ≡ listed_lines ms → place < length ms → line ≡ get_or lines place line →
-    (entry_at (entries_view ms) place).pattern ≡ pattern_view line.pattern
-entry_pattern lines ms place line e lt is =
+pub entry_pattern : (lines : List IndexedLine) (ms : List (Mapping Value)) (index : ℕ) (line : IndexedLine) →
+    indexed_lines lines ≡ listed_lines ms → index < length ms → line ≡ get_or lines index line →
+    (entry_at (entries_view ms) index).pattern ≡ pattern_view line.pattern
+entry_pattern lines ms index line e lt is =
     let same = lines_length lines ms e in
     let n = length-map ms entry_view in
     let d = indexed_line line in
     ap (λ (x : NumberedPattern). x.pattern)
-    (sym (get_or-map numbered_pattern (entries_view ms) place no_entry d (omega (arith, n, lt)))
-    ∙ (ap (λ ns. get_or ns place d) (sym (e ∙ lines-entries ms))
-    ∙ (get_or-map indexed_line lines place line d (omega (arith, same, lt)) ∙ ap indexed_line (sym is))))
+    (sym (get_or-map numbered_pattern (entries_view ms) index no_entry d (omega (arith, n, lt)))
+    ∙ (ap (λ ns. get_or ns index d) (sym (e ∙ lines-entries ms))
+    ∙ (get_or-map indexed_line lines index line d (omega (arith, same, lt)) ∙ ap indexed_line (sym is))))
 
 -- lists that have the same lines
 pub same_lines : (before after : List (Mapping Value)) → entries_view after ≡ entries_view before → listed_lines after ≡ listed_lines before

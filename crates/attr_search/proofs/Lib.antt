@@ -2,7 +2,7 @@ pub mod CompareLemmas
 pub mod IndexedListLemmas
 pub mod DirectoryLemmas
 pub mod KeyedLemmas
-pub mod PlacedLemmas
+pub mod EntryAtLemmas
 pub mod TryingLemmas
 pub mod PartLemmas
 pub mod SlotLemmas

@@ -8,7 +8,7 @@ use Rattle.std.proofs.lemmas.List.{length-map, append-nil, get_or-map, take_more
 use Rattle.std.proofs.lemmas.Grind.{flat_map-append}
 use Rattle.attr_wildmatch.specs.declared.case.Case.{Case}
 use Rattle.attr_glob.specs.declared.search.pattern.Mapping.{Mapping}
-use Rattle.attr_glob.specs.Candidates.{places_where}
+use Rattle.attr_glob.specs.Candidates.{indexes_where}
 use Rattle.attr_glob.specs.Paths.{path_matches}
 use Rattle.attr_wildmatch.proofs.ForCallers.{by_test}
 use Rattle.attr_lists.specs.declared.types.Value.{Value}
@@ -24,8 +24,8 @@ use Rattle.attr_glob.specs.Views.{pattern_view}
 use Rattle.attr_glob.specs.declared.search.pattern.indexed_line.IndexedLine.{IndexedLine}
 use Rattle.attr_glob.specs.declared.search.pattern.index.Index.{Index}
 use Rattle.attr_glob.specs.Indexed.{NumberedPattern, indexed_line, indexed_lines, listed_lines}
-use Rattle.attr_search.specs.inner.PlacedLines.{no_entry, entry_at}
-use Rattle.attr_search.proofs.PlacedLemmas.{entry_is}
+use Rattle.attr_search.specs.inner.EntryAt.{no_entry, entry_at}
+use Rattle.attr_search.proofs.EntryAtLemmas.{entry_is}
 use Rattle.attr_search.specs.Slots.{table_items}
 use Rattle.attr_search.specs.shared.Slotted.{indexed_origin, no_origin, index_origin, origin_of}
 use Rattle.attr_search.specs.shared.SlotContents.{wanted_numbers}
@@ -43,11 +43,11 @@ not_given bodies wanted case is_dir source rest entry slots taken none = rw none
 
 -- a line that defines a macro, and one that does not match
 pub line_defines : (bodies : List (List Item)) (wanted : List ℕ) (case : Case) (is_dir : Option Bool) (source : Option (List ℕ)) (rest : List ℕ)
-    (ms : List (Mapping Value)) (place : ℕ) (m : Mapping Value) (slots : Slots) (taken : ℕ) →
-    place < length ms → m ≡ get_or ms place m → is_none (macro_id m.value) ≡ false →
-    Searches bodies wanted (entry_tasks case is_dir source rest (entry_at (entries_view ms) place)) slots slots taken taken
-line_defines bodies wanted case is_dir source rest ms place m slots taken lt is defines =
-    rw (entry_is ms place m lt is)
+    (ms : List (Mapping Value)) (index : ℕ) (m : Mapping Value) (slots : Slots) (taken : ℕ) →
+    index < length ms → m ≡ get_or ms index m → is_none (macro_id m.value) ≡ false →
+    Searches bodies wanted (entry_tasks case is_dir source rest (entry_at (entries_view ms) index)) slots slots taken taken
+line_defines bodies wanted case is_dir source rest ms index m slots taken lt is defines =
+    rw (entry_is ms index m lt is)
     (not_given bodies wanted case is_dir source rest (entry_view m) slots taken
     (ap (λ (b : Bool). b && path_matches case (entry_view m).pattern rest is_dir) defines))
 
@@ -56,12 +56,12 @@ no_both true b e = e
 no_both false b e = refl
 
 pub line_differs : (bodies : List (List Item)) (wanted : List ℕ) (case : Case) (is_dir : Option Bool) (source : Option (List ℕ)) (rest : List ℕ)
-    (lines : List Entry) (place : ℕ) (slots : Slots) (taken : ℕ) (answer : Bool) →
-    answer ≡ path_matches case (entry_at lines place).pattern rest is_dir → answer ≡ false →
-    Searches bodies wanted (entry_tasks case is_dir source rest (entry_at lines place)) slots slots taken taken
-line_differs bodies wanted case is_dir source rest lines place slots taken answer told other =
-    not_given bodies wanted case is_dir source rest (entry_at lines place) slots taken
-    (no_both (is_none (entry_at lines place).macro) (path_matches case (entry_at lines place).pattern rest is_dir) (sym told ∙ other))
+    (lines : List Entry) (index : ℕ) (slots : Slots) (taken : ℕ) (answer : Bool) →
+    answer ≡ path_matches case (entry_at lines index).pattern rest is_dir → answer ≡ false →
+    Searches bodies wanted (entry_tasks case is_dir source rest (entry_at lines index)) slots slots taken taken
+line_differs bodies wanted case is_dir source rest lines index slots taken answer told other =
+    not_given bodies wanted case is_dir source rest (entry_at lines index) slots taken
+    (no_both (is_none (entry_at lines index).macro) (path_matches case (entry_at lines index).pattern rest is_dir) (sym told ∙ other))
 
 -- a line without a free item
 none_free : (slots : Slots) (items : List TrackedAssignment) → list_any (λ i. is_none (slots i.id.0)) items ≡ false →
@@ -73,37 +73,37 @@ none_free slots (i ∷ items) e =
     rw first (none_free slots items parts.1)
 
 pub line_filled : (bodies : List (List Item)) (wanted : List ℕ) (case : Case) (is_dir : Option Bool) (source : Option (List ℕ)) (rest : List ℕ)
-    (ms : List (Mapping Value)) (place : ℕ) (m : Mapping Value) (items : List TrackedAssignment) (slots : Slots) (taken : ℕ) →
-    place < length ms → m ≡ get_or ms place m → items ≡ items_in m.value →
+    (ms : List (Mapping Value)) (index : ℕ) (m : Mapping Value) (items : List TrackedAssignment) (slots : Slots) (taken : ℕ) →
+    index < length ms → m ≡ get_or ms index m → items ≡ items_in m.value →
     false ≡ list_any (λ i. is_none (slots i.id.0)) items →
-    Searches bodies wanted (entry_tasks case is_dir source rest (entry_at (entries_view ms) place)) slots slots taken taken
-line_filled bodies wanted case is_dir source rest ms place m items slots taken lt is given none =
-    rw (entry_is ms place m lt is)
+    Searches bodies wanted (entry_tasks case is_dir source rest (entry_at (entries_view ms) index)) slots slots taken taken
+line_filled bodies wanted case is_dir source rest ms index m items slots taken lt is given none =
+    rw (entry_is ms index m lt is)
     (by_test (gives case is_dir (Some rest) (entry_view m))
     (λ t. rw t (row_filled bodies wanted (origin_in source (entry_view m)) None (table_items (items_in m.value)) slots taken
     (none_free slots (items_in m.value) (rw given at (sym none)))))
     (λ f. not_given bodies wanted case is_dir source rest (entry_view m) slots taken f))
 
 -- a line with a free item is no line without one
-pub some_free : (ms : List (Mapping Value)) (place : ℕ) (m : Mapping Value) (items : List TrackedAssignment) (slots : Slots) →
-    place < length ms → m ≡ get_or ms place m → items ≡ items_in m.value →
+pub some_free : (ms : List (Mapping Value)) (index : ℕ) (m : Mapping Value) (items : List TrackedAssignment) (slots : Slots) →
+    index < length ms → m ≡ get_or ms index m → items ≡ items_in m.value →
     true ≡ list_any (λ i. is_none (slots i.id.0)) items →
-    list_any (λ i. is_none (slots i.id.0)) (entry_at (entries_view ms) place).items ≡ false → ⊥
-some_free ms place m items slots lt is given some none =
+    list_any (λ i. is_none (slots i.id.0)) (entry_at (entries_view ms) index).items ≡ false → ⊥
+some_free ms index m items slots lt is given some none =
     let p : TrackedAssignment → Bool = λ i. is_none (slots i.id.0) in
     let e : true ≡ false =
-    some ∙ (ap (list_any p) (given ∙ sym (ap (λ (x : Entry). x.items) (entry_is ms place m lt is))) ∙ none) in
+    some ∙ (ap (list_any p) (given ∙ sym (ap (λ (x : Entry). x.items) (entry_is ms index m lt is))) ∙ none) in
     absurd (cc)
 
 -- a line that matches
 pub line_matched : (bodies : List (List Item)) (wanted : List ℕ) (case : Case) (is_dir : Option Bool) (source : Option (List ℕ)) (rest : List ℕ)
-    (ms : List (Mapping Value)) (place : ℕ) (m : Mapping Value) (items : List TrackedAssignment) (before after : Slots) (a b : ℕ) (answer : Bool)
-    (origin : Origin) → place < length ms → m ≡ get_or ms place m → items ≡ items_in m.value → macro_id m.value ≡ None →
-    answer ≡ path_matches case (entry_at (entries_view ms) place).pattern rest is_dir → answer ≡ true → origin ≡ origin_of source m →
+    (ms : List (Mapping Value)) (index : ℕ) (m : Mapping Value) (items : List TrackedAssignment) (before after : Slots) (a b : ℕ) (answer : Bool)
+    (origin : Origin) → index < length ms → m ≡ get_or ms index m → items ≡ items_in m.value → macro_id m.value ≡ None →
+    answer ≡ path_matches case (entry_at (entries_view ms) index).pattern rest is_dir → answer ≡ true → origin ≡ origin_of source m →
     Searches bodies wanted (tasks_in origin None (table_items items)) before after a b →
-    Searches bodies wanted (entry_tasks case is_dir source rest (entry_at (entries_view ms) place)) before after a b
-line_matched bodies wanted case is_dir source rest ms place m items before after a b answer origin lt is given plain told same there p =
-    let e = entry_is ms place m lt is in
+    Searches bodies wanted (entry_tasks case is_dir source rest (entry_at (entries_view ms) index)) before after a b
+line_matched bodies wanted case is_dir source rest ms index m items before after a b answer origin lt is given plain told same there p =
+    let e = entry_is ms index m lt is in
     let match : path_matches case (entry_view m).pattern rest is_dir ≡ true =
     ap (λ (x : Entry). path_matches case x.pattern rest is_dir) (sym e) ∙ (sym told ∙ same) in
     let gives_it : gives case is_dir (Some rest) (entry_view m) ≡ true =
@@ -115,73 +115,73 @@ map_map : {X Y Z : Type 0} (g : Y → Z) (f : X → Y) (xs : List X) → map g (
 map_map g f [] = refl
 map_map g f (x ∷ xs) = ap (λ l. g (f x) ∷ l) (map_map g f xs)
 
-placed_origin : Option (List ℕ) → NumberedPattern → Origin
-placed_origin source n =
+numbered_origin : Option (List ℕ) → NumberedPattern → Origin
+numbered_origin source n =
     record { text = n.pattern.text; mode = n.pattern.mode; wildcard = n.pattern.wildcard; source = source; line = n.number }
 
 indexed_origins : (source : Option (List ℕ)) (lines : List IndexedLine) → map (indexed_origin source) lines
-    ≡ map (placed_origin source) (indexed_lines lines)
-unfolding placed_origin
-indexed_origins source lines = sym (map_map (placed_origin source) indexed_line lines)
+    ≡ map (numbered_origin source) (indexed_lines lines)
+unfolding numbered_origin
+indexed_origins source lines = sym (map_map (numbered_origin source) indexed_line lines)
 
-listed_origins : (source : Option (List ℕ)) (ms : List (Mapping Value)) → map (placed_origin source) (listed_lines ms) ≡ map (origin_of source) ms
-unfolding placed_origin
+listed_origins : (source : Option (List ℕ)) (ms : List (Mapping Value)) → map (numbered_origin source) (listed_lines ms) ≡ map (origin_of source) ms
+unfolding numbered_origin
 listed_origins source ms =
-    map_map (placed_origin source) (λ (m : Mapping Value). record { pattern = pattern_view m.pattern; number = m.sequence_number }) ms
+    map_map (numbered_origin source) (λ (m : Mapping Value). record { pattern = pattern_view m.pattern; number = m.sequence_number }) ms
 
-pub origin_is : (index : Index) (source : Option (List ℕ)) (ms : List (Mapping Value)) (place : ℕ) (m : Mapping Value) →
-    indexed_lines index.lines.items ≡ listed_lines ms → option_map string_bytes index.source ≡ source → place < length ms → m ≡ get_or ms place m →
-    index_origin index place ≡ origin_of source m
-origin_is index source ms place m lines e lt is =
-    ap (λ s. get_or (map (indexed_origin s) index.lines.items) place no_origin) e
-    ∙ ap (λ os. get_or os place no_origin) (indexed_origins source index.lines.items)
-    ∙ ap (λ ns. get_or (map (placed_origin source) ns) place no_origin) lines
-    ∙ ap (λ os. get_or os place no_origin) (listed_origins source ms)
-    ∙ get_or-map (origin_of source) ms place m no_origin lt
+pub origin_is : (known : Index) (source : Option (List ℕ)) (ms : List (Mapping Value)) (index : ℕ) (m : Mapping Value) →
+    indexed_lines known.lines.items ≡ listed_lines ms → option_map string_bytes known.source ≡ source → index < length ms → m ≡ get_or ms index m →
+    index_origin known index ≡ origin_of source m
+origin_is known source ms index m lines e lt is =
+    ap (λ s. get_or (map (indexed_origin s) known.lines.items) index no_origin) e
+    ∙ ap (λ os. get_or os index no_origin) (indexed_origins source known.lines.items)
+    ∙ ap (λ ns. get_or (map (numbered_origin source) ns) index no_origin) lines
+    ∙ ap (λ os. get_or os index no_origin) (listed_origins source ms)
+    ∙ get_or-map (origin_of source) ms index m no_origin lt
     ∙ ap (origin_of source) (sym is)
 
--- what is known of the line at a place
-pub slots_at : (n : ℕ) (ms : List (Mapping Value)) (place : ℕ) (m : Mapping Value) (items : List TrackedAssignment) →
-    place < length ms → m ≡ get_or ms place m → items ≡ items_in m.value → LinesHaveSlots n (entries_view ms) → HaveSlots n items
-slots_at n ms place m items lt is given all =
+-- what is known of the line at an index
+pub slots_at : (n : ℕ) (ms : List (Mapping Value)) (index : ℕ) (m : Mapping Value) (items : List TrackedAssignment) →
+    index < length ms → m ≡ get_or ms index m → items ≡ items_in m.value → LinesHaveSlots n (entries_view ms) → HaveSlots n items
+slots_at n ms index m items lt is given all =
     let long = length-map ms entry_view in
-    let here : HaveSlots n (entry_at (entries_view ms) place).items = all place no_entry (omega arith) in
-    rw given (rw (entry_is ms place m lt is) at here)
+    let here : HaveSlots n (entry_at (entries_view ms) index).items = all index no_entry (omega arith) in
+    rw given (rw (entry_is ms index m lt is) at here)
 
-pub named_at : (names : List (List ℕ)) (ms : List (Mapping Value)) (place : ℕ) (m : Mapping Value) (items : List TrackedAssignment) →
-    place < length ms → m ≡ get_or ms place m → items ≡ items_in m.value → LinesAreNamed names (entries_view ms) → AreNamed names items
-named_at names ms place m items lt is given all =
+pub named_at : (names : List (List ℕ)) (ms : List (Mapping Value)) (index : ℕ) (m : Mapping Value) (items : List TrackedAssignment) →
+    index < length ms → m ≡ get_or ms index m → items ≡ items_in m.value → LinesAreNamed names (entries_view ms) → AreNamed names items
+named_at names ms index m items lt is given all =
     let long = length-map ms entry_view in
-    let here : AreNamed names (entry_at (entries_view ms) place).items = all place no_entry (omega arith) in
-    rw given (rw (entry_is ms place m lt is) at here)
+    let here : AreNamed names (entry_at (entries_view ms) index).items = all index no_entry (omega arith) in
+    rw given (rw (entry_is ms index m lt is) at here)
 
--- places that are gone through: one more, and what is left where the search is done
-pub places_more : (bodies : List (List Item)) (wanted wanted' : List Bool) (f : ℕ → List Task) (places_where places' : List ℕ) (k place : ℕ)
+-- indexes that are gone through: one more, and what is left where the search is done
+pub indexes_more : (bodies : List (List Item)) (wanted wanted' : List Bool) (f : ℕ → List Task) (indexes_where indexes' : List ℕ) (k index : ℕ)
     (first second third : Slots) (a b c : ℕ) →
-    wanted' ≡ wanted → places' ≡ places_where → k < length places_where → place ≡ get_or places' k place →
-    Searches bodies (wanted_numbers wanted) (flat_map f (take k places_where)) first second a b →
-    Searches bodies (wanted_numbers wanted') (f place) second third b c →
-    Searches bodies (wanted_numbers wanted) (flat_map f (take (k + 1) places_where)) first third a c
-places_more bodies wanted wanted' f places_where places' k place first second third a b c same kept lt is p q =
-    let here : place ≡ get_or places_where k place = is ∙ ap (λ (xs : List ℕ). get_or xs k place) kept in
-    let more : flat_map f (take (k + 1) places_where) ≡ flat_map f (take k places_where) ++ f place =
-    ap (flat_map f) (take_more places_where k place lt)
-    ∙ (flat_map-append f (take k places_where) (get_or places_where k place ∷ [])
-    ∙ (ap (λ (ts : List Task). flat_map f (take k places_where) ++ ts) (append-nil (f (get_or places_where k place)))
-    ∙ ap (λ (x : ℕ). flat_map f (take k places_where) ++ f x) (sym here))) in
-    let q' = subst (λ (w : List Bool). Searches bodies (wanted_numbers w) (f place) second third b c) same q in
+    wanted' ≡ wanted → indexes' ≡ indexes_where → k < length indexes_where → index ≡ get_or indexes' k index →
+    Searches bodies (wanted_numbers wanted) (flat_map f (take k indexes_where)) first second a b →
+    Searches bodies (wanted_numbers wanted') (f index) second third b c →
+    Searches bodies (wanted_numbers wanted) (flat_map f (take (k + 1) indexes_where)) first third a c
+indexes_more bodies wanted wanted' f indexes_where indexes' k index first second third a b c same kept lt is p q =
+    let here : index ≡ get_or indexes_where k index = is ∙ ap (λ (xs : List ℕ). get_or xs k index) kept in
+    let more : flat_map f (take (k + 1) indexes_where) ≡ flat_map f (take k indexes_where) ++ f index =
+    ap (flat_map f) (take_more indexes_where k index lt)
+    ∙ (flat_map-append f (take k indexes_where) (get_or indexes_where k index ∷ [])
+    ∙ (ap (λ (ts : List Task). flat_map f (take k indexes_where) ++ ts) (append-nil (f (get_or indexes_where k index)))
+    ∙ ap (λ (x : ℕ). flat_map f (take k indexes_where) ++ f x) (sym here))) in
+    let q' = subst (λ (w : List Bool). Searches bodies (wanted_numbers w) (f index) second third b c) same q in
     subst (λ (ts : List Task). Searches bodies (wanted_numbers wanted) ts first third a c) (sym more)
-    (then_searches bodies (wanted_numbers wanted) (flat_map f (take k places_where)) (f place) first second third a b c p q')
+    (then_searches bodies (wanted_numbers wanted) (flat_map f (take k indexes_where)) (f index) first second third a b c p q')
 
-pub places_stopped : (bodies : List (List Item)) (wanted wanted' : List Bool) (f : ℕ → List Task) (places_where : List ℕ) (k : ℕ)
+pub indexes_stopped : (bodies : List (List Item)) (wanted wanted' : List Bool) (f : ℕ → List Task) (indexes_where : List ℕ) (k : ℕ)
     (first second : Slots) (a b : ℕ) →
     wanted' ≡ wanted → is_done (wanted_numbers wanted') second ≡ true →
-    Searches bodies (wanted_numbers wanted) (flat_map f (take k places_where)) first second a b →
-    Searches bodies (wanted_numbers wanted) (flat_map f places_where) first second a b
-places_stopped bodies wanted wanted' f places_where k first second a b same done p =
-    let whole : flat_map f places_where ≡ flat_map f (take k places_where) ++ flat_map f (drop k places_where) =
-    ap (flat_map f) (sym (take-append-drop k places_where)) ∙ flat_map-append f (take k places_where) (drop k places_where) in
+    Searches bodies (wanted_numbers wanted) (flat_map f (take k indexes_where)) first second a b →
+    Searches bodies (wanted_numbers wanted) (flat_map f indexes_where) first second a b
+indexes_stopped bodies wanted wanted' f indexes_where k first second a b same done p =
+    let whole : flat_map f indexes_where ≡ flat_map f (take k indexes_where) ++ flat_map f (drop k indexes_where) =
+    ap (flat_map f) (sym (take-append-drop k indexes_where)) ∙ flat_map-append f (take k indexes_where) (drop k indexes_where) in
     let done' = subst (λ (w : List Bool). is_done (wanted_numbers w) second ≡ true) same done in
     subst (λ (ts : List Task). Searches bodies (wanted_numbers wanted) ts first second a b) (sym whole)
-    (then_searches bodies (wanted_numbers wanted) (flat_map f (take k places_where)) (flat_map f (drop k places_where)) first second second a b b p
-    (done_taken bodies (wanted_numbers wanted) (flat_map f (drop k places_where)) second b done'))
+    (then_searches bodies (wanted_numbers wanted) (flat_map f (take k indexes_where)) (flat_map f (drop k indexes_where)) first second second a b b p
+    (done_taken bodies (wanted_numbers wanted) (flat_map f (drop k indexes_where)) second b done'))

@@ -81,7 +81,7 @@ count_more {X} f g xs k x l m n pos le is before here =
     ap (λ (ys : List X). sum_by f (map g ys)) more ∙ sum_by-cons f (g x) (map g (drop k xs)) in
     omega (arith, before, here, e)
 
--- what is known of the list at a place
+-- what is known of the list at an index
 pub list_slots : (n m : ℕ) (lists : List IndexedList) (k : ℕ) (s : IndexedList) → m ≡ n → k < length lists → s ≡ get_or lists k s →
     ListsHaveSlots n (lists_view lists) → LinesHaveSlots m (listed_view s).lines
 list_slots n m lists k s same lt is all =

@@ -19,66 +19,66 @@ is_some_map : {X Y : Type 0} (f : X → Y) (o : Option X) → is_some (option_ma
 is_some_map f None = refl
 is_some_map f (Some x) = refl
 
--- no number from this place on is n
+-- no number from this index on is n
 abbrev pub IsPast : List ℕ → ℕ → ℕ → Type 0
-IsPast numbers place n = (j d : ℕ) → place ≤ j → j < length numbers → get_or numbers j d ≢ n
+IsPast numbers index n = (j d : ℕ) → index ≤ j → j < length numbers → get_or numbers j d ≢ n
 
 -- from a number on, a slot is free if its number isn't left
 abbrev pub AreFreeButLeft : {X : Type 0} → List (Option X) → List ℕ → ℕ → ℕ → Type 0
-AreFreeButLeft slots numbers from place = (n : ℕ) → from ≤ n → IsPast numbers place n → get_or slots n None ≡ None
+AreFreeButLeft slots numbers from index = (n : ℕ) → from ≤ n → IsPast numbers index n → get_or slots n None ≡ None
 
--- at first, if the numbers before the place are below
-pub free_first : {X : Type 0} (slots : List (Option X)) (numbers : List ℕ) (from place : ℕ) → AreListed slots numbers →
-    ((j d : ℕ) → j < place → j < length numbers → get_or numbers j d < from) → AreFreeButLeft slots numbers from place
-free_first slots numbers from place listed below = λ n le past.
+-- at first, if the numbers before the index are below
+pub free_first : {X : Type 0} (slots : List (Option X)) (numbers : List ℕ) (from index : ℕ) → AreListed slots numbers →
+    ((j d : ℕ) → j < index → j < length numbers → get_or numbers j d < from) → AreFreeButLeft slots numbers from index
+free_first slots numbers from index listed below = λ n le past.
     listed.others n (list_any_none (nat_eq n) numbers (λ j d lt.
     other n (get_or numbers j d)
     (λ e. ⊎_elim
-    (λ (early : j < place). let lower = below j d early lt in absurd (omega (arith, lower, e, le)))
-    (λ (late : place ≤ j). past j d late lt e)
-    (cases_lt j place))))
+    (λ (early : j < index). let lower = below j d early lt in absurd (omega (arith, lower, e, le)))
+    (λ (late : index ≤ j). past j d late lt e)
+    (cases_lt j index))))
   where
     other : (n m : ℕ) → m ≢ n → nat_eq n m ≡ false
     other n m apart = grind (arith, nat_tests)
 
 -- one more slot is free
-pub free_more : {X : Type 0} (slots : List (Option X)) (numbers : List ℕ) (from place number : ℕ) → ((d : ℕ) → get_or numbers place d ≡ number) →
-    get_or slots number None ≡ None → AreFreeButLeft slots numbers from place → AreFreeButLeft slots numbers from (place + 1)
-free_more slots numbers from place number at free so_far = λ n le past.
+pub free_more : {X : Type 0} (slots : List (Option X)) (numbers : List ℕ) (from index number : ℕ) → ((d : ℕ) → get_or numbers index d ≡ number) →
+    get_or slots number None ≡ None → AreFreeButLeft slots numbers from index → AreFreeButLeft slots numbers from (index + 1)
+free_more slots numbers from index number at free so_far = λ n le past.
     ⊎_elim
     (λ (here : n ≡ number). ap (λ i. get_or slots i None) here ∙ free)
     (λ (apart : n ≢ number). so_far n le (λ j d ge lt e.
     ⊎_elim
-    (λ (same : j ≡ place). apart (sym (sym (at d) ∙ ap (λ i. get_or numbers i d) (sym same) ∙ e)))
-    (λ (later : j ≢ place). past j d (after j ge later) lt e)
-    (cases_eq j place)))
+    (λ (same : j ≡ index). apart (sym (sym (at d) ∙ ap (λ i. get_or numbers i d) (sym same) ∙ e)))
+    (λ (later : j ≢ index). past j d (after j ge later) lt e)
+    (cases_eq j index)))
     (cases_eq n number)
   where
-    after : (j : ℕ) → place ≤ j → j ≢ place → place + 1 ≤ j
-    after j ge apart = ⊎_elim (λ (lt : place < j). omega (arith, lt)) (λ (le : j ≤ place). absurd (apart (omega (arith, ge, le)))) (cases_lt place j)
+    after : (j : ℕ) → index ≤ j → j ≢ index → index + 1 ≤ j
+    after j ge apart = ⊎_elim (λ (lt : index < j). omega (arith, lt)) (λ (le : j ≤ index). absurd (apart (omega (arith, ge, le)))) (cases_lt index j)
 
 -- up to the number that is next in the order, slots are free
-pub free_up_to : {X : Type 0} (slots : List (Option X)) (numbers : List ℕ) (from place number : ℕ) → IsNonDecreasing numbers →
-    place < length numbers → ((d : ℕ) → get_or numbers place d ≡ number) → AreFreeButLeft slots numbers from place →
+pub free_up_to : {X : Type 0} (slots : List (Option X)) (numbers : List ℕ) (from index number : ℕ) → IsNonDecreasing numbers →
+    index < length numbers → ((d : ℕ) → get_or numbers index d ≡ number) → AreFreeButLeft slots numbers from index →
     (k : ℕ) → from ≤ k → k < number → get_or slots k None ≡ None
-free_up_to slots numbers from place number rising within at so_far = λ k ge lt. so_far k ge (λ j d later below e.
-    let rises = rising place j d later below in
+free_up_to slots numbers from index number rising within at so_far = λ k ge lt. so_far k ge (λ j d later below e.
+    let rises = rising index j d later below in
     absurd (omega (arith, rises, ap (λ i. i) (at d), e, lt)))
 
 -- this one is filled
-pub next_is : {X : Type 0} (slots : List (Option X)) (numbers : List ℕ) (from place number : ℕ) → IsNonDecreasing numbers →
-    place < length numbers → ((d : ℕ) → get_or numbers place d ≡ number) → from ≤ number → is_some (get_or slots number None) ≡ true →
-    AreFreeButLeft slots numbers from place → IsNextFilled slots from number
-next_is slots numbers from place number rising within at le filled so_far = record {
+pub next_is : {X : Type 0} (slots : List (Option X)) (numbers : List ℕ) (from index number : ℕ) → IsNonDecreasing numbers →
+    index < length numbers → ((d : ℕ) → get_or numbers index d ≡ number) → from ≤ number → is_some (get_or slots number None) ≡ true →
+    AreFreeButLeft slots numbers from index → IsNextFilled slots from number
+next_is slots numbers from index number rising within at le filled so_far = record {
   reached = le;
   filled = filled;
-  free = free_up_to slots numbers from place number rising within at so_far;
+  free = free_up_to slots numbers from index number rising within at so_far;
 }
 
 -- none is left
-pub none_left : {X : Type 0} (slots : List (Option X)) (numbers : List ℕ) (from place : ℕ) → length numbers ≤ place →
-    AreFreeButLeft slots numbers from place → AreFreeFrom slots from
-none_left slots numbers from place past so_far = λ n le. so_far n le (λ j d ge lt e. absurd (omega (arith, past, ge, lt)))
+pub none_left : {X : Type 0} (slots : List (Option X)) (numbers : List ℕ) (from index : ℕ) → length numbers ≤ index →
+    AreFreeButLeft slots numbers from index → AreFreeFrom slots from
+none_left slots numbers from index past so_far = λ n le. so_far n le (λ j d ge lt e. absurd (omega (arith, past, ge, lt)))
 
 -- slots are seen as free and filled where they are so
 pub seen_free : {X Y : Type 0} (f : X → Y) (slots : List (Option X)) (from : ℕ) → AreFreeFrom slots from →
@@ -116,14 +116,14 @@ listed_permuted slots numbers sorted same listed = record {
 }
 
 -- from a later number on, a slot is free if its number isn't left but for this one, which is before
-pub free_on : {X : Type 0} (slots : List (Option X)) (numbers : List ℕ) (from after place number : ℕ) → ((d : ℕ) → get_or numbers place d ≡ number) →
-    from ≤ after → number < after → AreFreeButLeft slots numbers from place → AreFreeButLeft slots numbers after (place + 1)
-free_on slots numbers from after place number at le lt so_far = λ n ge past.
+pub free_on : {X : Type 0} (slots : List (Option X)) (numbers : List ℕ) (from after index number : ℕ) → ((d : ℕ) → get_or numbers index d ≡ number) →
+    from ≤ after → number < after → AreFreeButLeft slots numbers from index → AreFreeButLeft slots numbers after (index + 1)
+free_on slots numbers from after index number at le lt so_far = λ n ge past.
     so_far n (omega (arith, le, ge)) (λ j d later below e.
     ⊎_elim
-    (λ (same : j ≡ place). let here : number ≡ n = sym (at d) ∙ ap (λ i. get_or numbers i d) (sym same) ∙ e in absurd (omega (arith, here, lt, ge)))
-    (λ (apart : j ≢ place). past j d (next j later apart) below e)
-    (cases_eq j place))
+    (λ (same : j ≡ index). let here : number ≡ n = sym (at d) ∙ ap (λ i. get_or numbers i d) (sym same) ∙ e in absurd (omega (arith, here, lt, ge)))
+    (λ (apart : j ≢ index). past j d (next j later apart) below e)
+    (cases_eq j index))
   where
-    next : (j : ℕ) → place ≤ j → j ≢ place → place + 1 ≤ j
-    next j ge apart = ⊎_elim (λ (lt : place < j). omega (arith, lt)) (λ (le : j ≤ place). absurd (apart (omega (arith, ge, le)))) (cases_lt place j)
+    next : (j : ℕ) → index ≤ j → j ≢ index → index + 1 ≤ j
+    next j ge apart = ⊎_elim (λ (lt : index < j). omega (arith, lt)) (λ (le : j ≤ index). absurd (apart (omega (arith, ge, le)))) (cases_lt index j)

@@ -14,15 +14,15 @@ grows_same xs = ([], sym (append-nil xs))
 pub grows_pushed : {T V : Type 0} (view : T → V) (xs ys : List T) (y : T) → ys ≡ xs ++ y ∷ [] → Grows (map view xs) (map view ys)
 grows_pushed view xs ys y e = (view y ∷ [], ap (map view) e ∙ map-append view xs (y ∷ []))
 
-pub found_pushed : {T V : Type 0} (view : T → V) (xs ys : List T) (y : T) (place : ℕ) → place ≡ length xs → ys ≡ xs ++ y ∷ [] →
-    slice_get (map view ys) place ≡ Some (view y)
-found_pushed view xs ys y place at e =
+pub found_pushed : {T V : Type 0} (view : T → V) (xs ys : List T) (y : T) (index : ℕ) → index ≡ length xs → ys ≡ xs ++ y ∷ [] →
+    slice_get (map view ys) index ≡ Some (view y)
+found_pushed view xs ys y index at e =
     rw (at, e) (slice_get-map view (xs ++ y ∷ []) (length xs) ∙ ap (option_map view)
     (slice_get-get_or (xs ++ y ∷ []) (length xs) y (omega (arith, length-append xs (y ∷ []))) ∙ ap Some (get_or-append_seam xs y [] y)))
 
 pub grows_length : {X : Type 0} (xs ys : List X) → Grows xs ys → length xs ≤ length ys
 grows_length xs ys g = omega (arith, ap length g.1, length-append xs g.0)
 
--- what stood at a place stands there
+-- what stood at an index stands there
 pub grows_at : {X : Type 0} (xs ys : List X) (i : ℕ) (d : X) → Grows xs ys → i < length xs → get_or ys i d ≡ get_or xs i d
 grows_at xs ys i d g lt = ap (λ l. get_or l i d) g.1 ∙ get_or_append_left xs g.0 d i lt

@@ -6,7 +6,7 @@ use Rattle.std.proofs.lemmas.List.Concat.{flat_map_single}
 use Rattle.attr_wildmatch.specs.declared.case.Case.{Case}
 use Rattle.attr_glob.specs.declared.search.pattern.Mapping.{Mapping}
 use Rattle.attr_glob.specs.Bases.{rest_below}
-use Rattle.attr_glob.specs.Candidates.{places_where}
+use Rattle.attr_glob.specs.Candidates.{indexes_where}
 use Rattle.attr_glob.specs.Views.{patterns_of}
 use Rattle.attr_wildmatch.proofs.ForCallers.{by_test}
 use Rattle.attr_lists.specs.declared.types.Value.{Value}
@@ -18,9 +18,9 @@ use Rattle.attr_table.specs.shared.Walk.{Task, Walks, ends, stops, Searches, bac
 use Rattle.attr_table.proofs.ForCallers.{backwards-none, backwards-more, backwards-split}
 use Rattle.attr_search.specs.ListView.{Listed}
 use Rattle.attr_search.specs.shared.ReadLines.{AreRead}
-use Rattle.attr_search.specs.inner.PlacedLines.{no_entry, entry_at}
+use Rattle.attr_search.specs.inner.EntryAt.{no_entry, entry_at}
 use Rattle.attr_search.specs.inner.Trying.{AreTried}
-use Rattle.attr_search.proofs.PlacedLemmas.{lines_patterns}
+use Rattle.attr_search.proofs.EntryAtLemmas.{lines_patterns}
 use Rattle.attr_search.specs.shared.SlotContents.{wanted_numbers}
 use Rattle.attr_search.specs.Settings.{line_of, lines_of}
 use Rattle.attr_search.specs.inner.Lines.{entry_tasks}
@@ -46,35 +46,35 @@ rounds_done bodies wanted [] slots n done = over
 rounds_done bodies wanted (x ∷ xs) slots n done =
     round (stops done) (inl refl) (omega arith) (rounds_done bodies wanted xs slots n done)
 
--- places that are gone through: one more, and what is left where the search is done
-pub rounds_more : (bodies : List (List Item)) (wanted wanted' : List Bool) (f : ℕ → List Task) (places_where places' : List ℕ) (k place : ℕ)
+-- indexes that are gone through: one more, and what is left where the search is done
+pub rounds_more : (bodies : List (List Item)) (wanted wanted' : List Bool) (f : ℕ → List Task) (indexes_where indexes' : List ℕ) (k index : ℕ)
     (first second third : Slots) (a b c : ℕ) →
-    wanted' ≡ wanted → places' ≡ places_where → k < length places_where → place ≡ get_or places' k place →
-    Rounds bodies (wanted_numbers wanted) (map f (take k places_where)) first second a b →
-    Rounds bodies (wanted_numbers wanted') (f place ∷ []) second third b c →
-    Rounds bodies (wanted_numbers wanted) (map f (take (k + 1) places_where)) first third a c
-rounds_more bodies wanted wanted' f places_where places' k place first second third a b c same kept lt is p q =
-    let here : place ≡ get_or places_where k place = is ∙ ap (λ (xs : List ℕ). get_or xs k place) kept in
-    let more : map f (take (k + 1) places_where) ≡ map f (take k places_where) ++ f place ∷ [] =
-    ap (map f) (take_more places_where k place lt)
-    ∙ (map-append f (take k places_where) (get_or places_where k place ∷ [])
-    ∙ ap (λ (x : ℕ). map f (take k places_where) ++ f x ∷ []) (sym here)) in
-    let q' = subst (λ (w : List Bool). Rounds bodies (wanted_numbers w) (f place ∷ []) second third b c) same q in
+    wanted' ≡ wanted → indexes' ≡ indexes_where → k < length indexes_where → index ≡ get_or indexes' k index →
+    Rounds bodies (wanted_numbers wanted) (map f (take k indexes_where)) first second a b →
+    Rounds bodies (wanted_numbers wanted') (f index ∷ []) second third b c →
+    Rounds bodies (wanted_numbers wanted) (map f (take (k + 1) indexes_where)) first third a c
+rounds_more bodies wanted wanted' f indexes_where indexes' k index first second third a b c same kept lt is p q =
+    let here : index ≡ get_or indexes_where k index = is ∙ ap (λ (xs : List ℕ). get_or xs k index) kept in
+    let more : map f (take (k + 1) indexes_where) ≡ map f (take k indexes_where) ++ f index ∷ [] =
+    ap (map f) (take_more indexes_where k index lt)
+    ∙ (map-append f (take k indexes_where) (get_or indexes_where k index ∷ [])
+    ∙ ap (λ (x : ℕ). map f (take k indexes_where) ++ f x ∷ []) (sym here)) in
+    let q' = subst (λ (w : List Bool). Rounds bodies (wanted_numbers w) (f index ∷ []) second third b c) same q in
     subst (λ (ls : List (List Task)). Rounds bodies (wanted_numbers wanted) ls first third a c) (sym more)
-    (rounds_append bodies (wanted_numbers wanted) (map f (take k places_where)) (f place ∷ []) p q')
+    (rounds_append bodies (wanted_numbers wanted) (map f (take k indexes_where)) (f index ∷ []) p q')
 
-pub rounds_stopped : (bodies : List (List Item)) (wanted wanted' : List Bool) (f : ℕ → List Task) (places_where : List ℕ) (k : ℕ)
+pub rounds_stopped : (bodies : List (List Item)) (wanted wanted' : List Bool) (f : ℕ → List Task) (indexes_where : List ℕ) (k : ℕ)
     (first second : Slots) (a b : ℕ) →
     wanted' ≡ wanted → is_done (wanted_numbers wanted') second ≡ true →
-    Rounds bodies (wanted_numbers wanted) (map f (take k places_where)) first second a b →
-    Rounds bodies (wanted_numbers wanted) (map f places_where) first second a b
-rounds_stopped bodies wanted wanted' f places_where k first second a b same done p =
-    let whole : map f places_where ≡ map f (take k places_where) ++ map f (drop k places_where) =
-    ap (map f) (sym (take-append-drop k places_where)) ∙ map-append f (take k places_where) (drop k places_where) in
+    Rounds bodies (wanted_numbers wanted) (map f (take k indexes_where)) first second a b →
+    Rounds bodies (wanted_numbers wanted) (map f indexes_where) first second a b
+rounds_stopped bodies wanted wanted' f indexes_where k first second a b same done p =
+    let whole : map f indexes_where ≡ map f (take k indexes_where) ++ map f (drop k indexes_where) =
+    ap (map f) (sym (take-append-drop k indexes_where)) ∙ map-append f (take k indexes_where) (drop k indexes_where) in
     let done' = subst (λ (w : List Bool). is_done (wanted_numbers w) second ≡ true) same done in
     subst (λ (ls : List (List Task)). Rounds bodies (wanted_numbers wanted) ls first second a b) (sym whole)
-    (rounds_append bodies (wanted_numbers wanted) (map f (take k places_where)) (map f (drop k places_where)) p
-    (rounds_done bodies (wanted_numbers wanted) (map f (drop k places_where)) second b done'))
+    (rounds_append bodies (wanted_numbers wanted) (map f (take k indexes_where)) (map f (drop k indexes_where)) p
+    (rounds_done bodies (wanted_numbers wanted) (map f (drop k indexes_where)) second b done'))
 
 -- lines that are passed over change nothing
 put_first : (bodies : List (List Item)) (wanted : List ℕ) (x y : List Task) (xs ys : List (List Task)) {before after : Slots} {a b : ℕ} →
@@ -88,20 +88,20 @@ rounds_passed : {X : Type 0} (bodies : List (List Item)) (wanted : List ℕ) (f 
     {before after : Slots} {a b : ℕ} →
     ((k : ℕ) → k < length rev → get_or all (length rev - 1 - k) d ≡ get_or rev k d) →
     ((k : ℕ) → k < length rev → test (get_or rev k d) ≡ false → f (get_or rev k d) ≡ []) →
-    Rounds bodies wanted (map (λ p. f (get_or all p d)) (places_where test rev)) before after a b →
+    Rounds bodies wanted (map (λ p. f (get_or all p d)) (indexes_where test rev)) before after a b →
     Rounds bodies wanted (map f rev) before after a b
 rounds_passed bodies wanted f test all [] d same none p = p
 rounds_passed {X} bodies wanted f test all (x ∷ rev) d {before} {after} {a} {b} same none p =
     let here : get_or all (length rev) d ≡ x = ap (λ n. get_or all n d) first ∙ same 0 (omega arith) in
     let g : ℕ → List Task = λ p. f (get_or all p d) in
-    let go : (middle : Slots) (c : ℕ) → Rounds bodies wanted (map g (places_where test rev)) middle after c b → Rounds bodies wanted (map f rev)
+    let go : (middle : Slots) (c : ℕ) → Rounds bodies wanted (map g (indexes_where test rev)) middle after c b → Rounds bodies wanted (map f rev)
     middle after c b =
     λ middle c q.
     rounds_passed bodies wanted f test all rev d
     (λ k lt. ap (λ n. get_or all n d) (index k lt) ∙ same (suc k) (omega arith))
     (λ k lt out. none (suc k) (omega arith) out) q in
     by_test (test x)
-    (λ t. put_first bodies wanted (g (length rev)) (f x) (map g (places_where test rev)) (map f rev) (ap f here) (rw t at p) go)
+    (λ t. put_first bodies wanted (g (length rev)) (f x) (map g (indexes_where test rev)) (map f rev) (ap f here) (rw t at p) go)
     (λ e. round (subst (λ (ts : List Task). Walks bodies (is_done wanted) ts before before) (sym (none 0 (omega arith) e)) ends)
     (inl refl) (omega arith) (go before a (rw e at p)))
   where
@@ -125,18 +125,18 @@ pub list_round : (bodies : List (List Item)) (wanted : List ℕ) (case case' : C
     (listed : Listed) (ms : List (Mapping Value)) (found : List ℕ) (before after : Slots) (a b : ℕ) →
     listed.lines ≡ entries_view ms → Some rest ≡ rest_below listed.base case path → case' ≡ case → is_dir' ≡ is_dir →
     AreTried case' rest (patterns_of ms) found → ∥ AreRead (entries_view ms) ∥₁ →
-    Rounds bodies wanted (map (λ place. entry_tasks case' is_dir' listed.source rest (entry_at listed.lines place)) found) before after a b →
+    Rounds bodies wanted (map (λ index. entry_tasks case' is_dir' listed.source rest (entry_at listed.lines index)) found) before after a b →
     Rounds bodies wanted (list_rounds (lines_of case is_dir path listed)) before after a b
 list_round bodies wanted case case' is_dir is_dir' path rest listed ms found before after a b lines below same dir are read p =
     let all = entries_view ms in
     let f : Entry → List Task = entry_tasks case' is_dir' listed.source rest in
     let test : Entry → Bool = λ entry. are.test entry.pattern in
-    let turned : found ≡ places_where test (reverse all) =
-    are.tried ∙ (ap (λ rs. places_where are.test (reverse rs)) (lines_patterns ms) ∙ tried_turned are.test all) in
-    let p' : Rounds bodies wanted (map (λ place. f (get_or all place no_entry)) (places_where test (reverse all))) before after a b =
+    let turned : found ≡ indexes_where test (reverse all) =
+    are.tried ∙ (ap (λ rs. indexes_where are.test (reverse rs)) (lines_patterns ms) ∙ tried_turned are.test all) in
+    let p' : Rounds bodies wanted (map (λ index. f (get_or all index no_entry)) (indexes_where test (reverse all))) before after a b =
     subst (λ (ls : List (List Task)). Rounds bodies wanted ls before after a b)
-    (ap (λ (es : List Entry). map (λ place. f (entry_at es place)) found) lines
-    ∙ ap (λ (ps : List ℕ). map (λ place. f (entry_at all place)) ps) turned) p in
+    (ap (λ (es : List Entry). map (λ index. f (entry_at es index)) found) lines
+    ∙ ap (λ (ps : List ℕ). map (λ index. f (entry_at all index)) ps) turned) p in
     let q = rounds_passed bodies wanted f test all (reverse all) no_entry
     (λ k lt. turned_at all k no_entry lt)
     (λ k lt out. passed_entry case' is_dir' listed.source rest are.test are.matching all read k lt out) p' in

@@ -25,13 +25,13 @@ use Rattle.attr_search.proofs.TryingLemmas.{idle_tried}
 use Rattle.attr_search.specs.SearchContents.{SearchContents}
 use Rattle.attr_search.specs.Settings.{candidates_in}
 use Rattle.attr_search.specs.Slots.{is_needed, table_items}
-use Rattle.attr_search.specs.inner.Lines.{place_tasks, query_lines}
+use Rattle.attr_search.specs.inner.Lines.{listed_tasks, query_lines}
 use Rattle.attr_search.specs.inner.Rounds.{Rounds, over, rounds_of}
-use Rattle.attr_search.specs.inner.Searched.{KeepsState, Searched, SearchedLine, SearchedList, SearchedLists, SearchedPlaces, state_bodies}
+use Rattle.attr_search.specs.inner.Searched.{KeepsState, Searched, SearchedLine, SearchedLines, SearchedList, SearchedLists, state_bodies}
 use Rattle.attr_search.specs.inner.Searched.{query_candidates, state_slots}
 use Rattle.attr_search.specs.inner.Searched.{state_wanted}
 use Rattle.attr_search.specs.shared.SlotContents.{wanted_numbers}
-use Rattle.attr_search.proofs.LineLemmas.{places_more, places_stopped}
+use Rattle.attr_search.proofs.LineLemmas.{indexes_more, indexes_stopped}
 use Rattle.attr_search.proofs.ListLemmas.{count_more, lists_begun, lists_more, lists_over, lists_stopped}
 use Rattle.attr_search.proofs.CandidateLemmas.{list_passed, list_walked}
 use Rattle.attr_search.proofs.RoundLemmas.{all_begun, all_more, all_over, all_stopped, list_round, list_unasked, one_round, rounds_more}
@@ -77,45 +77,45 @@ rounds_from tss first second third kept p =
     kept.wanted p)
 
 -- a line, which is tested if it changes slots
-pub line_searched : (rest : PathQuery) (listed : Listed) (place : ℕ) (before after : SearchContents) →
-    Searches (state_bodies before) (state_wanted before) (place_tasks rest listed place) (state_slots before) (state_slots after)
+pub line_searched : (rest : PathQuery) (listed : Listed) (index : ℕ) (before after : SearchContents) →
+    Searches (state_bodies before) (state_wanted before) (listed_tasks rest listed index) (state_slots before) (state_slots after)
     before.taken after.taken →
     (state_slots after ≡ state_slots before) ⊎ (min (before.tested + 1) (2 ^ 128 - 1) ≤ after.tested) → before.tested ≤ after.tested →
-    SearchedLine rest listed place before after
-line_searched rest listed place before after p changed le =
+    SearchedLine rest listed index before after
+line_searched rest listed index before after p changed le =
     record {
       searches = p;
-      rounds = one_round (state_bodies before) (state_wanted before) (place_tasks rest listed place) (state_slots before) (state_slots after)
+      rounds = one_round (state_bodies before) (state_wanted before) (listed_tasks rest listed index) (state_slots before) (state_slots after)
           before.taken after.taken before.tested after.tested p changed le;
     }
 
--- lines at places: none, one more, and all if the search is done
-pub no_places : (rest : PathQuery) (listed : Listed) (state : SearchContents) → SearchedPlaces rest listed [] state state
-no_places rest listed state =
+-- lines at indexes: none, one more, and all if the search is done
+pub no_indexes : (rest : PathQuery) (listed : Listed) (state : SearchContents) → SearchedLines rest listed [] state state
+no_indexes rest listed state =
     record { searches = nothing_taken (state_bodies state) (state_wanted state) (state_slots state) state.taken; rounds = over }
 
-pub more_places : (rest : PathQuery) (listed : Listed) (places : List ℕ) (k place : ℕ) (first second third : SearchContents) →
-    KeepsState first second → k < length places → place ≡ get_or places k place →
-    SearchedPlaces rest listed (take k places) first second → SearchedLine rest listed place second third →
-    SearchedPlaces rest listed (take (k + 1) places) first third
-more_places rest listed places k place first second third kept lt is p q =
+pub more_indexes : (rest : PathQuery) (listed : Listed) (indexes : List ℕ) (k index : ℕ) (first second third : SearchContents) →
+    KeepsState first second → k < length indexes → index ≡ get_or indexes k index →
+    SearchedLines rest listed (take k indexes) first second → SearchedLine rest listed index second third →
+    SearchedLines rest listed (take (k + 1) indexes) first third
+more_indexes rest listed indexes k index first second third kept lt is p q =
     record {
-      searches = places_more (state_bodies first) first.wanted first.wanted (place_tasks rest listed) places places k place (state_slots first)
+      searches = indexes_more (state_bodies first) first.wanted first.wanted (listed_tasks rest listed) indexes indexes k index (state_slots first)
           (state_slots second) (state_slots third) first.taken second.taken third.taken refl refl lt is p.searches
-          (searches_from (place_tasks rest listed place) first second third kept q.searches);
-      rounds = rounds_more (state_bodies first) first.wanted first.wanted (place_tasks rest listed) places places k place (state_slots first)
+          (searches_from (listed_tasks rest listed index) first second third kept q.searches);
+      rounds = rounds_more (state_bodies first) first.wanted first.wanted (listed_tasks rest listed) indexes indexes k index (state_slots first)
           (state_slots second) (state_slots third) first.tested second.tested third.tested refl refl lt is p.rounds
-          (rounds_from (place_tasks rest listed place ∷ []) first second third kept q.rounds);
+          (rounds_from (listed_tasks rest listed index ∷ []) first second third kept q.rounds);
     }
 
-pub places_done : (rest : PathQuery) (listed : Listed) (places : List ℕ) (k : ℕ) (first second : SearchContents) →
+pub indexes_done : (rest : PathQuery) (listed : Listed) (indexes : List ℕ) (k : ℕ) (first second : SearchContents) →
     KeepsState first second → is_done (state_wanted second) (state_slots second) ≡ true →
-    SearchedPlaces rest listed (take k places) first second → SearchedPlaces rest listed places first second
-places_done rest listed places k first second kept done p =
+    SearchedLines rest listed (take k indexes) first second → SearchedLines rest listed indexes first second
+indexes_done rest listed indexes k first second kept done p =
     record {
-      searches = places_stopped (state_bodies first) first.wanted second.wanted (place_tasks rest listed) places k (state_slots first)
+      searches = indexes_stopped (state_bodies first) first.wanted second.wanted (listed_tasks rest listed) indexes k (state_slots first)
           (state_slots second) first.taken second.taken kept.wanted done p.searches;
-      rounds = rounds_stopped (state_bodies first) first.wanted second.wanted (place_tasks rest listed) places k (state_slots first)
+      rounds = rounds_stopped (state_bodies first) first.wanted second.wanted (listed_tasks rest listed) indexes k (state_slots first)
           (state_slots second) first.tested second.tested kept.wanted done p.rounds;
     }
 
@@ -134,7 +134,7 @@ pub list_by_candidates : (query rest : PathQuery) (list : IndexedList) (found : 
     Some (bstr_bytes rest.path) ≡ rest_below (listed_view list).base query.case (bstr_bytes query.path) →
     rest.case ≡ query.case → rest.is_dir ≡ query.is_dir →
     AreTried rest.case (bstr_bytes rest.path) (patterns_of list.list.patterns.items) found →
-    SearchedPlaces rest (listed_view list) found before after → SearchedList query (listed_view list) before after
+    SearchedLines rest (listed_view list) found before after → SearchedList query (listed_view list) before after
 list_by_candidates query rest list found before after below case dir are p =
     record {
       searches = list_walked (state_bodies before) (state_wanted before) query.case rest.case query.is_dir rest.is_dir (bstr_bytes query.path)
@@ -154,7 +154,7 @@ list_idle query list state all = below (rest_below (listed_view list).base query
         SearchedList query (listed_view list) state state
     below None is = list_apart query (listed_view list) state is
     below (Some rest) is =
-        let nothing = no_places query (listed_view list) state in
+        let nothing = no_indexes query (listed_view list) state in
         let tried = idle_tried query.case rest (patterns_of list.list.patterns.items) all in
         record {
           searches = list_walked (state_bodies state) (state_wanted state) query.case query.case query.is_dir query.is_dir (bstr_bytes query.path)
@@ -289,7 +289,7 @@ abbrev pub AreLeft : PathQuery → List IndexedList → ℕ → ℕ → List ℕ
 AreLeft query lists bound k numbers =
     (number : ℕ) (list : IndexedList) (rest : List ℕ) → number < bound → slice_get lists number ≡ Some list → list.is_idle ≡ false →
     rest_below (listed_view list).base query.case (bstr_bytes query.path) ≡ Some rest →
-    (place : ℕ) × (place < k) × (get_or numbers place 0 ≡ number)
+    (index : ℕ) × (index < k) × (get_or numbers index 0 ≡ number)
 
 none_left : (query : PathQuery) (list : IndexedList) →
     ((r : List ℕ) → list.is_idle ≡ false → rest_below (listed_view list).base query.case (bstr_bytes query.path) ≡ Some r → ⊥) →
@@ -315,9 +315,9 @@ apart_above query lists bound k numbers lt rising left = λ number list ge below
     let le = rising at.0 k 0 (omega (arith, before)) lt in
     omega (arith, ge, le, is))
 
-below_top : (numbers : List ℕ) (place k number : ℕ) → place < k + 1 → get_or numbers place 0 ≡ number → (place ≡ k → ⊥) → place < k
-below_top numbers place k number lt is other =
-    elim (below_or place k lt) [ inl less ↦ less | inr same ↦ absurd (other same) ]
+below_top : (numbers : List ℕ) (index k number : ℕ) → index < k + 1 → get_or numbers index 0 ≡ number → (index ≡ k → ⊥) → index < k
+below_top numbers index k number lt is other =
+    elim (below_or index k lt) [ inl less ↦ less | inr same ↦ absurd (other same) ]
 
 -- fewer are left after the greatest
 pub left_less : (query : PathQuery) (lists : List IndexedList) (bound less k : ℕ) (numbers : List ℕ) → less ≤ bound →
@@ -335,10 +335,10 @@ apart_below query lists bound k numbers no_more left = λ number list ge below h
     none_left query list (λ rest busy applies. let before = (left number list rest below has busy applies).1 in omega (arith, before, no_more))
 
 -- at the beginning all are
-get_at : (numbers : List ℕ) (place number : ℕ) → place < length numbers → get_or numbers place number ≡ number → get_or numbers place 0 ≡ number
-get_at [] place number lt is = absurd (omega (arith, lt))
+get_at : (numbers : List ℕ) (index number : ℕ) → index < length numbers → get_or numbers index number ≡ number → get_or numbers index 0 ≡ number
+get_at [] index number lt is = absurd (omega (arith, lt))
 get_at (n ∷ numbers) zero number lt is = is
-get_at (n ∷ numbers) (suc place) number lt is = get_at numbers place number (omega (arith, lt)) is
+get_at (n ∷ numbers) (suc index) number lt is = get_at numbers index number (omega (arith, lt)) is
 
 pub all_left : (query : PathQuery) (lists : List IndexedList) (bound : ℕ) (numbers : List ℕ) →
     AreListsFor (bstr_bytes query.path) lists numbers → AreLeft query lists bound (length numbers) numbers

@@ -138,13 +138,13 @@ pub line_stays : (old new : PartsContent) (l : ℕ) → KeepsParts old new → l
 line_stays old new l extends within =
     (omega (arith, grows_length old.lines new.lines extends.lines, within), grows_at old.lines new.lines l no_origin extends.lines within)
 
-assignment_stays : (old new : PartsContent) (cause : Option ℕ) (place : ℕ) → KeepsParts old new → HasAssignment old cause place →
-    HasAssignment new cause place × (assignment_at new cause place ≡ assignment_at old cause place)
-assignment_stays old new None place extends within = (
+assignment_stays : (old new : PartsContent) (cause : Option ℕ) (index : ℕ) → KeepsParts old new → HasAssignment old cause index →
+    HasAssignment new cause index × (assignment_at new cause index ≡ assignment_at old cause index)
+assignment_stays old new None index extends within = (
   omega (arith, grows_length old.assignments new.assignments extends.assignments, within),
-  grows_at old.assignments new.assignments place no_assignment extends.assignments within,
+  grows_at old.assignments new.assignments index no_assignment extends.assignments within,
 )
-assignment_stays old new (Some cause) place extends within = (rw extends.bodies within, rw extends.bodies refl)
+assignment_stays old new (Some cause) index extends within = (rw extends.bodies within, rw extends.bodies refl)
 
 -- and a stored match
 pub match_stays : (old new : PartsContent) (m : MatchRef) → KeepsParts old new → IsMatchRef old m → IsMatchRef new m ×
@@ -391,21 +391,21 @@ answer_kept line top kind before after l i cause extends more handed found has s
     }
 
 -- an item of a body is there
-pub body_has : (items : List TrackedAssignment) (after : PartsContent) (cause : Option ℕ) (place : ℕ) → is_some cause ≡ true →
-    place < length (items_beside items after.bodies cause) → HasAssignment after cause place ×
-    (assignment_at after cause place ≡ (get_or (items_beside items after.bodies cause) place no_item).inner)
-body_has items after None place some placed = absurd cc
-body_has items after (Some a) place some placed = (placed, refl)
+pub body_has : (items : List TrackedAssignment) (after : PartsContent) (cause : Option ℕ) (index : ℕ) → is_some cause ≡ true →
+    index < length (items_beside items after.bodies cause) → HasAssignment after cause index ×
+    (assignment_at after cause index ≡ (get_or (items_beside items after.bodies cause) index no_item).inner)
+body_has items after None index some inside = absurd cc
+body_has items after (Some a) index some inside = (inside, refl)
 
 -- and an item of the line that was kept
-pub own_has : (items : List TrackedAssignment) (bodies : List (List TrackedAssignment)) (after : PartsContent) (cause : Option ℕ) (place : ℕ)
+pub own_has : (items : List TrackedAssignment) (bodies : List (List TrackedAssignment)) (after : PartsContent) (cause : Option ℕ) (index : ℕ)
     (item : TrackedAssignment) (own : Assignment) (before : List Assignment) → is_some cause ≡ false →
-    place < length (items_beside items bodies cause) → item ≡ get_or items place item → own ≡ item.inner →
+    index < length (items_beside items bodies cause) → item ≡ get_or items index item → own ≡ item.inner →
     after.assignments ≡ before ++ own ∷ [] → HasAssignment after cause (length before) ×
-    (assignment_at after cause (length before) ≡ (get_or (items_beside items bodies cause) place no_item).inner)
-own_has items bodies after (Some a) place item own before none placed is same pushed = absurd cc
-own_has items bodies after None place item own before none placed is same pushed = (
+    (assignment_at after cause (length before) ≡ (get_or (items_beside items bodies cause) index no_item).inner)
+own_has items bodies after (Some a) index item own before none inside is same pushed = absurd cc
+own_has items bodies after None index item own before none inside is same pushed = (
   omega (arith, ap length pushed, length-append before (own ∷ [])),
   ap (λ l. get_or l (length before) no_assignment) pushed ∙ get_or-append_seam before own [] no_assignment ∙ same
-      ∙ ap (λ (t : TrackedAssignment). t.inner) (is ∙ get_or_default items place item no_item placed),
+      ∙ ap (λ (t : TrackedAssignment). t.inner) (is ∙ get_or_default items index item no_item inside),
 )

@@ -111,7 +111,7 @@ retagged g bodies wanted (fills {t = t} {ts = ts} {slots = slots} d f w) before 
           (cases_eq a t.item.attribute);
     }
 
--- a line's tag: its list and its place there
+-- a line's tag: its list and its index there
 tag_of : ℕ × ℕ → Origin
 tag_of t = record { text = []; mode = t.0; wildcard = None; source = None; line = t.1 }
 
@@ -174,7 +174,7 @@ chained bodies wanted (g ∷ gs) (round {before = slots} {middle = middle} {a = 
     })
     changed
 
--- the lines of a setting, each with its list and its place there
+-- the lines of a setting, each with its list and its index there
 line_groups : ℕ → ℕ → List Line → List ((ℕ × ℕ) × List Task)
 line_groups i j [] = []
 line_groups i j (l ∷ lines) = line_groups i (suc j) lines ++ ((i, j), line_tasks l) ∷ []
@@ -229,7 +229,7 @@ lists_tagged i (lines ∷ lists) =
     ∙ (ap (λ ts. ts ++ tagged_tasks (line_groups i 0 lines)) (lists_tagged (suc i) lists)
     ∙ ap (λ ts. tasks_of (tagged_lists (suc i) lists) ++ ts) (groups_tagged i 0 lines))
 
--- what is read at a place of the tagged setting
+-- what is read at an index of the tagged setting
 line_in : (i j k n : ℕ) (lines : List Line) → n ≡ j + k →
     slice_get (tagged_lines i j lines) k ≡ option_map (tagged_line (i, n)) (slice_get lines k)
 unfolding tagged_lines
@@ -265,8 +265,8 @@ same_item s (Root i j k) =
         ≡ option_and_then (λ line. slice_get line.items k) l
     go None = refl
     go (Some line) = refl
-same_item s (Inside parent place) =
-    ap (λ i. option_and_then (λ (x : Item). slice_get (body_of s.bodies x.attribute) place) i) (same_item s parent)
+same_item s (Inside parent index) =
+    ap (λ i. option_and_then (λ (x : Item). slice_get (body_of s.bodies x.attribute) index) i) (same_item s parent)
 
 tagged_origin : (s : Setting) (o : Occurrence) (i : Item) → item_at s o ≡ Some i →
     origin_at (tagged_setting s) o ≡ Some (tag_of (root_line o))
@@ -278,7 +278,7 @@ tagged_origin s (Root i j k) x e =
         option_map (λ line. line.origin) (option_map (tagged_line (i, j)) l) ≡ Some (tag_of (i, j))
     go None h = absurd (cc)
     go (Some line) h = refl
-tagged_origin s (Inside parent place) x e =
+tagged_origin s (Inside parent index) x e =
     ⊎_elim
     (λ (r : (j : Item) × (item_at s parent ≡ Some j)). tagged_origin s parent r.0 r.1)
     (λ (n : item_at s parent ≡ None). let d = rw n at e in absurd (cc))
@@ -287,11 +287,11 @@ tagged_origin s (Inside parent place) x e =
 -- a table is as stable for the tagged setting
 reached_back : (s : Setting) (table : Table) (o : Occurrence) → IsReached (tagged_setting s) table o → IsReached s table o
 reached_back s table (Root i j k) r = tt
-reached_back s table (Inside parent place) r = (r.0, sym (same_item s parent) ∙ r.1, r.2, r.3)
+reached_back s table (Inside parent index) r = (r.0, sym (same_item s parent) ∙ r.1, r.2, r.3)
 
 reached_there : (s : Setting) (table : Table) (o : Occurrence) → IsReached s table o → IsReached (tagged_setting s) table o
 reached_there s table (Root i j k) r = tt
-reached_there s table (Inside parent place) r = (r.0, same_item s parent ∙ r.1, r.2, r.3)
+reached_there s table (Inside parent index) r = (r.0, same_item s parent ∙ r.1, r.2, r.3)
 
 live_back : (s : Setting) (table : Table) (o : Occurrence) (i : Item) → IsLive (tagged_setting s) table o i → IsLive s table o i
 live_back s table o i live =

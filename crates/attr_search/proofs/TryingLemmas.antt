@@ -20,7 +20,7 @@ use Rattle.attr_glob.specs.shared.LineShapes.{folds, is_tried}
 use Rattle.attr_glob.proofs.ForCallers.{matching_line_is_candidate, reading-wildcard, no_wildcard, text_matches-literal}
 use Rattle.attr_wildmatch.proofs.ForCallers.{by_test, and_parts}
 use Rattle.attr_glob.proofs.ForCallers.{text_matches-front}
-use Rattle.attr_glob.proofs.ForCallers.{whole_met, front_met, end_met, bytewise, falling_places, passes}
+use Rattle.attr_glob.proofs.ForCallers.{whole_met, front_met, end_met, bytewise, falling_indexes, passes}
 use Rattle.attr_glob.specs.shared.LineShapes.{key_of_line}
 use Rattle.attr_search.specs.inner.Trying.{AreTried}
 
@@ -68,7 +68,7 @@ matching_is_tried : (case : Case) (path text : List ℕ) (line : Reading) (is_di
     has_macro_mode line ≡ false → path_matches case line path is_dir ≡ true → is_tried case path line ≡ true
 matching_is_tried case path text line is_dir read plain m =
     let name = base_name path in
-    let placed = reading-wildcard text line read in
+    let read_wildcard = reading-wildcard text line read in
     let whole = and_parts (not (has_flag line.mode must_be_dir) || is_directory is_dir) (text_matches case line.text (matched_part line path)) m in
     let known = matching_line_is_candidate case text line path is_dir read plain m in
     by_test (matches_base_name line)
@@ -78,10 +78,10 @@ matching_is_tried case path text line is_dir read plain m =
     (λ w. rw (plain, n, w) (whole_met case Name line.text name ∙ (rw (plain, n, w) at known)))
     (λ w. by_test (has_flag line.mode ends_with)
     (λ e. rw (plain, n, w, e) (end_met case name path _ ∙ (rw (plain, n, w, e) at known)))
-    (λ e. rw (plain, n, w, e) (name_front case line.text name path line.wildcard placed part))))
+    (λ e. rw (plain, n, w, e) (name_front case line.text name path line.wildcard read_wildcard part))))
     (λ n.
     let part : text_matches case line.text path ≡ true = ap (λ b. text_matches case line.text (cond b name path)) (sym n) ∙ whole.1 in
-    rw (plain, n) (path_front case line.text name path line.wildcard placed part))
+    rw (plain, n) (path_front case line.text name path line.wildcard read_wildcard part))
 
 met_at : (case : Case) (path : List ℕ) (lines : List Reading) (row : ℕ) →
     content_met_at (folds case) (base_name path) path (slice_get (map key_of_line lines) row) ≡ passes (is_tried case path) (slice_get lines row)
@@ -89,14 +89,14 @@ met_at case path [] row = refl
 met_at case path (line ∷ lines) zero = refl
 met_at case path (line ∷ lines) (suc row) = met_at case path lines row
 
--- the places that were found by the keys
+-- the indexes that were found by the keys
 pub found_tried : (case : Case) (path : List ℕ) (lines : List Reading) (keys : List KeyContent) (found : List ℕ) → keys ≡ map key_of_line lines →
     IsFalling found → ((row : ℕ) → has_row found row ≡ content_met_at (folds case) (base_name path) path (slice_get keys row)) →
     AreTried case path lines found
 found_tried case path lines keys found is down has =
     record {
       test = is_tried case path;
-      tried = falling_places (is_tried case path) lines found down
+      tried = falling_indexes (is_tried case path) lines found down
           (λ row. has row ∙ (ap (λ l. content_met_at (folds case) (base_name path) path (slice_get l row)) is ∙ met_at case path lines row));
       candidate = tried_is_candidate case path;
       matching = λ text line is_dir read plain m. matching_is_tried case path text line is_dir read plain m;

@@ -65,7 +65,7 @@ count_set flags number count more w lt counted read told =
     let len : length (set flags number true) ≡ length flags = length-set flags number true in
     (omega arith, omega arith)
 
--- another number is not at this one's place
+-- another number is not at this one's index
 pub at_other : (n k : ℕ) → k ≢ n → is_at (nat_cmp n) k ≡ false
 at_other n k apart =
     ⊎_elim

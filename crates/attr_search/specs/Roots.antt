@@ -5,7 +5,7 @@ use Rattle.attr_table.specs.Table.{Occurrence, Root, Inside, Table, Slots}
 -- the list and the line of an occurrence's root
 abbrev pub root_line : Occurrence → ℕ × ℕ
 root_line (Root list line item) = (list, line)
-root_line (Inside parent place) = root_line parent
+root_line (Inside parent index) = root_line parent
 
 -- The roots of the entries whose slots were filled are in so many different lines at most; the count stops at the
 -- greatest u128.

@@ -18,5 +18,5 @@ pub mod FrontHashers
 pub mod KeyLinks
 pub mod NumbersView
 pub mod FoundLists
-pub mod PlacedLines
+pub mod EntryAt
 pub mod Trying

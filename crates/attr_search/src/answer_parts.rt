@@ -8,7 +8,7 @@ ghost use Rattle.attr_search.specs.inner.AnswerRefs.{HasAssignment, IsMatchRef, 
 ghost use Rattle.attr_search.specs.shared.BodyChanges.{changed_bodies, sized_bodies};
 ghost use Rattle.attr_search.specs.inner.PartsContents.{Grows};
 ghost use Rattle.attr_search.specs.inner.PartsView.{origins};
-ghost use Rattle.attr_search.specs.inner.Pending.{IsPlaced, line_origin};
+ghost use Rattle.attr_search.specs.inner.Pending.{IsInside, line_origin};
 ghost use Rattle.attr_search.specs.shared.Slotted.{bodies_view};
 
 use crate::bodies::{self, BodyChange};
@@ -129,7 +129,7 @@ impl AnswerParts {
         top: PendingItem,
         kind: MatchKind,
     ) -> Result<MatchRef, AllocError>
-        requires placed { IsPlaced line.items.now self.old.bodies top }
+        requires inside { IsInside line.items.now self.old.bodies top }
         requires cause { cause_of kind ≡ top.cause }
         requires line { MatchOption self.old.line ⊤ (λ l. RefersTo self.old l (line_origin line)) }
         ensures kept { IfOk result (KeepsAnswer line.entry top kind self.old self.new) }
@@ -140,11 +140,11 @@ impl AnswerParts {
             self.line = Some(kept);
             return Ok(MatchRef {
                 line: kept,
-                assignment: top.place,
+                assignment: top.index,
                 kind,
             });
         }
-        let own = line.items[top.place].inner.clone(alloc)?;
+        let own = line.items[top.index].inner.clone(alloc)?;
         self.assignments.reserve(1)?;
         let kept = keep_line(&mut self.lines, self.line, line)?;
         self.line = Some(kept);

@@ -5,7 +5,7 @@ ghost use Rattle.bstr.specs.BStr.{bstr_bytes};
 ghost use Rattle.std.specs.List.{list_all};
 ghost use Rattle.attr_glob.specs.Candidates.{has_macro_mode};
 ghost use Rattle.attr_glob.specs.Paths.{path_matches};
-ghost use Rattle.attr_search.specs.inner.PlacedLines.{entry_at};
+ghost use Rattle.attr_search.specs.inner.EntryAt.{entry_at};
 ghost use Rattle.attr_search.specs.inner.Trying.{AreTried};
 ghost use Rattle.attr_glob.specs.Views.{base_bytes, patterns_of};
 ghost use Rattle.attr_search.specs.inner.DirectoryKeys.{base_key as key_of_base};
@@ -101,57 +101,56 @@ impl IndexedList {
         })
     }
 
-    /// Finds the places of the lines that may match what is left of a path, the greatest first. A place is the index
-    /// of a line, from 0. The places replace the contents of `places`. `reversed` is a buffer for the reversed base
-    /// name.
+    /// Finds the indexes, from 0, of the lines that may match what is left of a path, the greatest first. They replace
+    /// the contents of `indexes`. `reversed` is a buffer for the reversed base name.
     ///
     /// # Errors
     ///
-    /// If memory runs out. The contents of `places` are not specified then.
+    /// If memory runs out. The contents of `indexes` are not specified then.
     pub fn find_candidates(
         &self,
         rest: PathQuery<'_>,
         reversed: &mut Vec<u8>,
-        places: &mut Vec<usize>,
+        indexes: &mut Vec<usize>,
     ) -> Result<(), AllocError>
         ensures { OnOk result (AreTried rest.entry.case (bstr_bytes rest.entry.path)
-            (patterns_of self.now.list.patterns.items) places.new.items) }
+            (patterns_of self.now.list.patterns.items) indexes.new.items) }
     {
         let path = rest.path.as_bytes();
         let texts = Texts {
-            name: base_name(path, rest.name_place),
+            name: base_name(path, rest.name_offset),
             path,
             fold: rest.folds(),
         };
         let index = self.index.as_ref();
-        index.keys.find(&index.lines, texts, reversed, places)
+        index.keys.find(&index.lines, texts, reversed, indexes)
     }
 
-    /// Whether the pattern of the line at a place matches what is left of a path. The line defines no macro.
+    /// Whether the pattern of the line at an index matches what is left of a path. The line defines no macro.
     ///
     /// # Errors
     ///
     /// If memory runs out.
     pub fn matches(
         &self,
-        place: usize,
+        index: usize,
         rest: PathQuery<'_>,
         buffers: &mut MatchBuffers,
     ) -> Result<bool, AllocError>
-        requires place { place < length self.now.list.patterns.items }
-        requires no_macro { (entry_at (entries_view self.now.list.patterns.items) place).macro
+        requires index { index < length self.now.list.patterns.items }
+        requires no_macro { (entry_at (entries_view self.now.list.patterns.items) index).macro
             ≡ None }
         ensures { IfOk result (λ answer. answer ≡ path_matches rest.entry.case
-            (entry_at (entries_view self.now.list.patterns.items) place).pattern
+            (entry_at (entries_view self.now.list.patterns.items) index).pattern
             (bstr_bytes rest.entry.path) rest.entry.is_dir) }
     {
-        let line = &self.index.lines[place];
+        let line = &self.index.lines[index];
         if !line.pattern.takes_kind(rest.is_dir) {
             return Ok(false);
         }
         let part = line
             .pattern
-            .matched_part(rest.path.as_bytes(), rest.name_place);
+            .matched_part(rest.path.as_bytes(), rest.name_offset);
         line.pattern
             .matches_part(line.tokens(), part, rest.case, buffers)
     }

@@ -179,9 +179,9 @@ impl IndexedLists {
     {
         numbers.extend_from_slice(&self.roots)?;
         let mut front = FrontHasher::new();
-        for place in 0..text.len() {
-            if text[place] == b'/' {
-                self.numbers.append(front.key(text, place + 1), numbers)?;
+        for offset in 0..text.len() {
+            if text[offset] == b'/' {
+                self.numbers.append(front.key(text, offset + 1), numbers)?;
             }
         }
         Ok(())

@@ -2,12 +2,12 @@
 
 ghost use Rattle.std.specs.Prelude.{◌≡◌, IfSome, option_map};
 ghost use Rattle.bstr.specs.BStr.{bstr_bytes};
-ghost use Rattle.attr_glob.specs.BaseNames.{base_name_place};
+ghost use Rattle.attr_glob.specs.BaseNames.{base_name_offset};
 ghost use Rattle.attr_glob.specs.Bases.{rest_below};
 ghost use Rattle.attr_glob.specs.Views.{base_bytes};
 ghost use Rattle.attr_glob.specs.shared.LineShapes.{folds};
 
-use attr_glob::pattern::{Case, base_name_place};
+use attr_glob::pattern::{Case, base_name_offset};
 use attr_glob::search::pattern::List;
 use attr_lists::types::Attributes;
 use bstr::BStr;
@@ -17,13 +17,13 @@ use bstr::BStr;
 pub struct PathQuery<'a> {
     /// The path, without a leading slash. Below a list's base it is what follows the base.
     pub path: BStr<'a>,
-    /// The place of the path's base name, as `base_name_place` returns it.
-    pub name_place: Option<usize>,
+    /// The offset of the path's base name, as `base_name_offset` returns it.
+    pub name_offset: Option<usize>,
     /// Whether the case of ASCII letters matters.
     pub case: Case,
     /// Whether the path is a directory, if that is known.
     pub is_dir: Option<bool>,
-    ghost placed: { name_place ≡ base_name_place (bstr_bytes path) },
+    ghost offset: { name_offset ≡ base_name_offset (bstr_bytes path) },
 }
 
 impl<'a> PathQuery<'a> {
@@ -33,10 +33,10 @@ impl<'a> PathQuery<'a> {
         ensures case { result.case ≡ case }
         ensures is_dir { result.is_dir ≡ is_dir }
     {
-        let name_place = base_name_place(path.as_bytes());
+        let name_offset = base_name_offset(path.as_bytes());
         PathQuery {
             path,
-            name_place,
+            name_offset,
             case,
             is_dir,
         }
@@ -49,14 +49,14 @@ impl<'a> PathQuery<'a> {
         ensures case { IfSome result (λ r. r.case ≡ self.entry.case) }
         ensures is_dir { IfSome result (λ r. r.is_dir ≡ self.entry.is_dir) }
     {
-        let (path, name_place) = list.strip_base_handle_recompute_basename_pos(
+        let (path, name_offset) = list.strip_base_handle_recompute_basename_pos(
             self.path,
-            self.name_place,
+            self.name_offset,
             self.case,
         )?;
         Some(PathQuery {
             path,
-            name_place,
+            name_offset,
             case: self.case,
             is_dir: self.is_dir,
         })

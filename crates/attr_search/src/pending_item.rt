@@ -3,17 +3,17 @@
 ghost use Rattle.std.specs.Prelude.{◌≡◌, ◌<◌, [], length, slice_index_or};
 ghost use Rattle.attr_search.specs.Matches.{cause_of, is_macro_kind};
 ghost use Rattle.attr_search.specs.shared.Slotted.{bodies_view};
-ghost use Rattle.attr_search.specs.inner.Pending.{pending_item, IsPlaced};
+ghost use Rattle.attr_search.specs.inner.Pending.{pending_item, IsInside};
 
 use attr_lists::types::{AttributeId, MatchKind, TrackedAssignment};
 
-/// An item that is still to be processed, by its place.
+/// An item that is still to be processed, by its index.
 #[derive(Clone, Copy, PartialEq, Eq, Debug)]
 pub struct PendingItem {
     /// The number of the macro whose body has the item, none if the line itself has it.
     pub cause: Option<usize>,
     /// The index of the item in that body or in the line, from 0.
-    pub place: usize,
+    pub index: usize,
 }
 
 impl PendingItem {
@@ -23,12 +23,12 @@ impl PendingItem {
         items: &'a [TrackedAssignment],
         bodies: &'a [Vec<TrackedAssignment>],
     ) -> &'a TrackedAssignment
-        requires { IsPlaced items.now (bodies_view bodies.now) self }
+        requires { IsInside items.now (bodies_view bodies.now) self }
         ensures { result.now ≡ pending_item items.now (bodies_view bodies.now) self }
     {
         match self.cause {
-            None => &items[self.place],
-            Some(attribute) => &body_of(bodies, attribute)[self.place],
+            None => &items[self.index],
+            Some(attribute) => &body_of(bodies, attribute)[self.index],
         }
     }
 

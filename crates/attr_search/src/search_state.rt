@@ -9,7 +9,7 @@ ghost use Rattle.attr_table.specs.Cut.{IsSearched, ExtendsCuts, is_done};
 ghost use Rattle.attr_table.specs.Work.{work_of, newly_filled};
 ghost use Rattle.attr_search.specs.IndexedLists.{listed_view, lists_view};
 ghost use Rattle.attr_search.specs.inner.FoundLists.{AreListsFor};
-ghost use Rattle.attr_search.specs.inner.PlacedLines.{entry_at};
+ghost use Rattle.attr_search.specs.inner.EntryAt.{entry_at};
 ghost use Rattle.attr_search.specs.inner.Trying.{AreTried};
 ghost use Rattle.attr_search.specs.Matches.{match_view};
 ghost use Rattle.attr_search.specs.Settings.{candidates_in, is_found};
@@ -18,7 +18,7 @@ ghost use Rattle.attr_search.specs.shared.BodyChanges.{changed_bodies, sized_bod
 ghost use Rattle.attr_search.specs.shared.Slotted.{BodiesHaveSlots, LinesHaveSlots, ListsHaveSlots};
 ghost use Rattle.attr_search.specs.shared.Slotted.{bodies_view};
 ghost use Rattle.attr_search.specs.inner.Filling.{BodiesFit};
-ghost use Rattle.attr_search.specs.inner.Searched.{KeepsState, ListKeepsNamed, ListsKeepNamed, SearchedLine, SearchedList, SearchedLists, SearchedPlaces, TestsRoots, has_free_item, query_candidates, query_setting, state_slots, state_wanted};
+ghost use Rattle.attr_search.specs.inner.Searched.{KeepsState, ListKeepsNamed, ListsKeepNamed, SearchedLine, SearchedLines, SearchedList, SearchedLists, TestsRoots, has_free_item, query_candidates, query_setting, state_slots, state_wanted};
 ghost use Rattle.attr_search.specs.shared.SlotContents.{AreFlagsAmong, AreListed, count_remaining};
 ghost use Rattle.std.specs.List.Sorted.{IsNonDecreasing};
 ghost use Rattle.std.specs.Option.{option_copied};
@@ -63,7 +63,7 @@ struct SearchBuffers {
     matching: MatchBuffers,
     // A base name, reversed.
     reversed: Vec<u8>,
-    places: Vec<usize>,
+    indexes: Vec<usize>,
     // The numbers of lists.
     numbers: Vec<usize>,
 }
@@ -118,7 +118,7 @@ impl SearchState {
             buffers: SearchBuffers {
                 matching: MatchBuffers::new(alloc),
                 reversed: Vec::new(alloc),
-                places: Vec::new(alloc),
+                indexes: Vec::new(alloc),
                 numbers: Vec::new(alloc),
             },
             tested: 0,
@@ -498,13 +498,13 @@ impl SearchState {
         let Some(rest) = query.below(&list.list) else {
             return Ok(());
         };
-        let places = self.find_candidates(alloc, list, rest)?;
-        let searched = self.search_places(alloc, list, &places, rest);
-        self.keep_buffer(places);
+        let indexes = self.find_candidates(alloc, list, rest)?;
+        let searched = self.search_lines(alloc, list, &indexes, rest);
+        self.keep_buffer(indexes);
         searched
     }
 
-    // The places of the lines to test, the greatest first. They are in the buffer of places, which `keep_buffer` puts
+    // The indexes of the lines to test, the greatest first. They are in the buffer of indexes, which `keep_buffer` puts
     // back.
     fn find_candidates(
         &mut self,
@@ -513,41 +513,41 @@ impl SearchState {
         rest: PathQuery<'_>,
     ) -> Result<Vec<usize>, AllocError>
         ensures unchanged { self.new ≡ self.old }
-        ensures places { IfOk result (λ places. AreTried rest.entry.case
-            (bstr_bytes rest.entry.path) (patterns_of list.now.list.patterns.items) places.items) }
+        ensures indexes { IfOk result (λ indexes. AreTried rest.entry.case
+            (bstr_bytes rest.entry.path) (patterns_of list.now.list.patterns.items) indexes.items) }
     {
         let buffers = &mut self.buffers;
-        list.find_candidates(rest, &mut buffers.reversed, &mut buffers.places)?;
-        Ok(mem::replace(&mut buffers.places, Vec::new(alloc)))
+        list.find_candidates(rest, &mut buffers.reversed, &mut buffers.indexes)?;
+        Ok(mem::replace(&mut buffers.indexes, Vec::new(alloc)))
     }
 
-    fn keep_buffer(&mut self, places: Vec<usize>)
+    fn keep_buffer(&mut self, indexes: Vec<usize>)
         ensures { self.new ≡ self.old }
     {
-        self.buffers.places = places;
+        self.buffers.indexes = indexes;
     }
 
-    // Searches the lines at some places, in their order, until each wanted attribute has an answer.
-    fn search_places(
+    // Searches the lines at some indexes, in their order, until each wanted attribute has an answer.
+    fn search_lines(
         &mut self,
         alloc: Global,
         list: &IndexedList,
-        places: &[usize],
+        indexes: &[usize],
         rest: PathQuery<'_>,
     ) -> Result<(), AllocError>
-        requires places { All (λ place. place < length list.now.list.patterns.items) places.now }
+        requires indexes { All (λ index. index < length list.now.list.patterns.items) indexes.now }
         requires in_lines { LinesHaveSlots (length self.old.answers) (listed_view list.now).lines }
         ensures kept { KeepsState self.old self.new }
         ensures named { OnOk result (ListKeepsNamed (listed_view list.now) self.old self.new) }
-        ensures tested { OnOk result (self.new.tested ≤ self.old.tested + length places.now) }
-        ensures searched { OnOk result (SearchedPlaces
-            rest.entry (listed_view list.now) places.now self.old self.new) }
+        ensures tested { OnOk result (self.new.tested ≤ self.old.tested + length indexes.now) }
+        ensures searched { OnOk result (SearchedLines
+            rest.entry (listed_view list.now) indexes.now self.old self.new) }
     {
-        for place in places {
+        for line in indexes {
             if self.is_done() {
                 return Ok(());
             }
-            self.search_line(alloc, list, *place, rest)?;
+            self.search_line(alloc, list, *line, rest)?;
         }
         Ok(())
     }
@@ -558,21 +558,21 @@ impl SearchState {
         &mut self,
         alloc: Global,
         list: &IndexedList,
-        place: usize,
+        index: usize,
         rest: PathQuery<'_>,
     ) -> Result<(), AllocError>
-        requires place { place < length list.now.list.patterns.items }
+        requires index { index < length list.now.list.patterns.items }
         requires in_lines { LinesHaveSlots (length self.old.answers) (listed_view list.now).lines }
         ensures kept { KeepsState self.old self.new }
         ensures named { OnOk result (ListKeepsNamed (listed_view list.now) self.old self.new) }
         ensures tested { self.new.tested ≤ self.old.tested + 1 }
         ensures passed { OnOk result (has_free_item self.old
-            (entry_at (listed_view list.now).lines place).items ≡ false →
+            (entry_at (listed_view list.now).lines index).items ≡ false →
             self.new.tested ≡ self.old.tested) }
         ensures searched { OnOk result (SearchedLine
-            rest.entry (listed_view list.now) place self.old self.new) }
+            rest.entry (listed_view list.now) index self.old self.new) }
     {
-        let mapping = &list.list.patterns[place];
+        let mapping = &list.list.patterns[index];
         let Some(items) = assigned(&mapping.value) else {
             return Ok(());
         };
@@ -580,12 +580,12 @@ impl SearchState {
             return Ok(());
         }
         self.tested = self.tested.saturating_add(1);
-        if !list.matches(place, rest, &mut self.buffers.matching)? {
+        if !list.matches(index, rest, &mut self.buffers.matching)? {
             return Ok(());
         }
         let line = MatchingLine {
             index: &list.index,
-            line: place,
+            line: index,
             items,
         };
         self.filler.fill_attributes(alloc, line)

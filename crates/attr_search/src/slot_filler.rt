@@ -7,7 +7,7 @@ ghost use Rattle.attr_search.specs.Settings.{HaveSlots};
 ghost use Rattle.attr_search.specs.Slots.{table_items, table_state};
 ghost use Rattle.attr_search.specs.shared.SlotContents.{open_slots};
 ghost use Rattle.attr_search.specs.inner.Filling.{AtLine, CanFill, Fills, FillsNamed, KeepsFiller, Processes, most_left, stack_tasks};
-ghost use Rattle.attr_search.specs.inner.Pending.{IsPlaced, PushesFree, PushesPlaced, line_origin};
+ghost use Rattle.attr_search.specs.inner.Pending.{IsInside, PushesFree, PushesInside, line_origin};
 
 use crate::matching_line::MatchingLine;
 use crate::pending_item::{PendingItem, body_of};
@@ -81,7 +81,7 @@ impl SlotFiller {
         line: MatchingLine<'_>,
     ) -> Result<(), AllocError>
         requires at_line { AtLine line self.old }
-        requires placed { IsPlaced line.items.now self.old.slots.bodies top }
+        requires inside { IsInside line.items.now self.old.slots.bodies top }
         ensures at_line { OnOk result (AtLine line.entry self.new) }
         ensures kept { KeepsFiller self.old self.new }
         ensures named { OnOk result (FillsNamed line.entry.items.now self.old self.new) }
@@ -123,11 +123,11 @@ fn push_free(
     requires { HaveSlots (length slots.now.answers) items.now }
     ensures pushed { OnOk result (PushesFree
         (open_slots slots.now) cause items.now stack.old.items stack.new.items) }
-    ensures placed { OnOk result (PushesPlaced cause items.now stack.old.items stack.new.items) }
+    ensures inside { OnOk result (PushesInside cause items.now stack.old.items stack.new.items) }
 {
-    for (place, item) in items.iter().enumerate() {
+    for (index, item) in items.iter().enumerate() {
         if slots.is_free(item.id.0) {
-            stack.push(PendingItem { cause, place })?;
+            stack.push(PendingItem { cause, index })?;
         }
     }
     Ok(())

@@ -10,7 +10,7 @@ ghost use Rattle.std.specs.List.Sorted.{IsNonDecreasing};
 ghost use Rattle.std.specs.Option.{option_copied};
 ghost use Rattle.attr_search.specs.Slots.{AreFreeFrom, IsNextFilled, filled_in, slots_of};
 ghost use Rattle.attr_search.specs.shared.BodyChanges.{changed_bodies, sized_bodies};
-ghost use Rattle.attr_search.specs.inner.Pending.{IsPlaced, item_answer, line_origin, pending_item};
+ghost use Rattle.attr_search.specs.inner.Pending.{IsInside, item_answer, line_origin, pending_item};
 ghost use Rattle.attr_search.specs.shared.Slotted.{bodies_view};
 ghost use Rattle.attr_search.specs.shared.SlotContents.{AreFlagsAmong, AreListed, SlotContents, count_remaining, empty_slots, open_slots, wanted_numbers};
 ghost use Rattle.attr_search.specs.inner.SlotsView.{AllAreNeeded, AreOpen};
@@ -241,7 +241,7 @@ impl AnswerSlots {
         top: PendingItem,
         attribute: usize,
     ) -> Result<(), AllocError>
-        requires placed { IsPlaced line.items.now self.old.bodies top }
+        requires inside { IsInside line.items.now self.old.bodies top }
         requires own { attribute ≡ (pending_item line.items.now self.old.bodies top).id.0 }
         requires within { attribute < length self.old.answers }
         requires bodies { length self.old.bodies ≡ length self.old.answers }
@@ -352,8 +352,8 @@ fn count_remaining(wanted: &WantedFlags, slots: &[Option<MatchRef>]) -> usize
     ensures { result ≡ count_remaining wanted.now slots.now }
 {
     let mut remaining = 0;
-    for place in 0..slots.len() {
-        if is_remaining(wanted.has(place), slots[place]) {
+    for number in 0..slots.len() {
+        if is_remaining(wanted.has(number), slots[number]) {
             remaining += 1;
         }
     }
@@ -373,8 +373,8 @@ fn next_listed(slots: &[Option<MatchRef>], numbers: &[usize], from: usize) -> Op
     ensures { MatchOption result (AreFreeFrom slots.now from) (IsNextFilled slots.now from) }
 {
     let start = numbers.partition_point(|number| *number < from);
-    for place in start..numbers.len() {
-        let number = numbers[place];
+    for index in start..numbers.len() {
+        let number = numbers[index];
         if slots[number].is_some() {
             return Some(number);
         }

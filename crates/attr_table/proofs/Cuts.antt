@@ -92,7 +92,7 @@ module _ (s : Setting) (start : Slots) (wanted : List ℕ) (final : Slots) (end 
           let f = within k.0 r.0 r.1 in
           let same : r.0 ≡ k.1 = cc in
           let first = (end.facts.entries k.0 r.0 r.1).first c.0 c.1 in
-          let before : IsEarlier k.1 o = rw same at (earlier_below r.0 c.0.place o first c.2) in
+          let before : IsEarlier k.1 o = rw same at (earlier_below r.0 c.0.occurrence o first c.2) in
           ⊎_elim
           (λ (g : o ≡ k.1). first_irreflexive (path o) (rw (← g) at before))
           (λ (g : IsEarlier o k.1).

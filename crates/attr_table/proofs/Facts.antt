@@ -11,11 +11,11 @@ use Rattle.attr_table.proofs.Nodes.{Node, IsNode, PartsAt, nodes_of, root_in, ro
 
 -- some node is that of the occurrence
 abbrev pub Waits : Occurrence → List Node → Type 0
-Waits o nodes = (n : Node) × Mem n nodes × (n.place ≡ o)
+Waits o nodes = (n : Node) × Mem n nodes × (n.occurrence ≡ o)
 
 -- some node is that of the occurrence, or above it
 abbrev pub Covers : List Node → Occurrence → Type 0
-Covers nodes o = (n : Node) × Mem n nodes × ((n.place ≡ o) ⊎ Below n.place o)
+Covers nodes o = (n : Node) × Mem n nodes × ((n.occurrence ≡ o) ⊎ Below n.occurrence o)
 
 -- an attribute is settled by the start, or by an entry that is not later than an occurrence
 abbrev pub IsSettled : Slots → Table → Occurrence → ℕ → Type 0
@@ -29,7 +29,7 @@ pub record IsEntry (s : Setting) (start : Slots) (table : Table) (nodes : List N
   pub live : IsLive s table o item
   pub of : item.attribute ≡ a
   pub free : start a ≡ None
-  pub first : (n : Node) → Mem n nodes → IsEarlier o n.place
+  pub first : (n : Node) → Mem n nodes → IsEarlier o n.occurrence
 
 -- all entries are in another table
 abbrev pub IsWithin : Table → Table → Type 0
@@ -51,7 +51,7 @@ IsLast done wanted table slots =
 pub record Facts (s : Setting) (start : Slots) (done : Slots → Bool) (wanted : List ℕ) (table : Table) (nodes : List Node) (slots : Slots) : Type 0
   where
     pub nodes_are : (n : Node) → Mem n nodes → IsNode s n
-    pub reached : (n : Node) → Mem n nodes → IsReached s table n.place
+    pub reached : (n : Node) → Mem n nodes → IsReached s table n.occurrence
     pub ordered : IsOrdered PartsAt nodes
     pub entries : (a : ℕ) (o : Occurrence) → table a ≡ Some o → IsEntry s start table nodes a o
     pub met : (o : Occurrence) (i : Item) → IsLive s table o i → Waits o nodes ⊎ IsSettled start table o i.attribute
@@ -94,7 +94,7 @@ no_entries a = None
 pub root_above : (s : Setting) (o : Occurrence) (i : Item) → item_at s o ≡ Some i → Covers (nodes_of s.lists) o
 root_above s (Root list line item) i e =
     let r = root_in s list line item i e in (r.0, r.1, inl r.2)
-root_above s (Inside parent place) i e =
+root_above s (Inside parent index) i e =
     ⊎_elim
     (λ (r : (j : Item) × (item_at s parent ≡ Some j)).
     let c = root_above s parent r.0 r.1 in
@@ -125,7 +125,7 @@ at_start s start done wanted =
     met : (o : Occurrence) (i : Item) → IsLive s no_entries o i →
         Waits o (nodes_of s.lists) ⊎ IsSettled start no_entries o i.attribute
     met (Root list line item) i live = inl (root_in s list line item i live.item)
-    met (Inside parent place) i live = absurd (let e = live.reached.3 in cc)
+    met (Inside parent index) i live = absurd (let e = live.reached.3 in cc)
 
     shown : (x : Option Answer) → x ≡ full_answer s x None
     shown None = refl

@@ -21,7 +21,7 @@ with_entry table a o b = if eqb b a then Some o else table b
 pub reached_still : (s : Setting) (table other : Table) → IsWithin table other → (o : Occurrence) →
     IsReached s table o → IsReached s other o
 reached_still s table other within (Root list line item) r = tt
-reached_still s table other within (Inside parent place) r = (r.0, r.1, r.2, within r.0.attribute parent r.3)
+reached_still s table other within (Inside parent index) r = (r.0, r.1, r.2, within r.0.attribute parent r.3)
 
 module _ (s : Setting) (start : Slots) (done : Slots → Bool) (wanted : List ℕ) (table : Table) (h : Node) (nodes : List Node) (slots : Slots)
     (facts : Facts s start done wanted table (h ∷ nodes) slots) (empty : slots h.task.item.attribute ≡ None) where
@@ -32,9 +32,9 @@ module _ (s : Setting) (start : Slots) (done : Slots → Bool) (wanted : List �
   no_entry = (empty_parts s start done wanted table (h ∷ nodes) slots facts h.task.item.attribute empty).1
 
   next : Table
-  next = with_entry table h.task.item.attribute h.place
+  next = with_entry table h.task.item.attribute h.occurrence
 
-  next_same : next h.task.item.attribute ≡ Some h.place
+  next_same : next h.task.item.attribute ≡ Some h.occurrence
   unfolding next
   next_same = let e = eq-eqb h.task.item.attribute h.task.item.attribute refl in rw e refl
 
@@ -44,7 +44,7 @@ module _ (s : Setting) (start : Slots) (done : Slots → Bool) (wanted : List �
 
   -- an entry of the next table is the node's, or was there before
   next_cases : (a : ℕ) (o : Occurrence) → next a ≡ Some o →
-      ((a ≡ h.task.item.attribute) × (o ≡ h.place)) ⊎ (table a ≡ Some o)
+      ((a ≡ h.task.item.attribute) × (o ≡ h.occurrence)) ⊎ (table a ≡ Some o)
   next_cases a o e =
       ⊎_elim
       (λ (d : a ≡ h.task.item.attribute). let f = next_same in let g = rw d at e in inl (d, cc))
@@ -68,21 +68,21 @@ module _ (s : Setting) (start : Slots) (done : Slots → Bool) (wanted : List �
   is : IsNode s h
   is = facts.nodes_are h (inl refl)
 
-  h_live : IsLive s table h.place h.task.item
+  h_live : IsLive s table h.occurrence h.task.item
   h_live = record { item = is.item; reached = facts.reached h (inl refl) }
 
   nodes_are : (n : Node) → Mem n more → IsNode s n
   nodes_are n m =
       ⊎_elim (λ a. (child_is s h n is a).2) (λ b. facts.nodes_are n (inr b)) (mem_more n m)
 
-  reached : (n : Node) → Mem n more → IsReached s next n.place
+  reached : (n : Node) → Mem n more → IsReached s next n.occurrence
   reached n m =
       ⊎_elim
       (λ a.
       let r = child_is s h n is a in
       let e = r.1 in
       rw e (h.task.item, is.item, r.3, next_same))
-      (λ b. reached_still s table next within n.place (facts.reached n (inr b)))
+      (λ b. reached_still s table next within n.occurrence (facts.reached n (inr b)))
       (mem_more n m)
 
   ordered : IsOrdered PartsAt more
@@ -92,27 +92,27 @@ module _ (s : Setting) (start : Slots) (done : Slots → Bool) (wanted : List �
       (λ c n a b.
       let r = child_is s h c is a in
       let e = r.1 in
-      rw e (parts_left (path h.place) (path n.place) (r.0 ∷ []) (facts.ordered.0 n b)))
+      rw e (parts_left (path h.occurrence) (path n.occurrence) (r.0 ∷ []) (facts.ordered.0 n b)))
 
   -- the node's occurrence comes before all nodes that are left
-  first : (n : Node) → Mem n more → IsEarlier h.place n.place
+  first : (n : Node) → Mem n more → IsEarlier h.occurrence n.occurrence
   first n m =
       ⊎_elim
       (λ a.
       let r = child_is s h n is a in
       let e = r.1 in
-      rw e (first_beginning (path h.place) r.0 []))
-      (λ b. parts_first (path h.place) (path n.place) (facts.ordered.0 n b))
+      rw e (first_beginning (path h.occurrence) r.0 []))
+      (λ b. parts_first (path h.occurrence) (path n.occurrence) (facts.ordered.0 n b))
       (mem_more n m)
 
   entries : (a : ℕ) (o : Occurrence) → next a ≡ Some o → IsEntry s start next more a o
   entries a o e =
       ⊎_elim
-      (λ (d : (a ≡ h.task.item.attribute) × (o ≡ h.place)).
+      (λ (d : (a ≡ h.task.item.attribute) × (o ≡ h.occurrence)).
       let f = d.0 in let g = d.1 in
       rw (f, g) record {
         item = h.task.item;
-        live = record { item = is.item; reached = reached_still s table next within h.place h_live.reached };
+        live = record { item = is.item; reached = reached_still s table next within h.occurrence h_live.reached };
         of = refl;
         free = free;
         first = first;
@@ -124,7 +124,7 @@ module _ (s : Setting) (start : Slots) (done : Slots → Bool) (wanted : List �
         live = record { item = r.live.item; reached = reached_still s table next within o r.live.reached };
         of = r.of;
         free = r.free;
-        first = λ n m. first_trans (path o) (path h.place) (path n.place) (r.first h (inl refl)) (first n m);
+        first = λ n m. first_trans (path o) (path h.occurrence) (path n.occurrence) (r.first h (inl refl)) (first n m);
       })
       (next_cases a o e)
 
@@ -140,11 +140,11 @@ module _ (s : Setting) (start : Slots) (done : Slots → Bool) (wanted : List �
       (λ (w : Waits o (h ∷ nodes)).
       ⊎_elim
       (λ (d : w.0 ≡ h).
-      let f : h.place ≡ o = sym (ap (λ (x : Node). x.place) d) ∙ w.2 in
+      let f : h.occurrence ≡ o = sym (ap (λ (x : Node). x.occurrence) d) ∙ w.2 in
       let g = is.item in let l = live.item in
       let same : i ≡ h.task.item = cc in
       let n = next_same in
-      inr (inr (h.place, rw same n, inl f)))
+      inr (inr (h.occurrence, rw same n, inl f)))
       (λ m. inl (w.0, mem_right w.0 (child_nodes s.bodies h) nodes m, w.2))
       w.1)
       (λ k. inr (settled_still o i.attribute k))
@@ -153,21 +153,21 @@ module _ (s : Setting) (start : Slots) (done : Slots → Bool) (wanted : List �
   met : (o : Occurrence) (i : Item) → IsLive s next o i → Waits o more ⊎ IsSettled start next o i.attribute
   unfolding more
   met (Root list line item) i live = met_before (Root list line item) i (record { item = live.item; reached = tt })
-  met (Inside parent place) i live =
+  met (Inside parent index) i live =
       let r = live.reached in
       ⊎_elim
-      (λ (d : (r.0.attribute ≡ h.task.item.attribute) × (parent ≡ h.place)).
+      (λ (d : (r.0.attribute ≡ h.task.item.attribute) × (parent ≡ h.occurrence)).
       let f = d.1 in
       let g = is.item in let k = r.1 in
       let same : r.0 ≡ h.task.item = cc in
       let set : h.task.item.state ≡ Set = sym (ap (λ (x : Item). x.state) same) ∙ r.2 in
       let l = live.item in
-      inl (inside place i f set (rw f at l)))
+      inl (inside index i f set (rw f at l)))
       (λ (d : table r.0.attribute ≡ Some parent).
-      met_before (Inside parent place) i (record { item = live.item; reached = (r.0, r.1, r.2, d) }))
+      met_before (Inside parent index) i (record { item = live.item; reached = (r.0, r.1, r.2, d) }))
       (next_cases r.0.attribute parent r.3)
     where
-      inside : (k : ℕ) (j : Item) → parent ≡ h.place → h.task.item.state ≡ Set → item_at s (Inside h.place k) ≡ Some j →
+      inside : (k : ℕ) (j : Item) → parent ≡ h.occurrence → h.task.item.state ≡ Set → item_at s (Inside h.occurrence k) ≡ Some j →
           Waits (Inside parent k) more
       inside k j e set item =
           let c = child_in s h k j is set item in
@@ -188,41 +188,41 @@ module _ (s : Setting) (start : Slots) (done : Slots → Bool) (wanted : List �
       (cases_eq a h.task.item.attribute)
 
   -- the nodes cover no occurrence that is earlier than the node's
-  covered_later : (o : Occurrence) → Covers (h ∷ nodes) o → (h.place ≡ o) ⊎ IsEarlier h.place o
+  covered_later : (o : Occurrence) → Covers (h ∷ nodes) o → (h.occurrence ≡ o) ⊎ IsEarlier h.occurrence o
   covered_later o c =
       ⊎_elim
       (λ (d : c.0 ≡ h).
-      let place : h.place ≡ c.0.place = sym (ap (λ (x : Node). x.place) d) in
+      let here : h.occurrence ≡ c.0.occurrence = sym (ap (λ (x : Node). x.occurrence) d) in
       ⊎_elim
-      (λ (e : c.0.place ≡ o). inl (place ∙ e))
-      (λ (b : Below c.0.place o). inr (rw place (below_later c.0.place o b)))
+      (λ (e : c.0.occurrence ≡ o). inl (here ∙ e))
+      (λ (b : Below c.0.occurrence o). inr (rw here (below_later c.0.occurrence o b)))
       c.2)
-      (λ m. inr (parts_first (path h.place) (path o)
-      (parts_below h.place c.0.place o (facts.ordered.0 c.0 m) c.2)))
+      (λ m. inr (parts_first (path h.occurrence) (path o)
+      (parts_below h.occurrence c.0.occurrence o (facts.ordered.0 c.0 m) c.2)))
       c.1
 
   module _ (other : Table) (stable : IsStable s start other) where
     -- each stable table has the node's occurrence as its attribute's entry
-    is_entry : other h.task.item.attribute ≡ Some h.place
+    is_entry : other h.task.item.attribute ≡ Some h.occurrence
     is_entry =
         let agrees = facts.others other stable in
-        let live : IsLive s other h.place h.task.item = record {
+        let live : IsLive s other h.occurrence h.task.item = record {
           item = is.item;
-          reached = reached_still s table other agrees.within h.place h_live.reached;
+          reached = reached_still s table other agrees.within h.occurrence h_live.reached;
         } in
-        let r = entry_of s start other stable h.task.item.attribute h.place h.task.item free live refl in
+        let r = entry_of s start other stable h.task.item.attribute h.occurrence h.task.item free live refl in
         let e = r.1 in
         ⊎_elim
-        (λ (d : r.0 ≡ h.place). cc)
-        (λ (earlier : IsEarlier r.0 h.place).
+        (λ (d : r.0 ≡ h.occurrence). cc)
+        (λ (earlier : IsEarlier r.0 h.occurrence).
         ⊎_elim
         (λ (t : table h.task.item.attribute ≡ Some r.0). let n = no_entry in absurd (cc))
         (λ (c : Covers (h ∷ nodes) r.0).
         ⊎_elim
-        (λ (d : h.place ≡ r.0). cc)
-        (λ (later : IsEarlier h.place r.0).
-        absurd (first_irreflexive (path h.place)
-        (first_trans (path h.place) (path r.0) (path h.place) later earlier)))
+        (λ (d : h.occurrence ≡ r.0). cc)
+        (λ (later : IsEarlier h.occurrence r.0).
+        absurd (first_irreflexive (path h.occurrence)
+        (first_trans (path h.occurrence) (path r.0) (path h.occurrence) later earlier)))
         (covered_later r.0 c))
         (agrees.covered h.task.item.attribute r.0 e))
         r.2
@@ -230,27 +230,27 @@ module _ (s : Setting) (start : Slots) (done : Slots → Bool) (wanted : List �
     other_within : IsWithin next other
     other_within a o e =
         ⊎_elim
-        (λ (d : (a ≡ h.task.item.attribute) × (o ≡ h.place)).
+        (λ (d : (a ≡ h.task.item.attribute) × (o ≡ h.occurrence)).
         let f = d.0 in let g = d.1 in let k = is_entry in cc)
         (λ t. (facts.others other stable).within a o t)
         (next_cases a o e)
 
     -- an entry inside the node's occurrence is covered by a child
-    inside_covered : (o : Occurrence) → IsReached s other o → (i : Item) → item_at s o ≡ Some i → Below h.place o →
+    inside_covered : (o : Occurrence) → IsReached s other o → (i : Item) → item_at s o ≡ Some i → Below h.occurrence o →
         Covers more o
     unfolding more
     inside_covered o reached i item b =
-        let r = below_child h.place o b in
-        let set = (above_live s start other stable h.place o reached b) in
+        let r = below_child h.occurrence o b in
+        let set = (above_live s start other stable h.occurrence o reached b) in
         let x = set.1.item in let y = is.item in
         let same : set.0 ≡ h.task.item = cc in
         let state : h.task.item.state ≡ Set = sym (ap (λ (x : Item). x.state) same) ∙ set.2 in
         ⊎_elim
-        (λ (e : Inside h.place r.0 ≡ o).
+        (λ (e : Inside h.occurrence r.0 ≡ o).
         let c = child_in s h r.0 i is state (ap (λ p. item_at s p) e ∙ item) in
         (c.0, mem_left c.0 (child_nodes s.bodies h) nodes c.1, inl (c.2 ∙ e)))
-        (λ (d : Below (Inside h.place r.0) o).
-        let q = above_live s start other stable (Inside h.place r.0) o reached d in
+        (λ (d : Below (Inside h.occurrence r.0) o).
+        let q = above_live s start other stable (Inside h.occurrence r.0) o reached d in
         let c = child_in s h r.0 q.0 is state q.1.item in
         let e = c.2 in
         (c.0, mem_left c.0 (child_nodes s.bodies h) nodes c.1, inr (rw e d)))
@@ -265,17 +265,17 @@ module _ (s : Setting) (start : Slots) (done : Slots → Bool) (wanted : List �
         (λ (c : Covers (h ∷ nodes) o).
         ⊎_elim
         (λ (d : c.0 ≡ h).
-        let place : h.place ≡ c.0.place = sym (ap (λ (x : Node). x.place) d) in
+        let here : h.occurrence ≡ c.0.occurrence = sym (ap (λ (x : Node). x.occurrence) d) in
         ⊎_elim
-        (λ (at : c.0.place ≡ o).
+        (λ (at : c.0.occurrence ≡ o).
         let x = entry.1.item in let y = is.item in
         let same : entry.0 ≡ h.task.item = cc in
         let of : a ≡ h.task.item.attribute =
         sym entry.2 ∙ ap (λ (x : Item). x.attribute) same in
         let n = next_same in
-        inl (rw of (n ∙ ap Some (place ∙ at))))
-        (λ (b : Below c.0.place o).
-        inr (inside_covered o entry.1.reached entry.0 entry.1.item (rw place b)))
+        inl (rw of (n ∙ ap Some (here ∙ at))))
+        (λ (b : Below c.0.occurrence o).
+        inr (inside_covered o entry.1.reached entry.0 entry.1.item (rw here b)))
         c.2)
         (λ m. inr (c.0, mem_right c.0 (child_nodes s.bodies h) nodes m, c.2))
         c.1)
@@ -288,12 +288,12 @@ module _ (s : Setting) (start : Slots) (done : Slots → Bool) (wanted : List �
         (λ (d : done (fill s.bodies h.task slots) ≡ true).
         inr (inr (
           h.task.item.attribute,
-          h.place,
+          h.occurrence,
           turns d,
           next_same,
           λ a o e.
               ⊎_elim
-              (λ (r : (a ≡ h.task.item.attribute) × (o ≡ h.place)). inl r.1)
+              (λ (r : (a ≡ h.task.item.attribute) × (o ≡ h.occurrence)). inl r.1)
               (λ t. inr ((facts.entries a o t).first h (inl refl)))
               (next_cases a o e),
         )))

@@ -72,7 +72,7 @@ ordered_backward R f (x ∷ xs) each apart =
     let r = mem_backward (λ k. f (suc k)) xs u a in
     apart 0 (suc r.0) r.1 x u v (omega arith) r.3 b)
 
--- without indices it is `backwards`
+-- without indexes it is `backwards`
 pub map-backward : {X Y Z : Type 0} (g : Y → Z) (f : ℕ → X → List Y) (h : X → List Z) (xs : List X) →
     ((k : ℕ) (x : X) → map g (f k x) ≡ h x) → map g (backward f xs) ≡ backwards h xs
 map-backward g f h [] same = refl

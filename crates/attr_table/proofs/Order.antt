@@ -24,7 +24,7 @@ pub first_beginning : (xs : List ℕ) (y : ℕ) (ys : List ℕ) → ComesFirst x
 first_beginning [] y ys = tt
 first_beginning (x ∷ xs) y ys = inr (refl, first_beginning xs y ys)
 
--- the ways part, and the first goes to a later place
+-- the ways part, and the first goes to a later index
 abbrev pub Parts : List ℕ → List ℕ → Type 0
 Parts [] ys = ⊥
 Parts (x ∷ xs) [] = ⊥
@@ -52,16 +52,16 @@ parts_last (x ∷ xs) j k lt = inr (refl, parts_last xs j k lt)
 -- an occurrence is inside another, at any depth
 abbrev pub Below : Occurrence → Occurrence → Type 0
 Below o (Root list line item) = ⊥
-Below o (Inside parent place) = (o ≡ parent) ⊎ Below o parent
+Below o (Inside parent index) = (o ≡ parent) ⊎ Below o parent
 
 pub below_path : (o p : Occurrence) → Below o p → (y : ℕ) × (ys : List ℕ) × (path p ≡ path o ++ y ∷ ys)
 below_path o (Root list line item) b = absurd b
-below_path o (Inside parent place) b =
+below_path o (Inside parent index) b =
     ⊎_elim
-    (λ (e : o ≡ parent). (place, [], rw e refl))
+    (λ (e : o ≡ parent). (index, [], rw e refl))
     (λ d. let r = below_path o parent d in
     let e = r.2 in
-    (r.0, r.1 ++ place ∷ [], rw e (append_assoc (path o) (r.0 ∷ r.1) (place ∷ []))))
+    (r.0, r.1 ++ index ∷ [], rw e (append_assoc (path o) (r.0 ∷ r.1) (index ∷ []))))
     b
 
 pub below_later : (o p : Occurrence) → Below o p → IsEarlier o p
@@ -70,9 +70,9 @@ below_later o p b = let r = below_path o p b in let e = r.2 in rw e (first_begin
 -- of the parts of an occurrence, or of the occurrences inside them
 pub below_child : (o p : Occurrence) → Below o p → (k : ℕ) × ((Inside o k ≡ p) ⊎ Below (Inside o k) p)
 below_child o (Root list line item) b = absurd b
-below_child o (Inside parent place) b =
+below_child o (Inside parent index) b =
     ⊎_elim
-    (λ (e : o ≡ parent). (place, inl (rw e refl)))
+    (λ (e : o ≡ parent). (index, inl (rw e refl)))
     (λ d. let r = below_child o parent d in (r.0, inr r.1))
     b
 

@@ -11,7 +11,7 @@ use Rattle.attr_table.proofs.Facts.{Facts, Waits, Covers, IsSettled}
 module _ (s : Setting) (start : Slots) (done : Slots → Bool) (wanted : List ℕ) (table : Table) (h : Node) (nodes : List Node) (slots : Slots)
     (facts : Facts s start done wanted table (h ∷ nodes) slots) (filled : is_some (slots h.task.item.attribute) ≡ true) where
   -- the attribute of the node is settled
-  settled : IsSettled start table h.place h.task.item.attribute
+  settled : IsSettled start table h.occurrence h.task.item.attribute
   settled =
       ⊎_elim
       (λ (r : (x : Answer) × (start h.task.item.attribute ≡ Some x)). inl r)
@@ -33,7 +33,7 @@ module _ (s : Setting) (start : Slots) (done : Slots → Bool) (wanted : List �
       (λ (w : Waits o (h ∷ nodes)).
       ⊎_elim
       (λ (e : w.0 ≡ h).
-      let d : o ≡ h.place = let f = w.2 in rw e at (sym f) in
+      let d : o ≡ h.occurrence = let f = w.2 in rw e at (sym f) in
       let is = (facts.nodes_are h (inl refl)).item in
       let l = live.item in
       let same : i ≡ h.task.item = let k = rw d at l in cc in
@@ -45,20 +45,20 @@ module _ (s : Setting) (start : Slots) (done : Slots → Bool) (wanted : List �
 
   -- a stable table has no new entry at the node or inside it
   module _ (other : Table) (stable : IsStable s start other) where
-    not_entry : other h.task.item.attribute ≡ Some h.place → ⊥
+    not_entry : other h.task.item.attribute ≡ Some h.occurrence → ⊥
     not_entry e =
         ⊎_elim
         (λ (r : (x : Answer) × (start h.task.item.attribute ≡ Some x)).
         let d = stable_taken s start other stable h.task.item.attribute r.0 r.1 in
         absurd (cc))
-        (λ (r : (p : Occurrence) × (table h.task.item.attribute ≡ Some p) × ((p ≡ h.place) ⊎ IsEarlier p h.place)).
+        (λ (r : (p : Occurrence) × (table h.task.item.attribute ≡ Some p) × ((p ≡ h.occurrence) ⊎ IsEarlier p h.occurrence)).
         let d = (facts.others other stable).within h.task.item.attribute r.0 r.1 in
-        let same : r.0 ≡ h.place = cc in
+        let same : r.0 ≡ h.occurrence = cc in
         let first = (facts.entries h.task.item.attribute r.0 r.1).first h (inl refl) in
-        first_irreflexive (path h.place) (rw same at first))
+        first_irreflexive (path h.occurrence) (rw same at first))
         settled
 
-    not_here : (o : Occurrence) (i : Item) → item_at s o ≡ Some i → o ≡ h.place → other i.attribute ≡ Some o → ⊥
+    not_here : (o : Occurrence) (i : Item) → item_at s o ≡ Some i → o ≡ h.occurrence → other i.attribute ≡ Some o → ⊥
     not_here o i item at e =
         let is = (facts.nodes_are h (inl refl)).item in
         let same : i ≡ h.task.item = cc in
@@ -72,17 +72,17 @@ module _ (s : Setting) (start : Slots) (done : Slots → Bool) (wanted : List �
         (λ (c : Covers (h ∷ nodes) o). ⊎_elim (λ d. absurd (at c.0 d c.2)) (λ m. inr (c.0, m, c.2)) c.1)
         ((facts.others other stable).covered a o e)
       where
-        at : (n : Node) → n ≡ h → (n.place ≡ o) ⊎ Below n.place o → ⊥
+        at : (n : Node) → n ≡ h → (n.occurrence ≡ o) ⊎ Below n.occurrence o → ⊥
         at n d c =
             let entry = (entry_is s start other stable a o e).0 in
-            let place : n.place ≡ h.place = ap (λ (x : Node). x.place) d in
+            let here : n.occurrence ≡ h.occurrence = ap (λ (x : Node). x.occurrence) d in
             ⊎_elim
-            (λ (same : n.place ≡ o).
+            (λ (same : n.occurrence ≡ o).
             let of = entry.2 in
             not_here o entry.0 entry.1.item (cc) (rw of e))
-            (λ (below : Below n.place o).
-            let r = above_live s start other stable n.place o entry.1.reached below in
-            not_here n.place r.0 r.1.item place r.3)
+            (λ (below : Below n.occurrence o).
+            let r = above_live s start other stable n.occurrence o entry.1.reached below in
+            not_here n.occurrence r.0 r.1.item here r.3)
             c
 
   pub skipped : Facts s start done wanted table nodes slots

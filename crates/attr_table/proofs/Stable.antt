@@ -28,7 +28,7 @@ origin_of s (Root list line item) i e = go (line_at s list line) e
         (origin : Origin) × (option_map (λ l. l.origin) l ≡ Some origin)
     go None d = absurd (cc)
     go (Some l) d = (l.origin, refl)
-origin_of s (Inside parent place) i e =
+origin_of s (Inside parent index) i e =
     ⊎_elim
     (λ (r : (j : Item) × (item_at s parent ≡ Some j)). origin_of s parent r.0 r.1)
     (λ (n : item_at s parent ≡ None).
@@ -77,7 +77,7 @@ module _ (s : Setting) (start : Slots) (table : Table) (stable : IsStable s star
   pub above_live : (o p : Occurrence) → IsReached s table p → Below o p →
       (i : Item) × IsLive s table o i × (i.state ≡ Set) × (table i.attribute ≡ Some o)
   above_live o (Root list line item) h b = absurd b
-  above_live o (Inside parent place) h b =
+  above_live o (Inside parent index) h b =
       let live = (entry_is h.0.attribute parent h.3).0 in
       ⊎_elim
       (λ (e : o ≡ parent).

@@ -5,15 +5,15 @@ use Rattle.std.specs.List.{list_all}
 use Rattle.attr_table.specs.Setting.{Item, Origin, Line, Setting, Answer, body_of}
 use Rattle.attr_table.specs.Table.{Occurrence, Root, Inside, Table, Slots, line_at, item_at, IsEarlier, IsStable}
 
--- the place of the line from which an occurrence is reached: never the line that defines a macro
+-- the origin of the line from which an occurrence is reached: never the line that defines a macro
 abbrev pub origin_at : Setting → Occurrence → Option Origin
 origin_at s (Root list line item) = option_map (λ l. l.origin) (line_at s list line)
-origin_at s (Inside parent place) = origin_at s parent
+origin_at s (Inside parent index) = origin_at s parent
 
 -- the attribute whose body has the occurrence, none for a root
 abbrev pub cause_at : Setting → Occurrence → Option ℕ
 cause_at s (Root list line item) = None
-cause_at s (Inside parent place) = option_map (λ i. i.attribute) (item_at s parent)
+cause_at s (Inside parent index) = option_map (λ i. i.attribute) (item_at s parent)
 
 -- the list is not empty; an attribute is a macro if its body is not
 abbrev pub is_filled : {X : Type 0} → List X → Bool

@@ -14,7 +14,7 @@ pub record Item : Type 0 where
   pub attribute : ℕ
   pub state : State
 
--- the place of a line: the text, mode and first wildcard of its pattern, its file, and its number from 1
+-- the origin of a line: the text, mode and first wildcard of its pattern, its file, and its number from 1
 pub record Origin : Type 0 where
   pub text : List ℕ
   pub mode : ℕ

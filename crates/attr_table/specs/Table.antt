@@ -11,22 +11,22 @@ pub data Occurrence : Type 0 where
   Root : ℕ → ℕ → ℕ → Occurrence
   Inside : Occurrence → ℕ → Occurrence
 
--- the line at a place of a list
+-- the line at an index of a list
 abbrev pub line_at : Setting → ℕ → ℕ → Option Line
 line_at s list line = option_and_then (λ lines. slice_get lines line) (slice_get s.lists list)
 
 -- the item that is read at an occurrence, if there is one
 abbrev pub item_at : Setting → Occurrence → Option Item
 item_at s (Root list line item) = option_and_then (λ l. slice_get l.items item) (line_at s list line)
-item_at s (Inside parent place) =
-    option_and_then (λ i. slice_get (body_of s.bodies i.attribute) place) (item_at s parent)
+item_at s (Inside parent index) =
+    option_and_then (λ i. slice_get (body_of s.bodies i.attribute) index) (item_at s parent)
 
--- the path to an occurrence: list, line and item, and then the indices in bodies
+-- the path to an occurrence: list, line and item, and then the indexes in bodies
 abbrev pub path : Occurrence → List ℕ
 path (Root list line item) = list ∷ line ∷ item ∷ []
-path (Inside parent place) = path parent ++ place ∷ []
+path (Inside parent index) = path parent ++ index ∷ []
 
--- a prefix comes first; otherwise, at the first difference, the later place comes first
+-- a prefix comes first; otherwise, at the first difference, the later index comes first
 abbrev pub ComesFirst : List ℕ → List ℕ → Type 0
 ComesFirst [] [] = ⊥
 ComesFirst [] (y ∷ ys) = Unit {0}
@@ -45,7 +45,7 @@ Table = ℕ → Option Occurrence
 -- attribute
 abbrev pub IsReached : Setting → Table → Occurrence → Type 0
 IsReached s table (Root list line item) = Unit {0}
-IsReached s table (Inside parent place) =
+IsReached s table (Inside parent index) =
     (i : Item) × (item_at s parent ≡ Some i) × (i.state ≡ Set) × (table i.attribute ≡ Some parent)
 
 -- an occurrence is live under a table, and this item is read there

@@ -42,7 +42,7 @@ pub struct Origin<'a> {
     pub text: &'a [u8],
     /// The bits of the pattern's mode.
     pub mode: u32,
-    /// The place of the first wildcard in the text, in bytes from 0, if it has one.
+    /// The offset of the first wildcard in the text, in bytes from 0, if it has one.
     pub wildcard: Option<usize>,
     /// The path of the file, if the list has one.
     pub source: Option<&'a [u8]>,

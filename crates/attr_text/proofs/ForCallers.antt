@@ -2,6 +2,6 @@
 
 -- Names. `valid_name_is_text`: a valid name is UTF-8.
 pub use Rattle.attr_text.proofs.NameLemmas.{valid_name_is_text}
--- Words. `words-step`, `words-end`: the words of a text are its first one, and those of the text after it. `place_of_first`,
--- `place_in_text`: where the first word begins. `blank-from_slice`, `equals-before_blank`, `no_equals`: where it ends.
-pub use Rattle.attr_text.proofs.WordLemmas.{blank-from_slice, equals-before_blank, no_equals, place_in_text, place_of_first, words-end, words-step}
+-- Words. `words-step`, `words-end`: the words of a text are its first one, and those of the text after it. `offset_of_first`,
+-- `offset_in_text`: where the first word begins. `blank-from_slice`, `equals-before_blank`, `no_equals`: where it ends.
+pub use Rattle.attr_text.proofs.WordLemmas.{blank-from_slice, equals-before_blank, no_equals, offset_in_text, offset_of_first, words-end, words-step}

@@ -14,7 +14,7 @@ use Rattle.attr_text.specs.Words.{AreWords}
 use Rattle.attr_text.specs.declared.state.State.{State}
 use Rattle.attr_text.specs.declared.state.State.TheVariants.{Set, Unset, Value, Unspecified}
 use Rattle.attr_text.specs.declared.assignment.Assignment.{Assignment}
-use Rattle.attr_text.proofs.ItemLemmas.{before-equals, before-whole, no_place, place-equals, item-plain, item-unset, item-unspecified}
+use Rattle.attr_text.proofs.ItemLemmas.{before-equals, before-whole, no_offset, offset-equals, item-plain, item-unset, item-unspecified}
 use Rattle.attr_text.proofs.WordLaws.{runs_are_words}
 
 before-part : (name rest : List ℕ) → HasNoEquals name → IsValuePart rest → before_first is_equals (name ++ rest) ≡ name
@@ -24,10 +24,10 @@ before-part name (b ∷ value) none part =
 
 form-reads : (word name : List ℕ) (state : State) → HasForm word name state → item_of word ≡ with_state (checked_name name) state
 form-reads _ _ _ (name_alone name mark none) =
-    item-plain name name None (before-whole name none) (no_place name none)
+    item-plain name name None (before-whole name none) (no_offset name none)
     (ne_eqb (get_or name 0 0) hyphen mark.0) (ne_eqb (get_or name 0 0) exclamation_mark mark.1)
 form-reads _ _ _ (name_and_value name value mark none) =
-    item-plain (name ++ equals ∷ value) name (Some (length name)) (before-equals name value none) (place-equals name value none)
+    item-plain (name ++ equals ∷ value) name (Some (length name)) (before-equals name value none) (offset-equals name value none)
     (ne_eqb (get_or name 0 0) hyphen mark.0) (ne_eqb (get_or name 0 0) exclamation_mark mark.1)
     ∙ ap (λ rest. with_state (checked_name name) (Value rest)) (drop-append-add name (equals ∷ value) 1)
 form-reads _ _ _ (after_minus name rest none part) =

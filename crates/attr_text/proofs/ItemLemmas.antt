@@ -10,27 +10,28 @@ use Rattle.attr_text.specs.Items.{equals, is_equals, checked_name, with_state, s
 use Rattle.attr_text.specs.declared.state.State.TheVariants.{Unset, Unspecified}
 
 -- if a list begins with bytes that fail a test, the first that passes it comes after them
-place-behind : (p : ℕ → Bool) (xs ys : List ℕ) → list_all (λ b. not (p b)) xs ≡ true → position_or_len p (xs ++ ys) ≡ length xs + position_or_len p ys
-place-behind p [] ys none = sym (zero-add (position_or_len p ys))
-place-behind p (x ∷ xs) ys none =
+offset-behind : (p : ℕ → Bool) (xs ys : List ℕ) → list_all (λ b. not (p b)) xs ≡ true →
+    position_or_len p (xs ++ ys) ≡ length xs + position_or_len p ys
+offset-behind p [] ys none = sym (zero-add (position_or_len p ys))
+offset-behind p (x ∷ xs) ys none =
     let both = and_parts (not (p x)) (list_all (λ b. not (p b)) xs) none in
-    let rest = place-behind p xs ys both.1 in
+    let rest = offset-behind p xs ys both.1 in
     rw both.0 (omega (arith, rest))
 
 pub before-equals : (name rest : List ℕ) → list_all (λ b. not (is_equals b)) name ≡ true → before_first is_equals (name ++ equals ∷ rest) ≡ name
 before-equals name rest none =
-    let place : position_or_len is_equals (name ++ equals ∷ rest) ≡ length name = place-behind is_equals name (equals ∷ rest) none ∙ add-zero
+    let offset : position_or_len is_equals (name ++ equals ∷ rest) ≡ length name = offset-behind is_equals name (equals ∷ rest) none ∙ add-zero
     (length name) in
-    ap (λ n. take n (name ++ equals ∷ rest)) place ∙ take-append_seam name (equals ∷ rest)
+    ap (λ n. take n (name ++ equals ∷ rest)) offset ∙ take-append_seam name (equals ∷ rest)
 
 before-no_equals : (name : List ℕ) → list_all (λ b. not (is_equals b)) name ≡ true → position_or_len is_equals name ≡ length name
-before-no_equals name none = ap (position_or_len is_equals) (sym (append-nil name)) ∙ (place-behind is_equals name [] none ∙ add-zero (length name))
+before-no_equals name none = ap (position_or_len is_equals) (sym (append-nil name)) ∙ (offset-behind is_equals name [] none ∙ add-zero (length name))
 
 -- a word whose part before the first `=` is this name, with no sign in front
-pub item-plain : (word name : List ℕ) (place : Option ℕ) → before_first is_equals word ≡ name → position is_equals word ≡ place
+pub item-plain : (word name : List ℕ) (offset : Option ℕ) → before_first is_equals word ≡ name → position is_equals word ≡ offset
     → eqb (get_or name 0 0) hyphen ≡ false → eqb (get_or name 0 0) exclamation_mark ≡ false
-    → item_of word ≡ with_state (checked_name name) (state_from word place)
-item-plain word name place before at no_minus no_bang = rw (before, at, no_minus, no_bang) refl
+    → item_of word ≡ with_state (checked_name name) (state_from word offset)
+item-plain word name offset before at no_minus no_bang = rw (before, at, no_minus, no_bang) refl
 
 pub item-unset : (word name : List ℕ) → before_first is_equals word ≡ hyphen ∷ name → item_of word ≡ with_state (checked_name name) Unset
 item-unset word name before = rw before refl
@@ -42,16 +43,16 @@ item-unspecified word name before = rw before refl
 pub before-whole : (name : List ℕ) → list_all (λ b. not (is_equals b)) name ≡ true → before_first is_equals name ≡ name
 before-whole name none = ap (λ n. take n name) (before-no_equals name none) ∙ take_all (length name) name (omega arith)
 
-pub no_place : (name : List ℕ) → list_all (λ b. not (is_equals b)) name ≡ true → position is_equals name ≡ None
-no_place name none =
+pub no_offset : (name : List ℕ) → list_all (λ b. not (is_equals b)) name ≡ true → position is_equals name ≡ None
+no_offset name none =
     ap (λ n. cond (ltb n (length name)) (Some n) None) (before-no_equals name none)
     ∙ ap (λ t. cond t (Some (length name)) None) (le-ltb (length name) (length name) (omega arith))
 
-pub place-equals : (name rest : List ℕ) → list_all (λ b. not (is_equals b)) name ≡ true → position is_equals (name ++ equals ∷ rest)
+pub offset-equals : (name rest : List ℕ) → list_all (λ b. not (is_equals b)) name ≡ true → position is_equals (name ++ equals ∷ rest)
     ≡ Some (length name)
-place-equals name rest none =
+offset-equals name rest none =
     let word = name ++ equals ∷ rest in
-    let place : position_or_len is_equals word ≡ length name = place-behind is_equals name (equals ∷ rest) none ∙ add-zero (length name) in
+    let offset : position_or_len is_equals word ≡ length name = offset-behind is_equals name (equals ∷ rest) none ∙ add-zero (length name) in
     let longer = length-append name (equals ∷ rest) in
-    ap (λ n. cond (ltb n (length word)) (Some n) None) place
+    ap (λ n. cond (ltb n (length word)) (Some n) None) offset
     ∙ ap (λ t. cond t (Some (length name)) None) (lt-ltb (length name) (length word) (omega arith))

@@ -18,7 +18,7 @@ use Rattle.attr_text.specs.Words.{IsPlain}
 use Rattle.attr_text.specs.declared.state.State.{State}
 use Rattle.attr_text.specs.declared.state.State.TheVariants.{Set, Unset, Value, Unspecified}
 use Rattle.attr_text.specs.declared.assignment.Assignment.{Assignment}
-use Rattle.attr_text.proofs.ItemLemmas.{before-equals, before-whole, no_place, place-equals, item-plain, item-unset, item-unspecified}
+use Rattle.attr_text.proofs.ItemLemmas.{before-equals, before-whole, no_offset, offset-equals, item-plain, item-unset, item-unspecified}
 use Rattle.attr_text.proofs.WordLaws.{words-run}
 
 -- bytes that pass a test pass a weaker one
@@ -95,7 +95,7 @@ value-reads : (name bytes : List ℕ) → is_valid_name name ≡ true → is_res
 value-reads name bytes valid free =
     let parts = name-parts name valid in
     let none : list_all (λ b. not (is_equals b)) name ≡ true = no_equals name parts.2 in
-    item-plain (name ++ equals ∷ bytes) name (Some (length name)) (before-equals name bytes none) (place-equals name bytes none)
+    item-plain (name ++ equals ∷ bytes) name (Some (length name)) (before-equals name bytes none) (offset-equals name bytes none)
     parts.1 (first-not_bang name parts.0 parts.2)
     ∙ (ap (λ rest. with_state (checked_name name) (Value rest)) (drop-append-add name (equals ∷ bytes) 1)
     ∙ with-checked name (Value bytes) valid free)
@@ -105,7 +105,7 @@ state-reads : (name : List ℕ) (state : State) → is_valid_name name ≡ true 
 state-reads name Set valid free plain =
     let parts = name-parts name valid in
     let none : list_all (λ b. not (is_equals b)) name ≡ true = no_equals name parts.2 in
-    item-plain name name None (before-whole name none) (no_place name none) parts.1 (first-not_bang name parts.0 parts.2)
+    item-plain name name None (before-whole name none) (no_offset name none) parts.1 (first-not_bang name parts.0 parts.2)
     ∙ with-checked name Set valid free
 state-reads name Unset valid free plain =
     item-unset (hyphen ∷ name) name (before-whole (hyphen ∷ name) (no_equals name (name-parts name valid).2)) ∙ with-checked name Unset valid free

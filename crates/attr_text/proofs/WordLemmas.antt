@@ -10,16 +10,16 @@ use Rattle.std.proofs.lemmas.List.{drop_all, take_all, nil_from_length}
 use Rattle.std.proofs.lemmas.Bool.{cases_Bool, cases_lt, lt-ltb, le-ltb}
 use Rattle.attr_text.specs.Items.{is_blank, is_equals, is_some_text, words, after_blanks, before_blank, from_blank}
 
--- the index that `position` finds, or the length, is the place that the words name
-pub place_of_first : {X : Type 0} (p : X → Bool) (xs : List X) → unwrap_or (position p xs) (length xs) ≡ position_or_len p xs
-place_of_first p xs = ⊎_elim
+-- the index that `position` finds, or the length, is the offset that the words name
+pub offset_of_first : {X : Type 0} (p : X → Bool) (xs : List X) → unwrap_or (position p xs) (length xs) ≡ position_or_len p xs
+offset_of_first p xs = ⊎_elim
     (λ (h : position_or_len p xs < length xs). rw (lt-ltb (position_or_len p xs) (length xs) h) refl)
     (λ (h : length xs ≤ position_or_len p xs). rw (le-ltb (position_or_len p xs) (length xs) h)
     (let m : position_or_len p xs ≤ length xs = prefix_len-le-length (λ x. not (p x)) xs in omega arith))
     (cases_lt (position_or_len p xs) (length xs))
 
-pub place_in_text : {X : Type 0} (p : X → Bool) (xs : List X) → position_or_len p xs ≤ length xs
-place_in_text p xs = prefix_len-le-length (λ x. not (p x)) xs
+pub offset_in_text : {X : Type 0} (p : X → Bool) (xs : List X) → position_or_len p xs ≤ length xs
+offset_in_text p xs = prefix_len-le-length (λ x. not (p x)) xs
 
 drop-one_more : {X : Type 0} (n : ℕ) (x : X) (xs : List X) → drop (1 + n) (x ∷ xs) ≡ drop n xs
 drop-one_more n x xs = let e : 1 + n ≡ suc n = omega arith in rw e refl
@@ -49,10 +49,10 @@ filter-some first others e = rw e refl
 
 words-from_blank : (text : List ℕ) → position_or_len is_blank text < length text → words (from_blank text) ≡ words (after_first is_blank text)
 words-from_blank text h =
-    let place = position_or_len is_blank text in
-    ap words (drop-cons text place 0 h)
-    ∙ (words-blank (get_or text place 0) (drop (suc place) text) (passes_at_first is_blank text 0 h)
-    ∙ ap (λ n. words (drop n text)) (sym (add-one place)))
+    let offset = position_or_len is_blank text in
+    ap words (drop-cons text offset 0 h)
+    ∙ (words-blank (get_or text offset 0) (drop (suc offset) text) (passes_at_first is_blank text 0 h)
+    ∙ ap (λ n. words (drop n text)) (sym (add-one offset)))
 
 words-first_of_more : (text : List ℕ) → position_or_len is_blank text < length text → is_some_text (before_blank text) ≡ true → words text ≡
     before_blank text ∷ words (from_blank text)
@@ -111,11 +111,11 @@ words-end text rest e none = sym (words-after_blanks text) ∙ ap words (sym e �
 abbrev stops : ℕ → Bool
 stops b = is_blank b || is_equals b
 
-place-here : (p : ℕ → Bool) (b : ℕ) (bs : List ℕ) → p b ≡ true → position_or_len p (b ∷ bs) ≡ 0
-place-here p b bs e = rw e refl
+offset-here : (p : ℕ → Bool) (b : ℕ) (bs : List ℕ) → p b ≡ true → position_or_len p (b ∷ bs) ≡ 0
+offset-here p b bs e = rw e refl
 
-place-later : (p : ℕ → Bool) (b : ℕ) (bs : List ℕ) → p b ≡ false → position_or_len p (b ∷ bs) ≡ 1 + position_or_len p bs
-place-later p b bs e = rw e refl
+offset-later : (p : ℕ → Bool) (b : ℕ) (bs : List ℕ) → p b ≡ false → position_or_len p (b ∷ bs) ≡ 1 + position_or_len p bs
+offset-later p b bs e = rw e refl
 
 from : List ℕ → ℕ → ℕ
 from text n = n + position_or_len is_blank (drop n text)
@@ -128,7 +128,7 @@ unfolding from
 blank-from_stop [] = refl
 blank-from_stop (b ∷ bs) =
     let here : stops b ≡ true → position_or_len is_blank (b ∷ bs) ≡ from (b ∷ bs) (position_or_len stops (b ∷ bs)) =
-    λ e. sym (zero-add (position_or_len is_blank (b ∷ bs))) ∙ ap (from (b ∷ bs)) (sym (place-here stops b bs e)) in
+    λ e. sym (zero-add (position_or_len is_blank (b ∷ bs))) ∙ ap (from (b ∷ bs)) (sym (offset-here stops b bs e)) in
     ⊎_elim
     (λ (e : is_blank b ≡ true). here (rw e refl))
     (λ (e : is_blank b ≡ false). ⊎_elim
@@ -137,8 +137,8 @@ blank-from_stop (b ∷ bs) =
     let stop = position_or_len stops bs in
     let rest = blank-from_stop bs in
     let one : 1 + position_or_len is_blank bs ≡ (1 + stop) + position_or_len is_blank (drop stop bs) = omega (arith, rest) in
-    place-later is_blank b bs e ∙ one ∙ ap (λ l. (1 + stop) + position_or_len is_blank l) (sym (drop-one_more stop b bs))
-    ∙ ap (from (b ∷ bs)) (sym (place-later stops b bs (rw (e, f) refl))))
+    offset-later is_blank b bs e ∙ one ∙ ap (λ l. (1 + stop) + position_or_len is_blank l) (sym (drop-one_more stop b bs))
+    ∙ ap (from (b ∷ bs)) (sym (offset-later stops b bs (rw (e, f) refl))))
     (cases_Bool (is_equals b)))
     (cases_Bool (is_blank b))
 
@@ -164,14 +164,14 @@ equals-at_stop (b ∷ bs) = ⊎_elim
 
 module _ (text : List ℕ) (stop end : ℕ) (first : stop ≡ position_or_len (λ b. is_blank b || is_equals b) text)
     (blank : end ≡ position_or_len is_blank text) where
-  place : position_or_len is_equals (take end text) ≡ stop
-  place = ap (λ n. position_or_len is_equals (take n text)) blank ∙ equals-at_stop text ∙ sym first
+  offset : position_or_len is_equals (take end text) ≡ stop
+  offset = ap (λ n. position_or_len is_equals (take n text)) blank ∙ equals-at_stop text ∙ sym first
 
   long : length (take end text) ≡ end
   long = ap (λ n. length (take n text)) blank ∙ length-prefix_len (λ b. not (is_blank b)) text ∙ sym blank
 
   found : position is_equals (take end text) ≡ cond (ltb stop end) (Some stop) None
-  found = ap (λ n. cond (ltb n (length (take end text))) (Some n) None) place ∙ ap (λ n. cond (ltb stop n) (Some stop) None) long
+  found = ap (λ n. cond (ltb n (length (take end text))) (Some n) None) offset ∙ ap (λ n. cond (ltb stop n) (Some stop) None) long
 
   -- a `=` before the first blank is the first one of the word
   pub equals-before_blank : stop < end → position is_equals (take end text) ≡ Some stop

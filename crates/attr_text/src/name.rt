@@ -42,7 +42,7 @@ pub struct Name {
     text: Text,
 }
 
-// The text of a name. A short list of assignments has blank names in its unused places: they take no memory.
+// The text of a name. A short list of assignments has blank names in its unused elements: they take no memory.
 #[derive(Drop)]
 enum Text {
     Shared(RcStr),

@@ -19,9 +19,9 @@ or_false : (a b : Bool) → b ≡ false → a ≡ (a || b)
 or_false true b h = refl
 or_false false b h = sym h
 
--- the words with bit i of the word at this place set
+-- the words with bit i of the word at this index set
 abbrev pub with_word : List ℕ → ℕ → ℕ → List ℕ
-with_word words place i = set words place (bit_or (get_or words place 0) (1 * 2 ^ i % 2 ^ 64))
+with_word words index i = set words index (bit_or (get_or words index 0) (1 * 2 ^ i % 2 ^ 64))
 
 -- the words with the bit of n set
 abbrev pub with_mark : List ℕ → ℕ → List ℕ

@@ -5,7 +5,7 @@ use Rattle.attr_wildmatch.specs.Tokens.{Token, lit, one, set, star, dirs, rest, 
 use Rattle.attr_wildmatch.specs.inner.Bordered.{is_bordered}
 use Rattle.attr_wildmatch.specs.Matching.{Match}
 use Rattle.attr_wildmatch.specs.Deciding.{takes_byte, matches}
-use Rattle.attr_wildmatch.specs.inner.RowPlaces.{may_be_nothing}
+use Rattle.attr_wildmatch.specs.inner.RowIndexes.{may_be_nothing}
 use Rattle.attr_wildmatch.proofs.Basics.{and_parts, and_both, by_test}
 use Rattle.attr_wildmatch.proofs.DecidingLemmas.{match_of_test, test_of_match}
 use Rattle.attr_wildmatch.proofs.Reached.{match-last, match-unlast}

@@ -65,14 +65,14 @@ none_later test (suc k) (b ∷ bs) h =
 all_after : (n : ℕ) (v : List ℕ) → take (length v - n) (drop n v) ≡ drop n v
 all_after n v = take_all (length v - n) (drop n v) (omega (arith, length-drop n v))
 
--- after eight more places what is left is still an end of the value
+-- after eight more offsets what is left is still an end of the value
 pub left_after : (value v : List ℕ) → 8 ≤ length v → length v ≤ length value → v ≡ drop (length value - length v) value →
     take (length v - 8) (drop 8 v) ≡ drop (length value - length (take (length v - 8) (drop 8 v))) value
 left_after value v enough within is =
     let e : (length value - length v) + 8 ≡ length value - length (take (length v - 8) (drop 8 v)) = omega (arith, fewer 8 v, enough, within) in
     all_after 8 v ∙ (ap (drop 8) is ∙ (drop-drop 8 (length value - length v) value ∙ ap (λ k. drop k value) e))
 
--- the search goes on from what is left after eight places at which the test fails
+-- the search goes on from what is left after eight offsets at which the test fails
 pub over_eight : (test : List ℕ → Bool) (value v : List ℕ) → from_first test (drop 8 v) ≡ from_first test v →
     from_first test v ≡ from_first test value → from_first test (take (length v - 8) (drop 8 v)) ≡ from_first test value
 over_eight test value v passed same = ap (from_first test) (all_after 8 v) ∙ (passed ∙ same)
@@ -106,7 +106,7 @@ no_pair a c [] l = refl
 no_pair a c (b ∷ []) l = by_test (b == a) (λ t. rw t refl) (λ t. rw t refl)
 no_pair a c (b ∷ d ∷ r) l = absurd (omega (arith, l))
 
--- tokens take nothing before the first place at which a test passes that they need
+-- tokens take nothing before the first offset at which a test passes that they need
 over_others : (case : Case) (ts : List Token) (test : List ℕ → Bool) → ((w : List ℕ) → test w ≡ false → front_left case ts w ≡ None) →
     (v : List ℕ) → first_left case ts v ≡ first_left case ts (from_first test v)
 over_others case ts test needed [] = refl

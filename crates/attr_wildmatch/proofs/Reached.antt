@@ -1,4 +1,4 @@
--- Which places are reached: the first tokens against the first bytes, by recursion on both reversed, so
+-- Which indexes are reached: the first tokens against the first bytes, by recursion on both reversed, so
 -- that one more byte and one more token each stand in front.
 use Rattle.std.proofs.Common.{◌≡◌, ℕ, Bool, true, cond, ◌||◌, ◌==◌, inl, inr, List, [], ◌∷◌, ◌++◌, take, reverse, slice_get, refl, sym, ap, subst}
 use Rattle.std.proofs.Common.{◌∙◌, append_assoc, append-nil}
@@ -8,7 +8,7 @@ use Rattle.attr_wildmatch.specs.Bytes.{slash}
 use Rattle.attr_wildmatch.specs.Tokens.{Token, lit, one, set, star, dirs, rest}
 use Rattle.attr_wildmatch.specs.Matching.{Takes, Match}
 use Rattle.attr_wildmatch.specs.Deciding.{takes_byte, byte_then, star_then, rest_then, is_nil}
-use Rattle.attr_wildmatch.specs.inner.RowPlaces.{is_dirs_at}
+use Rattle.attr_wildmatch.specs.inner.RowIndexes.{is_dirs_at}
 use Rattle.attr_wildmatch.proofs.Basics.{each_of_all, all_of_each, Each-reverse, reverse-cons, or_part, or_left, or_right, equal}
 use Rattle.attr_wildmatch.proofs.Splits.{NoSlash, Split, byte_split, byte_joined, star_split, star_joined, rest_split, rest_joined, single_takes}
 use Rattle.attr_wildmatch.proofs.Splits.{single_taken}

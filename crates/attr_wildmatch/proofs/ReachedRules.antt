@@ -1,4 +1,4 @@
--- The rules of a step hold for the places that are reached.
+-- The rules of a step hold for the indexes that are reached.
 use Rattle.std.proofs.Common.{◌≡◌, ◌<◌, ◌+◌, ℕ, zero, suc, Bool, true, false, cond, not, ◌&&◌, ◌==◌, ◌⊎◌, inl, inr, List, [], ◌∷◌, length, slice_get}
 use Rattle.std.proofs.Common.{Option, Some, None, refl, sym, ap, subst, ◌∙◌, arith, add-one}
 use Rattle.attr_wildmatch.specs.declared.case.Case.{Case}
@@ -6,13 +6,13 @@ use Rattle.attr_wildmatch.specs.Bytes.{slash}
 use Rattle.attr_wildmatch.specs.Tokens.{Token, lit, one, set, star, dirs, rest, token_ends_in_slash}
 use Rattle.attr_wildmatch.specs.inner.Bordered.{is_bordered}
 use Rattle.attr_wildmatch.specs.Deciding.{takes_byte, star_then, rest_then}
-use Rattle.attr_wildmatch.specs.inner.RowPlaces.{may_be_nothing, is_dirs, continues_with, ends_at, may_skip, is_dirs_at, stays_on, advances_on}
-use Rattle.attr_wildmatch.specs.inner.RowPlaces.{token_before, IsStep}
+use Rattle.attr_wildmatch.specs.inner.RowIndexes.{may_be_nothing, is_dirs, continues_with, ends_at, may_skip, is_dirs_at, stays_on, advances_on}
+use Rattle.attr_wildmatch.specs.inner.RowIndexes.{token_before, IsStep}
 use Rattle.attr_wildmatch.proofs.Basics.{by_test, and_parts, and_both, or_part, or_right}
 use Rattle.attr_wildmatch.proofs.Reached.{back_then, fresh, alive}
-use Rattle.attr_wildmatch.proofs.ReachedSteps.{before_place, fresh-next, alive-directory, alive-plain, growing, no_directory_behind}
+use Rattle.attr_wildmatch.proofs.ReachedSteps.{before_index, fresh-next, alive-directory, alive-plain, growing, no_directory_behind}
 
--- the token takes any number of bytes and its place is after it
+-- the token takes any number of bytes and its index is after it
 abbrev is_wide : Token → Bool
 is_wide star = true
 is_wide rest = true
@@ -76,12 +76,12 @@ back_from case dirs f b w h = elim (or_part (f (b ∷ w)) (b == slash && rest_th
 ]
 
 alive-token : (case : Case) (ts : List Token) (v : List ℕ) (k : ℕ) (t : Token) → slice_get ts k ≡ Some t →
-    alive case ts v k ≡ cond (is_dirs t) (rest_then (before_place case ts k) v) (before_place case ts k v)
-alive-token case ts v k t h = ap (λ x. cond (is_dirs_at x) (rest_then (before_place case ts k) v) (fresh case ts v k)) h
+    alive case ts v k ≡ cond (is_dirs t) (rest_then (before_index case ts k) v) (before_index case ts k v)
+alive-token case ts v k t h = ap (λ x. cond (is_dirs_at x) (rest_then (before_index case ts k) v) (fresh case ts v k)) h
 
--- a place after a star or a rest is alive only where it is fresh
+-- an index after a star or a rest is alive only where it is fresh
 alive-tail : (case : Case) (ts : List Token) (v : List ℕ) (k : ℕ) (t : Token) → is_bordered true ts ≡ true → slice_get ts k ≡ Some t →
-    is_wide t ≡ true → alive case ts v (k + 1) ≡ back_then case t (before_place case ts k) v
+    is_wide t ≡ true → alive case ts v (k + 1) ≡ back_then case t (before_index case ts k) v
 alive-tail case ts v k t h e n =
     alive-plain case ts v (k + 1)
     (subst (λ x. is_dirs_at (slice_get ts x) ≡ false) (sym (add-one k)) (no_directory_behind true ts k t h e (wide_end t n))) ∙
@@ -98,19 +98,19 @@ module _ (case : Case) (ts : List Token) (b : ℕ) (w : List ℕ) (bordered : is
       let n = goes_wide t b h in
       subst (λ x. fresh case ts (b ∷ w) x ≡ true) (add-one k)
       (fresh-next case ts (b ∷ w) k t e ∙
-      stay_back case t (before_place case ts k) b w h
+      stay_back case t (before_index case ts k) b w h
       (sym (alive-tail case ts w k t bordered e n) ∙ subst (λ x. alive case ts w x ≡ true) (sym (add-one k)) a))
 
   advance_at : (o : Option Token) (k : ℕ) → slice_get ts k ≡ o → advances_on case o b ≡ true → alive case ts w k ≡ true →
       fresh case ts (b ∷ w) (k + 1) ≡ true
   advance_at None k e h a = cc
   advance_at (Some t) k e h a =
-      fresh-next case ts (b ∷ w) k t e ∙ advance_back case t (before_place case ts k) b w h (sym (alive-token case ts w k t e) ∙ a)
+      fresh-next case ts (b ∷ w) k t e ∙ advance_back case t (before_index case ts k) b w h (sym (alive-token case ts w k t e) ∙ a)
 
   alive_from_at : (k : ℕ) → alive case ts (b ∷ w) k ≡ true →
       (fresh case ts (b ∷ w) k ≡ true) ⊎ ((is_dirs_at (slice_get ts k) ≡ true) × (alive case ts w k ≡ true))
   alive_from_at k a = by_test (is_dirs_at (slice_get ts k))
-      (λ d. elim (or_part (before_place case ts k (b ∷ w)) (rest_then (before_place case ts k) w) (sym (alive-directory case ts (b ∷ w) k d) ∙ a)) [
+      (λ d. elim (or_part (before_index case ts k (b ∷ w)) (rest_then (before_index case ts k) w) (sym (alive-directory case ts (b ∷ w) k d) ∙ a)) [
         | inl t ↦ inl t
         | inr t ↦ inr (d, alive-directory case ts w k d ∙ t)
       ])
@@ -126,7 +126,7 @@ module _ (case : Case) (ts : List Token) (b : ℕ) (w : List ℕ) (bordered : is
       missing [] k l e = absurd (omega arith)
       missing (t ∷ ts) zero l e = cc
       missing (t ∷ ts) (suc k) l e = missing ts k (omega arith) e
-  fresh_from_at (Some t) k e l h = elim (back_from case t (before_place case ts k) b w (sym (fresh-next case ts (b ∷ w) k t e) ∙ h)) [
+  fresh_from_at (Some t) k e l h = elim (back_from case t (before_index case ts k) b w (sym (fresh-next case ts (b ∷ w) k t e) ∙ h)) [
     | inl s ↦ inl (
       subst (λ x. stays_on x b ≡ true) (sym (token_before-next ts k t e)) s.0,
       alive-tail case ts w k t bordered e (goes_wide t b s.0) ∙ s.1,
@@ -141,7 +141,7 @@ module _ (case : Case) (ts : List Token) (b : ℕ) (w : List ℕ) (bordered : is
   steps = record {
     growing = growing case ts (b ∷ w);
     directory = λ k d a. alive-directory case ts (b ∷ w) k d ∙
-        or_right (before_place case ts k (b ∷ w)) (rest_then (before_place case ts k) w) (sym (alive-directory case ts w k d) ∙ a);
+        or_right (before_index case ts k (b ∷ w)) (rest_then (before_index case ts k) w) (sym (alive-directory case ts w k d) ∙ a);
     stay = λ k h a. stay_at (token_before ts k) k refl h a;
     advance = λ k h a. advance_at (slice_get ts k) k refl h a;
     alive_from = λ k l a. alive_from_at k a;
@@ -180,5 +180,5 @@ starts case ts b = record {
         missing (t ∷ ts) zero l e = cc
         missing (t ∷ ts) (suc k) l e = missing ts k (omega arith) e
     from (Some t) k e l h =
-        let r = back_from_nil case t (before_place case ts k) (sym (fresh-next case ts [] k t e) ∙ h) in
+        let r = back_from_nil case t (before_index case ts k) (sym (fresh-next case ts [] k t e) ∙ h) in
         (subst (λ x. may_skip x ≡ true) (sym e) r.0, r.1)

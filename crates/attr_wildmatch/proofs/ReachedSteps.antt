@@ -1,4 +1,4 @@
--- What one more byte makes of the places that are reached.
+-- What one more byte makes of the indexes that are reached.
 use Rattle.std.proofs.Common.{◌≡◌, ◌+◌, ℕ, zero, suc, Bool, true, false, cond, not, ◌&&◌, ◌==◌, List, [], ◌∷◌, ◌++◌, take, reverse, slice_get, Option}
 use Rattle.std.proofs.Common.{Some, None, refl, sym, ap, subst, ◌∙◌, add-one}
 use Rattle.std.proofs.lemmas.List.{reverse-append}
@@ -7,7 +7,7 @@ use Rattle.attr_wildmatch.specs.Bytes.{slash}
 use Rattle.attr_wildmatch.specs.Tokens.{Token, lit, one, set, star, dirs, rest, token_ends_in_slash}
 use Rattle.attr_wildmatch.specs.inner.Bordered.{is_bordered}
 use Rattle.attr_wildmatch.specs.Deciding.{byte_then, star_then, rest_then}
-use Rattle.attr_wildmatch.specs.inner.RowPlaces.{may_be_nothing, may_skip, is_dirs_at, IsGrowing}
+use Rattle.attr_wildmatch.specs.inner.RowIndexes.{may_be_nothing, may_skip, is_dirs_at, IsGrowing}
 use Rattle.attr_wildmatch.proofs.Basics.{by_test, and_parts, or_left, true_false}
 use Rattle.attr_wildmatch.proofs.Reached.{reached, back_then, fresh, alive}
 
@@ -16,21 +16,21 @@ take-next [] k t h = cc
 take-next (u ∷ ts) zero t h = let same : u ≡ t = cc in ap (λ x. x ∷ []) same
 take-next (u ∷ ts) (suc k) t h = ap (λ x. u ∷ x) (take-next ts k t h)
 
--- the test of the tokens before place k
-abbrev pub before_place : Case → List Token → ℕ → List ℕ → Bool
-before_place case ts k = reached case (reverse (take k ts))
+-- the test of the tokens before index k
+abbrev pub before_index : Case → List Token → ℕ → List ℕ → Bool
+before_index case ts k = reached case (reverse (take k ts))
 
 pub fresh-next : (case : Case) (ts : List Token) (v : List ℕ) (k : ℕ) (t : Token) → slice_get ts k ≡ Some t →
-    fresh case ts v (k + 1) ≡ back_then case t (before_place case ts k) v
+    fresh case ts v (k + 1) ≡ back_then case t (before_index case ts k) v
 fresh-next case ts v k t h =
     ap (λ x. reached case x v) (ap reverse (ap (λ x. take x ts) (add-one k) ∙ take-next ts k t h) ∙ reverse-append (take k ts) (t ∷ []))
 
 pub alive-directory : (case : Case) (ts : List Token) (v : List ℕ) (k : ℕ) → is_dirs_at (slice_get ts k) ≡ true →
-    alive case ts v k ≡ rest_then (before_place case ts k) v
-alive-directory case ts v k h = ap (λ x. cond x (rest_then (before_place case ts k) v) (fresh case ts v k)) h
+    alive case ts v k ≡ rest_then (before_index case ts k) v
+alive-directory case ts v k h = ap (λ x. cond x (rest_then (before_index case ts k) v) (fresh case ts v k)) h
 
 pub alive-plain : (case : Case) (ts : List Token) (v : List ℕ) (k : ℕ) → is_dirs_at (slice_get ts k) ≡ false → alive case ts v k ≡ fresh case ts v k
-alive-plain case ts v k h = ap (λ x. cond x (rest_then (before_place case ts k) v) (fresh case ts v k)) h
+alive-plain case ts v k h = ap (λ x. cond x (rest_then (before_index case ts k) v) (fresh case ts v k)) h
 
 rest_now : (f : List ℕ → Bool) (v : List ℕ) → f v ≡ true → rest_then f v ≡ true
 rest_now f [] h = h
@@ -51,14 +51,14 @@ skip_back case (set n ms) f v h k = cc
 pub growing : (case : Case) (ts : List Token) (v : List ℕ) → IsGrowing ts (fresh case ts v) (alive case ts v)
 growing case ts v = record {
   living = λ k h. by_test (is_dirs_at (slice_get ts k))
-      (λ t. alive-directory case ts v k t ∙ rest_now (before_place case ts k) v h)
+      (λ t. alive-directory case ts v k t ∙ rest_now (before_index case ts k) v h)
       (λ f. alive-plain case ts v k f ∙ h);
   skip = λ k s h. skipped (slice_get ts k) k refl s h;
 }
   where
     skipped : (o : Option Token) (k : ℕ) → slice_get ts k ≡ o → may_skip o ≡ true → fresh case ts v k ≡ true → fresh case ts v (k + 1) ≡ true
     skipped None k e s h = cc
-    skipped (Some t) k e s h = fresh-next case ts v k t e ∙ skip_back case t (before_place case ts k) v s h
+    skipped (Some t) k e s h = fresh-next case ts v k t e ∙ skip_back case t (before_index case ts k) v s h
 
 plain_head : (border : Bool) (ts : List Token) → is_bordered border ts ≡ true → border ≡ false → is_dirs_at (slice_get ts 0) ≡ false
 plain_head border [] h e = refl

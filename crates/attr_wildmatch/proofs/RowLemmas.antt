@@ -1,11 +1,11 @@
--- Rows of places: pushing a place, and places that are quiet.
+-- Rows of indexes: pushing an index, and indexes that are quiet.
 use Rattle.std.proofs.Common.{◌≡◌, ◌≤◌, ◌<◌, ℕ, zero, suc, ◌+◌, ◌-◌, Bool, true, false, cond, List, [], ◌∷◌, ◌++◌, length, slice_get, filter, ◌⊎◌}
 use Rattle.std.proofs.Common.{inl, inr, sym, ap, subst, ◌∙◌, append-nil, add-zero, add-one, arith}
 use Rattle.std.specs.List.{range_with_len}
 use Rattle.attr_wildmatch.specs.declared.case.Case.{Case}
 use Rattle.attr_wildmatch.specs.Tokens.{Token}
-use Rattle.attr_wildmatch.specs.inner.RowPlaces.{may_skip, is_dirs_at, stays_on, advances_on, token_before, places_below}
-use Rattle.attr_wildmatch.specs.inner.RowPlaces.{IsRow, IsSettled, IsUnderway}
+use Rattle.attr_wildmatch.specs.inner.RowIndexes.{may_skip, is_dirs_at, stays_on, advances_on, token_before, indexes_below}
+use Rattle.attr_wildmatch.specs.inner.RowIndexes.{IsRow, IsSettled, IsUnderway}
 use Rattle.attr_wildmatch.proofs.Basics.{by_test}
 
 filter_range-more : (test : ℕ → Bool) (n a : ℕ) →
@@ -16,41 +16,43 @@ filter_range-more test (suc n) a =
     let rest = rw same at (filter_range-more test n (a + 1)) in
     by_test (test a) (λ t. rw t (ap (λ x. a ∷ x) rest)) (λ f. rw f rest)
 
-places_below-more : (test : ℕ → Bool) (n : ℕ) → places_below test (n + 1) ≡ places_below test n ++ cond (test n) (n ∷ []) []
-places_below-more test n =
+indexes_below-more : (test : ℕ → Bool) (n : ℕ) → indexes_below test (n + 1) ≡ indexes_below test n ++ cond (test n) (n ∷ []) []
+indexes_below-more test n =
     let same : 0 + n ≡ n = omega arith in
-    ap (places_below test) (add-one n) ∙ (rw same at (filter_range-more test n 0))
+    ap (indexes_below test) (add-one n) ∙ (rw same at (filter_range-more test n 0))
 
-pub places_below-push : (test : ℕ → Bool) (n : ℕ) → test n ≡ true → places_below test (n + 1) ≡ places_below test n ++ n ∷ []
-places_below-push test n h = rw h at (places_below-more test n)
+pub indexes_below-push : (test : ℕ → Bool) (n : ℕ) → test n ≡ true → indexes_below test (n + 1) ≡ indexes_below test n ++ n ∷ []
+indexes_below-push test n h = rw h at (indexes_below-more test n)
 
-places_below-skip : (test : ℕ → Bool) (n : ℕ) → test n ≡ false → places_below test (n + 1) ≡ places_below test n
-places_below-skip test n h = (rw h at (places_below-more test n)) ∙ append-nil (places_below test n)
+indexes_below-skip : (test : ℕ → Bool) (n : ℕ) → test n ≡ false → indexes_below test (n + 1) ≡ indexes_below test n
+indexes_below-skip test n h = (rw h at (indexes_below-more test n)) ∙ append-nil (indexes_below test n)
 
--- places that fail the test add nothing
-pub places_below-quiet : (test : ℕ → Bool) (n d : ℕ) → ((k : ℕ) → n ≤ k → k < n + d → test k ≡ false) → places_below test (n + d) ≡ places_below test
+-- indexes that fail the test add nothing
+pub indexes_below-quiet : (test : ℕ → Bool) (n d : ℕ) → ((k : ℕ) → n ≤ k → k < n + d → test k ≡ false) →
+    indexes_below test (n + d) ≡ indexes_below test
     n
-places_below-quiet test n zero h = ap (places_below test) (add-zero n)
-places_below-quiet test n (suc d) h =
+indexes_below-quiet test n zero h = ap (indexes_below test) (add-zero n)
+indexes_below-quiet test n (suc d) h =
     let same : n + suc d ≡ n + d + 1 = omega arith in
-    ap (places_below test) same ∙ (places_below-skip test (n + d) (h (n + d) (omega arith) (omega arith)) ∙
-    places_below-quiet test n d (λ k l m. h k l (omega arith)))
+    ap (indexes_below test) same ∙ (indexes_below-skip test (n + d) (h (n + d) (omega arith) (omega arith)) ∙
+    indexes_below-quiet test n d (λ k l m. h k l (omega arith)))
 
-pub places_below-up_to : (test : ℕ → Bool) (n m : ℕ) → n ≤ m → ((k : ℕ) → n ≤ k → k < m → test k ≡ false) → places_below test m ≡ places_below test n
-places_below-up_to test n m l h =
+pub indexes_below-up_to : (test : ℕ → Bool) (n m : ℕ) → n ≤ m → ((k : ℕ) → n ≤ k → k < m → test k ≡ false) →
+    indexes_below test m ≡ indexes_below test n
+indexes_below-up_to test n m l h =
     let same : n + (m - n) ≡ m = omega arith in
-    ap (places_below test) (sym same) ∙ places_below-quiet test n (m - n) (λ k a b. h k a (omega arith))
+    ap (indexes_below test) (sym same) ∙ indexes_below-quiet test n (m - n) (λ k a b. h k a (omega arith))
 
 pub length-filter-le : (test : ℕ → Bool) (xs : List ℕ) → length (filter test xs) ≤ length xs
 length-filter-le test [] = omega arith
 length-filter-le test (x ∷ xs) = let r = length-filter-le test xs in by_test (test x) (λ t. rw t (omega arith)) (λ f. rw f (omega arith))
 
--- a place pushed after a row
-pub row-push : (ts : List Token) (fresh alive : ℕ → Bool) (row : List ℕ) (free place : ℕ) → IsRow ts fresh alive row free →
-    free ≤ place → ((k : ℕ) → free ≤ k → k < place → alive k ≡ false) → alive place ≡ true →
-    row ++ place ∷ [] ≡ places_below alive (place + 1)
-row-push ts fresh alive row free place r l q a =
-    ap (λ x. x ++ place ∷ []) (r.kept ∙ sym (places_below-up_to alive free place l q)) ∙ sym (places_below-push alive place a)
+-- an index pushed after a row
+pub row-push : (ts : List Token) (fresh alive : ℕ → Bool) (row : List ℕ) (free index : ℕ) → IsRow ts fresh alive row free →
+    free ≤ index → ((k : ℕ) → free ≤ k → k < index → alive k ≡ false) → alive index ≡ true →
+    row ++ index ∷ [] ≡ indexes_below alive (index + 1)
+row-push ts fresh alive row free index r l q a =
+    ap (λ x. x ++ index ∷ []) (r.kept ∙ sym (indexes_below-up_to alive free index l q)) ∙ sym (indexes_below-push alive index a)
 
 true_false : (v : Bool) → v ≡ true → v ≡ false → ⊥
 true_false v t f = let e : true ≡ false = sym t ∙ f in cc
@@ -77,7 +79,7 @@ refuted {case} {ts} {b} {fresh} {alive} {before} {row} {p} {free} u k l h i e r 
     skipped a c (inl q) = true_false _ c (r (omega arith))
     skipped a c (inr q) = u.row_is.closed k (sym q) c a
 
--- a settled place is fresh only by the token before it, which holds it
+-- a settled index is fresh only by the token before it, which holds it
 pub silent_fresh : {case : Case} {ts : List Token} {b : ℕ} {fresh alive before : ℕ → Bool} {row : List ℕ} {p free : ℕ} →
     IsUnderway case ts b fresh alive before row p free → (k : ℕ) → free ≤ k → k ≤ p → k ≤ length ts →
     (k ≡ p → stays_on (token_before ts k) b ≡ false) → fresh k ≡ false
@@ -99,7 +101,7 @@ silent {case} {ts} {b} {fresh} {alive} {before} {row} {p} {free} u m k l h =
       | inr w ↦ let z : k < free = u.settled.directory k h w.1 w.0 in absurd (omega arith)
     ])) (λ f. f)
 
--- the same with the place p itself, where it doesn't stay
+-- the same with the index p itself, where it doesn't stay
 pub silent_next : {case : Case} {ts : List Token} {b : ℕ} {fresh alive before : ℕ → Bool} {row : List ℕ} {p free : ℕ} →
     IsUnderway case ts b fresh alive before row p free → p ≤ length ts → before p ≡ true →
     (stays_on (token_before ts p) b ≡ true → p < free) → (is_dirs_at (slice_get ts p) ≡ true → p < free) →
@@ -127,13 +129,13 @@ settled-grown {case} {ts} {b} {before} {p} {free} more s l = record {
   advance = λ k h o c. let z : k + 1 < free = s.advance k h o c in omega arith;
 }
 
--- a row that ends with a place that is alive and not fresh
-pub kept_row : (ts : List Token) (fresh alive : ℕ → Bool) (row : List ℕ) (place : ℕ) → row ≡ places_below alive (place + 1) →
-    alive place ≡ true → fresh place ≡ false → IsRow ts fresh alive row (place + 1)
-kept_row ts fresh alive row place e a f = record {
+-- a row that ends with an index that is alive and not fresh
+pub kept_row : (ts : List Token) (fresh alive : ℕ → Bool) (row : List ℕ) (index : ℕ) → row ≡ indexes_below alive (index + 1) →
+    alive index ≡ true → fresh index ≡ false → IsRow ts fresh alive row (index + 1)
+kept_row ts fresh alive row index e a f = record {
   kept = e;
-  last = λ k h. let same : place ≡ k = omega arith in subst (λ x. alive x ≡ true) same a;
-  closed = λ k h t n. let same : k ≡ place = omega arith in true_false _ (subst (λ x. fresh x ≡ true) same t) f;
+  last = λ k h. let same : index ≡ k = omega arith in subst (λ x. alive x ≡ true) same a;
+  closed = λ k h t n. let same : k ≡ index = omega arith in true_false _ (subst (λ x. fresh x ≡ true) same t) f;
 }
 
 pub settled-skip : {case : Case} {ts : List Token} {b : ℕ} {before : ℕ → Bool} {p free : ℕ} (q : ℕ) →
@@ -181,10 +183,10 @@ pub record FirstOf (test : ℕ → Bool) (p d q : ℕ) (others : List ℕ) : Typ
   pub none : (k : ℕ) → p ≤ k → k < q → test k ≡ false
   pub others_are : others ≡ filter test (range_with_len (q + 1) left)
 
-pub first_of_places : (test : ℕ → Bool) (d p q : ℕ) (others : List ℕ) → q ∷ others ≡ filter test (range_with_len p d) → FirstOf test p d q others
-first_of_places test zero p q others h = cc
-first_of_places test (suc d) p q others h = by_test (test p) (λ t. found t (rw t at h))
-    (λ f. later f (first_of_places test d (p + 1) q others (rw f at h)))
+pub first_of_indexes : (test : ℕ → Bool) (d p q : ℕ) (others : List ℕ) → q ∷ others ≡ filter test (range_with_len p d) → FirstOf test p d q others
+first_of_indexes test zero p q others h = cc
+first_of_indexes test (suc d) p q others h = by_test (test p) (λ t. found t (rw t at h))
+    (λ f. later f (first_of_indexes test d (p + 1) q others (rw f at h)))
   where
     found : test p ≡ true → q ∷ others ≡ p ∷ filter test (range_with_len (p + 1) d) → FirstOf test p (suc d) q others
     found t e =
@@ -215,13 +217,13 @@ first_of_places test (suc d) p q others h = by_test (test p) (λ t. found t (rw 
         at_or_above : (x y : ℕ) → y ≤ x → (x ≡ y) ⊎ (y < x)
         at_or_above x y l = grind arith
 
-pub none_of_places : (test : ℕ → Bool) (d p : ℕ) → [] ≡ filter test (range_with_len p d) → (k : ℕ) → p ≤ k → k < p + d → test k ≡ false
-none_of_places test zero p h k l m = absurd (omega arith)
-none_of_places test (suc d) p h k l m = by_test (test p)
+pub none_of_indexes : (test : ℕ → Bool) (d p : ℕ) → [] ≡ filter test (range_with_len p d) → (k : ℕ) → p ≤ k → k < p + d → test k ≡ false
+none_of_indexes test zero p h k l m = absurd (omega arith)
+none_of_indexes test (suc d) p h k l m = by_test (test p)
     (λ t. let e : [] ≡ p ∷ filter test (range_with_len (p + 1) d) = rw t at h in cc)
     (λ f. elim (at_or_above k p l) [
       | inl e ↦ subst (λ x. test x ≡ false) (sym e) f
-      | inr e ↦ none_of_places test d (p + 1) (rw f at h) k (omega arith) (omega arith)
+      | inr e ↦ none_of_indexes test d (p + 1) (rw f at h) k (omega arith) (omega arith)
     ])
   where
     at_or_above : (x y : ℕ) → y ≤ x → (x ≡ y) ⊎ (y < x)

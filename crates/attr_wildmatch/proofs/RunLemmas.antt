@@ -1,4 +1,4 @@
--- A row moved over a value: what it holds after each byte, and how many places were visited.
+-- A row moved over a value: what it holds after each byte, and how many indexes were visited.
 use Rattle.std.proofs.Common.{◌≡◌, ◌≤◌, ◌<◌, ◌+◌, ◌*◌, ◌-◌, ℕ, zero, suc, Bool, true, false, cond, ◌⊎◌, inl, inr, List, [], ◌∷◌, ◌++◌, length, take}
 use Rattle.std.proofs.Common.{reverse, slice_get, get_or, filter, sum_by, count_by, All, refl, sym, ap, subst, ◌∙◌, arith, add-one, add-zero}
 use Rattle.std.proofs.Common.{zero-add}
@@ -10,11 +10,11 @@ use Rattle.attr_wildmatch.specs.declared.case.Case.{Case}
 use Rattle.attr_wildmatch.specs.Tokens.{Token}
 use Rattle.attr_wildmatch.specs.inner.Bordered.{is_bordered}
 use Rattle.attr_wildmatch.specs.Matching.{Match, ReachedAtMost, pairs_passed}
-use Rattle.attr_wildmatch.specs.inner.RowPlaces.{places_below, is_dirs_at, IsStep, IsRow}
+use Rattle.attr_wildmatch.specs.inner.RowIndexes.{indexes_below, is_dirs_at, IsStep, IsRow}
 use Rattle.attr_wildmatch.proofs.Basics.{by_test, true_false, Each, all_of_each}
 use Rattle.attr_wildmatch.proofs.TokenLemmas.{slice_get-missing}
-use Rattle.attr_wildmatch.specs.inner.RowPlaces.{IsUnderway}
-use Rattle.attr_wildmatch.proofs.RowLemmas.{places_below-up_to, silent, empty_row, length-filter-le}
+use Rattle.attr_wildmatch.specs.inner.RowIndexes.{IsUnderway}
+use Rattle.attr_wildmatch.proofs.RowLemmas.{indexes_below-up_to, silent, empty_row, length-filter-le}
 use Rattle.attr_wildmatch.proofs.Reached.{fresh, alive, match_of_reached, reached_of_match}
 use Rattle.attr_wildmatch.proofs.ReachedSteps.{growing, alive-plain}
 use Rattle.attr_wildmatch.proofs.ReachedRules.{steps, starts, nothing}
@@ -23,7 +23,7 @@ use Rattle.attr_wildmatch.proofs.ReachedRules.{steps, starts, nothing}
 abbrev pub first_bytes : List ℕ → ℕ → List ℕ
 first_bytes value j = reverse (take j value)
 
--- place k is alive after the first j bytes
+-- index k is alive after the first j bytes
 abbrev pub alive_at : Case → List Token → List ℕ → ℕ → ℕ → Bool
 alive_at case ts value k j = alive case ts (first_bytes value j) k
 
@@ -42,9 +42,9 @@ pairs-more test n i =
     ap (sum_by f) whole ∙ (sum_by-append f (range_with_len 0 (i + 1)) ((i + 1) ∷ []) ∙ ap (λ x. sum_by f (range_with_len 0 (i + 1)) + x)
     (zero-add (f (i + 1))))
 
--- The row after i bytes, with the first place after all in it, and the visits so far.
+-- The row after i bytes, with the first index after all in it, and the visits so far.
 pub record IsAt (case : Case) (ts : List Token) (value row : List ℕ) (free visits i : ℕ) : Type 0 where
-  pub row_is : row ≡ places_below (λ k. alive_at case ts value k i) (length ts + 1)
+  pub row_is : row ≡ indexes_below (λ k. alive_at case ts value k i) (length ts + 1)
   pub last : (k : ℕ) → k + 1 ≡ free → alive_at case ts value k i ≡ true
   pub beyond : (k : ℕ) → free ≤ k → k ≤ length ts → alive_at case ts value k i ≡ false
   pub bound : free ≤ length ts + 1
@@ -53,13 +53,13 @@ pub record IsAt (case : Case) (ts : List Token) (value row : List ℕ) (free vis
   pub most : visits ≤ (length ts + 1) * (i + 1)
 
 row-whole : (case : Case) (ts : List Token) (v row : List ℕ) (free : ℕ) → IsRow ts (fresh case ts v) (alive case ts v) row free →
-    free ≤ length ts + 1 → ((k : ℕ) → free ≤ k → k ≤ length ts → alive case ts v k ≡ false) → row ≡ places_below (alive case ts v) (length ts + 1)
-row-whole case ts v row free r l b = r.kept ∙ sym (places_below-up_to (alive case ts v) free (length ts + 1) l (λ k x y. b k x (omega arith)))
+    free ≤ length ts + 1 → ((k : ℕ) → free ≤ k → k ≤ length ts → alive case ts v k ≡ false) → row ≡ indexes_below (alive case ts v) (length ts + 1)
+row-whole case ts v row free r l b = r.kept ∙ sym (indexes_below-up_to (alive case ts v) free (length ts + 1) l (λ k x y. b k x (omega arith)))
 
-length-places_below : (test : ℕ → Bool) (n : ℕ) (row : List ℕ) → row ≡ places_below test n → length row ≡ count_by test (range_with_len 0 n)
-length-places_below test n row e = ap length e ∙ length-filter test (range_with_len 0 n)
+length-indexes_below : (test : ℕ → Bool) (n : ℕ) (row : List ℕ) → row ≡ indexes_below test n → length row ≡ count_by test (range_with_len 0 n)
+length-indexes_below test n row e = ap length e ∙ length-filter test (range_with_len 0 n)
 
-length-row : (test : ℕ → Bool) (n : ℕ) (row : List ℕ) → row ≡ places_below test n → length row ≤ n
+length-row : (test : ℕ → Bool) (n : ℕ) (row : List ℕ) → row ≡ indexes_below test n → length row ≤ n
 length-row test n row e =
     let a : length row ≤ length (range_with_len 0 n) = subst (λ x. length x ≤ length (range_with_len 0 n)) (sym e)
     (length-filter-le test (range_with_len 0 n)) in
@@ -82,7 +82,7 @@ at_start case ts value row free r p l q =
       last = r.last;
       beyond = none;
       bound = l;
-      counted = length-places_below (alive case ts []) (length ts + 1) row whole ∙ sym
+      counted = length-indexes_below (alive case ts []) (length ts + 1) row whole ∙ sym
           (zero-add (count_by (alive case ts []) (range_with_len 0 (length ts + 1))));
       paid = q;
       most = let m = length-row (alive case ts []) (length ts + 1) row whole in omega arith;
@@ -115,7 +115,7 @@ at_more case ts value row next free more visits i a h r none l q =
       counted =
           ap (λ x. x + length next) a.counted ∙
           (ap (λ x. pairs_passed (alive_at case ts value) (length ts) i + x)
-          (length-places_below (alive case ts (first_bytes value (i + 1))) (length ts + 1) next whole) ∙
+          (length-indexes_below (alive case ts (first_bytes value (i + 1))) (length ts + 1) next whole) ∙
           sym (pairs-more (alive_at case ts value) (length ts) i));
       paid = omega (arith, a.paid);
       most = let m = length-row (alive case ts (first_bytes value (i + 1))) (length ts + 1) next whole in
@@ -128,9 +128,9 @@ pub below_free : (case : Case) (ts : List Token) (value row : List ℕ) (free vi
     row
 below_free case ts value row free visits i a =
     let test : ℕ → Bool = λ k. alive_at case ts value k i in
-    let e : row ≡ places_below test free =
-    a.row_is ∙ places_below-up_to test free (length ts + 1) a.bound (λ k x y. a.beyond k x (omega arith)) in
-    subst (All (λ k. k < free)) (sym e) (all_of_each (λ k. k < free) (places_below test free) (below test free 0 free (omega arith)))
+    let e : row ≡ indexes_below test free =
+    a.row_is ∙ indexes_below-up_to test free (length ts + 1) a.bound (λ k x y. a.beyond k x (omega arith)) in
+    subst (All (λ k. k < free)) (sym e) (all_of_each (λ k. k < free) (indexes_below test free) (below test free 0 free (omega arith)))
   where
     below : (test : ℕ → Bool) (n a most : ℕ) → a + n ≤ most → Each (λ k. k < most) (filter test (range_with_len a n))
     below test zero a most h = tt
@@ -138,7 +138,7 @@ below_free case ts value row free visits i a =
         let rest = below test n (a + 1) most (omega arith) in
         by_test (test a) (λ t. rw t (omega arith, rest)) (λ f. rw f rest)
 
--- where no place is alive, none is after any further bytes
+-- where no index is alive, none is after any further bytes
 pub dead : (case : Case) (ts : List Token) (value : List ℕ) (i : ℕ) → is_bordered true ts ≡ true →
     ((k : ℕ) → k ≤ length ts → alive_at case ts value k i ≡ false) → (d : ℕ) → i + d ≤ length value →
     (k : ℕ) → k ≤ length ts → alive_at case ts value k (i + d) ≡ false

@@ -1,4 +1,4 @@
--- The first place at which a stretch fits between two stars is the best one: the later star takes what others would take.
+-- The first offset at which a stretch fits between two stars is the best one: the later star takes what others would take.
 use Rattle.std.proofs.Common.{◌≡◌, ℕ, zero, suc, Bool, true, false, not, ◌&&◌, ◌||◌, ◌==◌, List, [], ◌∷◌, ◌++◌, length, drop}
 use Rattle.std.proofs.Common.{Option, Some, None, option_map, if◌then◌else◌, refl, sym, ap, ◌∙◌}
 use Rattle.std.specs.List.{list_any}
@@ -7,7 +7,7 @@ use Rattle.attr_wildmatch.specs.Bytes.{slash}
 use Rattle.attr_wildmatch.specs.Slashes.{is_slash}
 use Rattle.attr_wildmatch.specs.Tokens.{Token, lit, one, set, star, dirs, rest}
 use Rattle.attr_wildmatch.specs.Deciding.{matches, star_then, takes_byte}
-use Rattle.attr_wildmatch.specs.inner.RowPlaces.{may_be_nothing}
+use Rattle.attr_wildmatch.specs.inner.RowIndexes.{may_be_nothing}
 use Rattle.attr_wildmatch.specs.inner.Stretches.{first_left, front_left, or_else}
 use Rattle.attr_wildmatch.proofs.Basics.{by_test}
 

@@ -116,7 +116,7 @@ member_at b bs =
     else (if b == open_bracket && begins colon bs then from_class bs
     else Some (from_single b bs))
 
--- The members up to the closing `]`, of at most n bytes, and what follows it. A `]` in first place is a member.
+-- The members up to the closing `]`, of at most n bytes, and what follows it. A `]` that comes first is a member.
 abbrev pub members : ℕ → Bool → List ℕ → Option (List Member × List ℕ)
 members n first [] = None
 members zero first (b ∷ bs) = None

@@ -36,7 +36,7 @@ Match case (t ∷ ts) value =
 abbrev pub TextMatches : Case → List ℕ → List ℕ → Type 0
 TextMatches case text value = (ts : List Token) × AreTokens true text ts × Match case ts value
 
--- how many pairs of a number k up to n and a place j up to t pass the test
+-- how many pairs of a number k up to n and an offset j up to t pass the test
 abbrev pub pairs_passed : (ℕ → ℕ → Bool) → ℕ → ℕ → ℕ
 pairs_passed test n t = sum_by (λ j. count_by (λ k. test k j) (range_with_len 0 (n + 1))) (range_with_len 0 (t + 1))
 

@@ -29,7 +29,7 @@ BeginsClass text =
     (name : List ℕ) × (others : List ℕ) ×
     (text ≡ open_bracket ∷ colon ∷ (name ++ colon ∷ close_bracket ∷ others)) × All (λ b. b ≢ close_bracket) name
 
--- the text begins with the single byte c, and `others` follows; in first place c may be `]`
+-- the text begins with the single byte c, and `others` follows; c may be `]` if it comes first
 abbrev pub IsSingle : Bool → List ℕ → ℕ → List ℕ → Type 0
 IsSingle first text c others =
     (text ≡ backslash ∷ c ∷ others) ⊎

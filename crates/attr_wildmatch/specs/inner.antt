@@ -5,5 +5,5 @@ pub mod ByteSets
 pub mod Closing
 pub mod FirstBytes
 pub mod Left
-pub mod RowPlaces
+pub mod RowIndexes
 pub mod Stretches

@@ -178,7 +178,7 @@ impl MemberSet {
     }
 }
 
-// The place of the first `]`.
+// The offset of the first `]`.
 fn first_close(bytes: &[u8]) -> Option<usize>
     ensures { result ≡ position (λ b. b == close_bracket) bytes.now }
 {
@@ -190,7 +190,7 @@ fn bytes_from_close(bytes: &[u8]) -> usize
     ensures { result ≡ from_close bytes.now }
 {
     match first_close(bytes) {
-        Some(place) => bytes.len() - place,
+        Some(offset) => bytes.len() - offset,
         None => 0,
     }
 }
@@ -292,7 +292,7 @@ fn read_member(byte: u8, bytes: &[u8], close: usize) -> Option<(Member, &[u8])>
     Some(single_or_range(byte, bytes))
 }
 
-// Whether the byte closes the bracket. In first place a `]` is a member.
+// Whether the byte closes the bracket. A `]` that comes first is a member.
 fn closes(byte: u8, first: bool) -> bool
     ensures { result ≡ (byte == close_bracket && not first) }
 {

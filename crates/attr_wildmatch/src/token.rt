@@ -4,7 +4,7 @@ ghost use Rattle.std.specs.Prelude.{◌≡◌, ◌+◌, ◌≤◌, ◌<◌, ◌^
 ghost use Rattle.attr_wildmatch.specs.Tokens.{Token as Meaning, after_stars, stars_at, bracket_at, escape_at, token_at, token_ends_in_slash as meaning_ends_in_slash, tokens as meaning_of_text};
 ghost use Rattle.attr_wildmatch.specs.Spelling.{AreTokens};
 ghost use Rattle.attr_wildmatch.specs.Deciding.{takes_byte};
-ghost use Rattle.attr_wildmatch.specs.inner.RowPlaces.{may_be_nothing, is_dirs, continues_with, ends_at};
+ghost use Rattle.attr_wildmatch.specs.inner.RowIndexes.{may_be_nothing, is_dirs, continues_with, ends_at};
 ghost use Rattle.attr_wildmatch.specs.TokenList.{token_of, tokens_of};
 ghost use Rattle.attr_wildmatch.specs.inner.Bordered.{is_bordered};
 
@@ -246,8 +246,8 @@ impl Tokens {
         self.list.is_empty()
     }
 
-    /// How many places the row of a match needs: one more than there are tokens.
-    pub fn places(&self) -> usize
+    /// The length that the row of a match needs: one more than there are tokens.
+    pub fn row_len(&self) -> usize
         ensures { result ≡ length self.now + 1 }
     {
         self.len() + 1

@@ -1,7 +1,7 @@
-//! Matching of tokens against a value: a row of places moves forward over the bytes of the value.
+//! Matching of tokens against a value: a row of indexes moves forward over the bytes of the value.
 //!
-//! A row has the place k if the first k tokens match the bytes so far, or if token k is a directory star (`**/`) and the
-//! first k tokens match some first part of these bytes. So no pair of a place among the tokens and a place in the
+//! A row has the index k if the first k tokens match the bytes so far, or if token k is a directory star (`**/`) and the
+//! first k tokens match some first part of these bytes. So no pair of an index among the tokens and an offset in the
 //! value is visited twice.
 
 ghost use Rattle.std.specs.Prelude.{◌≡◌, ◌+◌, ◌*◌, ◌≤◌, ◌<◌, ◌^◌, ◌↔◌, ◌++◌, ◌∷◌, [], ℕ, Bool, List, All, IfOk, IsOk, IsSome, IfSome, IfNone, OnOk, IsTrue, option_map, IsFalse, true, false, length, slice_get, vec_capacity};
@@ -13,7 +13,7 @@ ghost use Rattle.attr_wildmatch.specs.Matching.{Match, ReachedAtMost, TextMatche
 ghost use Rattle.attr_wildmatch.specs.Deciding.{matches, text_matches};
 ghost use Rattle.attr_wildmatch.specs.inner.Left.{IsLeft};
 ghost use Rattle.attr_wildmatch.specs.inner.Stretches.{front_left};
-ghost use Rattle.attr_wildmatch.specs.inner.RowPlaces.{may_skip, is_dirs_at, stays_on, advances_on, token_before, places_below, IsGrowing, IsStep, IsRow, IsUnderway, NoneAlive, HasStayed, HasRoom, IsExtended, KeepsCapacity};
+ghost use Rattle.attr_wildmatch.specs.inner.RowIndexes.{may_skip, is_dirs_at, stays_on, advances_on, token_before, indexes_below, IsGrowing, IsStep, IsRow, IsUnderway, NoneAlive, HasStayed, HasRoom, IsExtended, KeepsCapacity};
 
 use crate::case::Case;
 use crate::token::{Token, Tokens};
@@ -21,52 +21,52 @@ use std::alloc::{AllocError, Global};
 use std::marker::Model;
 use std::mem;
 
-// The token of a place.
-fn token_at(tokens: &[Token], place: usize) -> Option<&Token>
+// The token of an index.
+fn token_at(tokens: &[Token], index: usize) -> Option<&Token>
     ensures token { option_map (λ t. token_of t.now) result
-        ≡ slice_get (tokens_of tokens.now) place }
-    ensures inside { IsSome result → place < length tokens.now }
+        ≡ slice_get (tokens_of tokens.now) index }
+    ensures inside { IsSome result → index < length tokens.now }
 {
-    tokens.get(place)
+    tokens.get(index)
 }
 
-// Whether the token of the place may take nothing.
-fn may_skip(tokens: &[Token], place: usize) -> bool
-    ensures skips { result ≡ may_skip (slice_get (tokens_of tokens.now) place) }
-    ensures inside { IsTrue result → place < length tokens.now }
+// Whether the token of the index may take nothing.
+fn may_skip(tokens: &[Token], index: usize) -> bool
+    ensures skips { result ≡ may_skip (slice_get (tokens_of tokens.now) index) }
+    ensures inside { IsTrue result → index < length tokens.now }
 {
-    match token_at(tokens, place) {
+    match token_at(tokens, index) {
         None => false,
         Some(token) => token.may_be_empty(),
     }
 }
 
-// Adds a place to a row that has room.
-fn push(row: &mut Vec<usize>, place: usize)
+// Adds an index to a row that has room.
+fn push(row: &mut Vec<usize>, index: usize)
     requires { length row.old.items < vec_capacity row.old }
-    ensures pushed { row.new.items ≡ row.old.items ++ place ∷ [] }
+    ensures pushed { row.new.items ≡ row.old.items ++ index ∷ [] }
     ensures longer { length row.new.items ≡ length row.old.items + 1 }
     ensures capacity { vec_capacity row.old ≤ vec_capacity row.new }
 {
-    let _ = row.push(place);
+    let _ = row.push(index);
 }
 
-// Adds a fresh place to the row, and those after it up to which the tokens may take nothing, unless the row has it. A
-// place is fresh if the tokens before it match exactly the bytes so far. `free` is one more than the row's last place,
+// Adds a fresh index to the row, and those after it up to which the tokens may take nothing, unless the row has it. An
+// index is fresh if the tokens before it match exactly the bytes so far. `free` is one more than the row's last index,
 // before and after.
-fn insert(tokens: &[Token], row: &mut Vec<usize>, free: usize, place: usize) -> usize
-    requires inside { place ≤ length tokens.now }
+fn insert(tokens: &[Token], row: &mut Vec<usize>, free: usize, index: usize) -> usize
+    requires inside { index ≤ length tokens.now }
     requires room { HasRoom (length tokens.now) row.old free }
-    ensures added { place < result }
-    ensures extended { IsExtended (length tokens.now) place row.old row.new free result }
+    ensures added { index < result }
+    ensures extended { IsExtended (length tokens.now) index row.old row.new free result }
     ensures row { (fresh alive : ℕ → Bool) → IsGrowing (tokens_of tokens.now) fresh alive →
-        IsRow (tokens_of tokens.now) fresh alive row.old.items free → fresh place ≡ true →
-        NoneAlive alive free place → IsRow (tokens_of tokens.now) fresh alive row.new.items result }
+        IsRow (tokens_of tokens.now) fresh alive row.old.items free → fresh index ≡ true →
+        NoneAlive alive free index → IsRow (tokens_of tokens.now) fresh alive row.new.items result }
 {
-    if place < free {
+    if index < free {
         return free;
     }
-    let mut last = place;
+    let mut last = index;
     push(row, last);
     while may_skip(tokens, last) {
         last += 1;
@@ -75,22 +75,22 @@ fn insert(tokens: &[Token], row: &mut Vec<usize>, free: usize, place: usize) -> 
     last + 1
 }
 
-// Adds the place of a directory star to the row, unless the row has it. It stays in the row, and need not be fresh.
-fn insert_directory(tokens: &[Token], row: &mut Vec<usize>, free: usize, place: usize) -> usize
-    requires inside { place ≤ length tokens.now }
+// Adds the index of a directory star to the row, unless the row has it. It stays in the row, and need not be fresh.
+fn insert_directory(tokens: &[Token], row: &mut Vec<usize>, free: usize, index: usize) -> usize
+    requires inside { index ≤ length tokens.now }
     requires room { HasRoom (length tokens.now) row.old free }
-    ensures added { place < result }
-    ensures extended { IsExtended (length tokens.now) place row.old row.new free result }
+    ensures added { index < result }
+    ensures extended { IsExtended (length tokens.now) index row.old row.new free result }
     ensures row { (fresh alive : ℕ → Bool) →
         IsRow (tokens_of tokens.now) fresh alive row.old.items free →
-        alive place ≡ true → (free ≤ place → fresh place ≡ false) →
-        NoneAlive alive free place → IsRow (tokens_of tokens.now) fresh alive row.new.items result }
+        alive index ≡ true → (free ≤ index → fresh index ≡ false) →
+        NoneAlive alive free index → IsRow (tokens_of tokens.now) fresh alive row.new.items result }
 {
-    if free > place {
+    if free > index {
         return free;
     }
-    push(row, place);
-    place + 1
+    push(row, index);
+    index + 1
 }
 
 // One step of a row: the byte that it is moved over, and the tokens.
@@ -102,86 +102,86 @@ struct Step<'t> {
 }
 
 impl Step<'_> {
-    // Whether the token before the place goes on to take the byte, so that the place stays.
-    fn stays(&self, place: usize) -> bool
+    // Whether the token before the index goes on to take the byte, so that the index stays.
+    fn stays(&self, index: usize) -> bool
         ensures stays { let ts = tokens_of self.now.tokens.now in
-            result ≡ stays_on (token_before ts place) self.now.byte }
-        ensures inside { IsTrue result → place ≤ length self.now.tokens.now }
+            result ≡ stays_on (token_before ts index) self.now.byte }
+        ensures inside { IsTrue result → index ≤ length self.now.tokens.now }
     {
-        if place == 0 {
+        if index == 0 {
             return false;
         }
-        match token_at(self.tokens, place - 1) {
+        match token_at(self.tokens, index - 1) {
             None => false,
             Some(token) => token.continues(self.byte),
         }
     }
 
-    // Whether the token of the place is a directory star, whose place stays for good.
-    fn is_directory_star(&self, place: usize) -> bool
-        ensures directory { result ≡ is_dirs_at (slice_get (tokens_of self.now.tokens.now) place) }
-        ensures inside { IsTrue result → place < length self.now.tokens.now }
+    // Whether the token of the index is a directory star, whose index stays for good.
+    fn is_directory_star(&self, index: usize) -> bool
+        ensures directory { result ≡ is_dirs_at (slice_get (tokens_of self.now.tokens.now) index) }
+        ensures inside { IsTrue result → index < length self.now.tokens.now }
     {
-        match token_at(self.tokens, place) {
+        match token_at(self.tokens, index) {
             None => false,
             Some(token) => token.is_directory_star(),
         }
     }
 
-    // Whether the token of the place ends with the byte, so that the next place is reached.
-    fn advances(&self, place: usize) -> bool
+    // Whether the token of the index ends with the byte, so that the next index is reached.
+    fn advances(&self, index: usize) -> bool
         ensures advances { let ts = tokens_of self.now.tokens.now in
-            result ≡ advances_on self.now.case (slice_get ts place) self.now.byte }
-        ensures inside { IsTrue result → place < length self.now.tokens.now }
+            result ≡ advances_on self.now.case (slice_get ts index) self.now.byte }
+        ensures inside { IsTrue result → index < length self.now.tokens.now }
     {
-        match token_at(self.tokens, place) {
+        match token_at(self.tokens, index) {
             None => false,
             Some(token) => token.ends(self.byte, self.case),
         }
     }
 
-    // Adds a place of the row before to the next row, if the byte leaves it there.
-    fn stay(&self, row: &mut Vec<usize>, free: usize, place: usize) -> usize
+    // Adds an index of the row before to the next row, if the byte leaves it there.
+    fn stay(&self, row: &mut Vec<usize>, free: usize, index: usize) -> usize
         requires room { HasRoom (length self.now.tokens.now) row.old free }
         requires bound { free ≤ length self.now.tokens.now + 1 }
         ensures extended { let n = length self.now.tokens.now in
-            IsExtended n place row.old row.new free result }
+            IsExtended n index row.old row.new free result }
         ensures row { let ts = tokens_of self.now.tokens.now in (fresh alive before : ℕ → Bool) →
-            IsUnderway self.now.case ts self.now.byte fresh alive before row.old.items place free →
-            before place ≡ true → place ≤ length self.now.tokens.now →
+            IsUnderway self.now.case ts self.now.byte fresh alive before row.old.items index free →
+            before index ≡ true → index ≤ length self.now.tokens.now →
             IsRow ts fresh alive row.new.items result }
-        ensures stayed { HasStayed (tokens_of self.now.tokens.now) self.now.byte place result }
+        ensures stayed { HasStayed (tokens_of self.now.tokens.now) self.now.byte index result }
     {
-        if self.stays(place) {
-            return insert(self.tokens, row, free, place);
+        if self.stays(index) {
+            return insert(self.tokens, row, free, index);
         }
-        if self.is_directory_star(place) {
-            return insert_directory(self.tokens, row, free, place);
+        if self.is_directory_star(index) {
+            return insert_directory(self.tokens, row, free, index);
         }
         free
     }
 
-    // Adds the place after one of the row before to the next row, if the byte leads to it.
-    fn advance(&self, row: &mut Vec<usize>, free: usize, place: usize) -> usize
+    // Adds the index after one of the row before to the next row, if the byte leads to it.
+    fn advance(&self, row: &mut Vec<usize>, free: usize, index: usize) -> usize
         requires room { HasRoom (length self.now.tokens.now) row.old free }
         requires bound { free ≤ length self.now.tokens.now + 1 }
         ensures extended { let n = length self.now.tokens.now in
-            IsExtended n (place + 1) row.old row.new free result }
+            IsExtended n (index + 1) row.old row.new free result }
         ensures row { let ts = tokens_of self.now.tokens.now in (fresh alive before : ℕ → Bool) →
-            IsUnderway self.now.case ts self.now.byte fresh alive before row.old.items place free →
-            before place ≡ true → HasStayed ts self.now.byte place free →
+            IsUnderway self.now.case ts self.now.byte fresh alive before row.old.items index free →
+            before index ≡ true → HasStayed ts self.now.byte index free →
             IsRow ts fresh alive row.new.items result }
         ensures advanced { let ts = tokens_of self.now.tokens.now in
-            advances_on self.now.case (slice_get ts place) self.now.byte ≡ true →
-            place + 1 < result }
+            advances_on self.now.case (slice_get ts index) self.now.byte ≡ true →
+            index + 1 < result }
     {
-        if self.advances(place) {
-            return insert(self.tokens, row, free, place + 1);
+        if self.advances(index) {
+            return insert(self.tokens, row, free, index + 1);
         }
         free
     }
 
-    // Makes the next row of a row. Returns one more than its last place.
+    // Makes the next row of a row. Returns one more than its last index.
     fn next_row(&self, row: &[usize], next: &mut Vec<usize>) -> usize
         requires capacity { length self.now.tokens.now < vec_capacity next.old }
         requires few { length self.now.tokens.now < 2 ^ 63 }
@@ -191,21 +191,21 @@ impl Step<'_> {
             result ≤ most + length next.new.items }
         ensures row { let ts = tokens_of self.now.tokens.now in (fresh alive before : ℕ → Bool) →
             IsStep self.now.case ts self.now.byte fresh alive before → fresh 0 ≡ false →
-            row.now ≡ places_below before (length self.now.tokens.now + 1) →
+            row.now ≡ indexes_below before (length self.now.tokens.now + 1) →
             IsRow ts fresh alive next.new.items result ×
             NoneAlive alive result (length self.now.tokens.now + 1) }
     {
         next.clear();
         let mut free = 0;
-        for place in row {
-            let kept = self.stay(next, free, *place);
-            free = self.advance(next, kept, *place);
+        for reached in row {
+            let kept = self.stay(next, free, *reached);
+            free = self.advance(next, kept, *reached);
         }
         free
     }
 }
 
-// Whether tokens match a value, and how many pairs of a place among the tokens and a place in the value were visited.
+// Whether tokens match a value, and how many pairs of an index among the tokens and an offset in the value were visited.
 #[derive(Clone, Copy)]
 struct Counted {
     is_match: bool,
@@ -364,31 +364,31 @@ impl MatchBuffers {
         }
     }
 
-    /// Makes room for this many places. Tokens need [`Tokens::places`].
+    /// Makes room for rows of this length. Tokens need [`Tokens::row_len`].
     ///
     /// # Errors
     ///
     /// If memory runs out. The room that there was stays.
-    pub fn reserve(&mut self, places: usize) -> Result<(), AllocError>
-        ensures room { OnOk result (places ≤ self.new) }
+    pub fn reserve(&mut self, row_len: usize) -> Result<(), AllocError>
+        ensures room { OnOk result (row_len ≤ self.new) }
         ensures kept { self.old ≤ self.new }
 
         // Takes no memory if there is room already.
-        ensures succeeds { places ≤ self.old → IsOk result }
+        ensures succeeds { row_len ≤ self.old → IsOk result }
     {
-        if places <= self.row.capacity() && places <= self.next.capacity() {
+        if row_len <= self.row.capacity() && row_len <= self.next.capacity() {
             return Ok(());
         }
         self.row.clear();
         self.next.clear();
-        self.row.reserve(places)?;
-        self.next.reserve(places)?;
+        self.row.reserve(row_len)?;
+        self.next.reserve(row_len)?;
         Ok(())
     }
 }
 
 impl Tokens {
-    /// Whether the tokens match the whole value, and how many pairs (place among the tokens, place in the
+    /// Whether the tokens match the whole value, and how many pairs (index among the tokens, offset in the
     /// value) were visited. Takes no memory.
     pub fn count(&self, value: &[u8], case: Case, rows: &mut MatchBuffers) -> (bool, u128)
         requires room { length self.now < rows.old }
@@ -416,7 +416,7 @@ impl Tokens {
     }
 }
 
-/// Whether the tokens of the text match the whole value, and how many pairs (place among the tokens, place in the
+/// Whether the tokens of the text match the whole value, and how many pairs (index among the tokens, offset in the
 /// value) were visited: none for a malformed text, which matches nothing. The count always fits into a `u128`.
 ///
 /// # Errors
@@ -441,7 +441,7 @@ pub fn count(
         return Ok((false, 0));
     };
     let mut rows = MatchBuffers::new(alloc);
-    rows.reserve(tokens.places())?;
+    rows.reserve(tokens.row_len())?;
     Ok(tokens.count(value, case, &mut rows))
 }
 

@@ -141,27 +141,27 @@ abbrev Parted : ℕ → List ℕ → List ℕ → List ℕ → Type 0
 Parted stop bytes word rest = Lacks stop word × (bytes ≡ word ++ stop ∷ rest)
 
 abbrev FoundAt : ℕ → ℕ → List ℕ → ℕ → Type 0
-FoundAt i stop bytes place = (word rest : List ℕ) × (place ≡ i + length word) × Parted stop bytes word rest
+FoundAt i stop bytes offset = (word rest : List ℕ) × (offset ≡ i + length word) × Parted stop bytes word rest
 
-found-by : (i : ℕ) (stop : ℕ) (b : ℕ) (bytes : List ℕ) (place : ℕ) → position_from (λ c. c == stop) i (b ∷ bytes) ≡ Some place
-    → (position_from (λ c. c == stop) (i + 1) bytes ≡ Some place → FoundAt (i + 1) stop bytes place) → (t : Bool) → (b == stop) ≡ t
-    → FoundAt i stop (b ∷ bytes) place
-found-by i stop b bytes place e others true t =
-    let here : i ≡ place = same_some i place (sym (found-here i stop b bytes t) ∙ e) in
+found-by : (i : ℕ) (stop : ℕ) (b : ℕ) (bytes : List ℕ) (offset : ℕ) → position_from (λ c. c == stop) i (b ∷ bytes) ≡ Some offset
+    → (position_from (λ c. c == stop) (i + 1) bytes ≡ Some offset → FoundAt (i + 1) stop bytes offset) → (t : Bool) → (b == stop) ≡ t
+    → FoundAt i stop (b ∷ bytes) offset
+found-by i stop b bytes offset e others true t =
+    let here : i ≡ offset = same_some i offset (sym (found-here i stop b bytes t) ∙ e) in
     ([], bytes, omega (arith, here), (refl, ap (λ x. x ∷ bytes) (eqb-true b stop t)))
-found-by i stop b bytes place e others false t =
+found-by i stop b bytes offset e others false t =
     let later = others (sym (found-later i stop b bytes t) ∙ e) in
     (b ∷ later.0, later.1, omega (arith, later.2), (all_of _ _ (ap not t) later.3.0, ap (λ xs. b ∷ xs) later.3.1))
 
-found-only : (i : ℕ) (stop : ℕ) (bytes : List ℕ) (place : ℕ) → position_from (λ b. b == stop) i bytes ≡ Some place → FoundAt i stop bytes place
-found-only i stop [] place e = absurd cc
-found-only i stop (b ∷ bytes) place e = found-by i stop b bytes place e (found-only (i + 1) stop bytes place) (b == stop) refl
+found-only : (i : ℕ) (stop : ℕ) (bytes : List ℕ) (offset : ℕ) → position_from (λ b. b == stop) i bytes ≡ Some offset → FoundAt i stop bytes offset
+found-only i stop [] offset e = absurd cc
+found-only i stop (b ∷ bytes) offset e = found-by i stop b bytes offset e (found-only (i + 1) stop bytes offset) (b == stop) refl
 
-at_place : List ℕ → ℕ → List ℕ × List ℕ
-at_place bytes place = (take place bytes, drop (place + 1) bytes)
+at_offset : List ℕ → ℕ → List ℕ × List ℕ
+at_offset bytes offset = (take offset bytes, drop (offset + 1) bytes)
 
-at_end : (stop : ℕ) (word rest : List ℕ) → at_place (word ++ stop ∷ rest) (length word) ≡ (word, rest)
-unfolding at_place
+at_end : (stop : ℕ) (word rest : List ℕ) → at_offset (word ++ stop ∷ rest) (length word) ≡ (word, rest)
+unfolding at_offset
 at_end stop word rest =
     let front : take (length word) (word ++ stop ∷ rest) ≡ word = take-append_seam word (stop ∷ rest) in
     let back : drop (length word + 1) (word ++ stop ∷ rest) ≡ rest =
@@ -170,20 +170,20 @@ at_end stop word rest =
     λ i. (front i, back i)
 
 pub split_once-back : (stop : ℕ) (word rest : List ℕ) → Lacks stop word → split_once stop (word ++ stop ∷ rest) ≡ Some (word, rest)
-unfolding at_place
+unfolding at_offset
 split_once-back stop word rest lacks =
-    ap (option_map (at_place (word ++ stop ∷ rest))) (position_from-zero (λ b. b == stop) (word ++ stop ∷ rest)
+    ap (option_map (at_offset (word ++ stop ∷ rest))) (position_from-zero (λ b. b == stop) (word ++ stop ∷ rest)
     ∙ found-back 0 stop word rest lacks)
-    ∙ ap Some (ap (at_place (word ++ stop ∷ rest)) (omega arith) ∙ at_end stop word rest)
+    ∙ ap Some (ap (at_offset (word ++ stop ∷ rest)) (omega arith) ∙ at_end stop word rest)
 
 pub split_once-only : (stop : ℕ) (bytes word rest : List ℕ) → split_once stop bytes ≡ Some (word, rest) → Parted stop bytes word rest
-unfolding at_place
+unfolding at_offset
 split_once-only stop bytes word rest e =
-    let at = map-some (at_place bytes) _ (word, rest) e in
+    let at = map-some (at_offset bytes) _ (word, rest) e in
     let found = found-only 0 stop bytes at.0 (sym (position_from-zero (λ b. b == stop) bytes) ∙ at.1) in
     let same : (found.0, found.1) ≡ (word, rest) =
-    sym (at_end stop found.0 found.1) ∙ (ap (λ xs. at_place xs (length found.0)) (sym found.3.1)
-    ∙ (ap (at_place bytes) (omega (arith, found.2)) ∙ at.2)) in
+    sym (at_end stop found.0 found.1) ∙ (ap (λ xs. at_offset xs (length found.0)) (sym found.3.1)
+    ∙ (ap (at_offset bytes) (omega (arith, found.2)) ∙ at.2)) in
     subst (λ (p : List ℕ × List ℕ). Parted stop bytes p.0 p.1) same found.3
 
 -- the first byte that is the separator

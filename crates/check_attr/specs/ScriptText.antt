@@ -1,5 +1,5 @@
 -- The text that a script writes (own): the lines that its lists leave out, and for each question the answers of the only stable
--- table. The form of answers is that of the git-check-attr page; the form with the place of a pattern is own.
+-- table. The form of answers is that of the git-check-attr page; the form with origins is own.
 use Rattle.std.specs.Prelude.{◌≡◌, ◌≢◌, ℕ, ◌+◌, List, [], ◌∷◌, ◌++◌, length, Option, Some, None, IfSome, slice_index_or, codes, All}
 use Rattle.std.specs.List.{flat_map}
 use Rattle.std.specs.Fmt.{decimal}
@@ -46,10 +46,10 @@ abbrev pub cause_text : List (List ℕ) → Option ℕ → List ℕ
 cause_text known None = codes "-"
 cause_text known (Some number) = slice_index_or known number []
 
--- the place that an answer comes from: its source and line number, its pattern, and the macro; an answer without a line has none
-abbrev pub place_text : List (List ℕ) → Origin → Option ℕ → Option (List ℕ) → List ℕ
-place_text known origin cause None = codes "-\t-\t-"
-place_text known origin cause (Some source) =
+-- the origin of an answer: its source and line number, its pattern, and the macro; an answer without a line has none
+abbrev pub origin_text : List (List ℕ) → Origin → Option ℕ → Option (List ℕ) → List ℕ
+origin_text known origin cause None = codes "-\t-\t-"
+origin_text known origin cause (Some source) =
     source ++ codes ":" ++ decimal origin.line ++ codes "\t"
     ++ written (record { text = origin.text; mode = origin.mode; wildcard = origin.wildcard }) ++ codes "\t"
     ++ cause_text known cause
@@ -58,12 +58,12 @@ place_text known origin cause (Some source) =
 abbrev pub answer_text : List ℕ → List ℕ → List ℕ → State → List ℕ
 answer_text path separator name state = path ++ separator ++ name ++ separator ++ info state
 
--- an answer as a line, with NUL after each part, or as a line with the place
+-- an answer as a line, with NUL after each part, or as a line with the origin
 abbrev pub entry_text : Form → List (List ℕ) → List ℕ → Matched → List ℕ
 entry_text forms.Line known path m = answer_text path (codes ": ") m.assignment.name m.assignment.state ++ codes "\n"
 entry_text forms.Zero known path m = answer_text path (codes "\0") m.assignment.name m.assignment.state ++ codes "\0"
 entry_text forms.Origin known path m =
-    answer_text path (codes ": ") m.assignment.name m.assignment.state ++ codes "\t" ++ place_text known m.origin m.cause m.origin.source
+    answer_text path (codes ": ") m.assignment.name m.assignment.state ++ codes "\t" ++ origin_text known m.origin m.cause m.origin.source
     ++ codes "\n"
 
 -- an entry for each answer that an engine in this state returns, which are those of the only stable table

@@ -6,7 +6,7 @@ ghost use Rattle.gix_attributes.specs.TextViews.{state_view};
 ghost use Rattle.gix_attributes.specs.Matches.{match_view, cause_of};
 ghost use Rattle.check_attr.specs.inner.Pieces.{FillsNoPiece, Passes};
 ghost use Rattle.check_attr.specs.inner.MatchText.{match_entry};
-ghost use Rattle.check_attr.specs.ScriptText.{info, cause_text, place_text, answer_text};
+ghost use Rattle.check_attr.specs.ScriptText.{info, cause_text, origin_text, answer_text};
 
 use crate::buffer::{push_bytes, push_number, push_text};
 use crate::fault::Fault;
@@ -144,7 +144,7 @@ fn push_info(out: &mut Vec<u8>, state: StateRef<'_>) -> Result<(), AllocError>
 // The source, line and pattern that decided, and the macro. An attribute that no line assigns has none of these.
 fn push_origin(out: &mut Vec<u8>, engine: &Engine, one: Match<'_>) -> Result<(), AllocError>
     ensures { let m = match_view one.entry in OnOk result (out.new.items
-        ≡ out.old.items ++ place_text engine.now.state.names m.origin m.cause m.origin.source) }
+        ≡ out.old.items ++ origin_text engine.now.state.names m.origin m.cause m.origin.source) }
 {
     let Some(source) = one.location.source else {
         return push_text(out, "-\t-\t-");

@@ -198,7 +198,7 @@ fn print_refusal<E: Push>(errors: &mut E, error: &AddError)
     }
 }
 
-// Prints a text. A failure of `errors` is ignored, since there is no other place to report it.
+// Prints a text. A failure of `errors` is ignored, since there is nowhere else to report it.
 fn print<E: Push>(errors: &mut E, text: &[u8])
     ensures { Prints E.contents E.failed E.stalled E.Flushed errors.old errors.new text.now }
 {

@@ -292,16 +292,16 @@ fn strip_prefix<'a>(prefix: &[u8], bytes: &'a [u8]) -> Option<&'a [u8]>
 fn split_once(separator: u8, bytes: &[u8]) -> Option<(&[u8], &[u8])>
     ensures { option_map (with_rest part_view) result ≡ split_once separator bytes.now }
 {
-    let place = position_of(separator, bytes)?;
-    Some((&bytes[..place], &bytes[place + 1..]))
+    let offset = position_of(separator, bytes)?;
+    Some((&bytes[..offset], &bytes[offset + 1..]))
 }
 
 fn position_of(separator: u8, bytes: &[u8]) -> Option<usize>
     ensures { result ≡ position (λ b. b == separator) bytes.now }
 {
-    for (place, byte) in bytes.iter().enumerate() {
+    for (offset, byte) in bytes.iter().enumerate() {
         if *byte == separator {
-            return Some(place);
+            return Some(offset);
         }
     }
     None

@@ -52,7 +52,7 @@ pub fn slots_named()
     ensures two { HaveSlots 2 two_items }
     ensures one { HaveSlots 1 two_items → ⊥ }
     ensures held { HeldAreNamed two_names (None ∷ Some answer_for_b ∷ []) }
-    ensures misplaced { HeldAreNamed two_names (Some answer_for_b ∷ []) → ⊥ }
+    ensures in_wrong_slot { HeldAreNamed two_names (Some answer_for_b ∷ []) → ⊥ }
     ensures found { is_found (1 ∷ []) no_answers
         (slots_of (None ∷ Some answer_for_b ∷ [])) ≡ true }
     ensures unfound { is_found (0 ∷ []) no_answers

@@ -27,7 +27,7 @@ use Rattle.gix_attributes.proofs.OutcomeLemmas.{reset_at_first, reset_searched}
 use Rattle.gix_attributes.specs.EngineStates.{EngineState, is_specified, path_setting, returned_answers, specified_among, texts_answered}
 use Rattle.gix_attributes.specs.EngineView.{returned_by}
 use Rattle.gix_attributes.specs.Registration.{RegistersAlone}
-use Rattle.gix_attributes.specs.inner.SoundEngines.{AreNumbered, ArePlacesOf, IsCurrentFor, IsOfNames, is_slot_specified}
+use Rattle.gix_attributes.specs.inner.SoundEngines.{AreNumbered, AreNumbersOf, IsCurrentFor, IsOfNames, is_slot_specified}
 use Rattle.std.proofs.lemmas.Option.{slice_get-map}
 use Rattle.gix_attributes.proofs.RegistrationLemmas.{bodies_registered}
 
@@ -154,23 +154,23 @@ pub none_left : (slots : List (Option Matched)) (i : ℕ) → length slots ≤ i
 none_left slots i le = ap (λ l. map Some (specified_among (found_in l))) (drop_all i slots le)
 
 -- as many numbers as answers
-pub same_length : (slots : List (Option Matched)) (matches : List Matched) (numbers : List ℕ) → ArePlacesOf slots matches numbers
+pub same_length : (slots : List (Option Matched)) (matches : List Matched) (numbers : List ℕ) → AreNumbersOf slots matches numbers
     → length numbers ≡ length matches
-same_length slots matches numbers places =
-    sym (length-map numbers (λ number. get_or slots number None)) ∙ (ap length places ∙ length-map matches (λ m. Some m))
+same_length slots matches numbers numbered =
+    sym (length-map numbers (λ number. get_or slots number None)) ∙ (ap length numbered ∙ length-map matches (λ m. Some m))
 
 some_of_some : {X : Type 0} (o p : Option X) → Some o ≡ option_map (λ y. Some y) p → o ≡ p
 some_of_some o None e = absurd (cc)
 some_of_some o (Some y) e = cc
 
--- the answer at a place is in the slot with the number there
-pub at_place : (slots : List (Option Matched)) (matches : List Matched) (numbers : List ℕ) (i n : ℕ) → ArePlacesOf slots matches numbers
+-- the answer at an index is in the slot with the number there
+pub at_index : (slots : List (Option Matched)) (matches : List Matched) (numbers : List ℕ) (i n : ℕ) → AreNumbersOf slots matches numbers
     → slice_get numbers i ≡ Some n → get_or slots n None ≡ slice_get matches i
-at_place slots matches numbers i n places here =
+at_index slots matches numbers i n numbered here =
     some_of_some (get_or slots n None) (slice_get matches i)
     (ap (option_map (λ number. get_or slots number None)) (sym here)
     ∙ (sym (slice_get-map (λ number. get_or slots number None) numbers i)
-    ∙ (ap (λ l. slice_get l i) places ∙ slice_get-map (λ m. Some m) matches i)))
+    ∙ (ap (λ l. slice_get l i) numbered ∙ slice_get-map (λ m. Some m) matches i)))
 
 -- without a selection, the answer with a number is the match in the slot there
 pub answer_in_slot : (has : Bool) (held : Content) (numbers : List ℕ) (i n : ℕ) (o : Option Matched) → has ≡ true → length held.selection ≡ 0
@@ -180,7 +180,7 @@ answer_in_slot has held numbers i n o given none numbered here o_is =
     let no_selection : (length held.selection == 0) ≡ true = ap (λ k. k == 0) none in
     let read : Option (List Matched) → Option Matched = option_and_then (λ answers. slice_get answers i) in
     o_is
-    ∙ (at_place held.slots (specified_among (found_in held.slots)) numbers i n (numbered given no_selection) here
+    ∙ (at_index held.slots (specified_among (found_in held.slots)) numbers i n (numbered given no_selection) here
     ∙ sym (ap read (if_true has (Some (returned_by held)) None given)
     ∙ ap (λ answers. slice_get answers i) (if_true (length held.selection == 0) _ _ no_selection)))
 
@@ -212,15 +212,15 @@ answer_number names has held numbers i n distinct given none numbered named here
     let no_selection : (length held.selection == 0) ≡ true = ap (λ k. k == 0) none in
     let no_texts : (length (names_selected held.selection) == 0) ≡ true =
     ap (λ k. k == 0) (length-map held.selection (λ (w : Wanted). w.name)) ∙ no_selection in
-    let places = numbered given no_selection in
+    let are_numbered = numbered given no_selection in
     let matches = specified_among (found_in held.slots) in
     let within = slice_get_within numbers i n here in
-    let count = same_length held.slots matches numbers places in
+    let count = same_length held.slots matches numbers are_numbered in
     ⊎_elim
     (λ (r : (m : Matched) × (i < length matches) × (slice_get matches i ≡ Some m) × (get_or matches i m ≡ m)).
     sym (ap (option_and_then (number_of names)) (slice_get-map (λ (m : Matched). m.assignment.name) matches i
     ∙ ap (option_map (λ (m : Matched). m.assignment.name)) r.2)
-    ∙ number_of_slot names held.slots n r.0 distinct (named given).answers (at_place held.slots matches numbers i n places here ∙ r.2)))
+    ∙ number_of_slot names held.slots n r.0 distinct (named given).answers (at_index held.slots matches numbers i n are_numbered here ∙ r.2)))
     (λ (past : (length matches ≤ i) × (slice_get matches i ≡ None)). absurd (omega (arith, past.0, within, count)))
     (slice_get_cases matches i).1
     ∙ (ap (λ l. option_and_then (number_of names) (slice_get l i))
@@ -280,21 +280,21 @@ numbered_more slots before after number lt e so_far = by_case (is_slot_specified
         ∙ so_far
 
 -- nothing is left before the number that is listed next
-pub left_at : (slots : List (Option Matched)) (listed : List ℕ) (from place number : ℕ) → IsNonDecreasing listed → place < length listed →
-    ((d : ℕ) → get_or listed place d ≡ number) → from ≤ number → number < length slots → AreFreeButLeft slots listed from place →
+pub left_at : (slots : List (Option Matched)) (listed : List ℕ) (from index number : ℕ) → IsNonDecreasing listed → index < length listed →
+    ((d : ℕ) → get_or listed index d ≡ number) → from ≤ number → number < length slots → AreFreeButLeft slots listed from index →
     left_from slots from ≡ left_from slots number
-left_at slots listed from place number rising within at le lt free =
+left_at slots listed from index number rising within at le lt free =
     ap (λ l. map Some (specified_among l)) (found_over slots from number (number - from) (omega (arith, le)) (omega (arith, lt))
-    (free_up_to slots listed from place number rising within at free))
+    (free_up_to slots listed from index number rising within at free))
 
 -- nothing is left once all that is listed was looked at
-pub all_numbered : (slots : List (Option Matched)) (listed numbers : List ℕ) (from place : ℕ) → length listed ≤ place →
-    AreFreeButLeft slots listed from place → map (λ n. get_or slots n None) numbers ++ left_from slots from ≡ left_from slots 0 →
-    ArePlacesOf slots (specified_among (found_in slots)) numbers
-all_numbered slots listed numbers from place past free so_far =
+pub all_numbered : (slots : List (Option Matched)) (listed numbers : List ℕ) (from index : ℕ) → length listed ≤ index →
+    AreFreeButLeft slots listed from index → map (λ n. get_or slots n None) numbers ++ left_from slots from ≡ left_from slots 0 →
+    AreNumbersOf slots (specified_among (found_in slots)) numbers
+all_numbered slots listed numbers from index past free so_far =
     sym (append-nil (map (λ n. get_or slots n None) numbers))
     ∙ ap (λ l. map (λ n. get_or slots n None) numbers ++ l)
-    (sym (ap (λ l. map Some (specified_among l)) (nothing_found slots from (none_listed slots listed from place past free))))
+    (sym (ap (λ l. map Some (specified_among l)) (nothing_found slots from (none_listed slots listed from index past free))))
     ∙ so_far
 
 -- ---- selections

@@ -20,23 +20,23 @@ cause_is s o x h = at (origin_at s o) (item_at s o) h
     at (Some origin) (Some i) h = let e : answer_of s.bodies origin i (cause_at s o) ≡ x = cc in sym (ap (λ (y : Answer). y.cause) e)
 
 -- what is inside a parent comes after it, so the parent is kept with it
-kept_parent : (table : Table) (wanted : List ℕ) (parent : Occurrence) (place : ℕ) → IsKept no_answers table wanted (Inside parent place) →
+kept_parent : (table : Table) (wanted : List ℕ) (parent : Occurrence) (index : ℕ) → IsKept no_answers table wanted (Inside parent index) →
     IsKept no_answers table wanted parent
-kept_parent table wanted parent place kept =
+kept_parent table wanted parent index kept =
     ⊎_elim
     (λ (free : (w : ℕ) × Contains wanted w × (no_answers w ≡ None) × (table w ≡ None)). inl free)
-    (λ (k : (w : ℕ) × (p : Occurrence) × Contains wanted w × (table w ≡ Some p) × ((Inside parent place ≡ p) ⊎ IsEarlier (Inside parent place) p)).
+    (λ (k : (w : ℕ) × (p : Occurrence) × Contains wanted w × (table w ≡ Some p) × ((Inside parent index ≡ p) ⊎ IsEarlier (Inside parent index) p)).
     inr (k.0, k.1, k.2, k.3, inr (earlier k.1 k.4)))
     kept
   where
-    above : IsEarlier parent (Inside parent place)
-    above = first_beginning (path parent) place []
+    above : IsEarlier parent (Inside parent index)
+    above = first_beginning (path parent) index []
 
-    earlier : (p : Occurrence) → (Inside parent place ≡ p) ⊎ IsEarlier (Inside parent place) p → IsEarlier parent p
+    earlier : (p : Occurrence) → (Inside parent index ≡ p) ⊎ IsEarlier (Inside parent index) p → IsEarlier parent p
     earlier p c =
         ⊎_elim
-        (λ (e : Inside parent place ≡ p). subst (λ o. IsEarlier parent o) e above)
-        (λ (later : IsEarlier (Inside parent place) p). first_trans (path parent) (path (Inside parent place)) (path p) above later)
+        (λ (e : Inside parent index ≡ p). subst (λ o. IsEarlier parent o) e above)
+        (λ (later : IsEarlier (Inside parent index) p). first_trans (path parent) (path (Inside parent index)) (path p) above later)
         c
 
 module _ (s : Setting) (wanted : List ℕ) (slots : Slots) (table : Table) (stable : IsStable s no_answers table)
@@ -44,13 +44,13 @@ module _ (s : Setting) (wanted : List ℕ) (slots : Slots) (table : Table) (stab
   cut_at : (a : ℕ) (o : Occurrence) → table a ≡ Some o → IsCutAt s no_answers table wanted (Some o) (slots a)
   cut_at a o e = subst (λ entry. IsCutAt s no_answers table wanted entry (slots a)) e (cut a)
 
-  parent_seen : (parent : Occurrence) (place a above : ℕ) (i : Item) → item_at s parent ≡ Some i → table above ≡ Some parent →
-      table a ≡ Some (Inside parent place) → (slots a ≡ None → ⊥) → slots above ≡ full_answer s None (table above)
-  parent_seen parent place a above i item entry inside there =
+  parent_seen : (parent : Occurrence) (index a above : ℕ) (i : Item) → item_at s parent ≡ Some i → table above ≡ Some parent →
+      table a ≡ Some (Inside parent index) → (slots a ≡ None → ⊥) → slots above ≡ full_answer s None (table above)
+  parent_seen parent index a above i item entry inside there =
       ⊎_elim
-      (λ (none : slots above ≡ None). absurd (there ((cut_at a (Inside parent place) inside).1
+      (λ (none : slots above ≡ None). absurd (there ((cut_at a (Inside parent index) inside).1
       (λ kept. has_answer s parent i item
-      (sym ((cut_at above parent entry).0 (kept_parent table wanted parent place kept)) ∙ none)))))
+      (sym ((cut_at above parent entry).0 (kept_parent table wanted parent index kept)) ∙ none)))))
       (λ (e : slots above ≡ full_answer s None (table above)). e)
       (seen_others s no_answers wanted table slots above stable cut)
 
@@ -63,13 +63,13 @@ module _ (s : Setting) (wanted : List ℕ) (slots : Slots) (table : Table) (stab
       by_occurrence : (o : Occurrence) → table a ≡ Some o → answer_at s o ≡ Some x → slots cause ≡ full_answer s None (table cause)
       by_occurrence (Root list line item) e h =
           let none : x.cause ≡ None = cause_is s (Root list line item) x h in absurd cc
-      by_occurrence (Inside parent place) e h =
-          let reached = (entry_is s no_answers table stable a (Inside parent place) e).0.1.reached in
+      by_occurrence (Inside parent index) e h =
+          let reached = (entry_is s no_answers table stable a (Inside parent index) e).0.1.reached in
           let own : x.cause ≡ Some reached.0.attribute =
-          cause_is s (Inside parent place) x h ∙ ap (option_map (λ (i : Item). i.attribute)) reached.1 in
+          cause_is s (Inside parent index) x h ∙ ap (option_map (λ (i : Item). i.attribute)) reached.1 in
           let same : reached.0.attribute ≡ cause = cc in
           subst (λ n. slots n ≡ full_answer s None (table n)) same
-          (parent_seen parent place a reached.0.attribute reached.0 reached.1 reached.3 e there)
+          (parent_seen parent index a reached.0.attribute reached.0 reached.1 reached.3 e there)
 
       by_entry : (o : Option Occurrence) → table a ≡ o → slots cause ≡ full_answer s None (table cause)
       by_entry None e =
@@ -88,19 +88,19 @@ module _ (s : Setting) (wanted : List ℕ) (slots : Slots) (table : Table) (stab
     where
       by_occurrence : (o : Occurrence) → table a ≡ Some o → answer_at s o ≡ Some x → needed cause ≡ true
       by_occurrence (Root list line item) e h = let none : x.cause ≡ None = cause_is s (Root list line item) x h in absurd cc
-      by_occurrence (Inside parent place) e h =
-          let live = (entry_is s no_answers table stable a (Inside parent place) e).0 in
+      by_occurrence (Inside parent index) e h =
+          let live = (entry_is s no_answers table stable a (Inside parent index) e).0 in
           let reached = live.1.reached in
           let named : x.cause ≡ Some reached.0.attribute =
-          cause_is s (Inside parent place) x h ∙ ap (option_map (λ (i : Item). i.attribute)) reached.1 in
+          cause_is s (Inside parent index) x h ∙ ap (option_map (λ (i : Item). i.attribute)) reached.1 in
           let same : reached.0.attribute ≡ cause = cc in
           let body = body_of s.bodies reached.0.attribute in
-          let item : slice_get body place ≡ Some live.0 =
-          sym (ap (option_and_then (λ (i : Item). slice_get (body_of s.bodies i.attribute) place)) reached.1) ∙ live.1.item in
-          let within = slice_get_within body place live.0 item in
-          let there : get_or body place live.0 ≡ live.0 = get_or_from_slice_get body place live.0 live.0 item in
+          let item : slice_get body index ≡ Some live.0 =
+          sym (ap (option_and_then (λ (i : Item). slice_get (body_of s.bodies i.attribute) index)) reached.1) ∙ live.1.item in
+          let within = slice_get_within body index live.0 item in
+          let there : get_or body index live.0 ≡ live.0 = get_or_from_slice_get body index live.0 live.0 item in
           ap needed (sym same)
-          ∙ closed reached.0.attribute place live.0 within (ap (λ (i : Item). needed i.attribute) there ∙ ap needed live.2 ∙ own)
+          ∙ closed reached.0.attribute index live.0 within (ap (λ (i : Item). needed i.attribute) there ∙ ap needed live.2 ∙ own)
 
       by_entry : (o : Option Occurrence) → table a ≡ o → needed cause ≡ true
       by_entry None e =

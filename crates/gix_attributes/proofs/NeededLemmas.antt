@@ -170,16 +170,16 @@ all_between items rest attribute start len is first second = λ k d lt same.
     (λ (before : k < start). absurd (below (get_or items k d).attribute same (first.0 k d (omega arith) before)))
     (λ (from : start ≤ k).
     let x = get_or items k d in
-    let place = k - start in
-    let inside : place < length rest = omega (arith, lt, from, ap length is, length-drop start items) in
-    let at : (e : BodyItem) → get_or rest place e ≡ get_or items k e =
-    λ e. ap (λ l. get_or l place e) is ∙ get_or-drop start items place e ∙ ap (λ i. get_or items i e) (omega arith) in
+    let index = k - start in
+    let inside : index < length rest = omega (arith, lt, from, ap length is, length-drop start items) in
+    let at : (e : BodyItem) → get_or rest index e ≡ get_or items k e =
+    λ e. ap (λ l. get_or l index e) is ∙ get_or-drop start items index e ∙ ap (λ i. get_or items i e) (omega arith) in
     ⊎_elim
-    (λ (early : place < len).
-    (place, omega (arith, length-take len rest), get_or-take len rest place x early ∙ at x ∙ get_or_default items k x d lt))
-    (λ (late : len ≤ place).
-    absurd (above x.attribute same (ap (λ i. leb i.attribute attribute) (sym (at d)) ∙ second.1 place d late inside)))
-    (cases_lt place len))
+    (λ (early : index < len).
+    (index, omega (arith, length-take len rest), get_or-take len rest index x early ∙ at x ∙ get_or_default items k x d lt))
+    (λ (late : len ≤ index).
+    absurd (above x.attribute same (ap (λ i. leb i.attribute attribute) (sym (at d)) ∙ second.1 index d late inside)))
+    (cases_lt index len))
     (cases_lt k start)
   where
     below : (a : ℕ) → a ≡ attribute → ltb a attribute ≡ true → ⊥

@@ -137,10 +137,10 @@ has_origin s (Root list line item) i e = at (line_at s list line) e
         (origin : Origin) × (option_map (λ l. l.origin) l ≡ Some origin)
     at None d = absurd cc
     at (Some l) d = (l.origin, refl)
-has_origin s (Inside parent place) i e = at (λ j h. has_origin s parent j h) (item_at s parent) refl e
+has_origin s (Inside parent index) i e = at (λ j h. has_origin s parent j h) (item_at s parent) refl e
   where
     at : ((j : Item) → item_at s parent ≡ Some j → (origin : Origin) × (origin_at s parent ≡ Some origin)) → (o : Option Item) →
-        item_at s parent ≡ o → option_and_then (λ j. slice_get (body_of s.bodies j.attribute) place) o ≡ Some i →
+        item_at s parent ≡ o → option_and_then (λ j. slice_get (body_of s.bodies j.attribute) index) o ≡ Some i →
         (origin : Origin) × (origin_at s parent ≡ Some origin)
     at above None h d = absurd cc
     at above (Some j) h d = above j h

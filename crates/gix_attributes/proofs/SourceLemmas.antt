@@ -91,10 +91,10 @@ is_some-text None = refl
 is_some-text (Some text) = refl
 
 -- a result that is the path of a source is the path of the same source by another name
-pub located : {E : Type 0} (source known : Source) (prefixes : Prefixes) (asked : List Asked) (place : Option (List ℕ))
+pub located : {E : Type 0} (source known : Source) (prefixes : Prefixes) (asked : List Asked) (found : Option (List ℕ))
     (result : Result (Option (String Global)) E)
-    → source ≡ known → location known prefixes asked ≡ place → IfOk result (λ path. option_map string_bytes path ≡ place)
+    → source ≡ known → location known prefixes asked ≡ found → IfOk result (λ path. option_map string_bytes path ≡ found)
     → IfOk result (λ path. option_map string_bytes path ≡ location source prefixes asked)
-located source known prefixes asked place result is same returned =
+located source known prefixes asked found result is same returned =
     subst (λ (l : Option (List ℕ)). IfOk result (λ path. option_map string_bytes path ≡ l)) (sym (ap (λ s. location s prefixes asked) is ∙ same))
     returned

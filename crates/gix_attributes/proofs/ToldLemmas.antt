@@ -30,7 +30,7 @@ use Rattle.gix_attributes.specs.Told.{addition_told, content_told, list_told, ma
 reached_same : (s t : Setting) → ((o : Occurrence) → item_at s o ≡ item_at t o) → (table : Table) (o : Occurrence) → IsReached s table o →
     IsReached t table o
 reached_same s t same table (Root list line item) h = h
-reached_same s t same table (Inside parent place) h = (h.0, sym (same parent) ∙ h.1, h.2, h.3)
+reached_same s t same table (Inside parent index) h = (h.0, sym (same parent) ∙ h.1, h.2, h.3)
 
 live_same : (s t : Setting) → ((o : Occurrence) → item_at s o ≡ item_at t o) → (table : Table) (o : Occurrence) (i : Item) →
     IsLive s table o i → IsLive t table o i
@@ -81,8 +81,8 @@ module _ (told : List ℕ → List ℕ) where
           ≡ option_and_then (λ (l : Line). slice_get l.items item) o
       at None = refl
       at (Some l) = refl
-  item_same s (Inside parent place) =
-      ap (option_and_then (λ (i : Item). slice_get (body_of s.bodies i.attribute) place)) (item_same s parent)
+  item_same s (Inside parent index) =
+      ap (option_and_then (λ (i : Item). slice_get (body_of s.bodies i.attribute) index)) (item_same s parent)
 
   origin_same : (s : Setting) (o : Occurrence) → origin_at (setting_told s) o ≡ option_map (origin_told told) (origin_at s o)
   origin_same s (Root list line item) = ap (option_map (λ (l : Line). l.origin)) (line_same s list line) ∙ at (line_at s list line)
@@ -91,11 +91,11 @@ module _ (told : List ℕ → List ℕ) where
           ≡ option_map (origin_told told) (option_map (λ (l : Line). l.origin) o)
       at None = refl
       at (Some l) = refl
-  origin_same s (Inside parent place) = origin_same s parent
+  origin_same s (Inside parent index) = origin_same s parent
 
   cause_same : (s : Setting) (o : Occurrence) → cause_at (setting_told s) o ≡ cause_at s o
   cause_same s (Root list line item) = refl
-  cause_same s (Inside parent place) = ap (option_map (λ (i : Item). i.attribute)) (item_same s parent)
+  cause_same s (Inside parent index) = ap (option_map (λ (i : Item). i.attribute)) (item_same s parent)
 
   -- its answers tell the other sources
   answer_same : (s : Setting) (o : Occurrence) → answer_at (setting_told s) o ≡ option_map answer_told (answer_at s o)

@@ -9,7 +9,7 @@ use attr_keys::line_key::Shape;
 use std::alloc::{AllocError, Global};
 use std::fmt::Write;
 
-/// A line: its text, the index of its first wildcard, and what it is.
+/// A line: its text, the offset of its first wildcard, and what it is.
 #[derive(Drop)]
 struct Line {
     text: Vec<u8>,
@@ -73,7 +73,7 @@ fn found(
 impl Stage for Keys {
     fn take(&mut self, alloc: Global, step: &Row, out: &mut String) -> Result<(), Fault> {
         match step.text(0) {
-            // `line | KIND | TEXT | WILDCARD` adds a line, whose first wildcard is at this index or nowhere.
+            // `line | KIND | TEXT | WILDCARD` adds a line, whose first wildcard is at this offset or nowhere.
             "line" => Ok(self.lines.push(line_of(alloc, step)?)?),
             // `find | NAME | PATH | CASE` reports the lines that are found, last to first.
             // `candidates | NAME | PATH | CASE` reports those that may match.

@@ -186,7 +186,7 @@ pub(crate) fn items_of(line: &Value) -> &[TrackedAssignment] {
     }
 }
 
-// The number of a line, the text of its pattern, the bits of the mode, the index of the first wildcard, and the items that
+// The number of a line, the text of its pattern, the bits of the mode, the offset of the first wildcard, and the items that
 // have no number.
 fn push_mapping(mapping: &Mapping<Value>, out: &mut String) -> Result<(), AllocError> {
     let (number, pattern) = (mapping.sequence_number, &mapping.pattern);

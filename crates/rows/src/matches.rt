@@ -5,7 +5,7 @@ use crate::fault::Fault;
 use crate::patterns::list_of;
 use crate::row::Row;
 use attr_glob::Pattern;
-use attr_glob::pattern::{Case, base_name_place};
+use attr_glob::pattern::{Case, base_name_offset};
 use attr_glob::search::pattern::{Index, List};
 use attr_glob::token::Tokens;
 use attr_glob::wildmatch::{MatchBuffers, count};
@@ -60,9 +60,9 @@ fn count_in(
     value: &[u8],
     case: Case,
 ) -> Result<(bool, u128), Fault> {
-    buffers.reserve(tokens.places())?;
+    buffers.reserve(tokens.row_len())?;
     let (matched, pairs) = tokens.count(value, case, buffers);
-    if buffers.reserve(tokens.places()).is_err()
+    if buffers.reserve(tokens.row_len()).is_err()
         || tokens.matches(value, case, buffers) != matched
     {
         return Err(Fault::Changed);
@@ -131,7 +131,7 @@ fn is_taken_in(
     let Some(tokens) = tokens else {
         return Ok((false, false));
     };
-    buffers.reserve(tokens.places())?;
+    buffers.reserve(tokens.row_len())?;
     let exact = tokens.matches(value, Case::Sensitive, buffers);
     Ok((exact, tokens.matches(value, Case::Fold, buffers)))
 }
@@ -166,8 +166,8 @@ pub(crate) fn path(row: &Row, answer: &mut Answer) -> Result<(), Fault> {
     let Some(pattern) = Pattern::from_bytes(answer.alloc, row.bytes(0))? else {
         return Err(Fault::NotARow);
     };
-    let place = base_name_place(path);
-    match pattern.matches_repo_relative_path(answer.alloc, BStr::new(path), place, is_dir, case) {
+    let offset = base_name_offset(path);
+    match pattern.matches_repo_relative_path(answer.alloc, BStr::new(path), offset, is_dir, case) {
         Ok(matched) => {
             answer.flag(matched)?;
             let is_of_kind = pattern.takes_kind(is_dir);
@@ -186,11 +186,11 @@ fn kept_matches(
     case: Case,
 ) -> Result<bool, AllocError> {
     let tokens = pattern.kept_tokens(alloc)?;
-    let part = pattern.matched_part(path, base_name_place(path));
+    let part = pattern.matched_part(path, base_name_offset(path));
     pattern.matches_part(tokens.as_ref(), part, case, &mut MatchBuffers::new(alloc))
 }
 
-/// The indices of the lines of a file that are tried for a path, last to first.
+/// The indexes of the lines of a file that are tried for a path, last to first.
 pub(crate) fn candidates(row: &Row, answer: &mut Answer) -> Result<(), Fault> {
     let (alloc, path, case) = (answer.alloc, row.bytes(1), row.case(2)?);
     let list = list_of(alloc, row.bytes(0), "", None)?;
@@ -198,7 +198,7 @@ pub(crate) fn candidates(row: &Row, answer: &mut Answer) -> Result<(), Fault> {
     if !index.is_of(&list) {
         return answer.text("another index");
     }
-    let found = index.candidates(alloc, &list, BStr::new(path), base_name_place(path), case)?;
+    let found = index.candidates(alloc, &list, BStr::new(path), base_name_offset(path), case)?;
     answer.numbers(&found)
 }
 

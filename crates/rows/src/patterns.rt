@@ -4,7 +4,7 @@ use crate::answer::Answer;
 use crate::fault::Fault;
 use crate::row::Row;
 use attr_glob::Pattern;
-use attr_glob::pattern::{base_name, base_name_place};
+use attr_glob::pattern::{base_name, base_name_offset};
 use attr_glob::quote::ansi_c::{UndoError, undo};
 use attr_glob::search::pattern::List;
 use attr_lists::types::Attributes;
@@ -13,7 +13,7 @@ use bstr::BStr;
 use std::alloc::{AllocError, Global};
 use std::borrow::CowSlice;
 
-/// Of a pattern in a file: its text, the bits of its mode, the index of its first wildcard, whether it is negative, and the
+/// Of a pattern in a file: its text, the bits of its mode, the offset of its first wildcard, whether it is negative, and the
 /// text that it is written as. A copy is made, which has to be equal.
 pub(crate) fn pattern(row: &Row, answer: &mut Answer) -> Result<(), Fault> {
     let Some(pattern) = Pattern::from_bytes(answer.alloc, row.bytes(0))? else {
@@ -35,12 +35,12 @@ fn push_written(pattern: &Pattern, answer: &mut Answer) -> Result<(), Fault> {
     answer.bytes(&written)
 }
 
-/// Of a path: the index of its base name, and that name.
+/// Of a path: the offset of its base name, and that name.
 pub(crate) fn base_name_of(row: &Row, answer: &mut Answer) -> Result<(), Fault> {
     let path = row.bytes(0);
-    let place = base_name_place(path);
-    answer.index(place)?;
-    answer.bytes(base_name(path, place))
+    let offset = base_name_offset(path);
+    answer.index(offset)?;
+    answer.bytes(base_name(path, offset))
 }
 
 /// Of a quoted text: whether it is lent or copied, its plain bytes, and how many bytes are taken; or why it is refused. A text
@@ -91,15 +91,15 @@ pub(crate) fn base(row: &Row, answer: &mut Answer) -> Result<(), Fault> {
     answer.bytes(list.base.as_deref().unwrap_or(b"-"))
 }
 
-/// Of a path below the base of a list: what is behind the base, and the index of the base name in that.
+/// Of a path below the base of a list: what is behind the base, and the offset of the base name in that.
 pub(crate) fn below_base(row: &Row, answer: &mut Answer) -> Result<(), Fault> {
     let list = list_of(answer.alloc, LINES, row.text(0), row.optional(1))?;
     let (path, case) = (row.bytes(2), row.case(3)?);
-    let place = base_name_place(path);
-    match list.strip_base_handle_recompute_basename_pos(BStr::new(path), place, case) {
-        Some((rest, place)) => {
+    let offset = base_name_offset(path);
+    match list.strip_base_handle_recompute_basename_pos(BStr::new(path), offset, case) {
+        Some((rest, offset)) => {
             answer.bytes(rest.as_bytes())?;
-            answer.index(place)
+            answer.index(offset)
         }
         None => answer.text("-"),
     }

@@ -32,7 +32,7 @@ impl Read for OneByOne<'_> {
             return Ok(0);
         };
         match buf.first_mut() {
-            Some(place) => *place = *first,
+            Some(byte) => *byte = *first,
             None => return Ok(0),
         }
         self.rest = rest;

@@ -171,7 +171,7 @@ impl Scene {
             // Each match with its kind, the number of its macro and its line; `rows | INDEX` from that one on.
             "rows" => push_rows(&self.outcome, step.number_or_zero(1)?, out)?,
             // The source, the line and the pattern of the match of each selected name.
-            "places" => push_places(&self.outcome, out)?,
+            "origins" => push_origins(&self.outcome, out)?,
             // Which of the first eight numbers have a match.
             "numbers" => push_answered(&self.outcome, out)?,
             _ => return Err(Fault::NotARow),
@@ -370,14 +370,14 @@ fn push_row(out: &mut String, found: Match<'_>) -> Result<(), AllocError> {
     writeln!(out, " {}", found.location.sequence_number)
 }
 
-fn push_places(outcome: &Outcome, out: &mut String) -> Result<(), AllocError> {
+fn push_origins(outcome: &Outcome, out: &mut String) -> Result<(), AllocError> {
     for found in outcome.iter_selected() {
-        push_place(out, found)?;
+        push_origin(out, found)?;
     }
     Ok(())
 }
 
-fn push_place(out: &mut String, found: Match<'_>) -> Result<(), AllocError> {
+fn push_origin(out: &mut String, found: Match<'_>) -> Result<(), AllocError> {
     let (source, line) = (
         found.location.source.unwrap_or("-"),
         found.location.sequence_number,

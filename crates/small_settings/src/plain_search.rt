@@ -1,7 +1,7 @@
 //! The plain search, run with numbers alone.
 
 use crate::fault::Fault;
-use crate::settings::{COUNT, Items, PLACES, START};
+use crate::settings::{COUNT, HEADS, Items, START};
 use attr_table::plain::{self, Answer, Item, Row, State};
 use std::alloc::{AllocError, Global};
 
@@ -89,9 +89,9 @@ pub(crate) fn rows_of<'r>(
     lines: &'r [Items],
 ) -> Result<Vec<Row<'r, 'static>>, AllocError> {
     let mut rows = Vec::new(alloc);
-    for (place, items) in PLACES.iter().zip(lines.iter()) {
+    for (head, items) in HEADS.iter().zip(lines.iter()) {
         rows.push(Row {
-            origin: place.origin,
+            origin: head.origin,
             items: items.as_slice(),
             is_match: true,
         })?;

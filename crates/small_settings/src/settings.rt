@@ -47,15 +47,15 @@ pub static SELECTIONS: [(&[usize], &[&str]); 8] = [
 /// The attributes whose slot is filled before the search: none, or one.
 pub const STARTS: [Option<usize>; 4] = [None, Some(0), Some(1), Some(2)];
 
-/// A pattern, as a file spells it, and where it is.
+/// The head of a line: its pattern, as a file spells it, and its origin.
 #[derive(Clone, Copy)]
-pub struct Place {
+pub struct Head {
     pub spelling: &'static str,
     pub origin: Origin<'static>,
 }
 
-/// The place of a first line.
-const FIRST: Place = Place {
+/// The head of a first line.
+const FIRST: Head = Head {
     spelling: "*",
     origin: Origin {
         text: b"*",
@@ -66,8 +66,8 @@ const FIRST: Place = Place {
     },
 };
 
-/// The place of a second line.
-const SECOND: Place = Place {
+/// The head of a second line.
+const SECOND: Head = Head {
     spelling: "f",
     origin: Origin {
         text: b"f",
@@ -78,11 +78,11 @@ const SECOND: Place = Place {
     },
 };
 
-/// The places of lines, in their order.
-pub static PLACES: [Place; 2] = [FIRST, SECOND];
+/// The heads of lines, in their order.
+pub static HEADS: [Head; 2] = [FIRST, SECOND];
 
-/// The place of the line that fills a slot before the search.
-pub const START: Place = Place {
+/// The head of the line that fills a slot before the search.
+pub const START: Head = Head {
     spelling: "/f",
     origin: Origin {
         text: b"f",
@@ -172,8 +172,8 @@ pub(crate) fn push_macros(
 
 /// Appends the lines of a list.
 pub(crate) fn push_rows(text: &mut String, rows: &[Row<'_, 'static>]) -> Result<(), AllocError> {
-    for (place, row) in PLACES.iter().zip(rows.iter()) {
-        text.push_str(place.spelling)?;
+    for (head, row) in HEADS.iter().zip(rows.iter()) {
+        text.push_str(head.spelling)?;
         push_items(text, row.items)?;
     }
     Ok(())

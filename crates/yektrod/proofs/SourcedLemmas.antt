@@ -1,4 +1,4 @@
--- Lists whose labels say their indices keep their sources while lists are added after them and removed.
+-- Lists whose labels say their indexes keep their sources while lists are added after them and removed.
 use Rattle.std.proofs.Common.{◌≡◌, ℕ, ◌+◌, ◌-◌, ◌<◌, ◌≤◌, ◌^◌, List, [], ◌∷◌, ◌++◌, length, map, map-id, take, drop}
 use Rattle.std.proofs.Common.{get_or, Option, Some, None, sym, ap, ◌∙◌, refl, subst, ap₂, arith, add-zero, length-append, unwrap_or, option_map}
 use Rattle.std.specs.Prelude.{Result, Ok, Err, OnOk}

@@ -101,18 +101,18 @@ abbrev pub text_of_all : SourcedContent → List ℕ
 text_of_all c = flat_map (text_of c) (answers_of c)
 
 -- where the texts of an answer begin: after those of the answers before it
-abbrev pub place_of : SourcedContent → ℕ → ℕ
-place_of c i = counted_length (flat_map (text_of c) (take i (answers_of c)))
+abbrev pub offset_of : SourcedContent → ℕ → ℕ
+offset_of c i = counted_length (flat_map (text_of c) (take i (answers_of c)))
 
 -- the row of the answer with this number, whose texts begin there
 abbrev pub row_at : SourcedContent → (at i : ℕ) → Row
 row_at c at i = row_told c (number_answered c.labelled i) at (labelled_answer c i)
 
--- the rows of all answers, with the places of their texts
+-- the rows of all answers, with the offsets of their texts
 abbrev pub rows_of : SourcedContent → List Row
-rows_of c = map (λ i. row_at c (place_of c i) i) (range_with_len 0 (length (answers_of c)))
+rows_of c = map (λ i. row_at c (offset_of c i) i) (range_with_len 0 (length (answers_of c)))
 
--- the rows of all answers without places
+-- the rows of all answers without offsets
 abbrev pub rows_alone : SourcedContent → List Row
 rows_alone c = map (row_at c 0) (range_with_len 0 (length (answers_of c)))
 

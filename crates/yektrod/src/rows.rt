@@ -107,7 +107,7 @@ pub extern "C" fn yektrod_ask_into(
     let Ok(count) = held.ask(alloc, asked) else {
         return NO_MEMORY;
     };
-    held.labels_say_indices();
+    held.labels_say_indexes();
     let length = tell_all(held, rows, text);
     *needed = Needed {
         rows: count,
@@ -143,7 +143,7 @@ pub extern "C" fn yektrod_answers(
         return SHUT;
     }
     let held = slot.handle.engine();
-    held.labels_say_indices();
+    held.labels_say_indexes();
     *written = tell_from(held, from, rows);
     DONE
 }
@@ -183,7 +183,7 @@ pub extern "C" fn yektrod_found(
         return SHUT;
     }
     let held = slot.handle.engine();
-    held.labels_say_indices();
+    held.labels_say_indexes();
     let Some((told, length)) = tell_found(held, number, text) else {
         return MISSING;
     };
@@ -284,7 +284,7 @@ fn tell_from(held: &SourcedEngine, from: usize, rows: &mut [Row]) -> usize
     count
 }
 
-// The row of an answer without the place of its texts.
+// The row of an answer without the offset of its texts.
 fn row_alone(held: &SourcedEngine, i: usize) -> Row
     requires { i < length (answers_of held.now) }
     ensures { result ≡ row_at held.now 0 i }

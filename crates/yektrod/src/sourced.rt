@@ -28,7 +28,7 @@ pub struct SourcedList<'a> {
 /// digits. The built-in list is the first one, and keeps its own label, which is no number.
 pub struct SourcedEngine {
     engine: Engine,
-    // By the indices of the lists.
+    // By the indexes of the lists.
     sources: Vec<Vec<u8>>,
 }
 
@@ -160,7 +160,7 @@ impl SourcedEngine {
     }
 
     /// A fact of each engine: the label of each list says its index.
-    pub fn labels_say_indices(&self)
+    pub fn labels_say_indexes(&self)
         ensures { AreLabelled self.now }
     {
         let _engine = &self.engine;

@@ -63,8 +63,8 @@ impl Lines {
             } else {
                 self.contents.extend_from_slice(line);
                 if !allows_macros && is_macro(line) {
-                    let place = format!("{}:{number}", shown(name));
-                    self.warnings.push(format!("{place} is left out: macros are allowed at the top only"));
+                    let at = format!("{}:{number}", shown(name));
+                    self.warnings.push(format!("{at} is left out: macros are allowed at the top only"));
                 }
             }
             self.contents.extend_from_slice(end);

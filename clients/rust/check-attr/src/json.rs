@@ -9,8 +9,8 @@ pub fn push_answers<'a>(to: &mut Vec<u8>, path: &[u8], answers: impl Iterator<It
     to.extend_from_slice(b"{\"path\":");
     push_text(to, path);
     to.extend_from_slice(b",\"attributes\":[");
-    for (place, answer) in answers.enumerate() {
-        if place > 0 {
+    for (index, answer) in answers.enumerate() {
+        if index > 0 {
             to.push(b',');
         }
         push_answer(to, &answer);
@@ -70,7 +70,7 @@ fn push_base64(to: &mut Vec<u8>, bytes: &[u8]) {
     for chunk in bytes.chunks(3) {
         let byte = |at: usize| u32::from(chunk.get(at).copied().unwrap_or(0));
         let bits = byte(0) << 16 | byte(1) << 8 | byte(2);
-        let digit = |place: u32| DIGITS[(bits >> (18 - 6 * place) & 63) as usize];
+        let digit = |index: u32| DIGITS[(bits >> (18 - 6 * index) & 63) as usize];
         let digits = [digit(0), digit(1), digit(2), digit(3)];
         to.extend_from_slice(&digits[..chunk.len() + 1]);
         to.extend_from_slice(&b"=="[..3 - chunk.len()]);

@@ -87,11 +87,11 @@ impl Output {
 
     /// Prints the file and the line, the pattern and the macro that decide.
     fn origin(&mut self, origin: Option<&Origin<'_>>) {
-        let place = origin.map(|origin| [origin.source, b":", origin.line.to_string().as_bytes()].concat());
+        let at = origin.map(|origin| [origin.source, b":", origin.line.to_string().as_bytes()].concat());
         let pattern = origin.map(|origin| origin.pattern);
         let via = origin.and_then(|origin| origin.via).map(|via| via.name);
         let in_fields = self.form.format == Format::Fields;
-        for text in [place.as_deref(), pattern, via] {
+        for text in [at.as_deref(), pattern, via] {
             let text = text.unwrap_or(b"-");
             self.buffer.push(if in_fields { 0 } else { b'\t' });
             // No text ends its field: a pattern may hold a NUL.

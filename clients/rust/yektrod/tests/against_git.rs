@@ -106,8 +106,8 @@ fn compare(name: &str, tree: &Tree, paths: &[Vec<u8>], case: Case, limits: &[Lim
         let mut options = tree.options(limits);
         options.case = case;
         let mut stack = Stack::with_options(tree.reader(), options).unwrap();
-        for (place, path) in paths.iter().enumerate() {
-            let is_dir = if place % 2 == 0 { Some(false) } else { None };
+        for (index, path) in paths.iter().enumerate() {
+            let is_dir = if index % 2 == 0 { Some(false) } else { None };
             assert_eq!(told(stack.ask(path, is_dir).unwrap()), all[path], "{name}: {}, {limits:?}", path.escape_ascii());
         }
         stack.select(&NAMES).unwrap();

@@ -23,7 +23,7 @@ pub enum UndoError {
     /// The text ends before a closing quote.
     #[error("unclosed quote")]
     Unclosed,
-    /// The backslash at this place, counted from 0 in the whole text, begins no escape.
+    /// The backslash at this offset, counted from 0 in the whole text, begins no escape.
     #[error("bad escape at {0}")]
     BadEscape(usize),
     /// There was no memory for the plain bytes.
@@ -79,11 +79,11 @@ pub fn undone_as_spelled()
         (undone text ≡ Ok (plain, taken)) ↔ IsQuoted text plain taken }
     ensures not_quoted { (text : List ℕ) → (undone text ≡ Err not_quoted) ↔ ¬ (BeginsQuoted text) }
     ensures unclosed { (text : List ℕ) → (undone text ≡ Err unclosed) ↔ IsUnclosed text }
-    ensures bad_escape { (text : List ℕ) (place : ℕ) →
-        (undone text ≡ Err (bad_escape place)) ↔ IsBadEscape text place }
+    ensures bad_escape { (text : List ℕ) (offset : ℕ) →
+        (undone text ≡ Err (bad_escape offset)) ↔ IsBadEscape text offset }
 {}
 
-// The place of the first quote or backslash.
+// The offset of the first quote or backslash.
 fn first_mark(bytes: &[u8]) -> Option<usize>
     ensures { result ≡ position is_mark bytes.now }
 {
@@ -99,20 +99,20 @@ fn undo_escapes(alloc: Global, text: &[u8]) -> Result<(Vec<u8>, usize), UndoErro
     ensures refused { IfErr result (IsRefusal text.now) }
 {
     let mut plain = Vec::new(alloc);
-    let mut place = 1;
-    while place < text.len() {
-        match text[place] {
-            b'"' => return Ok((plain, place + 1)),
+    let mut offset = 1;
+    while offset < text.len() {
+        match text[offset] {
+            b'"' => return Ok((plain, offset + 1)),
             b'\\' => {
-                let Some((byte, len)) = escape(&text[place + 1..]) else {
-                    return Err(UndoError::BadEscape(place));
+                let Some((byte, len)) = escape(&text[offset + 1..]) else {
+                    return Err(UndoError::BadEscape(offset));
                 };
                 plain.push(byte)?;
-                place += 1 + len;
+                offset += 1 + len;
             }
             byte => {
                 plain.push(byte)?;
-                place += 1;
+                offset += 1;
             }
         }
     }

@@ -4,8 +4,8 @@ ghost use Rattle.std.specs.Prelude.{◌≡◌, true, Some, IfOk, IfSome, option_
 ghost use Rattle.std.specs.Option.{option_copied};
 ghost use Rattle.bstr.specs.BStr.{bstr_bytes};
 ghost use Rattle.attr_glob.specs.Bases.{base_of, rest_below, directory, below_root, with_slash};
-ghost use Rattle.attr_glob.specs.inner.PlacesAfter.{place_after};
-ghost use Rattle.attr_glob.specs.BaseNames.{base_name_place};
+ghost use Rattle.attr_glob.specs.inner.OffsetsAfter.{offset_after};
+ghost use Rattle.attr_glob.specs.BaseNames.{base_name_offset};
 ghost use Rattle.attr_glob.specs.Clones.{IsMappingClone, AreMappingClones};
 ghost use Rattle.attr_glob.specs.Views.{base_bytes};
 
@@ -105,24 +105,24 @@ impl<T: search::Pattern + Drop> List<T> {
 }
 
 impl<T: search::Pattern> List<T> {
-    /// What follows the base in the path, with the place of its base name. None if the list doesn't apply to the path.
-    /// `basename_pos` is the path's [`base_name_place`](crate::pattern::base_name_place).
+    /// What follows the base in the path, with the offset of its base name. None if the list doesn't apply to the path.
+    /// `basename_pos` is the path's [`base_name_offset`](crate::pattern::base_name_offset).
     pub fn strip_base_handle_recompute_basename_pos<'a>(
         &self,
         path: BStr<'a>,
         basename_pos: Option<usize>,
         case: Case,
     ) -> Option<(BStr<'a>, Option<usize>)>
-        requires { basename_pos ≡ base_name_place (bstr_bytes path) }
+        requires { basename_pos ≡ base_name_offset (bstr_bytes path) }
         ensures rest { option_map (λ r. bstr_bytes r.0) result
             ≡ rest_below (base_bytes self.now.base) case (bstr_bytes path.entry) }
-        ensures place { IfSome result (λ r. r.1 ≡ base_name_place (bstr_bytes r.0)) }
+        ensures offset { IfSome result (λ r. r.1 ≡ base_name_offset (bstr_bytes r.0)) }
     {
         let Some(base) = &self.base else {
             return Some((path, basename_pos));
         };
         let rest = rest_below(base, case, path.as_bytes())?;
-        Some((BStr::new(rest), place_after(base.len(), basename_pos)))
+        Some((BStr::new(rest), offset_after(base.len(), basename_pos)))
     }
 }
 
@@ -256,13 +256,13 @@ fn rest_below<'a>(base: &[u8], case: Case, path: &'a [u8]) -> Option<&'a [u8]>
     }
 }
 
-// The place of a base name, counted from the first byte after `taken` bytes. None if the base name begins there or
+// The offset of a base name, counted from the first byte after `taken` bytes. None if the base name begins there or
 // before.
-fn place_after(taken: usize, place: Option<usize>) -> Option<usize>
-    ensures { result ≡ place_after taken place }
+fn offset_after(taken: usize, offset: Option<usize>) -> Option<usize>
+    ensures { result ≡ offset_after taken offset }
 {
-    match place {
-        Some(place) if place > taken => Some(place - taken),
+    match offset {
+        Some(offset) if offset > taken => Some(offset - taken),
         _ => None,
     }
 }

@@ -4,21 +4,21 @@ ghost use Rattle.std.specs.Prelude.{◌≡◌, IsTrue, Some};
 ghost use Rattle.attr_lists.specs.Numbers.{id_of, number_of};
 
 use crate::name_table::name_set::NameSet;
-use crate::text_place::{PLACES, text_place};
+use crate::text_bucket::{BUCKETS, text_bucket};
 use crate::types::AttributeId;
 
-/// For each place of texts, the number that was found there last, and 0 before. A look-up compares the name that has this
+/// For each bucket of texts, the number that was found there last, and 0 before. A look-up compares the name that has this
 /// number, and only if it is another one the names are searched.
 #[derive(Drop)]
 pub(super) struct RecentNumbers {
-    numbers: [usize; PLACES],
+    numbers: [usize; BUCKETS],
 }
 
 impl RecentNumbers {
     /// Numbers before the first look-up.
     pub(super) fn new() -> RecentNumbers {
         RecentNumbers {
-            numbers: [0; PLACES],
+            numbers: [0; BUCKETS],
         }
     }
 
@@ -36,19 +36,19 @@ impl RecentNumbers {
     pub(super) fn number_of(&mut self, names: &NameSet, name: &str) -> Option<usize>
         ensures { result ≡ number_of names.now name.now }
     {
-        let place = text_place(name.as_bytes());
-        let recent = self.numbers[place];
+        let bucket = text_bucket(name.as_bytes());
+        let recent = self.numbers[bucket];
         if is_number_of(names, recent, name) {
             return Some(recent);
         }
         let number = names.number_of(name)?;
-        self.numbers[place] = number;
+        self.numbers[bucket] = number;
         Some(number)
     }
 
     /// Notes the number of a name.
     pub(super) fn note(&mut self, name: &str, number: usize) {
-        self.numbers[text_place(name.as_bytes())] = number;
+        self.numbers[text_bucket(name.as_bytes())] = number;
     }
 }
 

@@ -4,4 +4,4 @@ use Rattle.std.specs.Prelude.{◌≡◌, ℕ, ◌<◌, List, get_or, length}
 -- all of them, in their order
 pub record CountUp (count : ℕ) (numbers : List ℕ) : Type 0 where
   pub len : length numbers ≡ count
-  pub each : (place : ℕ) → place < count → get_or numbers place 0 ≡ place
+  pub each : (index : ℕ) → index < count → get_or numbers index 0 ≡ index

@@ -30,9 +30,9 @@ abbrev pub base_len : Option (List ℕ) → ℕ
 base_len None = 0
 base_len (Some base) = length base
 
--- a directory of the text ends at the place, or nothing was read so far
+-- a directory of the text ends at the offset, or nothing was read so far
 abbrev pub EndsDirectory : List ℕ → ℕ → Type 0
-EndsDirectory text place = (place ≡ 0) ⊎ (slice_index text (place - 1) ≡ slash)
+EndsDirectory text offset = (offset ≡ 0) ⊎ (slice_index text (offset - 1) ≡ slash)
 
 -- the numbers with this key are among those found
 abbrev pub HasNumbersOf : List ℕ → List ℕ → ℕ → Type 0
@@ -45,4 +45,4 @@ IncludesNumbersOf keys numbers key = (number : ℕ) → slice_get keys number �
 -- and so are those with the key of a directory that ends in the first part of the text
 abbrev pub GathersDirectories : List ℕ → List ℕ → ℕ → List ℕ → Type 0
 GathersDirectories keys text len found =
-    (place : ℕ) → place ≤ len → EndsDirectory text place → HasNumbersOf keys found (text_key (take place text))
+    (offset : ℕ) → offset ≤ len → EndsDirectory text offset → HasNumbersOf keys found (text_key (take offset text))

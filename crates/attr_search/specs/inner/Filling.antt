@@ -11,7 +11,7 @@ use Rattle.attr_search.specs.declared.slot_filler.SlotFiller.{SlotFiller}
 use Rattle.attr_search.specs.Settings.{BodiesAreNamed, HaveSlots, HeldAreNamed}
 use Rattle.attr_lists.specs.Numbers.{AreNamed}
 use Rattle.attr_search.specs.shared.Slotted.{BodiesHaveSlots}
-use Rattle.attr_search.specs.inner.Pending.{IsPlaced, line_origin, pending_tasks, table_bodies, task_of}
+use Rattle.attr_search.specs.inner.Pending.{IsInside, line_origin, pending_tasks, table_bodies, task_of}
 use Rattle.attr_search.specs.shared.SlotContents.{open_slots, wanted_numbers}
 
 -- there is a body for each slot, and each item of a body has a slot
@@ -27,7 +27,7 @@ pub record CanFill (filler : SlotFiller) (items : List TrackedAssignment) : Type
 -- the items of a line are being filled in: what waits is an item, and what was stored last is this line
 pub record AtLine (line : MatchingLine) (filler : SlotFiller) : Type 0 where
   pub can_fill : CanFill filler line.items.now
-  pub placed : All (IsPlaced line.items.now filler.slots.bodies) filler.stack.items
+  pub inside : All (IsInside line.items.now filler.slots.bodies) filler.stack.items
   pub origin : MatchOption filler.slots.line ⊤ (λ o. o ≡ line_origin line)
 
 -- what filling leaves as it is

@@ -7,17 +7,17 @@ use Rattle.attr_table.specs.Setting.{Line}
 use Rattle.attr_table.specs.shared.Walk.{Task, line_tasks}
 use Rattle.attr_search.specs.declared.path_query.PathQuery.{PathQuery}
 use Rattle.attr_search.specs.ListView.{Listed}
-use Rattle.attr_search.specs.inner.PlacedLines.{entry_at}
+use Rattle.attr_search.specs.inner.EntryAt.{entry_at}
 use Rattle.attr_search.specs.Settings.{line_of, lines_of}
 
 -- the tasks of a line, for what is left of a path below the base
 abbrev pub entry_tasks : Case → Option Bool → Option (List ℕ) → List ℕ → Entry → List Task
 entry_tasks case is_dir source rest entry = line_tasks (line_of case is_dir source (Some rest) entry)
 
--- the tasks of the line at a place of a list
-abbrev pub place_tasks : PathQuery → Listed → ℕ → List Task
-place_tasks rest listed place =
-    entry_tasks rest.case rest.is_dir listed.source (bstr_bytes rest.path) (entry_at listed.lines place)
+-- the tasks of the line at an index of a list
+abbrev pub listed_tasks : PathQuery → Listed → ℕ → List Task
+listed_tasks rest listed index =
+    entry_tasks rest.case rest.is_dir listed.source (bstr_bytes rest.path) (entry_at listed.lines index)
 
 -- the lines of a list, and those of lists, for the path of a query
 abbrev pub query_lines : PathQuery → Listed → List Line

@@ -45,11 +45,11 @@ no_item = record { id = record { 0 = 0 }; inner = record { name = []; state = Un
 
 -- the item that waits
 abbrev pub pending_item : List TrackedAssignment → List (List TrackedAssignment) → PendingItem → TrackedAssignment
-pending_item items bodies w = slice_index_or (items_beside items bodies w.cause) w.place no_item
+pending_item items bodies w = slice_index_or (items_beside items bodies w.cause) w.index no_item
 
 -- there is one
-abbrev pub IsPlaced : List TrackedAssignment → List (List TrackedAssignment) → PendingItem → Type 0
-IsPlaced items bodies w = w.place < length (items_beside items bodies w.cause)
+abbrev pub IsInside : List TrackedAssignment → List (List TrackedAssignment) → PendingItem → Type 0
+IsInside items bodies w = w.index < length (items_beside items bodies w.cause)
 
 abbrev pub task_of : Origin → List TrackedAssignment → List (List TrackedAssignment) → PendingItem → Task
 task_of origin items bodies w =
@@ -68,7 +68,7 @@ PushesFree slots cause items before after =
     ≡ tasks_in origin cause (free_items slots (table_items items)) ++ pending_tasks origin line bodies before
 
 -- what was pushed is there
-abbrev pub PushesPlaced : Option ℕ → List TrackedAssignment → List PendingItem → List PendingItem → Type 0
-PushesPlaced cause items before after =
+abbrev pub PushesInside : Option ℕ → List TrackedAssignment → List PendingItem → List PendingItem → Type 0
+PushesInside cause items before after =
     (line : List TrackedAssignment) (bodies : List (List TrackedAssignment)) → items_beside line bodies cause ≡ items →
-    All (IsPlaced line bodies) before → All (IsPlaced line bodies) after
+    All (IsInside line bodies) before → All (IsInside line bodies) after

@@ -13,7 +13,7 @@ use Rattle.attr_search.specs.Roots.{RootsAtMost}
 use Rattle.attr_search.specs.SearchContents.{SearchContents}
 use Rattle.attr_search.specs.Settings.{BodiesAreNamed, HeldAreNamed, LinesAreNamed, ListsAreNamed, candidate_lines, setting_of}
 use Rattle.attr_search.specs.Slots.{SkipsSlots, is_needed, slots_of, table_items}
-use Rattle.attr_search.specs.inner.Lines.{all_lines, place_tasks, query_lines}
+use Rattle.attr_search.specs.inner.Lines.{all_lines, listed_tasks, query_lines}
 use Rattle.attr_search.specs.inner.Rounds.{Rounds, list_rounds, rounds_of}
 use Rattle.attr_search.specs.shared.SlotContents.{wanted_numbers}
 
@@ -53,12 +53,12 @@ pub record Searched (tasks : List Task) (lines : List (List Task)) (before after
   pub searches : Searches (state_bodies before) (state_wanted before) tasks (state_slots before) (state_slots after) before.taken after.taken
   pub rounds : Rounds (state_bodies before) (state_wanted before) lines (state_slots before) (state_slots after) before.tested after.tested
 
--- one line, lines at some places, a list and some lists were searched
+-- one line, lines at some indexes, a list and some lists were searched
 abbrev pub SearchedLine : PathQuery → Listed → ℕ → SearchContents → SearchContents → Type 0
-SearchedLine rest listed place = Searched (place_tasks rest listed place) (place_tasks rest listed place ∷ [])
+SearchedLine rest listed index = Searched (listed_tasks rest listed index) (listed_tasks rest listed index ∷ [])
 
-abbrev pub SearchedPlaces : PathQuery → Listed → List ℕ → SearchContents → SearchContents → Type 0
-SearchedPlaces rest listed places = Searched (flat_map (place_tasks rest listed) places) (map (place_tasks rest listed) places)
+abbrev pub SearchedLines : PathQuery → Listed → List ℕ → SearchContents → SearchContents → Type 0
+SearchedLines rest listed indexes = Searched (flat_map (listed_tasks rest listed) indexes) (map (listed_tasks rest listed) indexes)
 
 abbrev pub SearchedList : PathQuery → Listed → SearchContents → SearchContents → Type 0
 SearchedList query listed = Searched (list_tasks (query_lines query listed)) (list_rounds (query_lines query listed))

@@ -1,4 +1,4 @@
--- The answers in slots and the bodies, that the places they refer to are in use, and that the numbers of filled slots are listed (own).
+-- The answers in slots and the bodies, that the indexes they refer to are in use, and that the numbers of filled slots are listed (own).
 use Rattle.std.specs.Prelude.{◌≡◌, ⊤, ℕ, ◌<◌, ◌≤◌, ◌+◌, ◌&&◌, Bool, true, false, List, length, All, Option, None, is_none, MatchOption, option_map}
 use Rattle.std.specs.Prelude.{slice_index_or}
 use Rattle.std.specs.List.Sorted.{IsNonDecreasing}

@@ -2,7 +2,7 @@
 use Rattle.std.specs.Prelude.{◌≡◌, ℕ, Bool, true, false, List, reverse, Option, Some}
 use Rattle.attr_wildmatch.specs.declared.case.Case.{Case}
 use Rattle.attr_glob.specs.BaseNames.{base_name}
-use Rattle.attr_glob.specs.Candidates.{has_macro_mode, is_candidate, places_where}
+use Rattle.attr_glob.specs.Candidates.{has_macro_mode, indexes_where, is_candidate}
 use Rattle.attr_glob.specs.Paths.{path_matches}
 use Rattle.attr_glob.specs.Patterns.{Reading, reading}
 
@@ -12,10 +12,10 @@ TakesMatching case path test =
     (text : List ℕ) (line : Reading) (is_dir : Option Bool) → reading text ≡ Some line → has_macro_mode line ≡ false →
     path_matches case line path is_dir ≡ true → test line ≡ true
 
--- The places, the greatest first, are those of the lines that pass a test, which each line that matches the path passes, and
+-- The indexes, the greatest first, are those of the lines that pass a test, which each line that matches the path passes, and
 -- no line but a candidate.
-pub record AreTried (case : Case) (path : List ℕ) (lines : List Reading) (places : List ℕ) : Type 0 where
+pub record AreTried (case : Case) (path : List ℕ) (lines : List Reading) (indexes : List ℕ) : Type 0 where
   pub test : Reading → Bool
-  pub tried : places ≡ places_where test (reverse lines)
+  pub tried : indexes ≡ indexes_where test (reverse lines)
   pub candidate : (line : Reading) → test line ≡ true → is_candidate case (base_name path) line ≡ true
   pub matching : TakesMatching case path test

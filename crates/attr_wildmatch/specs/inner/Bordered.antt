@@ -1,4 +1,4 @@
--- A directory star is only at the places where git has one (gitignore page).
+-- A directory star is only where git has one (gitignore page).
 use Rattle.std.specs.Prelude.{Bool, true, ◌&&◌, List, [], ◌∷◌}
 use Rattle.attr_wildmatch.specs.Tokens.{Token, dirs, token_ends_in_slash}
 

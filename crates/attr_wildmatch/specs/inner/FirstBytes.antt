@@ -21,7 +21,7 @@ pub record BeginWithPair (case : Case) (first second : ℕ) (ts : List Token) : 
 abbrev pub begins_with_pair : ℕ → ℕ → List ℕ → Bool
 begins_with_pair first second v = begins first v && begins second (drop 1 v)
 
--- the value from the first place on from which it passes the test, and nothing if there is none
+-- the value from the first offset on from which it passes the test, and nothing if there is none
 abbrev pub from_first : (List ℕ → Bool) → List ℕ → List ℕ
 from_first test [] = []
 from_first test (b ∷ bs) = if test (b ∷ bs) then b ∷ bs else from_first test bs

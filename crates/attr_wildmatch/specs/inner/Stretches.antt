@@ -3,7 +3,7 @@ use Rattle.std.specs.Prelude.{ℕ, List, [], ◌∷◌, Option, Some, None, if�
 use Rattle.attr_wildmatch.specs.declared.case.Case.{Case}
 use Rattle.attr_wildmatch.specs.Deciding.{takes_byte}
 use Rattle.attr_wildmatch.specs.Tokens.{Token}
-use Rattle.attr_wildmatch.specs.inner.RowPlaces.{may_be_nothing}
+use Rattle.attr_wildmatch.specs.inner.RowIndexes.{may_be_nothing}
 
 -- What is left of tokens and of a value once the tokens of one byte at the front are taken off with their bytes. None if one
 -- takes no byte.

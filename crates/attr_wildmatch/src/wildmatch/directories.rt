@@ -54,7 +54,7 @@ fn answer_front(tokens: &[Token], value: &[u8], case: Case) -> Option<bool>
     answer_alone(tokens, value)
 }
 
-// The place of the first slash.
+// The offset of the first slash.
 fn first_slash(value: &[u8]) -> Option<usize>
     ensures { result ≡ position is_slash value.now }
 {
@@ -68,8 +68,8 @@ fn after_slash(value: &[u8]) -> Option<&[u8]>
     ensures none { IfNone result ((f : List ℕ → Bool) → slash_then f value.now ≡ false) }
     ensures shorter { IfSome result (λ next. length next.now < length value.now) }
 {
-    let place = first_slash(value)?;
-    Some(&value[place + 1..])
+    let offset = first_slash(value)?;
+    Some(&value[offset + 1..])
 }
 
 // The next directory in which the tokens may match: if they begin with a byte whose case matters, one that begins with it.

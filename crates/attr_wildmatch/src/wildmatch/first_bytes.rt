@@ -1,4 +1,4 @@
-//! Where tokens that begin with a byte or two may match: eight places are looked at together.
+//! Where tokens that begin with a byte or two may match: eight offsets are looked at together.
 
 ghost use Rattle.std.specs.Prelude.{◌≡◌, ◌≤◌, ◌∷◌, IfSome, IsFalse, false, drop, length};
 ghost use Rattle.attr_wildmatch.specs.Brackets.{begins};
@@ -97,7 +97,7 @@ pub(crate) fn from_byte(value: &[u8], byte: u8) -> &[u8]
     rest
 }
 
-// Whether the pair may stand at one of the first eight places: these are compared together. True for fewer bytes.
+// Whether the pair may stand at one of the first eight offsets: these are compared together. True for fewer bytes.
 fn may_hold_pair(value: &[u8], first: u8, second: u8) -> bool
     ensures enough { IsFalse result → 9 ≤ length value.now }
     ensures passed { let test = begins_with_pair first second in IsFalse result →
@@ -118,7 +118,7 @@ fn may_hold_pair(value: &[u8], first: u8, second: u8) -> bool
     }
 }
 
-// The value from a place on before which the pair stands nowhere. The last eight places are compared together too, some
+// The value from an offset on before which the pair stands nowhere. The last eight offsets are compared together too, some
 // of them again, rather than one by one.
 fn skip_pairs(value: &[u8], first: u8, second: u8) -> &[u8]
     ensures same { let test = begins_with_pair first second in
@@ -148,7 +148,7 @@ fn begins_with_pair(value: &[u8], first: u8, second: u8) -> bool
     }
 }
 
-// The value from the first place on where these two bytes stand together, and nothing if they do nowhere. It isn't inlined,
+// The value from the first offset on where these two bytes stand together, and nothing if they do nowhere. It isn't inlined,
 // for the same reason.
 #[inline(never)]
 pub(crate) fn from_pair(value: &[u8], first: u8, second: u8) -> &[u8]

@@ -26,8 +26,8 @@ fn unless_empty(value: &[u8]) -> Option<&[u8]>
     }
 }
 
-// The value from the first place on at which the tokens may match. They begin there with the same two bytes as the value,
-// or the same byte, if the case of these matters. None if there is no such place.
+// The value from the first offset on at which the tokens may match. They begin there with the same two bytes as the value,
+// or the same byte, if the case of these matters. None if there is no such offset.
 fn from_literal<'v>(tokens: &[Token], value: &'v [u8], case: Case) -> Option<&'v [u8]>
     ensures found { IfSome result (λ rest. first_left case (tokens_of tokens.now) value.now
         ≡ first_left case (tokens_of tokens.now) rest.now) }
@@ -44,7 +44,7 @@ fn from_literal<'v>(tokens: &[Token], value: &'v [u8], case: Case) -> Option<&'v
 }
 
 // The same as `first_fit`, for a value that begins where the tokens may match. It isn't inlined, so that `first_fit` is small
-// enough to be: most values have no such place.
+// enough to be: most values have no such offset.
 #[inline(never)]
 fn first_fit_from<'t, 'v>(
     tokens: &'t [Token],

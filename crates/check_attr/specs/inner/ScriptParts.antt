@@ -33,7 +33,7 @@ choice_of (choice ∷ choices) bytes =
 -- the bytes before the first separator, and those after it
 abbrev pub split_once : ℕ → List ℕ → Option (List ℕ × List ℕ)
 split_once separator bytes =
-    option_map (λ place. (take place bytes, drop (place + 1) bytes)) (position (λ b. b == separator) bytes)
+    option_map (λ offset. (take offset bytes, drop (offset + 1) bytes)) (position (λ b. b == separator) bytes)
 
 -- the first bytes, and those after them
 abbrev pub split_at : ℕ → List ℕ → Option (List ℕ × List ℕ)

@@ -14,8 +14,8 @@ use Rattle.gix_attributes.specs.inner.Needed.{IsNarrowed}
 use Rattle.gix_attributes.specs.declared.engine.Engine.TheInside.{Inside}
 
 -- the slots with these numbers have these matches
-abbrev pub ArePlacesOf : List (Option Matched) → List Matched → List ℕ → Type 0
-ArePlacesOf slots matches numbers = map (λ number. slice_index_or slots number None) numbers ≡ map Some matches
+abbrev pub AreNumbersOf : List (Option Matched) → List Matched → List ℕ → Type 0
+AreNumbersOf slots matches numbers = map (λ number. slice_index_or slots number None) numbers ≡ map Some matches
 
 -- a slot has a match, and that is not unspecified
 abbrev pub is_slot_specified : Option Matched → Bool
@@ -25,7 +25,7 @@ is_slot_specified (Some m) = is_specified m.assignment.state
 -- without a selection these are the numbers of the answers
 abbrev pub AreNumbered : Content → List ℕ → Type 0
 AreNumbered held numbers =
-    (length held.selection == 0) ≡ true → ArePlacesOf held.slots (specified_among (found_in held.slots)) numbers
+    (length held.selection == 0) ≡ true → AreNumbersOf held.slots (specified_among (found_in held.slots)) numbers
 
 -- the lines of the last list, none if there is no list
 abbrev pub last_lines : List Listed → List Entry

@@ -5,7 +5,7 @@ ghost use Rattle.std.specs.List.Sorted.{IsNonDecreasing};
 ghost use Rattle.attr_search.specs.shared.SlotContents.{AreListed};
 ghost use Rattle.gix_attributes.specs.Contents.{found_in};
 ghost use Rattle.gix_attributes.specs.EngineStates.{specified_among};
-ghost use Rattle.gix_attributes.specs.inner.SoundEngines.{AreNumbered, ArePlacesOf, is_slot_specified};
+ghost use Rattle.gix_attributes.specs.inner.SoundEngines.{AreNumbered, AreNumbersOf, is_slot_specified};
 
 use crate::search::Outcome;
 use std::alloc::AllocError;
@@ -33,7 +33,7 @@ fn number_listed(
     requires listed { AreListed outcome.now.slots listed.now }
     requires ordered { IsNonDecreasing listed.now }
     requires none { numbers.old.items ≡ [] }
-    ensures { OnOk result (ArePlacesOf
+    ensures { OnOk result (AreNumbersOf
         outcome.now.slots (specified_among (found_in outcome.now.slots)) numbers.new.items) }
 {
     let mut from = 0;
@@ -53,7 +53,7 @@ fn number_listed(
 // The same, slot by slot.
 fn number_all(outcome: &Outcome, numbers: &mut Vec<usize>) -> Result<(), AllocError>
     requires { numbers.old.items ≡ [] }
-    ensures { OnOk result (ArePlacesOf
+    ensures { OnOk result (AreNumbersOf
         outcome.now.slots (specified_among (found_in outcome.now.slots)) numbers.new.items) }
 {
     for number in 0..outcome.len() {

@@ -394,28 +394,28 @@ impl Outcome {
         Selected::of(self)
     }
 
-    /// The answer for the selected name at this place, from 0, as [`Outcome::iter_selected`] returns it there, and none past the
+    /// The answer for the selected name at this index, from 0, as [`Outcome::iter_selected`] returns it there, and none past the
     /// last name.
     #[inline(always)]
-    pub fn selected_match(&self, place: usize) -> Option<Match<'_>>
+    pub fn selected_match(&self, index: usize) -> Option<Match<'_>>
         ensures { option_map match_view result
-            ≡ slice_get (selected_in self.now.slots self.now.selection) place }
+            ≡ slice_get (selected_in self.now.slots self.now.selection) index }
     {
-        if place < self.selected_len() {
-            Some(self.selected_at(place))
+        if index < self.selected_len() {
+            Some(self.selected_at(index))
         } else {
             None
         }
     }
 
-    /// The number of the selected name at this place, from 0. There is none past the last name, and none of a text that was no
+    /// The number of the selected name at this index, from 0. There is none past the last name, and none of a text that was no
     /// name of the collection when the outcome was initialised with it.
     #[inline(always)]
-    pub fn selected_number(&self, place: usize) -> Option<AttributeId>
+    pub fn selected_number(&self, index: usize) -> Option<AttributeId>
         ensures { option_map (λ id. id.0) result
-            ≡ option_and_then (λ wanted. wanted.number) (slice_get self.now.selection place) }
+            ≡ option_and_then (λ wanted. wanted.number) (slice_get self.now.selection index) }
     {
-        let number = self.selected.get(place)?.number?;
+        let number = self.selected.get(index)?.number?;
         Some(AttributeId(number))
     }
 
@@ -427,12 +427,12 @@ impl Outcome {
     }
 
     #[inline(always)]
-    pub(crate) fn selected_at(&self, place: usize) -> Match<'_>
-        requires { place < length self.now.selection }
+    pub(crate) fn selected_at(&self, index: usize) -> Match<'_>
+        requires { index < length self.now.selection }
         ensures { match_view result ≡ selected_answer self.now.slots
-            (slice_index_or self.now.selection place nothing_wanted) }
+            (slice_index_or self.now.selection index nothing_wanted) }
     {
-        let selected = &self.selected[place];
+        let selected = &self.selected[index];
         let found = match selected.number {
             Some(number) => self.state.get(number),
             None => None,

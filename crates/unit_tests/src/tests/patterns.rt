@@ -1,5 +1,5 @@
 //! Patterns that are read from no text, and lists that are rid of their macros.
-use attr_glob::pattern::{Case, Mode, base_name_place};
+use attr_glob::pattern::{Case, Mode, base_name_offset};
 use attr_glob::search::pattern::Mapping;
 use attr_glob::{Pattern, search};
 use attr_lists::parser::{Attributes, macros_valid, without_macros};
@@ -24,7 +24,7 @@ pub(super) fn pattern(
     })
 }
 
-// Texts, the bits of their modes (2 is `ENDS_WITH`), and places of wildcards.
+// Texts, the bits of their modes (2 is `ENDS_WITH`), and offsets of wildcards.
 const BUILT_BY_HAND: &[(&str, u32, Option<usize>)] = &[
     ("", 2, Some(0)),
     ("ab", 2, Some(9)),
@@ -37,12 +37,12 @@ const BUILT_BY_HAND: &[(&str, u32, Option<usize>)] = &[
 #[test]
 fn patterns_built_by_hand_return(rt: HostRuntime) -> Result<(), AllocError> {
     let path = b"d/ab";
-    let (alloc, place) = (rt.alloc(), base_name_place(path));
+    let (alloc, offset) = (rt.alloc(), base_name_offset(path));
     for &(text, bits, wildcard) in BUILT_BY_HAND {
         let mode = Mode::from_bits_retain(bits);
         let pattern = pattern(alloc, text.as_bytes(), mode, wildcard)?;
         let (path, is_dir) = (BStr::new(path), Some(true));
-        let _answer = pattern.matches_repo_relative_path(alloc, path, place, is_dir, Case::Fold)?;
+        let _answer = pattern.matches_repo_relative_path(alloc, path, offset, is_dir, Case::Fold)?;
     }
     Ok(())
 }

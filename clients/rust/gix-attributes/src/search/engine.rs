@@ -113,8 +113,8 @@ impl Engine {
 
     fn tell(&mut self, question: &Question, selection: Option<&Selection>, mut found: impl FnMut(usize, Found)) {
         let answers = done(self.engine.ask(question.path(), question.case(), question.is_dir()));
-        for (place, answer) in answers.iter().enumerate() {
-            let id = selection.map_or(Some(AttributeId(place)), |selection| selection[place].1);
+        for (index, answer) in answers.iter().enumerate() {
+            let id = selection.map_or(Some(AttributeId(index)), |selection| selection[index].1);
             let origin = answer.origin.filter(|origin| origin.list <= self.lists.len());
             if let (Some(id), Some(origin)) = (id, origin) {
                 let cause = origin.via.map(|via| number(&mut self.ids, &self.known, via));
@@ -123,7 +123,7 @@ impl Engine {
                 let lines = self.lists[list].clone();
                 let line = lines.patterns.binary_search_by_key(&origin.line, |&(line, _)| line);
                 let line = line.expect("the library finds the lines that are found here");
-                found(place, Found { id, state: state(&answer), kind: kind(&answer, cause), list, lines, line });
+                found(index, Found { id, state: state(&answer), kind: kind(&answer, cause), list, lines, line });
             }
         }
     }

@@ -63,9 +63,9 @@ impl Outcome {
 
     /// Forgets what was found, for the next path.
     pub fn reset(&mut self) {
-        let places = if self.selected.is_empty() { self.known.names().len() } else { self.selected.len() };
+        let count = if self.selected.is_empty() { self.known.names().len() } else { self.selected.len() };
         self.found.clear();
-        self.found.resize_with(places, || None);
+        self.found.resize_with(count, || None);
         self.question.reset();
         self.unselected.take();
         self.remaining = Some(self.wanted());
@@ -76,9 +76,9 @@ impl Outcome {
     pub fn copy_into(&self, collection: &MetadataCollection, dest: &mut Outcome) {
         dest.initialize(collection);
         dest.question = self.question.clone();
-        for place in 0..dest.found.len() {
-            let id = if dest.selected.is_empty() { Some(AttributeId(place)) } else { dest.selected[place].1 };
-            dest.found[place] = id.and_then(|id| self.found_by_id(id)).cloned();
+        for index in 0..dest.found.len() {
+            let id = if dest.selected.is_empty() { Some(AttributeId(index)) } else { dest.selected[index].1 };
+            dest.found[index] = id.and_then(|id| self.found_by_id(id)).cloned();
         }
         dest.remaining = Some(dest.wanted() - dest.count());
     }
@@ -92,8 +92,8 @@ impl Outcome {
 
     /// What was found for each name of the selection, in its order, also where nothing was; without a selection nothing.
     pub fn iter_selected(&self) -> impl Iterator<Item = Match<'_>> {
-        let (names, places) = (self.known.names(), self.selected.iter().zip(&self.found));
-        places.map(move |((name, id), found)| match (self.visible(found), id) {
+        let (names, selected) = (self.known.names(), self.selected.iter().zip(&self.found));
+        selected.map(move |((name, id), found)| match (self.visible(found), id) {
             (Some(found), _) => found.to_match(names),
             (None, Some(id)) => nothing(names[id.0].as_ref()),
             (None, None) => nothing(NameRef::of(name.as_bytes()).unwrap_or(NameRef::invalid())),
@@ -145,8 +145,8 @@ impl Outcome {
         slots.iter_mut().for_each(|slot| *slot = slot.take().filter(|found| found.list == EARLIER));
         let selection = (!self.selected.is_empty()).then_some(&self.selected);
         let engine = Engine::of(self.engine.get_mut().expect(NO_PANIC), &self.known);
-        engine.ask(&self.question, selection, |place, found| {
-            slots[place].get_or_insert(found);
+        engine.ask(&self.question, selection, |index, found| {
+            slots[index].get_or_insert(found);
         });
     }
 
@@ -172,9 +172,9 @@ impl Outcome {
     }
 
     fn found_by_id(&self, id: AttributeId) -> Option<&Found> {
-        let place = self.selected.iter().position(|&(_, selected)| selected == Some(id));
-        let found = match place {
-            Some(place) => self.found.get(place),
+        let index = self.selected.iter().position(|&(_, selected)| selected == Some(id));
+        let found = match index {
+            Some(index) => self.found.get(index),
             None if self.selected.is_empty() => self.found.get(id.0),
             None => self.unselected().get(id.0),
         };
@@ -188,7 +188,7 @@ impl Outcome {
             if self.question.is_asked() {
                 all.resize_with(self.known.names().len(), || None);
                 let mut engine = self.engine.lock().expect(NO_PANIC);
-                Engine::of(&mut engine, &self.known).ask(&self.question, None, |place, found| all[place] = Some(found));
+                Engine::of(&mut engine, &self.known).ask(&self.question, None, |index, found| all[index] = Some(found));
             }
             all
         })

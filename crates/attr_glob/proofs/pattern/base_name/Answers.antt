@@ -1,5 +1,5 @@
 use Rattle.std.proofs.Common.{sym, ◌∙◌}
-use Rattle.attr_glob.proofs.Places.{base_name-whole}
+use Rattle.attr_glob.proofs.BaseNameOffsets.{base_name-whole}
 use Rattle.attr_glob.proofs.pattern.base_name.Goals as goal
 
 pub returns-in-None : goal.returns-in-None

@@ -2,7 +2,7 @@
 
 ghost use Rattle.std.specs.Prelude.{◌≡◌, ◌↔◌, IfOk, IsTrue, option_map, string_bytes};
 ghost use Rattle.bstr.specs.BStr.{bstr_bytes};
-ghost use Rattle.attr_glob.specs.BaseNames.{base_name, base_name_place};
+ghost use Rattle.attr_glob.specs.BaseNames.{base_name, base_name_offset};
 ghost use Rattle.attr_glob.specs.Candidates.{candidates};
 ghost use Rattle.attr_glob.specs.Views.{pattern_view, patterns_of};
 ghost use Rattle.attr_glob.specs.Indexed.{indexed_lines, indexed_patterns, listed_lines};
@@ -78,7 +78,7 @@ impl Index {
     }
 
     /// The indexes of the candidates for a path, from 0 in the list, the greatest first. `basename_pos` is the path's
-    /// [`base_name_place`](crate::pattern::base_name_place).
+    /// [`base_name_offset`](crate::pattern::base_name_offset).
     ///
     /// # Errors
     ///
@@ -92,7 +92,7 @@ impl Index {
         case: Case,
     ) -> Result<Vec<usize>, AllocError>
         requires of { indexed_patterns self.now.lines.items ≡ patterns_of list.now.patterns.items }
-        requires place { basename_pos ≡ base_name_place (bstr_bytes path) }
+        requires offset { basename_pos ≡ base_name_offset (bstr_bytes path) }
         ensures { IfOk result (λ found. let name = base_name (bstr_bytes path.entry) in
             found.items ≡ candidates case name (patterns_of list.now.patterns.items)) }
     {

@@ -4,15 +4,15 @@ use Rattle.attr_search.proofs.SlotLemmas.{count_left_more}
 use Rattle.attr_search.proofs.slots.count_remaining.Goals as goal
 use Rattle.attr_search.proofs.slots.count_remaining.Goals.{then-is_remaining, else-is_remaining}
 
-pub loop-place-preserved : goal.loop-place-preserved
-loop-place-preserved c =
+pub loop-number-preserved : goal.loop-number-preserved
+loop-number-preserved c =
     let wanted = c.args.wanted.now in
     let slots = c.args.slots.now in
-    let place = c.loop-place.place in
-    let lt : place < length wanted = omega (arith, c.requires) in
-    let more = count_left_more wanted slots place lt c.requires in
-    let told : remaining_at (get_or wanted place false) (get_or slots place None) ≡ cond c.is_remaining.result 1 0 = ap (λ b. cond b 1 0)
-    (sym (c.is_remaining.ensures ∙ ap (λ w. w && is_none (get_or slots place None)) c.has.ensures)) in
+    let number = c.loop-number.number in
+    let lt : number < length wanted = omega (arith, c.requires) in
+    let more = count_left_more wanted slots number lt c.requires in
+    let told : remaining_at (get_or wanted number false) (get_or slots number None) ≡ cond c.is_remaining.result 1 0 = ap (λ b. cond b 1 0)
+    (sym (c.is_remaining.ensures ∙ ap (λ w. w && is_none (get_or slots number None)) c.has.ensures)) in
     elim c.if-is_remaining.branch [
       | then-is_remaining w ↦
           let one = told ∙ ap (λ b. cond b 1 0) w.if-is_remaining.true in

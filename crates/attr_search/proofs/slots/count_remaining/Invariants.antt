@@ -2,9 +2,9 @@ use Rattle.std.proofs.Common.{◌≡◌, ◌≤◌, take}
 use Rattle.attr_search.specs.shared.SlotContents.{count_remaining}
 use Rattle.attr_search.proofs.slots.count_remaining.Given as goal
 
-abbrev pub invariant-loop-place : goal.invariant-loop-place
-invariant-loop-place l = record {
-  counted : l.remaining ≡ count_remaining (take l.place l.wanted) (take l.place l.slots);
+abbrev pub invariant-loop-number : goal.invariant-loop-number
+invariant-loop-number l = record {
+  counted : l.remaining ≡ count_remaining (take l.number l.wanted) (take l.number l.slots);
   small : l.remaining ≤
-      l.place;
+      l.number;
 }

@@ -5,8 +5,8 @@ use Rattle.std.proofs.lemmas.List.Sorted.{IsPartitionPoint-from_clause, IsPartit
 use Rattle.attr_search.proofs.ListedLemmas.{free_first, free_more, next_is, none_left, not_filled}
 use Rattle.attr_search.proofs.slots.next_listed.Goals as goal
 
-pub loop-place-init : goal.loop-place-init
-loop-place-init c =
+pub loop-index-init : goal.loop-index-init
+loop-index-init c =
     let parted =
     IsPartitionPoint-from_clause (λ n. ltb n c.args.from) c.args.numbers.now c.partition_point-start.result
     c.partition_point-start.ensures.partitioned (IsPartitionedBy-ltb (λ n. n) c.args.numbers.now c.args.from c.requires.ordered)
@@ -14,14 +14,14 @@ loop-place-init c =
     free_first c.args.slots.now c.args.numbers.now c.args.from c.partition_point-start.result c.requires.listed
     (λ j d early lt. ltb-true (get_or c.args.numbers.now j d) c.args.from (parted.0 j d (omega arith) early))
 
-pub loop-place-preserved : goal.loop-place-preserved
-loop-place-preserved c =
+pub loop-index-preserved : goal.loop-index-preserved
+loop-index-preserved c =
     let numbers = c.args.numbers.now in
-    let place = c.loop-place.place in
-    let number = get_or numbers place 0 in
+    let index = c.loop-index.index in
+    let number = get_or numbers index 0 in
     let free : get_or c.args.slots.now number None ≡ None = not_filled (get_or c.args.slots.now number None) (sym c.if-is_some.ensures) in
-    free_more c.args.slots.now numbers c.args.from place number (λ d. get_or_default numbers place d 0 c.loop-place-test.true) free
-    c.loop-place.invariant
+    free_more c.args.slots.now numbers c.args.from index number (λ d. get_or_default numbers index d 0 c.loop-index-test.true) free
+    c.loop-index.invariant
 
 pub returns-then-is_some : goal.returns-then-is_some
 returns-then-is_some c =
@@ -30,13 +30,13 @@ returns-then-is_some c =
     c.partition_point-start.ensures.partitioned (IsPartitionedBy-ltb (λ n. n) c.args.numbers.now c.args.from c.requires.ordered)
     (λ a r q k. search rules) in
     let numbers = c.args.numbers.now in
-    let place = c.loop-place.place in
-    let number = get_or numbers place 0 in
+    let index = c.loop-index.index in
+    let number = get_or numbers index 0 in
     let reached : c.args.from ≤ number =
-    ltb-false number c.args.from (parted.1 place 0 c.loop-place.auto.place c.loop-place-test.true) in
+    ltb-false number c.args.from (parted.1 index 0 c.loop-index.auto.index c.loop-index-test.true) in
     let filled : is_some (get_or c.args.slots.now number None) ≡ true = sym c.is_some.ensures ∙ c.if-is_some.true in
-    next_is c.args.slots.now numbers c.args.from place number c.requires.ordered c.loop-place-test.true
-    (λ d. get_or_default numbers place d 0 c.loop-place-test.true) reached filled c.loop-place.invariant
+    next_is c.args.slots.now numbers c.args.from index number c.requires.ordered c.loop-index-test.true
+    (λ d. get_or_default numbers index d 0 c.loop-index-test.true) reached filled c.loop-index.invariant
 
 pub returns : goal.returns
-returns c = none_left c.args.slots.now c.args.numbers.now c.args.from c.loop-place.place c.loop-place-test.false c.loop-place.invariant
+returns c = none_left c.args.slots.now c.args.numbers.now c.args.from c.loop-index.index c.loop-index-test.false c.loop-index.invariant

@@ -8,8 +8,8 @@ use Rattle.attr_wildmatch.proofs.Names.{closes, name_in-none, name_in-at_once, n
 use Rattle.attr_wildmatch.proofs.Basics.{unequal}
 use Rattle.attr_wildmatch.proofs.bracket.class_name.Goals as goal
 
-place : (bs : List ℕ) (n : ℕ) → n ≡ from_close bs → n ≢ 0 → position closes bs ≡ Some (length bs - n)
-place bs n e some = rw e (close-position bs (λ z. some (e ∙ z)))
+offset : (bs : List ℕ) (n : ℕ) → n ≡ from_close bs → n ≢ 0 → position closes bs ≡ Some (length bs - n)
+offset bs n e some = rw e (close-position bs (λ z. some (e ∙ z)))
 
 pub slice_bounds-split_last-count : goal.slice_bounds-split_last-count
 slice_bounds-split_last-count c = let few = from_close-few c.args.bytes.now in omega (arith, c.requires, few)
@@ -21,17 +21,17 @@ returns-then-close-eq0-clause-name c =
 pub returns-in_err-last-clause-name : goal.returns-in_err-last-clause-name
 returns-in_err-last-clause-name c =
     ap (option_map (λ name. name.now)) c.from_residual.ensures ∙
-    sym (name_in-at_once c.args.bytes.now (length c.args.bytes.now - c.args.close) (place _ _ c.requires c.if-close-eq0.false)
+    sym (name_in-at_once c.args.bytes.now (length c.args.bytes.now - c.args.close) (offset _ _ c.requires c.if-close-eq0.false)
     (nil_from_length _ c.in_err-last.ensures.cases))
 
 pub returns-then-last-eq58-clause-name : goal.returns-then-last-eq58-clause-name
 returns-then-last-eq58-clause-name c =
     let known = name_in-first c.args.bytes.now (length c.args.bytes.now - c.args.close) c.in_ok-last.name.now c.in_ok-last.last.now
-    (place _ _ c.requires c.if-close-eq0.false) c.in_ok-last.ensures.cases.0 in
+    (offset _ _ c.requires c.if-close-eq0.false) c.in_ok-last.ensures.cases.0 in
     sym (known ∙ ap (λ b. cond (b == colon) (Some c.in_ok-last.name.now) None) c.if-last-eq58.true)
 
 pub returns-clause-name : goal.returns-clause-name
 returns-clause-name c =
     let known = name_in-first c.args.bytes.now (length c.args.bytes.now - c.args.close) c.in_ok-last.name.now c.in_ok-last.last.now
-    (place _ _ c.requires c.if-close-eq0.false) c.in_ok-last.ensures.cases.0 in
+    (offset _ _ c.requires c.if-close-eq0.false) c.in_ok-last.ensures.cases.0 in
     sym (known ∙ ap (λ v. cond v (Some c.in_ok-last.name.now) None) (unequal _ _ c.if-last-eq58.false))

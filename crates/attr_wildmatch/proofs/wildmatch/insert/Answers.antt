@@ -1,6 +1,6 @@
 use Rattle.std.proofs.Common.{refl, ◌≡◌, ◌≤◌, ◌<◌, ◌+◌, true, [], ◌∷◌, ◌++◌, length, arith, ap, sym, ◌∙◌}
 use Rattle.attr_wildmatch.specs.TokenList.{tokens_of}
-use Rattle.attr_wildmatch.proofs.RowLemmas.{row-push, places_below-push}
+use Rattle.attr_wildmatch.proofs.RowLemmas.{row-push, indexes_below-push}
 use Rattle.attr_wildmatch.proofs.wildmatch.insert.Goals as goal
 
 pub loop-last-init : goal.loop-last-init
@@ -12,8 +12,8 @@ loop-last-init c = (
   (λ most l m. omega arith),
   (λ fresh alive growing row f quiet. (
     c.push.ensures.pushed ∙
-        row-push (tokens_of c.args.tokens.now) fresh alive c.args.row.now.items c.args.free c.args.place row (omega arith) quiet
-        (growing.living c.args.place f),
+        row-push (tokens_of c.args.tokens.now) fresh alive c.args.row.now.items c.args.free c.args.index row (omega arith) quiet
+        (growing.living c.args.index f),
     f,
   )),
 )
@@ -32,7 +32,7 @@ loop-last-preserved c =
           let known = inv.5 fresh alive growing row f quiet in
           let fresh_next : fresh next ≡ true = growing.skip c.loop-last.last (sym c.loop-last-test.ensures.skips) known.1 in (
             c.push-in-loop-last.ensures.pushed ∙ (ap (λ x. x ++ next ∷ []) known.0 ∙ sym
-                (places_below-push alive next (growing.living next fresh_next))),
+                (indexes_below-push alive next (growing.living next fresh_next))),
             fresh_next,
           )),
     )

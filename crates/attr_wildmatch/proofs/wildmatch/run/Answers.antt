@@ -1,7 +1,7 @@
 use Rattle.std.proofs.Common.{◌≡◌, ◌≤◌, ◌<◌, ◌+◌, ◌*◌, ◌^◌, ℕ, [], length, vec_capacity, All, arith, refl, ap, sym, subst, ◌∙◌}
 use Rattle.std.proofs.Math.Nat.{mul-le-mul}
 use Rattle.attr_wildmatch.specs.TokenList.{tokens_of}
-use Rattle.attr_wildmatch.specs.inner.RowPlaces.{IsRow, places_below}
+use Rattle.attr_wildmatch.specs.inner.RowIndexes.{IsRow, indexes_below}
 use Rattle.attr_wildmatch.proofs.Basics.{equal, equal_so}
 use Rattle.attr_wildmatch.proofs.TokenLemmas.{length-tokens_of}
 use Rattle.attr_wildmatch.proofs.RowLemmas.{empty_row}
@@ -77,8 +77,8 @@ next_at c =
     let a = c.loop-byte.invariant.0 in
     let value = c.args.value.now in
     let i = c.loop-byte.byte-index in
-    let row : c.loop-byte.row.items ≡ places_below (alive c.args.case ts (first_bytes value i)) (length c.args.tokens.now + 1) =
-    a.row_is ∙ ap (λ x. places_below (alive c.args.case ts (first_bytes value i)) (x + 1)) same in
+    let row : c.loop-byte.row.items ≡ indexes_below (alive c.args.case ts (first_bytes value i)) (length c.args.tokens.now + 1) =
+    a.row_is ∙ ap (λ x. indexes_below (alive c.args.case ts (first_bytes value i)) (x + 1)) same in
     let given : c.deref.result.now ≡ c.loop-byte.row.items = c.deref.ensures.value in
     let known = c.next_row-free.ensures.row (fresh c.args.case ts (first_bytes value (i + 1))) (alive c.args.case ts (first_bytes value (i + 1)))
     (alive c.args.case ts (first_bytes value i)) (step_at c.args.case ts value i c.requires.bordered c.loop-byte-test.true)

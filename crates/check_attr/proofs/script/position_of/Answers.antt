@@ -4,9 +4,9 @@ use Rattle.check_attr.proofs.script.position_of.Goals as goal
 
 pub returns-then-byte-separator : goal.returns-then-byte-separator
 returns-then-byte-separator c =
-    position_at c.args.separator c.args.bytes.now c.loop-place.place c.loop-place-test.true c.loop-place.invariant
+    position_at c.args.separator c.args.bytes.now c.loop-offset.offset c.loop-offset-test.true c.loop-offset.invariant
     (eq-eqb _ _ c.if-byte-separator.true)
 
 pub returns : goal.returns
 returns c =
-    no_position c.args.separator c.args.bytes.now (λ k lt. c.loop-place.invariant k (omega (arith, lt, c.loop-place-test.false)))
+    no_position c.args.separator c.args.bytes.now (λ k lt. c.loop-offset.invariant k (omega (arith, lt, c.loop-offset-test.false)))

@@ -7,9 +7,9 @@ use Rattle.example_tests.specs.Tables.{two_lines}
 use Rattle.example_tests.proofs.tables.later_line_decides.Goals as goal
 
 -- no macro has a body, so no item is inside another
-no_body : (parent : Option Item) (place : ℕ) (i : Item) → option_and_then (λ j. slice_get (body_of [] j.attribute) place) parent ≡ Some i → ⊥
-no_body None place i e = absurd cc
-no_body (Some j) place i e = absurd cc
+no_body : (parent : Option Item) (index : ℕ) (i : Item) → option_and_then (λ j. slice_get (body_of [] j.attribute) index) parent ≡ Some i → ⊥
+no_body None index i e = absurd cc
+no_body (Some j) index i e = absurd cc
 
 -- each item is of attribute 0, and that of the second line comes first
 pub earliest : (p : Occurrence) (i : Item) → item_at two_lines p ≡ Some i → (i.attribute ≡ 0) × ((Root 0 1 0 ≡ p) ⊎ IsEarlier (Root 0 1 0) p)
@@ -19,7 +19,7 @@ earliest (Root zero (suc zero) zero) i e = (cc, inl refl)
 earliest (Root zero (suc zero) (suc item)) i e = absurd cc
 earliest (Root zero (suc (suc line)) item) i e = absurd cc
 earliest (Root (suc list) line item) i e = absurd cc
-earliest (Inside parent place) i e = absurd (no_body (item_at two_lines parent) place i e)
+earliest (Inside parent index) i e = absurd (no_body (item_at two_lines parent) index i e)
 
 pub returns-clause-setting : goal.returns-clause-setting
 unfolding line_len lines_from

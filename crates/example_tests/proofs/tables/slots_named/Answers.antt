@@ -7,5 +7,5 @@ use Rattle.example_tests.proofs.tables.slots_named.Goals as goal
 pub returns-clause-one : goal.returns-clause-one
 returns-clause-one c = λ slots. omega (arith, slots 0 (item_with 1 (codes "b") Set) (omega arith))
 
-pub returns-clause-misplaced : goal.returns-clause-misplaced
-returns-clause-misplaced c = λ held. omega (arith, ap (λ name. slice_index (unwrap_or name []) 0) (held 0))
+pub returns-clause-in_wrong_slot : goal.returns-clause-in_wrong_slot
+returns-clause-in_wrong_slot c = λ held. omega (arith, ap (λ name. slice_index (unwrap_or name []) 0) (held 0))

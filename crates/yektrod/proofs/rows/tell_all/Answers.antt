@@ -6,7 +6,7 @@ use Rattle.gix_attributes.specs.Contents.{unspecified}
 use Rattle.gix_attributes.specs.Slots.{Matched}
 use Rattle.gix_attributes.specs.EngineStates.{EngineContent}
 use Rattle.yektrod.specs.inner.Laid.{IsLaid}
-use Rattle.yektrod.specs.RowsTold.{answers_of, place_of, row_at, rows_of, text_of}
+use Rattle.yektrod.specs.RowsTold.{answers_of, offset_of, row_at, rows_of, text_of}
 use Rattle.yektrod.proofs.AnswerLemmas.{texts_more}
 use Rattle.yektrod.proofs.LayLemmas.{laid_none}
 use Rattle.yektrod.proofs.RowLemmas.{laid_in_room_all, laid_in_room_none, laid_in_room_step}
@@ -21,12 +21,12 @@ loop-i-preserved c =
     let count : c.num_answers-i-end.result ≡ length (answers_of held) =
     c.num_answers-i-end.ensures ∙ ap (λ (l : EngineContent). length (unwrap_or l.answers [])) c.labelled.ensures in
     let inside : i < length (answers_of held) = omega (arith, c.loop-i-test.true, count) in
-    let long : length rows ≡ length (answers_of held) = length-map-range_with_len (λ i. row_at held (place_of held i) i) 0 _ in
-    let x = row_at held (place_of held i) i in
+    let long : length rows ≡ length (answers_of held) = length-map-range_with_len (λ i. row_at held (offset_of held i) i) 0 _ in
+    let x = row_at held (offset_of held i) i in
     record {
       rows =
           laid_in_room_step c.args.rows.now rows c.loop-i.rows c.tell-at.new.rows i x (omega (arith, inside, long))
-          (get_or-map-range_with_len (λ i. row_at held (place_of held i) i) 0 _ i i x inside (omega arith))
+          (get_or-map-range_with_len (λ i. row_at held (offset_of held i) i) 0 _ i i x inside (omega arith))
           (subst (λ (at : ℕ). c.tell-at.new.rows
           ≡ (if nat_lt i (length c.loop-i.rows) then slice_set c.loop-i.rows i (row_at held at i) else c.loop-i.rows))
           c.loop-i.invariant.text.counted c.tell-at.ensures.rows)
@@ -43,7 +43,7 @@ returns-clause-rows c =
     let count : c.num_answers-i-end.result ≡ length (answers_of held) =
     c.num_answers-i-end.ensures ∙ ap (λ (l : EngineContent). length (unwrap_or l.answers [])) c.labelled.ensures in
     let long : length (rows_of held) ≡ length (answers_of held) =
-    length-map-range_with_len (λ i. row_at held (place_of held i) i) 0 _ in
+    length-map-range_with_len (λ i. row_at held (offset_of held i) i) 0 _ in
     laid_in_room_all c.args.rows.now (rows_of held) c.loop-i.rows c.loop-i.i (omega (arith, c.loop-i-test.false, count, long))
     c.loop-i.invariant.rows
 

@@ -5,7 +5,7 @@ use Rattle.attr_glob.specs.Patterns.{is_wildcard, is_suffix, has_flag, ends_with
 use Rattle.attr_wildmatch.specs.Matching.{same_byte}
 use Rattle.attr_glob.specs.Views.{pattern_view}
 use Rattle.attr_glob.specs.inner.StarEnds.{ends_after_star}
-use Rattle.attr_glob.proofs.Literals.{text_matches-literal, text_matches-suffix, text_matches-front, no_wildcard, place_inside}
+use Rattle.attr_glob.proofs.Literals.{text_matches-literal, text_matches-suffix, text_matches-front, no_wildcard, offset_inside}
 use Rattle.attr_glob.proofs.PathLemmas.{reading-wildcard, reading-ends_with}
 use Rattle.attr_glob.proofs.pattern.Pattern.answer_by_bytes.Goals as goal
 
@@ -20,16 +20,16 @@ returns-in_default-clause-matched c = λ text read.
 pub returns-then-not-starts_with-clause-matched : goal.returns-then-not-starts_with-clause-matched
 returns-then-not-starts_with-clause-matched c = λ text read.
     let own = c.args.self.now.text.items in
-    let found : position is_wildcard own ≡ Some c.in-Some.place = sym (reading-wildcard text (pattern_view c.args.self.now) read) ∙ c.in-Some.is in
-    let inside = place_inside own c.in-Some.place found in
+    let found : position is_wildcard own ≡ Some c.in-Some.offset = sym (reading-wildcard text (pattern_view c.args.self.now) read) ∙ c.in-Some.is in
+    let inside = offset_inside own c.in-Some.offset found in
     let same = c.as_slice-text.ensures.value in
     let long : length c.as_slice-text.result.now ≡ length own = ap length same in
-    let place : c.min.result ≡ c.in-Some.place = omega (arith, c.min.ensures) in
-    let front : take c.min.result c.as_slice-text.result.now ≡ take c.in-Some.place own = ap (λ n. take n c.as_slice-text.result.now) place ∙ ap
-    (take c.in-Some.place) same in
-    let other : starts_with (same_byte c.args.case) c.args.value.now (take c.in-Some.place own) ≡ false =
+    let offset : c.min.result ≡ c.in-Some.offset = omega (arith, c.min.ensures) in
+    let front : take c.min.result c.as_slice-text.result.now ≡ take c.in-Some.offset own = ap (λ n. take n c.as_slice-text.result.now) offset ∙ ap
+    (take c.in-Some.offset) same in
+    let other : starts_with (same_byte c.args.case) c.args.value.now (take c.in-Some.offset own) ≡ false =
     sym (ap (starts_with (same_byte c.args.case) c.args.value.now) front) ∙ (sym c.starts_with.ensures ∙ c.if-not-starts_with.true) in
-    sym (text_matches-front c.args.case own c.args.value.now c.in-Some.place found other)
+    sym (text_matches-front c.args.case own c.args.value.now c.in-Some.offset found other)
 
 pub returns-then-contains-clause-matched : goal.returns-then-contains-clause-matched
 returns-then-contains-clause-matched c = λ text read.

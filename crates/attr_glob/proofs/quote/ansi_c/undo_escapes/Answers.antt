@@ -6,21 +6,22 @@ use Rattle.attr_glob.specs.Quotes.{escaped, undone}
 use Rattle.attr_glob.proofs.Undoing.{undone_from-plain, undone_from-escape}
 use Rattle.attr_glob.proofs.quote.ansi_c.undo_escapes.Goals as goal
 
-pub loop-place-preserved-in-92 : goal.loop-place-preserved-in-92
-loop-place-preserved-in-92 c =
+pub loop-offset-preserved-in-92 : goal.loop-offset-preserved-in-92
+loop-offset-preserved-in-92 c =
     let text = c.args.text.now in
-    let place = c.loop-place.place in
-    let read : Some (c.in-Some.byte, c.in-Some.len) ≡ escaped (drop (place + 1) text) =
-    c.in-Some.ensures ∙ ap escaped (between_to_end text (place + 1) (length text) (omega arith)) in
-    let turn = undone_from-escape text c.loop-place.plain.items place (c.in-Some.byte, c.in-Some.len) (omega arith) c.in-92.is read (undone text)
-    c.loop-place.invariant.1 in
+    let offset = c.loop-offset.offset in
+    let read : Some (c.in-Some.byte, c.in-Some.len) ≡ escaped (drop (offset + 1) text) =
+    c.in-Some.ensures ∙ ap escaped (between_to_end text (offset + 1) (length text) (omega arith)) in
+    let turn = undone_from-escape text c.loop-offset.plain.items offset (c.in-Some.byte, c.in-Some.len) (omega arith) c.in-92.is read (undone text)
+    c.loop-offset.invariant.1 in
     (turn.inside, rw c.in_ok-push-in-92.ensures.items turn.so_far)
 
-pub loop-place-preserved : goal.loop-place-preserved
-loop-place-preserved c =
+pub loop-offset-preserved : goal.loop-offset-preserved
+loop-offset-preserved c =
     let text = c.args.text.now in
-    let place = c.loop-place.place in
-    let no_quote : get_or text place 0 ≢ quote = λ e. omega arith in
-    let no_backslash : get_or text place 0 ≢ backslash = λ e. omega arith in
-    let so_far = undone_from-plain text c.loop-place.plain.items place (omega arith) no_quote no_backslash (undone text) c.loop-place.invariant.1 in
+    let offset = c.loop-offset.offset in
+    let no_quote : get_or text offset 0 ≢ quote = λ e. omega arith in
+    let no_backslash : get_or text offset 0 ≢ backslash = λ e. omega arith in
+    let so_far = undone_from-plain text c.loop-offset.plain.items offset (omega arith) no_quote no_backslash
+    (undone text) c.loop-offset.invariant.1 in
     (omega arith, rw c.in_ok-push-in_default.ensures.items so_far)

@@ -18,9 +18,9 @@ returns-then-is_some-clause-kept c =
     let lines = c.keep_line.new.lines.items in
     let after : PartsContent = record
     { lines = origins lines; line = Some c.in_ok-kept.kept; assignments = b.assignments.items; bodies = bodies } in
-    let placed : top.place < length (items_beside items bodies top.cause) = rw (← c.self.view_is) at c.requires.placed in
-    let has = body_has items after top.cause top.place (sym c.is_some.ensures ∙ c.if-is_some.true) placed in
-    rw (← c.self.view_is) (answer_kept c.args.line top c.args.kind (answer_parts_view b) after c.in_ok-kept.kept top.place c.requires.cause
+    let inside : top.index < length (items_beside items bodies top.cause) = rw (← c.self.view_is) at c.requires.inside in
+    let has = body_has items after top.cause top.index (sym c.is_some.ensures ∙ c.if-is_some.true) inside in
+    rw (← c.self.view_is) (answer_kept c.args.line top c.args.kind (answer_parts_view b) after c.in_ok-kept.kept top.index c.requires.cause
     (record { lines = c.in_ok-kept.ensures.extends; assignments = grows_same _; bodies = refl })
     (record {
       lines = omega (arith, c.in_ok-kept.ensures.more, length-map b.lines.items origin_of_line, length-map lines origin_of_line);
@@ -39,12 +39,12 @@ returns-clause-kept c =
     let lines = c.keep_line-2.new.lines.items in
     let after : PartsContent = record
     { lines = origins lines; line = Some c.in_ok-kept-2.kept; assignments = c.push_reserved.new.self.items; bodies = bodies } in
-    let placed : top.place < length (items_beside items bodies top.cause) = rw (← c.self.view_is) at c.requires.placed in
+    let inside : top.index < length (items_beside items bodies top.cause) = rw (← c.self.view_is) at c.requires.inside in
     let pushed : c.push_reserved.new.self.items ≡ before ++ own ∷ [] =
     c.push_reserved.ensures.items ∙ ap (λ l. l ++ own ∷ []) c.reserve.ensures.items in
     let index : c.len-assignment.result ≡ length before = omega (arith, c.len-assignment.ensures, ap length c.reserve.ensures.items) in
-    let has = own_has items bodies after top.cause top.place c.index-line-top.result own before (sym c.is_some.ensures ∙ c.if-is_some.false)
-    placed c.index-line-top.is (c.in_ok-own.ensures ∙ ap (λ (t : TrackedAssignment). t.inner) (sym c.index-line-top.is)) pushed in
+    let has = own_has items bodies after top.cause top.index c.index-line-top.result own before (sym c.is_some.ensures ∙ c.if-is_some.false)
+    inside c.index-line-top.is (c.in_ok-own.ensures ∙ ap (λ (t : TrackedAssignment). t.inner) (sym c.index-line-top.is)) pushed in
     rw (← c.self.view_is) (answer_kept c.args.line top c.args.kind (answer_parts_view b) after c.in_ok-kept-2.kept c.len-assignment.result
     c.requires.cause
     (record { lines = c.in_ok-kept-2.ensures.extends; assignments = (own ∷ [], pushed); bodies = refl })

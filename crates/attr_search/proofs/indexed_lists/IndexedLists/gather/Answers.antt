@@ -5,11 +5,11 @@ use Rattle.attr_search.specs.inner.FrontHashers.{HasFront}
 use Rattle.attr_search.specs.declared.directory_keys.FrontHasher.{FrontHasher}
 use Rattle.attr_search.proofs.DirectoryLemmas.{gathered_none, gathered_on, gathered_past}
 use Rattle.attr_search.proofs.KeyedLemmas.{includes_to}
-use Rattle.attr_search.proofs.indexed_lists.IndexedLists.gather.Goals.{then-text-place-eq47+in_ok-append, else-text-place-eq47}
+use Rattle.attr_search.proofs.indexed_lists.IndexedLists.gather.Goals.{then-text-offset-eq47+in_ok-append, else-text-offset-eq47}
 use Rattle.attr_search.proofs.indexed_lists.IndexedLists.gather.Goals as goal
 
-pub loop-place-init : goal.loop-place-init
-loop-place-init c =
+pub loop-offset-init : goal.loop-offset-init
+loop-offset-init c =
     let lists = c.args.self.now in
     record {
       read = let none = c.new-front.ensures.read in omega (arith, none);
@@ -21,30 +21,30 @@ loop-place-init c =
           (includes_to lists.numbers.keys lists.roots.items (text_key []) lists.rooted number has)));
     }
 
-pub loop-place-preserved : goal.loop-place-preserved
-loop-place-preserved c =
+pub loop-offset-preserved : goal.loop-offset-preserved
+loop-offset-preserved c =
     let keys = c.args.self.now.numbers.keys in
     let text = c.args.text.now in
-    let k = c.loop-place.place in
-    let inv = c.loop-place.invariant in
-    elim c.if-text-place-eq47.branch [
-      | then-text-place-eq47+in_ok-append w ↦
+    let k = c.loop-offset.offset in
+    let inv = c.loop-offset.invariant in
+    elim c.if-text-offset-eq47.branch [
+      | then-text-offset-eq47+in_ok-append w ↦
           record {
             read = subst (λ (f : FrontHasher). f.read ≤ k + 1) (sym w.front-is) w.key.ensures.read;
             front = subst (HasFront text) (sym w.front-is) w.key.ensures.front;
             found = subst (λ ns. GathersDirectories keys text (k + 1) ns.items) (sym w.numbers-is)
-                (gathered_on keys text k c.loop-place.numbers.items w.append.new.numbers.items inv.found
+                (gathered_on keys text k c.loop-offset.numbers.items w.append.new.numbers.items inv.found
                 w.in_ok-append.ensures.kept (λ number has. w.in_ok-append.ensures.found number (has ∙ ap Some (sym w.key.ensures.key))));
           }
-      | else-text-place-eq47 w ↦
+      | else-text-offset-eq47 w ↦
           let before = inv.read in
           record {
             read = subst (λ (f : FrontHasher). f.read ≤ k + 1) (sym w.front-is) (omega (arith, before));
             front = subst (HasFront text) (sym w.front-is) inv.front;
             found = subst (λ ns. GathersDirectories keys text (k + 1) ns.items) (sym w.numbers-is)
-                (gathered_past keys text k c.loop-place.numbers.items inv.found w.if-text-place-eq47.false);
+                (gathered_past keys text k c.loop-offset.numbers.items inv.found w.if-text-offset-eq47.false);
           }
     ]
 
 pub returns : goal.returns
-returns c = λ place le ends. let over = c.loop-place-test.false in c.loop-place.invariant.found place (omega (arith, le, over)) ends
+returns c = λ offset le ends. let over = c.loop-offset-test.false in c.loop-offset.invariant.found offset (omega (arith, le, over)) ends

@@ -3,9 +3,9 @@ use Rattle.attr_search.specs.inner.DirectoryKeys.{GathersDirectories}
 use Rattle.attr_search.specs.inner.FrontHashers.{HasFront}
 use Rattle.attr_search.proofs.indexed_lists.IndexedLists.gather.Given as goal
 
-abbrev pub invariant-loop-place : goal.invariant-loop-place
-invariant-loop-place l = record {
-  read : l.front.read ≤ l.place;
+abbrev pub invariant-loop-offset : goal.invariant-loop-offset
+invariant-loop-offset l = record {
+  read : l.front.read ≤ l.offset;
   front : HasFront l.text l.front;
-  found : GathersDirectories l.self.numbers.keys l.text l.place l.numbers.items;
+  found : GathersDirectories l.self.numbers.keys l.text l.offset l.numbers.items;
 }

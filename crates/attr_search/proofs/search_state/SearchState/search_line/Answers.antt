@@ -18,15 +18,15 @@ pub returns-in_default-clause-searched : goal.returns-in_default-clause-searched
 returns-in_default-clause-searched c =
     let list = c.args.list.now in
     let state = c.args.self.now in
-    line_searched c.args.rest (listed_view list) c.args.place state state
+    line_searched c.args.rest (listed_view list) c.args.index state state
     (line_defines (state_bodies state) (state_wanted state) c.args.rest.case c.args.rest.is_dir (listed_view list).source
-    (bstr_bytes c.args.rest.path) list.list.patterns.items c.args.place c.index-mapping.result.now (state_slots state) state.taken
-    c.requires.place c.index-mapping.ensures (c.in_default.ensures.definition refl))
+    (bstr_bytes c.args.rest.path) list.list.patterns.items c.args.index c.index-mapping.result.now (state_slots state) state.taken
+    c.requires.index c.index-mapping.ensures (c.in_default.ensures.definition refl))
     (inl refl) (omega arith)
 
 pub has_free-requires : goal.has_free-requires
 has_free-requires c =
-    slots_at _ c.args.list.now.list.patterns.items c.args.place c.index-mapping.result.now c.in-Some.items.now c.requires.place
+    slots_at _ c.args.list.now.list.patterns.items c.args.index c.index-mapping.result.now c.in-Some.items.now c.requires.index
     c.index-mapping.ensures c.in-Some.ensures.items (rw (← c.self.view_is) at c.requires.in_lines)
 
 pub returns-then-not-has_free-clause-kept : goal.returns-then-not-has_free-clause-kept
@@ -36,10 +36,10 @@ pub returns-then-not-has_free-clause-searched : goal.returns-then-not-has_free-c
 returns-then-not-has_free-clause-searched c =
     let list = c.args.list.now in
     let state = search_view c.self.inside in
-    rw (← c.self.view_is) (line_searched c.args.rest (listed_view list) c.args.place state state
+    rw (← c.self.view_is) (line_searched c.args.rest (listed_view list) c.args.index state state
     (line_filled (state_bodies state) (state_wanted state) c.args.rest.case c.args.rest.is_dir (listed_view list).source
-    (bstr_bytes c.args.rest.path) list.list.patterns.items c.args.place c.index-mapping.result.now c.in-Some.items.now (state_slots state)
-    state.taken c.requires.place c.index-mapping.ensures c.in-Some.ensures.items c.if-not-has_free.ensures)
+    (bstr_bytes c.args.rest.path) list.list.patterns.items c.args.index c.index-mapping.result.now c.in-Some.items.now (state_slots state)
+    state.taken c.requires.index c.index-mapping.ensures c.in-Some.ensures.items c.if-not-has_free.ensures)
     (inl refl) (omega arith))
 
 pub returns-in_err-matches-clause-kept : goal.returns-in_err-matches-clause-kept
@@ -53,17 +53,17 @@ returns-then-not-branch-clause-kept c = rw (← c.self.view_is)
 pub returns-then-not-branch-clause-passed : goal.returns-then-not-branch-clause-passed
 returns-then-not-branch-clause-passed c =
     rw (← c.self.view_is) (λ none.
-    absurd (some_free c.args.list.now.list.patterns.items c.args.place c.index-mapping.result.now c.in-Some.items.now
-    (state_slots (search_view c.self.inside)) c.requires.place c.index-mapping.ensures c.in-Some.ensures.items
+    absurd (some_free c.args.list.now.list.patterns.items c.args.index c.index-mapping.result.now c.in-Some.items.now
+    (state_slots (search_view c.self.inside)) c.requires.index c.index-mapping.ensures c.in-Some.ensures.items
     c.if-not-has_free.ensures none))
 
 pub returns-then-not-branch-clause-searched : goal.returns-then-not-branch-clause-searched
 returns-then-not-branch-clause-searched c =
     let list = c.args.list.now in
     let state = search_view c.self.inside in
-    rw (← c.self.view_is) (line_searched c.args.rest (listed_view list) c.args.place state _
+    rw (← c.self.view_is) (line_searched c.args.rest (listed_view list) c.args.index state _
     (line_differs (state_bodies state) (state_wanted state) c.args.rest.case c.args.rest.is_dir (listed_view list).source
-    (bstr_bytes c.args.rest.path) (listed_view list).lines c.args.place (state_slots state) state.taken c.in_ok-matches.field-0
+    (bstr_bytes c.args.rest.path) (listed_view list).lines c.args.index (state_slots state) state.taken c.in_ok-matches.field-0
     c.in_ok-matches.ensures c.if-not-branch.true)
     (inl refl) (let e = c.saturating_add-self-inside.ensures in omega arith))
 
@@ -72,7 +72,7 @@ fill_attributes-requires c = record {
   can_fill =
       record {
         bodies = c.self.invariant.bodies;
-        in_line = slots_at _ c.args.list.now.list.patterns.items c.args.place c.index-mapping.result.now c.in-Some.items.now c.requires.place
+        in_line = slots_at _ c.args.list.now.list.patterns.items c.args.index c.index-mapping.result.now c.in-Some.items.now c.requires.index
             c.index-mapping.ensures c.in-Some.ensures.items (rw (← c.self.view_is) at c.requires.in_lines);
       };
 }
@@ -100,16 +100,16 @@ returns-clause-kept c =
 pub returns-clause-named : goal.returns-clause-named
 returns-clause-named c =
     rw (← c.self.view_is) (on_ok_weaker c.fill_attributes.result
-    (λ fills names lines bodies held. fills names (named_at names c.args.list.now.list.patterns.items c.args.place c.index-mapping.result.now
-    c.in-Some.items.now c.requires.place c.index-mapping.ensures c.in-Some.ensures.items lines) bodies held)
+    (λ fills names lines bodies held. fills names (named_at names c.args.list.now.list.patterns.items c.args.index c.index-mapping.result.now
+    c.in-Some.items.now c.requires.index c.index-mapping.ensures c.in-Some.ensures.items lines) bodies held)
     c.fill_attributes.ensures.named)
 
 pub returns-clause-passed : goal.returns-clause-passed
 returns-clause-passed c =
     rw (← c.self.view_is) (on_ok_weaker c.fill_attributes.result
     (λ fills none.
-    absurd (some_free c.args.list.now.list.patterns.items c.args.place c.index-mapping.result.now c.in-Some.items.now
-    (state_slots (search_view c.self.inside)) c.requires.place c.index-mapping.ensures c.in-Some.ensures.items
+    absurd (some_free c.args.list.now.list.patterns.items c.args.index c.index-mapping.result.now c.in-Some.items.now
+    (state_slots (search_view c.self.inside)) c.requires.index c.index-mapping.ensures c.in-Some.ensures.items
     c.if-not-has_free.ensures none))
     c.fill_attributes.ensures.filled)
 
@@ -119,13 +119,13 @@ returns-clause-searched c =
     let state = search_view c.self.inside in
     let e = c.saturating_add-self-inside.ensures in
     rw (← c.self.view_is) (on_ok_weaker c.fill_attributes.result
-    (λ fills. line_searched c.args.rest (listed_view list) c.args.place state _
+    (λ fills. line_searched c.args.rest (listed_view list) c.args.index state _
     (line_matched (state_bodies state) (state_wanted state) c.args.rest.case c.args.rest.is_dir (listed_view list).source
-    (bstr_bytes c.args.rest.path) list.list.patterns.items c.args.place c.index-mapping.result.now c.in-Some.items.now (state_slots state)
+    (bstr_bytes c.args.rest.path) list.list.patterns.items c.args.index c.index-mapping.result.now c.in-Some.items.now (state_slots state)
     (open_slots c.fill_attributes.new.self.slots) state.taken c.fill_attributes.new.self.taken c.in_ok-matches.field-0
-    (index_origin list.index.value c.args.place) c.requires.place
+    (index_origin list.index.value c.args.index) c.requires.index
     c.index-mapping.ensures c.in-Some.ensures.items c.in-Some.ensures.line c.in_ok-matches.ensures c.if-not-branch.false
-    (origin_is list.index.value (listed_view list).source list.list.patterns.items c.args.place c.index-mapping.result.now list.lines list.source
-    c.requires.place c.index-mapping.ensures) fills)
+    (origin_is list.index.value (listed_view list).source list.list.patterns.items c.args.index c.index-mapping.result.now list.lines list.source
+    c.requires.index c.index-mapping.ensures) fills)
     (inr (omega (arith, e))) (omega (arith, e)))
     c.fill_attributes.ensures.filled)

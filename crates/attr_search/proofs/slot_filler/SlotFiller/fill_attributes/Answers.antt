@@ -3,7 +3,7 @@ use Rattle.attr_search.specs.Slots.{is_needed}
 use Rattle.std.proofs.lemmas.List.Elements.{All-nil}
 use Rattle.std.proofs.lemmas.Result.{on_ok_weaker}
 use Rattle.attr_search.specs.inner.Filling.{filler_slots}
-use Rattle.attr_search.specs.inner.Pending.{IsPlaced, line_origin}
+use Rattle.attr_search.specs.inner.Pending.{IsInside, line_origin}
 use Rattle.attr_search.proofs.FillingLemmas.{line_walked}
 use Rattle.attr_search.proofs.slot_filler.SlotFiller.fill_attributes.Goals as goal
 
@@ -30,8 +30,8 @@ run_stack-requires c =
                   bodies = rw c.begin_line.ensures c.requires.can_fill.bodies;
                   in_line = rw c.begin_line.ensures c.requires.can_fill.in_line;
                 };
-            placed = c.in_ok-push_free.ensures.placed c.args.line.items.now bodies refl
-                (rw c.clear.ensures.items (All-nil (IsPlaced c.args.line.items.now bodies)));
+            inside = c.in_ok-push_free.ensures.inside c.args.line.items.now bodies refl
+                (rw c.clear.ensures.items (All-nil (IsInside c.args.line.items.now bodies)));
             origin = rw c.begin_line.ensures tt;
           };
     }

@@ -15,7 +15,7 @@ is_free-requires c =
     let before = c.args.self.now in
     let can = c.requires.at_line.can_fill in
     has_slot (length before.slots.answers) c.args.line.items.now before.slots.bodies c.args.top _ can.in_line
-    can.bodies.in_bodies c.requires.placed
+    can.bodies.in_bodies c.requires.inside
     (c.item-item.ensures ∙ ap (λ bs. pending_item c.args.line.items.now bs c.args.top) c.bodies.ensures)
 
 pub fill-requires-clause-own : goal.fill-requires-clause-own
@@ -28,7 +28,7 @@ fill-requires-clause-within c =
     let before = c.args.self.now in
     let can = c.requires.at_line.can_fill in
     has_slot (length before.slots.answers) c.args.line.items.now before.slots.bodies c.args.top _ can.in_line
-    can.bodies.in_bodies c.requires.placed
+    can.bodies.in_bodies c.requires.inside
     (c.item-item.ensures ∙ ap (λ bs. pending_item c.args.line.items.now bs c.args.top) c.bodies.ensures)
 
 pub returns-then-not-is_free-clause-kept : goal.returns-then-not-is_free-clause-kept
@@ -86,9 +86,9 @@ returns-then-not-is_expanded-clause-named c = λ names line bodies.
     let can = c.requires.at_line.can_fill in
     let is = c.item-item.ensures ∙ ap (λ bs. pending_item c.args.line.items.now bs c.args.top) c.bodies.ensures in
     named_fill names c.args.line.items.now before.slots.bodies c.args.top _ _ before.slots.answers c.fill.new.self.answers is
-    c.requires.placed
+    c.requires.inside
     (has_slot (length before.slots.answers) c.args.line.items.now before.slots.bodies c.args.top _ can.in_line
-    can.bodies.in_bodies c.requires.placed is)
+    can.bodies.in_bodies c.requires.inside is)
     refl
     (filled_as c.args.line before.slots.bodies c.args.top _ before.slots.answers c.fill.new.self.answers is c.in_ok-fill.ensures.answers)
     line bodies
@@ -102,7 +102,7 @@ returns-then-not-is_expanded-clause-less c =
     (open_slots before.slots) (open_slots c.fill.new.self) (length before.stack.items) is c.if-not-is_free.ensures
     (item_opened c.args.line before.slots.bodies c.args.top _ before.slots c.fill.new.self c.fill.ensures.needed c.if-not-is_free.ensures is
     (has_slot (length before.slots.answers) c.args.line.items.now before.slots.bodies c.args.top _ can.in_line
-    can.bodies.in_bodies c.requires.placed is)
+    can.bodies.in_bodies c.requires.inside is)
     (filled_as c.args.line before.slots.bodies c.args.top _ before.slots.answers c.fill.new.self.answers is c.in_ok-fill.ensures.answers)))
 
 pub returns-then-not-is_expanded-clause-processed : goal.returns-then-not-is_expanded-clause-processed
@@ -116,7 +116,7 @@ returns-then-not-is_expanded-clause-processed c = λ undone final earlier later 
     is c.if-not-is_free.ensures c.if-not-is_expanded.ensures
     (item_opened c.args.line before.slots.bodies c.args.top _ before.slots c.fill.new.self c.fill.ensures.needed c.if-not-is_free.ensures is
     (has_slot (length before.slots.answers) c.args.line.items.now before.slots.bodies c.args.top _ can.in_line
-    can.bodies.in_bodies c.requires.placed is)
+    can.bodies.in_bodies c.requires.inside is)
     (filled_as c.args.line before.slots.bodies c.args.top _ before.slots.answers c.fill.new.self.answers is c.in_ok-fill.ensures.answers))
     undone counted (rw (c.fill.ensures.bodies, c.in_ok-fill.ensures.wanted) at p)
 
@@ -127,9 +127,9 @@ returns-clause-named c =
     let can = c.requires.at_line.can_fill in
     let is = c.item-item.ensures ∙ ap (λ bs. pending_item c.args.line.items.now bs c.args.top) c.bodies.ensures in
     named_fill names c.args.line.items.now before.slots.bodies c.args.top _ _ before.slots.answers c.fill.new.self.answers is
-    c.requires.placed
+    c.requires.inside
     (has_slot (length before.slots.answers) c.args.line.items.now before.slots.bodies c.args.top _ can.in_line
-    can.bodies.in_bodies c.requires.placed is)
+    can.bodies.in_bodies c.requires.inside is)
     refl
     (filled_as c.args.line before.slots.bodies c.args.top _ before.slots.answers c.fill.new.self.answers is c.in_ok-fill.ensures.answers)
     line bodies)
@@ -147,7 +147,7 @@ returns-clause-less c =
     is c.if-not-is_free.ensures
     (item_opened c.args.line before.slots.bodies c.args.top _ before.slots c.fill.new.self c.fill.ensures.needed c.if-not-is_free.ensures is
     (has_slot (length before.slots.answers) c.args.line.items.now before.slots.bodies c.args.top _ can.in_line
-    can.bodies.in_bodies c.requires.placed is)
+    can.bodies.in_bodies c.requires.inside is)
     (filled_as c.args.line before.slots.bodies c.args.top _ before.slots.answers c.fill.new.self.answers is c.in_ok-fill.ensures.answers))
     body (pushed (line_origin c.args.line) c.args.line.items.now before.slots.bodies (sym body)))
     c.push_free.ensures.pushed)
@@ -167,7 +167,7 @@ returns-clause-processed c =
     is c.if-not-is_free.ensures c.if-not-is_expanded.ensures
     (item_opened c.args.line before.slots.bodies c.args.top _ before.slots c.fill.new.self c.fill.ensures.needed c.if-not-is_free.ensures is
     (has_slot (length before.slots.answers) c.args.line.items.now before.slots.bodies c.args.top _ can.in_line
-    can.bodies.in_bodies c.requires.placed is)
+    can.bodies.in_bodies c.requires.inside is)
     (filled_as c.args.line before.slots.bodies c.args.top _ before.slots.answers c.fill.new.self.answers is c.in_ok-fill.ensures.answers))
     body (pushed (line_origin c.args.line) c.args.line.items.now before.slots.bodies (sym body))
     undone counted (rw (c.fill.ensures.bodies, c.in_ok-fill.ensures.wanted) at p))

@@ -20,78 +20,78 @@ returns-clause-line c = line_seen c.keep.new.self _ c.keep.new.self.line c.in_ok
 pub overflow_sub-self : goal.overflow_sub-self
 overflow_sub-self c =
     let b = c.self.inside in
-    let place = c.args.attribute in
-    let closed : is_some (open_slots (slots_view b) place) ≡ false = ap (λ v. is_some (open_slots v place)) c.self.view_is
+    let number = c.args.attribute in
+    let closed : is_some (open_slots (slots_view b) number) ≡ false = ap (λ v. is_some (open_slots v number)) c.self.view_is
     ∙ c.requires.free in
-    let free : is_some (get_or b.slots.items place None) ≡ false = sym (seen_filled b.parts b.slots.items place)
-    ∙ open_free (is_needed b.needed) (slots_of (matches_by_ref b.parts b.slots.items)) place closed in
-    let within : place < length b.slots.items = omega (
+    let free : is_some (get_or b.slots.items number None) ≡ false = sym (seen_filled b.parts b.slots.items number)
+    ∙ open_free (is_needed b.needed) (slots_of (matches_by_ref b.parts b.slots.items)) number closed in
+    let within : number < length b.slots.items = omega (
       arith,
       c.requires.within,
       ap (λ v. length v.answers) c.self.view_is,
       length-map b.slots.items
           (λ o. option_map (match_by_ref b.parts) o),
     ) in
-    let read : c.index.result.now ≡ get_or b.wanted place false = c.index.ensures
-    ∙ get_or_default b.is_wanted.items place c.index.result.now false
+    let read : c.index.result.now ≡ get_or b.wanted number false = c.index.ensures
+    ∙ get_or_default b.is_wanted.items number c.index.result.now false
     (omega (arith, within, c.self.invariant.same_length, ap length c.self.invariant.flagged))
-    ∙ ap (λ l. get_or l place false) c.self.invariant.flagged in
-    (fill_counts b.wanted b.slots.items place c.in_ok-found.found c.index.result.now b.remaining c.from.result c.self.invariant.same_length
+    ∙ ap (λ l. get_or l number false) c.self.invariant.flagged in
+    (fill_counts b.wanted b.slots.items number c.in_ok-found.found c.index.result.now b.remaining c.from.result c.self.invariant.same_length
     within
     free c.self.invariant.counted read c.from.ensures).0
 
 pub invariant_of-self-2 : goal.invariant_of-self-2
 invariant_of-self-2 c =
     let b = c.self.inside in
-    let place = c.args.attribute in
+    let number = c.args.attribute in
     let stored = c.keep.new.self in
-    let pushed : c.push_reserved.new.self.items ≡ b.filled.items ++ place ∷ [] = c.push_reserved.ensures.items
-    ∙ ap (λ l. l ++ place ∷ []) c.reserve.ensures.items in
-    let closed : is_some (open_slots (slots_view b) place) ≡ false = ap (λ v. is_some (open_slots v place)) c.self.view_is
+    let pushed : c.push_reserved.new.self.items ≡ b.filled.items ++ number ∷ [] = c.push_reserved.ensures.items
+    ∙ ap (λ l. l ++ number ∷ []) c.reserve.ensures.items in
+    let closed : is_some (open_slots (slots_view b) number) ≡ false = ap (λ v. is_some (open_slots v number)) c.self.view_is
     ∙ c.requires.free in
-    let free : is_some (get_or b.slots.items place None) ≡ false = sym (seen_filled b.parts b.slots.items place)
-    ∙ open_free (is_needed b.needed) (slots_of (matches_by_ref b.parts b.slots.items)) place closed in
-    let within : place < length b.slots.items = omega (
+    let free : is_some (get_or b.slots.items number None) ≡ false = sym (seen_filled b.parts b.slots.items number)
+    ∙ open_free (is_needed b.needed) (slots_of (matches_by_ref b.parts b.slots.items)) number closed in
+    let within : number < length b.slots.items = omega (
       arith,
       c.requires.within,
       ap (λ v. length v.answers) c.self.view_is,
       length-map b.slots.items
           (λ o. option_map (match_by_ref b.parts) o),
     ) in
-    let read : c.index.result.now ≡ get_or b.wanted place false = c.index.ensures
-    ∙ get_or_default b.is_wanted.items place c.index.result.now false
+    let read : c.index.result.now ≡ get_or b.wanted number false = c.index.ensures
+    ∙ get_or_default b.is_wanted.items number c.index.result.now false
     (omega (arith, within, c.self.invariant.same_length, ap length c.self.invariant.flagged))
-    ∙ ap (λ l. get_or l place false) c.self.invariant.flagged in
-    let own : get_or b.needed place false ≡ true = sym (get_or_default b.needed place true false (omega
+    ∙ ap (λ l. get_or l number false) c.self.invariant.flagged in
+    let own : get_or b.needed number false ≡ true = sym (get_or_default b.needed number true false (omega
     (arith, within, c.self.invariant.needed_length)))
-    ∙ open_needed (is_needed b.needed) (slots_of (matches_by_ref b.parts b.slots.items)) place closed in
+    ∙ open_needed (is_needed b.needed) (slots_of (matches_by_ref b.parts b.slots.items)) number closed in
     record {
-      same_length = c.self.invariant.same_length ∙ sym (length-set b.slots.items place (Some c.in_ok-found.found));
-      needed_length = c.self.invariant.needed_length ∙ sym (length-set b.slots.items place (Some c.in_ok-found.found));
+      same_length = c.self.invariant.same_length ∙ sym (length-set b.slots.items number (Some c.in_ok-found.found));
+      needed_length = c.self.invariant.needed_length ∙ sym (length-set b.slots.items number (Some c.in_ok-found.found));
       among = c.self.invariant.among;
-      opened = open_filled b.needed b.slots.items b.is_open.items place c.in_ok-found.found within c.self.invariant.opened;
+      opened = open_filled b.needed b.slots.items b.is_open.items number c.in_ok-found.found within c.self.invariant.opened;
       flagged = c.self.invariant.flagged;
-      filled_needed = rw pushed (All-push (λ n. get_or b.needed n false ≡ true) b.filled.items place c.self.invariant.filled_needed own);
-      within = slots_filled b.parts stored b.slots.items place c.in_ok-found.found c.in_ok-found.ensures.kept.extends c.self.invariant.within
+      filled_needed = rw pushed (All-push (λ n. get_or b.needed n false ≡ true) b.filled.items number c.self.invariant.filled_needed own);
+      within = slots_filled b.parts stored b.slots.items number c.in_ok-found.found c.in_ok-found.ensures.kept.extends c.self.invariant.within
           c.in_ok-found.ensures.kept.within;
       line = line_kept stored _ c.keep.new.self.line c.in_ok-found.ensures.kept.at_hand;
-      counted = (fill_counts b.wanted b.slots.items place c.in_ok-found.found c.index.result.now b.remaining c.from.result
+      counted = (fill_counts b.wanted b.slots.items number c.in_ok-found.found c.index.result.now b.remaining c.from.result
           c.self.invariant.same_length within free c.self.invariant.counted read c.from.ensures).1;
-      listed = rw pushed (listed_filled b.slots.items b.filled.items place (Some c.in_ok-found.found)
-          (listed_more b.slots.items b.filled.items place within c.self.invariant.listed));
+      listed = rw pushed (listed_filled b.slots.items b.filled.items number (Some c.in_ok-found.found)
+          (listed_more b.slots.items b.filled.items number within c.self.invariant.listed));
       ordered = λ t. absurd (false≢true t);
       few_lines = omega (
         arith,
         c.self.invariant.few_lines,
         c.in_ok-found.ensures.kept.more.lines,
-        filled_set b.slots.items place
+        filled_set b.slots.items number
             c.in_ok-found.found within free,
       );
       few_assignments = omega (
         arith,
         c.self.invariant.few_assignments,
         c.in_ok-found.ensures.kept.more.assignments,
-        filled_set b.slots.items place c.in_ok-found.found within free,
+        filled_set b.slots.items number c.in_ok-found.found within free,
       );
     }
 

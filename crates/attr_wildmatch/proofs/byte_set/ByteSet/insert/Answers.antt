@@ -7,5 +7,5 @@ pub returns : goal.returns
 returns c = λ b.
     let words = c.args.self.now.words in
     let four : length words ≡ 4 = search rules in
-    let place : c.from.result ≡ c.args.byte / 64 = omega (arith, c.from.ensures) in
-    ap (λ n. is_marked (with_word words n (c.args.byte % 64)) b) place ∙ marked words c.args.byte b (omega arith)
+    let index : c.from.result ≡ c.args.byte / 64 = omega (arith, c.from.ensures) in
+    ap (λ n. is_marked (with_word words n (c.args.byte % 64)) b) index ∙ marked words c.args.byte b (omega arith)

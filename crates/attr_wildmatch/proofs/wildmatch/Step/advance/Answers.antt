@@ -7,6 +7,6 @@ pub returns-then-advances-clause-row : goal.returns-then-advances-clause-row
 returns-then-advances-clause-row c =
     λ fresh alive before u here stayed.
     let same = length-tokens_of c.args.self.now.tokens.now in
-    let inside : c.args.place < length c.args.self.now.tokens.now = c.if-advances.ensures.inside refl in
-    c.insert.ensures.row fresh alive u.step.growing u.row_is (u.step.advance c.args.place (sym c.if-advances.ensures.advances) here)
+    let inside : c.args.index < length c.args.self.now.tokens.now = c.if-advances.ensures.inside refl in
+    c.insert.ensures.row fresh alive u.step.growing u.row_is (u.step.advance c.args.index (sym c.if-advances.ensures.advances) here)
     (silent_next u (omega arith) here stayed.stay stayed.directory)

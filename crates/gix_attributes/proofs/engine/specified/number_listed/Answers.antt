@@ -16,29 +16,29 @@ pub loop-number-preserved : goal.loop-number-preserved
 loop-number-preserved c =
     let slots = c.args.outcome.now.slots in
     let listed = c.args.listed.now in
-    let place = c.loop-number.number-index in
-    let number = get_or listed place 0 in
+    let index = c.loop-number.number-index in
+    let number = get_or listed index 0 in
     let from = c.loop-number.from in
     let numbered = λ (n : ℕ). get_or slots n None in
     elim c.if-number-from.branch [
       | then-number-from+in_ok-push_specified+else-prove w ↦
-          let within : number < length slots = All-get_or (λ n. n < length slots) listed place 0 c.loop-number-test.true c.requires.listed.below in
+          let within : number < length slots = All-get_or (λ n. n < length slots) listed index 0 c.loop-number-test.true c.requires.listed.below in
           record {
             numbered = rw (w.numbers-is, w.from-is) (numbered_more slots c.loop-number.numbers.items w.push_specified.new.numbers.items number within
                 w.in_ok-push_specified.ensures
-                (ap (λ l. map numbered c.loop-number.numbers.items ++ l) (sym (left_at slots listed from place number c.requires.ordered
-                c.loop-number-test.true (λ d. get_or_default listed place d 0 c.loop-number-test.true) w.if-number-from.true within
+                (ap (λ l. map numbered c.loop-number.numbers.items ++ l) (sym (left_at slots listed from index number c.requires.ordered
+                c.loop-number-test.true (λ d. get_or_default listed index d 0 c.loop-number-test.true) w.if-number-from.true within
                 c.loop-number.invariant.free))
                 ∙ c.loop-number.invariant.numbered));
-            free = rw w.from-is (free_on slots listed from (number + 1) place number
-                (λ d. get_or_default listed place d 0 c.loop-number-test.true) (omega (arith, w.if-number-from.true)) (omega arith)
+            free = rw w.from-is (free_on slots listed from (number + 1) index number
+                (λ d. get_or_default listed index d 0 c.loop-number-test.true) (omega (arith, w.if-number-from.true)) (omega arith)
                 c.loop-number.invariant.free);
           }
       | else-number-from w ↦
           record {
             numbered = rw (w.numbers-is, w.from-is) c.loop-number.invariant.numbered;
-            free = rw w.from-is (free_on slots listed from from place number
-                (λ d. get_or_default listed place d 0 c.loop-number-test.true) (omega arith) (omega (arith, w.if-number-from.false))
+            free = rw w.from-is (free_on slots listed from from index number
+                (λ d. get_or_default listed index d 0 c.loop-number-test.true) (omega arith) (omega (arith, w.if-number-from.false))
                 c.loop-number.invariant.free);
           }
     ]

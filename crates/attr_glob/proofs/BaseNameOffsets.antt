@@ -1,4 +1,4 @@
--- The place of a base name, by recursion from the front of the path, and as it is seen after a front.
+-- The offset of a base name, by recursion from the front of the path, and as it is seen after a front.
 use Rattle.std.proofs.Common.{◌≡◌, ℕ, zero, suc, ◌+◌, ◌-◌, ◌<◌, Bool, true, false, not, cond, List, [], ◌∷◌, ◌++◌, length, drop, reverse, Option}
 use Rattle.std.proofs.Common.{Some, None, refl, sym, ap, ◌∙◌, arith, eqb, add-one}
 use Rattle.std.specs.List.{list_any, suffix_len, prefix_len}
@@ -6,8 +6,8 @@ use Rattle.std.proofs.lemmas.Bool.Decides.{nat_tests}
 use Rattle.std.proofs.lemmas.List.{length-reverse, length-drop, reverse-append}
 use Rattle.std.proofs.lemmas.List.Folds.{prefix_len-append}
 use Rattle.std.proofs.lemmas.List.Sums.{suffix_len-le-length}
-use Rattle.attr_glob.specs.inner.PlacesAfter.{place_after}
-use Rattle.attr_glob.specs.BaseNames.{base_name, base_name_place}
+use Rattle.attr_glob.specs.inner.OffsetsAfter.{offset_after}
+use Rattle.attr_glob.specs.BaseNames.{base_name, base_name_offset}
 use Rattle.attr_wildmatch.specs.Slashes.{is_slash}
 
 abbrev no_slash : ℕ → Bool
@@ -57,68 +57,68 @@ pub name_of : (path : List ℕ) → Name path
 name_of [] = whole refl refl
 name_of (b ∷ bs) = name_within b bs (name_of bs)
 
-abbrev place_onto : ℕ → Option ℕ → Option ℕ
-place_onto b (Some place) = Some (place + 1)
-place_onto b None = cond (is_slash b) (Some 1) None
+abbrev offset_onto : ℕ → Option ℕ → Option ℕ
+offset_onto b (Some offset) = Some (offset + 1)
+offset_onto b None = cond (is_slash b) (Some 1) None
 
--- the place after the last slash
-abbrev place_of : List ℕ → Option ℕ
-place_of [] = None
-place_of (b ∷ bs) = place_onto b (place_of bs)
+-- the offset after the last slash
+abbrev offset_of : List ℕ → Option ℕ
+offset_of [] = None
+offset_of (b ∷ bs) = offset_onto b (offset_of bs)
 
 length-base_name : (path : List ℕ) → length (base_name path) ≡ name_len path
 length-base_name path = omega (arith, length-drop (length path - name_len path) path, suffix_len-le-length no_slash path)
 
-place-none : (path : List ℕ) → list_any is_slash path ≡ false → base_name_place path ≡ None
-place-none path none = grind arith
+offset-none : (path : List ℕ) → list_any is_slash path ≡ false → base_name_offset path ≡ None
+offset-none path none = grind arith
 
-place-some : (path : List ℕ) → list_any is_slash path ≡ true → base_name_place path ≡ Some (length path - name_len path)
-place-some path any = grind (arith, length-base_name path)
+offset-some : (path : List ℕ) → list_any is_slash path ≡ true → base_name_offset path ≡ Some (length path - name_len path)
+offset-some path any = grind (arith, length-base_name path)
 
-place_within-whole : (b : ℕ) (bs : List ℕ) (test : Bool) → is_slash b ≡ test → list_any is_slash bs ≡ false → name_len bs ≡ length bs →
-    base_name_place (b ∷ bs) ≡ place_onto b None
-place_within-whole b bs true e none len =
+offset_within-whole : (b : ℕ) (bs : List ℕ) (test : Bool) → is_slash b ≡ test → list_any is_slash bs ≡ false → name_len bs ≡ length bs →
+    base_name_offset (b ∷ bs) ≡ offset_onto b None
+offset_within-whole b bs true e none len =
     let any : list_any is_slash (b ∷ bs) ≡ true = grind arith in
     let one : length (b ∷ bs) - name_len (b ∷ bs) ≡ 1 = let l = name_len-slash b bs len e in omega arith in
-    place-some (b ∷ bs) any ∙ ap Some one ∙ sym (ap (λ t. cond t (Some 1) None) e)
-place_within-whole b bs false e none len =
+    offset-some (b ∷ bs) any ∙ ap Some one ∙ sym (ap (λ t. cond t (Some 1) None) e)
+offset_within-whole b bs false e none len =
     let no : list_any is_slash (b ∷ bs) ≡ false = grind arith in
-    place-none (b ∷ bs) no ∙ sym (ap (λ t. cond t (Some 1) None) e)
+    offset-none (b ∷ bs) no ∙ sym (ap (λ t. cond t (Some 1) None) e)
 
-place_within : (b : ℕ) (bs : List ℕ) → Name bs → base_name_place (b ∷ bs) ≡ place_onto b (base_name_place bs)
-place_within b bs (whole none e) = place_within-whole b bs (is_slash b) refl none e ∙ sym (ap (place_onto b) (place-none bs none))
-place_within b bs (below any lt) =
+offset_within : (b : ℕ) (bs : List ℕ) → Name bs → base_name_offset (b ∷ bs) ≡ offset_onto b (base_name_offset bs)
+offset_within b bs (whole none e) = offset_within-whole b bs (is_slash b) refl none e ∙ sym (ap (offset_onto b) (offset-none bs none))
+offset_within b bs (below any lt) =
     let more : length (b ∷ bs) - name_len (b ∷ bs) ≡ length bs - name_len bs + 1 = let e = name_len-below b bs lt in omega arith in
-    place-some (b ∷ bs) (within_below-any b bs any) ∙ ap Some more ∙ sym (ap (place_onto b) (place-some bs any))
+    offset-some (b ∷ bs) (within_below-any b bs any) ∙ ap Some more ∙ sym (ap (offset_onto b) (offset-some bs any))
 
-place_of_is : (path : List ℕ) → base_name_place path ≡ place_of path
-place_of_is [] = refl
-place_of_is (b ∷ bs) = place_within b bs (name_of bs) ∙ ap (place_onto b) (place_of_is bs)
+offset_of_is : (path : List ℕ) → base_name_offset path ≡ offset_of path
+offset_of_is [] = refl
+offset_of_is (b ∷ bs) = offset_within b bs (name_of bs) ∙ ap (offset_onto b) (offset_of_is bs)
 
-place_onto-zero : (b : ℕ) (o : Option ℕ) (test : Bool) → is_slash b ≡ test → place_onto b o ≡ place_after 0 (place_onto b o)
-place_onto-zero b (Some place) _ _ = grind (arith, nat_tests)
-place_onto-zero b None true e = grind (arith, nat_tests)
-place_onto-zero b None false e = grind (arith, nat_tests)
+offset_onto-zero : (b : ℕ) (o : Option ℕ) (test : Bool) → is_slash b ≡ test → offset_onto b o ≡ offset_after 0 (offset_onto b o)
+offset_onto-zero b (Some offset) _ _ = grind (arith, nat_tests)
+offset_onto-zero b None true e = grind (arith, nat_tests)
+offset_onto-zero b None false e = grind (arith, nat_tests)
 
-place_onto-suc : (n b : ℕ) (o : Option ℕ) (test : Bool) → is_slash b ≡ test → place_after n o ≡ place_after (suc n) (place_onto b o)
-place_onto-suc n b (Some place) _ _ = grind (arith, nat_tests)
-place_onto-suc n b None true e = grind (arith, nat_tests)
-place_onto-suc n b None false e = grind (arith, nat_tests)
+offset_onto-suc : (n b : ℕ) (o : Option ℕ) (test : Bool) → is_slash b ≡ test → offset_after n o ≡ offset_after (suc n) (offset_onto b o)
+offset_onto-suc n b (Some offset) _ _ = grind (arith, nat_tests)
+offset_onto-suc n b None true e = grind (arith, nat_tests)
+offset_onto-suc n b None false e = grind (arith, nat_tests)
 
-place_of-drop : (n : ℕ) (path : List ℕ) → place_of (drop n path) ≡ place_after n (place_of path)
-place_of-drop zero [] = refl
-place_of-drop (suc n) [] = refl
-place_of-drop zero (b ∷ bs) = place_onto-zero b (place_of bs) (is_slash b) refl
-place_of-drop (suc n) (b ∷ bs) = place_of-drop n bs ∙ place_onto-suc n b (place_of bs) (is_slash b) refl
+offset_of-drop : (n : ℕ) (path : List ℕ) → offset_of (drop n path) ≡ offset_after n (offset_of path)
+offset_of-drop zero [] = refl
+offset_of-drop (suc n) [] = refl
+offset_of-drop zero (b ∷ bs) = offset_onto-zero b (offset_of bs) (is_slash b) refl
+offset_of-drop (suc n) (b ∷ bs) = offset_of-drop n bs ∙ offset_onto-suc n b (offset_of bs) (is_slash b) refl
 
--- the place of the base name after a front
-pub base_name_place-drop : (n : ℕ) (path : List ℕ) → base_name_place (drop n path) ≡ place_after n (base_name_place path)
-base_name_place-drop n path = place_of_is (drop n path) ∙ place_of-drop n path ∙ ap (place_after n) (sym (place_of_is path))
+-- the offset of the base name after a front
+pub base_name_offset-drop : (n : ℕ) (path : List ℕ) → base_name_offset (drop n path) ≡ offset_after n (base_name_offset path)
+base_name_offset-drop n path = offset_of_is (drop n path) ∙ offset_of-drop n path ∙ ap (offset_after n) (sym (offset_of_is path))
 
-whole_by : (path : List ℕ) → Name path → base_name_place path ≡ None → path ≡ base_name path
+whole_by : (path : List ℕ) → Name path → base_name_offset path ≡ None → path ≡ base_name path
 whole_by path (whole none e) h = sym (ap (λ n. drop n path) (let n : length path - name_len path ≡ 0 = omega arith in n))
-whole_by path (below any lt) h = let some = place-some path any in absurd cc
+whole_by path (below any lt) h = let some = offset-some path any in absurd cc
 
--- without a place the base name is the whole path
-pub base_name-whole : (path : List ℕ) → base_name_place path ≡ None → path ≡ base_name path
+-- without an offset the base name is the whole path
+pub base_name-whole : (path : List ℕ) → base_name_offset path ≡ None → path ≡ base_name path
 base_name-whole path = whole_by path (name_of path)

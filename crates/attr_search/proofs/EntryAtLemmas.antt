@@ -1,4 +1,4 @@
--- The line at a place of a list, and whether it matches a path.
+-- The line at an index of a list, and whether it matches a path.
 use Rattle.std.proofs.Common.{◌≡◌, ℕ, ◌<◌, Bool, true, false, not, ◌||◌, List, [], ◌∷◌, length, map, get_or, Option, Some, None, Ok}
 use Rattle.std.proofs.Common.{Err, Result, refl, sym, ap, ◌∙◌, arith}
 use Rattle.std.specs.Prelude.{IfOk}
@@ -13,7 +13,7 @@ use Rattle.attr_glob.specs.Patterns.{Reading, reading, has_flag, negative, must_
 use Rattle.attr_glob.specs.Views.{patterns_of}
 use Rattle.attr_lists.specs.declared.types.Value.{Value}
 use Rattle.attr_lists.specs.ListViews.{Entry, entry_view, entries_view}
-use Rattle.attr_search.specs.inner.PlacedLines.{no_entry, entry_at}
+use Rattle.attr_search.specs.inner.EntryAt.{no_entry, entry_at}
 use Rattle.attr_search.specs.shared.ReadLines.{AreRead}
 
 -- the patterns of a list are those of its lines
@@ -22,14 +22,14 @@ lines_patterns [] = refl
 lines_patterns (m ∷ ms) = let e = lines_patterns ms in cc
 
 -- what is known of a line that defines no macro
-read_at : (lines : List Entry) (place : ℕ) → AreRead lines → place < length lines → (entry_at lines place).macro ≡ None →
-    (text : List ℕ) × (reading text ≡ Some (entry_at lines place).pattern) × (has_flag (entry_at lines place).pattern.mode negative ≡ false)
-read_at lines place all lt none = rw none at (all place no_entry lt)
+read_at : (lines : List Entry) (index : ℕ) → AreRead lines → index < length lines → (entry_at lines index).macro ≡ None →
+    (text : List ℕ) × (reading text ≡ Some (entry_at lines index).pattern) × (has_flag (entry_at lines index).pattern.mode negative ≡ false)
+read_at lines index all lt none = rw none at (all index no_entry lt)
 
--- the line at a place is that of the mapping there
-pub entry_is : (ms : List (Mapping Value)) (place : ℕ) (m : Mapping Value) → place < length ms → m ≡ get_or ms place m →
-    entry_at (entries_view ms) place ≡ entry_view m
-entry_is ms place m lt is = get_or-map entry_view ms place m no_entry lt ∙ ap entry_view (sym is)
+-- the line at an index is that of the mapping there
+pub entry_is : (ms : List (Mapping Value)) (index : ℕ) (m : Mapping Value) → index < length ms → m ≡ get_or ms index m →
+    entry_at (entries_view ms) index ≡ entry_view m
+entry_is ms index m lt is = get_or-map entry_view ms index m no_entry lt ∙ ap entry_view (sym is)
 
 -- a pattern that wants a directory matches no other path
 pub other_kind : (entry : Entry) (r : Reading) (case : Case) (path : List ℕ) (is_dir : Option Bool) → entry.pattern ≡ r →
@@ -37,20 +37,20 @@ pub other_kind : (entry : Entry) (r : Reading) (case : Case) (path : List ℕ) (
 other_kind entry r case path is_dir same kind = rw (same, kind) refl
 
 -- else the answer for the matched part is the test of the line
-pub matched_answer : {E : Type 0} (ms : List (Mapping Value)) (place : ℕ) (r : Reading) (case : Case) (path part : List ℕ)
+pub matched_answer : {E : Type 0} (ms : List (Mapping Value)) (index : ℕ) (r : Reading) (case : Case) (path part : List ℕ)
     (is_dir : Option Bool) (result : Result Bool E) →
-    ∥ AreRead (entries_view ms) ∥₁ → place < length ms → (entry_at (entries_view ms) place).macro ≡ None →
-    (entry_at (entries_view ms) place).pattern ≡ r →
+    ∥ AreRead (entries_view ms) ∥₁ → index < length ms → (entry_at (entries_view ms) index).macro ≡ None →
+    (entry_at (entries_view ms) index).pattern ≡ r →
     (not (has_flag r.mode must_be_dir) || is_directory is_dir) ≡ true →
     part ≡ matched_part r path →
     IfOk result (λ answer. (text : List ℕ) → reading text ≡ Some r → answer ≡ text_matches case r.text part) →
-    IfOk result (λ answer. answer ≡ path_matches case (entry_at (entries_view ms) place).pattern path is_dir)
-matched_answer ms place r case path part is_dir (Err e) read lt none here kind same told = tt
-matched_answer ms place r case path part is_dir (Ok answer) read lt none here kind same told =
+    IfOk result (λ answer. answer ≡ path_matches case (entry_at (entries_view ms) index).pattern path is_dir)
+matched_answer ms index r case path part is_dir (Err e) read lt none here kind same told = tt
+matched_answer ms index r case path part is_dir (Ok answer) read lt none here kind same told =
     let n = length-map ms entry_view in
-    let test : text_matches case r.text (matched_part r path) ≡ path_matches case (entry_at (entries_view ms) place).pattern path is_dir =
+    let test : text_matches case r.text (matched_part r path) ≡ path_matches case (entry_at (entries_view ms) index).pattern path is_dir =
     rw (here, kind) refl in
-    ∥∥₁_elim read (Bool-set answer (path_matches case (entry_at (entries_view ms) place).pattern path is_dir))
-    (λ lines. let known = read_at (entries_view ms) place lines (omega arith) none in
+    ∥∥₁_elim read (Bool-set answer (path_matches case (entry_at (entries_view ms) index).pattern path is_dir))
+    (λ lines. let known = read_at (entries_view ms) index lines (omega arith) none in
     told known.0 (known.1 ∙ ap Some here)
     ∙ (ap (text_matches case r.text) same ∙ test))

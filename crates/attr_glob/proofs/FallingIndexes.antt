@@ -1,4 +1,4 @@
--- Places that fall and are just those of the lines that pass a test.
+-- Indexes that fall and are just those of the lines that pass a test.
 use Rattle.std.proofs.Common.{◌≡◌, ◌≢◌, ℕ, zero, suc, ◌+◌, ◌<◌, ◌≤◌, Bool, true, false, ◌||◌, List, [], ◌∷◌, ◌++◌, length, reverse, Option, Some}
 use Rattle.std.proofs.Common.{None}
 use Rattle.std.proofs.Common.{refl, sym, ap, ◌∙◌, arith, eqb}
@@ -7,7 +7,7 @@ use Rattle.std.proofs.lemmas.Bool.{eqb-true}
 use Rattle.std.proofs.lemmas.Bool.Decides.{nat_tests}
 use Rattle.std.proofs.lemmas.List.{length-reverse, reverse-reverse}
 use Rattle.attr_keys.specs.shared.Rows.{has_row, IsFalling}
-use Rattle.attr_glob.specs.Candidates.{places_where}
+use Rattle.attr_glob.specs.Candidates.{indexes_where}
 use Rattle.attr_wildmatch.proofs.ForCallers.{by_test, reverse-cons}
 
 -- there is a line, which passes the test
@@ -65,7 +65,7 @@ length_snoc : {X : Type 0} (zs : List X) (x : X) → length (zs ++ x ∷ []) ≡
 length_snoc [] x = refl
 length_snoc (z ∷ zs) x = let e = length_snoc zs x in omega arith
 
--- the test passes at no further place
+-- the test passes at no further index
 fewer : {X : Type 0} (test : X → Bool) (ys : List X) (x : X) (found : List ℕ) →
     has_row found (length ys) ≡ false → ((row : ℕ) → has_row found row ≡ passes test (slice_get (ys ++ x ∷ []) row)) →
     (row : ℕ) → has_row found row ≡ passes test (slice_get ys row)
@@ -76,23 +76,23 @@ fewer test ys x found none has row =
     ap (has_row found) e ∙ (none ∙ sym (ap (passes test) (get_past ys row (omega arith)))))
     (λ f. has row ∙ ap (passes test) (get_snoc_other ys x row (unequal row (length ys) f)))
 
-places_by : {X : Type 0} (test : X → Bool) (rev : List X) (found : List ℕ) → IsFalling found →
-    ((row : ℕ) → has_row found row ≡ passes test (slice_get (reverse rev) row)) → found ≡ places_where test rev
-places_by test [] found down has = nothing_there found has
-places_by {X} test (x ∷ before) found down has =
+indexes_by : {X : Type 0} (test : X → Bool) (rev : List X) (found : List ℕ) → IsFalling found →
+    ((row : ℕ) → has_row found row ≡ passes test (slice_get (reverse rev) row)) → found ≡ indexes_where test rev
+indexes_by test [] found down has = nothing_there found has
+indexes_by {X} test (x ∷ before) found down has =
     let ys = reverse before in
     let len : length ys ≡ length before = length-reverse before in
     let has' : (row : ℕ) → has_row found row ≡ passes test (slice_get (ys ++ x ∷ []) row) =
     λ row. has row ∙ ap (λ l. passes test (slice_get l row)) (reverse-cons x before) in
     let last : has_row found (length ys) ≡ test x = has' (length ys) ∙ ap (passes test) (get_snoc_last ys x) in
     by_test (test x)
-    (λ t. rw t (by_head (λ l d h. places_by test before l d h) found down has' (last ∙ t)))
-    (λ f. rw f (places_by test before found down (fewer test ys x found (last ∙ f) has')))
+    (λ t. rw t (by_head (λ l d h. indexes_by test before l d h) found down has' (last ∙ t)))
+    (λ f. rw f (indexes_by test before found down (fewer test ys x found (last ∙ f) has')))
   where
     by_head : ((l : List ℕ) → IsFalling l → ((row : ℕ) → has_row l row ≡ passes test (slice_get (reverse before) row)) → l
-        ≡ places_where test before) →
+        ≡ indexes_where test before) →
         (l : List ℕ) → IsFalling l → ((row : ℕ) → has_row l row ≡ passes test (slice_get (reverse before ++ x ∷ []) row)) →
-        has_row l (length (reverse before)) ≡ true → l ≡ length before ∷ places_where test before
+        has_row l (length (reverse before)) ≡ true → l ≡ length before ∷ indexes_where test before
     by_head go [] d h here = absurd cc
     by_head go (p ∷ ps) d h here =
         let ys = reverse before in
@@ -117,8 +117,8 @@ places_by {X} test (x ∷ before) found down has =
         sym (ap (λ b. b || has_row ps row) off) ∙ (h row ∙ ap (passes test) (get_snoc_other ys x row ne))) in
         ap (λ q. q ∷ ps) (same ∙ len) ∙ ap (λ l. length before ∷ l) (go ps (falling_tail p ps d) rest)
 
--- places that fall, and that pass the test, are those of the lines that pass it
-pub falling_places : {X : Type 0} (test : X → Bool) (lines : List X) (found : List ℕ) → IsFalling found →
-    ((row : ℕ) → has_row found row ≡ passes test (slice_get lines row)) → found ≡ places_where test (reverse lines)
-falling_places test lines found down has =
-    places_by test (reverse lines) found down (λ row. has row ∙ ap (λ l. passes test (slice_get l row)) (sym (reverse-reverse lines)))
+-- indexes that fall, and that pass the test, are those of the lines that pass it
+pub falling_indexes : {X : Type 0} (test : X → Bool) (lines : List X) (found : List ℕ) → IsFalling found →
+    ((row : ℕ) → has_row found row ≡ passes test (slice_get lines row)) → found ≡ indexes_where test (reverse lines)
+falling_indexes test lines found down has =
+    indexes_by test (reverse lines) found down (λ row. has row ∙ ap (λ l. passes test (slice_get l row)) (sym (reverse-reverse lines)))
