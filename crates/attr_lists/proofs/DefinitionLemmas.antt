@@ -70,10 +70,6 @@ bodies_defined-cons number entry entries =
     ap (map (λ (e : Entry). e.items)) (filter-append (is_definition number) (entry ∷ []) entries)
     ∙ map-append (λ (e : Entry). e.items) (filter (is_definition number) (entry ∷ [])) (filter (is_definition number) entries)
 
--- what one line defines
-pub bodies_defined-one : (number : ℕ) (entry : Entry) → is_definition number entry ≡ true → bodies_defined number (entry ∷ []) ≡ entry.items ∷ []
-bodies_defined-one number entry e = ap (map (λ (x : Entry). x.items)) (cond-true (is_definition number entry) (entry ∷ []) [] e)
-
 pub bodies_defined-none : (number : ℕ) (entry : Entry) → is_definition number entry ≡ false → bodies_defined number (entry ∷ []) ≡ []
 bodies_defined-none number entry e = ap (map (λ (x : Entry). x.items)) (cond-false (is_definition number entry) (entry ∷ []) [] e)
 

@@ -1,6 +1,6 @@
 -- What is entries of names, by number.
-use Rattle.std.proofs.Common.{◌≡◌, ◌≢◌, ℕ, zero, suc, ◌+◌, ◌<◌, Bool, false, not, eqb, List, [], ◌∷◌, ◌++◌, length, get_or, set}
-use Rattle.std.proofs.Common.{take, drop, map, filter, All, unwrap_or, option_map, refl, sym, ap, subst, ◌∙◌, ⊎_elim, arith, ne_eqb, eq-eqb}
+use Rattle.std.proofs.Common.{◌≡◌, ◌≢◌, ℕ, zero, suc, ◌+◌, ◌<◌, ◌≤◌, Bool, false, not, eqb, List, [], ◌∷◌, ◌++◌, length, get_or, set}
+use Rattle.std.proofs.Common.{take, drop, map, filter, All, refl, sym, ap, subst, ◌∙◌, ⊎_elim, arith, ne_eqb, eq-eqb}
 use Rattle.std.proofs.Common.{Option, Some, None, true, bytes_eq}
 use Rattle.std.specs.Prelude.{is_some, ◌&&◌}
 use Rattle.std.specs.Cmp.Lexicographic.{bytes_decides}
@@ -16,16 +16,18 @@ use Rattle.attr_lists.specs.declared.types.Value.{Value}
 use Rattle.attr_lists.specs.declared.types.Value.TheVariants.{MacroAssignments}
 use Rattle.smallvec.specs.SmallVec.{SmallVec}
 use Rattle.attr_lists.specs.declared.types.TrackedAssignment.{TrackedAssignment}
-use Rattle.attr_lists.specs.Definitions.{is_definition, bodies_defined, bodies_named, bodies_of_list, defines_name, definition_of}
+use Rattle.attr_lists.specs.Definitions.{bodies_named, bodies_of_list, defines_name, definition_of}
 use Rattle.attr_lists.specs.Definitions.{is_of_list, of_other_lists}
 use Rattle.attr_lists.specs.inner.EntryViews.{definition_view, definitions_view, all_definitions, definitions_at, IsEntry, AreEntries}
-use Rattle.attr_lists.specs.ListViews.{Entry, entry_view, entries_view, macro_id, items_in}
+use Rattle.attr_lists.specs.ListViews.{Entry, entry_view, entries_view, macro_id}
 use Rattle.attr_lists.specs.Collections.{MacroDefinition}
-use Rattle.attr_lists.specs.Numbers.{id_of, number_of, numbered_item, numbered, numbered_lines}
+use Rattle.attr_lists.specs.Numbers.{number_of}
 use Rattle.attr_lists.proofs.DefinitionLemmas.{of_other_lists-again, of_other_lists-append, of_other_lists-more, bodies_gone}
-use Rattle.attr_lists.proofs.DefinitionLemmas.{bodies_defined-cons, bodies_named-push}
-use Rattle.attr_lists.proofs.DefinitionLemmas.{bodies_defined-one, bodies_defined-none, bodies_named-none, bodies_named-one, bodies_of_list-append}
+use Rattle.attr_lists.proofs.DefinitionLemmas.{bodies_named-push}
+use Rattle.attr_lists.proofs.DefinitionLemmas.{bodies_named-none, bodies_named-one, bodies_of_list-append}
 use Rattle.attr_lists.specs.inner.EntrySteps.{KeepsOtherDefinitions, RemovesAsMany, StaysWithout}
+use Rattle.attr_lists.specs.inner.Registered.{NumberedBody, bodies_of_number, numbered_body}
+use Rattle.attr_lists.specs.declared.types.Metadata.{Metadata}
 use Rattle.attr_lists.proofs.ListLemmas.{front, front-more, get_or-map}
 use Rattle.attr_lists.proofs.NamedDefinitions.{number_name}
 
@@ -169,25 +171,36 @@ removed_more list_id number name start entries now lines i line lt at before her
     ∙ ap (λ l. bodies_named name (entries_view (take i lines)) ++ bodies_named name (entry_view l ∷ [])) (sym at) in
     omega (arith, ap length parts, length-append (bodies_named name (entries_view (take i lines))) one, before, here)
 
--- the definitions of a name after those of one more line are added
-pub define_list_step : (names : List (List ℕ)) (list_id number : ℕ) (start entries now : List NameEntry) (lines : List (Mapping Value)) (i : ℕ)
-    (line : Mapping Value) → i < length lines → line ≡ get_or lines i line
-    → definitions_at entries number ++ map (definition_of list_id) (bodies_defined number (numbered_lines names (entries_view (drop i lines)))) ≡
-    definitions_at start number ++ map (definition_of list_id) (bodies_defined number (numbered_lines names (entries_view lines)))
-    → definitions_at now number ≡ definitions_at entries number ++ map (definition_of list_id)
-    (bodies_defined number (numbered names (entry_view line) ∷ []))
-    → definitions_at now number ++ map (definition_of list_id) (bodies_defined number (numbered_lines names (entries_view (drop (i + 1) lines)))) ≡
-    definitions_at start number ++ map (definition_of list_id) (bodies_defined number (numbered_lines names (entries_view lines)))
-define_list_step names list_id number start entries now lines i line lt at before here =
-    let rest = numbered_lines names (entries_view (drop (i + 1) lines)) in
-    let first = λ (l : Mapping Value). numbered names (entry_view l) in
-    let bodies = λ (es : List Entry). map (definition_of list_id) (bodies_defined number es) in
-    ap (λ l. l ++ bodies rest) (here ∙ ap (λ l. definitions_at entries number ++ bodies (first l ∷ [])) at)
-    ∙ append_assoc (definitions_at entries number) (bodies (first (get_or lines i line) ∷ [])) (bodies rest)
-    ∙ ap (λ l. definitions_at entries number ++ l) (sym (map-append (definition_of list_id) (bodies_defined number (first (get_or lines i line) ∷ []))
-    (bodies_defined number rest))
-    ∙ ap (map (definition_of list_id)) (sym (bodies_defined-cons number (first (get_or lines i line)) rest))
-    ∙ sym (at_drop_more (λ (l : List (Mapping Value)). bodies (numbered_lines names (entries_view l))) lines i line lt))
+-- the bodies of a number in a list, from those of its first one
+bodies-first : (number : ℕ) (b : NumberedBody) (list : List NumberedBody)
+    → bodies_of_number number (b ∷ list) ≡ bodies_of_number number (b ∷ []) ++ bodies_of_number number list
+bodies-first number b list =
+    let rest = filter (λ (x : NumberedBody). eqb x.number number) list in
+    ⊎_elim
+    (λ yes. ap (map (λ (x : NumberedBody). x.body)) (cond-true (eqb b.number number) (b ∷ rest) rest yes)
+    ∙ sym (ap (λ l. map (λ (x : NumberedBody). x.body) l ++ bodies_of_number number list) (cond-true (eqb b.number number) (b ∷ []) [] yes)))
+    (λ no. ap (map (λ (x : NumberedBody). x.body)) (cond-false (eqb b.number number) (b ∷ rest) rest no)
+    ∙ sym (ap (λ l. map (λ (x : NumberedBody). x.body) l ++ bodies_of_number number list) (cond-false (eqb b.number number) (b ∷ []) [] no)))
+    (cases_Bool (eqb b.number number))
+
+-- the definitions of a name after those of one more macro are added
+pub define_list_step : (list_id number : ℕ) (start entries now : List NameEntry) (list : List Metadata) (i : ℕ) (known : Metadata)
+    → i < length list → known ≡ get_or list i known
+    → definitions_at entries number ++ map (definition_of list_id) (bodies_of_number number (map numbered_body (drop i list)))
+    ≡ definitions_at start number ++ map (definition_of list_id) (bodies_of_number number (map numbered_body list))
+    → definitions_at now number ≡ definitions_at entries number ++ map (definition_of list_id) (bodies_of_number number (numbered_body known ∷ []))
+    → definitions_at now number ++ map (definition_of list_id) (bodies_of_number number (map numbered_body (drop (i + 1) list)))
+    ≡ definitions_at start number ++ map (definition_of list_id) (bodies_of_number number (map numbered_body list))
+define_list_step list_id number start entries now list i known lt at before here =
+    let bodies = λ (l : List Metadata). map (definition_of list_id) (bodies_of_number number (map numbered_body l)) in
+    let first = get_or list i known in
+    let rest = drop (i + 1) list in
+    ap (λ l. l ++ bodies rest) (here ∙ ap (λ k. definitions_at entries number ++ bodies (k ∷ [])) at)
+    ∙ append_assoc (definitions_at entries number) (bodies (first ∷ [])) (bodies rest)
+    ∙ ap (λ l. definitions_at entries number ++ l)
+    (sym (map-append (definition_of list_id) (bodies_of_number number (numbered_body first ∷ [])) (bodies_of_number number (map numbered_body rest)))
+    ∙ ap (map (definition_of list_id)) (sym (bodies-first number (numbered_body first) (map numbered_body rest)))
+    ∙ sym (at_drop_more bodies list i known lt))
     ∙ before
 
 -- the definitions of a name after the definitions of another one may have changed
@@ -241,11 +254,6 @@ no_body names entry name n own e is other =
     nothing None = refl
     nothing (Some id) = refl
 
-defines : (names : List (List ℕ)) (mapping : Mapping Value) (id : AttributeId) (v : SmallVec TrackedAssignment) (n : ℕ) → mapping.value ≡
-    MacroAssignments id v → is_definition n (numbered names (entry_view mapping)) ≡ eqb (id_of names mapping.pattern.text.items).0 n
-defines names mapping id v n is = ap (λ value. unwrap_or (option_map (λ (i : AttributeId). eqb i.0 n)
-    (option_map (λ _. id_of names mapping.pattern.text.items) (macro_id value))) false) is
-
 -- a definition of the name of a line is removed
 module _ (names : List (List ℕ)) (list_id own : ℕ) (entries : List NameEntry) (mapping : Mapping Value) (d x : NameEntry)
     (is : number_of names mapping.pattern.text.items ≡ Some own) (lt : own < length entries) where
@@ -275,22 +283,16 @@ module _ (names : List (List ℕ)) (list_id own : ℕ) (entries : List NameEntry
       (λ at here. same ∙ ap (of_other_lists list_id) at) (λ other. refl)
 
 -- a name has one more definition
-pub defined_at : (names : List (List ℕ)) (list_id n : ℕ) (entries : List NameEntry) (mapping : Mapping Value) (id own : AttributeId)
-    (v : SmallVec TrackedAssignment) (body : List TrackedAssignment) (d x : NameEntry) → mapping.value ≡ MacroAssignments id v → own ≡ id_of names
-    mapping.pattern.text.items → body ≡ map (numbered_item names) v.items → own.0 < length entries
-    → definitions_view x ≡ definitions_view (get_or entries own.0 d) ++ definition_of list_id body ∷ []
-    → definitions_at (set entries own.0 x) n ≡ definitions_at entries n ++ map (definition_of list_id)
-    (bodies_defined n (numbered names (entry_view mapping) ∷ []))
-defined_at names list_id n entries mapping id own v body d x is own_is body_is lt e =
-    let entry = numbered names (entry_view mapping) in
-    let defines_own : is_definition n entry ≡ eqb own.0 n = defines names mapping id v n is ∙ ap (λ (i : AttributeId). eqb i.0 n) (sym own_is) in
-    definitions_at-cases (λ ds. ds ≡ definitions_at entries n ++ map (definition_of list_id) (bodies_defined n (entry ∷ []))) entries own.0 n d x lt
-    (λ at same.
-    let items : body ≡ entry.items = body_is ∙ ap (λ value. map (numbered_item names) (items_in value)) (sym is) in
-    e ∙ ap (λ l. l ++ definition_of list_id body ∷ []) at ∙ ap (λ b. definitions_at entries n ++ definition_of list_id b ∷ []) items
-    ∙ ap (λ b. definitions_at entries n ++ map (definition_of list_id) b) (sym (bodies_defined-one n entry (defines_own ∙ eq-eqb own.0 n same))))
-    (λ other. sym (append-nil (definitions_at entries n)) ∙ ap (λ b. definitions_at entries n ++ map (definition_of list_id) b)
-    (sym (bodies_defined-none n entry (defines_own ∙ ne_eqb own.0 n other))))
+pub defined_at : (list_id n : ℕ) (entries : List NameEntry) (b : NumberedBody) (d x : NameEntry) → b.number < length entries
+    → definitions_view x ≡ definitions_view (get_or entries b.number d) ++ definition_of list_id b.body ∷ []
+    → definitions_at (set entries b.number x) n ≡ definitions_at entries n ++ map (definition_of list_id) (bodies_of_number n (b ∷ []))
+defined_at list_id n entries b d x lt e =
+    let bodies = λ (l : List NumberedBody). map (definition_of list_id) (map (λ (k : NumberedBody). k.body) l) in
+    definitions_at-cases (λ ds. ds ≡ definitions_at entries n ++ bodies (filter (λ (k : NumberedBody). eqb k.number n) (b ∷ []))) entries b.number n d x lt
+    (λ at same. e ∙ ap (λ l. l ++ definition_of list_id b.body ∷ []) at
+    ∙ ap (λ l. definitions_at entries n ++ bodies l) (sym (cond-true (eqb b.number n) (b ∷ []) [] (eq-eqb b.number n same))))
+    (λ other. sym (append-nil (definitions_at entries n))
+    ∙ ap (λ l. definitions_at entries n ++ bodies l) (sym (cond-false (eqb b.number n) (b ∷ []) [] (ne_eqb b.number n other))))
 
 -- the definitions of other lists stay
 pub others_at : (list_id i n : ℕ) (entries : List NameEntry) (d x : NameEntry) (body : List TrackedAssignment) → i < length entries → definitions_view

@@ -1,19 +1,16 @@
 -- The numbers of the names that have definitions are listed.
-use Rattle.std.proofs.Common.{◌≡◌, ℕ, ◌+◌, ◌<◌, ◌≤◌, false, List, [], ◌∷◌, ◌++◌, length, get_or, take, map, filter, sym, ap}
+use Rattle.std.proofs.Common.{◌≡◌, ℕ, ◌<◌, ◌≤◌, false, List, [], ◌++◌, length, map, sym, ap}
 use Rattle.std.proofs.Common.{◌∙◌, ⊎_elim, arith}
 use Rattle.std.specs.BTreeSet.{BTreeSet, contains}
 use Rattle.std.specs.Ordering.{nat_cmp}
 use Rattle.std.proofs.lemmas.Bool.{cases_Bool, cases_lt, true≢false}
-use Rattle.std.proofs.lemmas.List.{get_or_past, map-append, take_more}
-use Rattle.std.proofs.lemmas.List.Elements.{filter-append}
+use Rattle.std.proofs.lemmas.List.{get_or_past}
 use Rattle.std.proofs.lemmas.List.FromFn.{get_or-map-range_with_len, length-map-range_with_len}
-use Rattle.attr_glob.specs.declared.search.pattern.Mapping.{Mapping}
 use Rattle.attr_lists.specs.declared.name_table.entry.NameEntry.{NameEntry}
-use Rattle.attr_lists.specs.declared.types.Value.{Value}
 use Rattle.attr_lists.specs.Collections.{Collection}
-use Rattle.attr_lists.specs.Definitions.{bodies_defined, definition_of, definitions_of, is_definition, of_other_lists, with_list, without_list}
-use Rattle.attr_lists.specs.ListViews.{Entry, entry_view, entries_view}
-use Rattle.attr_lists.specs.Numbers.{names_in, numbered, numbered_lines, with_names}
+use Rattle.attr_lists.specs.Definitions.{bodies_defined, definition_of, definitions_of, of_other_lists, with_list, without_list}
+use Rattle.attr_lists.specs.ListViews.{Entry}
+use Rattle.attr_lists.specs.Numbers.{names_in, numbered_lines, with_names}
 use Rattle.attr_lists.specs.inner.EntryViews.{definitions_at}
 use Rattle.attr_lists.specs.shared.MacroNumbers.{KeepsNumbers, ListsDefined, ListsMacros, RemovesUndefined}
 use Rattle.attr_lists.proofs.ListLemmas.{get_or-map}
@@ -22,28 +19,6 @@ use Rattle.attr_lists.proofs.ListLemmas.{get_or-map}
 absent : (old new : BTreeSet ℕ) (n : ℕ) → KeepsNumbers old new → contains nat_cmp new n ≡ false → contains nat_cmp old n ≡ false
 absent old new n kept none =
     ⊎_elim (λ t. absurd (true≢false (sym (kept n t) ∙ none))) (λ f. f) (cases_Bool (contains nat_cmp old n))
-
-defined-append : (number : ℕ) (xs ys : List Entry) → bodies_defined number (xs ++ ys) ≡ bodies_defined number xs ++ bodies_defined number ys
-defined-append number xs ys =
-    ap (map (λ (entry : Entry). entry.items)) (filter-append (is_definition number) xs ys)
-    ∙ map-append (λ (entry : Entry). entry.items) (filter (is_definition number) xs) (filter (is_definition number) ys)
-
--- one more line
-pub listed_more : (now after : BTreeSet ℕ) (names : List (List ℕ)) (lines : List (Mapping Value)) (i : ℕ) (line : Mapping Value) → i < length lines →
-    line ≡ get_or lines i line → KeepsNumbers now after → ListsDefined now (numbered_lines names (entries_view (take i lines))) →
-    ListsDefined after (numbered_lines names (entries_view (line ∷ []))) →
-    ListsDefined after (numbered_lines names (entries_view (take (i + 1) lines)))
-listed_more now after names lines i line lt at kept so_far here = λ number none.
-    let Lines : List (Mapping Value) → List Entry = λ l. numbered_lines names (entries_view l) in
-    let split : Lines (take (i + 1) lines) ≡ Lines (take i lines) ++ Lines (line ∷ []) =
-    ap Lines (take_more lines i line lt ∙ ap (λ z. take i lines ++ z ∷ []) (sym at))
-    ∙ ap (map (numbered names)) (map-append entry_view (take i lines) (line ∷ []))
-    ∙ map-append (numbered names) (entries_view (take i lines)) (entries_view (line ∷ [])) in
-    ap (bodies_defined number) split ∙ defined-append number (Lines (take i lines)) (Lines (line ∷ []))
-    ∙ ap (λ l. l ++ bodies_defined number (Lines (line ∷ []))) (so_far number (absent now after number kept none)) ∙ here number none
-
-pub kept_both : (a b c : BTreeSet ℕ) → KeepsNumbers a b → KeepsNumbers b c → KeepsNumbers a c
-kept_both a b c first second = λ n h. second n (first n h)
 
 -- what one line after the other removes
 pub removed_both : (entries : List NameEntry) (a b c : BTreeSet ℕ) → RemovesUndefined entries a b → RemovesUndefined entries b c →

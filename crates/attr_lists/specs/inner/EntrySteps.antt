@@ -4,16 +4,17 @@ use Rattle.std.specs.List.{list_any}
 use Rattle.attr_lists.specs.declared.name_table.entry.Definition.{Definition}
 use Rattle.attr_lists.specs.declared.name_table.entry.NameEntry.{NameEntry}
 use Rattle.attr_lists.specs.Collections.{MacroDefinition}
-use Rattle.attr_lists.specs.Definitions.{bodies_defined, bodies_named, definition_of, is_of_list, of_other_lists, bodies_of_list}
+use Rattle.attr_lists.specs.Definitions.{bodies_named, definition_of, is_of_list, of_other_lists, bodies_of_list}
 use Rattle.attr_lists.specs.ListViews.{Entry}
 use Rattle.attr_lists.specs.Numbers.{number_of}
 use Rattle.attr_lists.specs.inner.EntryViews.{definitions_at}
+use Rattle.attr_lists.specs.inner.Registered.{NumberedBody, bodies_of_number}
 
--- the definitions of the lines were appended to those of their names
-abbrev pub AddsDefinitions : ℕ → List Entry → List NameEntry → List NameEntry → Type 0
-AddsDefinitions list_id lines old new =
+-- the bodies were appended to the definitions of their names
+abbrev pub AddsDefinitions : ℕ → List NumberedBody → List NameEntry → List NameEntry → Type 0
+AddsDefinitions list_id list old new =
     (number : ℕ) → number < length old →
-    definitions_at new number ≡ definitions_at old number ++ map (definition_of list_id) (bodies_defined number lines)
+    definitions_at new number ≡ definitions_at old number ++ map (definition_of list_id) (bodies_of_number number list)
 
 -- the definitions of all other lists stay
 abbrev pub KeepsOtherDefinitions : ℕ → List NameEntry → List NameEntry → Type 0

@@ -1,5 +1,7 @@
 -- The macros that the registered lists define, line by line (own).
-use Rattle.std.specs.Prelude.{◌≡◌, ◌≢◌, ℕ, ◌==◌, true, List, [], map, filter, slice_index_or, unwrap_or, option_map, Vec, All}
+use Rattle.std.specs.Prelude.{◌≡◌, ◌≢◌, ℕ, ◌==◌, true, false, List, [], map, filter, slice_index_or, unwrap_or, option_map, Vec, All}
+use Rattle.std.specs.BTreeSet.{BTreeSet, contains}
+use Rattle.std.specs.Ordering.{nat_cmp}
 use Rattle.attr_lists.specs.Collections.{Collection}
 use Rattle.attr_lists.specs.Definitions.{bodies_of_list, definitions_of, is_active}
 use Rattle.attr_lists.specs.Numbers.{number_of}
@@ -19,6 +21,10 @@ numbered_body m = record { number = m.id.0; body = m.macro_attributes.items }
 -- the bodies of this number, line by line
 abbrev pub bodies_of_number : ℕ → List NumberedBody → List (List TrackedAssignment)
 bodies_of_number number list = map (λ b. b.body) (filter (λ b. b.number == number) list)
+
+-- the list has no body of a number that isn't among these
+abbrev pub ListsBodies : BTreeSet ℕ → List NumberedBody → Type 0
+ListsBodies numbers list = (number : ℕ) → contains nat_cmp numbers number ≡ false → bodies_of_number number list ≡ []
 
 -- the bodies of the name, line by line, none if it is not among the names
 abbrev pub bodies_of_name : List (List ℕ) → List NumberedBody → List ℕ → List (List TrackedAssignment)

@@ -4,14 +4,13 @@ ghost use Rattle.std.specs.Bool.{OnFalse};
 ghost use Rattle.std.specs.List.{IsDistinct, list_any, list_all};
 ghost use Rattle.std.specs.Option.{option_to_list};
 ghost use Rattle.attr_lists.specs.Definitions.{bodies_named, bodies_of_list, definition_of, is_of_list, of_other_lists, last_body};
-ghost use Rattle.attr_lists.specs.KeptLists.{macro_valid, macros_valid};
 ghost use Rattle.attr_lists.specs.inner.EntrySteps.{AddsDefinitions, KeepsOtherDefinitions, RemovesAsMany, StaysWithout, PopsOwn, HasBodies, AgreesOn};
-ghost use Rattle.attr_lists.specs.inner.EntryViews.{numbered_view, definition_view, definitions_view, is_defined_in, all_definitions, definitions_at, definitions_by, AreValid, IsEntry, AreEntries};
+ghost use Rattle.attr_lists.specs.inner.EntryViews.{definition_view, definitions_view, is_defined_in, all_definitions, definitions_at, definitions_by, AreValid, IsEntry, AreEntries};
 ghost use Rattle.attr_lists.specs.inner.Registered.{numbered_body, registered_at, ListsNames};
 ghost use Rattle.attr_lists.specs.ListViews.{entry_view, entries_view};
 
 use crate::name_table::name_set::NameSet;
-use crate::name_table::numbers::{id_of, macro_name, number_of_text, numbered_copy};
+use crate::name_table::numbers::number_of_text;
 use crate::name_table::registered::{list_at, sort_by_number};
 use crate::types::{Assignments, AttributeId, Metadata, TrackedAssignment, Value};
 use attr_glob::search::pattern::Mapping;
@@ -261,52 +260,41 @@ pub(super) fn extend(
     Ok(())
 }
 
-/// Adds the definitions of a list.
+/// Adds the macros of a list to the definitions of their names.
 pub(super) fn define_list(
     alloc: Global,
-    names: &NameSet,
     entries: &mut [NameEntry],
     list_id: usize,
-    mappings: &[Mapping<Value>],
+    list: &[Metadata],
 ) -> Result<(), AllocError>
-    requires { macros_valid (entries_view mappings.now) ≡ true }
     ensures ok { OnOk result (AddsDefinitions list_id
-        (numbered_view names.now mappings.now) entries.old entries.new) }
+        (map numbered_body list.now) entries.old entries.new) }
     ensures others { KeepsOtherDefinitions list_id entries.old entries.new }
     ensures entries { AreEntries entries.old → AreEntries entries.new }
 {
-    for mapping in mappings {
-        define_line(alloc, names, entries, list_id, mapping)?;
+    for known in list {
+        define(alloc, entries, list_id, known)?;
     }
     Ok(())
 }
 
-fn define_line(
+fn define(
     alloc: Global,
-    names: &NameSet,
     entries: &mut [NameEntry],
     list_id: usize,
-    mapping: &Mapping<Value>,
+    known: &Metadata,
 ) -> Result<(), AllocError>
-    requires { macro_valid (entry_view mapping.now) ≡ true }
     ensures ok { OnOk result (AddsDefinitions list_id
-        (numbered_view names.now (mapping.now ∷ [])) entries.old entries.new) }
+        (numbered_body known.now ∷ []) entries.old entries.new) }
     ensures others { KeepsOtherDefinitions list_id entries.old entries.new }
     ensures entries { AreEntries entries.old → AreEntries entries.new }
 {
-    let Value::MacroAssignments { assignments, .. } = &mapping.value else {
-        return Ok(());
-    };
-    let id = id_of(names, macro_name(&mapping.pattern));
-    if id.0 >= entries.len() {
+    let own = known.id.0;
+    if own >= entries.len() {
         return Ok(());
     }
-    let macro_attributes = numbered_copy(alloc, names, assignments)?;
-    let metadata = Metadata {
-        id,
-        macro_attributes,
-    };
-    entries[id.0].define(list_id, metadata)?;
+    let metadata = known.clone(alloc)?;
+    entries[own].define(list_id, metadata)?;
     Ok(())
 }
 

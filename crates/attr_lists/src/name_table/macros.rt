@@ -1,52 +1,33 @@
 //! The numbers of the names that are macros.
 
-ghost use Rattle.std.specs.Prelude.{◌≡◌, ◌∷◌, [], true, OnOk};
+ghost use Rattle.std.specs.Prelude.{◌≡◌, [], OnOk, map};
 ghost use Rattle.std.specs.Bool.{OnFalse};
-ghost use Rattle.attr_lists.specs.KeptLists.{macro_valid, macros_valid};
-ghost use Rattle.attr_lists.specs.ListViews.{entry_view, entries_view};
-ghost use Rattle.attr_lists.specs.inner.EntryViews.{definitions_at, numbered_view, AreValid};
-ghost use Rattle.attr_lists.specs.shared.MacroNumbers.{KeepsNumbers, ListsDefined, RemovesUndefined};
+ghost use Rattle.attr_lists.specs.inner.EntryViews.{definitions_at, AreValid};
+ghost use Rattle.attr_lists.specs.inner.Registered.{ListsBodies, numbered_body};
+ghost use Rattle.attr_lists.specs.shared.MacroNumbers.{KeepsNumbers, RemovesUndefined};
 
 use crate::name_table::entry::NameEntry;
 use crate::name_table::name_set::NameSet;
-use crate::name_table::numbers::{id_of, macro_name, number_of_text};
-use crate::types::Value;
+use crate::name_table::numbers::number_of_text;
+use crate::types::{Metadata, Value};
 use attr_glob::search::pattern::Mapping;
 use std::alloc::AllocError;
 use std::collections::BTreeSet;
 
-/// Inserts the numbers of the macros that lines define.
+/// Inserts the numbers of the macros of a list.
 ///
 /// # Errors
 ///
 /// If memory runs out. Some of the numbers may have been inserted then.
 pub(super) fn insert_macros(
-    names: &NameSet,
     macros: &mut BTreeSet<usize>,
-    mappings: &[Mapping<Value>],
+    list: &[Metadata],
 ) -> Result<(), AllocError>
-    requires { macros_valid (entries_view mappings.now) ≡ true }
     ensures kept { KeepsNumbers macros.old macros.new }
-    ensures listed { OnOk result (ListsDefined macros.new (numbered_view names.now mappings.now)) }
+    ensures listed { OnOk result (ListsBodies macros.new (map numbered_body list.now)) }
 {
-    for mapping in mappings {
-        insert_macro(names, macros, mapping)?;
-    }
-    Ok(())
-}
-
-fn insert_macro(
-    names: &NameSet,
-    macros: &mut BTreeSet<usize>,
-    mapping: &Mapping<Value>,
-) -> Result<(), AllocError>
-    requires { macro_valid (entry_view mapping.now) ≡ true }
-    ensures kept { KeepsNumbers macros.old macros.new }
-    ensures listed { OnOk result
-        (ListsDefined macros.new (numbered_view names.now (mapping.now ∷ []))) }
-{
-    if let Value::MacroAssignments { .. } = &mapping.value {
-        macros.insert(id_of(names, macro_name(&mapping.pattern)).0)?;
+    for known in list {
+        macros.insert(known.id.0)?;
     }
     Ok(())
 }

@@ -84,11 +84,11 @@ impl Parts {
             self.new.macros (numbered_view self.new.names mappings.now)) }
     {
         numbers::insert_names(alloc, &mut self.names, recent, mappings)?;
-        macros::insert_macros(&self.names, &mut self.macros, mappings)?;
         entry::extend(alloc, &mut self.entries, self.names.len())?;
         let list = registered::numbered_macros(alloc, &self.names, mappings)?;
+        macros::insert_macros(&mut self.macros, &list)?;
+        entry::define_list(alloc, &mut self.entries, list_id, &list)?;
         registered::register(alloc, &mut self.registered, list_id, list)?;
-        entry::define_list(alloc, &self.names, &mut self.entries, list_id, mappings)?;
         mark_active(&mut self.active, list_id)?;
         Ok(())
     }

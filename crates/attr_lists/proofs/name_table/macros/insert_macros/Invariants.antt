@@ -1,11 +1,10 @@
-use Rattle.std.proofs.Common.{take}
-use Rattle.attr_lists.specs.shared.MacroNumbers.{KeepsNumbers, ListsDefined}
-use Rattle.attr_lists.specs.ListViews.{entries_view}
-use Rattle.attr_lists.specs.Numbers.{numbered_lines}
+use Rattle.std.proofs.Common.{map, take}
+use Rattle.attr_lists.specs.inner.Registered.{ListsBodies, numbered_body}
+use Rattle.attr_lists.specs.shared.MacroNumbers.{KeepsNumbers}
 use Rattle.attr_lists.proofs.name_table.macros.insert_macros.Given as goal
 
-abbrev pub invariant-loop-mapping : goal.invariant-loop-mapping
-invariant-loop-mapping l = record {
+abbrev pub invariant-loop-known : goal.invariant-loop-known
+invariant-loop-known l = record {
   kept : KeepsNumbers l.initial.macros l.macros;
-  listed : ListsDefined l.macros (numbered_lines l.names (entries_view (take l.mapping-index l.mappings)));
+  listed : ListsBodies l.macros (map numbered_body (take l.known-index l.list));
 }
