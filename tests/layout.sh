@@ -1,12 +1,12 @@
 #!/bin/sh
 # Checks that `rt fmt` would change no file of a crate, that no source forgets a value (a proof would let it, and what the value owns
-# would never be freed), and that a directory has one word. It takes two seconds. `rt ci` checks the layout too, but each crate when its
-# turn comes.
+# would never be freed) but the program, which ends then, and that a directory has one word. It takes two seconds. `rt ci` checks the
+# layout too, but each crate when its turn comes.
 set -eu
 cd "$(dirname "$0")/.."
 find crates -path '*/out' -prune -o \( -name '*.rt' -o -name '*.antt' \) -type f -exec rattle fmt --check {} + ||
     { echo 'layout: run `rt fmt` in the directory of each crate that is named above' >&2; exit 1; }
-if grep -rnw --include='*.rt' --exclude-dir=out forget crates; then
+if grep -rnw --include='*.rt' --exclude-dir=out forget crates | grep -v '^crates/check_attr/src/command\.rt:'; then
     echo 'layout: a value that is forgotten is never freed: drop it, or move it' >&2
     exit 1
 fi

@@ -1,5 +1,5 @@
 -- What is written of the answers of an engine: the text of the answers of the only stable table.
-use Rattle.std.proofs.Common.{List, [], ap}
+use Rattle.std.proofs.Common.{[], ap}
 use Rattle.std.specs.Prelude.{unwrap_or}
 use Rattle.std.specs.List.{flat_map}
 use Rattle.gix_attributes.specs.EngineStates.{AnswersTo, EngineContent}

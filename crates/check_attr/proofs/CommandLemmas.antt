@@ -1,25 +1,16 @@
 -- What the outcome of a run says, as one fact.
-use Rattle.std.proofs.Common.{◌≡◌, ◌⊎◌, inl, inr, ℕ, List, Option, Some, None, Result, Ok, Err, refl}
-use Rattle.std.specs.Prelude.{IfSome, IsErrOf, OnOk, OnErr}
+use Rattle.std.proofs.Common.{◌≡◌, ℕ, List, Option, Result, Ok, Err, refl, subst, sym}
+use Rattle.std.specs.Prelude.{IsErrAnd, IsErrOf, OnOk, OnErr}
 use Rattle.check_attr.specs.LinesText.{WritesLines, WritesLinesFront}
 use Rattle.check_attr.specs.Outcomes.{IsFlushedAfter}
-use Rattle.check_attr.specs.Program.{WritesLinesOutcome, WritesOutcome}
-use Rattle.check_attr.specs.ScriptText.{AppendsText, AppendsTextFront}
-use Rattle.check_attr.specs.ScriptStates.{GlobalLists}
+use Rattle.check_attr.specs.Program.{WritesLinesOutcome}
 use Rattle.check_attr.specs.declared.fault.Fault.{Fault}
 use Rattle.check_attr.specs.declared.fault.Fault.TheVariants.{Record, Read, Write, OutOfMemory}
 
--- the text that a script has written
-pub outcome_written : {T : Type 0} (globals : GlobalLists) (script old new : Option (List ℕ)) (r : Result T Fault)
-    → OnOk r (IfSome script (λ s. AppendsText globals s None old new))
-    → ((k : ℕ) → r ≡ Err (Record k) → IfSome script (λ s. AppendsText globals s (Some k) old new))
-    → (IsErrOf r Write ⊎ IsErrOf r OutOfMemory → IfSome script (λ s. AppendsTextFront globals s old new))
-    → (IsErrOf r Read → new ≡ old) → WritesOutcome globals script old new r
-outcome_written globals script old new (Ok x) ok malformed front unread = ok
-outcome_written globals script old new (Err (Record k)) ok malformed front unread = malformed k refl
-outcome_written globals script old new (Err Read) ok malformed front unread = unread refl
-outcome_written globals script old new (Err Write) ok malformed front unread = front (inl refl)
-outcome_written globals script old new (Err OutOfMemory) ok malformed front unread = front (inr refl)
+-- what holds of a fault holds of the result that has it
+pub returned : {T : Type 0} (P : Result T Fault → Type 0) (r : Result T Fault) (fault : Fault) → IsErrAnd r (λ e. e ≡ fault) → P (Err fault) → P r
+returned P (Ok x) fault is p = absurd is
+returned P (Err e) fault is p = subst (λ f. P (Err f)) (sym is) p
 
 -- the lines text that was written
 pub lines_written : {T : Type 0} (input old new : Option (List ℕ)) (r : Result T Fault) → OnOk r (WritesLines input old new)

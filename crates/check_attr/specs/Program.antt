@@ -8,8 +8,9 @@ use Rattle.check_attr.specs.Failures.{AppendsFront, CountsOneEnd}
 use Rattle.check_attr.specs.LinesText.{WritesLines, WritesLinesFront}
 use Rattle.gix_attributes.specs.declared.search.files.AddError.{AddError}
 use Rattle.gix_attributes.specs.declared.search.files.AddError.TheVariants.{Io, OutOfMemory as NoMemory}
-use Rattle.check_attr.specs.ScriptText.{WritesText, WritesTextFront}
-use Rattle.check_attr.specs.ScriptStates.{GlobalLists}
+use Rattle.gix_attributes.specs.EngineStates.{EngineState}
+use Rattle.check_attr.specs.ScriptText.{WritesFrontFrom, WritesTextFrom}
+use Rattle.check_attr.specs.ScriptStates.{GlobalLists, initial_state}
 use Rattle.check_attr.specs.declared.fault.Fault.{Fault}
 use Rattle.check_attr.specs.declared.fault.Fault.TheVariants.{Record, Read, Write, OutOfMemory}
 
@@ -62,11 +63,16 @@ WritesLinesOutcome input old new (Err Read) = new ≡ old
 WritesLinesOutcome input old new (Err Write) = WritesLinesFront input old new
 WritesLinesOutcome input old new (Err OutOfMemory) = WritesLinesFront input old new
 
--- the text that a script from these lists has written, by the outcome of its run
+-- the text that a script from this state has written, by the outcome of its run
+abbrev pub WritesOutcomeFrom : {T : Type 0} → EngineState → Option (List ℕ) → Option (List ℕ) → Option (List ℕ) → Result T Fault
+    → Type 0
+WritesOutcomeFrom s script old new (Ok x) = WritesTextFrom s script None old new
+WritesOutcomeFrom s script old new (Err (Record k)) = WritesTextFrom s script (Some k) old new
+WritesOutcomeFrom s script old new (Err Read) = new ≡ old
+WritesOutcomeFrom s script old new (Err Write) = WritesFrontFrom s script old new
+WritesOutcomeFrom s script old new (Err OutOfMemory) = WritesFrontFrom s script old new
+
+-- the same from these lists
 abbrev pub WritesOutcome : {T : Type 0} → GlobalLists → Option (List ℕ) → Option (List ℕ) → Option (List ℕ) → Result T Fault
     → Type 0
-WritesOutcome globals script old new (Ok x) = WritesText globals script None old new
-WritesOutcome globals script old new (Err (Record k)) = WritesText globals script (Some k) old new
-WritesOutcome globals script old new (Err Read) = new ≡ old
-WritesOutcome globals script old new (Err Write) = WritesTextFront globals script old new
-WritesOutcome globals script old new (Err OutOfMemory) = WritesTextFront globals script old new
+WritesOutcome globals = WritesOutcomeFrom (initial_state globals)

@@ -97,19 +97,19 @@ abbrev pub AppendsFrontFrom : EngineState → List ℕ → Option (List ℕ) →
 AppendsFrontFrom s script old new =
     (malformed : Option ℕ) × (text : List ℕ) × Writes s 1 script malformed text × AppendsFront old new text
 
--- the same from the global lists
-abbrev pub AppendsText : GlobalLists → List ℕ → Option ℕ → Option (List ℕ) → Option (List ℕ) → Type 0
-AppendsText globals = AppendsTextFrom (initial_state globals)
-
-abbrev pub AppendsTextFront : GlobalLists → List ℕ → Option (List ℕ) → Option (List ℕ) → Type 0
-AppendsTextFront globals = AppendsFrontFrom (initial_state globals)
-
 -- the same, if the bytes of the script are known
+abbrev pub WritesTextFrom : EngineState → Option (List ℕ) → Option ℕ → Option (List ℕ) → Option (List ℕ) → Type 0
+WritesTextFrom s script malformed old new = IfSome script (λ known. AppendsTextFrom s known malformed old new)
+
+abbrev pub WritesFrontFrom : EngineState → Option (List ℕ) → Option (List ℕ) → Option (List ℕ) → Type 0
+WritesFrontFrom s script old new = IfSome script (λ known. AppendsFrontFrom s known old new)
+
+-- the same from the global lists
 abbrev pub WritesText : GlobalLists → Option (List ℕ) → Option ℕ → Option (List ℕ) → Option (List ℕ) → Type 0
-WritesText globals script malformed old new = IfSome script (λ s. AppendsText globals s malformed old new)
+WritesText globals = WritesTextFrom (initial_state globals)
 
 abbrev pub WritesTextFront : GlobalLists → Option (List ℕ) → Option (List ℕ) → Option (List ℕ) → Type 0
-WritesTextFront globals script old new = IfSome script (λ s. AppendsTextFront globals s old new)
+WritesTextFront globals = WritesFrontFrom (initial_state globals)
 
 -- the text that records write from a state, one after the other
 abbrev pub IsTextOfRecords : EngineState → List Record → List ℕ → Type 0

@@ -14,16 +14,18 @@ use crate::fault::Fault;
 use crate::global_lists::{Globals, read_globals};
 use crate::line_report::lines;
 use crate::reading::Pull;
-use crate::script_run::run;
+use crate::script_run::run_over;
 use crate::writing::{Push, write_all};
 use gix_attributes::files::Files;
 use gix_attributes::search::{AddError, Dropped};
 use itoa::Buffer;
 use std::alloc::{AllocError, Global};
+use std::mem::forget;
 
 /// Runs the program with the arguments after its name, and returns its status. If the one argument
 /// is `--lines`, it runs [`lines`]. Else the arguments are names of global files, and it runs a
-/// script over their lists with [`run`].
+/// script over their lists, as [`run`](crate::run) does. It does not free the lists, since the process
+/// is to end.
 ///
 /// The status is 0 after success, 2 after a malformed record and else 1. The lines that global files
 /// leave out are printed on `errors` before the script is read, and at the end a line for a run that
@@ -72,7 +74,11 @@ pub fn program<F: Files, R: Pull, W: Push, E: Push>(
     match load(alloc, files, args) {
         Ok((globals, text)) => {
             print(errors, &text);
-            let outcome = run(alloc, reader, writer, globals);
+            let mut engine = globals.into_engine(alloc);
+            let outcome = run_over(alloc, reader, writer, &mut engine);
+
+            // The process ends, and the system takes its memory back faster than the lists are freed one by one.
+            forget(engine);
             finish(errors, &outcome)
         }
         Err(error) => {

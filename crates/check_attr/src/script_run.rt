@@ -2,7 +2,8 @@
 
 ghost use Rattle.std.specs.Prelude.{◌≡◌, ◌≢◌, ◌⊎◌, ℕ, [], None, Some, Err, OnOk, IsErrOf};
 ghost use Rattle.std.specs.Io.KnownBytes.{IsAtEnd};
-ghost use Rattle.check_attr.specs.Outcomes.{CountsReads, CountsWrites, ReadsInputFirst};
+ghost use Rattle.check_attr.specs.Outcomes.{CountsReads, CountsWrites, ReadsInputFirst, UsesReader, UsesWriter};
+ghost use Rattle.check_attr.specs.Program.{WritesOutcomeFrom};
 ghost use Rattle.check_attr.specs.ScriptText.{AppendsFrontFrom, AppendsTextFrom, WritesText, WritesTextFront};
 ghost use Rattle.check_attr.specs.inner.PassedText.{PassesScript};
 
@@ -51,8 +52,26 @@ pub fn run<R: Pull, W: Push>(
     ensures writes { CountsWrites result (W.failed writer.old) (W.failed writer.new)
         (W.stalled writer.old) (W.stalled writer.new) }
 {
+    let mut engine = globals.into_engine(alloc);
+    run_over(alloc, reader, writer, &mut engine)
+}
+
+// Reads a script and plays it over an engine, which stays: the caller frees it, or lets it be if the process ends.
+pub(crate) fn run_over<R: Pull, W: Push>(
+    alloc: Global,
+    reader: &mut R,
+    writer: &mut W,
+    engine: &mut Engine,
+) -> Result<(), Fault>
+    ensures written { WritesOutcomeFrom engine.old.state (R.remaining reader.old)
+        (W.contents writer.old) (W.contents writer.new) result }
+    ensures first { ReadsInputFirst (R.remaining reader.new) writer.old writer.new }
+    ensures end { (k : ℕ) → result ≡ Err (Fault.Record k) → IsAtEnd (R.remaining reader.new) }
+    ensures reader { UsesReader R.remaining R.failed reader.old reader.new result }
+    ensures writer { UsesWriter W.failed W.stalled W.Flushed writer.old writer.new result }
+{
     let script = read_all(alloc, reader)?;
-    play(alloc, &script, globals.into_engine(alloc), writer)
+    play_over(alloc, &script, engine, writer)
 }
 
 /// Plays a script that is in memory over an engine: adds and removes lists, selects names, and looks
@@ -67,7 +86,7 @@ pub fn run<R: Pull, W: Push>(
 pub fn play<W: Push>(
     alloc: Global,
     script: &[u8],
-    engine: Engine,
+    mut engine: Engine,
     writer: &mut W,
 ) -> Result<(), Fault>
     ensures ok { OnOk result (AppendsTextFrom engine.state script.now None
@@ -83,29 +102,28 @@ pub fn play<W: Push>(
     ensures writes { CountsWrites result (W.failed writer.old) (W.failed writer.new)
         (W.stalled writer.old) (W.stalled writer.new) }
 {
+    play_over(alloc, script, &mut engine, writer)
+}
+
+// Plays a script over an engine, which stays.
+fn play_over<W: Push>(
+    alloc: Global,
+    script: &[u8],
+    engine: &mut Engine,
+    writer: &mut W,
+) -> Result<(), Fault>
+    ensures written { WritesOutcomeFrom engine.old.state (Some script.now)
+        (W.contents writer.old) (W.contents writer.new) result }
+    ensures read { result ≢ Err Fault.Read }
+    ensures writer { UsesWriter W.failed W.stalled W.Flushed writer.old writer.new result }
+{
     let mut held = Held::of(Vec::new(alloc));
-    let malformed = answer_by(alloc, script, engine, writer, &mut held)?;
+    let malformed = answer(alloc, script, engine, writer, &mut held)?;
     write_all(writer, held.text())?;
     match malformed {
         None => Ok(()),
         Some(number) => Err(Fault::Record(number)),
     }
-}
-
-// Plays a script over an engine, which ends with it. A function that owns an engine drops all its parts wherever it can
-// return, so this one returns once.
-fn answer_by<W: Push>(
-    alloc: Global,
-    script: &[u8],
-    mut engine: Engine,
-    writer: &mut W,
-    held: &mut Held,
-) -> Result<Option<usize>, Fault>
-    requires { held.old ≡ [] }
-    ensures { PassesScript W.contents W.failed W.stalled engine.state script.now
-        writer.old writer.new held.new result }
-{
-    answer(alloc, script, &mut engine, writer, held)
 }
 
 // Writes the text of a script up to its first malformed record, in pieces. What is left of the text is in `held`.

@@ -1,8 +1,8 @@
 use Rattle.std.proofs.Common.{◌∙◌, inr, map, refl, string_bytes, sym, ap, subst}
 use Rattle.check_attr.specs.GlobalFiles.{all_dropped_text, loaded_from}
-use Rattle.check_attr.specs.Program.{Prints, WritesOutcome}
-use Rattle.check_attr.specs.ScriptStates.{GlobalLists}
-use Rattle.check_attr.proofs.CommandLemmas.{flushed_after, lines_written, outcome_written}
+use Rattle.check_attr.specs.Program.{Prints, WritesOutcomeFrom}
+use Rattle.check_attr.specs.ScriptStates.{initial_state}
+use Rattle.check_attr.proofs.CommandLemmas.{flushed_after, lines_written}
 use Rattle.check_attr.proofs.command.program.Goals as goal
 
 pub returns-then-is_lines_alone-clause-lines : goal.returns-then-is_lines_alone-clause-lines
@@ -26,16 +26,11 @@ returns-then-is_lines_alone-clause-lines g c = λ alone.
 pub returns-in-Ok-clause-script : goal.returns-in-Ok-clause-script
 returns-in-Ok-clause-script g c = λ other.
     let loaded = c.in-Ok.ensures.loaded in
-    let ran = c.run-outcome.ensures in
-    let outcome = c.run-outcome.result in
+    let ran = c.run_over-outcome.ensures in
+    let outcome = c.run_over-outcome.result in
     let text =
     ap (λ l. all_dropped_text (map string_bytes c.args.args.now) l.dropped) loaded.2
     ∙ ap (λ names. all_dropped_text names (loaded_from loaded.0).dropped) (sym loaded.1.named) in
-    let written = outcome_written c.in-Ok.globals (g.R.Pull.remaining c.args.reader.now) (g.W.Push.contents c.args.writer.now)
-    (g.W.Push.contents c.run-outcome.new.writer) outcome ran.ok ran.malformed ran.front (λ e. ap g.W.Push.contents (ran.unread e)) in
-    let Written : GlobalLists → Type 0 =
-    λ globals. WritesOutcome globals (g.R.Pull.remaining c.args.reader.now) (g.W.Push.contents c.args.writer.now)
-    (g.W.Push.contents c.run-outcome.new.writer) outcome in
     inr (
       loaded.0,
       loaded.1,
@@ -44,12 +39,9 @@ returns-in-Ok-clause-script g c = λ other.
           (c.deref.ensures.value ∙ (loaded.3 ∙ text)) c.print.ensures,
       outcome,
       c.finish-in-Ok.ensures.status,
-      subst Written loaded.2 written,
-      record { counts = ran.reads; end = ran.end },
-      record {
-        counts = ran.writes;
-        unread = ran.unread;
-        flushed = flushed_after (g.W.Push.Flushed c.run-outcome.new.writer) outcome ran.flushed ran.flushed_before;
-      },
+      subst (λ s. WritesOutcomeFrom s (g.R.Pull.remaining c.args.reader.now) (g.W.Push.contents c.args.writer.now)
+          (g.W.Push.contents c.run_over-outcome.new.writer) outcome) (c.into_engine-engine.ensures ∙ ap initial_state loaded.2) ran.written,
+      ran.reader,
+      ran.writer,
       c.finish-in-Ok.ensures.printed,
     )
