@@ -543,7 +543,7 @@ def answers_of_one(n):
 
 @case(1_250)
 def dropped(n):
-    """n lines that are left out, of a source of 8 n bytes"""
+    """n dropped lines, of a source of 8 n bytes"""
     return add(b"!b a\n" * n, "x" * (8 * n))
 
 

@@ -33,13 +33,13 @@ class Answer(NamedTuple):
 
 
 class Dropped(NamedTuple):
-    """A line that is left out, and why."""
+    """A dropped line, and why."""
     line: int
     reason: str
 
 
 class Added(NamedTuple):
-    """A list that was added: its index, from 0, where the built-in list is the first one, and the lines that are left out."""
+    """A list that was added: its index, from 0, where the built-in list is the first one, and its dropped lines."""
     list_index: int
     dropped: list[Dropped]
 
@@ -143,7 +143,7 @@ class Engine:
             self._library.yektrod_close(self._slot)
 
     def add(self, contents: bytes, source: Path, root: Optional[Path] = '', allow_macros: bool = True) -> list[Dropped]:
-        """Adds the list of an attributes file as the last one, which takes precedence. Returns the lines that are left out.
+        """Adds the list of an attributes file as the last one, which takes precedence. Returns the dropped lines.
 
         The patterns apply to the paths in the directory of `source`, as it is seen from `root`; if `root` is None, to all paths.
         Both have to be UTF-8.

@@ -22,7 +22,7 @@ class File(NamedTuple):
 
 
 class DroppedLines(NamedTuple):
-    """The lines of a file that are left out, one at least."""
+    """The dropped lines of a file, one at least."""
     source: str
     lines: list[Dropped]
 
@@ -124,8 +124,8 @@ class Stack:
             return [self._ask(path, is_dir) for path in asked]
 
     def take_dropped(self) -> list[DroppedLines]:
-        """The lines that are left out of the files that were added since the last call, once for each file. Definitions of
-        macros in files below the top are left out without being told."""
+        """The dropped lines of the files that were added since the last call, once for each file. Definitions of
+        macros in files below the top are dropped without being told."""
         with self._lock:
             taken, self._dropped = self._dropped, []
             return taken

@@ -28,7 +28,7 @@ unnumbered = record { 0 = no_number }
 abbrev pub tracked : Assignment → TrackedAssignment
 tracked assignment = record { id = unnumbered; inner = assignment }
 
--- why a list leaves out a line with this item
+-- why a list drops a line with this item
 abbrev pub reason_of : Refusal → DropReason
 reason_of (invalid_name name) = InvalidName
 reason_of (reserved name) = Reserved
@@ -71,7 +71,7 @@ lines_left_out lines = filter_map (λ line. result_err (line_read line)) lines
 abbrev pub kept_list : List ℕ → List Entry
 kept_list bytes = kept_lines (results_of bytes)
 
--- the lines of a buffer that a list leaves out
+-- the lines of a buffer that a list drops
 abbrev pub dropped_lines : List ℕ → List Dropped
 dropped_lines bytes = lines_left_out (results_of bytes)
 

@@ -49,7 +49,7 @@ impl search::Pattern for Attributes {
     }
 }
 
-/// Reads a buffer as the mappings of a list, and returns them with the lines that are left out. The items share their names and
+/// Reads a buffer as the mappings of a list, and returns them with the dropped lines. The items share their names and
 /// values with those that are known.
 ///
 /// # Errors

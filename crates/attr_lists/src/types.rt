@@ -36,16 +36,16 @@ pub struct TrackedAssignment {
     pub inner: Assignment,
 }
 
-/// A line of an attributes file that a list leaves out (own: `gix-attributes` only logs such lines).
+/// A line of an attributes file that a list drops (own: `gix-attributes` only logs such lines).
 #[derive(Clone, Copy, PartialEq, Eq, Debug)]
 pub struct Dropped {
     /// The number of the line, from 1.
     pub line: usize,
-    /// Why the list leaves it out.
+    /// Why the list drops it.
     pub reason: DropReason,
 }
 
-/// Why a line is left out.
+/// Why a line is dropped.
 #[derive(Clone, Copy, PartialEq, Eq, Debug)]
 pub enum DropReason {
     /// The line defines a macro, and its name is invalid or reserved.

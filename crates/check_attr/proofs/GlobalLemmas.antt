@@ -1,4 +1,4 @@
--- The lines that global files leave out.
+-- The lines that global files drop.
 use Rattle.std.proofs.Common.{◌≡◌, ◌∙◌, ◌⊎◌, inl, inr, ℕ, List, [], ◌∷◌, ◌++◌, map, sym, ap}
 use Rattle.std.proofs.Common.{append_assoc, Vec, String, Global, string_bytes}
 use Rattle.std.specs.List.{flat_map}
@@ -7,7 +7,7 @@ use Rattle.gix_attributes.specs.declared.search.Dropped.{Dropped}
 use Rattle.check_attr.specs.GlobalFiles.{all_dropped_text}
 use Rattle.check_attr.specs.ScriptText.{dropped_text}
 
--- the lines that files leave out, for names and lines that are texts and vectors
+-- the lines that files drop, for names and lines that are texts and vectors
 abbrev pub dropped_report_of : List (String Global) → List (Vec Dropped Global) → List ℕ
 dropped_report_of names dropped = all_dropped_text (map string_bytes names) (map (λ lines. lines.items) dropped)
 

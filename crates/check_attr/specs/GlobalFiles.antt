@@ -29,12 +29,12 @@ abbrev pub RefusedAt : List (List ℕ) → List FileRead → AddError → Type 0
 RefusedAt names read error = (left : Collection) × RefusesGlobals names read empty_collection left error
 
 -- the files of the names are refused with this error: by these reads, or because memory ran out for the text of the lines that
--- they leave out
+-- they drop
 abbrev pub RefusesNames : {F : Type 0} → (F → List ℕ → ReadAnswer → F → Type 0) → List (List ℕ) → F → F → AddError → Type 0
 RefusesNames reads names old new error =
     ((read : List FileRead) × ReadInOrder reads old read new × RefusedAt names read error)
     ⊎ ((error ≡ OutOfMemory) × (read : List FileRead) × ReadsNames reads names old read new)
 
--- a line for each line that the file of one of these names leaves out, file by file
+-- a line for each line that the file of one of these names drops, file by file
 abbrev pub all_dropped_text : List (List ℕ) → List (List Dropped) → List ℕ
 all_dropped_text names dropped = flat_map (λ file. flat_map (dropped_text file.0) file.1) (zip names dropped)

@@ -5,7 +5,7 @@ use Rattle.gix_attributes.specs.ListView.{Listed}
 use Rattle.gix_attributes.specs.EngineStates.{EngineState, state_selecting, state_with_list, state_without_last}
 use Rattle.check_attr.specs.Script.{Record, add, pop, names, ask}
 
--- the state before a script: the names and the lists of global files, and for each of these files the lines that it leaves out
+-- the state before a script: the names and the lists of global files, and for each of these files the lines that it drops
 pub record GlobalLists : Type 0 where
   pub names : List (List ℕ)
   pub lists : List Listed

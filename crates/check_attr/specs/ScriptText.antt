@@ -1,4 +1,4 @@
--- The text that a script writes (own): the lines that its lists leave out, and for each question the answers of the only stable
+-- The text that a script writes (own): the lines that its lists drop, and for each question the answers of the only stable
 -- table. The form of answers is that of the git-check-attr page; the form with origins is own.
 use Rattle.std.specs.Prelude.{◌≡◌, ◌≢◌, ℕ, ◌+◌, List, [], ◌∷◌, ◌++◌, length, Option, Some, None, IfSome, slice_index_or, codes, All}
 use Rattle.std.specs.List.{flat_map}
@@ -22,14 +22,14 @@ use Rattle.check_attr.specs.ScriptStates.{GlobalLists, next_state, initial_state
 use Rattle.check_attr.specs.declared.script.Form.{Form}
 use Rattle.check_attr.specs.declared.script.Form.TheVariants as forms
 
--- why a line is left out
+-- why a line is dropped
 abbrev pub reason_word : DropReason → List ℕ
 reason_word MacroName = codes "macro-name"
 reason_word NegativePattern = codes "negative"
 reason_word InvalidName = codes "attribute-name"
 reason_word Reserved = codes "reserved"
 
--- the text of a line that a source leaves out
+-- the text of a line that a source drops
 abbrev pub dropped_text : List ℕ → Dropped → List ℕ
 dropped_text source dropped =
     codes "dropped: " ++ source ++ codes ":" ++ decimal dropped.line ++ codes ": " ++ reason_word dropped.reason ++ codes "\n"

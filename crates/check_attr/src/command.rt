@@ -28,7 +28,7 @@ use std::mem::forget;
 /// is to end.
 ///
 /// The status is 0 after success, 2 after a malformed record and else 1. The lines that global files
-/// leave out are printed on `errors` before the script is read, and at the end a line for a run that
+/// drop are printed on `errors` before the script is read, and at the end a line for a run that
 /// ended early. A failure of `errors` is ignored.
 pub fn program<F: Files, R: Pull, W: Push, E: Push>(
     alloc: Global,
@@ -48,7 +48,7 @@ pub fn program<F: Files, R: Pull, W: Push, E: Push>(
         × PrintsOutcome E.contents E.failed E.stalled E.Flushed errors.old errors.new outcome }
 
     // If the device fails or memory runs out, the global files are not read, nor is the script.
-    // Else the lines that they leave out are printed, and the script runs over their lists.
+    // Else the lines that they drop are printed, and the script runs over their lists.
     ensures script { (IsLinesAlone args.now → ⊥) →
         ((e : AddError) × (result ≡ 1) × (reader.new ≡ reader.old) × (writer.new ≡ writer.old)
         × RefusesNames F.reads (map string_bytes args.now) files.old files.new e
@@ -88,7 +88,7 @@ pub fn program<F: Files, R: Pull, W: Push, E: Push>(
     }
 }
 
-// The global lists, and the text of the lines that their files leave out.
+// The global lists, and the text of the lines that their files drop.
 fn load<F: Files>(
     alloc: Global,
     files: &mut F,
@@ -108,7 +108,7 @@ fn load<F: Files>(
     Ok((globals, text))
 }
 
-// A line for each line that the file of one of these names leaves out.
+// A line for each line that the file of one of these names drops.
 fn dropped_report(
     alloc: Global,
     names: &[String],

@@ -1,4 +1,4 @@
-//! The text that reports dropped lines: those that lists leave out.
+//! The text that reports the lines that lists drop.
 
 ghost use Rattle.std.specs.Prelude.{◌≡◌, ◌++◌, OnOk};
 ghost use Rattle.std.specs.List.{flat_map};

@@ -144,7 +144,7 @@ fn push_refused(error: &Error, out: &mut String) -> Result<(), AllocError> {
     }
 }
 
-/// The lines of a file that its list keeps, and those that are left out. A copy of each line is made, which has to be equal.
+/// The lines of a file that its list keeps, and those that it drops. A copy of each line is made, which has to be equal.
 pub(crate) fn kept(row: &Row, answer: &mut Answer) -> Result<(), Fault> {
     let (mappings, dropped) = Attributes.bytes_to_patterns(answer.alloc, row.bytes(0), "")?;
     if !are_copied(answer.alloc, &mappings)? {
@@ -163,7 +163,7 @@ pub(crate) fn are_copied(alloc: Global, mappings: &[Mapping<Value>]) -> Result<b
     Ok(all)
 }
 
-/// How many lines of a file its list keeps, and how many are left out.
+/// How many lines of a file its list keeps, and how many it drops.
 pub(crate) fn kept_counts(row: &Row, answer: &mut Answer) -> Result<(), Fault> {
     let (mappings, dropped) = Attributes.bytes_to_patterns(answer.alloc, row.bytes(0), "")?;
     answer.number(mappings.len())?;
@@ -204,7 +204,7 @@ fn push_mapping(mapping: &Mapping<Value>, out: &mut String) -> Result<(), AllocE
     out.push(';')
 }
 
-/// Adds a field with the lines that are left out: of each its number, and why it is.
+/// Adds a field with the dropped lines: of each its number, and why it is.
 pub(crate) fn push_dropped(dropped: &[Dropped], answer: &mut Answer) -> Result<(), Fault> {
     let mut out = String::new(answer.alloc);
     for line in dropped {

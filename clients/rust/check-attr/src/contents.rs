@@ -28,7 +28,7 @@ pub struct Lines {
 
 impl Lines {
     /// Leaves out what git leaves out, and no line as such: each keeps its number. `allows_macros` is false in the file of a
-    /// directory below the top, whose macros the engine leaves out without a word.
+    /// directory below the top, whose macros the engine drops without a word.
     pub fn read(mut contents: Vec<u8>, kind: Kind, name: &[u8], allows_macros: bool) -> Lines {
         let end = contents.iter().position(|&byte| byte == 0);
         match (kind, end) {

@@ -1,4 +1,4 @@
-//! The lines of attributes files, as gitattributes(5) has them, and that the library leaves out the same lines.
+//! The lines of attributes files, as gitattributes(5) has them, and that the library drops the same lines.
 
 use bstr::BStr;
 use gix_attributes::{Assignment, NameRef, State, StateRef, parse};

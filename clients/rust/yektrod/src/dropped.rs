@@ -1,4 +1,4 @@
-//! Lines that are left out.
+//! Dropped lines.
 
 use crate::sys;
 use std::fmt;

@@ -89,7 +89,7 @@ impl Engine {
     }
 
     /// Adds the list of an attributes file as the last one, which takes precedence. Without `allow_macros` its definitions of
-    /// macros are left out.
+    /// macros are dropped.
     ///
     /// ```
     /// # fn main() -> Result<(), yektrod::Error> {

@@ -204,7 +204,7 @@ impl<R: Reader> Stack<R> {
 
     /// The dropped lines of the files that were added since the last call. Those of a file are handed out once, when it is
     /// first added (once more after ten thousand other files with dropped lines). Definitions of macros in files below the top
-    /// are left out without being told.
+    /// are dropped without being told.
     pub fn take_dropped(&mut self) -> Vec<DroppedLines> {
         mem::take(&mut self.lists.dropped)
     }

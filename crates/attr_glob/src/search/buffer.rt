@@ -13,14 +13,14 @@ pub trait Pattern {
     /// What a line assigns, beside its pattern.
     type Value: PartialEq + Eq + PartialOrd + Ord + Hash + fmt::Debug + Clone + Drop;
 
-    /// What is reported of a line that is left out.
+    /// What is reported of a dropped line.
     type Dropped: Drop;
 
-    // What a buffer from a source becomes: its mappings, and what is reported of the lines that are left out.
+    // What a buffer from a source becomes: its mappings, and what is reported of the dropped lines.
     ghost reads: { Self → List ℕ → List ℕ →
         List (Mapping Self.Value) → List Self.Dropped → Type 0 };
 
-    /// Reads a buffer, and returns its mappings and what is reported of the lines that are left out. `source` is the
+    /// Reads a buffer, and returns its mappings and what is reported of the dropped lines. `source` is the
     /// path of its file.
     ///
     /// # Errors

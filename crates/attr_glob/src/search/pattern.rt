@@ -73,7 +73,7 @@ pub struct List<T: search::Pattern> {
 }
 
 impl<T: search::Pattern + Drop> List<T> {
-    /// Reads a buffer as a list, and returns it with what is reported of the lines that are left out. `source` is the
+    /// Reads a buffer as a list, and returns it with what is reported of the dropped lines. `source` is the
     /// path of the file. The list applies below the file's directory (gitattributes page), relative to `root`. Without a
     /// root, or if the directory isn't below it, the list applies to all paths.
     ///

@@ -16,10 +16,10 @@ use Rattle.attr_lists.specs.KeptLists.{line_read}
 abbrev pub given_by : Kind → List (Result Assignment Refusal) → ℕ → Given
 given_by kind items line = record { target = target_view kind; items = items; line = line }
 
--- the entry of a line, or why it is left out, if memory did not run out
+-- the entry of a line, or why it is dropped, if memory did not run out
 abbrev pub IsLineRead : Option LineResult → Result Entry Dropped → Type 0
 IsLineRead line read = MatchOption line ⊥ (λ x. read ≡ line_read x)
 
--- the view of a line, or why it is left out
+-- the view of a line, or why it is dropped
 abbrev pub kept_line_view : Result (Mapping Value) Dropped → Result Entry Dropped
 kept_line_view line = result_map_both entry_view (λ dropped. dropped) line

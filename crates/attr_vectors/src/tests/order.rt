@@ -1,4 +1,4 @@
-//! The program prints the lines that global files leave out, and flushes them, before it reads its script. A contract knows no order
+//! The program prints the lines that global files drop, and flushes them, before it reads its script. A contract knows no order
 //! of calls of two devices, so here a cell tells the reader how much standard error has flushed.
 use super::argument;
 use check_attr::{Reader, Writer, program};
@@ -47,7 +47,7 @@ impl<'a> Read for Waiting<'a> {
     }
 }
 
-// The status of the program with a global file that has two lines left out.
+// The status of the program with a global file with two dropped lines.
 fn status(alloc: Global, script: &[u8], text: &mut Vec<u8>) -> Result<u8, AllocError> {
     let flushed = Cell::new(0);
     let mut files = Memory::new(alloc);

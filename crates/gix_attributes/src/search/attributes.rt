@@ -64,7 +64,7 @@ impl Search {
     }
 
     /// Reads an attributes file's bytes as a list, adds it as the last one, and registers it in the collection. Returns
-    /// the dropped lines: those that the list leaves out, each with its reason.
+    /// the dropped lines, which the list lacks, each with its reason.
     ///
     /// `source` is the path of the file. The patterns apply to the paths in the file's directory, relative to `root`.
     /// Without a root, or if the file is elsewhere, they apply to all paths. If macros are not allowed, the lines that

@@ -150,7 +150,7 @@ impl MetadataCollection {
         self.numbering.iter()
     }
 
-    // Reads a buffer as the mappings of a list, and returns them with the lines that are left out.
+    // Reads a buffer as the mappings of a list, and returns them with the dropped lines.
     pub(crate) fn read_buffer(
         &mut self,
         alloc: Global,

@@ -25,7 +25,7 @@ use thiserror::Error;
 pub struct Added {
     /// Whether the file exists, so that its list was added.
     pub was_added: bool,
-    /// The dropped lines of the file: those that its list leaves out.
+    /// The dropped lines of the file, which its list lacks.
     pub dropped: Vec<Dropped>,
 }
 

@@ -16,7 +16,7 @@ pub struct Attributes;
 impl gix_glob::search::Pattern for Attributes {
     type Value = Value;
 
-    /// The lines of the file. One that is not valid is left out, with a warning to the log.
+    /// The lines of the file. One that is not valid is dropped, with a warning to the log.
     fn bytes_to_patterns(&self, bytes: &[u8], source: &Path) -> Vec<Mapping<Value>> {
         mappings(bytes, source, true, |name| (AttributeId::default(), name.to_owned()))
     }

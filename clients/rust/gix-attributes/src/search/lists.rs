@@ -80,7 +80,7 @@ impl Search {
 
     /// Adds the list of an attributes file as the last one, which takes precedence, and its names to the collection. It
     /// applies to the paths in the directory of `source`, as that is seen from `root`; without a root, to all paths. Without
-    /// `allow_macros` the lines that define macros are left out. So are lines that are not valid, with a warning to the log.
+    /// `allow_macros` the lines that define macros are dropped. So are lines that are not valid, with a warning to the log.
     ///
     /// # Errors
     ///

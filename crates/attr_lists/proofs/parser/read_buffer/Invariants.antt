@@ -1,4 +1,4 @@
--- The entries so far, with those of the lines that are left, are the entries of all lines; and so for the lines left out.
+-- The entries so far, with those of the lines that are left, are the entries of all lines; and so for the dropped lines.
 use Rattle.std.proofs.Common.{◌≡◌, ◌++◌}
 use Rattle.attr_lists.specs.ListViews.{entries_view}
 use Rattle.attr_lists.specs.KeptLists.{kept_lines, lines_left_out, kept_list, dropped_lines}
