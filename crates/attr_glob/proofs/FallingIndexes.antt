@@ -1,11 +1,11 @@
 -- Indexes that fall and are just those of the lines that pass a test.
-use Rattle.std.proofs.Common.{◌≡◌, ◌≢◌, ℕ, zero, suc, ◌+◌, ◌<◌, ◌≤◌, Bool, true, false, ◌||◌, List, [], ◌∷◌, ◌++◌, length, reverse, Option, Some}
+use Rattle.std.proofs.Common.{◌≡◌, ◌≢◌, ℕ, zero, suc, ◌+◌, ◌<◌, ◌≤◌, Bool, true, false, ◌||◌, List, [], ◌∷◌, ◌++◌, length, reverse, get_or, take, map, cond, Option, Some}
 use Rattle.std.proofs.Common.{None}
 use Rattle.std.proofs.Common.{refl, sym, ap, ◌∙◌, arith, eqb}
 use Rattle.std.specs.Prelude.{slice_get}
 use Rattle.std.proofs.lemmas.Bool.{eqb-true}
 use Rattle.std.proofs.lemmas.Bool.Decides.{nat_tests}
-use Rattle.std.proofs.lemmas.List.{length-reverse, reverse-reverse}
+use Rattle.std.proofs.lemmas.List.{append_assoc, length-map, length-reverse, length-take-le, map-append, reverse-append, reverse-reverse, take_more}
 use Rattle.attr_keys.specs.shared.Rows.{has_row, IsFalling}
 use Rattle.attr_glob.specs.Candidates.{indexes_where}
 use Rattle.attr_wildmatch.proofs.ForCallers.{by_test, reverse-cons}
@@ -122,3 +122,26 @@ pub falling_indexes : {X : Type 0} (test : X → Bool) (lines : List X) (found :
     ((row : ℕ) → has_row found row ≡ passes test (slice_get lines row)) → found ≡ indexes_where test (reverse lines)
 falling_indexes test lines found down has =
     indexes_by test (reverse lines) found down (λ row. has row ∙ ap (λ l. passes test (slice_get l row)) (sym (reverse-reverse lines)))
+
+-- the indexes that were found so far from the last line on, and those of the lines before them
+pub indexes_step : {X Y : Type 0} (test : X → Bool) (view : Y → X) (lines : List Y) (i j : ℕ) (line : Y) (found more all : List ℕ) →
+    j ≡ i + 1 → i < length lines → line ≡ get_or lines i line → more ≡ cond (test (view line)) (found ++ i ∷ []) found →
+    found ++ indexes_where test (reverse (map view (take j lines))) ≡ all → more ++ indexes_where test (reverse (map view (take i lines))) ≡ all
+indexes_step test view lines i j line found more all after lt is pushed before =
+    by_test (test (view line))
+    (λ t. let here = rw t at with_last in
+    ap (λ l. l ++ rest) (rw t at pushed) ∙ append_assoc found (i ∷ []) rest ∙ ap (λ l. found ++ l) (sym here) ∙ before)
+    (λ f. let here = rw f at with_last in ap (λ l. l ++ rest) (rw f at pushed) ∙ ap (λ l. found ++ l) (sym here) ∙ before)
+  where
+    rest : List ℕ
+    rest = indexes_where test (reverse (map view (take i lines)))
+
+    with_last : indexes_where test (reverse (map view (take j lines))) ≡ cond (test (view line)) (i ∷ rest) rest
+    with_last =
+        let before = map view (take i lines) in
+        ap (λ n. indexes_where test (reverse (map view (take n lines)))) after
+        ∙ (ap (λ l. indexes_where test (reverse (map view l))) (take_more lines i line lt ∙ ap (λ l. take i lines ++ l ∷ []) (sym is))
+        ∙ (ap (λ l. indexes_where test (reverse l)) (map-append view (take i lines) (line ∷ []))
+        ∙ (ap (indexes_where test) (reverse-append before (view line ∷ []))
+        ∙ ap (λ n. cond (test (view line)) (n ∷ rest) rest)
+        (length-reverse before ∙ (length-map (take i lines) view ∙ length-take-le i lines (omega arith))))))

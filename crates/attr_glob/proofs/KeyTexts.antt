@@ -19,13 +19,10 @@ use Rattle.attr_glob.specs.Folding.{folded, same_text}
 use Rattle.attr_wildmatch.specs.Matching.{same_byte}
 use Rattle.attr_glob.specs.shared.LineShapes.{folds}
 use Rattle.attr_wildmatch.proofs.ForCallers.{reverse-cons, same_answer}
-use Rattle.attr_glob.proofs.MatchingLines.{length-folded, drop-folded}
+use Rattle.attr_glob.proofs.MatchingLines.{bytewise, drop-folded, length-folded, turned}
 
 shifted : (a b : ℕ) → nat_eq (a + 2) (b + 2) ≡ nat_eq a b
 shifted a b = grind (arith, nat_tests)
-
-turned : (a b : ℕ) → nat_eq a b ≡ (b == a)
-turned a b = grind (arith, nat_tests)
 
 no_end : (a : ℕ) → nat_eq (a + 2) 1 ≡ false
 no_end a = grind (arith, nat_tests)
@@ -71,20 +68,6 @@ front_met Fold subject (c ∷ cs) (b ∷ bs) =
     ap (λ t. t && has_content true bs (front_text subject cs)) (shifted (to_ascii_lowercase c) (to_ascii_lowercase b) ∙ turned (to_ascii_lowercase c)
     (to_ascii_lowercase b))
     ∙ ap (λ t. (to_ascii_lowercase b == to_ascii_lowercase c) && t) (front_met Fold subject cs bs)
-
--- texts are the same byte by byte just if they fold to the same
-pub bytewise : (case : Case) (x y : List ℕ) → pointwise (same_byte case) x y ≡ pointwise nat_eq (folded case x) (folded case y)
-bytewise Sensitive [] [] = refl
-bytewise Sensitive [] (b ∷ bs) = refl
-bytewise Sensitive (c ∷ cs) [] = refl
-bytewise Sensitive (c ∷ cs) (b ∷ bs) = ap (λ t. t && pointwise (same_byte Sensitive) cs bs) (sym (turned c b))
-    ∙ ap (λ t. nat_eq c b && t) (bytewise Sensitive cs bs)
-bytewise Fold [] [] = refl
-bytewise Fold [] (b ∷ bs) = refl
-bytewise Fold (c ∷ cs) [] = refl
-bytewise Fold (c ∷ cs) (b ∷ bs) =
-    ap (λ t. t && pointwise (same_byte Fold) cs bs) (sym (turned (to_ascii_lowercase c) (to_ascii_lowercase b)))
-    ∙ ap (λ t. nat_eq (to_ascii_lowercase c) (to_ascii_lowercase b) && t) (bytewise Fold cs bs)
 
 map_reverse : (f : ℕ → ℕ) (x : List ℕ) → map f (reverse x) ≡ reverse (map f x)
 map_reverse f [] = refl

@@ -9,7 +9,6 @@ pub mod Literals
 pub mod KeptLemmas
 pub mod PathLemmas
 pub mod KeyTexts
-pub mod CandidateKeys
 pub mod FallingIndexes
 pub mod Copies
 pub mod IndexLemmas

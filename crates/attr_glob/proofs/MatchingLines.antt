@@ -1,45 +1,41 @@
 -- A line that matches a path is a candidate for it, so that a search may pass over all others.
-use Rattle.std.proofs.Common.{◌≡◌, ℕ, ◌-◌, Bool, true, false, cond, not, ◌||◌, List, [], ◌∷◌, length, drop, map, Option, Some, None, refl, sym}
-use Rattle.std.proofs.Common.{ap, ◌∙◌, nat_eq}
+use Rattle.std.proofs.Common.{◌≡◌, ℕ, ◌-◌, Bool, true, false, cond, not, ◌&&◌, ◌||◌, ◌==◌, List, [], ◌∷◌, length, drop, Option, Some, None, refl, sym}
+use Rattle.std.proofs.Common.{ap, ◌∙◌, arith, nat_eq}
 use Rattle.std.specs.Prelude.{is_none}
 use Rattle.std.specs.List.{ends_with as ends_with_list}
 use Rattle.std.specs.Char.{to_ascii_lowercase}
-use Rattle.std.specs.Cmp.Lexicographic.{pointwise, bytes_decides}
+use Rattle.std.specs.Cmp.Lexicographic.{pointwise}
+use Rattle.std.proofs.lemmas.Bool.Decides.{nat_tests}
 use Rattle.std.proofs.lemmas.List.{length-map, drop-map}
 use Rattle.attr_wildmatch.specs.declared.case.Case.{Case}
 use Rattle.attr_wildmatch.specs.declared.case.Case.TheVariants.{Sensitive, Fold}
 use Rattle.attr_glob.specs.BaseNames.{base_name}
 use Rattle.attr_glob.specs.Candidates.{has_macro_mode, matches_base_name, name, end, anything, has_key, is_candidate}
-use Rattle.attr_glob.specs.Folding.{folded, same_text}
+use Rattle.attr_glob.specs.Folding.{folded}
 use Rattle.attr_wildmatch.specs.Matching.{same_byte}
 use Rattle.attr_wildmatch.specs.Deciding.{text_matches}
 use Rattle.attr_glob.specs.Paths.{matched_part, is_directory, path_matches}
 use Rattle.attr_glob.specs.Patterns.{Reading, reading, has_flag, ends_with, must_be_dir}
-use Rattle.attr_wildmatch.proofs.ForCallers.{by_test, and_parts, equal}
+use Rattle.attr_wildmatch.proofs.ForCallers.{by_test, and_parts}
 use Rattle.attr_glob.proofs.PathLemmas.{reading-wildcard, reading-ends_with}
 use Rattle.attr_glob.proofs.Literals.{text_matches-literal, suffix-ends, no_wildcard}
 
--- bytes that are the same, one by one, fold to the same text
-same_folded : (case : Case) (x y : List ℕ) → pointwise (same_byte case) x y ≡ true → folded case x ≡ folded case y
-same_folded Sensitive [] [] h = refl
-same_folded Sensitive [] (b ∷ bs) h = cc
-same_folded Sensitive (c ∷ cs) [] h = cc
-same_folded Sensitive (c ∷ cs) (b ∷ bs) h =
-    let w = and_parts (same_byte Sensitive c b) (pointwise (same_byte Sensitive) cs bs) h in
-    let here : b ≡ c = equal b c w.0 in
-    let rest : cs ≡ bs = same_folded Sensitive cs bs w.1 in
-    cc
-same_folded Fold [] [] h = refl
-same_folded Fold [] (b ∷ bs) h = cc
-same_folded Fold (c ∷ cs) [] h = cc
-same_folded Fold (c ∷ cs) (b ∷ bs) h =
-    let w = and_parts (same_byte Fold c b) (pointwise (same_byte Fold) cs bs) h in
-    let here : to_ascii_lowercase b ≡ to_ascii_lowercase c = equal (to_ascii_lowercase b) (to_ascii_lowercase c) w.0 in
-    let rest : map to_ascii_lowercase cs ≡ map to_ascii_lowercase bs = same_folded Fold cs bs w.1 in
-    cc
+pub turned : (a b : ℕ) → nat_eq a b ≡ (b == a)
+turned a b = grind (arith, nat_tests)
 
-same_text_of : (case : Case) (x y : List ℕ) → pointwise (same_byte case) x y ≡ true → same_text case x y ≡ true
-same_text_of case x y h = (bytes_decides (folded case x) (folded case y)).1 (same_folded case x y h)
+-- texts are the same byte by byte just if they fold to the same
+pub bytewise : (case : Case) (x y : List ℕ) → pointwise (same_byte case) x y ≡ pointwise nat_eq (folded case x) (folded case y)
+bytewise Sensitive [] [] = refl
+bytewise Sensitive [] (b ∷ bs) = refl
+bytewise Sensitive (c ∷ cs) [] = refl
+bytewise Sensitive (c ∷ cs) (b ∷ bs) = ap (λ t. t && pointwise (same_byte Sensitive) cs bs) (sym (turned c b))
+    ∙ ap (λ t. nat_eq c b && t) (bytewise Sensitive cs bs)
+bytewise Fold [] [] = refl
+bytewise Fold [] (b ∷ bs) = refl
+bytewise Fold (c ∷ cs) [] = refl
+bytewise Fold (c ∷ cs) (b ∷ bs) =
+    ap (λ t. t && pointwise (same_byte Fold) cs bs) (sym (turned (to_ascii_lowercase c) (to_ascii_lowercase b)))
+    ∙ ap (λ t. nat_eq (to_ascii_lowercase c) (to_ascii_lowercase b) && t) (bytewise Fold cs bs)
 
 pub length-folded : (case : Case) (x : List ℕ) → length (folded case x) ≡ length x
 length-folded Sensitive x = refl
@@ -49,14 +45,12 @@ pub drop-folded : (case : Case) (n : ℕ) (x : List ℕ) → drop n (folded case
 drop-folded Sensitive n x = refl
 drop-folded Fold n x = drop-map to_ascii_lowercase n x
 
-same_end : (case : Case) (value tail : List ℕ) → ends_with_list (same_byte case) value tail ≡ true →
-    ends_with_list nat_eq (folded case value) (folded case tail) ≡ true
-same_end case value tail h =
-    let lv = length-folded case value in
-    let le = length-folded case tail in
-    let same : folded case tail ≡ drop (length (folded case value) - length (folded case tail)) (folded case value) =
-    rw (lv, le, drop-folded) (same_folded case tail (drop (length value - length tail) value) h) in
-    (bytes_decides (folded case tail) (drop (length (folded case value) - length (folded case tail)) (folded case value))).1 same
+-- an end, byte by byte and folded
+pub ends_folded : (case : Case) (value tail : List ℕ) → ends_with_list (same_byte case) value tail
+    ≡ ends_with_list nat_eq (folded case value) (folded case tail)
+ends_folded case value tail =
+    rw (length-folded case value, length-folded case tail, drop-folded case (length value - length tail) value)
+    (bytewise case tail (drop (length value - length tail) value))
 
 -- a base name that a line's text matches has the line's key
 has_key_if_matched : (case : Case) (text : List ℕ) (r : Reading) (base : List ℕ) → reading text ≡ Some r →
@@ -66,13 +60,13 @@ has_key_if_matched : (case : Case) (text : List ℕ) (r : Reading) (base : List 
 has_key_if_matched case text r base read m true literal suffix flag =
     let none : r.wildcard ≡ None = none_of r.wildcard literal in
     let plain = no_wildcard r.text (sym (reading-wildcard text r read) ∙ none) in
-    same_text_of case r.text base (sym (text_matches-literal case r.text base plain) ∙ m)
+    sym (bytewise case r.text base) ∙ (sym (text_matches-literal case r.text base plain) ∙ m)
   where
     none_of : (o : Option ℕ) → is_none o ≡ true → o ≡ None
     none_of None h = refl
     none_of (Some x) h = cc
 has_key_if_matched case text r base read m false literal true flag =
-    same_end case base (drop 1 r.text) (suffix-ends case r.text base (sym (reading-ends_with text r read) ∙ flag) m)
+    sym (ends_folded case base (drop 1 r.text)) ∙ suffix-ends case r.text base (sym (reading-ends_with text r read) ∙ flag) m
 has_key_if_matched case text r base read m false literal false flag = refl
 
 -- a line that matches a path is a candidate for its base name

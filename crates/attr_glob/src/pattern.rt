@@ -11,6 +11,7 @@ ghost use Rattle.attr_wildmatch.specs.Deciding.{text_matches};
 ghost use Rattle.attr_glob.specs.Folding.{same_text};
 ghost use Rattle.attr_glob.specs.Paths.{matched_part, is_directory, PathMatches, path_matches};
 ghost use Rattle.attr_glob.specs.BaseNames.{base_name, base_name_offset};
+ghost use Rattle.attr_glob.specs.Candidates.{is_candidate, matches_base_name};
 ghost use Rattle.attr_glob.specs.Views.{mode_bits, pattern_view};
 ghost use Rattle.attr_glob.specs.inner.StarEnds.{ends_after_star};
 
@@ -215,10 +216,34 @@ impl Pattern {
         requires { basename_start_pos ≡ base_name_offset path.now }
         ensures { result.now ≡ matched_part (pattern_view self.now) path.now }
     {
-        if !self.mode.contains(Mode::NO_SUB_DIR) || self.mode.contains(Mode::ABSOLUTE) {
+        if !self.asks_name() {
             return path;
         }
         base_name(path, basename_start_pos)
+    }
+
+    // Whether the text is matched against base names.
+    #[inline]
+    pub(crate) fn asks_name(&self) -> bool
+        ensures { result ≡ matches_base_name (pattern_view self.now) }
+    {
+        self.mode.contains(Mode::NO_SUB_DIR) && !self.mode.contains(Mode::ABSOLUTE)
+    }
+
+    // Whether a path with this base name may match, as far as base names alone can tell.
+    pub(crate) fn is_candidate(&self, base_name: &[u8], case: Case) -> bool
+        ensures { result ≡ is_candidate case base_name.now (pattern_view self.now) }
+    {
+        if self.mode.contains(Mode::MACRO) {
+            return false;
+        }
+        if !self.asks_name() {
+            return true;
+        }
+        if self.first_wildcard_pos.is_none() {
+            return same_text(case, &self.text, base_name);
+        }
+        !self.mode.contains(Mode::ENDS_WITH) || ends_with(base_name, after_star(&self.text), case)
     }
 
     // Whether the text matches the value, if bytes decide without tokens. A pattern that was built by hand may have a

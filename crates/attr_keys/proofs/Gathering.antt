@@ -2,11 +2,9 @@
 use Rattle.std.proofs.Common.{◌≡◌, ℕ, zero, suc, Bool, true, false, not, ◌&&◌, ◌||◌, List, [], ◌∷◌, map, refl, sym, ap}
 use Rattle.std.proofs.Common.{subst, ◌∙◌, arith, eqb, Option, Some, None}
 use Rattle.std.specs.Char.{to_ascii_lowercase}
-use Rattle.std.specs.Prelude.{All, slice_get}
-use Rattle.std.proofs.lemmas.Bool.{eqb-true}
+use Rattle.std.specs.Prelude.{slice_get}
 use Rattle.std.proofs.lemmas.Bool.Decides.{nat_tests}
 use Rattle.std.proofs.lemmas.List.{length-map}
-use Rattle.attr_keys.specs.declared.hashed.HashedRow.{HashedRow}
 use Rattle.attr_keys.specs.declared.key.Keys.{Keys}
 use Rattle.attr_keys.specs.declared.key.Subject.{Subject}
 use Rattle.attr_keys.specs.declared.key.Subject.TheVariants.{Name, End, Path, Anything, Nothing}
@@ -15,12 +13,11 @@ use Rattle.attr_keys.specs.declared.kinds.Kind.TheVariants as kind
 use Rattle.attr_keys.specs.shared.KeyContents.{KeyContent}
 use Rattle.attr_keys.specs.inner.Cases.{content_in_case, in_case, keys_seen, seen, seen_keys}
 use Rattle.attr_keys.specs.inner.Extensions.{dot_byte, is_hashed, is_reversed_extension}
-use Rattle.attr_keys.specs.inner.Hashes.{hashed_rows}
 use Rattle.attr_keys.specs.inner.Kinds.{is_of, kind_by, same_kind}
-use Rattle.attr_keys.specs.shared.Meeting.{directed, is_about, is_end, is_whole_row, same_subject, text_has}
-use Rattle.attr_keys.specs.inner.Orders.{AreFindable, AreSubjectRows, has_subject_row, has_unless_other}
+use Rattle.attr_keys.specs.shared.Meeting.{directed, is_about, is_end, same_subject, text_has}
+use Rattle.attr_keys.specs.inner.Orders.{AreFindable, AreSubjectRows, has_subject_row}
 use Rattle.attr_keys.specs.shared.Rows.{has_row}
-use Rattle.attr_keys.proofs.RowLemmas.{by_test, or_none}
+use Rattle.attr_keys.proofs.RowLemmas.{by_test}
 use Rattle.attr_keys.proofs.SeenTexts.{directed_twice}
 
 same_end : (subject other : Subject) → same_subject subject other ≡ true → is_end other ≡ is_end subject
@@ -110,11 +107,6 @@ about_in_case : (subject : Subject) (fold : Bool) (keys : List KeyContent) (row 
 about_in_case subject fold [] row = refl
 about_in_case subject fold (key ∷ keys) zero = refl
 about_in_case subject fold (key ∷ keys) (suc row) = about_in_case subject fold keys row
-
--- all rows of a subject
-pub subject_rows_all : (subject : Subject) (fold : Bool) (keys : List KeyContent) (rows : SubjectRows) → AreSubjectRows subject fold keys rows →
-    (row : ℕ) → has_subject_row rows row ≡ is_about subject (slice_get (map (content_in_case fold) keys) row)
-subject_rows_all subject fold keys rows are row = are.has row ∙ sym (about_in_case subject fold keys row)
 
 -- kinds of a subject
 pub names_are : (key : Option KeyContent) → is_of kind.NamePrefix key || is_of kind.Name key ≡ is_about Name key
@@ -239,39 +231,6 @@ extension_hashed fold (key ∷ keys) zero is =
     by_subject Anything w h = absurd cc
     by_subject Nothing w h = absurd cc
 
--- what is true of each row is true of those that are among them
-has_all : (P : ℕ → Type 0) (hashed : List HashedRow) (row : ℕ) → All (λ (h : HashedRow). P h.row) hashed → has_row (hashed_rows hashed) row ≡ true →
-    P row
-has_all P [] row all has = absurd cc
-has_all P (h ∷ hs) row all has =
-    by_test (eqb h.row row)
-    (λ t. subst P (eqb-true h.row row t) (all 0 h (omega arith)))
-    (λ f. has_all P hs row (λ k d lt. all (suc k) d (omega arith)) (rw f at has))
-
--- names by their hashes, and other names unless they are whole and others
-pub names_may_have : (fold : Bool) (keys : List KeyContent) (rows : SubjectRows) (text : List ℕ) → AreSubjectRows Name fold keys rows → (row : ℕ) →
-    (has_row (hashed_rows rows.hashed) row && text_has text (slice_get (seen_keys fold false keys) row))
-    || (has_row rows.prefixes.rows.items row && has_unless_other text (slice_get (seen_keys fold false keys) row))
-    ≡ is_about Name (slice_get (map (content_in_case fold) keys) row) && has_unless_other text (slice_get (map (content_in_case fold) keys) row)
-names_may_have fold keys rows text are row =
-    let key = slice_get (seen_keys fold false keys) row in
-    merge (has_row (hashed_rows rows.hashed) row) (has_row rows.prefixes.rows.items row) (text_has text key) (is_whole_row key)
-    (λ h. whole key (has_all (λ r. is_hashed false (slice_get (seen_keys fold false keys) r) ≡ true) rows.hashed row
-    (λ k d lt. (are.found.hashed k d lt).kind) h))
-    ∙ subject_rows_pass Name fold keys rows (has_unless_other text) are row
-  where
-    whole : (k : Option KeyContent) → is_hashed false k ≡ true → is_whole_row k ≡ true
-    whole None h = h
-    whole (Some k) h = h
-
-    merge : (h p t w : Bool) → (h ≡ true → w ≡ true) → (h && t) || (p && (not w || t)) ≡ (p || h) && (not w || t)
-    merge false p t w e = sym (ap (λ b. b && (not w || t)) (or_none p))
-    merge true true true true e = refl
-    merge true true false true e = refl
-    merge true false true true e = refl
-    merge true false false true e = refl
-    merge true p t false e = let no : false ≡ true = e refl in absurd cc
-
 pub hashed_by : (from_end from_end' : Bool) (seen seen' : List KeyContent) (row : ℕ) → from_end ≡ from_end' → seen ≡ seen' →
     is_hashed from_end' (slice_get seen' row) ≡ true → is_hashed from_end (slice_get seen row) ≡ true
 hashed_by from_end from_end' seen seen' row ends is hashed =
@@ -295,34 +254,9 @@ found_both old first first' second second' mid new more some same same' =
     assoc true b c = refl
     assoc false b c = refl
 
-pub found_four : (old a b e e' p p' n first second third new : Bool) → first ≡ old || a → second ≡ first || b → third ≡ second || e →
-    new ≡ third || p → a || b ≡ n → e ≡ e' → p ≡ p' → new ≡ old || ((n || e') || p')
-found_four old a b e e' p p' n first second third new one two three four names ends paths =
-    four ∙ (ap (λ x. x || p) three ∙ (ap (λ x. (x || e) || p) two ∙ (ap (λ x. ((x || b) || e) || p) one
-    ∙ (assoc old ∙ (ap (λ x. old || ((x || e) || p)) names ∙ (ap (λ x. old || ((n || x) || p)) ends ∙ ap (λ x. old || ((n || e') || x)) paths))))))
-  where
-    assoc : (o : Bool) → (((o || a) || b) || e) || p ≡ o || (((a || b) || e) || p)
-    assoc true = refl
-    assoc false = refl
-
--- a test of a text and a key, as they are read
-pub found_by : (test : List ℕ → Option KeyContent → Bool) (old has from_end from_end' : Bool) (seen seen' : List KeyContent) (text : List ℕ)
-    (row : ℕ) →
-    from_end ≡ from_end' → seen ≡ seen' → old || (has && test (directed from_end text) (slice_get seen row))
-    ≡ old || (has && test (directed from_end' text) (slice_get seen' row))
-found_by test old has from_end from_end' seen seen' text row ends is =
-    ap (λ l. old || (has && test (directed from_end text) (slice_get l row))) is
-    ∙ ap (λ e. old || (has && test (directed e text) (slice_get seen' row))) ends
-
-pub or_swapped : (a b : Bool) → a || b ≡ b || a
-or_swapped true true = refl
-or_swapped true false = refl
-or_swapped false true = refl
-or_swapped false false = refl
-
 -- no keys of a subject
 pub none_about : (subject : Subject) (fold : Bool) (keys : List KeyContent) (rows : SubjectRows) (test : Option KeyContent → Bool) →
     AreSubjectRows subject fold keys rows → (row : ℕ) → has_subject_row rows row ≡ false →
     is_about subject (slice_get (map (content_in_case fold) keys) row) && test (slice_get (map (content_in_case fold) keys) row) ≡ false
 none_about subject fold keys rows test are row none =
-    ap (λ b. b && test (slice_get (map (content_in_case fold) keys) row)) (sym (subject_rows_all subject fold keys rows are row) ∙ none)
+    ap (λ b. b && test (slice_get (map (content_in_case fold) keys) row)) (about_in_case subject fold keys row ∙ (sym (are.has row) ∙ none))

@@ -5,7 +5,6 @@ pub mod FirstCodes
 pub mod Ordering
 pub mod Meetings
 pub mod Gathering
-pub mod ForCallers
 pub mod Parts
 pub mod Raising
 pub mod Cuts

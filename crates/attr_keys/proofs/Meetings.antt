@@ -3,7 +3,7 @@ use Rattle.std.proofs.Common.{◌≡◌, ◌≢◌, ℕ, zero, suc, ◌+◌, ◌
 use Rattle.std.proofs.Common.{map, refl}
 use Rattle.std.proofs.Common.{sym, ap, ◌∙◌, arith, eqb, nat_eq, add-one, Option, Some, None}
 use Rattle.std.specs.List.{starts_with}
-use Rattle.std.specs.Prelude.{option_map, slice_get}
+use Rattle.std.specs.Prelude.{slice_get}
 use Rattle.std.proofs.lemmas.List.{take_more}
 use Rattle.std.proofs.lemmas.Bool.{eqb-true}
 use Rattle.std.proofs.lemmas.Bool.Decides.{nat_tests}
@@ -17,9 +17,7 @@ use Rattle.attr_keys.specs.inner.Cases.{in_case, content_in_case}
 use Rattle.attr_keys.specs.declared.kinds.Kind.{Kind}
 use Rattle.attr_keys.specs.inner.Kinds.{is_of, kind_of, rows_with, same_kind}
 use Rattle.attr_keys.specs.shared.Meeting.{directed, is_end, same_subject, is_about, has_content, key_content, content_met_at, content_met_by}
-use Rattle.attr_keys.specs.shared.Candidates.{candidate_by, candidate_of}
-use Rattle.attr_keys.specs.shared.LineKeys.{no_text}
-use Rattle.attr_keys.specs.inner.Orders.{gathered, may_have}
+use Rattle.attr_keys.specs.inner.Orders.{gathered}
 use Rattle.attr_keys.specs.shared.Rows.{has_row}
 use Rattle.attr_keys.proofs.SeenTexts.{codes_in_case, directed_in_case}
 use Rattle.attr_keys.proofs.RowLemmas.{by_test, or_none}
@@ -188,54 +186,3 @@ met_of_gathered fold name path keys cased row same =
     ap (λ l. gathered name' path' (slice_get l row) || is_about Anything (slice_get keys row)) same
     ∙ (ap (λ b. gathered name' path' lower || b) (sym (any_in_case fold keys row))
     ∙ (gathered_or_any name' path' lower ∙ met_in_case fold name path keys row))
-
--- a key by what base names alone can tell
-may_or_any : (name : List ℕ) (key : Option KeyContent) → may_have name key || is_about Anything key
-    ≡ content_met_at false name name (option_map candidate_of key)
-may_or_any name None = refl
-may_or_any name (Some key) = by_parts key.subject key.is_whole key.text
-  where
-    with_parts : Subject → Bool → List ℕ → KeyContent
-    with_parts s w t = record { subject = s; text = t; is_whole = w }
-
-    has : List ℕ → Bool → List ℕ → Bool
-    has text w t = starts_with nat_eq (codes_of false text true) (codes_of false t w)
-
-    by_parts : (s : Subject) (w : Bool) (t : List ℕ) → may_have name (Some (with_parts s w t)) || is_about Anything (Some (with_parts s w t))
-        ≡ content_met_at false name name (Some (candidate_of (with_parts s w t)))
-    by_parts Name true t = or_none ((has name true t || false) || false) ∙ (or_none (has name true t || false) ∙ or_none (has name true t))
-    by_parts Name false t = refl
-    by_parts End w t = or_none (has (reverse name) w t || false) ∙ or_none (has (reverse name) w t)
-    by_parts Path w t = refl
-    by_parts Anything w t = refl
-    by_parts Nothing w t = refl
-
-candidate_in_case : (fold : Bool) (keys : List KeyContent) (row : ℕ) →
-    option_map candidate_of (slice_get (map (content_in_case fold) keys) row) ≡ slice_get (map (content_in_case fold) (map candidate_of keys)) row
-candidate_in_case fold [] row = refl
-candidate_in_case fold (key ∷ keys) (suc row) = candidate_in_case fold keys row
-candidate_in_case fold (key ∷ keys) zero = ap Some (by_subject key.subject key.is_whole)
-  where
-    nothing : (f : Bool) → no_text Anything ≡ content_in_case f (no_text Anything)
-    nothing false = refl
-    nothing true = refl
-
-    by_subject : (s : Subject) (w : Bool) → candidate_by s w (content_in_case fold key) ≡ content_in_case fold (candidate_by s w key)
-    by_subject Name true = refl
-    by_subject Name false = nothing fold
-    by_subject End w = refl
-    by_subject Path w = nothing fold
-    by_subject Anything w = nothing fold
-    by_subject Nothing w = refl
-
--- the keys that base names alone leave, in their case
-pub met_of_may_have : (fold : Bool) (name : List ℕ) (keys cased : List KeyContent) (row : ℕ) → cased ≡ map (content_in_case fold) keys →
-    may_have (in_case fold name) (slice_get cased row) || is_about Anything (slice_get keys row)
-    ≡ content_met_at fold name name (slice_get (map candidate_of keys) row)
-met_of_may_have fold name keys cased row same =
-    let name' = in_case fold name in
-    let lower = slice_get (map (content_in_case fold) keys) row in
-    ap (λ l. may_have name' (slice_get l row) || is_about Anything (slice_get keys row)) same
-    ∙ (ap (λ b. may_have name' lower || b) (sym (any_in_case fold keys row))
-    ∙ (may_or_any name' lower
-    ∙ (ap (content_met_at false name' name') (candidate_in_case fold keys row) ∙ met_in_case fold name name (map candidate_of keys) row)))

@@ -126,13 +126,6 @@ pub fn first_code(view: View, text: &[u8], is_whole: bool) -> u16
     if is_whole { 1 } else { 0 }
 }
 
-/// Whether the key of a line is whole.
-pub fn is_row_whole<K: Keyed>(keys: Keys<'_, K>, row: usize) -> bool
-    ensures { result ≡ is_whole_row (slice_get (keys_seen K.content keys.entry) row) }
-{
-    parts(keys.lines, row).1
-}
-
 /// The text of the key of a line, as it stands there, and no text if there is no such line.
 pub fn row_text<K: Keyed>(keys: Keys<'_, K>, row: usize) -> &[u8]
     ensures { in_case keys.entry.view.fold result.now

@@ -2,19 +2,18 @@
 
 ghost use Rattle.std.specs.Prelude.{◌≡◌, ◌&&◌, ◌||◌, ◌++◌, [], ℕ, IfOk, OnOk, map, false, true, slice_get};
 ghost use Rattle.std.specs.Bool.{OnFalse, OnTrue};
-ghost use Rattle.attr_keys.specs.shared.Candidates.{candidate_of};
 ghost use Rattle.attr_keys.specs.inner.Cases.{content_in_case, in_case, keys_seen};
 ghost use Rattle.attr_keys.specs.inner.Extensions.{is_hashed};
 ghost use Rattle.attr_keys.specs.inner.MetRows.{AreMetRows};
 ghost use Rattle.attr_keys.specs.shared.KeyIndexes.{AreKeyTables, IsKeyIndex};
 ghost use Rattle.attr_keys.specs.inner.Kinds.{AreKinds};
 ghost use Rattle.attr_keys.specs.shared.Meeting.{content_met, content_met_at, directed, key_content, text_has};
-ghost use Rattle.attr_keys.specs.inner.Orders.{AreFindable, AreSorted, gathered, has_by_name, has_by_path, has_subject_row, has_unless_other, may_have, sorted_keys};
+ghost use Rattle.attr_keys.specs.inner.Orders.{AreFindable, AreSorted, gathered, has_by_name, has_by_path, has_subject_row, sorted_keys};
 ghost use Rattle.attr_keys.specs.shared.Rows.{IsFalling, has_row};
 
 use crate::by_hash::{append_by_hash, by_hash, longest_key, write_lower};
 use crate::hashed::HashedRows;
-use crate::key::{Key, Keyed, Keys, Subject, View, has_row_key, has_text, is_row_whole};
+use crate::key::{Key, Keyed, Keys, Subject, View, has_text};
 use crate::kinds::Kinds;
 use crate::order::fall;
 use crate::prefixes::Prefixes;
@@ -119,33 +118,6 @@ impl KeyIndex {
             None => find_each(lines, texts, found),
         }
     }
-
-    /// Finds the indexes of the lines that a path with this base name may match, as far as base names alone can tell, the
-    /// greatest first: lines that need another base name, or another end of one, are left out. The path of `texts` is not
-    /// read. Else it is as [`find`](KeyIndex::find).
-    ///
-    /// # Errors
-    ///
-    /// If memory runs out. The contents of `found` are not specified then.
-    pub fn find_candidates<K: Keyed>(
-        &self,
-        lines: &[K],
-        texts: Texts<'_>,
-        buffer: &mut Vec<u8>,
-        found: &mut Vec<usize>,
-    ) -> Result<(), AllocError>
-        requires { IsKeyIndex (map K.content lines.now) self.now }
-        ensures found { OnOk result ((row : ℕ) → has_row found.new.items row
-            ≡ content_met_at texts.entry.fold texts.entry.name.now texts.entry.name.now
-            (slice_get (map candidate_of (map K.content lines.now)) row)) }
-        ensures falling { OnOk result (IsFalling found.new.items) }
-    {
-        found.clear();
-        match &self.tables {
-            Some(tables) => tables.find_candidates(lines, texts, buffer, found),
-            None => find_each_candidate(lines, texts, found),
-        }
-    }
 }
 
 impl KeyTables {
@@ -197,25 +169,6 @@ impl KeyTables {
             (map K.content lines.now) found.new.items) }
     {
         gather(self.sorted(lines, texts.fold), texts, buffer, found)?;
-        append(&self.others, found)?;
-        fall(found);
-        Ok(())
-    }
-
-    // Pushes the indexes of the lines that a path with this base name may match, the greatest first.
-    fn find_candidates<K: Keyed>(
-        &self,
-        lines: &[K],
-        texts: Texts<'_>,
-        buffer: &mut Vec<u8>,
-        found: &mut Vec<usize>,
-    ) -> Result<(), AllocError>
-        requires tables { AreKeyTables (map K.content lines.now) self.now }
-        requires empty { found.old.items ≡ [] }
-        ensures { OnOk result (AreMetRows texts.entry.fold texts.entry.name.now texts.entry.name.now
-            (map candidate_of (map K.content lines.now)) found.new.items) }
-    {
-        gather_candidates(self.sorted(lines, texts.fold), texts, buffer, found)?;
         append(&self.others, found)?;
         fall(found);
         Ok(())
@@ -351,24 +304,6 @@ fn find_each<K: Keyed>(
     Ok(())
 }
 
-// Pushes the indexes of the lines that a path with this base name may match, the greatest first.
-fn find_each_candidate<K: Keyed>(
-    lines: &[K],
-    texts: Texts<'_>,
-    found: &mut Vec<usize>,
-) -> Result<(), AllocError>
-    requires { found.old.items ≡ [] }
-    ensures { OnOk result (AreMetRows texts.entry.fold texts.entry.name.now texts.entry.name.now
-        (map candidate_of (map K.content lines.now)) found.new.items) }
-{
-    for row in (0..lines.len()).rev() {
-        if is_candidate(lines[row].key(), texts) {
-            found.push(row)?;
-        }
-    }
-    Ok(())
-}
-
 // Whether the texts have the key.
 #[inline(always)]
 fn has_key(key: Key<'_>, texts: Texts<'_>) -> bool
@@ -380,19 +315,6 @@ fn has_key(key: Key<'_>, texts: Texts<'_>) -> bool
         Subject::End => has_text(texts.fold, true, texts.name, key),
         Subject::Path => has_text(texts.fold, false, texts.path, key),
         Subject::Anything => true,
-        Subject::Nothing => false,
-    }
-}
-
-// Whether a path with this base name may have the key.
-fn is_candidate(key: Key<'_>, texts: Texts<'_>) -> bool
-    ensures { result ≡ content_met texts.entry.fold texts.entry.name.now texts.entry.name.now
-        (candidate_of (key_content key.entry)) }
-{
-    match key.subject {
-        Subject::Name => !key.is_whole || has_text(texts.fold, false, texts.name, key),
-        Subject::End => has_text(texts.fold, true, texts.name, key),
-        Subject::Path | Subject::Anything => true,
         Subject::Nothing => false,
     }
 }
@@ -467,77 +389,6 @@ fn append_by_path<K: Keyed>(
 {
     let keys = keys_of(sorted.lines, sorted.fold, false);
     sorted.rows.paths.append(keys, path, found)
-}
-
-// Appends the rows of the names and ends that the base name has, and of all prefixes and paths.
-fn gather_candidates<K: Keyed>(
-    sorted: Sorted<'_, K>,
-    texts: Texts<'_>,
-    buffer: &mut Vec<u8>,
-    found: &mut Vec<usize>,
-) -> Result<(), AllocError>
-    requires { AreSorted sorted.fold (map K.content sorted.lines.now) sorted.rows.now }
-    ensures { OnOk result ((row : ℕ) → has_row found.new.items row
-        ≡ (has_row found.old.items row
-        || may_have (in_case texts.entry.fold texts.entry.name.now)
-        (slice_get (sorted_keys K.content sorted.entry) row))) }
-{
-    if !texts.fold {
-        return append_candidates(sorted, texts.name, found);
-    }
-    write_lower(texts.name, buffer)?;
-    append_candidates(sorted, buffer, found)
-}
-
-// Appends the rows of the names and ends that the base name has, and of all prefixes and paths.
-fn append_candidates<K: Keyed>(
-    sorted: Sorted<'_, K>,
-    name: &[u8],
-    found: &mut Vec<usize>,
-) -> Result<(), AllocError>
-    requires { AreSorted sorted.fold (map K.content sorted.lines.now) sorted.rows.now }
-    ensures { OnOk result ((row : ℕ) → has_row found.new.items row
-        ≡ (has_row found.old.items row
-        || may_have name.now (slice_get (sorted_keys K.content sorted.entry) row))) }
-{
-    let rows = sorted.rows;
-    let keys = keys_of(sorted.lines, sorted.fold, false);
-    append_by_hash(keys, &rows.names.hashed, name, rows.names.longest, found)?;
-    append_unless_other(keys, &rows.names.prefixes.rows, name, found)?;
-    let ends = keys_of(sorted.lines, sorted.fold, true);
-    rows.ends.append(ends, name, found)?;
-    append_all(&rows.paths, found)
-}
-
-// Appends the rows but those of whole keys that the text doesn't have.
-fn append_unless_other<K: Keyed>(
-    keys: Keys<'_, K>,
-    rows: &[usize],
-    text: &[u8],
-    found: &mut Vec<usize>,
-) -> Result<(), AllocError>
-    ensures { OnOk result ((row : ℕ) → has_row found.new.items row
-        ≡ (has_row found.old.items row || (has_row rows.now row
-        && has_unless_other (directed keys.entry.view.from_end text.now)
-        (slice_get (keys_seen K.content keys.entry) row)))) }
-{
-    for row in rows {
-        if !is_row_whole(keys, *row) || has_row_key(keys, *row, text) {
-            found.push(*row)?;
-        }
-    }
-    Ok(())
-}
-
-// Appends all rows of a subject.
-fn append_all(rows: &SubjectRows, found: &mut Vec<usize>) -> Result<(), AllocError>
-    ensures { OnOk result ((row : ℕ) → has_row found.new.items row
-        ≡ (has_row found.old.items row || has_subject_row rows.now row)) }
-{
-    for hashed in rows.hashed.all() {
-        found.push(hashed.row)?;
-    }
-    append(&rows.prefixes.rows, found)
 }
 
 // Appends numbers to others.

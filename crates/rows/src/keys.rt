@@ -47,26 +47,17 @@ impl Keys {
             path: step.bytes(2),
             fold: step.case(3)? == Case::Fold,
         };
-        let found = found(alloc, &shapes, texts, step.text(0) == "find")?;
+        let found = found(alloc, &shapes, texts)?;
         writeln!(out, "{:?}", found.as_slice())?;
         Ok(())
     }
 }
 
-// The lines that are found, or those that may match.
-fn found(
-    alloc: Global,
-    lines: &[Shape<'_>],
-    texts: Texts<'_>,
-    are_looked_up: bool,
-) -> Result<Vec<usize>, AllocError> {
+// The lines that are found.
+fn found(alloc: Global, lines: &[Shape<'_>], texts: Texts<'_>) -> Result<Vec<usize>, AllocError> {
     let keys = Box::new(alloc, KeyIndex::of(alloc, lines)?)?;
     let (mut buffer, mut found) = (Vec::new(alloc), Vec::new(alloc));
-    if are_looked_up {
-        keys.find(lines, texts, &mut buffer, &mut found)?;
-    } else {
-        keys.find_candidates(lines, texts, &mut buffer, &mut found)?;
-    }
+    keys.find(lines, texts, &mut buffer, &mut found)?;
     Ok(found)
 }
 
@@ -76,8 +67,7 @@ impl Stage for Keys {
             // `line | KIND | TEXT | WILDCARD` adds a line, whose first wildcard is at this offset or nowhere.
             "line" => Ok(self.lines.push(line_of(alloc, step)?)?),
             // `find | NAME | PATH | CASE` reports the lines that are found, last to first.
-            // `candidates | NAME | PATH | CASE` reports those that may match.
-            "find" | "candidates" => self.push_found(alloc, step, out),
+            "find" => self.push_found(alloc, step, out),
             _ => Err(Fault::NotARow),
         }
     }

@@ -1,5 +1,5 @@
 -- The numbers of each subject's keys, in their orders (own).
-use Rattle.std.specs.Prelude.{◌≡◌, ℕ, Bool, not, ◌&&◌, ◌||◌, List, All, map, reverse, Option, slice_get}
+use Rattle.std.specs.Prelude.{◌≡◌, ℕ, Bool, ◌&&◌, ◌||◌, List, All, map, reverse, Option, slice_get}
 use Rattle.attr_keys.specs.declared.key.Subject.{Subject}
 use Rattle.attr_keys.specs.declared.key.Subject.TheVariants.{Name, End, Path}
 use Rattle.attr_keys.specs.declared.key_index.KeyRows.{KeyRows}
@@ -8,7 +8,7 @@ use Rattle.attr_keys.specs.declared.key_index.SubjectRows.{SubjectRows}
 use Rattle.attr_keys.specs.shared.KeyContents.{KeyContent}
 use Rattle.attr_keys.specs.inner.Cases.{content_in_case, seen_keys}
 use Rattle.attr_keys.specs.inner.Hashes.{AreNoLonger, IsHashOfKey, hashed_rows}
-use Rattle.attr_keys.specs.shared.Meeting.{is_about, is_end, is_whole_row, text_has}
+use Rattle.attr_keys.specs.shared.Meeting.{is_about, is_end, text_has}
 use Rattle.attr_keys.specs.shared.Rows.{ArePrefixes, has_row}
 
 -- the number is of a subject's key
@@ -45,12 +45,3 @@ has_by_path path key = is_about Path key && text_has path key
 
 abbrev pub gathered : List ℕ → List ℕ → Option KeyContent → Bool
 gathered name path key = has_by_name name key || has_by_path path key
-
--- the key is not a whole one that the text doesn't have
-abbrev pub has_unless_other : List ℕ → Option KeyContent → Bool
-has_unless_other text key = not (is_whole_row key) || text_has text key
-
--- the key is one that a path may have, as far as its base name tells
-abbrev pub may_have : List ℕ → Option KeyContent → Bool
-may_have name key =
-    (is_about Name key && has_unless_other name key) || (is_about End key && text_has (reverse name) key) || is_about Path key

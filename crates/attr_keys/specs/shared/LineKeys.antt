@@ -53,9 +53,6 @@ prefix_of subject text (Some n) =
 abbrev pub prefix_content : ShapeContent → KeyContent
 prefix_content line = prefix_of (if line.asks_name then Name else Path) line.text line.wildcard
 
--- what a base name needs, and what a path needs
-abbrev pub candidate_content : ShapeContent → KeyContent
-candidate_content line = unwrap_or (name_content line) (no_text Anything)
-
+-- what a path needs
 abbrev pub line_content : ShapeContent → KeyContent
 line_content line = unwrap_or (name_content line) (prefix_content line)

@@ -9,14 +9,14 @@ ghost use Rattle.attr_glob.specs.Indexed.{indexed_lines, indexed_patterns, liste
 ghost use Rattle.attr_glob.specs.shared.LineShapes.{indexed_keys};
 ghost use Rattle.attr_keys.specs.shared.KeyIndexes.{IsKeyIndex};
 ghost use Rattle.attr_keys.specs.shared.LineKeys.{shape_content};
-ghost use Rattle.attr_glob.specs.shared.LineShapes.{folds, shape_reading};
+ghost use Rattle.attr_glob.specs.shared.LineShapes.{shape_reading};
 
 use crate::pattern::{Case, Mode, base_name};
 use crate::search::pattern::indexed_line::IndexedLine;
 use crate::search::pattern::{List, Mapping, copy_of_text};
 use crate::{Pattern, search};
 use attr_keys::key::{Key, Keyed};
-use attr_keys::key_index::{KeyIndex, Texts};
+use attr_keys::key_index::KeyIndex;
 use attr_keys::line_key::{Shape, line_key};
 use bitflags::Flags;
 use bstr::BStr;
@@ -78,7 +78,7 @@ impl Index {
     }
 
     /// The indexes of the candidates for a path, from 0 in the list, the greatest first. `basename_pos` is the path's
-    /// [`base_name_offset`](crate::pattern::base_name_offset).
+    /// [`base_name_offset`](crate::pattern::base_name_offset). It looks at each line: searches find their lines by keys.
     ///
     /// # Errors
     ///
@@ -97,14 +97,12 @@ impl Index {
             found.items ≡ candidates case name (patterns_of list.now.patterns.items)) }
     {
         let base_name = base_name(path.as_bytes(), basename_pos);
-        let texts = Texts {
-            name: base_name,
-            path: base_name,
-            fold: folds(case),
-        };
-        let (mut reversed, mut found) = (Vec::new(alloc), Vec::new(alloc));
-        self.keys
-            .find_candidates(&self.lines, texts, &mut reversed, &mut found)?;
+        let mut found = Vec::new(alloc);
+        for index in (0..self.lines.len()).rev() {
+            if self.lines[index].pattern.is_candidate(base_name, case) {
+                found.push(index)?;
+            }
+        }
         Ok(found)
     }
 }
@@ -137,16 +135,6 @@ impl Keyed for Pattern {
     }
 }
 
-/// Whether letters of different case are the same.
-pub fn folds(case: Case) -> bool
-    ensures { result ≡ folds case }
-{
-    match case {
-        Case::Sensitive => false,
-        Case::Fold => true,
-    }
-}
-
 // The parts of the pattern that decide its key.
 #[inline]
 fn shape_of(pattern: &Pattern) -> Shape<'_>
@@ -157,7 +145,7 @@ fn shape_of(pattern: &Pattern) -> Shape<'_>
         text: &pattern.text,
         wildcard: pattern.first_wildcard_pos,
         is_macro: mode.contains(Mode::MACRO),
-        asks_name: mode.contains(Mode::NO_SUB_DIR) && !mode.contains(Mode::ABSOLUTE),
+        asks_name: pattern.asks_name(),
         is_end: mode.contains(Mode::ENDS_WITH),
     }
 }

@@ -1,4 +1,4 @@
-use Rattle.std.proofs.Common.{◌∙◌, ◌-◌, ap, arith, map, sym}
+use Rattle.std.proofs.Common.{◌∙◌, ◌-◌, ap, arith, sym}
 use Rattle.attr_keys.specs.shared.Meeting.{content_met_at}
 use Rattle.attr_keys.proofs.Descending.{key_at, push_from, skip_from}
 use Rattle.attr_keys.proofs.key_index.find_each.Goals as goal
