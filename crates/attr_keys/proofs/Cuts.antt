@@ -8,20 +8,18 @@ use Rattle.std.specs.Cmp.Lexicographic.{pointwise, bytes_decides, slice_cmp}
 use Rattle.std.specs.List.{starts_with}
 use Rattle.std.specs.Ordering.{nat_cmp}
 use Rattle.std.proofs.lemmas.Bool.Decides.{nat_tests}
+use Rattle.std.proofs.lemmas.List.{length-take-le}
 use Rattle.attr_keys.specs.inner.Cases.{in_case}
 use Rattle.attr_keys.specs.shared.Codes.{codes_of}
 use Rattle.attr_keys.specs.shared.Meeting.{directed}
 use Rattle.attr_keys.specs.shared.Rows.{IsCommon}
 use Rattle.attr_keys.proofs.Parts.{no_end, shifted}
 use Rattle.attr_keys.proofs.RowLemmas.{by_test}
-use Rattle.attr_keys.proofs.SeenTexts.{codes_in_case, directed_in_case, directed_twice, length-directed, length-in_case}
+use Rattle.attr_keys.proofs.SeenTexts.{codes_in_case, directed_in_case, directed_twice, length-seen}
 
 pub on_false : {P : Type 0} (b : Bool) → (b ≡ false → P) → OnFalse b P
 on_false true f = tt
 on_false false f = f refl
-
-long_in_case : (fold from_end : Bool) (part : List ℕ) → length (in_case fold (directed from_end part)) ≡ length part
-long_in_case fold from_end part = length-in_case fold (directed from_end part) ∙ length-directed from_end part
 
 take_map : (f : ℕ → ℕ) (n : ℕ) (xs : List ℕ) → take n (map f xs) ≡ map f (take n xs)
 take_map f zero xs = refl
@@ -35,42 +33,34 @@ take_in_case true n text = take_map to_ascii_lowercase n text
 directed_same : (from_end : Bool) (x y : List ℕ) → directed from_end x ≡ directed from_end y → x ≡ y
 directed_same from_end x y e = sym (directed_twice from_end x) ∙ (ap (directed from_end) e ∙ directed_twice from_end y)
 
--- a text begins with a part just if what is cut from it is the part
+-- a text begins with a part just if what is cut from it is the part, as they are read
 pub begins_if_cut : (fold from_end : Bool) (text part own : List ℕ) → directed from_end own ≡ take (length part) (directed from_end text) →
-    (b : Bool) → (b ≡ true → own ≡ in_case fold part) → (own ≡ in_case fold part → b ≡ true) →
-    b ≡ starts_with nat_eq (directed from_end text) (in_case fold (directed from_end part))
+    (b : Bool) → (b ≡ true → in_case fold own ≡ in_case fold part) → (in_case fold own ≡ in_case fold part → b ≡ true) →
+    b ≡ starts_with nat_eq (in_case fold (directed from_end text)) (in_case fold (directed from_end part))
 begins_if_cut fold from_end text part own cut b so back =
     decide b so back
-    ∙ sym (ap (λ n. pointwise nat_eq part' (take n (directed from_end text))) (long_in_case fold from_end part)
-    ∙ ap (pointwise nat_eq part') (sym cut))
+    ∙ sym (ap (λ n. pointwise nat_eq part' (take n (in_case fold (directed from_end text)))) (length-seen fold from_end part)
+    ∙ ap (pointwise nat_eq part') (take_in_case fold (length part) (directed from_end text) ∙ ap (in_case fold) (sym cut)))
   where
     part' : List ℕ
     part' = in_case fold (directed from_end part)
 
-    same : own ≡ in_case fold part → part' ≡ directed from_end own
-    same e = sym (directed_in_case from_end fold part) ∙ ap (directed from_end) (sym e)
+    own' : List ℕ
+    own' = in_case fold (directed from_end own)
 
-    decide : (r : Bool) → (r ≡ true → own ≡ in_case fold part) → (own ≡ in_case fold part → r ≡ true) → r
-        ≡ pointwise nat_eq part' (directed from_end own)
-    decide true so back = sym ((bytes_decides part' (directed from_end own)).1 (same (so refl)))
+    same : in_case fold own ≡ in_case fold part → part' ≡ own'
+    same e = sym (directed_in_case from_end fold part) ∙ (ap (directed from_end) (sym e) ∙ directed_in_case from_end fold own)
+
+    decide : (r : Bool) → (r ≡ true → in_case fold own ≡ in_case fold part) → (in_case fold own ≡ in_case fold part → r ≡ true) → r
+        ≡ pointwise nat_eq part' own'
+    decide true so back = sym ((bytes_decides part' own').1 (same (so refl)))
     decide false so back =
-        by_test (pointwise nat_eq part' (directed from_end own))
+        by_test (pointwise nat_eq part' own')
         (λ t.
-        let e = (bytes_decides part' (directed from_end own)).0 t in
-        back (directed_same from_end own (in_case fold part) (sym (directed_in_case from_end fold part ∙ e))) ∙ sym t)
+        let e = (bytes_decides part' own').0 t in
+        back (directed_same from_end (in_case fold own) (in_case fold part)
+        (directed_in_case from_end fold own ∙ (sym e ∙ sym (directed_in_case from_end fold part)))) ∙ sym t)
         (λ f. sym f)
-
--- the same of a text as it is read
-pub seen_begins_if_cut : (fold from_end : Bool) (text part own : List ℕ) → directed from_end own ≡ take (length part) (directed from_end text) →
-    (b : Bool) → (b ≡ true → in_case fold own ≡ in_case fold part) → (in_case fold own ≡ in_case fold part → b ≡ true) →
-    b ≡ starts_with nat_eq (in_case fold (directed from_end text)) (in_case fold (directed from_end part))
-seen_begins_if_cut fold from_end text part own cut b so back =
-    begins_if_cut fold from_end (in_case fold text) part (in_case fold own)
-    (directed_in_case from_end fold own
-    ∙ (ap (in_case fold) cut
-    ∙ (sym (take_in_case fold (length part) (directed from_end text)) ∙ ap (take (length part)) (sym (directed_in_case from_end fold text)))))
-    b so back
-    ∙ ap (λ l. starts_with nat_eq l (in_case fold (directed from_end part))) (directed_in_case from_end fold text)
 
 -- codes that begin with others are those of texts that begin with others
 pub begin_below : (x y : List ℕ) (w v : Bool) → starts_with nat_eq (codes_of false x w) (codes_of false y v) ≡ true → starts_with nat_eq x y ≡ true
@@ -145,30 +135,27 @@ common_codes (t ∷ ts) (p ∷ ps) w (suc n) le le' same apart lacks e =
     equal : (a b : ℕ) → a ≡ b → nat_eq (b + 2) (a + 2) ≡ true
     equal a b e = grind (arith, nat_tests)
 
--- what is cut from a text is what it has in common with a key
+-- what is cut from a text is what it has in common with a key, as they are read
 pub common_is : (fold from_end : Bool) (text part own : List ℕ) (w : Bool) (codes : List ℕ) (n : ℕ) →
     codes_of fold (directed from_end part) w ≡ codes → n ≤ length text → n ≤ length part →
-    take n (directed from_end text) ≡ take n (in_case fold (directed from_end part)) →
-    (n < length text → n < length part → get_or (directed from_end text) n 0 ≢ get_or (in_case fold (directed from_end part)) n 0) →
-    starts_with nat_eq (codes_of false (directed from_end text) true) codes ≡ false →
-    directed from_end own ≡ take n (directed from_end text) → IsCommon (directed from_end text) codes (directed from_end own)
+    take n (in_case fold (directed from_end text)) ≡ take n (in_case fold (directed from_end part)) →
+    (n < length text → n < length part → get_or (in_case fold (directed from_end text)) n 0 ≢ get_or (in_case fold (directed from_end part)) n 0) →
+    starts_with nat_eq (codes_of false (in_case fold (directed from_end text)) true) codes ≡ false →
+    directed from_end own ≡ take n (directed from_end text) →
+    IsCommon (in_case fold (directed from_end text)) codes (in_case fold (directed from_end own))
 common_is fold from_end text part own w codes n is le le' same apart lacks cut =
-    let long = length-directed from_end text in
-    let long' = long_in_case fold from_end part in
-    let len : length (directed from_end own) ≡ n = ap length cut ∙ taken n (directed from_end text) (omega (arith, le, long)) in
+    let text' = in_case fold (directed from_end text) in
+    let long = length-seen fold from_end text in
+    let long' = length-seen fold from_end part in
+    let own' : in_case fold (directed from_end own) ≡ take n text' = ap (in_case fold) cut ∙ sym (take_in_case fold n (directed from_end text)) in
+    let len : length (in_case fold (directed from_end own)) ≡ n = ap length own' ∙ length-take-le n text' (omega (arith, le, long)) in
     let plain = codes_in_case fold (directed from_end part) w ∙ is in
     record {
       bound = omega (arith, len, le, long);
-      begins = cut ∙ ap (λ m. take m (directed from_end text)) (sym len);
-      apart = λ e. common_codes (directed from_end text) (in_case fold (directed from_end part)) w n (omega (arith, le, long))
-          (omega (arith, le', long'))
-          same (λ a b. apart (omega (arith, a, long)) (omega (arith, b, long')))
-          (ap (starts_with nat_eq (codes_of false (directed from_end text) true)) plain ∙ lacks)
-          (ap (λ m. get_or (codes_of false (directed from_end text) true) m 0) (sym len)
+      begins = own' ∙ ap (λ m. take m text') (sym len);
+      apart = λ e. common_codes text' (in_case fold (directed from_end part)) w n (omega (arith, le, long)) (omega (arith, le', long')) same
+          (λ a b. apart (omega (arith, a, long)) (omega (arith, b, long')))
+          (ap (starts_with nat_eq (codes_of false text' true)) plain ∙ lacks)
+          (ap (λ m. get_or (codes_of false text' true) m 0) (sym len)
           ∙ (e ∙ (ap (λ m. get_or codes m 0) len ∙ ap (λ l. get_or l n 0) (sym plain))));
     }
-  where
-    taken : (m : ℕ) (xs : List ℕ) → m ≤ length xs → length (take m xs) ≡ m
-    taken zero xs le = refl
-    taken (suc m) [] le = absurd (omega arith)
-    taken (suc m) (x ∷ xs) le = ap suc (taken m xs (omega arith))

@@ -23,14 +23,6 @@ pub record AreFrom (passes : ℕ → Bool) (from : ℕ) (rows : List ℕ) : Type
   pub falling : IsFalling rows
   pub above : (k : ℕ) → k < length rows → from ≤ slice_index rows k
 
-pub none_from : (passes : ℕ → Bool) (from : ℕ) → ((row : ℕ) → from ≤ row → passes row ≡ false) → AreFrom passes from []
-none_from passes from none = record {
-  has = λ row le. sym (none row le);
-  none = λ row lt. refl;
-  falling = λ k lt. absurd (omega (arith, lt));
-  above = λ k lt. absurd (omega (arith, lt));
-}
-
 -- one more that does not pass the test
 pub skip_from : (passes : ℕ → Bool) (from next : ℕ) (rows : List ℕ) → next ≡ from + 1 → passes from ≡ false → AreFrom passes next rows →
     AreFrom passes from rows

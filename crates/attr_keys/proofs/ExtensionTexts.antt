@@ -9,6 +9,9 @@ use Rattle.std.proofs.lemmas.Bool.{eqb-true}
 use Rattle.std.proofs.lemmas.Bool.Decides.{nat_tests}
 use Rattle.std.proofs.lemmas.List.{reverse-append, reverse-reverse}
 use Rattle.std.proofs.lemmas.List.Folds.{list_any-append}
+use Rattle.std.specs.Char.{to_ascii_lowercase}
+use Rattle.attr_keys.specs.inner.Cases.{in_case}
+use Rattle.attr_keys.specs.inner.Hashes.{hashed_part}
 use Rattle.attr_keys.specs.inner.Extensions.{dot_byte, extension, is_reversed_extension, or_from_dot}
 use Rattle.attr_keys.proofs.Narrowing.{rest_is}
 use Rattle.attr_keys.proofs.RowLemmas.{and_none, by_test}
@@ -150,3 +153,25 @@ pub longer_extension : (name text : List ℕ) (offset longest : ℕ) → offset 
     extension (drop offset name) ≡ None → extension name ≡ Some text → longest < length text
 longer_extension name text zero longest le first none is = let no : None ≡ Some text = sym none ∙ is in absurd cc
 longer_extension name text (suc n) longest le first none is = omega (arith, extension_before name text (suc n) le none is, first)
+
+-- a dot is one in lower case, too
+pub dot_in_case : (b : ℕ) → eqb (to_ascii_lowercase b) dot_byte ≡ eqb b dot_byte
+dot_in_case b = grind (arith, nat_tests)
+
+-- the part of a text that is hashed, in lower case
+pub part_in_case : (from_end fold : Bool) (text : List ℕ) →
+    hashed_part from_end (in_case fold text) ≡ option_map (in_case fold) (hashed_part from_end text)
+part_in_case false fold text = refl
+part_in_case true false text = as_it_is (extension text)
+  where
+    as_it_is : (o : Option (List ℕ)) → o ≡ option_map (in_case false) o
+    as_it_is None = refl
+    as_it_is (Some e) = refl
+part_in_case true true [] = refl
+part_in_case true true (b ∷ bs) =
+    ap (λ o. or_from_dot o (to_ascii_lowercase b) (in_case true bs)) (part_in_case true true bs) ∙ here (extension bs)
+  where
+    here : (o : Option (List ℕ)) → or_from_dot (option_map (in_case true) o) (to_ascii_lowercase b) (in_case true bs)
+        ≡ option_map (in_case true) (or_from_dot o b bs)
+    here (Some e) = refl
+    here None = by_test (eqb b dot_byte) (λ t. rw (dot_in_case b, t) refl) (λ f. rw (dot_in_case b, f) refl)

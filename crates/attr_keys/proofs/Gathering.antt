@@ -1,24 +1,26 @@
 -- The rows of each subject, and the keys that the texts of a path have.
 use Rattle.std.proofs.Common.{◌≡◌, ℕ, zero, suc, Bool, true, false, not, ◌&&◌, ◌||◌, List, [], ◌∷◌, map, refl, sym, ap}
-use Rattle.std.proofs.Common.{subst, ◌∙◌, arith, eqb, Option, Some, None}
+use Rattle.std.proofs.Common.{subst, ◌∙◌, eqb, Option, Some, None}
 use Rattle.std.specs.Char.{to_ascii_lowercase}
 use Rattle.std.specs.Prelude.{slice_get}
-use Rattle.std.proofs.lemmas.Bool.Decides.{nat_tests}
 use Rattle.std.proofs.lemmas.List.{length-map}
 use Rattle.attr_keys.specs.declared.key.Keys.{Keys}
 use Rattle.attr_keys.specs.declared.key.Subject.{Subject}
 use Rattle.attr_keys.specs.declared.key.Subject.TheVariants.{Name, End, Path, Anything, Nothing}
+use Rattle.attr_keys.specs.declared.key_index.KeyRows.{KeyRows}
 use Rattle.attr_keys.specs.declared.key_index.SubjectRows.{SubjectRows}
+use Rattle.attr_keys.specs.declared.key.View.{View}
 use Rattle.attr_keys.specs.declared.kinds.Kind.TheVariants as kind
 use Rattle.attr_keys.specs.shared.KeyContents.{KeyContent}
-use Rattle.attr_keys.specs.inner.Cases.{content_in_case, in_case, keys_seen, seen, seen_keys}
+use Rattle.attr_keys.specs.inner.Cases.{content_in_case, in_case, keys_seen, seen, seen_keys, seen_text}
 use Rattle.attr_keys.specs.inner.Extensions.{dot_byte, is_hashed, is_reversed_extension}
 use Rattle.attr_keys.specs.inner.Kinds.{is_of, kind_by, same_kind}
 use Rattle.attr_keys.specs.shared.Meeting.{directed, is_about, is_end, same_subject, text_has}
-use Rattle.attr_keys.specs.inner.Orders.{AreFindable, AreSubjectRows, has_subject_row}
+use Rattle.attr_keys.specs.inner.Orders.{AreFindable, AreSorted, AreSubjectRows, has_subject_row}
 use Rattle.attr_keys.specs.shared.Rows.{has_row}
 use Rattle.attr_keys.proofs.RowLemmas.{by_test}
-use Rattle.attr_keys.proofs.SeenTexts.{directed_twice}
+use Rattle.attr_keys.proofs.ExtensionTexts.{dot_in_case}
+use Rattle.attr_keys.proofs.SeenTexts.{directed_in_case, directed_twice, seen_lower}
 
 same_end : (subject other : Subject) → same_subject subject other ≡ true → is_end other ≡ is_end subject
 same_end Name Name h = refl
@@ -92,21 +94,32 @@ subject_rows_pass : (subject : Subject) (fold : Bool) (keys : List KeyContent) (
 subject_rows_pass subject fold keys rows test are row =
     ap (λ b. b && test (slice_get (seen_keys fold (is_end subject) keys) row)) (are.has row) ∙ about_seen subject fold test keys row
 
-pub subject_rows_met : (subject : Subject) (fold : Bool) (keys seen : List KeyContent) (rows : SubjectRows) (from_end : Bool) (text : List ℕ) →
-    from_end ≡ is_end subject → seen ≡ seen_keys fold (is_end subject) keys → AreSubjectRows subject fold keys rows → (row : ℕ) →
-    has_subject_row rows row && text_has (directed from_end text) (slice_get seen row)
+pub subject_rows_met : (subject : Subject) (fold : Bool) (keys seen : List KeyContent) (rows : SubjectRows) (view : View) (text : List ℕ) →
+    view.fold ≡ fold → view.from_end ≡ is_end subject → seen ≡ seen_keys fold (is_end subject) keys → AreSubjectRows subject fold keys rows →
+    (row : ℕ) → has_subject_row rows row && text_has (seen_text view text) (slice_get seen row)
     ≡ is_about subject (slice_get (map (content_in_case fold) keys) row)
-    && text_has (directed (is_end subject) text) (slice_get (map (content_in_case fold) keys) row)
-subject_rows_met subject fold keys seen rows from_end text ends is are row =
-    ap (λ l. has_subject_row rows row && text_has (directed from_end text) (slice_get l row)) is
-    ∙ (ap (λ e. has_subject_row rows row && text_has (directed e text) (slice_get (seen_keys fold (is_end subject) keys) row)) ends
-    ∙ subject_rows_pass subject fold keys rows (text_has (directed (is_end subject) text)) are row)
+    && text_has (directed (is_end subject) (in_case fold text)) (slice_get (map (content_in_case fold) keys) row)
+subject_rows_met subject fold keys seen rows view text folds ends is are row =
+    let e = is_end subject in
+    let as_read = ap (λ f. in_case f (directed view.from_end text)) folds
+    ∙ (ap (λ d. in_case fold (directed d text)) ends ∙ sym (directed_in_case e fold text)) in
+    ap (λ l. has_subject_row rows row && text_has (seen_text view text) (slice_get l row)) is
+    ∙ (ap (λ l. has_subject_row rows row && text_has l (slice_get (seen_keys fold e keys) row)) as_read
+    ∙ subject_rows_pass subject fold keys rows (text_has (directed e (in_case fold text))) are row)
 
-about_in_case : (subject : Subject) (fold : Bool) (keys : List KeyContent) (row : ℕ) →
-    is_about subject (slice_get (map (content_in_case fold) keys) row) ≡ is_about subject (slice_get keys row)
-about_in_case subject fold [] row = refl
-about_in_case subject fold (key ∷ keys) zero = refl
-about_in_case subject fold (key ∷ keys) (suc row) = about_in_case subject fold keys row
+-- keys without a capital letter are the same in lower case
+pub sorted_for : (fold : Bool) (keys : List KeyContent) (rows : KeyRows) → map (content_in_case true) keys ≡ keys → AreSorted false keys rows →
+    AreSorted fold keys rows
+sorted_for false keys rows lower are = are
+sorted_for true keys rows lower are =
+    record { names = again Name rows.names are.names; ends = again End rows.ends are.ends; paths = again Path rows.paths are.paths }
+  where
+    again : (subject : Subject) (of : SubjectRows) → AreSubjectRows subject false keys of → AreSubjectRows subject true keys of
+    again subject of are = record {
+      has = are.has;
+      found = subst (λ l. AreFindable (is_end subject) l of)
+          (sym (seen_lower (is_end subject) keys ∙ ap (seen_keys false (is_end subject)) lower)) are.found;
+    }
 
 -- kinds of a subject
 pub names_are : (key : Option KeyContent) → is_of kind.NamePrefix key || is_of kind.Name key ≡ is_about Name key
@@ -167,10 +180,6 @@ others_are (Some key) = by_subject key.subject key.is_whole
     by_subject Path false = refl
     by_subject Anything w = refl
     by_subject Nothing w = refl
-
--- a dot is one in lower case, too
-dot_in_case : (b : ℕ) → eqb (to_ascii_lowercase b) dot_byte ≡ eqb b dot_byte
-dot_in_case b = grind (arith, nat_tests)
 
 extension_in_case : (fold : Bool) (text : List ℕ) → is_reversed_extension (in_case fold text) ≡ is_reversed_extension text
 extension_in_case false text = refl
@@ -253,10 +262,3 @@ found_both old first first' second second' mid new more some same same' =
     assoc : (a b c : Bool) → (a || b) || c ≡ a || (b || c)
     assoc true b c = refl
     assoc false b c = refl
-
--- no keys of a subject
-pub none_about : (subject : Subject) (fold : Bool) (keys : List KeyContent) (rows : SubjectRows) (test : Option KeyContent → Bool) →
-    AreSubjectRows subject fold keys rows → (row : ℕ) → has_subject_row rows row ≡ false →
-    is_about subject (slice_get (map (content_in_case fold) keys) row) && test (slice_get (map (content_in_case fold) keys) row) ≡ false
-none_about subject fold keys rows test are row none =
-    ap (λ b. b && test (slice_get (map (content_in_case fold) keys) row)) (about_in_case subject fold keys row ∙ (sym (are.has row) ∙ none))

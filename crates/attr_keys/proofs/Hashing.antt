@@ -1,6 +1,6 @@
 -- Whole keys and extensions, by the hashes of their texts.
 use Rattle.std.proofs.Common.{◌≡◌, ℕ, zero, suc, ◌<◌, ◌≤◌, Bool, true, false, not, ◌&&◌, ◌||◌, List, []}
-use Rattle.std.proofs.Common.{◌∷◌, ◌++◌, length, get_or, reverse, Option, None, Some, refl, sym, ap, subst}
+use Rattle.std.proofs.Common.{◌∷◌, ◌++◌, length, get_or, reverse, Option, None, Some, option_map, refl, sym, ap, subst}
 use Rattle.std.proofs.Common.{◌∙◌, arith, eqb, nat_eq}
 use Rattle.std.specs.Prelude.{All, filter, slice_get, unwrap_or}
 use Rattle.std.specs.List.{starts_with}
@@ -18,9 +18,11 @@ use Rattle.attr_keys.specs.inner.Hashes.{AreAmong, AreNoLonger, IsHashOfKey, IsL
 use Rattle.attr_keys.specs.inner.Hashes.{hash_of_row, hashed_part, hashed_rows, key_text, quick_hash, rows_of_hash, text_of_row}
 use Rattle.attr_keys.specs.shared.Rows.{has_row}
 use Rattle.attr_keys.proofs.Cuts.{begin_below}
-use Rattle.attr_keys.proofs.ExtensionTexts.{extension_of_begun}
+use Rattle.attr_keys.proofs.ExtensionTexts.{extension_of_begun, part_in_case}
 use Rattle.attr_keys.proofs.Parts.{no_byte, no_end, shifted}
 use Rattle.attr_keys.proofs.RowLemmas.{and_none, by_test}
+use Rattle.attr_keys.proofs.SeenTexts.{directed_in_case, length-in_case}
+use Rattle.attr_keys.specs.inner.Cases.{in_case}
 
 -- a text that has a whole key is the key
 whole_same : (text key : List ℕ) → starts_with nat_eq (codes_of false text true) (codes_of false key true) ≡ true → key ≡ text
@@ -133,6 +135,20 @@ hash_of_part part text key hash is found hashed = hashed ∙ ap (λ o. quick_has
 
 pub no_part : (part : Option (List ℕ)) (key : List ℕ) (longest : ℕ) → IsLonger longest part → length key ≤ longest → part ≡ Some key → ⊥
 no_part part key longest longer short found = omega (arith, longer key found, short)
+
+-- what is hashed of a text that has a key, as both are read
+pub found_in_case : (fold from_end : Bool) (text : List ℕ) (keys : List KeyContent) (h : HashedRow) → IsHashOfKey from_end keys h →
+    starts_with nat_eq (codes_of false (in_case fold (directed from_end text)) true) (row_codes keys h.row) ≡ true →
+    option_map (in_case fold) (hashed_part from_end text) ≡ Some (text_of_row from_end keys h.row)
+found_in_case fold from_end text keys h is has =
+    sym (part_in_case from_end fold text) ∙ is.finds (in_case fold text)
+    (ap (λ l. starts_with nat_eq (codes_of false l true) (row_codes keys h.row)) (directed_in_case from_end fold text) ∙ has)
+
+pub longer_in_case : (fold : Bool) (longest : ℕ) (part : Option (List ℕ)) → IsLonger longest part → IsLonger longest (option_map (in_case fold) part)
+longer_in_case fold longest None longer text is = absurd cc
+longer_in_case fold longest (Some part) longer text is =
+    let e = ap (λ o. length (unwrap_or o [])) is in
+    omega (arith, longer part refl, length-in_case fold part, e)
 
 -- those of some keys of another order, and of some of them
 pub no_longer_push : (from_end : Bool) (keys : List KeyContent) (most more : ℕ) (rows : List HashedRow) (row : HashedRow) →

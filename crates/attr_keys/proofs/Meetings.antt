@@ -176,13 +176,12 @@ any_in_case fold (key ∷ keys) zero = refl
 any_in_case fold (key ∷ keys) (suc row) = any_in_case fold keys row
 
 -- the keys that were gathered in their case, and those of any path
-pub met_of_gathered : (fold : Bool) (name path : List ℕ) (keys cased : List KeyContent) (row : ℕ) → cased ≡ map (content_in_case fold) keys →
-    gathered (in_case fold name) (in_case fold path) (slice_get cased row) || is_about Anything (slice_get keys row)
+pub met_of_gathered : (fold : Bool) (name path : List ℕ) (keys : List KeyContent) (row : ℕ) →
+    gathered (in_case fold name) (in_case fold path) (slice_get (map (content_in_case fold) keys) row) || is_about Anything (slice_get keys row)
     ≡ content_met_at fold name path (slice_get keys row)
-met_of_gathered fold name path keys cased row same =
+met_of_gathered fold name path keys row =
     let name' = in_case fold name in
     let path' = in_case fold path in
     let lower = slice_get (map (content_in_case fold) keys) row in
-    ap (λ l. gathered name' path' (slice_get l row) || is_about Anything (slice_get keys row)) same
-    ∙ (ap (λ b. gathered name' path' lower || b) (sym (any_in_case fold keys row))
-    ∙ (gathered_or_any name' path' lower ∙ met_in_case fold name path keys row))
+    ap (λ b. gathered name' path' lower || b) (sym (any_in_case fold keys row))
+    ∙ (gathered_or_any name' path' lower ∙ met_in_case fold name path keys row)

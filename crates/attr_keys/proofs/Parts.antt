@@ -11,7 +11,7 @@ use Rattle.attr_keys.specs.declared.key.View.{View}
 use Rattle.attr_keys.specs.inner.Cases.{in_case, seen_text}
 use Rattle.attr_keys.specs.shared.Codes.{codes_of}
 use Rattle.attr_keys.specs.shared.Meeting.{directed}
-use Rattle.attr_keys.proofs.SeenTexts.{codes_in_case, directed_in_case, length-directed, length-in_case}
+use Rattle.attr_keys.proofs.SeenTexts.{codes_in_case, length-seen}
 
 end_below : (b : ℕ) → nat_cmp 1 (b + 2) ≡ Less
 end_below b = grind (arith, nat_tests)
@@ -62,13 +62,13 @@ codes_order (a ∷ xs) (b ∷ bs) w v =
     ∙ (ap (ordering_then (nat_cmp a b)) (codes_order xs bs w v) ∙ then_then (nat_cmp a b) (slice_cmp nat_cmp xs bs) (bool_cmp w v))
 
 -- the same of codes as they are read
-pub order_seen : (view other : View) (x y : List ℕ) (w v : Bool) (cs ds : List ℕ) → codes_of view.fold (directed view.from_end x) w ≡ cs →
-    codes_of other.fold (directed other.from_end y) v ≡ ds →
-    ordering_then (slice_cmp nat_cmp (seen_text view x) (seen_text other y)) (bool_cmp w v) ≡ slice_cmp nat_cmp cs ds
-order_seen view other x y w v cs ds first second =
-    sym (codes_order (seen_text view x) (seen_text other y) w v)
-    ∙ (ap (λ l. slice_cmp nat_cmp l (codes_of false (seen_text other y) v)) (codes_in_case view.fold (directed view.from_end x) w ∙ first)
-    ∙ ap (slice_cmp nat_cmp cs) (codes_in_case other.fold (directed other.from_end y) v ∙ second))
+pub order_seen : (view : View) (x y : List ℕ) (w v : Bool) (cs ds : List ℕ) → codes_of view.fold (directed view.from_end x) w ≡ cs →
+    codes_of view.fold (directed view.from_end y) v ≡ ds →
+    ordering_then (slice_cmp nat_cmp (seen_text view x) (seen_text view y)) (bool_cmp w v) ≡ slice_cmp nat_cmp cs ds
+order_seen view x y w v cs ds first second =
+    sym (codes_order (seen_text view x) (seen_text view y) w v)
+    ∙ (ap (λ l. slice_cmp nat_cmp l (codes_of false (seen_text view y) v)) (codes_in_case view.fold (directed view.from_end x) w ∙ first)
+    ∙ ap (slice_cmp nat_cmp cs) (codes_in_case view.fold (directed view.from_end y) v ∙ second))
 
 -- a text has a key if it begins with it, and is as long if the key is whole
 codes_begin : (text part : List ℕ) (w : Bool) → starts_with nat_eq (codes_of false text true) (codes_of false part w)
@@ -84,27 +84,29 @@ codes_begin (b ∷ bs) (c ∷ cs) w =
     ∙ (and_assoc (nat_eq c b) (starts_with nat_eq bs cs) (not w || eqb (length cs) (length bs))
     ∙ ap (λ t. (nat_eq c b && starts_with nat_eq bs cs) && (not w || t)) (sym (both_longer (length cs) (length bs)))))
 
--- the same of a part of a line as it is read
+-- the same of a text and a part of a line as they are read
 begin_in_case : (fold from_end : Bool) (text part : List ℕ) (w : Bool) →
-    starts_with nat_eq (codes_of false (directed from_end text) true) (codes_of fold (directed from_end part) w)
-    ≡ starts_with nat_eq (directed from_end text) (in_case fold (directed from_end part)) && (not w || eqb (length part) (length text))
+    starts_with nat_eq (codes_of false (in_case fold (directed from_end text)) true) (codes_of fold (directed from_end part) w)
+    ≡ starts_with nat_eq (in_case fold (directed from_end text)) (in_case fold (directed from_end part))
+    && (not w || eqb (length part) (length text))
 begin_in_case fold from_end text part w =
-    let text' = directed from_end text in
-    let part' = directed from_end part in
-    let begins = starts_with nat_eq text' (in_case fold part') in
-    ap (starts_with nat_eq (codes_of false text' true)) (sym (codes_in_case fold part' w))
-    ∙ (codes_begin text' (in_case fold part') w
-    ∙ (ap (λ n. begins && (not w || eqb n (length text'))) (length-in_case fold part' ∙ length-directed from_end part)
-    ∙ ap (λ n. begins && (not w || eqb (length part) n)) (length-directed from_end text)))
+    let text' = in_case fold (directed from_end text) in
+    let part' = in_case fold (directed from_end part) in
+    let begins = starts_with nat_eq text' part' in
+    ap (starts_with nat_eq (codes_of false text' true)) (sym (codes_in_case fold (directed from_end part) w))
+    ∙ (codes_begin text' part' w
+    ∙ (ap (λ n. begins && (not w || eqb n (length text'))) (length-seen fold from_end part)
+    ∙ ap (λ n. begins && (not w || eqb (length part) n)) (length-seen fold from_end text)))
 
 -- a whole key is as long as the text, or another one is asked for
 pub has_if_long : (fold from_end : Bool) (text part codes : List ℕ) (w : Bool) → codes_of fold (directed from_end part) w ≡ codes →
     ((w ≡ true) × (length part ≡ length text)) ⊎ (w ≡ false) →
-    starts_with nat_eq (directed from_end text) (in_case fold (directed from_end part))
-    ≡ starts_with nat_eq (codes_of false (directed from_end text) true) codes
+    starts_with nat_eq (in_case fold (directed from_end text)) (in_case fold (directed from_end part))
+    ≡ starts_with nat_eq (codes_of false (in_case fold (directed from_end text)) true) codes
 has_if_long fold from_end text part codes w is long =
-    let begins = starts_with nat_eq (directed from_end text) (in_case fold (directed from_end part)) in
-    sym (ap (starts_with nat_eq (codes_of false (directed from_end text) true)) (sym is)
+    let text' = in_case fold (directed from_end text) in
+    let begins = starts_with nat_eq text' (in_case fold (directed from_end part)) in
+    sym (ap (starts_with nat_eq (codes_of false text' true)) (sym is)
     ∙ (begin_in_case fold from_end text part w ∙ (ap (λ b. begins && b) (fits long) ∙ and_all begins)))
   where
     and_all : (a : Bool) → a && true ≡ a
@@ -124,44 +126,18 @@ has_if_long fold from_end text part codes w is long =
 
 -- a whole key of another length
 pub lacks_if_other : (fold from_end : Bool) (text part codes : List ℕ) (w : Bool) → codes_of fold (directed from_end part) w ≡ codes →
-    w ≡ true → length part ≢ length text → false ≡ starts_with nat_eq (codes_of false (directed from_end text) true) codes
+    w ≡ true → length part ≢ length text → false ≡ starts_with nat_eq (codes_of false (in_case fold (directed from_end text)) true) codes
 lacks_if_other fold from_end text part codes w is whole other =
-    sym (ap (starts_with nat_eq (codes_of false (directed from_end text) true)) (sym is)
+    let text' = in_case fold (directed from_end text) in
+    let begins = starts_with nat_eq text' (in_case fold (directed from_end part)) in
+    sym (ap (starts_with nat_eq (codes_of false text' true)) (sym is)
     ∙ (begin_in_case fold from_end text part w
     ∙ (ap (λ b. begins && (not b || eqb (length part) (length text))) whole
     ∙ (ap (λ b. begins && b) (apart (length part) (length text) other) ∙ and_none begins))))
   where
-    begins : Bool
-    begins = starts_with nat_eq (directed from_end text) (in_case fold (directed from_end part))
-
     apart : (a b : ℕ) → a ≢ b → eqb a b ≡ false
     apart a b ne = grind (arith, nat_tests)
 
     and_none : (a : Bool) → a && false ≡ false
     and_none true = refl
     and_none false = refl
-
--- the codes of a text as it is read
-seen_codes : (fold from_end : Bool) (text : List ℕ) →
-    codes_of false (directed from_end (in_case fold text)) true ≡ codes_of fold (directed from_end text) true
-seen_codes fold from_end text =
-    ap (λ l. codes_of false l true) (directed_in_case from_end fold text) ∙ codes_in_case fold (directed from_end text) true
-
--- both of these of a text as it is read
-pub seen_has_if_long : (fold from_end : Bool) (text part : List ℕ) (w : Bool) → ((w ≡ true) × (length part ≡ length text)) ⊎ (w ≡ false) →
-    starts_with nat_eq (in_case fold (directed from_end text)) (in_case fold (directed from_end part))
-    ≡ starts_with nat_eq (codes_of fold (directed from_end text) true) (codes_of fold (directed from_end part) w)
-seen_has_if_long fold from_end text part w long =
-    ap (λ l. starts_with nat_eq l (in_case fold (directed from_end part))) (sym (directed_in_case from_end fold text))
-    ∙ (has_if_long fold from_end (in_case fold text) part _ w refl (as_long long)
-    ∙ ap (λ l. starts_with nat_eq l (codes_of fold (directed from_end part) w)) (seen_codes fold from_end text))
-  where
-    as_long : ((w ≡ true) × (length part ≡ length text)) ⊎ (w ≡ false) → ((w ≡ true) × (length part ≡ length (in_case fold text))) ⊎ (w ≡ false)
-    as_long (inl e) = inl (e.0, e.1 ∙ sym (length-in_case fold text))
-    as_long (inr e) = inr e
-
-pub seen_lacks_if_other : (fold from_end : Bool) (text part : List ℕ) (w : Bool) → w ≡ true → length part ≢ length text →
-    false ≡ starts_with nat_eq (codes_of fold (directed from_end text) true) (codes_of fold (directed from_end part) w)
-seen_lacks_if_other fold from_end text part w whole other =
-    lacks_if_other fold from_end (in_case fold text) part _ w refl whole (λ e. other (e ∙ length-in_case fold text))
-    ∙ ap (λ l. starts_with nat_eq l (codes_of fold (directed from_end part) w)) (seen_codes fold from_end text)

@@ -16,15 +16,6 @@ codes_in_case false text is_whole = refl
 codes_in_case true [] is_whole = refl
 codes_in_case true (b ∷ bs) is_whole = ap (λ l. byte_code true b ∷ l) (codes_in_case true bs is_whole)
 
-pub same_in_case : (keys : List KeyContent) → map (content_in_case false) keys ≡ keys
-same_in_case [] = refl
-same_in_case (key ∷ keys) = ap (λ l. key ∷ l) (same_in_case keys)
-
--- keys that are the same in lower case are the same in any
-pub any_case : (fold : Bool) (keys : List KeyContent) → map (content_in_case true) keys ≡ keys → keys ≡ map (content_in_case fold) keys
-any_case true keys same = sym same
-any_case false keys same = sym (same_in_case keys)
-
 -- a text that is reversed twice is the same
 pub directed_twice : (from_end : Bool) (text : List ℕ) → directed from_end (directed from_end text) ≡ text
 directed_twice false text = refl
@@ -64,6 +55,19 @@ directed_in_case false fold text = refl
 directed_in_case true false text = refl
 directed_in_case true true text = sym (map_reverse to_ascii_lowercase text)
 
+-- keys in lower case, read as they are
+pub seen_lower : (from_end : Bool) (keys : List KeyContent) →
+    seen_keys true from_end keys ≡ seen_keys false from_end (map (content_in_case true) keys)
+seen_lower from_end [] = refl
+seen_lower from_end (key ∷ keys) =
+    let own = directed (is_end key.subject) key.text in
+    ap (λ t. with_text t ∷ seen_keys true from_end keys)
+    (sym (directed_in_case from_end true own) ∙ ap (directed from_end) (sym (directed_in_case (is_end key.subject) true key.text)))
+    ∙ ap (λ l. seen false from_end (content_in_case true key) ∷ l) (seen_lower from_end keys)
+  where
+    with_text : List ℕ → KeyContent
+    with_text t = record { subject = key.subject; text = t; is_whole = key.is_whole }
+
 -- the text of a key that is read like this, as it stands in its line
 pub standing_seen : (fold from_end : Bool) (keys : List KeyContent) (row : ℕ) →
     in_case fold (text_standing (slice_get keys row)) ≡ text_of_row from_end (seen_keys fold from_end keys) row
@@ -93,3 +97,6 @@ length-directed true text = length-reverse text
 pub length-in_case : (fold : Bool) (text : List ℕ) → length (in_case fold text) ≡ length text
 length-in_case false text = refl
 length-in_case true text = length-map text to_ascii_lowercase
+
+pub length-seen : (fold from_end : Bool) (text : List ℕ) → length (in_case fold (directed from_end text)) ≡ length text
+length-seen fold from_end text = length-in_case fold (directed from_end text) ∙ length-directed from_end text

@@ -1,10 +1,10 @@
 //! Whole keys and extensions, found by the hashes of their texts.
 
 ghost use Rattle.std.specs.Prelude.{◌≡◌, ◌<◌, ◌&&◌, ◌||◌, ℕ, All, IfOk, IfSome, None, OnOk, Some, length, reverse, true, slice_get};
-ghost use Rattle.attr_keys.specs.inner.Cases.{in_case, keys_seen};
+ghost use Rattle.attr_keys.specs.inner.Cases.{in_case, keys_seen, seen_text};
 ghost use Rattle.attr_keys.specs.inner.Extensions.{extension, is_hashed, is_reversed_extension};
 ghost use Rattle.attr_keys.specs.inner.Hashes.{AreAmong, AreNoLonger, IsHashOfKey, IsLonger, hash_of_row, hashed_part, hashed_rows, quick_hash, rows_of_hash};
-ghost use Rattle.attr_keys.specs.shared.Meeting.{directed, text_has};
+ghost use Rattle.attr_keys.specs.shared.Meeting.{text_has};
 ghost use Rattle.attr_keys.specs.shared.Rows.{has_row};
 
 use crate::hashed::{HashedRow, HashedRows, quick_hash};
@@ -94,20 +94,27 @@ fn row_hash<K: Keyed>(
     ensures { IfOk result (λ hash. hash
         ≡ hash_of_row keys.entry.view.from_end (keys_seen K.content keys.entry) row) }
 {
-    let text = row_text(keys, row);
-    if !keys.view.fold {
+    hash_in_case(keys.view.fold, row_text(keys, row), buffer)
+}
+
+/// The hash of a text, in lower case if `fold` is set. `buffer` is one for that.
+///
+/// # Errors
+///
+/// If memory runs out.
+#[inline(always)]
+pub fn hash_in_case(fold: bool, text: &[u8], buffer: &mut Vec<u8>) -> Result<u64, AllocError>
+    ensures { IfOk result (λ hash. hash ≡ quick_hash (in_case fold text.now)) }
+{
+    if !fold {
         return Ok(quick_hash(text));
     }
     write_lower(text, buffer)?;
     Ok(quick_hash(buffer))
 }
 
-/// The text in lower case, in place of what the buffer had.
-///
-/// # Errors
-///
-/// If memory runs out. The contents of the buffer are not specified then.
-pub fn write_lower(text: &[u8], buffer: &mut Vec<u8>) -> Result<(), AllocError>
+// The text in lower case, in place of what the buffer had.
+fn write_lower(text: &[u8], buffer: &mut Vec<u8>) -> Result<(), AllocError>
     ensures { OnOk result (buffer.new.items ≡ in_case true text.now) }
 {
     buffer.clear();
@@ -173,37 +180,10 @@ pub fn longest_key<K: Keyed>(keys: Keys<'_, K>, rows: &[HashedRow]) -> usize
     longest
 }
 
-/// Appends the rows whose keys the text has. No key of these rows is longer than the longest.
-///
-/// # Errors
-///
-/// If memory runs out. Some of the rows may have been appended then.
+/// The part of a text whose hash finds the keys that it has: a base name's extension, if ends are looked up. There is none if it
+/// is longer than the longest key.
 #[inline(always)]
-pub fn append_by_hash<K: Keyed>(
-    keys: Keys<'_, K>,
-    rows: &HashedRows,
-    text: &[u8],
-    longest: usize,
-    found: &mut Vec<usize>,
-) -> Result<(), AllocError>
-    requires hashes { All (IsHashOfKey keys.view.from_end (keys_seen K.content keys)) rows.now }
-    requires short { AreNoLonger keys.view.from_end (keys_seen K.content keys) longest rows.now }
-    ensures { OnOk result ((row : ℕ) → has_row found.new.items row
-        ≡ (has_row found.old.items row || (has_row (hashed_rows rows.now) row
-        && text_has (directed keys.entry.view.from_end text.now)
-        (slice_get (keys_seen K.content keys.entry) row)))) }
-{
-    let Some(part) = hashed_part(keys.view.from_end, text, longest) else {
-        return Ok(());
-    };
-    let hash = quick_hash(part);
-    append_of_hash(keys, rows.of_hash(hash), hash, text, found)
-}
-
-// The part of a text whose hash finds the keys that it has: a base name's extension, if ends are looked up. None is longer than
-// the longest.
-#[inline(always)]
-fn hashed_part(from_end: bool, text: &[u8], longest: usize) -> Option<&[u8]>
+pub fn hashed_part(from_end: bool, text: &[u8], longest: usize) -> Option<&[u8]>
     ensures none { result ≡ None → IsLonger longest (hashed_part from_end text.now) }
     ensures some { IfSome result (λ part. hashed_part from_end text.now ≡ Some part.now) }
 {
@@ -216,8 +196,12 @@ fn hashed_part(from_end: bool, text: &[u8], longest: usize) -> Option<&[u8]>
     }
 }
 
-// Appends the rows of this hash whose keys the text has.
-fn append_of_hash<K: Keyed>(
+/// Appends the rows of this hash whose keys the text has.
+///
+/// # Errors
+///
+/// If memory runs out. Some of the rows may have been appended then.
+pub fn append_of_hash<K: Keyed>(
     keys: Keys<'_, K>,
     rows: &[HashedRow],
     hash: u64,
@@ -227,7 +211,7 @@ fn append_of_hash<K: Keyed>(
     ensures { OnOk result ((row : ℕ) → has_row found.new.items row
         ≡ (has_row found.old.items row
         || (has_row (hashed_rows (rows_of_hash hash rows.now)) row
-        && text_has (directed keys.entry.view.from_end text.now)
+        && text_has (seen_text keys.entry.view text.now)
         (slice_get (keys_seen K.content keys.entry) row)))) }
 {
     for hashed in rows {

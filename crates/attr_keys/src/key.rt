@@ -149,7 +149,7 @@ pub fn row_order<K: Keyed>(keys: Keys<'_, K>, row: usize, other: usize) -> Order
 {
     let (text, is_whole) = parts(keys.lines, row);
     let (other_text, other_is_whole) = parts(keys.lines, other);
-    text_order(keys.view, text, keys.view, other_text).then(is_whole.cmp(&other_is_whole))
+    text_order(keys.view, text, other_text).then(is_whole.cmp(&other_is_whole))
 }
 
 /// Whether the codes of the key of a line are not after those of a text.
@@ -160,21 +160,21 @@ pub fn is_row_up_to<K: Keyed>(
     is_text_whole: bool,
 ) -> bool
     ensures { result ≡ is_up_to
-        (codes_of false (directed keys.entry.view.from_end text.now) is_text_whole)
+        (codes_of false (seen_text keys.entry.view text.now) is_text_whole)
         (row_codes (keys_seen K.content keys.entry) row) }
 {
     let (part, is_whole) = parts(keys.lines, row);
-    let order = text_order(exact(keys.view), text, keys.view, part);
+    let order = text_order(keys.view, text, part);
     !order.then(is_text_whole.cmp(&is_whole)).is_lt()
 }
 
 /// The bytes of a text that the key of a line has in common with it, up to the first that differs. The text doesn't have the key.
 pub fn common<'a, K: Keyed>(keys: Keys<'_, K>, row: usize, text: &'a [u8]) -> &'a [u8]
-    requires { text_has (directed keys.view.from_end text.now)
+    requires { text_has (seen_text keys.view text.now)
         (slice_get (keys_seen K.content keys) row) ≡ false }
-    ensures { IsCommon (directed keys.entry.view.from_end text.now)
+    ensures { IsCommon (seen_text keys.entry.view text.now)
         (row_codes (keys_seen K.content keys.entry) row)
-        (directed keys.entry.view.from_end result.now) }
+        (seen_text keys.entry.view result.now) }
 {
     let (part, _) = parts(keys.lines, row);
     cut(keys.view.from_end, text, common_len(keys.view, text, part))
@@ -184,15 +184,15 @@ pub fn common<'a, K: Keyed>(keys: Keys<'_, K>, row: usize, text: &'a [u8]) -> &'
 fn common_len(view: View, text: &[u8], part: &[u8]) -> usize
     ensures text { result ≤ length text.now }
     ensures part { result ≤ length part.now }
-    ensures same { take result (directed view.from_end text.now)
+    ensures same { take result (seen_text view text.now)
         ≡ take result (seen_text view part.now) }
     ensures apart { result < length text.now → result < length part.now
-        → slice_index (directed view.from_end text.now) result
+        → slice_index (seen_text view text.now) result
         ≢ slice_index (seen_text view part.now) result }
 {
     let mut len = 0;
     while len < text.len() && len < part.len() {
-        if byte_at(view.from_end, text, len) != seen_byte(view, part, len) {
+        if seen_byte(view, text, len) != seen_byte(view, part, len) {
             return len;
         }
         len += 1;
@@ -200,47 +200,25 @@ fn common_len(view: View, text: &[u8], part: &[u8]) -> usize
     len
 }
 
-/// How texts are read in the same direction, as they are.
+// How two texts are ordered, as they are read.
 #[inline(always)]
-pub fn exact(view: View) -> View
-    ensures fold { result.fold ≡ false }
-    ensures from_end { result.from_end ≡ view.from_end }
+fn text_order(view: View, text: &[u8], other: &[u8]) -> Ordering
+    ensures { result ≡ slice_cmp nat_cmp (seen_text view text.now) (seen_text view other.now) }
 {
-    View {
-        fold: false,
-        from_end: view.from_end,
-    }
-}
-
-// How two texts are ordered, each as it is read.
-#[inline(always)]
-fn text_order(view: View, text: &[u8], other_view: View, other: &[u8]) -> Ordering
-    ensures { result ≡ slice_cmp nat_cmp (seen_text view text.now)
-        (seen_text other_view other.now) }
-{
-    if is_plain(view) && is_plain(other_view) {
+    if !view.fold && !view.from_end {
         return text.cmp(other);
     }
-    seen_order(view, text, other_view, other)
-}
-
-#[inline(always)]
-fn is_plain(view: View) -> bool
-    ensures fold { IsTrue result → view.fold ≡ false }
-    ensures from_end { IsTrue result → view.from_end ≡ false }
-{
-    !view.fold && !view.from_end
+    seen_order(view, text, other)
 }
 
 // The same, byte by byte.
 #[inline(never)]
-fn seen_order(view: View, text: &[u8], other_view: View, other: &[u8]) -> Ordering
-    ensures { result ≡ slice_cmp nat_cmp (seen_text view text.now)
-        (seen_text other_view other.now) }
+fn seen_order(view: View, text: &[u8], other: &[u8]) -> Ordering
+    ensures { result ≡ slice_cmp nat_cmp (seen_text view text.now) (seen_text view other.now) }
 {
     for offset in 0..text.len().min(other.len()) {
         let byte = seen_byte(view, text, offset);
-        let other_byte = seen_byte(other_view, other, offset);
+        let other_byte = seen_byte(view, other, offset);
         if byte != other_byte {
             return byte.cmp(&other_byte);
         }
@@ -263,8 +241,8 @@ pub fn may_begin_with<K: Keyed>(keys: Keys<'_, K>, row: usize, other: usize) -> 
         (row_codes (keys_seen K.content keys.entry) other) ≡ false) }
 {
     let (text, _) = parts(keys.lines, row);
-    let (part, _) = parts(keys.lines, other);
-    has_seen_part(keys.view, text, part)
+    let (other_text, _) = parts(keys.lines, other);
+    has_part(keys.view, text, other_text)
 }
 
 // So many first bytes of a text, or last ones.
@@ -283,7 +261,7 @@ fn cut(from_end: bool, text: &[u8], len: usize) -> &[u8]
 /// Whether a text has the key of a line.
 #[inline(always)]
 pub fn has_row_key<K: Keyed>(keys: Keys<'_, K>, row: usize, text: &[u8]) -> bool
-    ensures { result ≡ text_has (directed keys.entry.view.from_end text.now)
+    ensures { result ≡ text_has (seen_text keys.entry.view text.now)
         (slice_get (keys_seen K.content keys.entry) row) }
 {
     let (part, is_whole) = parts(keys.lines, row);
@@ -291,24 +269,6 @@ pub fn has_row_key<K: Keyed>(keys: Keys<'_, K>, row: usize, text: &[u8]) -> bool
         return false;
     }
     has_part(keys.view, text, part)
-}
-
-// Whether a text begins with another one or, if it is read from its end, ends with it. The other one is in lower case if
-// `fold` is set.
-#[inline(never)]
-fn has_part(view: View, text: &[u8], part: &[u8]) -> bool
-    ensures { result ≡ starts_with nat_eq (directed view.from_end text.now)
-        (in_case view.fold (directed view.from_end part.now)) }
-{
-    if text.len() < part.len() {
-        return false;
-    }
-    let own = cut(view.from_end, text, part.len());
-    if view.fold {
-        is_lower_of(own, part)
-    } else {
-        part == own
-    }
 }
 
 /// Whether a text has a key, as both are read. A key of an end is read from its last byte on.
@@ -320,12 +280,12 @@ pub fn has_text(fold: bool, from_end: bool, text: &[u8], key: Key<'_>) -> bool
     if key.is_whole && key.text.len() != text.len() {
         return false;
     }
-    has_seen_part(View { fold, from_end }, text, key.text)
+    has_part(View { fold, from_end }, text, key.text)
 }
 
 // Whether a text begins with another one or, if it is read from its end, ends with it, as both are read.
 #[inline(always)]
-fn has_seen_part(view: View, text: &[u8], part: &[u8]) -> bool
+fn has_part(view: View, text: &[u8], part: &[u8]) -> bool
     ensures { result ≡ starts_with nat_eq (seen_text view text.now) (seen_text view part.now) }
 {
     if text.len() < part.len() {
@@ -337,17 +297,4 @@ fn has_seen_part(view: View, text: &[u8], part: &[u8]) -> bool
     } else {
         part == own
     }
-}
-
-// Whether a text is another one of its length in lower case.
-fn is_lower_of(text: &[u8], other: &[u8]) -> bool
-    requires { length text.now ≡ length other.now }
-    ensures { IsTrue result ↔ (text.now ≡ in_case true other.now) }
-{
-    for (offset, byte) in other.iter().enumerate() {
-        if text[offset] != byte.to_ascii_lowercase() {
-            return false;
-        }
-    }
-    true
 }

@@ -1,17 +1,19 @@
 //! The index of lines by their keys: it finds the lines that a path may match. Few lines have no tables: each one is tried.
 
-ghost use Rattle.std.specs.Prelude.{◌≡◌, ◌&&◌, ◌||◌, ◌++◌, [], ℕ, IfOk, OnOk, map, false, true, slice_get};
+ghost use Rattle.std.specs.Prelude.{◌≡◌, ◌&&◌, ◌||◌, ◌++◌, [], ℕ, List, IfOk, OnOk, map, false, true, slice_get};
 ghost use Rattle.std.specs.Bool.{OnFalse, OnTrue};
-ghost use Rattle.attr_keys.specs.inner.Cases.{content_in_case, in_case, keys_seen};
+ghost use Rattle.attr_keys.specs.inner.Cases.{content_in_case, in_case, keys_seen, seen_text};
 ghost use Rattle.attr_keys.specs.inner.Extensions.{is_hashed};
+ghost use Rattle.attr_keys.specs.inner.Hashes.{hashed_rows};
 ghost use Rattle.attr_keys.specs.inner.MetRows.{AreMetRows};
+ghost use Rattle.attr_keys.specs.shared.KeyContents.{KeyContent};
 ghost use Rattle.attr_keys.specs.shared.KeyIndexes.{AreKeyTables, IsKeyIndex};
 ghost use Rattle.attr_keys.specs.inner.Kinds.{AreKinds};
-ghost use Rattle.attr_keys.specs.shared.Meeting.{content_met, content_met_at, directed, key_content, text_has};
-ghost use Rattle.attr_keys.specs.inner.Orders.{AreFindable, AreSorted, gathered, has_by_name, has_by_path, has_subject_row, sorted_keys};
+ghost use Rattle.attr_keys.specs.shared.Meeting.{content_met, content_met_at, key_content, text_has};
+ghost use Rattle.attr_keys.specs.inner.Orders.{AreFindable, AreSorted, gathered, has_subject_row};
 ghost use Rattle.attr_keys.specs.shared.Rows.{IsFalling, has_row};
 
-use crate::by_hash::{append_by_hash, by_hash, longest_key, write_lower};
+use crate::by_hash::{append_of_hash, by_hash, hash_in_case, hashed_part, longest_key};
 use crate::hashed::HashedRows;
 use crate::key::{Key, Keyed, Keys, Subject, View, has_text};
 use crate::kinds::Kinds;
@@ -56,14 +58,6 @@ struct SubjectRows {
     prefixes: Prefixes,
 }
 
-// Lines with their rows, for one case.
-#[derive_where(Clone, Copy)]
-struct Sorted<'a, K> {
-    lines: &'a [K],
-    fold: bool,
-    rows: &'a KeyRows,
-}
-
 /// The texts of a path, by which lines are looked up.
 #[derive(Clone, Copy)]
 pub struct Texts<'a> {
@@ -94,7 +88,7 @@ impl KeyIndex {
     }
 
     /// Finds the indexes of the lines whose keys the texts have, the greatest first. They replace the contents of `found`.
-    /// `lines` are those of which the index was made. `buffer` is one for texts.
+    /// `lines` are those of which the index was made. `buffer` is one for what is hashed of a text, in lower case.
     ///
     /// # Errors
     ///
@@ -168,26 +162,20 @@ impl KeyTables {
         ensures { OnOk result (AreMetRows texts.entry.fold texts.entry.name.now texts.entry.path.now
             (map K.content lines.now) found.new.items) }
     {
-        gather(self.sorted(lines, texts.fold), texts, buffer, found)?;
+        self.rows(texts.fold).append(lines, texts, buffer, found)?;
         append(&self.others, found)?;
         fall(found);
         Ok(())
     }
 
-    // The rows by which lines are looked up: those of the keys as they are if none has a capital letter, which cost least.
-    fn sorted<'a, K: Keyed>(&'a self, lines: &'a [K], fold: bool) -> Sorted<'a, K>
-        requires { AreKeyTables (map K.content lines.now) self.now }
-        ensures sorted { AreSorted result.fold (map K.content result.lines.now) result.rows.now }
-        ensures contents { map (content_in_case result.fold) (map K.content result.lines.now)
-            ≡ map (content_in_case fold) (map K.content lines.now) }
+    // The rows for a case. Those of the keys as they are serve for both if none has a capital letter.
+    fn rows(&self, fold: bool) -> &KeyRows
+        ensures { (keys : List KeyContent) → AreKeyTables keys self.now
+            → AreSorted fold keys result.now }
     {
         match &self.folded {
-            Some(rows) if fold => Sorted { lines, fold, rows },
-            _ => Sorted {
-                lines,
-                fold: false,
-                rows: &self.exact,
-            },
+            Some(rows) if fold => rows,
+            _ => &self.exact,
         }
     }
 }
@@ -209,6 +197,28 @@ impl KeyRows {
             ends: SubjectRows::of(alloc, ends, &kinds.extensions, &kinds.suffixes)?,
             paths: SubjectRows::of(alloc, keys, &kinds.paths, &kinds.path_prefixes)?,
         })
+    }
+
+    // Appends the rows of the keys that the texts have.
+    fn append<K: Keyed>(
+        &self,
+        lines: &[K],
+        texts: Texts<'_>,
+        buffer: &mut Vec<u8>,
+        found: &mut Vec<usize>,
+    ) -> Result<(), AllocError>
+        requires { AreSorted texts.fold (map K.content lines.now) self.now }
+        ensures { OnOk result ((row : ℕ) → has_row found.new.items row
+            ≡ (has_row found.old.items row
+            || gathered (in_case texts.entry.fold texts.entry.name.now)
+            (in_case texts.entry.fold texts.entry.path.now)
+            (slice_get (map (content_in_case texts.entry.fold) (map K.content lines.now)) row))) }
+    {
+        let keys = keys_of(lines, texts.fold, false);
+        let ends = keys_of(lines, texts.fold, true);
+        self.names.append(keys, texts.name, buffer, found)?;
+        self.ends.append(ends, texts.name, buffer, found)?;
+        self.paths.append(keys, texts.path, buffer, found)
     }
 }
 
@@ -243,18 +253,19 @@ impl SubjectRows {
         &self,
         keys: Keys<'_, K>,
         text: &[u8],
+        buffer: &mut Vec<u8>,
         found: &mut Vec<usize>,
     ) -> Result<(), AllocError>
         requires { AreFindable keys.view.from_end (keys_seen K.content keys) self.now }
         ensures { OnOk result ((row : ℕ) → has_row found.new.items row
             ≡ (has_row found.old.items row || (has_subject_row self.now row
-            && text_has (directed keys.entry.view.from_end text.now)
+            && text_has (seen_text keys.entry.view text.now)
             (slice_get (keys_seen K.content keys.entry) row)))) }
     {
         if self.is_empty() {
             return Ok(());
         }
-        self.append_some(keys, text, found)
+        self.append_some(keys, text, buffer, found)
     }
 
     // The same, if there may be some.
@@ -263,18 +274,41 @@ impl SubjectRows {
         &self,
         keys: Keys<'_, K>,
         text: &[u8],
+        buffer: &mut Vec<u8>,
         found: &mut Vec<usize>,
     ) -> Result<(), AllocError>
         requires { AreFindable keys.view.from_end (keys_seen K.content keys) self.now }
         ensures { OnOk result ((row : ℕ) → has_row found.new.items row
             ≡ (has_row found.old.items row || (has_subject_row self.now row
-            && text_has (directed keys.entry.view.from_end text.now)
+            && text_has (seen_text keys.entry.view text.now)
             (slice_get (keys_seen K.content keys.entry) row)))) }
     {
         if !self.hashed.all().is_empty() {
-            append_by_hash(keys, &self.hashed, text, self.longest, found)?;
+            self.append_by_hash(keys, text, buffer, found)?;
         }
         self.prefixes.append(keys, text, found)
+    }
+
+    // Appends those that are found by the hash of a text.
+    #[inline(always)]
+    fn append_by_hash<K: Keyed>(
+        &self,
+        keys: Keys<'_, K>,
+        text: &[u8],
+        buffer: &mut Vec<u8>,
+        found: &mut Vec<usize>,
+    ) -> Result<(), AllocError>
+        requires { AreFindable keys.view.from_end (keys_seen K.content keys) self.now }
+        ensures { OnOk result ((row : ℕ) → has_row found.new.items row
+            ≡ (has_row found.old.items row || (has_row (hashed_rows self.now.hashed) row
+            && text_has (seen_text keys.entry.view text.now)
+            (slice_get (keys_seen K.content keys.entry) row)))) }
+    {
+        let Some(part) = hashed_part(keys.view.from_end, text, self.longest) else {
+            return Ok(());
+        };
+        let hash = hash_in_case(keys.view.fold, part, buffer)?;
+        append_of_hash(keys, self.hashed.of_hash(hash), hash, text, found)
     }
 
     // Whether there are no rows.
@@ -329,66 +363,6 @@ fn keys_of<K>(lines: &[K], fold: bool, from_end: bool) -> Keys<'_, K>
         lines,
         view: View { fold, from_end },
     }
-}
-
-// Appends the rows of the keys that the texts have.
-fn gather<K: Keyed>(
-    sorted: Sorted<'_, K>,
-    texts: Texts<'_>,
-    buffer: &mut Vec<u8>,
-    found: &mut Vec<usize>,
-) -> Result<(), AllocError>
-    requires { AreSorted sorted.fold (map K.content sorted.lines.now) sorted.rows.now }
-    ensures { OnOk result ((row : ℕ) → has_row found.new.items row
-        ≡ (has_row found.old.items row
-        || gathered (in_case texts.entry.fold texts.entry.name.now)
-        (in_case texts.entry.fold texts.entry.path.now)
-        (slice_get (sorted_keys K.content sorted.entry) row))) }
-{
-    if !texts.fold {
-        append_by_name(sorted, texts.name, found)?;
-        return append_by_path(sorted, texts.path, found);
-    }
-    write_lower(texts.name, buffer)?;
-    append_by_name(sorted, buffer, found)?;
-    if sorted.rows.paths.is_empty() {
-        return Ok(());
-    }
-    write_lower(texts.path, buffer)?;
-    append_by_path(sorted, buffer, found)
-}
-
-// Appends the rows of the names that the base name has, and of the ends.
-fn append_by_name<K: Keyed>(
-    sorted: Sorted<'_, K>,
-    name: &[u8],
-    found: &mut Vec<usize>,
-) -> Result<(), AllocError>
-    requires { AreSorted sorted.fold (map K.content sorted.lines.now) sorted.rows.now }
-    ensures { OnOk result ((row : ℕ) → has_row found.new.items row
-        ≡ (has_row found.old.items row
-        || has_by_name name.now (slice_get (sorted_keys K.content sorted.entry) row))) }
-{
-    let rows = sorted.rows;
-    let keys = keys_of(sorted.lines, sorted.fold, false);
-    rows.names.append(keys, name, found)?;
-    let ends = keys_of(sorted.lines, sorted.fold, true);
-    rows.ends.append(ends, name, found)
-}
-
-// Appends the rows of the paths that the path has.
-fn append_by_path<K: Keyed>(
-    sorted: Sorted<'_, K>,
-    path: &[u8],
-    found: &mut Vec<usize>,
-) -> Result<(), AllocError>
-    requires { AreSorted sorted.fold (map K.content sorted.lines.now) sorted.rows.now }
-    ensures { OnOk result ((row : ℕ) → has_row found.new.items row
-        ≡ (has_row found.old.items row
-        || has_by_path path.now (slice_get (sorted_keys K.content sorted.entry) row))) }
-{
-    let keys = keys_of(sorted.lines, sorted.fold, false);
-    sorted.rows.paths.append(keys, path, found)
 }
 
 // Appends numbers to others.

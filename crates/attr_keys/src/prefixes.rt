@@ -2,14 +2,13 @@
 //! others the last one is sought that is not after a text, and from there on the shorter ones that it begins with.
 
 ghost use Rattle.std.specs.Prelude.{◌≡◌, ◌<◌, ◌≤◌, ◌&&◌, ◌||◌, [], ℕ, IfOk, OnOk, false, length, true, slice_get, slice_index};
-ghost use Rattle.attr_keys.specs.inner.Cases.{keys_seen};
+ghost use Rattle.attr_keys.specs.inner.Cases.{keys_seen, seen_text};
 ghost use Rattle.attr_keys.specs.shared.Codes.{codes_of, row_codes};
-ghost use Rattle.attr_keys.specs.shared.Meeting.{directed, text_has};
+ghost use Rattle.attr_keys.specs.shared.Meeting.{text_has};
 ghost use Rattle.attr_keys.specs.shared.Rows.{AreFirsts, AreInOrder, AreLinks, ArePrefixes, IsLink, has_row, is_up_to};
 
 use crate::key::{
-    Keyed, Keys, common, exact, first_code, first_row_code, has_row_key, is_row_up_to,
-    may_begin_with,
+    Keyed, Keys, common, first_code, first_row_code, has_row_key, is_row_up_to, may_begin_with,
 };
 use crate::order::{put_in_order, raise_equals};
 use std::alloc::{AllocError, Global};
@@ -74,7 +73,7 @@ impl Prefixes {
         requires { ArePrefixes (keys_seen K.content keys) self.now }
         ensures { OnOk result ((row : ℕ) → has_row found.new.items row
             ≡ (has_row found.old.items row || (has_row self.now.rows.items row
-            && text_has (directed keys.entry.view.from_end text.now)
+            && text_has (seen_text keys.entry.view text.now)
             (slice_get (keys_seen K.content keys.entry) row)))) }
     {
         if self.rows.len() <= FEW {
@@ -145,10 +144,10 @@ fn append_few<K: Keyed>(
     requires { AreFirsts (keys_seen K.content keys) rows.now firsts.now }
     ensures { OnOk result ((row : ℕ) → has_row found.new.items row
         ≡ (has_row found.old.items row || (has_row rows.now row
-        && text_has (directed keys.entry.view.from_end text.now)
+        && text_has (seen_text keys.entry.view text.now)
         (slice_get (keys_seen K.content keys.entry) row)))) }
 {
-    let text_first = first_code(exact(keys.view), text, true);
+    let text_first = first_code(keys.view, text, true);
     for (index, first) in firsts.iter().enumerate() {
         let row = rows[index];
         if has_prefix(keys, row, *first, text, text_first) {
@@ -171,7 +170,7 @@ fn append_linked<K: Keyed>(
     requires all { length links.now ≡ length rows.now }
     ensures { OnOk result ((row : ℕ) → has_row found.new.items row
         ≡ (has_row found.old.items row || (has_row rows.now row
-        && text_has (directed keys.entry.view.from_end text.now)
+        && text_has (seen_text keys.entry.view text.now)
         (slice_get (keys_seen K.content keys.entry) row)))) }
 {
     let mut end = rows.partition_point(|row| is_row_up_to(keys, *row, text, true));
@@ -192,12 +191,12 @@ fn append_linked<K: Keyed>(
 fn common_end<K: Keyed>(keys: Keys<'_, K>, rows: &[usize], text: &[u8], index: usize) -> usize
     requires order { AreInOrder (keys_seen K.content keys) rows.now }
     requires within { index < length rows.now }
-    requires up_to { is_up_to (codes_of false (directed keys.view.from_end text.now) true)
+    requires up_to { is_up_to (codes_of false (seen_text keys.view text.now) true)
         (row_codes (keys_seen K.content keys) (slice_index rows.now index)) ≡ true }
-    requires lacks { text_has (directed keys.view.from_end text.now)
+    requires lacks { text_has (seen_text keys.view text.now)
         (slice_get (keys_seen K.content keys) (slice_index rows.now index)) ≡ false }
     ensures { (k : ℕ) → result ≤ k → k < index →
-        text_has (directed keys.entry.view.from_end text.now)
+        text_has (seen_text keys.entry.view text.now)
         (slice_get (keys_seen K.content keys.entry) (slice_index rows.now k)) ≡ false }
 {
     let part = common(keys, rows[index], text);
@@ -215,8 +214,8 @@ fn has_prefix<K: Keyed>(
 ) -> bool
     requires first { first ≡ slice_index (row_codes (keys_seen K.content keys) row) 0 }
     requires text_first { text_first
-        ≡ slice_index (codes_of false (directed keys.view.from_end text.now) true) 0 }
-    ensures { result ≡ text_has (directed keys.entry.view.from_end text.now)
+        ≡ slice_index (codes_of false (seen_text keys.view text.now) true) 0 }
+    ensures { result ≡ text_has (seen_text keys.entry.view text.now)
         (slice_get (keys_seen K.content keys.entry) row) }
 {
     if first == 0 {

@@ -6,15 +6,17 @@ use Rattle.attr_keys.proofs.key.has_part.Goals as goal
 
 pub returns-then-view : goal.returns-then-view
 returns-then-view c =
+    let own = c.cut-own.result.now in
     let part = c.args.part.now in
-    begins_if_cut c.args.view.fold c.args.view.from_end c.args.text.now part c.cut-own.result.now c.cut-own.ensures c.is_lower_of.result
-    (λ t. c.is_lower_of.ensures.0 t ∙ sym (ap (λ f. in_case f part) c.if-view.true))
-    (λ e. c.is_lower_of.ensures.1 (e ∙ ap (λ f. in_case f part) c.if-view.true))
+    begins_if_cut c.args.view.fold c.args.view.from_end c.args.text.now part own c.cut-own.ensures c.eq_ignore_ascii_case.result
+    (λ t. ap (λ f. in_case f own) c.if-view.true ∙ (c.eq_ignore_ascii_case.ensures.test.0 t ∙ sym (ap (λ f. in_case f part) c.if-view.true)))
+    (λ e. c.eq_ignore_ascii_case.ensures.test.1 (sym (ap (λ f. in_case f own) c.if-view.true) ∙ (e ∙ ap (λ f. in_case f part) c.if-view.true)))
 
 pub returns-else-view : goal.returns-else-view
 returns-else-view c =
-    let part = c.args.part.now in
     let own = c.cut-own.result.now in
+    let part = c.args.part.now in
     begins_if_cut c.args.view.fold c.args.view.from_end c.args.text.now part own c.cut-own.ensures c.eq.result
-    (λ t. sym ((bytes_decides part own).0 (sym c.eq.ensures ∙ t)) ∙ sym (ap (λ f. in_case f part) c.if-view.false))
-    (λ e. c.eq.ensures ∙ (bytes_decides part own).1 (sym (e ∙ ap (λ f. in_case f part) c.if-view.false)))
+    (λ t. ap (in_case c.args.view.fold) (sym ((bytes_decides part own).0 (sym c.eq.ensures ∙ t))))
+    (λ e. c.eq.ensures ∙ (bytes_decides part own).1
+    (sym (sym (ap (λ f. in_case f own) c.if-view.false) ∙ (e ∙ ap (λ f. in_case f part) c.if-view.false))))

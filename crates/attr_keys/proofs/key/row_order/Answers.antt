@@ -13,5 +13,5 @@ returns g c =
     c.then.ensures
     ∙ (ap (λ o. ordering_then o c.cmp.result) c.text_order.ensures
     ∙ (ap (ordering_then (slice_cmp nat_cmp (seen_text view x.0.now) (seen_text view y.0.now))) c.cmp.ensures
-    ∙ order_seen view view x.0.now y.0.now x.1 y.1 _ _ (c.parts-is_whole.ensures.codes view.fold view.from_end)
+    ∙ order_seen view x.0.now y.0.now x.1 y.1 _ _ (c.parts-is_whole.ensures.codes view.fold view.from_end)
     (c.parts-other_is_whole.ensures.codes view.fold view.from_end)))

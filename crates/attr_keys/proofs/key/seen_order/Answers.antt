@@ -1,22 +1,18 @@
 use Rattle.std.proofs.Common.{◌≡◌, inl, inr, length, sym, ap, ◌∙◌, arith}
 use Rattle.std.specs.Ordering.{nat_cmp}
 use Rattle.attr_keys.specs.inner.Cases.{seen_text}
-use Rattle.attr_keys.specs.shared.Meeting.{directed}
 use Rattle.attr_keys.proofs.Cuts.{ends_order}
 use Rattle.attr_keys.proofs.Links.{either_order}
-use Rattle.attr_keys.proofs.SeenTexts.{length-directed, length-in_case}
+use Rattle.attr_keys.proofs.SeenTexts.{length-seen}
 use Rattle.attr_keys.proofs.key.seen_order.Goals as goal
 
 pub returns : goal.returns
 returns c =
     let view = c.args.view in
-    let other = c.args.other_view in
     let x = seen_text view c.args.text.now in
-    let y = seen_text other c.args.other.now in
-    let len : length x ≡ length c.args.text.now =
-    length-in_case view.fold (directed view.from_end c.args.text.now) ∙ length-directed view.from_end c.args.text.now in
-    let len' : length y ≡ length c.args.other.now =
-    length-in_case other.fold (directed other.from_end c.args.other.now) ∙ length-directed other.from_end c.args.other.now in
+    let y = seen_text view c.args.other.now in
+    let len : length x ≡ length c.args.text.now = length-seen view.fold view.from_end c.args.text.now in
+    let len' : length y ≡ length c.args.other.now = length-seen view.fold view.from_end c.args.other.now in
     let n = c.loop-offset.offset in
     let least = c.min-offset-end.ensures in
     let at : n ≡ c.min-offset-end.result = omega (arith, c.loop-offset.auto.offset-end, c.loop-offset-test.false) in

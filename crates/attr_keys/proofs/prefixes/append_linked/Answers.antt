@@ -2,9 +2,8 @@ use Rattle.std.proofs.Common.{◌≡◌, ◌∙◌, ◌-◌, ◌<◌, ◌||◌, 
 use Rattle.std.proofs.Common.{Bool, false, true, drop, get_or, length, nat_eq, sym, ap, arith, rules}
 use Rattle.std.specs.List.{starts_with}
 use Rattle.std.proofs.lemmas.List.Sorted.{IsPartitionPoint-from_clause}
-use Rattle.attr_keys.specs.inner.Cases.{keys_seen}
+use Rattle.attr_keys.specs.inner.Cases.{keys_seen, seen_text}
 use Rattle.attr_keys.specs.shared.Codes.{codes_of, row_codes}
-use Rattle.attr_keys.specs.shared.Meeting.{directed}
 use Rattle.attr_keys.specs.shared.Rows.{has_row, is_up_to}
 use Rattle.attr_keys.proofs.Links.{either_order, linked_less, linked_more, none_between, none_dropped, none_lesser, up_to_first}
 use Rattle.attr_keys.proofs.prefixes.append_linked.Goals as goal
@@ -14,7 +13,7 @@ pub loop-end-init : goal.loop-end-init
 loop-end-init g c =
     let keys = keys_seen g.K.Keyed.content c.args.keys in
     let rows = c.args.rows.now in
-    let text = codes_of false (directed c.args.keys.view.from_end c.args.text.now) true in
+    let text = codes_of false (seen_text c.args.keys.view c.args.text.now) true in
     let end = c.partition_point-end.result in
     let old = c.args.found.now.items in
     let point = IsPartitionPoint-from_clause (λ row. is_up_to text (row_codes keys row)) rows end c.partition_point-end.ensures.partitioned
@@ -30,7 +29,7 @@ pub loop-end-preserved : goal.loop-end-preserved
 loop-end-preserved g c =
     let keys = keys_seen g.K.Keyed.content c.args.keys in
     let rows = c.args.rows.now in
-    let text = codes_of false (directed c.args.keys.view.from_end c.args.text.now) true in
+    let text = codes_of false (seen_text c.args.keys.view c.args.text.now) true in
     let has : ℕ → Bool = λ r. starts_with nat_eq text (row_codes keys r) in
     let index = c.loop-end.end - 1 in
     let old = c.args.found.now.items in
@@ -55,7 +54,7 @@ pub loop-end-preserved-then-end-gt0 : goal.loop-end-preserved-then-end-gt0
 loop-end-preserved-then-end-gt0 g c =
     let keys = keys_seen g.K.Keyed.content c.args.keys in
     let rows = c.args.rows.now in
-    let text = codes_of false (directed c.args.keys.view.from_end c.args.text.now) true in
+    let text = codes_of false (seen_text c.args.keys.view c.args.text.now) true in
     let has : ℕ → Bool = λ r. starts_with nat_eq text (row_codes keys r) in
     let index = c.loop-end.end - 1 in
     let old = c.args.found.now.items in
@@ -89,7 +88,7 @@ pub loop-end-preserved-in-Continue-1 : goal.loop-end-preserved-in-Continue-1
 loop-end-preserved-in-Continue-1 g c =
     let keys = keys_seen g.K.Keyed.content c.args.keys in
     let rows = c.args.rows.now in
-    let text = codes_of false (directed c.args.keys.view.from_end c.args.text.now) true in
+    let text = codes_of false (seen_text c.args.keys.view c.args.text.now) true in
     let has : ℕ → Bool = λ r. starts_with nat_eq text (row_codes keys r) in
     let index = c.loop-end.end - 1 in
     let old = c.args.found.now.items in

@@ -14,7 +14,8 @@ loop-index-init g c =
     let lines = c.args.self.now.lines.items in
     let name = c.base_name-base_name.result.now in
     ap (λ f. f ++ candidates c.args.case name (indexed_patterns (take c.len-index.result lines))) c.new-found.ensures.items
-    ∙ ap (λ ls. candidates c.args.case name (indexed_patterns ls)) (take_all c.len-index.result lines (omega (arith, c.len-index.ensures, c.args.self.now.lines.ok)))
+    ∙ ap (λ ls. candidates c.args.case name (indexed_patterns ls))
+    (take_all c.len-index.result lines (omega (arith, c.len-index.ensures, c.args.self.now.lines.ok)))
 
 pub loop-index-preserved-in-Continue-1 : goal.loop-index-preserved-in-Continue-1
 loop-index-preserved-in-Continue-1 g c =
