@@ -1,16 +1,13 @@
 -- Numbers by key: the greatest with a key, after one more and after one less.
 use Rattle.std.proofs.Common.{◌≡◌, ◌≢◌, ℕ, zero, suc, ◌+◌, ◌<◌, ◌≤◌, ◌⊎◌, inl, inr, true, false, cond, List, [], ◌∷◌, ◌++◌, length, get_or}
 use Rattle.std.proofs.Common.{Option, Some, None}
-use Rattle.std.proofs.Common.{refl, sym, ap, subst, ◌∙◌, ◌-◌, arith, eq-eqb, nat_eq, take}
+use Rattle.std.proofs.Common.{refl, sym, ap, subst, ◌∙◌, arith, eq-eqb, nat_eq}
 use Rattle.std.specs.Prelude.{Contains, MatchOption, ⊤, ◌↔◌, IsTrue, is_none, option_map, slice_get}
 use Rattle.std.specs.List.{AllPairs, IsDistinct, list_all}
 use Rattle.std.specs.Bool.{Decides}
 use Rattle.std.proofs.lemmas.Bool.{eqb-true}
 use Rattle.std.proofs.lemmas.List.Sums.{AllPass-from_list_all, list_all-from_AllPass}
-use Rattle.std.proofs.lemmas.Cmp.{nat_eq_equiv}
-use Rattle.std.proofs.lemmas.Map.Views.{Contains-from_any, list_any-from_Contains}
 use Rattle.std.proofs.lemmas.Map.Made.{AllPairs-from_IsDistinct, IsDistinct-from_AllPairs}
-use Rattle.attr_search.specs.inner.DirectoryKeys.{HasNumbersOf, IncludesNumbersOf}
 use Rattle.std.proofs.lemmas.Bool.Decides.{eqb_tells}
 use Rattle.std.proofs.lemmas.List.{get_or-map, length-append, length-map}
 use Rattle.std.proofs.lemmas.List.Elements.{Contains-append_left, Contains-push}
@@ -300,35 +297,3 @@ unlinked_distinct links lead = (
       (λ k d lt. one_unlinked links (get_or links k d) k lead (AllPairs-from_IsDistinct same_tells (link_keys links) distinct)
       (slice_get-get_or links k d lt)),
 )
-
-pub includes_from : (keys numbers : List ℕ) (key : ℕ) → HasNumbersOf keys numbers key → IncludesNumbersOf keys numbers key
-includes_from keys numbers key has = λ number is. list_any-from_Contains nat_eq_equiv number numbers (has number is)
-
-pub includes_to : (keys numbers : List ℕ) (key : ℕ) → IncludesNumbersOf keys numbers key → HasNumbersOf keys numbers key
-includes_to keys numbers key includes = λ number is. Contains-from_any eqb-true number numbers (includes number is)
-
--- the numbers of a key, after one more number and after one less
-pub rooted_pushed : (keys roots more : List ℕ) (key root : ℕ) → HasNumbersOf keys roots root →
-    ((other : ℕ) → Contains roots other → Contains more other) → (key ≡ root → Contains more (length keys)) →
-    HasNumbersOf (keys ++ key ∷ []) more root
-rooted_pushed keys roots more key root rooted kept own = λ number has.
-    let lt = slice_get_within (keys ++ key ∷ []) number root has in
-    let long = length-append keys (key ∷ []) in
-    elim (below_or number (length keys) (omega (arith, lt, long))) [
-      | inl less ↦ kept number (rooted number (sym (get_front keys (key ∷ []) number less) ∙ has))
-      | inr same ↦ subst (Contains more) (sym same) (own (some_inside key root
-          (sym (get_seam keys key []) ∙ ap (slice_get (keys ++ key ∷ [])) (sym same) ∙ has)))
-    ]
-
-slice_get-take : {X : Type 0} (xs : List X) (m i : ℕ) (x : X) → slice_get (take m xs) i ≡ Some x → (i < m) × (slice_get xs i ≡ Some x)
-slice_get-take xs zero i x is = let none = slice_get_within [] i x is in absurd (omega (arith, none))
-slice_get-take [] (suc m) i x is = let none = slice_get_within [] i x is in absurd (omega (arith, none))
-slice_get-take (y ∷ xs) (suc m) zero x is = (omega arith, is)
-slice_get-take (y ∷ xs) (suc m) (suc i) x is = let rest = slice_get-take xs m i x is in let lt = rest.0 in (omega (arith, lt), rest.1)
-
-pub rooted_popped : (keys roots fewer : List ℕ) (root last : ℕ) → HasNumbersOf keys roots root → last ≡ length keys - 1 →
-    ((other : ℕ) → other ≢ last → Contains roots other → Contains fewer other) → HasNumbersOf (take (length keys - 1) keys) fewer root
-rooted_popped keys roots fewer root last rooted is kept = λ number has.
-    let at = slice_get-take keys (length keys - 1) number root has in
-    let lt = at.0 in
-    kept number (λ same. omega (arith, same, is, lt)) (rooted number at.1)

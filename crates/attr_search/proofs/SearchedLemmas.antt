@@ -341,7 +341,7 @@ get_at (n ∷ numbers) zero number lt is = is
 get_at (n ∷ numbers) (suc index) number lt is = get_at numbers index number (omega (arith, lt)) is
 
 pub all_left : (query : PathQuery) (lists : List IndexedList) (bound : ℕ) (numbers : List ℕ) →
-    AreListsFor (bstr_bytes query.path) lists numbers → AreLeft query lists bound (length numbers) numbers
+    AreListsFor query.case (bstr_bytes query.path) lists numbers → AreLeft query lists bound (length numbers) numbers
 all_left query lists bound numbers are = λ number list rest below has busy applies.
-    let at = are.all query.case number list rest has busy applies in
+    let at = are.all number list rest has busy applies in
     (at.0, at.1, get_at numbers at.0 number at.1 at.2)

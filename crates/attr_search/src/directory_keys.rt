@@ -1,27 +1,69 @@
 //! The keys of directories, by which the lists of a path are found.
 
 ghost use Rattle.std.specs.Prelude.{◌≡◌, ◌≤◌, ℕ, List, IfOk, OnOk, length, take};
+ghost use Rattle.std.specs.Char.{is_ascii_uppercase};
+ghost use Rattle.std.specs.List.{list_any};
+ghost use Rattle.attr_wildmatch.specs.declared.case.Case.TheVariants.{Fold};
+ghost use Rattle.attr_glob.specs.Folding.{folded};
 ghost use Rattle.attr_glob.specs.Views.{base_bytes};
-ghost use Rattle.attr_search.specs.inner.DirectoryKeys.{base_key, base_text, short_key, small_letters, text_key};
+ghost use Rattle.attr_search.specs.inner.DirectoryKeys.{base_text, keys_of, short_key, text_key};
 ghost use Rattle.attr_search.specs.inner.FrontHashers.{HasFront};
 
 use std::alloc::{AllocError, Global};
 use std::hash::{DefaultHasher, Hasher};
 
-/// The key of a list's base. Letters of both cases are the same, and a base that is no directory has the key of no base.
-///
-/// # Errors
-///
-/// If memory runs out.
-pub fn base_key(alloc: Global, base: &Option<Vec<u8>>) -> Result<u64, AllocError>
-    ensures { IfOk result (λ key. key ≡ base_key (base_bytes base.now)) }
-{
-    let text = base_text(alloc, base)?;
-    Ok(text_key(&text))
+/// The keys of a list's base, by one of which a path finds the list.
+#[derive(Clone, Copy)]
+pub struct BaseKeys {
+    /// That of the base as it is spelled.
+    pub spelled: u64,
+    /// That of the base in small letters.
+    pub folded: u64,
 }
 
-/// The key of a text.
-pub fn text_key(text: &[u8]) -> u64
+impl BaseKeys {
+    /// The keys of a base.
+    ///
+    /// # Errors
+    ///
+    /// If memory runs out.
+    pub fn of(alloc: Global, base: &[u8]) -> Result<BaseKeys, AllocError>
+        ensures { IfOk result (λ keys. keys ≡ keys_of base.now) }
+    {
+        let spelled = text_key(base);
+        if !has_capital(base) {
+            return Ok(BaseKeys {
+                spelled,
+                folded: spelled,
+            });
+        }
+        let mut small = Vec::new(alloc);
+        fold_into(base, &mut small)?;
+        Ok(BaseKeys {
+            spelled,
+            folded: text_key(&small),
+        })
+    }
+}
+
+/// The text of a base, which is empty if there is none.
+pub fn base_text(base: &Option<Vec<u8>>) -> &[u8]
+    ensures { result.now ≡ base_text (base_bytes base.now) }
+{
+    match base {
+        Some(base) => base,
+        None => b"",
+    }
+}
+
+fn has_capital(text: &[u8]) -> bool
+    ensures { result ≡ list_any is_ascii_uppercase text.now }
+{
+    text.iter().any(|byte| byte.is_ascii_uppercase())
+}
+
+// The key of a text.
+fn text_key(text: &[u8]) -> u64
     ensures { result ≡ text_key text.now }
 {
     FrontHasher::new().key(text, text.len())
@@ -77,28 +119,16 @@ fn short_key(text: &[u8]) -> u64
     })
 }
 
-fn base_text(alloc: Global, base: &Option<Vec<u8>>) -> Result<Vec<u8>, AllocError>
-    ensures { IfOk result (λ text. text.items ≡ base_text (base_bytes base.now)) }
-{
-    let mut text = Vec::new(alloc);
-    if let Some(base) = base
-        && base.last() == Some(&b'/')
-    {
-        fold_into(base, &mut text)?;
-    }
-    Ok(text)
-}
-
 /// Puts a text in small letters in place of what the buffer had.
 ///
 /// # Errors
 ///
 /// If memory runs out.
-pub fn fold_into(text: &[u8], folded: &mut Vec<u8>) -> Result<(), AllocError>
-    ensures { OnOk result (folded.new.items ≡ small_letters text.now) }
+pub fn fold_into(text: &[u8], small: &mut Vec<u8>) -> Result<(), AllocError>
+    ensures { OnOk result (small.new.items ≡ folded Fold text.now) }
 {
-    folded.clear();
-    folded.extend_from_slice(text)?;
-    folded.make_ascii_lowercase();
+    small.clear();
+    small.extend_from_slice(text)?;
+    small.make_ascii_lowercase();
     Ok(())
 }

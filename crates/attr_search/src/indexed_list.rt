@@ -8,7 +8,7 @@ ghost use Rattle.attr_glob.specs.Paths.{path_matches};
 ghost use Rattle.attr_search.specs.inner.EntryAt.{entry_at};
 ghost use Rattle.attr_search.specs.inner.Trying.{AreTried};
 ghost use Rattle.attr_glob.specs.Views.{base_bytes, patterns_of};
-ghost use Rattle.attr_search.specs.inner.DirectoryKeys.{base_key as key_of_base};
+ghost use Rattle.attr_search.specs.inner.DirectoryKeys.{base_text, keys_of};
 ghost use Rattle.attr_lists.specs.Definitions.{free_id, is_active, with_list, HoldsList, IsSoundCollection};
 ghost use Rattle.attr_lists.specs.KeptLists.{macros_valid};
 ghost use Rattle.attr_lists.specs.ListViews.{entries_view};
@@ -17,7 +17,7 @@ ghost use Rattle.attr_search.specs.shared.ReadLines.{AreRead};
 ghost use Rattle.attr_glob.specs.Indexed.{indexed_lines, listed_lines};
 ghost use Rattle.attr_lists.specs.shared.Keeping.{StayRegistered};
 
-use crate::directory_keys::base_key;
+use crate::directory_keys::{BaseKeys, base_text};
 use crate::macro_lines::are_macros;
 use crate::path_query::PathQuery;
 use attr_glob::pattern::base_name;
@@ -29,8 +29,11 @@ use attr_lists::types::Attributes;
 use std::alloc::{AllocError, Global};
 use std::rc::Rc;
 
-// The key of the bases of idle lists. No directory of at most eight bytes has it.
-const IDLE_KEY: u64 = 0;
+// The keys of the bases of idle lists. No directory of at most eight bytes has them.
+const IDLE_KEYS: BaseKeys = BaseKeys {
+    spelled: 0,
+    folded: 0,
+};
 
 /// A list of a search, with the keys of its lines. It compares as the list.
 #[derive(Drop)]
@@ -44,20 +47,21 @@ pub struct IndexedList {
     /// The list id under which the list is registered in its collection.
     #[derive_where(skip)]
     pub list_id: usize,
-    /// The key of the base, by which a path finds the list. No path finds a list that is idle.
+    /// The keys of the base, by which a path finds the list. No path finds a list that is idle.
     #[derive_where(skip)]
-    pub base_key: u64,
+    pub base_keys: BaseKeys,
     /// Whether each line defines a macro, so that none matches a path.
     #[derive_where(skip)]
     pub is_idle: bool,
     ghost lines: { indexed_lines index.value.lines.items ≡ listed_lines list.patterns.items },
     ghost source: { option_map string_bytes index.value.source ≡ option_map string_bytes list.source },
-    ghost based: { is_idle ≡ false → base_key ≡ key_of_base (base_bytes list.base) },
+    ghost based: { is_idle ≡ false → base_keys ≡ keys_of (base_text (base_bytes list.base)) },
     ghost idle: { is_idle ≡ list_all has_macro_mode (patterns_of list.patterns.items) },
     ghost read: { ∥ AreRead (entries_view list.patterns.items) ∥₁ },
 }
 
 impl IndexedList {
+    ghost use Rattle.attr_search.specs.inner.BaseKeys.{is_rooted};
     ghost use Rattle.attr_search.specs.IndexedLists.{listed_view};
 
     /// Registers a list in the table, under the least free list id: its items and macros get the numbers of their
@@ -88,17 +92,24 @@ impl IndexedList {
         ensures refused { OnErr result (names.new ≡ names.old) }
     {
         let index = Rc::new(alloc, Index::of(alloc, &list)?)?;
-        let key_of_base = base_key(alloc, &list.base)?;
+        let keys_of_base = BaseKeys::of(alloc, base_text(&list.base))?;
         let list_id = names.add(alloc, &mut list.patterns)?;
         let is_idle = are_macros(&list.patterns);
-        let base_key = if is_idle { IDLE_KEY } else { key_of_base };
+        let base_keys = if is_idle { IDLE_KEYS } else { keys_of_base };
         Ok(IndexedList {
             list,
             index,
             list_id,
-            base_key,
+            base_keys,
             is_idle,
         })
+    }
+
+    /// Whether the list has lines for paths, and none of a path's directories leads to it, since its base is none.
+    pub fn is_rooted(&self) -> bool
+        ensures { result ≡ is_rooted self.now }
+    {
+        !self.is_idle && base_text(&self.list.base).last() != Some(&b'/')
     }
 
     /// Finds the indexes, from 0, of the lines that may match what is left of a path, the greatest first. They replace
@@ -170,7 +181,7 @@ impl IndexedList {
             list,
             index,
             list_id: self.list_id,
-            base_key: self.base_key,
+            base_keys: self.base_keys,
             is_idle: self.is_idle,
         })
     }

@@ -1,15 +1,18 @@
 //! The lists of a search, found by the directories below which they apply.
 
-ghost use Rattle.std.specs.Prelude.{◌≡◌, ◌≢◌, ◌↔◌, ◌<◌, ◌≤◌, ℕ, List, Contains, [], ◌∷◌, ◌++◌, IfSome, IfNone, IfOk, OnOk, IsTrue, length, map, nat_eq, vec_capacity, vec_len};
+ghost use Rattle.std.specs.Prelude.{◌≡◌, ◌≢◌, ◌↔◌, ◌<◌, ◌≤◌, ℕ, List, Contains, [], ◌∷◌, ◌++◌, IfSome, IfNone, IfOk, OnOk, IsTrue, length, map, nat_eq, true, vec_capacity, vec_len};
 ghost use Rattle.std.specs.List.{IsDistinct};
-ghost use Rattle.attr_glob.specs.Views.{base_bytes};
-ghost use Rattle.attr_search.specs.inner.BaseKeys.{base_keys, longest_base};
-ghost use Rattle.attr_search.specs.inner.DirectoryKeys.{GathersDirectories, IncludesNumbersOf, base_len, text_key};
+ghost use Rattle.attr_wildmatch.specs.declared.case.Case.TheVariants.{Sensitive, Fold};
+ghost use Rattle.attr_search.specs.inner.BaseKeys.{HaveRoots, base_keys, is_rooted, longest_base};
+ghost use Rattle.attr_search.specs.inner.DirectoryKeys.{GathersDirectories, Includes};
+ghost use Rattle.attr_glob.specs.Folding.{folded};
 ghost use Rattle.attr_search.specs.IndexedLists.{listed_view, list_ids_of};
+ghost use Rattle.attr_wildmatch.specs.declared.case.Case.{Case};
 
-use crate::directory_keys::{FrontHasher, fold_into, text_key};
+use crate::directory_keys::{FrontHasher, base_text, fold_into};
 use crate::indexed_list::IndexedList;
 use crate::numbers_by_key::NumbersByKey;
+use attr_glob::pattern::Case;
 use std::alloc::{AllocError, Global};
 
 // The numbers of lists that are so few that all are searched: to compare their bases with a path costs less than the keys of
@@ -21,10 +24,13 @@ const FEW: &[usize] = &[0, 1, 2, 3];
 pub struct IndexedLists {
     /// The lists, in the order of their addition.
     pub lists: Vec<IndexedList>,
-    /// The numbers of the lists, by the keys of their bases.
+    /// The numbers of the lists, by the keys of their bases as they are spelled.
     #[derive_where(skip)]
-    pub numbers: NumbersByKey,
-    /// The numbers of the lists with the key of the root directory, below which all paths are.
+    pub spelled: NumbersByKey,
+    /// The same by the keys of their bases in small letters.
+    #[derive_where(skip)]
+    pub folded: NumbersByKey,
+    /// The numbers of the lists whose base is no directory, which may apply to all paths.
     #[derive_where(skip)]
     pub roots: Vec<usize>,
     /// The numbers of the lists, by their list ids.
@@ -33,8 +39,9 @@ pub struct IndexedLists {
     /// No base is longer, in bytes.
     #[derive_where(skip)]
     pub longest: usize,
-    ghost keyed: { numbers.keys ≡ base_keys lists.items },
-    ghost rooted: { IncludesNumbersOf numbers.keys roots.items (text_key []) },
+    ghost spelling: { spelled.keys ≡ base_keys Sensitive lists.items },
+    ghost folding: { folded.keys ≡ base_keys Fold lists.items },
+    ghost rooted: { HaveRoots lists.items roots.items },
     ghost registered: { by_id.keys ≡ list_ids_of lists.items },
     ghost within: { longest_base lists.items ≤ longest },
 }
@@ -44,7 +51,8 @@ impl Drop for IndexedLists {
     fn drop(self) {
         let IndexedLists {
             lists: _,
-            numbers: _,
+            spelled: _,
+            folded: _,
             roots: _,
             by_id: _,
             longest: _,
@@ -62,7 +70,8 @@ impl IndexedLists {
     {
         IndexedLists {
             lists: Vec::new(alloc),
-            numbers: NumbersByKey::new(alloc),
+            spelled: NumbersByKey::new(alloc),
+            folded: NumbersByKey::new(alloc),
             roots: Vec::new(alloc),
             by_id: NumbersByKey::new(alloc),
             longest: 0,
@@ -81,7 +90,8 @@ impl IndexedLists {
         self.lists.reserve(1)?;
         self.roots.reserve(1)?;
         self.by_id.reserve()?;
-        self.numbers.reserve()
+        self.spelled.reserve()?;
+        self.folded.reserve()
     }
 
     /// Adds a list as the last one. There is room for it.
@@ -89,11 +99,11 @@ impl IndexedLists {
         requires { HasListRoom self.old }
         ensures { self.new.lists.items ≡ self.old.lists.items ++ list ∷ [] }
     {
-        let len = base_len(&list.list.base);
-        self.longest = self.longest.max(len);
-        push_root(&mut self.roots, list.base_key, self.lists.len());
+        self.longest = self.longest.max(base_text(&list.list.base).len());
+        push_root(&mut self.roots, &list, self.lists.len());
         self.by_id.push_reserved(list.list_id as u64);
-        self.numbers.push_reserved(list.base_key);
+        self.spelled.push_reserved(list.base_keys.spelled);
+        self.folded.push_reserved(list.base_keys.folded);
         self.lists.push_reserved(list);
     }
 
@@ -105,7 +115,8 @@ impl IndexedLists {
         ensures unchanged { IfNone result (self.new.lists.items ≡ []) }
     {
         let last = self.lists.pop()?;
-        self.numbers.pop();
+        self.spelled.pop();
+        self.folded.pop();
         self.by_id.pop();
         pop_root(&mut self.roots, self.lists.len());
         Some(last)
@@ -140,8 +151,8 @@ impl IndexedLists {
 
     /// The numbers of all lists, in their order, if they are few.
     pub fn few(&self) -> Option<&[usize]>
-        ensures few { IfSome result (λ numbers. (path : List ℕ) →
-            AreListsFor path self.now.lists.items numbers.now) }
+        ensures few { IfSome result (λ numbers. (case : Case) (path : List ℕ) →
+            AreListsFor case path self.now.lists.items numbers.now) }
         ensures many { IfNone result (4 < length self.now.lists.items) }
     {
         if self.lists.len() <= FEW.len() {
@@ -151,8 +162,8 @@ impl IndexedLists {
         }
     }
 
-    /// Finds the numbers of the lists that apply to a path, in whatever case, and maybe of others. They don't fall, and
-    /// take the place of what the buffer had. `folded` is another buffer.
+    /// Finds the numbers of the lists that apply to a path in a case, and maybe of others. They don't fall, and take the
+    /// place of what the buffer had. `small` is another buffer.
     ///
     /// # Errors
     ///
@@ -160,41 +171,67 @@ impl IndexedLists {
     pub fn find(
         &self,
         path: &[u8],
-        folded: &mut Vec<u8>,
+        case: Case,
+        small: &mut Vec<u8>,
         numbers: &mut Vec<usize>,
     ) -> Result<(), AllocError>
-        ensures { OnOk result (AreListsFor path.now self.now.lists.items numbers.new.items) }
+        ensures { OnOk result (AreListsFor case path.now self.now.lists.items numbers.new.items) }
     {
         numbers.clear();
-        fold_into(&path[..path.len().min(self.longest)], folded)?;
-        self.gather(folded, numbers)?;
+        numbers.extend_from_slice(&self.roots)?;
+        self.gather(&path[..path.len().min(self.longest)], case, small, numbers)?;
         numbers.sort_unstable();
         Ok(())
     }
 
-    // Appends the numbers of the lists whose key the root directory has, or a directory in front of the text.
-    fn gather(&self, text: &[u8], numbers: &mut Vec<usize>) -> Result<(), AllocError>
-        ensures { OnOk result (GathersDirectories self.now.numbers.keys text.now (length text.now)
-            numbers.new.items) }
+    // Appends the numbers of the lists whose key, in a case, a directory in front of the text has.
+    fn gather(
+        &self,
+        text: &[u8],
+        case: Case,
+        small: &mut Vec<u8>,
+        numbers: &mut Vec<usize>,
+    ) -> Result<(), AllocError>
+        ensures kept { OnOk result (Includes numbers.old.items numbers.new.items) }
+        ensures found { OnOk result (let read = folded case text.now in GathersDirectories
+            (base_keys case self.now.lists.items) read (length read) numbers.new.items) }
     {
-        numbers.extend_from_slice(&self.roots)?;
-        let mut front = FrontHasher::new();
-        for offset in 0..text.len() {
-            if text[offset] == b'/' {
-                self.numbers.append(front.key(text, offset + 1), numbers)?;
+        match case {
+            Case::Sensitive => append_directories(&self.spelled, text, numbers),
+            Case::Fold => {
+                fold_into(text, small)?;
+                append_directories(&self.folded, small, numbers)
             }
         }
-        Ok(())
     }
 }
 
-// Appends the number of a list with this key if it is that of the root directory. There is room for it.
-fn push_root(roots: &mut Vec<usize>, key: u64, number: usize)
-    requires { vec_len roots.old < vec_capacity roots.old }
-    ensures kept { (other : ℕ) → Contains roots.old.items other → Contains roots.new.items other }
-    ensures own { key ≡ text_key [] → Contains roots.new.items number }
+// Appends the numbers that have the key of a directory in front of the text.
+fn append_directories(
+    by_key: &NumbersByKey,
+    text: &[u8],
+    numbers: &mut Vec<usize>,
+) -> Result<(), AllocError>
+    ensures kept { OnOk result (Includes numbers.old.items numbers.new.items) }
+    ensures found { OnOk result (GathersDirectories by_key.now.keys text.now (length text.now)
+        numbers.new.items) }
 {
-    if key == text_key(b"") {
+    let mut front = FrontHasher::new();
+    for offset in 0..text.len() {
+        if text[offset] == b'/' {
+            by_key.append(front.key(text, offset + 1), numbers)?;
+        }
+    }
+    Ok(())
+}
+
+// Appends the number of a list that no directory leads to. There is room for it.
+fn push_root(roots: &mut Vec<usize>, list: &IndexedList, number: usize)
+    requires { vec_len roots.old < vec_capacity roots.old }
+    ensures kept { Includes roots.old.items roots.new.items }
+    ensures own { is_rooted list.now ≡ true → Contains roots.new.items number }
+{
+    if list.is_rooted() {
         roots.push_reserved(number);
     }
 }
@@ -206,14 +243,5 @@ fn pop_root(roots: &mut Vec<usize>, number: usize)
 {
     if roots.last() == Some(&number) {
         roots.pop();
-    }
-}
-
-fn base_len(base: &Option<Vec<u8>>) -> usize
-    ensures { result ≡ base_len (base_bytes base.now) }
-{
-    match base {
-        Some(base) => base.len(),
-        None => 0,
     }
 }

@@ -427,11 +427,13 @@ impl SearchState {
     ) -> Result<Vec<usize>, AllocError>
         ensures unchanged { self.new ≡ self.old }
         ensures numbers { IfOk result (λ numbers.
-            AreListsFor (bstr_bytes query.entry.path) lists.now.lists.items numbers.items) }
+            AreListsFor query.entry.case (bstr_bytes query.entry.path) lists.now.lists.items
+            numbers.items) }
     {
         let buffers = &mut self.buffers;
         lists.find(
             query.path.as_bytes(),
+            query.case,
             &mut buffers.reversed,
             &mut buffers.numbers,
         )?;
@@ -454,7 +456,7 @@ impl SearchState {
         numbers: &[usize],
         query: PathQuery<'_>,
     ) -> Result<(), AllocError>
-        requires numbers { AreListsFor (bstr_bytes query.path) lists.now numbers.now }
+        requires numbers { AreListsFor query.case (bstr_bytes query.path) lists.now numbers.now }
         requires in_lists { ListsHaveSlots (length self.old.answers) (lists_view lists.now) }
         ensures kept { KeepsState self.old self.new }
         ensures named { OnOk result (ListsKeepNamed (lists_view lists.now) self.old self.new) }

@@ -1,10 +1,12 @@
 -- The keys of bases, by which the lists of a path are found (own). Nothing here has to be believed.
-use Rattle.std.specs.Prelude.{◌≡◌, ℕ, ◌-◌, ◌≤◌, ◌==◌, ◌⊎◌, Contains, List, [], length, map, take, Option, Some, None, slice_get, slice_index}
-use Rattle.std.specs.Prelude.{if◌then◌else◌, ◌+◌, ◌*◌, ◌%◌, ◌^◌, nat_eq, nat_le, true}
-use Rattle.std.specs.List.{fold, list_any}
-use Rattle.std.specs.Char.{to_ascii_lowercase}
+use Rattle.std.specs.Prelude.{◌≡◌, ℕ, ◌-◌, ◌<◌, ◌==◌, Bool, Contains, List, [], length, take, Option, Some, None, slice_get, slice_index}
+use Rattle.std.specs.Prelude.{if◌then◌else◌, ◌+◌, ◌*◌, ◌%◌, ◌^◌, nat_le}
+use Rattle.std.specs.List.{fold}
 use Rattle.std.specs.Hash.DefaultHasher as sip
 use Rattle.attr_wildmatch.specs.Bytes.{slash}
+use Rattle.attr_wildmatch.specs.declared.case.Case.TheVariants.{Fold}
+use Rattle.attr_glob.specs.Folding.{folded}
+use Rattle.attr_search.specs.declared.directory_keys.BaseKeys.{BaseKeys}
 
 -- the bytes of a short text after a one, in 64 bits
 abbrev pub short_key : List ℕ → ℕ
@@ -14,35 +16,27 @@ short_key text = fold (λ number byte. (number * 256 % 2 ^ 64 + byte) % 2 ^ 64) 
 abbrev pub text_key : List ℕ → ℕ
 text_key text = if nat_le (length text) 8 then short_key text else sip.finish (sip.write sip.initial text)
 
--- a text in small letters
-abbrev pub small_letters : List ℕ → List ℕ
-small_letters text = map to_ascii_lowercase text
-
--- a base in small letters, if it ends in a slash, as that of each file does; none otherwise
+-- the text of a base, which is empty if there is none
 abbrev pub base_text : Option (List ℕ) → List ℕ
 base_text None = []
-base_text (Some base) = if slice_index base (length base - 1) == slash then small_letters base else []
+base_text (Some base) = base
 
-abbrev pub base_key : Option (List ℕ) → ℕ
-base_key base = text_key (base_text base)
+-- a base ends in a slash, as that of each file in a directory does
+abbrev pub ends_in_slash : List ℕ → Bool
+ends_in_slash base = slice_index base (length base - 1) == slash
 
-abbrev pub base_len : Option (List ℕ) → ℕ
-base_len None = 0
-base_len (Some base) = length base
+abbrev pub keys_of : List ℕ → BaseKeys
+keys_of base = record { spelled = text_key base; folded = text_key (folded Fold base) }
 
--- a directory of the text ends at the offset, or nothing was read so far
-abbrev pub EndsDirectory : List ℕ → ℕ → Type 0
-EndsDirectory text offset = (offset ≡ 0) ⊎ (slice_index text (offset - 1) ≡ slash)
+-- the numbers of a buffer stay in it
+abbrev pub Includes : List ℕ → List ℕ → Type 0
+Includes before after = (number : ℕ) → Contains before number → Contains after number
 
 -- the numbers with this key are among those found
 abbrev pub HasNumbersOf : List ℕ → List ℕ → ℕ → Type 0
 HasNumbersOf keys found key = (number : ℕ) → slice_get keys number ≡ Some key → Contains found number
 
--- as a fact that a struct can keep
-abbrev pub IncludesNumbersOf : List ℕ → List ℕ → ℕ → Type 0
-IncludesNumbersOf keys numbers key = (number : ℕ) → slice_get keys number ≡ Some key → list_any (nat_eq number) numbers ≡ true
-
--- and so are those with the key of a directory that ends in the first part of the text
+-- and so are those that have the key of a directory that ends in the first part of the text
 abbrev pub GathersDirectories : List ℕ → List ℕ → ℕ → List ℕ → Type 0
 GathersDirectories keys text len found =
-    (offset : ℕ) → offset ≤ len → EndsDirectory text offset → HasNumbersOf keys found (text_key (take offset text))
+    (offset : ℕ) → offset < len → slice_index text offset ≡ slash → HasNumbersOf keys found (text_key (take (offset + 1) text))

@@ -10,12 +10,13 @@ use Rattle.attr_search.specs.ListView.{rest_for}
 -- there is room for one more list
 pub record HasListRoom (lists : IndexedLists) : Type 0 where
   pub list : vec_len lists.lists < vec_capacity lists.lists
-  pub number : 0 < lists.numbers.room
+  pub spelled : 0 < lists.spelled.room
+  pub folded : 0 < lists.folded.room
   pub root : vec_len lists.roots < vec_capacity lists.roots
   pub list_id : 0 < lists.by_id.room
 
 -- each list that has a line for paths and applies to the path is among those with these numbers, which don't fall
-pub record AreListsFor (path : List ℕ) (lists : List IndexedList) (numbers : List ℕ) : Type 0 where
-  pub all : (case : Case) (number : ℕ) (list : IndexedList) (rest : List ℕ) → slice_get lists number ≡ Some list →
+pub record AreListsFor (case : Case) (path : List ℕ) (lists : List IndexedList) (numbers : List ℕ) : Type 0 where
+  pub all : (number : ℕ) (list : IndexedList) (rest : List ℕ) → slice_get lists number ≡ Some list →
       list.is_idle ≡ false → rest_for case path (listed_view list) ≡ Some rest → Contains numbers number
   pub rising : IsNonDecreasing numbers

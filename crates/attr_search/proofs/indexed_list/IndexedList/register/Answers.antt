@@ -1,4 +1,4 @@
-use Rattle.std.proofs.Common.{◌≡◌, ◌∙◌, sym, ap, subst, length, option_map, string_bytes}
+use Rattle.std.proofs.Common.{◌≡◌, ◌∙◌, sym, ap, subst, length, option_map, string_bytes, true≢false}
 use Rattle.std.specs.List.{list_all}
 use Rattle.attr_glob.specs.Candidates.{has_macro_mode}
 use Rattle.attr_glob.specs.Views.{patterns_of}
@@ -9,6 +9,8 @@ use Rattle.attr_glob.specs.declared.search.pattern.index.Index.{Index}
 use Rattle.attr_glob.specs.Indexed.{indexed_lines, listed_lines}
 use Rattle.attr_search.specs.shared.ReadLines.{AreRead}
 use Rattle.attr_search.proofs.IndexedListLemmas.{numbered_lines_in, numbered_read, numbered_length, written}
+use Rattle.attr_search.specs.inner.DirectoryKeys.{keys_of}
+use Rattle.attr_search.proofs.indexed_list.IndexedList.register.Goals.{then-is_idle, else-is_idle}
 use Rattle.attr_search.proofs.indexed_list.IndexedList.register.Goals as goal
 
 pub invariant_of-result-clause-lines : goal.invariant_of-result-clause-lines
@@ -51,6 +53,13 @@ returns-clause-holds c =
     let whole = written before after c.args.list.patterns.len (sym c.deref_mut.ensures.len ∙ ap length c.deref_mut.ensures.value)
     (numbered_length names before after numbered) in
     subst (λ ms. HoldsList c.add.new.self c.in_ok-list_id.list_id (entries_view ms)) (sym whole) c.in_ok-list_id.ensures.holds
+
+pub invariant_of-result-clause-based : goal.invariant_of-result-clause-based
+invariant_of-result-clause-based c = λ busy.
+    elim c.if-is_idle.branch [
+      | then-is_idle w ↦ absurd (true≢false (sym w.if-is_idle.true ∙ busy))
+      | else-is_idle w ↦ w.base_keys-is ∙ c.in_ok-keys_of_base.ensures ∙ ap keys_of c.base_text.ensures
+    ]
 
 pub invariant_of-result-clause-idle : goal.invariant_of-result-clause-idle
 invariant_of-result-clause-idle c =

@@ -1,18 +1,27 @@
-use Rattle.std.proofs.Common.{ap, subst, ◌∙◌, length, take}
+use Rattle.std.proofs.Common.{List, ℕ, ◌++◌, ◌∙◌, ap, length, subst, sym, take}
+use Rattle.std.specs.Prelude.{Contains}
+use Rattle.attr_glob.specs.Folding.{folded}
+use Rattle.attr_search.specs.inner.BaseKeys.{base_keys}
+use Rattle.attr_search.specs.inner.DirectoryKeys.{GathersDirectories}
+use Rattle.std.proofs.lemmas.List.Elements.{Contains-append_right}
 use Rattle.std.proofs.lemmas.List.Sorted.{Contains-permutation, IsNonDecreasingBy-from_sort}
-use Rattle.attr_search.specs.inner.DirectoryKeys.{GathersDirectories, small_letters}
 use Rattle.attr_search.proofs.DirectoryLemmas.{list_found}
 use Rattle.attr_search.proofs.indexed_lists.IndexedLists.find.Goals as goal
 
 pub returns : goal.returns
 returns c =
     let lists = c.args.self.now in
-    let gathered = subst (λ text. GathersDirectories lists.numbers.keys text (length text) c.gather.new.numbers.items)
-    (c.deref.ensures.value ∙ c.in_ok-fold_into.ensures ∙ ap (λ n. small_letters (take n c.args.path.now)) c.min.ensures)
-    c.in_ok-gather.ensures in
+    let path = c.args.path.now in
+    let Gathered : List ℕ → Type 0 = λ front.
+    GathersDirectories (base_keys c.args.case lists.lists.items) front (length front) c.gather.new.numbers.items in
+    let rooted = c.in_ok-extend_from_slice.ensures.items ∙ ap (λ rs. c.clear.new.self.items ++ rs) c.deref.ensures.value in
     record {
-      all = λ case number list rest has busy applies. Contains-permutation _ _ number c.sort_unstable.ensures.permutation
-          (list_found lists.lists.items lists.numbers.keys c.args.path.now _ rest lists.longest case number list
-          lists.keyed lists.within gathered has busy applies);
+      all = λ number list rest has busy applies. Contains-permutation _ _ number c.sort_unstable.ensures.permutation
+          (list_found lists.lists.items lists.roots.items c.args.path.now c.gather.new.numbers.items rest lists.longest c.args.case number list
+          lists.rooted lists.within
+          (λ root is. c.in_ok-gather.ensures.kept root (subst (λ ns. Contains ns root) (sym rooted)
+          (Contains-append_right c.clear.new.self.items lists.roots.items root is)))
+          (subst (λ n. Gathered (folded c.args.case (take n path))) c.min.ensures c.in_ok-gather.ensures.found)
+          has busy applies);
       rising = IsNonDecreasingBy-from_sort (λ x. x) _ c.sort_unstable.ensures.sorted;
     }

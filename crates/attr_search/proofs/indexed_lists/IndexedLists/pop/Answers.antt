@@ -1,10 +1,8 @@
-use Rattle.std.proofs.Common.{◌≡◌, ◌≤◌, ◌∷◌, ◌-◌, [], subst, sym, ap, ◌∙◌, arith, length}
-use Rattle.std.proofs.lemmas.List.{length-append, length-map}
+use Rattle.std.proofs.Common.{◌≡◌, ◌≤◌, subst, ◌∙◌, arith, length}
+use Rattle.attr_wildmatch.specs.declared.case.Case.TheVariants.{Sensitive, Fold}
 use Rattle.attr_search.specs.declared.indexed_list.IndexedList.{IndexedList}
-use Rattle.attr_search.specs.inner.BaseKeys.{longest_base}
-use Rattle.attr_search.specs.inner.DirectoryKeys.{HasNumbersOf, text_key}
-use Rattle.attr_search.proofs.DirectoryLemmas.{ids_popped, keys_popped, longest_popped}
-use Rattle.attr_search.proofs.KeyedLemmas.{includes_from, includes_to, rooted_popped}
+use Rattle.attr_search.specs.inner.BaseKeys.{key_in, longest_base}
+use Rattle.attr_search.proofs.DirectoryLemmas.{longest_popped, mapped_popped, roots_popped}
 use Rattle.attr_search.proofs.indexed_lists.IndexedLists.pop.Goals as goal
 
 pub invariant_of-self-2 : goal.invariant_of-self-2
@@ -12,23 +10,13 @@ invariant_of-self-2 c =
     let lists = c.args.self.now in
     let last = c.in_ok-last.last in
     let left = c.pop.new.self.items in
-    let long = length-append left (last ∷ []) in
-    let count : c.len.result ≡ length lists.numbers.keys - 1 =
-    omega (
-      arith,
-      c.len.ensures,
-      c.pop.new.self.ok,
-      ap length lists.keyed,
-      length-map lists.lists.items (λ (l : IndexedList). l.base_key),
-      ap length c.in_ok-last.ensures.items,
-      long,
-    ) in
+    let whole = c.in_ok-last.ensures.items in
+    let count : c.len.result ≡ length left = omega (arith, c.len.ensures, c.pop.new.self.ok) in
     record {
-      keyed = c.pop-2.ensures ∙ keys_popped lists.numbers.keys lists.lists.items left last lists.keyed c.in_ok-last.ensures.items;
-      rooted = includes_from c.pop-2.new.self.keys c.pop_root.new.roots.items (text_key [])
-          (subst (λ keys. HasNumbersOf keys c.pop_root.new.roots.items (text_key [])) (sym c.pop-2.ensures)
-          (rooted_popped lists.numbers.keys lists.roots.items c.pop_root.new.roots.items (text_key []) c.len.result
-          (includes_to lists.numbers.keys lists.roots.items (text_key []) lists.rooted) count c.pop_root.ensures));
-      registered = c.pop-3.ensures ∙ ids_popped lists.by_id.keys lists.lists.items left last lists.registered c.in_ok-last.ensures.items;
-      within = longest_popped left last lists.longest (subst (λ ls. longest_base ls ≤ lists.longest) c.in_ok-last.ensures.items lists.within);
+      spelling = c.pop-2.ensures ∙ mapped_popped (key_in Sensitive) lists.spelled.keys lists.lists.items left last lists.spelling whole;
+      folding = c.pop-3.ensures ∙ mapped_popped (key_in Fold) lists.folded.keys lists.lists.items left last lists.folding whole;
+      rooted = roots_popped lists.lists.items left last lists.roots.items c.pop_root.new.roots.items whole lists.rooted
+          (λ other ne. c.pop_root.ensures other (λ same. ne (same ∙ count)));
+      registered = c.pop-4.ensures ∙ mapped_popped (λ (l : IndexedList). l.list_id) lists.by_id.keys lists.lists.items left last lists.registered whole;
+      within = longest_popped left last lists.longest (subst (λ ls. longest_base ls ≤ lists.longest) whole lists.within);
     }

@@ -5,5 +5,5 @@ use Rattle.attr_search.proofs.search_state.SearchState.search_lists.Goals as goa
 
 pub search_numbers-searched-requires-clause-numbers : goal.search_numbers-searched-requires-clause-numbers
 search_numbers-searched-requires-clause-numbers c =
-    subst (λ lists. AreListsFor (bstr_bytes c.args.query.path) lists c.in-Some.numbers.now) (sym c.deref.ensures.value)
-    (c.in-Some.ensures.few (bstr_bytes c.args.query.path))
+    subst (λ lists. AreListsFor c.args.query.case (bstr_bytes c.args.query.path) lists c.in-Some.numbers.now) (sym c.deref.ensures.value)
+    (c.in-Some.ensures.few c.args.query.case (bstr_bytes c.args.query.path))
