@@ -1,5 +1,5 @@
 -- The answers of an engine after a search: those of the only stable table, and where they are.
-use Rattle.std.proofs.Common.{◌≡◌, ℕ, ◌++◌, ◌-◌, append_assoc, ◌+◌, ◌<◌, ◌≤◌, Bool, true, false, List, [], ◌∷◌, length, drop, map, Option, Some, None}
+use Rattle.std.proofs.Common.{◌≡◌, ℕ, ◌++◌, ◌-◌, append_assoc, ◌+◌, ◌<◌, ◌≤◌, Bool, true, false, List, [], ◌∷◌, length, drop, map, Option, Some, None, Result, Ok, Err, OnOk, OnErr}
 use Rattle.std.proofs.Common.{⊎_elim, MatchOption, option_map, slice_get, get_or, refl, sym, ap, ◌∙◌, arith, subst, eqb-true}
 use Rattle.std.specs.Prelude.{◌==◌, ⊤, bytes_eq, if◌then◌else◌, option_and_then, unwrap_or}
 use Rattle.std.specs.List.{IsDistinct}
@@ -22,7 +22,7 @@ use Rattle.attr_lists.proofs.ForCallers.{number_at}
 use Rattle.gix_attributes.proofs.KeepingLemmas.{bodies_have_names}
 use Rattle.gix_attributes.proofs.NarrowedLemmas.{narrowed_answers, narrowed_found, narrowed_named}
 use Rattle.gix_attributes.specs.inner.Needed.{AreNeeded, IsNarrowed}
-use Rattle.gix_attributes.proofs.OutcomeLemmas.{emptied_again, found_at, found_over, nothing_found}
+use Rattle.gix_attributes.proofs.OutcomeLemmas.{emptied_again, found_at, found_over, names_looked_up, nothing_found}
 use Rattle.gix_attributes.proofs.OutcomeLemmas.{reset_at_first, reset_searched}
 use Rattle.gix_attributes.specs.EngineStates.{EngineState, is_specified, path_setting, returned_answers, specified_among, texts_answered}
 use Rattle.gix_attributes.specs.EngineView.{returned_by}
@@ -33,10 +33,12 @@ use Rattle.gix_attributes.proofs.RegistrationLemmas.{bodies_registered}
 
 -- ---- selected names
 
--- names stay what they are where they are looked up
-pub names_again : (names selected : List (List ℕ)) → names_selected (looked_up names selected) ≡ selected
-names_again names [] = refl
-names_again names (name ∷ selected) = ap (λ all. name ∷ all) (names_again names selected)
+-- the selected names stay, whether they are looked up again or that is refused
+pub names_stay : {T E : Type 0} (r : Result T E) (names texts : List (List ℕ)) (before after : Content) →
+    OnOk r (after.selection ≡ looked_up names texts) → OnErr r (after ≡ before) → names_selected before.selection ≡ texts →
+    names_selected after.selection ≡ texts
+names_stay (Ok x) names texts before after again same is = ap names_selected again ∙ names_looked_up names texts
+names_stay (Err e) names texts before after again same is = ap (λ (h : Content). names_selected h.selection) same ∙ is
 
 -- an outcome that is initialised is current
 pub current_at_first : (known : Collection) (selected : List (List ℕ)) (held : Content) → IsNarrowed known selected held
@@ -44,11 +46,11 @@ pub current_at_first : (known : Collection) (selected : List (List ℕ)) (held :
 current_at_first known selected held fresh =
     let First : List (List ℕ) → Content = λ texts. record (initial_content known texts) { needed = held.needed } in
     let texts : names_selected held.selection ≡ selected =
-    ap (λ (h : Content). names_selected h.selection) fresh.content ∙ names_again known.names selected in
+    ap (λ (h : Content). names_selected h.selection) fresh.content ∙ names_looked_up known.names selected in
     record {
       content = ap reset_content fresh.content
           ∙ ap (λ (h : Content). record h { needed = held.needed }) (reset_at_first known selected) ∙ ap First (sym texts);
-      needed = subst (λ l. AreNeeded known (looked_up known.names l) held.needed) (sym texts) fresh.needed;
+      needed = subst (λ l. AreNeeded (length known.names) (bodies_of known) (looked_up known.names l) held.needed) (sym texts) fresh.needed;
     }
 
 -- what a reset leaves decides whether an outcome is current
@@ -133,7 +135,7 @@ module _ (q : Lookup) (list_ids : List ℕ) (before after : Content)
       let selection = selection_kept q.known q.selected before after fresh kept in
       record {
         selection = selection
-            ∙ ap (looked_up q.known.names) (sym (ap names_selected selection ∙ names_again q.known.names q.selected));
+            ∙ ap (looked_up q.known.names) (sym (ap names_selected selection ∙ names_looked_up q.known.names q.selected));
         answers = narrowed_named q before after fresh knows.named bodies_named searched keeps kept;
       }
 
@@ -296,12 +298,3 @@ all_numbered slots listed numbers from index past free so_far =
     ∙ ap (λ l. map (λ n. get_or slots n None) numbers ++ l)
     (sym (ap (λ l. map Some (specified_among l)) (nothing_found slots from (none_listed slots listed from index past free))))
     ∙ so_far
-
--- ---- selections
-
--- a current outcome has the bodies of the collection
-pub current_bodies : (known : Collection) (held : Content) → IsCurrentFor known held → IsCurrent held known
-current_bodies known held current = record {
-  slots = sym (length-map held.slots (λ slot. None)) ∙ ap (λ (h : Content). length h.slots) current.content ∙ length-map known.names (λ name. None);
-  bodies = ap (λ (h : Content). h.bodies) current.content;
-}

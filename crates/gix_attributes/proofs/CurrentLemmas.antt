@@ -85,16 +85,7 @@ pub current_for : (known now : Collection) (held : Content) → now.names ≡ kn
     IsCurrentFor known held → IsCurrentFor now held
 current_for known now held names definitions current =
     let Current : List (List ℕ) → List (List MacroDefinition) → Type 0 = λ n d. IsCurrentFor (record now { names = n; definitions = d }) held in
-    let same : Current known.names known.definitions = record {
-      content = current.content;
-      needed = record {
-        count = current.needed.count;
-        selected = current.needed.selected;
-        closed = current.needed.closed;
-        all = current.needed.all;
-        least = current.needed.least;
-      };
-    } in
+    let same : Current known.names known.definitions = record { content = current.content; needed = current.needed } in
     subst (λ n. Current n now.definitions) (sym names) (subst (Current known.names) (sym definitions) same)
 
 -- the lines of the last list

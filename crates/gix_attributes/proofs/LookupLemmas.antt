@@ -28,7 +28,7 @@ use Rattle.attr_table.specs.Skipped.{narrowed}
 use Rattle.attr_table.proofs.ForCallers.{narrowed_at}
 use Rattle.gix_attributes.specs.Contents.{Content, Wanted, found_in, has_number, initial_content}
 use Rattle.gix_attributes.specs.Contents.{is_wanted, looked_up, selected_in, unspecified, wanted_of}
-use Rattle.gix_attributes.specs.inner.Consistency.{flags_of}
+use Rattle.gix_attributes.specs.inner.Needed.{flags_of}
 use Rattle.gix_attributes.specs.Lookups.{ArePartOf, FindsAnswers, IsFound, IsLookedUp, IsSearchedFurther, Lookup, OfTheOnlyTable}
 use Rattle.gix_attributes.specs.Lookups.{ReturnsAnswers, SelectsNoMore}
 use Rattle.gix_attributes.specs.Lookups.{answer_of_name, answers_by_number, attribute_state, named_answer, answer_for, selected_answers}

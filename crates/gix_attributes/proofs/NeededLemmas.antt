@@ -6,7 +6,7 @@ use Rattle.std.specs.Prelude.{All, MatchOption, ⊤, option_map, unwrap_or}
 use Rattle.std.specs.BTreeMap.{is_at}
 use Rattle.std.specs.BTreeSet.{contains}
 use Rattle.std.specs.List.{Contains, list_any}
-use Rattle.std.specs.List.Sorted.{IsPartitionPoint, IsPermutation}
+use Rattle.std.specs.List.Sorted.{IsNonDecreasingBy, IsPartitionPoint, IsPermutation}
 use Rattle.std.specs.Ordering.{nat_cmp}
 use Rattle.std.proofs.Math.ListN.{length-map}
 use Rattle.std.proofs.lemmas.List.FromFn.{get_or-map-range_with_len, length-map-range_with_len}
@@ -21,21 +21,17 @@ use Rattle.std.proofs.lemmas.List.Elements.{All-append, All-contains, All-contai
 use Rattle.std.proofs.lemmas.List.Elements.{All-nil, All-push, All-same, All-tail, All-take, All-weaker}
 use Rattle.std.proofs.lemmas.List.Elements.{Contains-append_left, Contains-append_right, Contains-push, Contains-push_cases}
 use Rattle.std.proofs.lemmas.List.Sums.{sum_by-set}
-use Rattle.attr_lists.specs.Collections.{Collection}
-use Rattle.attr_lists.specs.Definitions.{IsSoundCollection}
-use Rattle.attr_lists.specs.shared.MacroNumbers.{ListsMacros}
 use Rattle.attr_lists.specs.declared.types.TrackedAssignment.{TrackedAssignment}
 use Rattle.attr_search.proofs.ForCallers.{at_other}
-use Rattle.gix_attributes.specs.Contents.{Wanted, bodies_of, has_number, is_wanted}
+use Rattle.gix_attributes.specs.Contents.{Wanted, has_number, is_wanted}
 use Rattle.gix_attributes.specs.Selection.{selection_view, wanted_view}
-use Rattle.gix_attributes.specs.inner.Consistency.{flags_of}
-use Rattle.gix_attributes.proofs.OutcomeLemmas.{bodies_within}
-use Rattle.gix_attributes.proofs.SelectionLemmas.{length_bodies, listed_elsewhere}
+use Rattle.attr_search.specs.shared.Slotted.{BodiesHaveSlots}
+use Rattle.gix_attributes.specs.inner.Consistency.{AreEmptyElsewhere}
 use Rattle.gix_attributes.specs.declared.search.selected_name.SelectedName.{SelectedName}
 use Rattle.gix_attributes.specs.declared.search.needed.BodyItem.{BodyItem}
-use Rattle.gix_attributes.specs.inner.Needed.{AreClosedBut, AreNeeded, AreOwnersSet, AreSelectedSet, HasFlags, HasOwners, HasSelected, HaveBodies}
+use Rattle.gix_attributes.specs.inner.Needed.{AreClosedBut, AreNeeded, AreOwnersOf, AreOwnersSet, AreSelectedSet, HasFlags, HasOwners, HasSelected, HaveBodies}
 use Rattle.gix_attributes.specs.inner.Needed.{IsClosedFor, IsClosedOver, IsFlagSet, IsMarked, SetsOnly}
-use Rattle.gix_attributes.specs.inner.Needed.{body_item, body_items, count_unset, items_with}
+use Rattle.gix_attributes.specs.inner.Needed.{body_item, body_items, count_unset, flags_of, items_with}
 
 -- nothing is marked
 pub marked_none : (flags : List Bool) (stack : List ℕ) → IsMarked flags stack flags stack
@@ -229,83 +225,78 @@ pub owners_more : (items : List BodyItem) (index : ℕ) (d : BodyItem) (flags fl
 owners_more items index d flags flags' lt kept set here =
     All-more (λ i. IsFlagSet flags' i.owner) items index d lt (owners_kept flags flags' (take index items) kept set) here
 
--- without a number there is no body
-pub body_past : (known : Collection) (owner : ℕ) → length known.definitions ≡ length known.names → length known.names ≤ owner →
-    body_items known owner ≡ []
-body_past known owner counted past =
-    ap (λ body. map (body_item owner) body) (get_or_past (bodies_of known) owner [] (omega (arith, counted, past, length_bodies known)))
-
 -- one more body
-pub items_more : (known : Collection) (owners : List ℕ) (owner : ℕ) →
-    items_with known owners ++ body_items known owner ≡ items_with known (owners ++ owner ∷ [])
-items_more known owners owner = flat_map_more (body_items known) [] owners owner
+pub items_more : (bodies : List (List TrackedAssignment)) (owners : List ℕ) (owner : ℕ) →
+    items_with bodies owners ++ body_items bodies owner ≡ items_with bodies (owners ++ owner ∷ [])
+items_more bodies owners owner = flat_map_more (body_items bodies) [] owners owner
 
 -- the items of a body whose number is among some are among theirs
-items_among : (known : Collection) (owners : List ℕ) (m : ℕ) → list_any (is_at (nat_cmp m)) owners ≡ true →
-    All (Contains (items_with known owners)) (body_items known m)
-items_among known [] m found = absurd (false≢true found)
-items_among known (owner ∷ owners) m found =
+items_among : (bodies : List (List TrackedAssignment)) (owners : List ℕ) (m : ℕ) → list_any (is_at (nat_cmp m)) owners ≡ true →
+    All (Contains (items_with bodies owners)) (body_items bodies m)
+items_among bodies [] m found = absurd (false≢true found)
+items_among bodies (owner ∷ owners) m found =
     ⊎_elim
     (λ (here : owner ≡ m).
-    All-weaker (Contains (body_items known m)) (Contains (items_with known (owner ∷ owners)))
-    (λ x on. Contains-append_left (body_items known owner) (items_with known owners) x (subst (λ n. Contains (body_items known n) x) (sym here) on))
-    (body_items known m) (All-contains_itself (body_items known m)))
+    All-weaker (Contains (body_items bodies m)) (Contains (items_with bodies (owner ∷ owners)))
+    (λ x on. Contains-append_left (body_items bodies owner) (items_with bodies owners) x (subst (λ n. Contains (body_items bodies n) x) (sym here) on))
+    (body_items bodies m) (All-contains_itself (body_items bodies m)))
     (λ (apart : owner ≢ m).
-    All-weaker (Contains (items_with known owners)) (Contains (items_with known (owner ∷ owners)))
-    (λ x on. Contains-append_right (body_items known owner) (items_with known owners) x on)
-    (body_items known m)
-    (items_among known owners m (sym (ap (λ b. b || list_any (is_at (nat_cmp m)) owners) (at_other m owner apart)) ∙ found)))
+    All-weaker (Contains (items_with bodies owners)) (Contains (items_with bodies (owner ∷ owners)))
+    (λ x on. Contains-append_right (body_items bodies owner) (items_with bodies owners) x on)
+    (body_items bodies m)
+    (items_among bodies owners m (sym (ap (λ b. b || list_any (is_at (nat_cmp m)) owners) (at_other m owner apart)) ∙ found)))
     (cases_eq owner m)
 
 -- all items are those of the macros' bodies
-pub bodies_had : (known : Collection) (macros : BTreeSet ℕ) → ListsMacros macros known → HaveBodies known (items_with known macros.keys)
-bodies_had known macros listed = λ m. case m (contains nat_cmp macros m) refl
+bodies_had : (bodies : List (List TrackedAssignment)) (macros : BTreeSet ℕ) → AreEmptyElsewhere macros bodies →
+    HaveBodies bodies (items_with bodies macros.keys)
+bodies_had bodies macros empty = λ m. case m (contains nat_cmp macros m) refl
   where
-    case : (m : ℕ) (b : Bool) → contains nat_cmp macros m ≡ b → All (Contains (items_with known macros.keys)) (body_items known m)
-    case m true e = items_among known macros.keys m e
+    case : (m : ℕ) (b : Bool) → contains nat_cmp macros m ≡ b → All (Contains (items_with bodies macros.keys)) (body_items bodies m)
+    case m true e = items_among bodies macros.keys m e
     case m false e =
-        All-same (Contains (items_with known macros.keys)) (body_items known m) []
-        (ap (λ body. map (body_item m) body) (listed_elsewhere known macros listed m e)) (All-nil (Contains (items_with known macros.keys)))
+        All-same (Contains (items_with bodies macros.keys)) (body_items bodies m) []
+        (ap (λ body. map (body_item m) body) (empty m e)) (All-nil (Contains (items_with bodies macros.keys)))
 
-owner_below : (known : Collection) (owner : ℕ) → length known.definitions ≡ length known.names →
-    All (λ i. i.owner < length known.names) (body_items known owner)
-owner_below known owner counted =
+owner_below : (bodies : List (List TrackedAssignment)) (owner : ℕ) → All (λ i. i.owner < length bodies) (body_items bodies owner)
+owner_below bodies owner =
     ⊎_elim
-    (λ (lt : owner < length known.names).
-    All-map (λ i. i.owner < length known.names) (body_item owner) (get_or (bodies_of known) owner []) (λ k d inside. lt))
-    (λ (past : length known.names ≤ owner).
-    All-same (λ i. i.owner < length known.names) (body_items known owner) [] (body_past known owner counted past)
-    (All-nil (λ (i : BodyItem). i.owner < length known.names)))
-    (cases_lt owner (length known.names))
+    (λ (lt : owner < length bodies).
+    All-map (λ i. i.owner < length bodies) (body_item owner) (get_or bodies owner []) (λ k d inside. lt))
+    (λ (past : length bodies ≤ owner).
+    All-same (λ i. i.owner < length bodies) (body_items bodies owner) []
+    (ap (λ body. map (body_item owner) body) (get_or_past bodies owner [] past)) (All-nil (λ (i : BodyItem). i.owner < length bodies)))
+    (cases_lt owner (length bodies))
 
--- the macros of items have numbers of names
-pub owners_below : (known : Collection) (owners : List ℕ) → length known.definitions ≡ length known.names →
-    All (λ i. i.owner < length known.names) (items_with known owners)
-owners_below known [] counted = All-nil (λ (i : BodyItem). i.owner < length known.names)
-owners_below known (owner ∷ owners) counted =
-    All-append (λ i. i.owner < length known.names) (body_items known owner) (items_with known owners)
-    (owner_below known owner counted) (owners_below known owners counted)
-
--- another order of the items
-pub bodies_sorted : (known : Collection) (items items' : List BodyItem) → IsPermutation items items' → HaveBodies known items →
-    HaveBodies known items'
-bodies_sorted known items items' moved had = λ m.
-    All-weaker (Contains items) (Contains items') (λ x on. Contains-permutation items items' x moved on) (body_items known m) (had m)
+-- the macros of items have bodies
+owners_below : (bodies : List (List TrackedAssignment)) (owners : List ℕ) → All (λ i. i.owner < length bodies) (items_with bodies owners)
+owners_below bodies [] = All-nil (λ (i : BodyItem). i.owner < length bodies)
+owners_below bodies (owner ∷ owners) =
+    All-append (λ i. i.owner < length bodies) (body_items bodies owner) (items_with bodies owners)
+    (owner_below bodies owner) (owners_below bodies owners)
 
 -- what is closed is so over the items of bodies
-closed_over : (known : Collection) (owners : List ℕ) (has : ℕ → Bool) → IsClosedFor known has → IsClosedOver (items_with known owners) has
-closed_over known [] has closed = All-nil (λ (i : BodyItem). has i.attribute ≡ true → has i.owner ≡ true)
-closed_over known (owner ∷ owners) has closed =
-    All-append (λ i. has i.attribute ≡ true → has i.owner ≡ true) (body_items known owner) (items_with known owners)
-    (All-map (λ i. has i.attribute ≡ true → has i.owner ≡ true) (body_item owner) (get_or (bodies_of known) owner []) (closed owner))
-    (closed_over known owners has closed)
+closed_over : (bodies : List (List TrackedAssignment)) (owners : List ℕ) (has : ℕ → Bool) → IsClosedFor bodies has →
+    IsClosedOver (items_with bodies owners) has
+closed_over bodies [] has closed = All-nil (λ (i : BodyItem). has i.attribute ≡ true → has i.owner ≡ true)
+closed_over bodies (owner ∷ owners) has closed =
+    All-append (λ i. has i.attribute ≡ true → has i.owner ≡ true) (body_items bodies owner) (items_with bodies owners)
+    (All-map (λ i. has i.attribute ≡ true → has i.owner ≡ true) (body_item owner) (get_or bodies owner []) (closed owner))
+    (closed_over bodies owners has closed)
 
--- and over them in another order
-pub closed_sorted : (known : Collection) (owners : List ℕ) (items items' : List BodyItem) → items ≡ items_with known owners →
-    IsPermutation items items' → (has : ℕ → Bool) → IsClosedFor known has → IsClosedOver items' has
-closed_sorted known owners items items' is moved has closed =
-    All-permutation (λ i. has i.attribute ≡ true → has i.owner ≡ true) items items' moved
-    (subst (λ l. IsClosedOver l has) (sym is) (closed_over known owners has closed))
+-- the items of the macros' bodies, in another order
+pub owners_sorted : (bodies : List (List TrackedAssignment)) (macros : BTreeSet ℕ) (items : List BodyItem) → AreEmptyElsewhere macros bodies →
+    IsPermutation (items_with bodies macros.keys) items → IsNonDecreasingBy (λ i. i.attribute) items → AreOwnersOf bodies items
+owners_sorted bodies macros items empty moved order =
+    let all = items_with bodies macros.keys in
+    record {
+      order = order;
+      all = λ m. All-weaker (Contains all) (Contains items) (λ x on. Contains-permutation all items x moved on) (body_items bodies m)
+          (bodies_had bodies macros empty m);
+      owners = All-permutation (λ i. i.owner < length bodies) all items moved (owners_below bodies macros.keys);
+      only = λ has closed. All-permutation (λ i. has i.attribute ≡ true → has i.owner ≡ true) all items moved
+          (closed_over bodies macros.keys has closed);
+    }
 
 -- a closed set has the macros of an attribute that it has
 pub owners_had : (items part : List BodyItem) (attribute : ℕ) (has : ℕ → Bool) → IsClosedOver items has → All (Contains items) part →
@@ -343,10 +334,9 @@ flag_below count a is =
     (cases_lt a count)
 
 -- without a selection all are needed
-pub needed_all : (known : Collection) (selected : List SelectedName) → (length selected == 0) ≡ true →
-    AreNeeded known (selection_view selected) (replicate (length known.names) true)
-needed_all known selected none =
-    let n = length known.names in
+pub needed_all : (n : ℕ) (bodies : List (List TrackedAssignment)) (selected : List SelectedName) → (length selected == 0) ≡ true →
+    AreNeeded n bodies (selection_view selected) (replicate n true)
+needed_all n bodies selected none =
     let selection = selection_view selected in
     let none' : (length selection == 0) ≡ true = ap (λ k. k == 0) (length-map selected wanted_view) ∙ none in
     record {
@@ -388,21 +378,20 @@ owner_set flags items item closed on is =
     ⊎_elim (λ (stacked : Contains [] item.attribute). absurd (omega (arith, stacked.1))) (λ set. set)
     (All-contains (λ i. IsFlagSet flags i.attribute → Contains [] i.attribute ⊎ IsFlagSet flags i.owner) items item closed on is)
 
-item_on : (known : Collection) (items : List BodyItem) (m k : ℕ) (d : TrackedAssignment) → HaveBodies known items →
-    k < length (get_or (bodies_of known) m []) → Contains items (body_item m (get_or (get_or (bodies_of known) m []) k d))
-item_on known items m k d had lt =
-    let body = get_or (bodies_of known) m [] in
+item_on : (bodies : List (List TrackedAssignment)) (items : List BodyItem) (m k : ℕ) (d : TrackedAssignment) → HaveBodies bodies items →
+    k < length (get_or bodies m []) → Contains items (body_item m (get_or (get_or bodies m []) k d))
+item_on bodies items m k d had lt =
+    let body = get_or bodies m [] in
     let item = body_item m (get_or body k d) in
     subst (Contains items) (get_or-map (body_item m) body k d item lt) (had m k item (omega (arith, lt, length-map body (body_item m))))
 
-item_below : (known : Collection) (m k : ℕ) (d : TrackedAssignment) → IsSoundCollection known →
-    k < length (get_or (bodies_of known) m []) → (get_or (get_or (bodies_of known) m []) k d).id.0 < length known.names
-item_below known m k d sound lt =
+item_below : (n : ℕ) (bodies : List (List TrackedAssignment)) (m k : ℕ) (d : TrackedAssignment) → BodiesHaveSlots n bodies →
+    k < length (get_or bodies m []) → (get_or (get_or bodies m []) k d).id.0 < n
+item_below n bodies m k d within lt =
     ⊎_elim
-    (λ (inside : m < length (bodies_of known)). bodies_within known sound m [] inside k d lt)
-    (λ (past : length (bodies_of known) ≤ m).
-    absurd (omega (arith, lt, ap length (get_or_past (bodies_of known) m [] past))))
-    (cases_lt m (length (bodies_of known)))
+    (λ (inside : m < length bodies). within m [] inside k d lt)
+    (λ (past : length bodies ≤ m). absurd (omega (arith, lt, ap length (get_or_past bodies m [] past))))
+    (cases_lt m (length bodies))
 
 number_found : (a : ℕ) → (a == a) ≡ true
 number_found a = grind (arith, nat_tests)
@@ -427,27 +416,25 @@ selection_had selected count has below held = λ k d lt.
     number_had selected count k d has lt held (get_or selected k d).number refl (below k d lt)
 
 -- no others are marked
-pub needed_least : (known : Collection) (selected : List SelectedName) (items : List BodyItem) (first flags : List Bool) →
-    All (λ s. MatchOption s.number ⊤ (λ n. n < length known.names)) selected →
-    SetsOnly (replicate (length known.names) false) first (HasSelected selected) → SetsOnly first flags (IsClosedOver items) →
-    ((has : ℕ → Bool) → IsClosedFor known has → IsClosedOver items has) →
-    (has : ℕ → Bool) → HasFlags (flags_of (selection_view selected) (length known.names)) has → IsClosedFor known has → HasFlags flags has
-needed_least known selected items first flags below before after over = λ has held closed.
-    let n = length known.names in
+pub needed_least : (n : ℕ) (bodies : List (List TrackedAssignment)) (selected : List SelectedName) (items : List BodyItem)
+    (first flags : List Bool) → All (λ s. MatchOption s.number ⊤ (λ a. a < n)) selected →
+    SetsOnly (replicate n false) first (HasSelected selected) → SetsOnly first flags (IsClosedOver items) →
+    ((has : ℕ → Bool) → IsClosedFor bodies has → IsClosedOver items has) →
+    (has : ℕ → Bool) → HasFlags (flags_of (selection_view selected) n) has → IsClosedFor bodies has → HasFlags flags has
+needed_least n bodies selected items first flags below before after over = λ has held closed.
     after has
     (before has (λ a is. absurd (false≢true (sym (none_set n a) ∙ is))) (selection_had selected n has below held))
     (over has closed)
 
 -- the marks of selected attributes, and of what depends on them
-pub needed_marked : (known : Collection) (selected : List SelectedName) (items : List BodyItem) (first flags : List Bool) →
-    IsSoundCollection known → (length selected ≡ 0 → ⊥) → HaveBodies known items → AreSelectedSet first selected →
-    ((a : ℕ) → IsFlagSet first a → IsFlagSet flags a) → length flags ≡ length known.names → AreClosedBut [] flags items →
-    ((has : ℕ → Bool) → HasFlags (flags_of (selection_view selected) (length known.names)) has → IsClosedFor known has → HasFlags flags has) →
-    AreNeeded known (selection_view selected) flags
-needed_marked known selected items first flags sound some had set kept count closed least =
-    let n = length known.names in
+pub needed_marked : (n : ℕ) (bodies : List (List TrackedAssignment)) (selected : List SelectedName) (items : List BodyItem)
+    (first flags : List Bool) → BodiesHaveSlots n bodies → 0 < length selected → HaveBodies bodies items → AreSelectedSet first selected →
+    ((a : ℕ) → IsFlagSet first a → IsFlagSet flags a) → length flags ≡ n → AreClosedBut [] flags items →
+    ((has : ℕ → Bool) → HasFlags (flags_of (selection_view selected) n) has → IsClosedFor bodies has → HasFlags flags has) →
+    AreNeeded n bodies (selection_view selected) flags
+needed_marked n bodies selected items first flags within some had set kept count closed least =
     let selection = selection_view selected in
-    let none : (length selection ≡ 0) → ⊥ = λ e. some (sym (length-map selected wanted_view) ∙ e) in
+    let none : (length selection ≡ 0) → ⊥ = λ e. omega (arith, some, length-map selected wanted_view, e) in
     record {
       count = count;
       selected = λ a is.
@@ -455,9 +442,9 @@ needed_marked known selected items first flags sound some had set kept count clo
           sym (flag_at selection n a (flags_below selection n a is)) ∙ is in
           kept a (names_set first selected a set (sym (ap (λ b. b || list_any (has_number a) selection) (not_none (length selection) none)) ∙ is'));
       closed = λ m k d lt is.
-          let item = get_or (get_or (bodies_of known) m []) k d in
-          let below : item.id.0 < length flags = omega (arith, item_below known m k d sound lt, count) in
-          set_any flags m (owner_set flags items (body_item m item) closed (item_on known items m k d had lt)
+          let item = get_or (get_or bodies m []) k d in
+          let below : item.id.0 < length flags = omega (arith, item_below n bodies m k d within lt, count) in
+          set_any flags m (owner_set flags items (body_item m item) closed (item_on bodies items m k d had lt)
           (get_or_default flags item.id.0 false true below ∙ is));
       all = λ e. absurd (none e);
       least = least;

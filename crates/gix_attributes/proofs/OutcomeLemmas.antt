@@ -16,11 +16,12 @@ use Rattle.attr_lists.specs.Collections.{MacroDefinition, Collection}
 use Rattle.attr_lists.specs.Numbers.{number_of}
 use Rattle.attr_lists.specs.Definitions.{IsSoundCollection, IsWithin, last_body}
 use Rattle.attr_lists.specs.declared.types.TrackedAssignment.{TrackedAssignment}
+use Rattle.attr_search.specs.SearchContents.{SearchContents}
 use Rattle.attr_search.specs.shared.BodyChanges.{changed_bodies, sized_bodies}
 use Rattle.attr_search.specs.declared.bodies.BodyChange.{BodyChange}
 use Rattle.attr_search.specs.shared.SlotContents.{wanted_numbers}
 use Rattle.gix_attributes.specs.Contents.{Content, IsNextFound, Wanted, bodies_of, reset_content, found_in, initial_content, is_wanted, looked_up}
-use Rattle.gix_attributes.specs.inner.Consistency.{flags_of}
+use Rattle.gix_attributes.specs.inner.Needed.{flags_of}
 use Rattle.gix_attributes.specs.Contents.{names_selected}
 use Rattle.attr_search.specs.Settings.{HaveSlots}
 use Rattle.attr_search.specs.shared.Slotted.{BodiesHaveSlots}
@@ -31,7 +32,7 @@ use Rattle.attr_search.specs.Slots.{AreFreeFrom, IsNextFilled, Matched}
 use Rattle.gix_attributes.specs.declared.search.selected_name.SelectedName.{SelectedName}
 
 -- names stay what they are where they are looked up
-names_looked_up : (names selected : List (List ℕ)) → names_selected (looked_up names selected) ≡ selected
+pub names_looked_up : (names selected : List (List ℕ)) → names_selected (looked_up names selected) ≡ selected
 names_looked_up names [] = refl
 names_looked_up names (name ∷ selected) = ap (λ l. name ∷ l) (names_looked_up names selected)
 
@@ -42,13 +43,14 @@ looked_up_again names selected seen e = e ∙ ap (looked_up names) (sym (ap name
 -- an outcome that looks for what the texts depend on
 pub narrowed_by : (known : Collection) (texts : List (List ℕ)) (seen : List Wanted) (flags : List Bool) (held : Content) →
     seen ≡ looked_up known.names texts → held ≡ record (initial_content known (names_selected seen)) { needed = flags } →
-    AreNeeded known seen flags → IsNarrowed known texts held
+    AreNeeded (length known.names) (bodies_of known) seen flags → IsNarrowed known texts held
 narrowed_by known texts seen flags held e is needed =
     let First : List (List ℕ) → List Bool → Content = λ l f. record (initial_content known l) { needed = f } in
     let own : held.needed ≡ flags = ap (λ (h : Content). h.needed) is in
     record {
       content = is ∙ ap (λ l. First l flags) (ap names_selected e ∙ names_looked_up known.names texts) ∙ ap (First texts) (sym own);
-      needed = subst (AreNeeded known (looked_up known.names texts)) (sym own) (subst (λ w. AreNeeded known w flags) e needed);
+      needed = let Needed : List Wanted → List Bool → Type 0 = AreNeeded (length known.names) (bodies_of known) in
+          subst (Needed (looked_up known.names texts)) (sym own) (subst (λ w. Needed w flags) e needed);
     }
 
 pub initialized_by : (known : Collection) (selected : List (List ℕ)) (seen : List Wanted) → seen ≡ looked_up known.names selected → initial_content
@@ -160,6 +162,20 @@ kept_as known changes bodies n sound counted none current =
 
 pub changes_below : (changes : List BodyChange) (n m : ℕ) → m ≡ n → All (λ c. c.number < n) changes → All (λ c. c.number < m) changes
 changes_below changes n m same below = All-weaker (λ c. c.number < n) (λ c. c.number < m) (λ c lt. omega arith) changes below
+
+-- what is held of a selection and of what a search fills
+abbrev pub held_of : List Wanted → SearchContents → Content
+held_of seen s =
+    record {
+      is_initialized = true;
+      slots = s.answers;
+      bodies = s.bodies;
+      needed = s.needed;
+      selection = seen;
+      kept = s.kept;
+      taken = s.taken;
+      tested = s.tested;
+    }
 
 -- what is held once all is made
 pub held_as : (known : Collection) (texts : List (List ℕ)) (slots slots' : List (Option Matched)) (bodies : List (List TrackedAssignment))

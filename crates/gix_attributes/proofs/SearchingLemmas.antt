@@ -13,7 +13,7 @@ use Rattle.attr_search.specs.SearchContents.{SearchContents}
 use Rattle.attr_search.specs.shared.SlotContents.{wanted_numbers}
 use Rattle.gix_attributes.specs.ContentView.{outcome_view}
 use Rattle.gix_attributes.specs.Contents.{Content, reset_content, is_wanted, wanted_of}
-use Rattle.gix_attributes.specs.inner.Consistency.{flags_of}
+use Rattle.gix_attributes.specs.inner.Needed.{flags_of}
 use Rattle.gix_attributes.specs.Selection.{selection_view}
 use Rattle.attr_search.specs.Slots.{Matched, is_needed, slots_of}
 use Rattle.attr_table.specs.Skipped.{narrowed}

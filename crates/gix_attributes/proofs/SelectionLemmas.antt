@@ -25,7 +25,8 @@ use Rattle.attr_lists.specs.declared.types.TrackedAssignment.{TrackedAssignment}
 use Rattle.attr_lists.specs.contracts.types.TrackedAssignmentPartialEq.TheImpl as tracked
 use Rattle.gix_attributes.specs.Contents.{has_number, is_wanted, bodies_of}
 use Rattle.gix_attributes.specs.inner.BodiesMade.{AreMade, bodies_for, changed_at}
-use Rattle.gix_attributes.specs.inner.Consistency.{AreEmptyElsewhere, flags_of}
+use Rattle.gix_attributes.specs.inner.Consistency.{AreEmptyElsewhere}
+use Rattle.gix_attributes.specs.inner.Needed.{flags_of}
 use Rattle.gix_attributes.specs.Selection.{wanted_view, selection_view}
 use Rattle.attr_search.specs.shared.Slotted.{bodies_view}
 use Rattle.attr_search.specs.shared.BodyChanges.{changed_bodies, sized_bodies}

@@ -18,7 +18,7 @@ ghost use Rattle.gix_attributes.specs.EngineStates.{AnswersTo, FindsFor, number_
 ghost use Rattle.gix_attributes.specs.EngineView.{addition_view, below_view, state_by, started};
 ghost use Rattle.gix_attributes.specs.Registration.{RegistersAlone};
 ghost use Rattle.gix_attributes.specs.inner.SoundEngines.{IsCurrentFor, last_lines};
-ghost use Rattle.gix_attributes.specs.Contents.{names_selected};
+ghost use Rattle.gix_attributes.specs.Contents.{IsCurrent, names_selected};
 ghost use Rattle.gix_attributes.specs.inner.Needed.{IsNarrowed};
 ghost use Rattle.attr_lists.specs.shared.MacroNumbers.{defines_macros};
 ghost use Rattle.attr_search.specs.Matches.{match_view};
@@ -32,7 +32,7 @@ mod specified;
 use crate::Search;
 pub use crate::engine::answers::Answers;
 use crate::engine::specified::number_answers;
-use crate::search::{AttributeId, Dropped, Match, MetadataCollection, Outcome};
+use crate::search::{AttributeId, Dropped, Match, MetadataCollection, Outcome, selection};
 use attr_glob::pattern::Case;
 use attr_glob::search::pattern::base_of;
 use bstr::BStr;
@@ -64,6 +64,15 @@ pub struct Below<'a> {
     pub base: Option<&'a [u8]>,
     /// The bytes of the file.
     pub buffer: &'a [u8],
+}
+
+// A list to add, with the source and the base that are kept of it.
+#[derive(Drop)]
+struct NewList<'a> {
+    allow_macros: bool,
+    source: String,
+    base: Option<Vec<u8>>,
+    buffer: &'a [u8],
 }
 
 /// A path to look up.
@@ -166,7 +175,15 @@ impl Engine {
     {
         let source = String::from_str(alloc, addition.source)?;
         let base = base_of(alloc, addition.source, addition.root)?;
-        self.add_list(alloc, addition.allow_macros, source, base, addition.buffer)
+        self.add_list(
+            alloc,
+            NewList {
+                allow_macros: addition.allow_macros,
+                source,
+                base,
+                buffer: addition.buffer,
+            },
+        )
     }
 
     /// Adds the list of an attributes file as the last one, as [`Engine::add`] does, below a base of any bytes. The source says
@@ -184,33 +201,34 @@ impl Engine {
             Some(base) => Some(Vec::from_slice(alloc, base)?),
             None => None,
         };
-        self.add_list(alloc, list.allow_macros, source, base, list.buffer)
+        self.add_list(
+            alloc,
+            NewList {
+                allow_macros: list.allow_macros,
+                source,
+                base,
+                buffer: list.buffer,
+            },
+        )
     }
 
-    fn add_list(
-        &mut self,
-        alloc: Global,
-        allow_macros: bool,
-        source: String,
-        base: Option<Vec<u8>>,
-        buffer: &[u8],
-    ) -> Result<(), AllocError>
+    fn add_list(&mut self, alloc: Global, list: NewList<'_>) -> Result<(), AllocError>
         ensures added { OnOk result (self.new ≡ with_list_below (record {
-          allow_macros = allow_macros;
-          source = string_bytes source;
-          base = base_bytes base;
-          buffer = buffer.now;
+          allow_macros = list.entry.allow_macros;
+          source = string_bytes list.entry.source;
+          base = base_bytes list.entry.base;
+          buffer = list.entry.buffer.now;
         }) self.old) }
         ensures refused { OnErr result (self.new ≡ self.old) }
     {
         let names = self.collection.len();
         self.dropped = self.search.add_patterns_below(
             alloc,
-            buffer,
-            source,
-            base,
+            list.buffer,
+            list.source,
+            list.base,
             &mut self.collection,
-            allow_macros,
+            list.allow_macros,
         )?;
         self.is_current = stays_current(self.is_current, &self.search, &self.collection, names);
         self.has_answers = false;
@@ -245,13 +263,9 @@ impl Engine {
             (self.new ≡ with_selection (map (λ name. name.now) names.now) self.old) }
         ensures refused { OnErr result (self.new ≡ self.old) }
     {
-        select(
-            alloc,
-            &mut self.outcome,
-            self.is_current,
-            &self.collection,
-            names,
-        )?;
+        let selected = selection::look_up(alloc, &self.collection, names)?;
+        refresh(alloc, &mut self.outcome, self.is_current, &self.collection)?;
+        self.outcome.narrow(alloc, &self.collection, selected)?;
         self.is_current = true;
         self.has_answers = false;
         Ok(())
@@ -401,30 +415,32 @@ fn prepare(
     requires { is_current ≡ true → IsCurrentFor collection.now outcome.old }
     ensures ready { OnOk result (IsNarrowed
         collection.now (names_selected outcome.old.selection) outcome.new) }
-    ensures refused { OnErr result (outcome.new ≡ outcome.old) }
+    ensures refused { OnErr result (is_current ≡ false) }
+    ensures names { names_selected outcome.new.selection ≡ names_selected outcome.old.selection }
 {
     if is_current {
         outcome.reset();
         return Ok(());
     }
-    outcome.initialize_narrowed(alloc, collection)
+    outcome.initialize(alloc, collection)?;
+    let names = selection::copy_of(alloc, &outcome.selected)?;
+    outcome.narrow(alloc, collection, names)
 }
 
-// Selects names in an outcome. The bodies of macros are gone through only if names or macros have changed.
-fn select(
+// Initialises an outcome if names or macros have changed.
+fn refresh(
     alloc: Global,
     outcome: &mut Outcome,
     is_current: bool,
     collection: &MetadataCollection,
-    names: &[&str],
 ) -> Result<(), AllocError>
     requires { is_current ≡ true → IsCurrentFor collection.now outcome.old }
-    ensures ready { OnOk result (IsNarrowed
-        collection.now (map (λ name. name.now) names.now) outcome.new) }
-    ensures refused { OnErr result (outcome.new ≡ outcome.old) }
+    ensures current { OnOk result (IsCurrent outcome.new collection.now) }
+    ensures kept { is_current ≡ true → outcome.new ≡ outcome.old }
+    ensures names { names_selected outcome.new.selection ≡ names_selected outcome.old.selection }
 {
     if is_current {
-        return outcome.select_current(alloc, collection, names);
+        return Ok(());
     }
-    outcome.select_narrowed(alloc, collection, names)
+    outcome.initialize(alloc, collection)
 }

@@ -17,7 +17,7 @@ mod matches;
 mod needed;
 mod outcome;
 mod selected_name;
-mod selection;
+pub(crate) mod selection;
 
 pub use crate::search::attributes::Search;
 pub use crate::search::collection::MetadataCollection;

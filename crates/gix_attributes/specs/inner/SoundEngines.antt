@@ -40,11 +40,12 @@ pub record IsOfNames (names : List (List ℕ)) (held : Content) : Type 0 where
   pub selection : held.selection ≡ looked_up names (names_selected held.selection)
   pub answers : HeldAreNamed names held.slots
 
--- The collection registers the lists of the search alone; a current outcome can be reset; and the answers are numbered, and have
--- the names of the collection.
+-- The collection registers the lists of the search alone; a current outcome can be reset; and the answers are those of a current
+-- outcome, numbered, and have the names of the collection.
 pub record IsSoundEngine (e : Inside) : Type 0 where
   pub held : Holds e.collection e.search
   pub known : RegistersAlone e.collection (list_ids_in e.search) (lists_in e.search)
   pub current : e.is_current ≡ true → IsCurrentFor e.collection e.outcome
+  pub answered : e.has_answers ≡ true → e.is_current ≡ true
   pub numbered : e.has_answers ≡ true → AreNumbered e.outcome e.numbers.items
   pub named : e.has_answers ≡ true → IsOfNames e.collection.names e.outcome

@@ -1,98 +1,108 @@
 //! The attributes that the answers for selected ones depend on.
 
-ghost use Rattle.std.specs.Prelude.{◌≡◌, ℕ, Bool, true, ◌<◌, ◌++◌, ⊤, [], All, MatchOption, OnOk, IfOk, length};
+ghost use Rattle.std.specs.Prelude.{◌≡◌, ℕ, true, ◌<◌, ◌++◌, ⊤, [], All, MatchOption, OnOk, IfOk, length, map};
 ghost use Rattle.std.specs.List.{Contains};
 ghost use Rattle.std.specs.List.Sorted.{IsNonDecreasingBy};
 ghost use Rattle.gix_attributes.specs.Selection.{selection_view};
-ghost use Rattle.gix_attributes.specs.inner.Needed.{AreClosedBut, AreNeeded, AreOwnersSet, AreSelectedSet, HasOwners, HasSelected, HaveBodies, IsClosedFor, IsClosedOver, IsFlagSet, IsMarked, SetsOnly, body_items, items_with};
+ghost use Rattle.gix_attributes.specs.inner.Consistency.{AreEmptyElsewhere};
+ghost use Rattle.gix_attributes.specs.inner.Needed.{AreClosedBut, AreNeeded, AreOwnersOf, AreOwnersSet, AreSelectedSet, HasOwners, HasSelected, IsClosedOver, IsFlagSet, IsMarked, SetsOnly, body_item, items_with};
+ghost use Rattle.attr_search.specs.shared.Slotted.{BodiesHaveSlots, bodies_view};
 
-use crate::search::collection::MetadataCollection;
+use crate::search::TrackedAssignment;
 use crate::search::selected_name::SelectedName;
+use crate::search::selection::body_at;
 use attr_search::wanted::WantedFlags;
 use std::alloc::{AllocError, Global};
 use std::collections::BTreeSet;
 
-// An item of a macro's body: its attribute, and the macro.
+/// An item of a macro's body: its attribute, and the macro.
 #[derive(Clone, Copy)]
-struct BodyItem {
+pub(crate) struct BodyItem {
     attribute: usize,
     owner: usize,
 }
 
-/// The attributes that the answers for selected ones depend on: these themselves, and each macro whose body has an item of such
-/// an attribute. All if nothing is selected.
-///
-/// It costs a sort of the items of all bodies and one look at each, however macros name each other.
-///
-/// # Errors
-///
-/// If memory runs out.
-pub(crate) fn needed(
-    alloc: Global,
-    collection: &MetadataCollection,
-    selected: &[SelectedName],
-) -> Result<WantedFlags, AllocError>
-    requires { All (λ s. MatchOption s.number ⊤ (λ n. n < length collection.now.names))
-        selected.now }
-    ensures { IfOk result
-        (λ flags. AreNeeded collection.now (selection_view selected.now) flags) }
-{
-    let count = collection.len();
-    if selected.is_empty() {
-        return Ok(WantedFlags::all_or_none(alloc, count, true));
-    }
-    let items = sorted_items(alloc, collection)?;
-    let mut flags = WantedFlags::all_or_none(alloc, count, false);
-    let mut stack = Vec::new(alloc);
-    mark_selected(selected, &mut flags, &mut stack)?;
-    mark_all(&items, &mut flags, &mut stack)?;
-    Ok(flags)
+/// For each attribute the macros whose bodies have an item of it.
+#[derive(Drop)]
+pub(crate) struct Owners {
+    // The items of all bodies, in the order of their attributes.
+    items: Vec<BodyItem>,
 }
 
-// The items of the bodies of all macros, in the order of their attributes.
-fn sorted_items(alloc: Global, collection: &MetadataCollection) -> Result<Vec<BodyItem>, AllocError>
-    requires counted { length collection.now.definitions ≡ length collection.now.names }
-    ensures order { IfOk result (λ items. IsNonDecreasingBy (λ i. i.attribute) items.items) }
-    ensures bodies { IfOk result (λ items. HaveBodies collection.now items.items) }
-    ensures owners { IfOk result (λ items.
-        All (λ i. i.owner < length collection.now.names) items.items) }
-    ensures only { IfOk result (λ items.
-        (has : ℕ → Bool) → IsClosedFor collection.now has → IsClosedOver items.items has) }
-{
-    let mut items = Vec::new(alloc);
-    push_bodies(collection.macros(), collection, &mut items)?;
-    items.sort_unstable_by_key(|item| item.attribute);
-    Ok(items)
+impl Owners {
+    /// The owners of the items of bodies, of which those of other numbers than the macros' are empty.
+    ///
+    /// # Errors
+    ///
+    /// If memory runs out.
+    pub(crate) fn of(
+        alloc: Global,
+        bodies: &[Vec<TrackedAssignment>],
+        macros: &BTreeSet<usize>,
+    ) -> Result<Owners, AllocError>
+        requires { AreEmptyElsewhere macros.now (bodies_view bodies.now) }
+        ensures { IfOk result
+            (λ owners. AreOwnersOf (bodies_view bodies.now) owners.items.items) }
+    {
+        let mut items = Vec::new(alloc);
+        push_bodies(bodies, macros, &mut items)?;
+        items.sort_unstable_by_key(|item| item.attribute);
+        Ok(Owners { items })
+    }
+
+    /// The attributes that the answers for selected ones depend on: these themselves, and each macro whose body has an item of
+    /// such an attribute. It costs what these are, however macros name each other.
+    ///
+    /// # Errors
+    ///
+    /// If memory runs out.
+    pub(crate) fn needed(
+        &self,
+        alloc: Global,
+        bodies: &[Vec<TrackedAssignment>],
+        selected: &[SelectedName],
+    ) -> Result<WantedFlags, AllocError>
+        requires owners { AreOwnersOf (bodies_view bodies.now) self.now.items.items }
+        requires within { BodiesHaveSlots (length bodies.now) (bodies_view bodies.now) }
+        requires numbers { All (λ s. MatchOption s.number ⊤ (λ n. n < length bodies.now))
+            selected.now }
+        requires some { 0 < length selected.now }
+        ensures { IfOk result (λ flags. AreNeeded
+            (length bodies.now) (bodies_view bodies.now) (selection_view selected.now) flags) }
+    {
+        let mut flags = WantedFlags::all_or_none(alloc, bodies.len(), false);
+        let mut stack = Vec::new(alloc);
+        mark_selected(selected, &mut flags, &mut stack)?;
+        mark_all(&self.items, &mut flags, &mut stack)?;
+        Ok(flags)
+    }
 }
 
 // Pushes the items of the bodies of macros.
 fn push_bodies(
+    bodies: &[Vec<TrackedAssignment>],
     macros: &BTreeSet<usize>,
-    collection: &MetadataCollection,
     items: &mut Vec<BodyItem>,
 ) -> Result<(), AllocError>
     ensures { OnOk result (items.new.items
-        ≡ items.old.items ++ items_with collection.now macros.now.keys) }
+        ≡ items.old.items ++ items_with (bodies_view bodies.now) macros.now.keys) }
 {
     for number in macros.iter() {
-        push_items(*number, collection, items)?;
+        push_items(body_at(bodies, *number), *number, items)?;
     }
     Ok(())
 }
 
 // Pushes the items of the body of a macro.
 fn push_items(
+    body: &[TrackedAssignment],
     owner: usize,
-    collection: &MetadataCollection,
     items: &mut Vec<BodyItem>,
 ) -> Result<(), AllocError>
     ensures { OnOk result (items.new.items
-        ≡ items.old.items ++ body_items collection.now owner) }
+        ≡ items.old.items ++ map (body_item owner) body.now) }
 {
-    if owner >= collection.len() {
-        return Ok(());
-    }
-    for item in collection.body(owner).as_slice() {
+    for item in body {
         items.push(BodyItem {
             attribute: item.id.0,
             owner,

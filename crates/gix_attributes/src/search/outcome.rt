@@ -1,13 +1,13 @@
 //! What searches find.
 
-ghost use Rattle.std.specs.Prelude.{◌≡◌, ◌↔◌, ◌<◌, ◌≤◌, ◌*◌, [], All, None, IfOk, IsTrue, MatchOption, OnErr, OnOk, true, drop, length, map, option_and_then, option_map, slice_get, slice_index_or};
+ghost use Rattle.std.specs.Prelude.{◌≡◌, ⊤, ◌↔◌, ◌<◌, ◌≤◌, ◌*◌, [], All, None, IfOk, IsTrue, MatchOption, OnErr, OnOk, true, drop, length, map, option_and_then, option_map, slice_get, slice_index_or};
 ghost use Rattle.attr_glob.specs.Views.{pattern_view};
 ghost use Rattle.attr_lists.specs.ListViews.{entry_view};
 ghost use Rattle.gix_attributes.specs.Contents.{IsCurrent, IsNextFound, reset_content, found_in, initial_content, looked_up, names_selected, empty_content, selected_answer, selected_in, wanted_of};
-ghost use Rattle.gix_attributes.specs.inner.Consistency.{flags_of, nothing_wanted};
+ghost use Rattle.gix_attributes.specs.inner.Consistency.{nothing_wanted};
 ghost use Rattle.gix_attributes.specs.Searching.{is_complete};
-ghost use Rattle.gix_attributes.specs.inner.Needed.{IsNarrowed};
-ghost use Rattle.attr_search.specs.shared.SlotContents.{AreFlagsAmong};
+ghost use Rattle.gix_attributes.specs.inner.Needed.{AreNeeded, IsNarrowed};
+ghost use Rattle.attr_search.specs.shared.Slotted.{BodiesHaveSlots};
 ghost use Rattle.gix_attributes.specs.Covered.{AreCovered, IsCovered, ListsAreCovered};
 ghost use Rattle.attr_search.specs.IndexedLists.{listed_view};
 ghost use Rattle.gix_attributes.specs.SearchViews.{lists_in};
@@ -19,7 +19,7 @@ ghost use Rattle.attr_search.specs.Matches.{no_pattern};
 use crate::Search;
 use crate::search::collection::MetadataCollection;
 use crate::search::matches::{Matches, Selected, unspecified};
-use crate::search::needed::needed;
+use crate::search::needed::Owners;
 use crate::search::selected_name::SelectedName;
 use crate::search::{AttributeId, Match, TrackedAssignment, Value, selection};
 use attr_glob::Pattern;
@@ -44,7 +44,9 @@ pub struct Outcome {
     pub(crate) state: SearchState,
     // The numbers of the macros: the other bodies are empty.
     macros: BTreeSet<usize>,
-    selected: Vec<SelectedName>,
+    // The owners of the bodies' items, once names have been selected that only some attributes are needed for.
+    owners: Option<Owners>,
+    pub(crate) selected: Vec<SelectedName>,
     // The pattern of the answer for an unspecified attribute.
     no_pattern: Pattern,
     is_initialized: bool,
@@ -56,6 +58,7 @@ impl Drop for Outcome {
         let Outcome {
             state: _,
             macros: _,
+            owners: _,
             selected: _,
             no_pattern: _,
             is_initialized: _,
@@ -84,6 +87,7 @@ impl Outcome {
         Outcome {
             state: SearchState::new(alloc),
             macros: BTreeSet::new(alloc),
+            owners: None,
             selected: Vec::new(alloc),
             no_pattern: no_pattern(alloc),
             is_initialized: false,
@@ -107,8 +111,7 @@ impl Outcome {
         ensures refused { OnErr result (self.new ≡ self.old) }
     {
         let selected = selection::look_up_again(alloc, collection, &self.selected)?;
-        let needed = WantedFlags::all_or_none(alloc, collection.len(), true);
-        self.set_up(alloc, collection, selected, needed)
+        self.set_up(alloc, collection, selected)
     }
 
     /// Selects the attributes that are looked for, and initialises the outcome. No names select all attributes.
@@ -129,94 +132,7 @@ impl Outcome {
         ensures refused { OnErr result (self.new ≡ self.old) }
     {
         let selected = selection::look_up(alloc, collection, attribute_names)?;
-        let needed = WantedFlags::all_or_none(alloc, collection.len(), true);
-        self.set_up(alloc, collection, selected, needed)
-    }
-
-    /// The same as [`Outcome::initialize`], but searches skip what the selected names don't depend on.
-    ///
-    /// # Errors
-    ///
-    /// If memory runs out. Nothing changes then.
-    pub(crate) fn initialize_narrowed(
-        &mut self,
-        alloc: Global,
-        collection: &MetadataCollection,
-    ) -> Result<(), AllocError>
-        ensures ok { OnOk result (IsNarrowed
-            collection.now (names_selected self.old.selection) self.new) }
-        ensures refused { OnErr result (self.new ≡ self.old) }
-    {
-        let again = selection::look_up_again(alloc, collection, &self.selected)?;
-        let needed = needed(alloc, collection, &again)?;
-        self.set_up(alloc, collection, again, needed)
-    }
-
-    /// The same as [`Outcome::initialize_with_selection`], but searches skip what the selected names don't depend on.
-    ///
-    /// # Errors
-    ///
-    /// If memory runs out. Nothing changes then.
-    pub(crate) fn select_narrowed(
-        &mut self,
-        alloc: Global,
-        collection: &MetadataCollection,
-        names: &[&str],
-    ) -> Result<(), AllocError>
-        ensures ok { OnOk result (IsNarrowed
-            collection.now (map (λ name. name.now) names.now) self.new) }
-        ensures refused { OnErr result (self.new ≡ self.old) }
-    {
-        let selected = selection::look_up(alloc, collection, names)?;
-        let needed = needed(alloc, collection, &selected)?;
-        self.set_up(alloc, collection, selected, needed)
-    }
-
-    /// The same as [`Outcome::select_narrowed`] for an outcome whose bodies are those of the collection. They aren't gone through.
-    ///
-    /// # Errors
-    ///
-    /// If memory runs out. Nothing changes then.
-    pub(crate) fn select_current(
-        &mut self,
-        alloc: Global,
-        collection: &MetadataCollection,
-        names: &[&str],
-    ) -> Result<(), AllocError>
-        requires { IsCurrent self.old collection.now }
-        ensures ok { OnOk result (IsNarrowed
-            collection.now (map (λ name. name.now) names.now) self.new) }
-        ensures refused { OnErr result (self.new ≡ self.old) }
-    {
-        let selected = selection::look_up(alloc, collection, names)?;
-        let needed = needed(alloc, collection, &selected)?;
-        self.set_up_current(alloc, collection, selected, needed)
-    }
-
-    // The same as `set_up` for an outcome whose bodies are those of the collection.
-    fn set_up_current(
-        &mut self,
-        alloc: Global,
-        collection: &MetadataCollection,
-        names: Vec<SelectedName>,
-        needed: WantedFlags,
-    ) -> Result<(), AllocError>
-        requires current { IsCurrent self.old collection.now }
-        requires selected { selection_view names.items
-            ≡ looked_up collection.now.names (names_selected (selection_view names.items)) }
-        requires needed { length needed ≡ length collection.now.names }
-        requires among { AreFlagsAmong
-            (flags_of (selection_view names.items) (length collection.now.names)) needed }
-        ensures ok { OnOk result (self.new
-            ≡ (let texts = names_selected (selection_view names.items) in
-            record (initial_content collection.now texts) { needed = needed })) }
-        ensures refused { OnErr result (self.new ≡ self.old) }
-    {
-        let wanted = selection::flags(alloc, &names, collection.len())?;
-        self.state.set_up(alloc, wanted, needed, Vec::new(alloc))?;
-        self.selected = names;
-        self.is_initialized = true;
-        Ok(())
+        self.set_up(alloc, collection, selected)
     }
 
     // What takes memory comes first, so that nothing has changed if it is refused.
@@ -225,19 +141,16 @@ impl Outcome {
         alloc: Global,
         collection: &MetadataCollection,
         selected: Vec<SelectedName>,
-        needed: WantedFlags,
     ) -> Result<(), AllocError>
-        requires selected { selection_view selected.items
+        requires { selection_view selected.items
             ≡ looked_up collection.now.names (names_selected (selection_view selected.items)) }
-        requires needed { length needed ≡ length collection.now.names }
-        requires among { AreFlagsAmong
-            (flags_of (selection_view selected.items) (length collection.now.names)) needed }
         ensures ok { OnOk result (self.new
-            ≡ (let texts = names_selected (selection_view selected.items) in
-            record (initial_content collection.now texts) { needed = needed })) }
+            ≡ initial_content collection.now (names_selected (selection_view selected.items))) }
         ensures refused { OnErr result (self.new ≡ self.old) }
     {
-        let wanted = selection::flags(alloc, &selected, collection.len())?;
+        let count = collection.len();
+        let needed = WantedFlags::all_or_none(alloc, count, true);
+        let wanted = selection::flags(alloc, &selected, count)?;
         let macros = collection.macros().clone()?;
         let changes = selection::body_changes(
             alloc,
@@ -247,9 +160,60 @@ impl Outcome {
         )?;
         self.state.set_up(alloc, wanted, needed, changes)?;
         self.macros = macros;
+        self.owners = None;
         self.selected = selected;
         self.is_initialized = true;
         Ok(())
+    }
+
+    /// Selects names in an outcome that has the bodies of the collection, and empties it. Searches skip what these names don't
+    /// depend on. It costs what does, and a sort of the items of all bodies if these have changed since it was called last.
+    ///
+    /// # Errors
+    ///
+    /// If memory runs out. Nothing changes then.
+    pub(crate) fn narrow(
+        &mut self,
+        alloc: Global,
+        collection: &MetadataCollection,
+        names: Vec<SelectedName>,
+    ) -> Result<(), AllocError>
+        requires current { IsCurrent self.old collection.now }
+        requires selected { selection_view names.items
+            ≡ looked_up collection.now.names (names_selected (selection_view names.items)) }
+        ensures ok { OnOk result (IsNarrowed
+            collection.now (names_selected (selection_view names.items)) self.new) }
+        ensures refused { OnErr result (self.new ≡ self.old) }
+    {
+        let count = collection.len();
+        let needed = self.needed(alloc, &names)?;
+        let wanted = selection::flags(alloc, &names, count)?;
+        self.state.set_up(alloc, wanted, needed, Vec::new(alloc))?;
+        self.selected = names;
+        self.is_initialized = true;
+        Ok(())
+    }
+
+    // What the answers for names depend on: all attributes if there are no names. The owners are kept for the next names.
+    fn needed(&mut self, alloc: Global, names: &[SelectedName]) -> Result<WantedFlags, AllocError>
+        requires within { BodiesHaveSlots (length self.old.slots) self.old.bodies }
+        requires numbers { All (λ s. MatchOption s.number ⊤ (λ n. n < length self.old.slots))
+            names.now }
+        ensures same { self.new ≡ self.old }
+        ensures needed { IfOk result (λ flags. AreNeeded
+            (length self.old.slots) self.old.bodies (selection_view names.now) flags) }
+    {
+        let bodies = self.state.bodies();
+        if names.is_empty() {
+            return Ok(WantedFlags::all_or_none(alloc, bodies.len(), true));
+        }
+        let owners = match self.owners.take() {
+            Some(owners) => owners,
+            None => Owners::of(alloc, bodies, &self.macros)?,
+        };
+        let needed = owners.needed(alloc, bodies, names)?;
+        self.owners = Some(owners);
+        Ok(needed)
     }
 
     /// Empties the slots, for searches of another path. It takes no memory, and costs what was filled.
@@ -283,6 +247,7 @@ impl Outcome {
         let macros = self.macros.clone()?;
         dest.state.copy_from(alloc, &self.state, wanted)?;
         dest.macros = macros;
+        dest.owners = None;
         dest.selected = selected;
         dest.is_initialized = true;
         Ok(())
@@ -299,6 +264,7 @@ impl Outcome {
         Ok(Outcome {
             state: self.state.clone(alloc)?,
             macros: self.macros.clone()?,
+            owners: None,
             selected: selection::copy_of(alloc, &self.selected)?,
             no_pattern: no_pattern(alloc),
             is_initialized: self.is_initialized,

@@ -3,7 +3,8 @@
 ghost use Rattle.std.specs.Prelude.{◌≡◌, ◌↔◌, ◌<◌, ◌++◌, ⊤, ℕ, List, [], ◌∷◌, IsTrue, All, IfOk, OnOk, MatchOption, length, map, slice_index_or};
 ghost use Rattle.gix_attributes.specs.Contents.{bodies_of, looked_up, names_selected};
 ghost use Rattle.gix_attributes.specs.inner.BodiesMade.{AreMade};
-ghost use Rattle.gix_attributes.specs.inner.Consistency.{AreEmptyElsewhere, flags_of};
+ghost use Rattle.gix_attributes.specs.inner.Consistency.{AreEmptyElsewhere};
+ghost use Rattle.gix_attributes.specs.inner.Needed.{flags_of};
 ghost use Rattle.gix_attributes.specs.Selection.{selection_view};
 ghost use Rattle.attr_search.specs.shared.BodyChanges.{changed_bodies, sized_bodies};
 ghost use Rattle.attr_search.specs.shared.Slotted.{bodies_view};
@@ -150,8 +151,8 @@ fn push_change(
     Ok(())
 }
 
-// The body with a number, which is empty past the last one.
-fn body_at(bodies: &[Vec<TrackedAssignment>], number: usize) -> &[TrackedAssignment]
+/// The body with a number, which is empty past the last one.
+pub(crate) fn body_at(bodies: &[Vec<TrackedAssignment>], number: usize) -> &[TrackedAssignment]
     ensures { result.now ≡ slice_index_or (bodies_view bodies.now) number [] }
 {
     match bodies.get(number) {

@@ -16,9 +16,10 @@ invariant_of-self-2 c =
           (registered_lists c.add_patterns_below.new.self c.add_patterns_below.new.collection) added.kept added.added c.self.invariant.known;
       current = λ still.
           let stays = c.stays_current-self-inside.ensures in
-          current_added (kept_list_where c.args.allow_macros c.args.buffer.now) old.collection c.add_patterns_below.new.collection
+          current_added (kept_list_where c.args.list.allow_macros c.args.list.buffer.now) old.collection c.add_patterns_below.new.collection
           (lists_in old.search) (lists_in c.add_patterns_below.new.self) _ old.outcome c.len-names.ensures.sound added.collection added.list refl
           (stays.macros still) (stays.names still ∙ c.len-names.ensures.count) (c.self.invariant.current (stays.current still));
+      answered = λ never. absurd (cc);
       numbered = λ never. absurd (cc);
       named = λ never. absurd (cc);
     }

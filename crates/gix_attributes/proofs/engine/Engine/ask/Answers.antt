@@ -1,5 +1,5 @@
 -- A search from nothing answers by the only stable table, and leaves an outcome that can be reset.
-use Rattle.std.proofs.Common.{◌≡◌, ℕ, List, [], Option, None, Some, length, sym, ap, ◌∙◌, subst, Result, Ok, Err, OnErr}
+use Rattle.std.proofs.Common.{◌≡◌, ℕ, List, [], Option, None, Some, length, refl, sym, ap, ◌∙◌, subst, Result, Ok, Err, OnErr}
 use Rattle.std.proofs.lemmas.List.{length-map}
 use Rattle.gix_attributes.specs.Contents.{Content, names_selected}
 use Rattle.gix_attributes.specs.Covered.{ListsAreCovered}
@@ -8,7 +8,7 @@ use Rattle.gix_attributes.specs.SearchViews.{list_ids_in, lists_in}
 use Rattle.attr_search.specs.Slots.{Matched}
 use Rattle.gix_attributes.specs.EngineStates.{EngineContent, path_setting, returned_answers, without_answers}
 use Rattle.gix_attributes.specs.EngineView.{engine_view, returned_by}
-use Rattle.gix_attributes.proofs.AnswerLemmas.{answered, current_at_first, current_reset, current_searched, found, names_again, of_names}
+use Rattle.gix_attributes.proofs.AnswerLemmas.{answered, current_at_first, current_reset, current_searched, found, of_names}
 use Rattle.gix_attributes.proofs.RegistrationLemmas.{same_count}
 use Rattle.gix_attributes.specs.declared.engine.Engine.TheInside.{Inside}
 use Rattle.gix_attributes.specs.declared.engine.Question.{Question}
@@ -39,6 +39,7 @@ invariant_of-self-in_err-pattern_matching_relative_path c = record {
   current = λ yes. current_reset c.self.inside.collection c.prepare.new.outcome c.pattern_matching_relative_path.new.out
       c.in_err-pattern_matching_relative_path.ensures.refused
       (current_at_first c.self.inside.collection _ c.prepare.new.outcome c.in_ok-prepare.ensures.ready);
+  answered = λ never. absurd (cc);
   numbered = λ never. absurd (cc);
   named = λ never. absurd (cc);
 }
@@ -50,6 +51,7 @@ invariant_of-self-in_err-number_answers c = record {
   current = λ yes. current_searched c.self.inside.collection c.prepare.new.outcome c.pattern_matching_relative_path.new.out
       c.in_ok-pattern_matching_relative_path.ensures.kept
       (current_at_first c.self.inside.collection _ c.prepare.new.outcome c.in_ok-prepare.ensures.ready);
+  answered = λ never. absurd (cc);
   numbered = λ never. absurd (cc);
   named = λ never. absurd (cc);
 }
@@ -61,6 +63,7 @@ invariant_of-self-2 c = record {
   current = λ yes. current_searched c.self.inside.collection c.prepare.new.outcome c.pattern_matching_relative_path.new.out
       c.in_ok-pattern_matching_relative_path.ensures.kept
       (current_at_first c.self.inside.collection _ c.prepare.new.outcome c.in_ok-prepare.ensures.ready);
+  answered = λ yes. refl;
   numbered = λ yes. c.in_ok-number_answers.ensures;
   named = λ yes.
       let e = c.self.inside in
@@ -92,8 +95,7 @@ returns-in_err-pattern_matching_relative_path-clause-refused c =
     let e = c.self.inside in
     unanswered c.from_residual-in_err-pattern_matching_relative_path.result (engine_view e) c.args.self.now _
     (ap (λ (h : Content). names_selected h.selection) c.in_err-pattern_matching_relative_path.ensures.refused
-    ∙ (ap (λ (h : Content). names_selected h.selection) c.in_ok-prepare.ensures.ready.content
-    ∙ names_again e.collection.names (names_selected e.outcome.selection)))
+    ∙ c.in_ok-prepare.ensures.names)
     c.self.view_is
 
 pub returns-in_err-number_answers-clause-refused : goal.returns-in_err-number_answers-clause-refused
@@ -101,8 +103,7 @@ returns-in_err-number_answers-clause-refused c =
     let e = c.self.inside in
     unanswered c.from_residual-in_err-number_answers.result (engine_view e) c.args.self.now _
     (ap (λ (h : Content). names_selected h.selection) c.in_ok-pattern_matching_relative_path.ensures.kept.rest
-    ∙ (ap (λ (h : Content). names_selected h.selection) c.in_ok-prepare.ensures.ready.content
-    ∙ names_again e.collection.names (names_selected e.outcome.selection)))
+    ∙ c.in_ok-prepare.ensures.names)
     c.self.view_is
 
 pub returns-clause-answers : goal.returns-clause-answers
@@ -114,9 +115,7 @@ returns-clause-answers c =
     let seen = answered (looked_for e (names_selected e.outcome.selection) question) (list_ids_in e.search) c.prepare.new.outcome after
     (same_count e.search) c.self.invariant.known c.in_ok-prepare.ensures.ready searched.searched searched.named searched.kept in
     let selection : names_selected after.selection ≡ names_selected e.outcome.selection =
-    ap (λ (h : Content). names_selected h.selection) searched.kept.rest
-    ∙ (ap (λ (h : Content). names_selected h.selection) c.in_ok-prepare.ensures.ready.content
-    ∙ names_again e.collection.names (names_selected e.outcome.selection)) in
+    ap (λ (h : Content). names_selected h.selection) searched.kept.rest ∙ c.in_ok-prepare.ensures.names in
     subst
     (λ (held : EngineContent). OfTheOnlyTable (path_setting held.state question.path.bytes.now question.case question.is_dir)
     (λ answers. Seen (engine_view e) (names_selected after.selection) (Some (returned_by after)) after.slots

@@ -18,6 +18,7 @@ invariant_of-self-2 c =
           current_popped list_view c.pop_pattern_list.result (list_ids_in old.search) old.collection c.pop_pattern_list.new.collection
           (lists_in c.pop_pattern_list.new.self) (lists_in old.search) old.outcome c.len-names.ensures.sound c.self.invariant.held
           popped.list popped.collection (stays.macros still) (c.self.invariant.current (stays.current still));
+      answered = λ never. absurd (cc);
       numbered = λ never. absurd (cc);
       named = λ never. absurd (cc);
     }

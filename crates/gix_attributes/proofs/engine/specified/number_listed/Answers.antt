@@ -1,8 +1,8 @@
-use Rattle.std.proofs.Common.{◌≡◌, ◌∙◌, ◌++◌, ◌+◌, ◌<◌, ℕ, None, arith, ap, get_or, length, map, refl, sym}
+use Rattle.std.proofs.Common.{◌∙◌, ◌++◌, ◌+◌, ◌<◌, ℕ, None, arith, ap, get_or, length, map, refl, sym}
 use Rattle.std.proofs.lemmas.List.{get_or_default}
 use Rattle.std.proofs.lemmas.List.Elements.{All-get_or}
 use Rattle.attr_search.proofs.ForCallers.{free_first, free_on}
-use Rattle.gix_attributes.proofs.AnswerLemmas.{all_numbered, left_at, left_from, numbered_more}
+use Rattle.gix_attributes.proofs.AnswerLemmas.{all_numbered, left_at, numbered_more}
 use Rattle.gix_attributes.proofs.engine.specified.number_listed.Goals as goal
 use Rattle.gix_attributes.proofs.engine.specified.number_listed.Goals.{then-number-from+in_ok-push_specified+else-prove, else-number-from}
 

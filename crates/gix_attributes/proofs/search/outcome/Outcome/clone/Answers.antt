@@ -14,5 +14,6 @@ invariant_of-result c =
       macros = copied_elsewhere _ (λ x y e. e) o.macros c.in_ok-clone-2.field-0 o.state.bodies
           c.in_ok-clone.field-0.bodies c.in_ok-clone-2.ensures.cases
           (ap (λ (s : SearchContents). s.bodies) c.in_ok-clone.ensures) c.self.invariant.macros;
+      owners = tt;
       no_pattern = c.no_pattern.ensures;
     }

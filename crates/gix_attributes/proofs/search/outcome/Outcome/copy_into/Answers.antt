@@ -1,6 +1,6 @@
 use Rattle.std.proofs.Common.{◌≡◌, ◌∙◌, length, replicate, sym, ap, true}
 use Rattle.gix_attributes.specs.Contents.{initial_content, looked_up, names_selected}
-use Rattle.gix_attributes.specs.inner.Consistency.{flags_of}
+use Rattle.gix_attributes.specs.inner.Needed.{flags_of}
 use Rattle.gix_attributes.specs.Selection.{selection_view}
 use Rattle.gix_attributes.proofs.OutcomeLemmas.{held_as, length_flags, selected_below}
 use Rattle.attr_search.specs.SearchContents.{SearchContents}
@@ -26,6 +26,7 @@ invariant_of-dest-2 c =
           (c.len.ensures.count ∙ sym counted));
       macros = copied_elsewhere _ (λ x y e. e) c.self.inside.macros c.in_ok-macros.macros c.self.inside.state.bodies c.copy_from.new.self.bodies
           c.in_ok-macros.ensures.cases (ap (λ (s : SearchContents). s.bodies) c.in_ok-copy_from.ensures.copied) c.self.invariant.macros;
+      owners = tt;
       no_pattern = c.dest.invariant.no_pattern;
     }
 

@@ -1,26 +1,26 @@
-use Rattle.std.proofs.Common.{◌≡◌, ◌∙◌, length, map, true, None, refl, sym, ap}
-use Rattle.std.proofs.lemmas.List.{length-map}
+use Rattle.std.proofs.Common.{◌≡◌, ◌∙◌, length, map, replicate, true, None, refl, sym, ap}
+use Rattle.std.proofs.lemmas.List.{length-map, length-replicate}
+use Rattle.attr_search.proofs.ForCallers.{all_among}
 use Rattle.attr_search.specs.SearchContents.{SearchContents}
 use Rattle.attr_search.specs.shared.BodyChanges.{changed_bodies, sized_bodies}
 use Rattle.attr_search.specs.shared.Slotted.{bodies_view}
-use Rattle.gix_attributes.specs.Contents.{Content}
-use Rattle.gix_attributes.specs.inner.Consistency.{flags_of}
+use Rattle.gix_attributes.specs.inner.Needed.{flags_of}
 use Rattle.gix_attributes.specs.Selection.{selection_view}
-use Rattle.gix_attributes.specs.Contents.{bodies_of}
+use Rattle.gix_attributes.specs.Contents.{bodies_of, initial_content, names_selected}
 use Rattle.gix_attributes.proofs.SelectionLemmas.{copied_elsewhere, listed_elsewhere}
-use Rattle.gix_attributes.proofs.OutcomeLemmas.{changed_to, changed_within, changes_below, held_as, length_flags, same_empty, selected_below}
+use Rattle.gix_attributes.proofs.OutcomeLemmas.{changed_to, changed_within, changes_below, held_as, held_of, length_flags, same_empty, selected_below}
 use Rattle.gix_attributes.proofs.search.outcome.Outcome.set_up.Goals as goal
 
 pub flags-requires : goal.flags-requires
 flags-requires c =
-    rw (c.deref.ensures.value, c.len.ensures.count) (selected_below c.args.selected.items c.args.collection.now.names _ c.requires.selected)
+    rw (c.deref.ensures.value, c.len-count.ensures.count) (selected_below c.args.selected.items c.args.collection.now.names _ c.requires)
 
 pub set_up-requires-clause-numbers : goal.set_up-requires-clause-numbers
 set_up-requires-clause-numbers c =
     let known = c.args.collection.now in
     let wanted = c.in_ok-wanted.wanted in
-    let count : length wanted ≡ length known.names = length_flags (selection_view c.deref.result.now) c.len.result wanted c.in_ok-wanted.ensures ∙
-    c.len.ensures.count in
+    let count : length wanted ≡ length known.names = length_flags (selection_view c.deref.result.now) c.len-count.result wanted c.in_ok-wanted.ensures ∙
+    c.len-count.ensures.count in
     changes_below c.in_ok-changes.changes.items (length known.names) (length wanted) count c.in_ok-changes.ensures.numbers
 
 pub set_up-requires-clause-within : goal.set_up-requires-clause-within
@@ -29,39 +29,41 @@ set_up-requires-clause-within c =
     let own = c.self.inside.state.bodies in
     let changes = c.in_ok-changes.changes.items in
     let wanted = c.in_ok-wanted.wanted in
-    let count : length wanted ≡ length known.names = length_flags (selection_view c.deref.result.now) c.len.result wanted c.in_ok-wanted.ensures ∙
-    c.len.ensures.count in
+    let count : length wanted ≡ length known.names = length_flags (selection_view c.deref.result.now) c.len-count.result wanted c.in_ok-wanted.ensures ∙
+    c.len-count.ensures.count in
     let made = changed_to known changes own (bodies_view c.bodies.result.now) (length wanted) count c.bodies.ensures.bodies
     c.in_ok-changes.ensures.made in
-    changed_within known (changed_bodies changes (sized_bodies (length wanted) own)) (length wanted) c.len.ensures.sound count made
+    changed_within known (changed_bodies changes (sized_bodies (length wanted) own)) (length wanted) c.len-count.ensures.sound count made
 
 pub set_up-requires-clause-needed : goal.set_up-requires-clause-needed
 set_up-requires-clause-needed c =
-    c.requires.needed ∙ sym (length_flags (selection_view c.deref.result.now) c.len.result c.in_ok-wanted.wanted c.in_ok-wanted.ensures
-    ∙ c.len.ensures.count)
+    ap length c.all_or_none-needed.ensures ∙ length-replicate c.len-count.result true
+    ∙ sym (length_flags (selection_view c.deref.result.now) c.len-count.result c.in_ok-wanted.wanted c.in_ok-wanted.ensures)
 
 pub set_up-requires-clause-among : goal.set_up-requires-clause-among
 set_up-requires-clause-among c =
-    rw (c.in_ok-wanted.ensures ∙ ap (λ l. flags_of (selection_view l) c.len.result) c.deref.ensures.value
-    ∙ ap (flags_of (selection_view c.args.selected.items)) c.len.ensures.count) c.requires.among
+    let flags = c.in_ok-wanted.wanted in
+    rw c.all_or_none-needed.ensures (all_among flags c.len-count.result
+    (length_flags (selection_view c.deref.result.now) c.len-count.result flags c.in_ok-wanted.ensures))
 
 pub invariant_of-self-2 : goal.invariant_of-self-2
 invariant_of-self-2 c =
     let seen = selection_view c.args.selected.items in
     let wanted = c.in_ok-wanted.wanted in
-    let flags : wanted ≡ flags_of seen c.len.result = c.in_ok-wanted.ensures
-    ∙ ap (λ l. flags_of (selection_view l) c.len.result) c.deref.ensures.value in
-    let count : length wanted ≡ c.len.result = length_flags seen c.len.result wanted flags in
+    let flags : wanted ≡ flags_of seen c.len-count.result = c.in_ok-wanted.ensures
+    ∙ ap (λ l. flags_of (selection_view l) c.len-count.result) c.deref.ensures.value in
+    let count : length wanted ≡ c.len-count.result = length_flags seen c.len-count.result wanted flags in
     let made = c.in_ok-set_up.ensures.ok in
     let known = c.args.collection.now in
     let bodies = changed_to known c.in_ok-changes.changes.items c.self.inside.state.bodies (bodies_view c.bodies.result.now) (length wanted)
-    (count ∙ c.len.ensures.count) c.bodies.ensures.bodies c.in_ok-changes.ensures.made in
+    (count ∙ c.len-count.ensures.count) c.bodies.ensures.bodies c.in_ok-changes.ensures.made in
     record {
       macros = copied_elsewhere _ (λ x y e. e) c.macros.result.now c.in_ok-macros.macros (bodies_of known) c.set_up.new.self.bodies
           c.in_ok-macros.ensures.cases (ap (λ (s : SearchContents). s.bodies) made ∙ bodies)
           (listed_elsewhere known c.macros.result.now c.macros.ensures);
       wanted = ap (λ (s : SearchContents). s.wanted) made ∙ flags ∙ ap (flags_of seen)
           (sym (ap (λ (s : SearchContents). length s.answers) made ∙ length-map wanted (λ flag. None) ∙ count));
+      owners = tt;
       no_pattern = c.self.invariant.no_pattern;
     }
 
@@ -72,22 +74,13 @@ returns-clause-ok c =
     let changes = c.in_ok-changes.changes.items in
     let wanted = c.in_ok-wanted.wanted in
     let seen = selection_view c.args.selected.items in
-    let count : length wanted ≡ length known.names = length_flags (selection_view c.deref.result.now) c.len.result wanted c.in_ok-wanted.ensures ∙
-    c.len.ensures.count in
+    let count : length wanted ≡ length known.names = length_flags (selection_view c.deref.result.now) c.len-count.result wanted c.in_ok-wanted.ensures ∙
+    c.len-count.ensures.count in
     let made = changed_to known changes own (bodies_view c.bodies.result.now) (length wanted) count c.bodies.ensures.bodies
     c.in_ok-changes.ensures.made in
-    let Held : SearchContents → Content = λ s. record {
-      is_initialized = true;
-      slots = s.answers;
-      bodies = s.bodies;
-      needed = s.needed;
-      selection = seen;
-      kept = s.kept;
-      taken = s.taken;
-      tested =
-          s.tested;
-    } in
-    ap Held c.in_ok-set_up.ensures.ok
+    ap (held_of seen) c.in_ok-set_up.ensures.ok
     ∙ held_as known _ (map (λ flag. None) wanted) (map (λ name. None) known.names)
-    (changed_bodies changes (sized_bodies (length wanted) own)) c.args.needed seen 0 0
-    (same_empty None wanted known.names count) made c.requires.selected refl
+    (changed_bodies changes (sized_bodies (length wanted) own)) c.all_or_none-needed.result seen 0 0
+    (same_empty None wanted known.names count) made c.requires refl
+    ∙ ap (λ flags. record (initial_content known (names_selected seen)) { needed = flags })
+    (c.all_or_none-needed.ensures ∙ ap (λ n. replicate n true) c.len-count.ensures.count)
