@@ -288,7 +288,8 @@ pub defined_at : (list_id n : ℕ) (entries : List NameEntry) (b : NumberedBody)
     → definitions_at (set entries b.number x) n ≡ definitions_at entries n ++ map (definition_of list_id) (bodies_of_number n (b ∷ []))
 defined_at list_id n entries b d x lt e =
     let bodies = λ (l : List NumberedBody). map (definition_of list_id) (map (λ (k : NumberedBody). k.body) l) in
-    definitions_at-cases (λ ds. ds ≡ definitions_at entries n ++ bodies (filter (λ (k : NumberedBody). eqb k.number n) (b ∷ []))) entries b.number n d x lt
+    definitions_at-cases (λ ds. ds ≡ definitions_at entries n ++ bodies (filter (λ (k : NumberedBody). eqb k.number n) (b ∷ []))) entries b.number
+    n d x lt
     (λ at same. e ∙ ap (λ l. l ++ definition_of list_id b.body ∷ []) at
     ∙ ap (λ l. definitions_at entries n ++ bodies l) (sym (cond-true (eqb b.number n) (b ∷ []) [] (eq-eqb b.number n same))))
     (λ other. sym (append-nil (definitions_at entries n))

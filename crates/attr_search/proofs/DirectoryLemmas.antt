@@ -25,11 +25,12 @@ use Rattle.attr_glob.specs.Views.{base_bytes}
 use Rattle.attr_wildmatch.specs.declared.case.Case.{Case}
 use Rattle.attr_wildmatch.specs.declared.case.Case.TheVariants.{Sensitive, Fold}
 use Rattle.attr_search.specs.declared.indexed_list.IndexedList.{IndexedList}
-use Rattle.attr_search.specs.inner.BaseKeys.{HaveRoots, base_keys, is_rooted, key_in, longest_base, text_of}
+use Rattle.attr_search.specs.inner.BaseKeys.{HaveRoots, base_keys, is_rooted, key_in, longest_base, text_of_base}
 use Rattle.attr_search.proofs.KeyedLemmas.{below_or, get_front, get_seam, some_inside}
 use Rattle.attr_search.specs.inner.Counting.{CountUp}
 use Rattle.attr_search.specs.inner.FoundLists.{AreListsFor}
-use Rattle.attr_search.specs.inner.DirectoryKeys.{GathersDirectories, HasNumbersOf, Includes, base_text, ends_in_slash, keys_of}
+use Rattle.attr_wildmatch.specs.Slashes.{ends_in_slash}
+use Rattle.attr_search.specs.inner.DirectoryKeys.{GathersDirectories, HasNumbersOf, Includes, base_text, keys_of}
 use Rattle.attr_search.specs.inner.DirectoryKeys.{short_key, text_key}
 use Rattle.attr_search.specs.declared.directory_keys.BaseKeys.{BaseKeys}
 
@@ -47,7 +48,7 @@ mapped_popped f keys all xs x is whole =
     ap (take (length keys - 1)) e ∙ ap (λ n. take n (map f xs ++ f x ∷ [])) less ∙ take-append_seam (map f xs) (f x ∷ [])
 
 pub longest_pushed : (lists : List IndexedList) (list : IndexedList) (longest : ℕ) → longest_base lists ≤ longest →
-    length (text_of list) ≤ longest → longest_base (lists ++ list ∷ []) ≤ longest
+    length (text_of_base list) ≤ longest → longest_base (lists ++ list ∷ []) ≤ longest
 longest_pushed [] list longest le own = omega (arith, own)
 longest_pushed (l ∷ lists) list longest le own =
     let rest = longest_pushed lists list longest (omega (arith, le)) own in
@@ -86,10 +87,10 @@ roots_popped all lists last roots fewer whole have kept = λ number list has roo
 
 -- no base is longer
 pub one_within : (lists : List IndexedList) (number : ℕ) (list : IndexedList) (longest : ℕ) → slice_get lists number ≡ Some list →
-    longest_base lists ≤ longest → length (text_of list) ≤ longest
+    longest_base lists ≤ longest → length (text_of_base list) ≤ longest
 one_within [] number list longest is le = let none = slice_get_within [] number list is in absurd (omega (arith, none))
 one_within (l ∷ lists) zero list longest is le =
-    subst (λ (x : IndexedList). length (text_of x) ≤ longest) (some_inside l list is) (omega (arith, le))
+    subst (λ (x : IndexedList). length (text_of_base x) ≤ longest) (some_inside l list is) (omega (arith, le))
 one_within (l ∷ lists) (suc number) list longest is le = one_within lists number list longest is (omega (arith, le))
 
 -- a hasher that has a text's first part, and then the part up to an offset
@@ -158,7 +159,8 @@ slash-folded : (case : Case) (text : List ℕ) (k : ℕ) → k < length text →
 slash-folded Sensitive text k lt is = is
 slash-folded Fold text k lt is = get_or-map to_ascii_lowercase text k 0 0 lt ∙ ap to_ascii_lowercase is
 
-key_of : (case : Case) (list : IndexedList) → list.base_keys ≡ keys_of (text_of list) → key_in case list ≡ text_key (folded case (text_of list))
+key_of : (case : Case) (list : IndexedList) → list.base_keys ≡ keys_of (text_of_base list)
+    → key_in case list ≡ text_key (folded case (text_of_base list))
 key_of Sensitive list is = ap (λ (keys : BaseKeys). keys.spelled) is
 key_of Fold list is = ap (λ (keys : BaseKeys). keys.folded) is
 
@@ -214,14 +216,14 @@ pub list_found : (lists : List IndexedList) (roots path found rest : List ℕ) (
     slice_get lists number ≡ Some list → list.is_idle ≡ false → rest_below (base_bytes list.list.base) case path ≡ Some rest →
     Contains found number
 list_found lists roots path found rest longest case number list have le kept gathers has busy applies =
-    elim (eqb_tells (slice_index (text_of list) (length (text_of list) - 1)) slash) [
+    elim (eqb_tells (slice_index (text_of_base list) (length (text_of_base list) - 1)) slash) [
       | inl ends ↦
           let at = base_ends (base_bytes list.list.base) case path rest longest (one_within lists number list longest has le) ends.1 applies in
           gathers at.offset at.within at.ends number
           (slice_get-map (key_in case) lists number ∙ ap (option_map (key_in case)) has
           ∙ ap Some (key_of case list (list.based busy) ∙ ap text_key at.same))
       | inr other ↦ kept number (root_found lists roots number list have has
-          (ap (λ idle. not idle && not (ends_in_slash (text_of list))) busy ∙ ap not other.0))
+          (ap (λ idle. not idle && not (ends_in_slash (text_of_base list))) busy ∙ ap not other.0))
     ]
 
 -- one number more

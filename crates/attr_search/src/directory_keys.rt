@@ -17,7 +17,7 @@ use std::hash::{DefaultHasher, Hasher};
 pub struct BaseKeys {
     /// That of the base as it is spelled.
     pub spelled: u64,
-    /// That of the base in small letters.
+    /// That of the base in lower case.
     pub folded: u64,
 }
 
@@ -119,7 +119,7 @@ fn short_key(text: &[u8]) -> u64
     })
 }
 
-/// Puts a text in small letters in place of what the buffer had.
+/// Puts a text in lower case in place of what the buffer had.
 ///
 /// # Errors
 ///

@@ -27,7 +27,7 @@ pub struct IndexedLists {
     /// The numbers of the lists, by the keys of their bases as they are spelled.
     #[derive_where(skip)]
     pub spelled: NumbersByKey,
-    /// The same by the keys of their bases in small letters.
+    /// The same by the keys of their bases in lower case.
     #[derive_where(skip)]
     pub folded: NumbersByKey,
     /// The numbers of the lists whose base is no directory, which may apply to all paths.

@@ -29,8 +29,8 @@ use Rattle.attr_search.specs.shared.Slotted.{BodiesHaveSlots}
 use Rattle.gix_attributes.specs.inner.Consistency.{AreEmptyElsewhere}
 use Rattle.gix_attributes.specs.declared.search.selected_name.SelectedName.{SelectedName}
 use Rattle.gix_attributes.specs.declared.search.needed.BodyItem.{BodyItem}
-use Rattle.gix_attributes.specs.inner.Needed.{AreClosedBut, AreNeeded, AreOwnersOf, AreOwnersSet, AreSelectedSet, HasFlags, HasOwners, HasSelected, HaveBodies}
-use Rattle.gix_attributes.specs.inner.Needed.{IsClosedFor, IsClosedOver, IsFlagSet, IsMarked, SetsOnly}
+use Rattle.gix_attributes.specs.inner.Needed.{AreClosedBut, AreNeeded, AreOwnersOf, AreOwnersSet, AreSelectedSet, HasFlags, HasOwners}
+use Rattle.gix_attributes.specs.inner.Needed.{HasSelected, HaveBodies, IsClosedFor, IsClosedOver, IsFlagSet, IsMarked, SetsOnly}
 use Rattle.gix_attributes.specs.inner.Needed.{body_item, body_items, count_unset, flags_of, items_with}
 
 -- nothing is marked
@@ -238,7 +238,8 @@ items_among bodies (owner ∷ owners) m found =
     ⊎_elim
     (λ (here : owner ≡ m).
     All-weaker (Contains (body_items bodies m)) (Contains (items_with bodies (owner ∷ owners)))
-    (λ x on. Contains-append_left (body_items bodies owner) (items_with bodies owners) x (subst (λ n. Contains (body_items bodies n) x) (sym here) on))
+    (λ x on. Contains-append_left (body_items bodies owner) (items_with bodies owners) x
+    (subst (λ n. Contains (body_items bodies n) x) (sym here) on))
     (body_items bodies m) (All-contains_itself (body_items bodies m)))
     (λ (apart : owner ≢ m).
     All-weaker (Contains (items_with bodies owners)) (Contains (items_with bodies (owner ∷ owners)))

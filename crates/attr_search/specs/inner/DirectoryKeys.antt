@@ -1,5 +1,5 @@
 -- The keys of bases, by which the lists of a path are found (own). Nothing here has to be believed.
-use Rattle.std.specs.Prelude.{◌≡◌, ℕ, ◌-◌, ◌<◌, ◌==◌, Bool, Contains, List, [], length, take, Option, Some, None, slice_get, slice_index}
+use Rattle.std.specs.Prelude.{◌≡◌, ℕ, ◌<◌, Contains, List, [], length, take, Option, Some, None, slice_get, slice_index}
 use Rattle.std.specs.Prelude.{if◌then◌else◌, ◌+◌, ◌*◌, ◌%◌, ◌^◌, nat_le}
 use Rattle.std.specs.List.{fold}
 use Rattle.std.specs.Hash.DefaultHasher as sip
@@ -20,10 +20,6 @@ text_key text = if nat_le (length text) 8 then short_key text else sip.finish (s
 abbrev pub base_text : Option (List ℕ) → List ℕ
 base_text None = []
 base_text (Some base) = base
-
--- a base ends in a slash, as that of each file in a directory does
-abbrev pub ends_in_slash : List ℕ → Bool
-ends_in_slash base = slice_index base (length base - 1) == slash
 
 abbrev pub keys_of : List ℕ → BaseKeys
 keys_of base = record { spelled = text_key base; folded = text_key (folded Fold base) }

@@ -15,7 +15,8 @@ returns-clause-ok c = λ n lt.
     defined_at c.args.list_id n c.args.entries.now (numbered_body c.args.known.now) c.index-entries-own.result c.define.new.self
     c.if-own-entries.false
     (c.in_ok-define.ensures.ok
-    ∙ ap (λ b. definitions_view (get_or c.args.entries.now c.args.known.now.id.0 c.index-entries-own.result) ++ definition_of c.args.list_id b ∷ []) c.in_ok-metadata.ensures.body)
+    ∙ ap (λ b. definitions_view (get_or c.args.entries.now c.args.known.now.id.0 c.index-entries-own.result) ++ definition_of c.args.list_id b ∷ [])
+    c.in_ok-metadata.ensures.body)
 
 pub returns-clause-others : goal.returns-clause-others
 returns-clause-others c = λ n.

@@ -17,6 +17,7 @@ invariant_of-self-2 c =
       folding = c.pop-3.ensures ∙ mapped_popped (key_in Fold) lists.folded.keys lists.lists.items left last lists.folding whole;
       rooted = roots_popped lists.lists.items left last lists.roots.items c.pop_root.new.roots.items whole lists.rooted
           (λ other ne. c.pop_root.ensures other (λ same. ne (same ∙ count)));
-      registered = c.pop-4.ensures ∙ mapped_popped (λ (l : IndexedList). l.list_id) lists.by_id.keys lists.lists.items left last lists.registered whole;
+      registered = c.pop-4.ensures
+          ∙ mapped_popped (λ (l : IndexedList). l.list_id) lists.by_id.keys lists.lists.items left last lists.registered whole;
       within = longest_popped left last lists.longest (subst (λ ls. longest_base ls ≤ lists.longest) whole lists.within);
     }

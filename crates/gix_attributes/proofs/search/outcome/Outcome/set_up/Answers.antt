@@ -19,8 +19,8 @@ pub set_up-requires-clause-numbers : goal.set_up-requires-clause-numbers
 set_up-requires-clause-numbers c =
     let known = c.args.collection.now in
     let wanted = c.in_ok-wanted.wanted in
-    let count : length wanted ≡ length known.names = length_flags (selection_view c.deref.result.now) c.len-count.result wanted c.in_ok-wanted.ensures ∙
-    c.len-count.ensures.count in
+    let count : length wanted ≡ length known.names = length_flags (selection_view c.deref.result.now) c.len-count.result wanted
+    c.in_ok-wanted.ensures ∙ c.len-count.ensures.count in
     changes_below c.in_ok-changes.changes.items (length known.names) (length wanted) count c.in_ok-changes.ensures.numbers
 
 pub set_up-requires-clause-within : goal.set_up-requires-clause-within
@@ -29,8 +29,8 @@ set_up-requires-clause-within c =
     let own = c.self.inside.state.bodies in
     let changes = c.in_ok-changes.changes.items in
     let wanted = c.in_ok-wanted.wanted in
-    let count : length wanted ≡ length known.names = length_flags (selection_view c.deref.result.now) c.len-count.result wanted c.in_ok-wanted.ensures ∙
-    c.len-count.ensures.count in
+    let count : length wanted ≡ length known.names = length_flags (selection_view c.deref.result.now) c.len-count.result wanted
+    c.in_ok-wanted.ensures ∙ c.len-count.ensures.count in
     let made = changed_to known changes own (bodies_view c.bodies.result.now) (length wanted) count c.bodies.ensures.bodies
     c.in_ok-changes.ensures.made in
     changed_within known (changed_bodies changes (sized_bodies (length wanted) own)) (length wanted) c.len-count.ensures.sound count made
@@ -74,8 +74,8 @@ returns-clause-ok c =
     let changes = c.in_ok-changes.changes.items in
     let wanted = c.in_ok-wanted.wanted in
     let seen = selection_view c.args.selected.items in
-    let count : length wanted ≡ length known.names = length_flags (selection_view c.deref.result.now) c.len-count.result wanted c.in_ok-wanted.ensures ∙
-    c.len-count.ensures.count in
+    let count : length wanted ≡ length known.names = length_flags (selection_view c.deref.result.now) c.len-count.result wanted
+    c.in_ok-wanted.ensures ∙ c.len-count.ensures.count in
     let made = changed_to known changes own (bodies_view c.bodies.result.now) (length wanted) count c.bodies.ensures.bodies
     c.in_ok-changes.ensures.made in
     ap (held_of seen) c.in_ok-set_up.ensures.ok
