@@ -9,7 +9,7 @@ use Rattle.std.specs.List.Sorted.{IsNonDecreasing}
 use Rattle.attr_search.proofs.ForCallers.{AreFreeButLeft, free_up_to, none_left as none_listed}
 use Rattle.std.proofs.lemmas.Option.{get_or_from_slice_get, slice_get_cases, slice_get_within}
 use Rattle.attr_lists.specs.Collections.{Collection}
-use Rattle.gix_attributes.specs.Contents.{Content, IsCurrent, Wanted, found_in}
+use Rattle.gix_attributes.specs.Contents.{Content, Wanted, found_in}
 use Rattle.gix_attributes.specs.Contents.{initial_content, looked_up, names_selected, reset_content, selected_in}
 use Rattle.gix_attributes.specs.Contents.{bodies_of, wanted_of}
 use Rattle.attr_table.specs.Cut.{IsSearched}

@@ -5,21 +5,21 @@ use Rattle.std.proofs.Common.{Option, Some, None, ⊎_elim, inl, inr, refl, sym,
 use Rattle.std.specs.Prelude.{All, MatchOption, ⊤, option_map, unwrap_or}
 use Rattle.std.specs.BTreeMap.{is_at}
 use Rattle.std.specs.BTreeSet.{contains}
-use Rattle.std.specs.List.{Contains, list_any}
+use Rattle.std.specs.List.{Contains, cons_option, list_any}
 use Rattle.std.specs.List.Sorted.{IsNonDecreasingBy, IsPartitionPoint, IsPermutation}
 use Rattle.std.specs.Ordering.{nat_cmp}
 use Rattle.std.proofs.Math.ListN.{length-map}
-use Rattle.std.proofs.lemmas.List.FromFn.{get_or-map-range_with_len, length-map-range_with_len}
+use Rattle.std.proofs.lemmas.List.FromFn.{fill_by_all, get_or-map-range_with_len, length-map-range_with_len}
 use Rattle.std.proofs.lemmas.List.Sorted.{All-permutation, Contains-permutation}
 use Rattle.std.proofs.lemmas.List.Folds.{list_any_at}
-use Rattle.std.proofs.lemmas.Option.{MatchOption-at_some}
 use Rattle.std.proofs.lemmas.Bool.{cases_eq, cases_lt, false≢true}
 use Rattle.std.proofs.lemmas.Bool.Decides.{nat_tests}
 use Rattle.std.proofs.lemmas.List.{get_or_default, get_or-drop, get_or-map, get_or_past, get_or-replicate, get_or-set_other, get_or-set_same}
-use Rattle.std.proofs.lemmas.List.{get_or-take, flat_map_more, length-drop, length_push, length-replicate, length-set, length-take, take_all}
+use Rattle.std.proofs.lemmas.List.{get_or-take, flat_map_more, length-drop, length_push}
+use Rattle.std.proofs.lemmas.List.{length-replicate, length-set, length-take, take_all, take_more}
 use Rattle.std.proofs.lemmas.List.Elements.{All-append, All-contains, All-contains_itself, All-drop, All-head, All-map, All-more}
-use Rattle.std.proofs.lemmas.List.Elements.{All-nil, All-push, All-same, All-tail, All-take, All-weaker}
-use Rattle.std.proofs.lemmas.List.Elements.{Contains-append_left, Contains-append_right, Contains-push, Contains-push_cases}
+use Rattle.std.proofs.lemmas.List.Elements.{All-cons, All-nil, All-push, All-same, All-tail, All-take, All-weaker}
+use Rattle.std.proofs.lemmas.List.Elements.{filter_map-append, Contains-append_left, Contains-append_right, Contains-push, Contains-push_cases}
 use Rattle.std.proofs.lemmas.List.Sums.{sum_by-set}
 use Rattle.attr_lists.specs.declared.types.TrackedAssignment.{TrackedAssignment}
 use Rattle.attr_search.proofs.ForCallers.{at_other}
@@ -29,20 +29,9 @@ use Rattle.attr_search.specs.shared.Slotted.{BodiesHaveSlots}
 use Rattle.gix_attributes.specs.inner.Consistency.{AreEmptyElsewhere}
 use Rattle.gix_attributes.specs.declared.search.selected_name.SelectedName.{SelectedName}
 use Rattle.gix_attributes.specs.declared.search.needed.BodyItem.{BodyItem}
-use Rattle.gix_attributes.specs.inner.Needed.{AreClosedBut, AreNeeded, AreOwnersOf, AreOwnersSet, AreSelectedSet, HasFlags, HasOwners}
-use Rattle.gix_attributes.specs.inner.Needed.{HasSelected, HaveBodies, IsClosedFor, IsClosedOver, IsFlagSet, IsMarked, SetsOnly}
-use Rattle.gix_attributes.specs.inner.Needed.{body_item, body_items, count_unset, flags_of, items_with}
-
--- nothing is marked
-pub marked_none : (flags : List Bool) (stack : List ℕ) → IsMarked flags stack flags stack
-marked_none flags stack = record {
-  count = refl;
-  set = λ a is. is;
-  pushed = λ a is. inr is;
-  stays = λ a is. is;
-  stacked = λ all. all;
-  left = refl;
-}
+use Rattle.gix_attributes.specs.inner.Needed.{AreClosedBut, AreNeeded, AreOwnersOf, AreOwnersSet, HasFlags, HasOwners, HaveBodies}
+use Rattle.gix_attributes.specs.inner.Needed.{IsClosedFor, IsClosedOver, IsFlagSet, IsMarked, SetsOnly}
+use Rattle.gix_attributes.specs.inner.Needed.{body_item, body_items, count_unset, flags_of, items_with, numbers_of}
 
 -- marks after others
 pub marked_then : (flags flags' flags'' : List Bool) (stack stack' stack'' : List ℕ) →
@@ -102,28 +91,6 @@ pub owners_kept : (flags flags' : List Bool) (items : List BodyItem) → ((a : �
 owners_kept flags flags' items kept set =
     All-weaker (λ i. IsFlagSet flags i.owner) (λ i. IsFlagSet flags' i.owner) (λ i is. kept i.owner is) items set
 
-number_kept : (flags flags' : List Bool) (number : Option ℕ) → ((a : ℕ) → IsFlagSet flags a → IsFlagSet flags' a) →
-    MatchOption number ⊤ (IsFlagSet flags) → MatchOption number ⊤ (IsFlagSet flags')
-number_kept flags flags' None kept set = set
-number_kept flags flags' (Some a) kept set = kept a set
-
--- selected attributes stay marked
-pub selected_kept : (flags flags' : List Bool) (selected : List SelectedName) → ((a : ℕ) → IsFlagSet flags a → IsFlagSet flags' a) →
-    AreSelectedSet flags selected → AreSelectedSet flags' selected
-selected_kept flags flags' selected kept set =
-    All-weaker (λ s. MatchOption s.number ⊤ (IsFlagSet flags)) (λ s. MatchOption s.number ⊤ (IsFlagSet flags'))
-    (λ s is. number_kept flags flags' s.number kept is) selected set
-
--- marks keep what is closed
-pub closed_marked : (items : List BodyItem) (flags flags' : List Bool) (stack stack' : List ℕ) →
-    AreClosedBut stack flags items → IsMarked flags stack flags' stack' → AreClosedBut stack' flags' items
-closed_marked items flags flags' stack stack' closed marked = λ k d lt is.
-    let x = get_or items k d in
-    ⊎_elim (λ on. inl on)
-    (λ (before : IsFlagSet flags x.attribute).
-    ⊎_elim (λ on. inl (marked.stays x.attribute on)) (λ owner. inr (marked.set x.owner owner)) (closed k d lt before))
-    (marked.pushed x.attribute is)
-
 -- the macros of an attribute that leaves the stack are marked
 pub closed_step : (items part : List BodyItem) (attribute : ℕ) (flags flags' : List Bool) (stack rest stack' : List ℕ) →
     stack ≡ rest ++ attribute ∷ [] → AreClosedBut stack flags items →
@@ -147,10 +114,6 @@ none_set : (count a : ℕ) → get_or (replicate count false) a false ≡ false
 none_set zero a = refl
 none_set (suc count) zero = refl
 none_set (suc count) (suc a) = none_set count a
-
--- without marks all is closed
-pub closed_first : (items : List BodyItem) (count : ℕ) → AreClosedBut [] (replicate count false) items
-closed_first items count = λ k d lt is. absurd (false≢true (sym (none_set count (get_or items k d).attribute) ∙ is))
 
 -- the last items, as a slice has them
 pub rest_is : (items : List BodyItem) (start : ℕ) → take (length items - start) (drop start items) ≡ drop start items
@@ -208,15 +171,6 @@ part_within items rest start len is =
 -- what holds of each element holds of those of a part
 pub all_within : (P : BodyItem → Type 0) (items part : List BodyItem) → All P items → All (Contains items) part → All P part
 all_within P items part all within = All-weaker (Contains items) P (λ x on. All-contains P items x all on) part within
-
--- one more selected attribute is marked
-pub selected_more : (selected : List SelectedName) (index : ℕ) (name : SelectedName) (flags flags' : List Bool) → index < length selected →
-    name ≡ get_or selected index name → ((a : ℕ) → IsFlagSet flags a → IsFlagSet flags' a) →
-    AreSelectedSet flags (take index selected) → MatchOption name.number ⊤ (IsFlagSet flags') →
-    AreSelectedSet flags' (take (index + 1) selected)
-selected_more selected index name flags flags' lt is kept set here =
-    let Marked : SelectedName → Type 0 = λ s. MatchOption s.number ⊤ (IsFlagSet flags') in
-    All-more Marked selected index name lt (selected_kept flags flags' (take index selected) kept set) (subst Marked is here)
 
 -- one more macro is marked
 pub owners_more : (items : List BodyItem) (index : ℕ) (d : BodyItem) (flags flags' : List Bool) → index < length items →
@@ -305,12 +259,6 @@ pub owners_had : (items part : List BodyItem) (attribute : ℕ) (has : ℕ → B
 owners_had items part attribute has closed within same is = λ k d lt.
     All-contains (λ i. has i.attribute ≡ true → has i.owner ≡ true) items (get_or part k d) closed (within k d lt) (ap has (same k d lt) ∙ is)
 
--- a set has the number of a selected name
-pub selected_had : (selected : List SelectedName) (index : ℕ) (name : SelectedName) (number : ℕ) (has : ℕ → Bool) → index < length selected →
-    name ≡ get_or selected index name → name.number ≡ Some number → HasSelected selected has → has number ≡ true
-selected_had selected index name number has lt is some had =
-    MatchOption-at_some ⊤ (λ n. has n ≡ true) number (ap (λ s. s.number) (sym is) ∙ some) (had index name lt)
-
 all_set : (count a : ℕ) → get_or (replicate count true) a true ≡ true
 all_set zero a = refl
 all_set (suc count) zero = refl
@@ -327,45 +275,21 @@ flags_below selection count a is =
 flag_at : (selection : List Wanted) (count a : ℕ) → a < count → get_or (flags_of selection count) a false ≡ is_wanted selection a
 flag_at selection count a lt = get_or-map-range_with_len (is_wanted selection) 0 count a a false lt (omega arith)
 
-flag_below : (count a : ℕ) → get_or (replicate count true) a false ≡ true → a < count
-flag_below count a is =
-    ⊎_elim (λ lt. lt)
-    (λ (past : count ≤ a).
-    absurd (false≢true (sym (get_or_past (replicate count true) a false (omega (arith, past, length-replicate count true))) ∙ is)))
-    (cases_lt a count)
-
 -- without a selection all are needed
-pub needed_all : (n : ℕ) (bodies : List (List TrackedAssignment)) (selected : List SelectedName) → (length selected == 0) ≡ true →
-    AreNeeded n bodies (selection_view selected) (replicate n true)
-needed_all n bodies selected none =
+pub needed_all : (n : ℕ) (bodies : List (List TrackedAssignment)) (selected : List SelectedName) (flags : List Bool) →
+    (length selected == 0) ≡ true → flags ≡ flags_of (selection_view selected) n → AreNeeded n bodies (selection_view selected) flags
+needed_all n bodies selected flags none is =
     let selection = selection_view selected in
     let none' : (length selection == 0) ≡ true = ap (λ k. k == 0) (length-map selected wanted_view) ∙ none in
+    let all : flags ≡ replicate n true = is ∙ sym (fill_by_all (is_wanted selection) (replicate n true) n false (length-replicate n true)
+    (λ k lt. get_or-replicate n k true false lt ∙ sym (ap (λ b. b || list_any (has_number k) selection) none'))) in
     record {
-      count = length-replicate n true;
-      selected = λ a is. get_or-replicate n a true false (flags_below selection n a is);
-      closed = λ m k d lt is. all_set n m;
-      all = λ none. refl;
-      least = λ has held closed a is. held a (flag_at selection n a (flag_below n a is)
-          ∙ ap (λ b. b || list_any (has_number a) selection) none');
+      count = ap length all ∙ length-replicate n true;
+      selected = λ a set. ap (λ l. get_or l a false) is ∙ set;
+      closed = λ m k d lt set. ap (λ l. get_or l m true) all ∙ all_set n m;
+      all = λ e. all;
+      least = λ has held closed. subst (λ l. HasFlags l has) (sym is) held;
     }
-
-number_set : (flags : List Bool) (number : Option ℕ) (a : ℕ) → MatchOption number ⊤ (IsFlagSet flags) →
-    unwrap_or (option_map (λ n. n == a) number) false ≡ true → IsFlagSet flags a
-number_set flags None a set is = absurd (false≢true is)
-number_set flags (Some n) a set is = let same : n ≡ a = grind (arith, nat_tests) in subst (IsFlagSet flags) same set
-
-names_step : (flags : List Bool) (number : Option ℕ) (a : ℕ) (here others : Bool) → unwrap_or (option_map (λ n. n == a) number) false ≡ here →
-    MatchOption number ⊤ (IsFlagSet flags) → (others ≡ true → IsFlagSet flags a) → here || others ≡ true → IsFlagSet flags a
-names_step flags number a true others e set later is = number_set flags number a set e
-names_step flags number a false others e set later is = later is
-
-names_set : (flags : List Bool) (selected : List SelectedName) (a : ℕ) → AreSelectedSet flags selected →
-    list_any (has_number a) (selection_view selected) ≡ true → IsFlagSet flags a
-names_set flags [] a set is = absurd (false≢true is)
-names_set flags (name ∷ selected) a set is =
-    let Marked : SelectedName → Type 0 = λ s. MatchOption s.number ⊤ (IsFlagSet flags) in
-    names_step flags name.number a (has_number a (wanted_view name)) (list_any (has_number a) (selection_view selected)) refl
-    (All-head Marked name selected set) (λ found. names_set flags selected a (All-tail Marked name selected set) found) is
 
 set_any : (flags : List Bool) (m : ℕ) → get_or flags m false ≡ true → get_or flags m true ≡ true
 set_any [] m is = refl
@@ -397,59 +321,84 @@ item_below n bodies m k d within lt =
 number_found : (a : ℕ) → (a == a) ≡ true
 number_found a = grind (arith, nat_tests)
 
-number_had : (selected : List SelectedName) (count k : ℕ) (d : SelectedName) (has : ℕ → Bool) → k < length selected →
-    HasFlags (flags_of (selection_view selected) count) has → (number : Option ℕ) → (get_or selected k d).number ≡ number →
-    MatchOption number ⊤ (λ n. n < count) → MatchOption number ⊤ (λ n. has n ≡ true)
-number_had selected count k d has lt held None e below = below
-number_had selected count k d has lt held (Some a) e below =
+number_set : (selected : List SelectedName) (count k : ℕ) (d : SelectedName) → k < length selected → (number : Option ℕ) →
+    (get_or selected k d).number ≡ number → MatchOption number ⊤ (λ n. n < count) →
+    MatchOption number ⊤ (IsFlagSet (flags_of (selection_view selected) count))
+number_set selected count k d lt None e below = below
+number_set selected count k d lt (Some a) e below =
     let selection = selection_view selected in
     let here : has_number a (get_or selection k (wanted_view d)) ≡ true =
     ap (has_number a) (get_or-map wanted_view selected k d (wanted_view d) lt)
     ∙ ap (λ o. unwrap_or (option_map (λ n. n == a) o) false) e ∙ number_found a in
     let found : list_any (has_number a) selection ≡ true =
     list_any_at (has_number a) selection k (wanted_view d) (omega (arith, lt, length-map selected wanted_view)) here in
-    held a (flag_at selection count a below ∙ ap (λ b. (length selection == 0) || b) found ∙ or_true (length selection == 0))
+    flag_at selection count a below ∙ ap (λ b. (length selection == 0) || b) found ∙ or_true (length selection == 0)
 
--- a set with the flags of a selection has its numbers
-selection_had : (selected : List SelectedName) (count : ℕ) (has : ℕ → Bool) → All (λ s. MatchOption s.number ⊤ (λ n. n < count)) selected →
-    HasFlags (flags_of (selection_view selected) count) has → HasSelected selected has
-selection_had selected count has below held = λ k d lt.
-    number_had selected count k d has lt held (get_or selected k d).number refl (below k d lt)
+-- one more name
+pub numbers_more : (selected : List SelectedName) (index : ℕ) (name : SelectedName) (number : Option ℕ) → index < length selected →
+    name ≡ get_or selected index name → name.number ≡ number →
+    numbers_of (take (index + 1) selected) ≡ numbers_of (take index selected) ++ cons_option number []
+numbers_more selected index name number lt here is =
+    ap numbers_of (take_more selected index name lt)
+    ∙ filter_map-append (λ s. s.number) (take index selected) (get_or selected index name ∷ [])
+    ∙ ap (λ o. numbers_of (take index selected) ++ cons_option o []) (ap (λ (s : SelectedName). s.number) (sym here) ∙ is)
 
--- no others are marked
-pub needed_least : (n : ℕ) (bodies : List (List TrackedAssignment)) (selected : List SelectedName) (items : List BodyItem)
-    (first flags : List Bool) → All (λ s. MatchOption s.number ⊤ (λ a. a < n)) selected →
-    SetsOnly (replicate n false) first (HasSelected selected) → SetsOnly first flags (IsClosedOver items) →
-    ((has : ℕ → Bool) → IsClosedFor bodies has → IsClosedOver items has) →
-    (has : ℕ → Bool) → HasFlags (flags_of (selection_view selected) n) has → IsClosedFor bodies has → HasFlags flags has
-needed_least n bodies selected items first flags below before after over = λ has held closed.
-    after has
-    (before has (λ a is. absurd (false≢true (sym (none_set n a) ∙ is))) (selection_had selected n has below held))
-    (over has closed)
+all_step : (P : ℕ → Type 0) (number : Option ℕ) (rest : List ℕ) → MatchOption number ⊤ P → All P rest → All P (cons_option number rest)
+all_step P None rest here all = all
+all_step P (Some a) rest here all = All-cons P a rest here all
+
+all_numbers : (P : ℕ → Type 0) (selected : List SelectedName) → All (λ s. MatchOption s.number ⊤ P) selected → All P (numbers_of selected)
+all_numbers P [] all = All-nil P
+all_numbers P (name ∷ selected) all =
+    let Each : SelectedName → Type 0 = λ s. MatchOption s.number ⊤ P in
+    all_step P name.number (numbers_of selected) (All-head Each name selected all) (all_numbers P selected (All-tail Each name selected all))
+
+-- the flags of a selection's numbers are set
+pub numbers_set : (selected : List SelectedName) (count : ℕ) → All (λ s. MatchOption s.number ⊤ (λ n. n < count)) selected →
+    All (IsFlagSet (flags_of (selection_view selected) count)) (numbers_of selected)
+numbers_set selected count below =
+    all_numbers (IsFlagSet (flags_of (selection_view selected) count)) selected
+    (λ k d lt. number_set selected count k d lt (get_or selected k d).number refl (below k d lt))
+
+on_step : (number : Option ℕ) (rest : List ℕ) (a : ℕ) (others : Bool) → (others ≡ true → Contains rest a) →
+    unwrap_or (option_map (λ n. n == a) number) false || others ≡ true → Contains (cons_option number rest) a
+on_step None rest a others on is = on is
+on_step (Some n) rest a others on is =
+    ⊎_elim
+    (λ (here : n ≡ a). Contains-append_left (n ∷ []) rest a (subst (Contains (n ∷ [])) here (Contains-push [] n)))
+    (λ (apart : n ≢ a).
+    let other : (n == a) ≡ false = grind (arith, nat_tests) in
+    Contains-append_right (n ∷ []) rest a (on (sym (ap (λ b. b || others) other) ∙ is)))
+    (cases_eq n a)
+
+numbers_have : (selected : List SelectedName) (a : ℕ) → list_any (has_number a) (selection_view selected) ≡ true → Contains (numbers_of selected) a
+numbers_have [] a is = absurd (false≢true is)
+numbers_have (name ∷ selected) a is =
+    on_step name.number (numbers_of selected) a (list_any (has_number a) (selection_view selected)) (numbers_have selected a) is
+
+-- and no others if there is a selection, so that all is closed but for these
+pub closed_selected : (selected : List SelectedName) (count : ℕ) (items : List BodyItem) → (length selected == 0) ≡ false →
+    AreClosedBut (numbers_of selected) (flags_of (selection_view selected) count) items
+closed_selected selected count items some = λ k d lt is.
+    let selection = selection_view selected in
+    let a = (get_or items k d).attribute in
+    let some' : (length selection == 0) ≡ false = ap (λ n. n == 0) (length-map selected wanted_view) ∙ some in
+    let is' : is_wanted selection a ≡ true = sym (flag_at selection count a (flags_below selection count a is)) ∙ is in
+    inl (numbers_have selected a (sym (ap (λ b. b || list_any (has_number a) selection) some') ∙ is'))
 
 -- the marks of selected attributes, and of what depends on them
 pub needed_marked : (n : ℕ) (bodies : List (List TrackedAssignment)) (selected : List SelectedName) (items : List BodyItem)
-    (first flags : List Bool) → BodiesHaveSlots n bodies → 0 < length selected → HaveBodies bodies items → AreSelectedSet first selected →
-    ((a : ℕ) → IsFlagSet first a → IsFlagSet flags a) → length flags ≡ n → AreClosedBut [] flags items →
-    ((has : ℕ → Bool) → HasFlags (flags_of (selection_view selected) n) has → IsClosedFor bodies has → HasFlags flags has) →
-    AreNeeded n bodies (selection_view selected) flags
-needed_marked n bodies selected items first flags within some had set kept count closed least =
-    let selection = selection_view selected in
-    let none : (length selection ≡ 0) → ⊥ = λ e. omega (arith, some, length-map selected wanted_view, e) in
-    record {
-      count = count;
-      selected = λ a is.
-          let is' : is_wanted selection a ≡ true =
-          sym (flag_at selection n a (flags_below selection n a is)) ∙ is in
-          kept a (names_set first selected a set (sym (ap (λ b. b || list_any (has_number a) selection) (not_none (length selection) none)) ∙ is'));
-      closed = λ m k d lt is.
-          let item = get_or (get_or bodies m []) k d in
-          let below : item.id.0 < length flags = omega (arith, item_below n bodies m k d within lt, count) in
-          set_any flags m (owner_set flags items (body_item m item) closed (item_on bodies items m k d had lt)
-          (get_or_default flags item.id.0 false true below ∙ is));
-      all = λ e. absurd (none e);
-      least = least;
-    }
-  where
-    not_none : (k : ℕ) → (k ≡ 0 → ⊥) → (k == 0) ≡ false
-    not_none k apart = grind (arith, nat_tests)
+    (flags : List Bool) → BodiesHaveSlots n bodies → (length selected == 0) ≡ false → AreOwnersOf bodies items →
+    ((a : ℕ) → IsFlagSet (flags_of (selection_view selected) n) a → IsFlagSet flags a) → length flags ≡ n → AreClosedBut [] flags items →
+    SetsOnly (flags_of (selection_view selected) n) flags (IsClosedOver items) → AreNeeded n bodies (selection_view selected) flags
+needed_marked n bodies selected items flags within some owners kept count closed only = record {
+  count = count;
+  selected = kept;
+  closed = λ m k d lt is.
+      let item = get_or (get_or bodies m []) k d in
+      let below : item.id.0 < length flags = omega (arith, item_below n bodies m k d within lt, count) in
+      set_any flags m (owner_set flags items (body_item m item) closed (item_on bodies items m k d owners.all lt)
+      (get_or_default flags item.id.0 false true below ∙ is));
+  all = λ none. absurd (false≢true (sym some ∙ ap (λ k. k == 0) (sym (length-map selected wanted_view) ∙ none)));
+  least = λ has held closed. only has held (owners.only has closed);
+}

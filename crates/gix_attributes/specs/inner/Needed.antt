@@ -1,6 +1,6 @@
 -- Which attributes the answers for selected ones depend on (own).
-use Rattle.std.specs.Prelude.{◌≡◌, ℕ, ◌+◌, ◌<◌, ◌⊎◌, Bool, true, false, not, List, [], ⊤, length, map, replicate, All, MatchOption, slice_index_or}
-use Rattle.std.specs.List.{Contains, count_by, flat_map, range_with_len}
+use Rattle.std.specs.Prelude.{◌≡◌, ℕ, ◌+◌, ◌<◌, ◌⊎◌, Bool, true, false, not, List, [], length, map, replicate, All, slice_index_or}
+use Rattle.std.specs.List.{Contains, count_by, filter_map, flat_map, range_with_len}
 use Rattle.std.specs.List.Sorted.{IsNonDecreasingBy}
 use Rattle.attr_lists.specs.Collections.{Collection}
 use Rattle.attr_lists.specs.declared.types.TrackedAssignment.{TrackedAssignment}
@@ -54,13 +54,9 @@ items_with bodies owners = flat_map (body_items bodies) owners
 abbrev pub HaveBodies : List (List TrackedAssignment) → List BodyItem → Type 0
 HaveBodies bodies items = (m : ℕ) → All (Contains items) (body_items bodies m)
 
--- the flags of all numbers of selected names are set
-abbrev pub AreSelectedSet : List Bool → List SelectedName → Type 0
-AreSelectedSet flags selected = All (λ s. MatchOption s.number ⊤ (IsFlagSet flags)) selected
-
--- a set has the numbers of selected names
-abbrev pub HasSelected : List SelectedName → (ℕ → Bool) → Type 0
-HasSelected selected has = All (λ s. MatchOption s.number ⊤ (λ n. has n ≡ true)) selected
+-- the numbers of selected names, of those that have one
+abbrev pub numbers_of : List SelectedName → List ℕ
+numbers_of selected = filter_map (λ s. s.number) selected
 
 -- a set has the macros of items
 abbrev pub HasOwners : List BodyItem → (ℕ → Bool) → Type 0

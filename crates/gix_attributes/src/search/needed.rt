@@ -1,15 +1,13 @@
 //! The attributes that the answers for selected ones depend on.
 
-ghost use Rattle.std.specs.Prelude.{◌≡◌, ℕ, true, ◌<◌, ◌++◌, ⊤, [], All, MatchOption, OnOk, IfOk, length, map};
+ghost use Rattle.std.specs.Prelude.{◌≡◌, ℕ, true, ◌<◌, ◌++◌, [], All, OnOk, IfOk, length, map};
 ghost use Rattle.std.specs.List.{Contains};
 ghost use Rattle.std.specs.List.Sorted.{IsNonDecreasingBy};
-ghost use Rattle.gix_attributes.specs.Selection.{selection_view};
 ghost use Rattle.gix_attributes.specs.inner.Consistency.{AreEmptyElsewhere};
-ghost use Rattle.gix_attributes.specs.inner.Needed.{AreClosedBut, AreNeeded, AreOwnersOf, AreOwnersSet, AreSelectedSet, HasOwners, HasSelected, IsClosedOver, IsFlagSet, IsMarked, SetsOnly, body_item, items_with};
-ghost use Rattle.attr_search.specs.shared.Slotted.{BodiesHaveSlots, bodies_view};
+ghost use Rattle.gix_attributes.specs.inner.Needed.{AreClosedBut, AreOwnersOf, AreOwnersSet, HasOwners, IsClosedOver, IsFlagSet, IsMarked, SetsOnly, body_item, items_with};
+ghost use Rattle.attr_search.specs.shared.Slotted.{bodies_view};
 
 use crate::search::TrackedAssignment;
-use crate::search::selected_name::SelectedName;
 use crate::search::selection::body_at;
 use attr_search::wanted::WantedFlags;
 use std::alloc::{AllocError, Global};
@@ -50,31 +48,31 @@ impl Owners {
         Ok(Owners { items })
     }
 
-    /// The attributes that the answers for selected ones depend on: these themselves, and each macro whose body has an item of
-    /// such an attribute. It costs what these are, however macros name each other.
+    /// Sets the flag of each macro whose body has an item of an attribute whose flag is set, until there are no more. The stack has
+    /// the attributes whose flags are set. It costs what is set, however macros name each other.
     ///
     /// # Errors
     ///
     /// If memory runs out.
-    pub(crate) fn needed(
+    pub(crate) fn mark_all(
         &self,
-        alloc: Global,
-        bodies: &[Vec<TrackedAssignment>],
-        selected: &[SelectedName],
-    ) -> Result<WantedFlags, AllocError>
-        requires owners { AreOwnersOf (bodies_view bodies.now) self.now.items.items }
-        requires within { BodiesHaveSlots (length bodies.now) (bodies_view bodies.now) }
-        requires numbers { All (λ s. MatchOption s.number ⊤ (λ n. n < length bodies.now))
-            selected.now }
-        requires some { 0 < length selected.now }
-        ensures { IfOk result (λ flags. AreNeeded
-            (length bodies.now) (bodies_view bodies.now) (selection_view selected.now) flags) }
+        flags: &mut WantedFlags,
+        stack: &mut Vec<usize>,
+    ) -> Result<(), AllocError>
+        requires order { IsNonDecreasingBy (λ i. i.attribute) self.now.items.items }
+        requires within { All (λ i. i.owner < length flags.old) self.now.items.items }
+        requires stacked { All (IsFlagSet flags.old) stack.old.items }
+        requires pending { AreClosedBut stack.old.items flags.old self.now.items.items }
+        ensures count { OnOk result (length flags.new ≡ length flags.old) }
+        ensures kept { OnOk result ((a : ℕ) → IsFlagSet flags.old a → IsFlagSet flags.new a) }
+        ensures closed { OnOk result (AreClosedBut [] flags.new self.now.items.items) }
+        ensures only { OnOk result (SetsOnly
+            flags.old flags.new (IsClosedOver self.now.items.items)) }
     {
-        let mut flags = WantedFlags::all_or_none(alloc, bodies.len(), false);
-        let mut stack = Vec::new(alloc);
-        mark_selected(selected, &mut flags, &mut stack)?;
-        mark_all(&self.items, &mut flags, &mut stack)?;
-        Ok(flags)
+        while let Some(attribute) = stack.pop() {
+            mark_owners(items_of(&self.items, attribute), flags, stack)?;
+        }
+        Ok(())
     }
 }
 
@@ -138,25 +136,6 @@ fn mark(attribute: usize, flags: &mut WantedFlags, stack: &mut Vec<usize>) -> Re
     Ok(())
 }
 
-// Marks the selected attributes.
-fn mark_selected(
-    selected: &[SelectedName],
-    flags: &mut WantedFlags,
-    stack: &mut Vec<usize>,
-) -> Result<(), AllocError>
-    requires { All (λ s. MatchOption s.number ⊤ (λ n. n < length flags.old)) selected.now }
-    ensures marked { OnOk result (IsMarked flags.old stack.old.items flags.new stack.new.items) }
-    ensures set { OnOk result (AreSelectedSet flags.new selected.now) }
-    ensures only { OnOk result (SetsOnly flags.old flags.new (HasSelected selected.now)) }
-{
-    for name in selected {
-        if let Some(number) = name.number {
-            mark(number, flags, stack)?;
-        }
-    }
-    Ok(())
-}
-
 // Marks the macros of items.
 fn mark_owners(
     items: &[BodyItem],
@@ -170,28 +149,6 @@ fn mark_owners(
 {
     for item in items {
         mark(item.owner, flags, stack)?;
-    }
-    Ok(())
-}
-
-// Marks the macros of items whose attribute is marked, until all are. Items are in the order of their attributes, and those of
-// the attributes on the stack are still to be gone through.
-fn mark_all(
-    items: &[BodyItem],
-    flags: &mut WantedFlags,
-    stack: &mut Vec<usize>,
-) -> Result<(), AllocError>
-    requires order { IsNonDecreasingBy (λ i. i.attribute) items.now }
-    requires within { All (λ i. i.owner < length flags.old) items.now }
-    requires stacked { All (IsFlagSet flags.old) stack.old.items }
-    requires pending { AreClosedBut stack.old.items flags.old items.now }
-    ensures count { OnOk result (length flags.new ≡ length flags.old) }
-    ensures kept { OnOk result ((a : ℕ) → IsFlagSet flags.old a → IsFlagSet flags.new a) }
-    ensures closed { OnOk result (AreClosedBut [] flags.new items.now) }
-    ensures only { OnOk result (SetsOnly flags.old flags.new (IsClosedOver items.now)) }
-{
-    while let Some(attribute) = stack.pop() {
-        mark_owners(items_of(items, attribute), flags, stack)?;
     }
     Ok(())
 }

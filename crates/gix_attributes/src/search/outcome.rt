@@ -6,7 +6,7 @@ ghost use Rattle.attr_lists.specs.ListViews.{entry_view};
 ghost use Rattle.gix_attributes.specs.Contents.{IsCurrent, IsNextFound, reset_content, found_in, initial_content, looked_up, names_selected, empty_content, selected_answer, selected_in, wanted_of};
 ghost use Rattle.gix_attributes.specs.inner.Consistency.{nothing_wanted};
 ghost use Rattle.gix_attributes.specs.Searching.{is_complete};
-ghost use Rattle.gix_attributes.specs.inner.Needed.{AreNeeded, IsNarrowed};
+ghost use Rattle.gix_attributes.specs.inner.Needed.{AreNeeded, AreOwnersOf, IsNarrowed, flags_of};
 ghost use Rattle.attr_search.specs.shared.Slotted.{BodiesHaveSlots};
 ghost use Rattle.gix_attributes.specs.Covered.{AreCovered, IsCovered, ListsAreCovered};
 ghost use Rattle.attr_search.specs.IndexedLists.{listed_view};
@@ -186,34 +186,51 @@ impl Outcome {
         ensures refused { OnErr result (self.new ≡ self.old) }
     {
         let count = collection.len();
-        let needed = self.needed(alloc, &names)?;
         let wanted = selection::flags(alloc, &names, count)?;
+        let needed = self.needed(alloc, &names, &wanted)?;
         self.state.set_up(alloc, wanted, needed, Vec::new(alloc))?;
         self.selected = names;
         self.is_initialized = true;
         Ok(())
     }
 
-    // What the answers for names depend on: all attributes if there are no names. The owners are kept for the next names.
-    fn needed(&mut self, alloc: Global, names: &[SelectedName]) -> Result<WantedFlags, AllocError>
+    // What the answers for names depend on: the wanted attributes, and more. The owners are kept for the next names.
+    fn needed(
+        &mut self,
+        alloc: Global,
+        names: &[SelectedName],
+        wanted: &WantedFlags,
+    ) -> Result<WantedFlags, AllocError>
+        requires count { length self.old.bodies ≡ length self.old.slots }
         requires within { BodiesHaveSlots (length self.old.slots) self.old.bodies }
         requires numbers { All (λ s. MatchOption s.number ⊤ (λ n. n < length self.old.slots))
             names.now }
+        requires wanted { wanted.now
+            ≡ flags_of (selection_view names.now) (length self.old.slots) }
         ensures same { self.new ≡ self.old }
         ensures needed { IfOk result (λ flags. AreNeeded
             (length self.old.slots) self.old.bodies (selection_view names.now) flags) }
     {
-        let bodies = self.state.bodies();
+        let mut needed = wanted.clone()?;
         if names.is_empty() {
-            return Ok(WantedFlags::all_or_none(alloc, bodies.len(), true));
+            return Ok(needed);
         }
-        let owners = match self.owners.take() {
-            Some(owners) => owners,
-            None => Owners::of(alloc, bodies, &self.macros)?,
-        };
-        let needed = owners.needed(alloc, bodies, names)?;
+        let owners = self.take_owners(alloc)?;
+        let mut stack = selection::numbers(alloc, names)?;
+        owners.mark_all(&mut needed, &mut stack)?;
         self.owners = Some(owners);
         Ok(needed)
+    }
+
+    fn take_owners(&mut self, alloc: Global) -> Result<Owners, AllocError>
+        ensures same { self.new ≡ self.old }
+        ensures owners { IfOk result
+            (λ owners. AreOwnersOf self.old.bodies owners.items.items) }
+    {
+        match self.owners.take() {
+            Some(owners) => Ok(owners),
+            None => Owners::of(alloc, self.state.bodies(), &self.macros),
+        }
     }
 
     /// Empties the slots, for searches of another path. It takes no memory, and costs what was filled.

@@ -4,7 +4,7 @@ ghost use Rattle.std.specs.Prelude.{◌≡◌, ◌↔◌, ◌<◌, ◌++◌, ⊤
 ghost use Rattle.gix_attributes.specs.Contents.{bodies_of, looked_up, names_selected};
 ghost use Rattle.gix_attributes.specs.inner.BodiesMade.{AreMade};
 ghost use Rattle.gix_attributes.specs.inner.Consistency.{AreEmptyElsewhere};
-ghost use Rattle.gix_attributes.specs.inner.Needed.{flags_of};
+ghost use Rattle.gix_attributes.specs.inner.Needed.{flags_of, numbers_of};
 ghost use Rattle.gix_attributes.specs.Selection.{selection_view};
 ghost use Rattle.attr_search.specs.shared.BodyChanges.{changed_bodies, sized_bodies};
 ghost use Rattle.attr_search.specs.shared.Slotted.{bodies_view};
@@ -81,6 +81,19 @@ pub(crate) fn flags(
         }
     }
     Ok(flags)
+}
+
+/// The numbers of selected names, of those that have one.
+pub(crate) fn numbers(alloc: Global, selected: &[SelectedName]) -> Result<Vec<usize>, AllocError>
+    ensures { IfOk result (λ numbers. numbers.items ≡ numbers_of selected.now) }
+{
+    let mut numbers = Vec::new(alloc);
+    for wanted in selected {
+        if let Some(number) = wanted.number {
+            numbers.push(number)?;
+        }
+    }
+    Ok(numbers)
 }
 
 /// The changes that make bodies those of a collection, if there are as many. The bodies of other numbers than these are empty, so
