@@ -44,7 +44,7 @@ pub struct Outcome {
     pub(crate) state: SearchState,
     // The numbers of the macros: the other bodies are empty.
     macros: BTreeSet<usize>,
-    // The owners of the bodies' items, once names have been selected that only some attributes are needed for.
+    // The owners of the bodies' items, from the first names that an engine selects until bodies change.
     owners: Option<Owners>,
     pub(crate) selected: Vec<SelectedName>,
     // The pattern of the answer for an unspecified attribute.
@@ -222,6 +222,7 @@ impl Outcome {
         Ok(needed)
     }
 
+    // The owners of the bodies' items. They are made if they are not kept.
     fn take_owners(&mut self, alloc: Global) -> Result<Owners, AllocError>
         ensures same { self.new ≡ self.old }
         ensures owners { IfOk result
