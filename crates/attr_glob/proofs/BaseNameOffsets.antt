@@ -77,13 +77,8 @@ offset-some path any = grind (arith, length-base_name path)
 
 offset_within-whole : (b : ℕ) (bs : List ℕ) (test : Bool) → is_slash b ≡ test → list_any is_slash bs ≡ false → name_len bs ≡ length bs →
     base_name_offset (b ∷ bs) ≡ offset_onto b None
-offset_within-whole b bs true e none len =
-    let any : list_any is_slash (b ∷ bs) ≡ true = grind arith in
-    let one : length (b ∷ bs) - name_len (b ∷ bs) ≡ 1 = let l = name_len-slash b bs len e in omega arith in
-    offset-some (b ∷ bs) any ∙ ap Some one ∙ sym (ap (λ t. cond t (Some 1) None) e)
-offset_within-whole b bs false e none len =
-    let no : list_any is_slash (b ∷ bs) ≡ false = grind arith in
-    offset-none (b ∷ bs) no ∙ sym (ap (λ t. cond t (Some 1) None) e)
+offset_within-whole b bs true e none len = grind (arith, nat_tests, name_len-slash, offset-some)
+offset_within-whole b bs false e none len = grind (arith, nat_tests, offset-none)
 
 offset_within : (b : ℕ) (bs : List ℕ) → Name bs → base_name_offset (b ∷ bs) ≡ offset_onto b (base_name_offset bs)
 offset_within b bs (whole none e) = offset_within-whole b bs (is_slash b) refl none e ∙ sym (ap (offset_onto b) (offset-none bs none))
@@ -106,10 +101,10 @@ offset_onto-suc n b None true e = grind (arith, nat_tests)
 offset_onto-suc n b None false e = grind (arith, nat_tests)
 
 offset_of-drop : (n : ℕ) (path : List ℕ) → offset_of (drop n path) ≡ offset_after n (offset_of path)
-offset_of-drop zero [] = refl
-offset_of-drop (suc n) [] = refl
 offset_of-drop zero (b ∷ bs) = offset_onto-zero b (offset_of bs) (is_slash b) refl
 offset_of-drop (suc n) (b ∷ bs) = offset_of-drop n bs ∙ offset_onto-suc n b (offset_of bs) (is_slash b) refl
+offset_of-drop zero [] = refl
+offset_of-drop (suc n) [] = refl
 
 -- the offset of the base name after a front
 pub base_name_offset-drop : (n : ℕ) (path : List ℕ) → base_name_offset (drop n path) ≡ offset_after n (base_name_offset path)

@@ -66,14 +66,9 @@ first_of (Some pair) = pair.0
 cut_by : (bytes : List ℕ) (escape : ℕ × ℕ) (letter digits : Option ℕ) → letter_byte (slice_index bytes 0) ≡ letter → digits_byte bytes ≡ digits →
     escaped bytes ≡ Some escape → EscapeCut bytes escape.0
 unfolding first_of
-cut_by bytes escape (Some byte) digits e _ read =
-    let same : byte ≡ escape.0 = ap first_of (rw (e, escaped) at read) in
-    rw same at (cut_letter bytes byte e)
-cut_by bytes escape None (Some byte) e e' read =
-    let same : byte ≡ escape.0 = ap first_of (rw (e', escaped) at (rw (e, escaped) at read)) in
-    rw same at (cut_digits bytes byte e')
-cut_by bytes escape None None e e' read =
-    let none : None ≡ Some escape = rw (e', escaped) at (rw (e, escaped) at read) in absurd cc
+cut_by bytes escape (Some byte) digits e _ read = grind (arith, nat_tests, first_of, cut_letter)
+cut_by bytes escape None (Some byte) e e' read = grind (arith, nat_tests, first_of, cut_digits)
+cut_by bytes escape None None e e' read = grind (arith, nat_tests)
 
 -- an escape that is read is the rest of a spelling
 pub cut_escape : (bytes : List ℕ) (escape : ℕ × ℕ) → escaped bytes ≡ Some escape → EscapeCut bytes escape.0

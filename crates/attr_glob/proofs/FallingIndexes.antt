@@ -1,11 +1,11 @@
 -- Indexes that fall and are just those of the lines that pass a test.
-use Rattle.std.proofs.Common.{◌≡◌, ◌≢◌, ℕ, zero, suc, ◌+◌, ◌<◌, ◌≤◌, Bool, true, false, ◌||◌, List, [], ◌∷◌, ◌++◌, length, reverse, get_or, take, map}
-use Rattle.std.proofs.Common.{cond, Option, Some, None}
-use Rattle.std.proofs.Common.{refl, sym, ap, ◌∙◌, arith, eqb}
+use Rattle.std.proofs.lemmas.List.{length_push, append_assoc, length-map, length-reverse, length-take-le, map-append, reverse-append}
+use Rattle.std.proofs.lemmas.List.{reverse-reverse, take_more}
+use Rattle.std.proofs.Common.{◌≡◌, ◌≢◌, ℕ, zero, suc, ◌+◌, ◌<◌, ◌≤◌, Bool, true, false, ◌||◌, List, [], ◌∷◌, ◌++◌, length, reverse, get_or, take}
+use Rattle.std.proofs.Common.{map, cond, Option, Some, None, refl, sym, ap, ◌∙◌, arith, eqb}
 use Rattle.std.specs.Prelude.{slice_get}
-use Rattle.std.proofs.lemmas.Bool.{eqb-true}
+use Rattle.std.proofs.lemmas.Bool.{eqb-true, eqb-false, ne_eqb}
 use Rattle.std.proofs.lemmas.Bool.Decides.{nat_tests}
-use Rattle.std.proofs.lemmas.List.{append_assoc, length-map, length-reverse, length-take-le, map-append, reverse-append, reverse-reverse, take_more}
 use Rattle.attr_keys.specs.shared.Rows.{has_row, IsFalling}
 use Rattle.attr_glob.specs.Candidates.{indexes_where}
 use Rattle.attr_wildmatch.proofs.ForCallers.{by_test, reverse-cons}
@@ -20,10 +20,9 @@ get_snoc_last [] x = refl
 get_snoc_last (y ∷ xs) x = get_snoc_last xs x
 
 get_snoc_other : {X : Type 0} (xs : List X) (x : X) (k : ℕ) → k ≢ length xs → slice_get (xs ++ x ∷ []) k ≡ slice_get xs k
-get_snoc_other [] x zero apart = absurd (apart refl)
-get_snoc_other [] x (suc k) apart = refl
-get_snoc_other (y ∷ xs) x zero apart = refl
-get_snoc_other (y ∷ xs) x (suc k) apart = get_snoc_other xs x k (λ e. apart (ap suc e))
+get_snoc_other [] x zero ne_eqb = absurd (ne_eqb refl)
+get_snoc_other (y ∷ xs) x (suc k) ne_eqb = get_snoc_other xs x k (λ e. ne_eqb (ap suc e))
+get_snoc_other xs x k ne_eqb = refl
 
 get_past : {X : Type 0} (xs : List X) (k : ℕ) → length xs ≤ k → slice_get xs k ≡ None
 get_past [] k le = refl
@@ -48,12 +47,6 @@ below_head p (q ∷ ps) down row h =
     (λ t. let e = eqb-true q row t in omega arith)
     (λ f. let l = below_head q ps (falling_tail p (q ∷ ps) down) row (rw f at h) in omega arith)
 
-unequal : (a b : ℕ) → eqb a b ≡ false → a ≢ b
-unequal a b f e = grind (arith, nat_tests)
-
-apart : (a b : ℕ) → a ≢ b → eqb a b ≡ false
-apart a b ne = grind (arith, nat_tests)
-
 nothing_there : (found : List ℕ) → ((row : ℕ) → has_row found row ≡ false) → found ≡ []
 nothing_there [] none = refl
 nothing_there (p ∷ ps) none = absurd (clash (none p))
@@ -61,20 +54,11 @@ nothing_there (p ∷ ps) none = absurd (clash (none p))
     clash : eqb p p || has_row ps p ≡ false → ⊥
     clash h = let t : eqb p p ≡ true = grind (arith, nat_tests) in let e : true ≡ false = rw t at h in cc
 
-length_snoc : {X : Type 0} (zs : List X) (x : X) → length (zs ++ x ∷ []) ≡ length zs + 1
-length_snoc [] x = refl
-length_snoc (z ∷ zs) x = let e = length_snoc zs x in omega arith
-
 -- the test passes at no further index
 fewer : {X : Type 0} (test : X → Bool) (ys : List X) (x : X) (found : List ℕ) →
     has_row found (length ys) ≡ false → ((row : ℕ) → has_row found row ≡ passes test (slice_get (ys ++ x ∷ []) row)) →
     (row : ℕ) → has_row found row ≡ passes test (slice_get ys row)
-fewer test ys x found none has row =
-    by_test (eqb row (length ys))
-    (λ t.
-    let e = eqb-true row (length ys) t in
-    ap (has_row found) e ∙ (none ∙ sym (ap (passes test) (get_past ys row (omega arith)))))
-    (λ f. has row ∙ ap (passes test) (get_snoc_other ys x row (unequal row (length ys) f)))
+fewer test ys x found none has row = grind (arith, nat_tests, eqb-true, get_past, get_snoc_other, eqb-false)
 
 indexes_by : {X : Type 0} (test : X → Bool) (rev : List X) (found : List ℕ) → IsFalling found →
     ((row : ℕ) → has_row found row ≡ passes test (slice_get (reverse rev) row)) → found ≡ indexes_where test rev
@@ -99,7 +83,7 @@ indexes_by {X} test (x ∷ before) found down has =
         let len : length ys ≡ length before = length-reverse before in
         let self : eqb p p ≡ true = grind (arith, nat_tests) in
         let in_range : p < length (ys ++ x ∷ []) = passes_within test (ys ++ x ∷ []) p (sym (h p) ∙ ap (λ b. b || has_row ps p) self) in
-        let n : length (ys ++ x ∷ []) ≡ length ys + 1 = length_snoc ys x in
+        let n : length (ys ++ x ∷ []) ≡ length ys + 1 = length_push ys x in
         let same : p ≡ length ys =
         by_test (eqb p (length ys)) (λ t. eqb-true p (length ys) t)
         (λ f. let lt = below_head p ps d (length ys) (rw f at here) in absurd (omega arith)) in
@@ -112,8 +96,8 @@ indexes_by {X} test (x ∷ before) found down has =
         let e = eqb-true row (length ys) t in
         ap (has_row ps) e ∙ (none ∙ sym (ap (passes test) (get_past ys row (omega arith)))))
         (λ f.
-        let ne = unequal row (length ys) f in
-        let off : eqb p row ≡ false = apart p row (λ e. ne (sym e ∙ same)) in
+        let ne = eqb-false row (length ys) f in
+        let off : eqb p row ≡ false = ne_eqb p row (λ e. ne (sym e ∙ same)) in
         sym (ap (λ b. b || has_row ps row) off) ∙ (h row ∙ ap (passes test) (get_snoc_other ys x row ne))) in
         ap (λ q. q ∷ ps) (same ∙ len) ∙ ap (λ l. length before ∷ l) (go ps (falling_tail p ps d) rest)
 

@@ -1,7 +1,7 @@
 -- What stands before the first quote or backslash after the opening quote.
 use Rattle.std.proofs.Common.{◌≡◌, ◌≢◌, ℕ, zero, suc, ◌+◌, ◌<◌, ◌≤◌, Bool, true, false, cond, List, [], ◌∷◌, length, take, drop, get_or, position}
-use Rattle.std.proofs.Common.{Some, None, Ok, Err, unwrap_or, refl, sym, ap, ◌∙◌, append-nil, add-zero, drop-cons, arith}
-use Rattle.std.specs.List.{Contains, position_or_len, find, slice_get}
+use Rattle.std.proofs.Common.{Some, None, Ok, Err, refl, sym, ap, ◌∙◌, append-nil, add-zero, drop-cons, arith}
+use Rattle.std.specs.List.{Contains, position_or_len, find}
 use Rattle.std.proofs.lemmas.Bool.Decides.{nat_tests}
 use Rattle.std.proofs.lemmas.List.{drop_all}
 use Rattle.std.proofs.lemmas.List.Quantifiers.{position-Some}
@@ -67,25 +67,15 @@ undone-marked text k quoted e at_quote =
     ∙ rw (append-nil, taken) refl
 
 find-mark : (text : List ℕ) (k : ℕ) → position is_mark (drop 1 text) ≡ Some k → find is_mark (drop 1 text) ≡ Some (get_or (drop 1 text) k 0)
-find-mark text k e =
-    let bytes = drop 1 text in
-    let found = position-Some is_mark bytes k 0 e in
-    find_at is_mark bytes ∙ ap (slice_get bytes) (position_or_len-Some bytes k e) ∙ slice_get-get_or bytes k 0 found.0
+find-mark text k e = grind (arith, nat_tests, position-Some, find_at, position_or_len-Some, slice_get-get_or)
 
 -- a first mark that is no quote is a backslash
 pub HoldsEscape-marked : (text : List ℕ) (k : ℕ) → BeginsQuoted text → position is_mark (drop 1 text) ≡ Some k → get_or (drop 1 text) k 0 ≢ quote →
     HoldsEscape text
-HoldsEscape-marked text k quoted e no_quote =
-    let found = position-Some is_mark (drop 1 text) k 0 e in
-    (quoted, find-mark text k e ∙ ap Some (mark (get_or (drop 1 text) k 0) found.1 no_quote))
-  where
-    mark : (b : ℕ) → is_mark b ≡ true → b ≢ quote → b ≡ backslash
-    mark b marked other = grind (arith, nat_tests)
+HoldsEscape-marked text k quoted e no_quote = grind (arith, nat_tests, position-Some, find-mark)
 
 pub no_escape : (text : List ℕ) (k : ℕ) → position is_mark (drop 1 text) ≡ Some k → get_or (drop 1 text) k 0 ≡ quote → HoldsEscape text → ⊥
-no_escape text k e at_quote holds =
-    let same = ap (λ o. unwrap_or o 0) (sym (find-mark text k e) ∙ holds.1) in
-    omega arith
+no_escape text k e at_quote holds = grind (arith, nat_tests, find-mark)
 
 Contains-cons : (b : ℕ) (bytes : List ℕ) (x : ℕ) → Contains bytes x → Contains (b ∷ bytes) x
 Contains-cons b bytes x (k, inside, here) = (suc k, omega arith, here)

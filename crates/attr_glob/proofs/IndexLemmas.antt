@@ -1,10 +1,11 @@
 -- Patterns that are read the same, and lists of them.
-use Rattle.std.proofs.Common.{◌≡◌, ℕ, zero, suc, ◌+◌, ◌<◌, ◌≤◌, Bool, true, false, ◌&&◌, List, [], ◌∷◌, ◌++◌, length, get_or, take, map, Option, Some}
-use Rattle.std.proofs.Common.{None, refl, sym, ap, ◌∙◌, arith, nat_eq, eq-eqb}
+use Rattle.std.proofs.Common.{◌≡◌, ℕ, zero, suc, ◌+◌, ◌<◌, ◌≤◌, true, ◌&&◌, List, [], ◌∷◌, ◌++◌, length, get_or, take, map, Option}
+use Rattle.std.proofs.Common.{Some, None, refl, sym, ap, ◌∙◌, arith, nat_eq, eq-eqb}
 use Rattle.std.specs.Option.{option_eq}
 use Rattle.std.specs.Cmp.Lexicographic.{pointwise, bytes_decides}
-use Rattle.std.proofs.lemmas.Bool.{eqb-true}
-use Rattle.std.proofs.lemmas.List.{take_more, map-append}
+use Rattle.std.proofs.lemmas.Bool.Decides.{nat_tests}
+use Rattle.std.proofs.lemmas.Bool.{eqb-true, and_parts, and_from}
+use Rattle.std.proofs.lemmas.List.{take_all, take_more, map-append}
 use Rattle.attr_glob.specs.declared.pattern.Pattern.{Pattern}
 use Rattle.attr_glob.specs.declared.search.pattern.Mapping.{Mapping}
 use Rattle.attr_glob.specs.declared.search.pattern.indexed_line.IndexedLine.{IndexedLine}
@@ -12,31 +13,22 @@ use Rattle.attr_glob.specs.contracts.pattern.PatternPartialEq.TheImpl as pattern
 use Rattle.attr_glob.specs.Patterns.{Reading}
 use Rattle.attr_glob.specs.Views.{pattern_view, mode_bits, patterns_of}
 
-and_true : (a b : Bool) → a && b ≡ true → (a ≡ true) × (b ≡ true)
-and_true true b h = (refl, h)
-and_true false b h = absurd cc
-
-and_on : (a b : Bool) → a ≡ true → b ≡ true → a && b ≡ true
-and_on a b e f = ap (λ t. t && b) e ∙ f
-
 offset_is : (x y : Option ℕ) → option_eq nat_eq x y ≡ true → x ≡ y
 offset_is None None e = refl
-offset_is None (Some y) e = absurd cc
-offset_is (Some x) None e = absurd cc
 offset_is (Some x) (Some y) e = ap Some (eqb-true x y e)
+offset_is x y e = absurd cc
 
 offset_same : (x y : Option ℕ) → x ≡ y → option_eq nat_eq x y ≡ true
 offset_same None None e = refl
-offset_same None (Some y) e = absurd cc
-offset_same (Some x) None e = absurd cc
 offset_same (Some x) (Some y) e = eq-eqb x y cc
+offset_same x y e = absurd cc
 
 -- equal patterns are read the same
 pub read_same : (x y : Pattern) → pattern.ghosts.eq x y ≡ true → pattern_view x ≡ pattern_view y
 read_same x y e =
-    let one = and_true (pointwise nat_eq x.text.items y.text.items) (nat_eq (mode_bits x.mode) (mode_bits y.mode) && option_eq nat_eq
+    let one = and_parts (pointwise nat_eq x.text.items y.text.items) (nat_eq (mode_bits x.mode) (mode_bits y.mode) && option_eq nat_eq
     x.first_wildcard_pos y.first_wildcard_pos) e in
-    let two = and_true (nat_eq (mode_bits x.mode) (mode_bits y.mode)) (option_eq nat_eq x.first_wildcard_pos y.first_wildcard_pos) one.1 in
+    let two = and_parts (nat_eq (mode_bits x.mode) (mode_bits y.mode)) (option_eq nat_eq x.first_wildcard_pos y.first_wildcard_pos) one.1 in
     let text = (bytes_decides x.text.items y.text.items).0 one.0 in
     let mode = eqb-true (mode_bits x.mode) (mode_bits y.mode) two.0 in
     let offset = offset_is x.first_wildcard_pos y.first_wildcard_pos two.1 in
@@ -47,10 +39,10 @@ read_same x y e =
 -- patterns that are read the same are equal
 pub same_read : (x y : Pattern) → pattern_view x ≡ pattern_view y → pattern.ghosts.eq x y ≡ true
 same_read x y e =
-    and_on (pointwise nat_eq x.text.items y.text.items) (nat_eq (mode_bits x.mode) (mode_bits y.mode) && option_eq nat_eq x.first_wildcard_pos
+    and_from (pointwise nat_eq x.text.items y.text.items) (nat_eq (mode_bits x.mode) (mode_bits y.mode) && option_eq nat_eq x.first_wildcard_pos
     y.first_wildcard_pos)
     ((bytes_decides x.text.items y.text.items).1 (ap (λ (r : Reading). r.text) e))
-    (and_on (nat_eq (mode_bits x.mode) (mode_bits y.mode)) (option_eq nat_eq x.first_wildcard_pos y.first_wildcard_pos)
+    (and_from (nat_eq (mode_bits x.mode) (mode_bits y.mode)) (option_eq nat_eq x.first_wildcard_pos y.first_wildcard_pos)
     (eq-eqb (mode_bits x.mode) (mode_bits y.mode) (ap (λ (r : Reading). r.mode) e))
     (offset_same x.first_wildcard_pos y.first_wildcard_pos (ap (λ (r : Reading). r.wildcard) e)))
 
@@ -69,17 +61,12 @@ lines_more xs ys i d e ltx lty same here =
 -- lists that are read the same are so at each index
 pub lines_at : {V : Type 0} (xs : List IndexedLine) (ys : List (Mapping V)) (i : ℕ) (d : IndexedLine) (e : Mapping V) →
     i < length xs → i < length ys → map pattern_in xs ≡ patterns_of ys → pattern_in (get_or xs i d) ≡ pattern_view (get_or ys i e).pattern
-lines_at [] ys i d e ltx lty same = absurd (omega arith)
-lines_at (x ∷ xs) [] i d e ltx lty same = absurd (omega arith)
 lines_at (x ∷ xs) (y ∷ ys) zero d e ltx lty same = cc
-lines_at (x ∷ xs) (y ∷ ys) (suc i) d e ltx lty same = let rest : map pattern_in xs ≡ patterns_of ys = cc in lines_at xs ys i d e (omega arith)
-    (omega arith) rest
+lines_at (x ∷ xs) (y ∷ ys) (suc i) d e ltx lty same = grind (arith, nat_tests, lines_at xs ys i d e)
+lines_at xs ys i d e ltx lty same = absurd (omega arith)
 
 pub take_whole : {X : Type 0} (xs : List X) (i : ℕ) → length xs ≤ i → take i xs ≡ xs
-take_whole [] zero h = refl
-take_whole [] (suc i) h = refl
-take_whole (x ∷ xs) zero h = absurd (omega arith)
-take_whole (x ∷ xs) (suc i) h = ap (λ l. x ∷ l) (take_whole xs i (omega arith))
+take_whole xs i h = take_all i xs h
 
 -- all patterns are read the same
 pub lines_all : {V : Type 0} (xs : List IndexedLine) (ys : List (Mapping V)) (i : ℕ) → length xs ≤ i → length ys ≤ i → map pattern_in (take i xs) ≡

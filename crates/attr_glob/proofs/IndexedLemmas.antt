@@ -1,5 +1,6 @@
 -- The lines of an index are those of its list.
-use Rattle.std.proofs.Common.{◌≡◌, ℕ, ◌+◌, ◌<◌, List, [], ◌∷◌, ◌++◌, length, get_or, take, map, refl, sym, ap, ◌∙◌}
+use Rattle.std.proofs.Common.{arith, ◌≡◌, ℕ, ◌+◌, ◌<◌, List, [], ◌∷◌, ◌++◌, length, get_or, take, map, refl, sym, ap, ◌∙◌}
+use Rattle.std.proofs.lemmas.Bool.Decides.{nat_tests}
 use Rattle.std.proofs.lemmas.List.{take_more, map-append, length-map}
 use Rattle.attr_glob.specs.declared.search.pattern.Mapping.{Mapping}
 use Rattle.attr_glob.specs.declared.search.pattern.indexed_line.IndexedLine.{IndexedLine}
@@ -42,9 +43,7 @@ keys_read {V} lines mappings e =
 -- as many lines
 pub lines_length : {V : Type 0} (lines : List IndexedLine) (mappings : List (Mapping V)) → indexed_lines lines ≡ listed_lines mappings →
     length lines ≡ length mappings
-lines_length {V} lines mappings e =
-    sym (length-map lines indexed_line) ∙ ap length e
-    ∙ length-map mappings (λ (m : Mapping V). record { pattern = pattern_view m.pattern; number = m.sequence_number })
+lines_length {V} lines mappings e = grind (arith, nat_tests, length-map)
 
 -- and so are its patterns
 pub patterns_same : {V : Type 0} (lines : List IndexedLine) (mappings : List (Mapping V)) → indexed_lines lines ≡ listed_lines mappings →

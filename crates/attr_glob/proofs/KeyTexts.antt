@@ -1,12 +1,11 @@
 -- A text has a key if it is that text, begins with it or ends in it, under the case.
-use Rattle.std.proofs.Common.{◌≡◌, ℕ, zero, suc, ◌+◌, ◌-◌, ◌<◌, ◌≤◌, true, false, ◌&&◌, ◌==◌, ◌⊎◌, inl, inr, List, [], ◌∷◌, ◌++◌, length, take, drop}
-use Rattle.std.proofs.Common.{map, reverse}
-use Rattle.std.proofs.Common.{refl, sym, ap, ◌∙◌, arith, nat_eq}
+use Rattle.std.proofs.Common.{◌≡◌, ℕ, zero, suc, ◌+◌, ◌-◌, ◌<◌, ◌≤◌, true, false, ◌&&◌, ◌⊎◌, inl, inr, List, [], ◌∷◌, ◌++◌, length, take, drop}
+use Rattle.std.proofs.Common.{map, reverse, refl, sym, ap, ◌∙◌, arith, nat_eq}
 use Rattle.std.specs.Char.{to_ascii_lowercase}
 use Rattle.std.specs.Cmp.Lexicographic.{pointwise, bytes_decides}
 use Rattle.std.specs.List.{starts_with, ends_with}
 use Rattle.std.proofs.lemmas.Bool.Decides.{nat_tests}
-use Rattle.std.proofs.lemmas.List.{length-reverse, length-drop, reverse-append, reverse-reverse, take-append-drop}
+use Rattle.std.proofs.lemmas.List.{length-reverse, length-drop, reverse-append, reverse-reverse, take-append-drop, take_all}
 use Rattle.attr_keys.specs.declared.key.Subject.{Subject}
 use Rattle.attr_keys.specs.declared.key.Subject.TheVariants.{End}
 use Rattle.attr_keys.specs.shared.Codes.{byte_code}
@@ -33,22 +32,14 @@ no_byte a = grind (arith, nat_tests)
 -- a whole key is had by the text that is the same
 pub whole_met : (case : Case) (subject : Subject) (text name : List ℕ) → has_content (folds case) name (whole_text subject text)
     ≡ same_text case text name
-whole_met case subject [] [] = by_case case
-  where
-    by_case : (c : Case) → true ≡ same_text c [] []
-    by_case Sensitive = refl
-    by_case Fold = refl
+whole_met case subject [] [] = grind (arith, nat_tests)
 whole_met Sensitive subject [] (b ∷ bs) = ap (λ t. t && true) (no_byte b)
 whole_met Fold subject [] (b ∷ bs) = ap (λ t. t && true) (no_byte (to_ascii_lowercase b))
 whole_met Sensitive subject (c ∷ cs) [] = ap (λ t. t && pointwise nat_eq (map (byte_code false) cs ++ 1 ∷ [])
     (take (length (map (byte_code false) cs ++ 1 ∷ [])) [])) (no_end c)
-whole_met Fold subject (c ∷ cs) [] = ap (λ t. t && pointwise nat_eq (map (byte_code true) cs ++ 1 ∷ [])
-    (take (length (map (byte_code true) cs ++ 1 ∷ [])) [])) (no_end (to_ascii_lowercase c))
-whole_met Sensitive subject (c ∷ cs) (b ∷ bs) =
-    ap (λ t. t && has_content false bs (whole_text subject cs)) (shifted c b) ∙ ap (λ t. nat_eq c b && t) (whole_met Sensitive subject cs bs)
-whole_met Fold subject (c ∷ cs) (b ∷ bs) =
-    ap (λ t. t && has_content true bs (whole_text subject cs)) (shifted (to_ascii_lowercase c) (to_ascii_lowercase b))
-    ∙ ap (λ t. nat_eq (to_ascii_lowercase c) (to_ascii_lowercase b) && t) (whole_met Fold subject cs bs)
+whole_met Fold subject (c ∷ cs) [] = grind (arith, nat_tests, no_end)
+whole_met Sensitive subject (c ∷ cs) (b ∷ bs) = grind (arith, nat_tests, shifted, whole_met Sensitive subject cs bs)
+whole_met Fold subject (c ∷ cs) (b ∷ bs) = grind (arith, nat_tests, shifted, whole_met Fold subject cs bs)
 
 -- a key that isn't whole is had by the text that begins with it
 abbrev pub front_text : Subject → List ℕ → KeyContent
@@ -57,17 +48,10 @@ front_text subject text = record { subject = subject; text = text; is_whole = fa
 pub front_met : (case : Case) (subject : Subject) (front text : List ℕ) →
     has_content (folds case) text (front_text subject front) ≡ starts_with (same_byte case) text front
 front_met case subject [] text = refl
-front_met Sensitive subject (c ∷ cs) [] = ap (λ t. t && pointwise nat_eq (map (byte_code false) cs ++ [])
-    (take (length (map (byte_code false) cs ++ [])) [])) (no_end c)
-front_met Fold subject (c ∷ cs) [] = ap (λ t. t && pointwise nat_eq (map (byte_code true) cs ++ [])
-    (take (length (map (byte_code true) cs ++ [])) [])) (no_end (to_ascii_lowercase c))
-front_met Sensitive subject (c ∷ cs) (b ∷ bs) =
-    ap (λ t. t && has_content false bs (front_text subject cs)) (shifted c b ∙ turned c b)
-    ∙ ap (λ t. (b == c) && t) (front_met Sensitive subject cs bs)
-front_met Fold subject (c ∷ cs) (b ∷ bs) =
-    ap (λ t. t && has_content true bs (front_text subject cs)) (shifted (to_ascii_lowercase c) (to_ascii_lowercase b) ∙ turned (to_ascii_lowercase c)
-    (to_ascii_lowercase b))
-    ∙ ap (λ t. (to_ascii_lowercase b == to_ascii_lowercase c) && t) (front_met Fold subject cs bs)
+front_met Sensitive subject (c ∷ cs) [] = grind (arith, nat_tests, no_end)
+front_met Fold subject (c ∷ cs) [] = grind (arith, nat_tests, no_end)
+front_met Sensitive subject (c ∷ cs) (b ∷ bs) = grind (arith, nat_tests, shifted, turned, front_met Sensitive subject cs bs)
+front_met Fold subject (c ∷ cs) (b ∷ bs) = grind (arith, nat_tests, shifted, turned, front_met Fold subject cs bs)
 
 map_reverse : (f : ℕ → ℕ) (x : List ℕ) → map f (reverse x) ≡ reverse (map f x)
 map_reverse f [] = refl
@@ -90,15 +74,8 @@ same_reversed x y =
 
 take_exact : (xs ys : List ℕ) (n : ℕ) → length xs ≡ n → take n (xs ++ ys) ≡ xs
 take_exact [] ys zero e = refl
-take_exact [] ys (suc n) e = absurd (omega arith)
-take_exact (x ∷ xs) ys zero e = absurd (omega arith)
 take_exact (x ∷ xs) ys (suc n) e = ap (λ l. x ∷ l) (take_exact xs ys n (omega arith))
-
-take_long : (n : ℕ) (xs : List ℕ) → length xs ≤ n → take n xs ≡ xs
-take_long zero [] le = refl
-take_long (suc n) [] le = refl
-take_long zero (x ∷ xs) le = absurd (omega arith)
-take_long (suc n) (x ∷ xs) le = ap (λ l. x ∷ l) (take_long n xs (omega arith))
+take_exact xs ys n e = absurd (omega arith)
 
 -- the first bytes of a text turned round are its last ones
 turned_front : (n : ℕ) (text : List ℕ) → take n (reverse text) ≡ reverse (drop (length text - n) text)
@@ -116,7 +93,7 @@ turned_front n text = elim (sides n (length text)) [ inl le ↦ inside le | inr 
     outside lt =
         let m : length text - n ≡ 0 = omega arith in
         let len = length-reverse text in
-        take_long n (reverse text) (omega arith) ∙ sym (ap (λ k. reverse (drop k text)) m)
+        take_all n (reverse text) (omega arith) ∙ sym (ap (λ k. reverse (drop k text)) m)
 
     sides : (a b : ℕ) → (a ≤ b) ⊎ (b < a)
     sides zero b = inl (omega arith)

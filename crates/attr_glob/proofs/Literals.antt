@@ -4,6 +4,8 @@ use Rattle.std.proofs.Common.{◌++◌, length, take, drop, get_or, position, ma
 use Rattle.std.specs.List.{list_any, position_from, starts_with, ends_with}
 use Rattle.std.specs.Cmp.Lexicographic.{pointwise}
 use Rattle.std.specs.Char.{to_ascii_lowercase}
+use Rattle.std.proofs.lemmas.Bool.Decides.{nat_tests}
+use Rattle.std.proofs.lemmas.Bool.{or_parts}
 use Rattle.std.proofs.lemmas.Iterator.Adapters.{position_from-zero}
 use Rattle.std.proofs.lemmas.List.{take-append-drop}
 use Rattle.std.proofs.lemmas.List.Quantifiers.{position-Some}
@@ -18,10 +20,6 @@ use Rattle.attr_wildmatch.specs.Deciding.{star_then, matches, some_match, text_m
 use Rattle.attr_glob.specs.inner.StarEnds.{ends_after_star}
 use Rattle.attr_wildmatch.proofs.ForCallers.{and_parts, and_both, by_test, equal, equal_so}
 
-pub or_none : (a b : Bool) → (a || b) ≡ false → (a ≡ false) × (b ≡ false)
-or_none true b h = cc
-or_none false b h = (refl, h)
-
 -- the tokens of bytes that stand for themselves
 abbrev pub literals : List ℕ → List Token
 literals [] = []
@@ -29,32 +27,24 @@ literals (b ∷ bs) = lit b ∷ literals bs
 
 -- a byte that is no wildcard stands for itself
 token_at-literal : (border : Bool) (b : ℕ) (bs : List ℕ) → is_wildcard b ≡ false → token_at border b bs ≡ Some (lit b, bs)
-token_at-literal border b bs h =
-    let u = or_none (b == asterisk || b == question_mark || b == open_bracket) (b == backslash) h in
-    let v = or_none (b == asterisk || b == question_mark) (b == open_bracket) u.0 in
-    let w = or_none (b == asterisk) (b == question_mark) v.0 in
-    rw (w.1, u.1, v.1, w.0) refl
+token_at-literal border b bs h = grind (arith, nat_tests, or_parts)
 
 tokens_from-literal : (n : ℕ) (border : Bool) (text : List ℕ) → length text ≤ n → list_any is_wildcard text ≡ false →
     tokens_from n border text ≡ Some (literals text)
-tokens_from-literal zero border [] l h = refl
-tokens_from-literal (suc n) border [] l h = refl
 tokens_from-literal zero border (b ∷ bs) l h = absurd (omega arith)
 tokens_from-literal (suc n) border (b ∷ bs) l h =
-    let w = or_none (is_wildcard b) (list_any is_wildcard bs) h in
+    let w = or_parts (is_wildcard b) (list_any is_wildcard bs) h in
     rw (token_at-literal border b bs w.0) (ap (option_map (λ ts. lit b ∷ ts)) (tokens_from-literal n (b == slash) bs (omega arith) w.1))
+tokens_from-literal n border [] l h = refl
 
 matches-literals : (case : Case) (text value : List ℕ) → matches case (literals text) value ≡ pointwise (same_byte case) text value
-matches-literals case [] [] = refl
-matches-literals case [] (b ∷ bs) = refl
-matches-literals case (c ∷ cs) [] = refl
 matches-literals case (c ∷ cs) (b ∷ bs) = ap (λ x. same_byte case c b && x) (matches-literals case cs bs)
+matches-literals case text value = refl
 
 -- a text without wildcards matches the value that is the same
 pub text_matches-literal : (case : Case) (text value : List ℕ) → list_any is_wildcard text ≡ false →
     text_matches case text value ≡ pointwise (same_byte case) text value
-text_matches-literal case text value h =
-    ap (λ o. some_match case o value) (tokens_from-literal (length text) true text (omega arith) h) ∙ matches-literals case text value
+text_matches-literal case text value h = grind (arith, nat_tests, tokens_from-literal, matches-literals)
 
 and_false : (a : Bool) → (a && false) ≡ false
 and_false true = refl
@@ -63,10 +53,8 @@ and_false false = refl
 -- texts of other lengths are not the same
 pointwise-unlike : (case : Case) (text value : List ℕ) → length text ≢ length value → pointwise (same_byte case) text value ≡ false
 pointwise-unlike case [] [] h = absurd (h refl)
-pointwise-unlike case [] (b ∷ bs) h = refl
-pointwise-unlike case (c ∷ cs) [] h = refl
-pointwise-unlike case (c ∷ cs) (b ∷ bs) h =
-    rw (pointwise-unlike case cs bs (λ e. h (ap suc e))) (and_false (same_byte case c b))
+pointwise-unlike case (c ∷ cs) (b ∷ bs) h = grind (arith, nat_tests, and_false, pointwise-unlike case cs bs)
+pointwise-unlike case text value h = refl
 
 or_false : (a : Bool) → (a || false) ≡ a
 or_false true = refl
@@ -87,38 +75,26 @@ and_true false = refl
 -- one more byte in front of a value that is long enough leaves its end as it is
 end_longer : (case : Case) (text : List ℕ) (b : ℕ) (bs : List ℕ) → length text ≤ length bs →
     ends_with (same_byte case) (b ∷ bs) text ≡ ends_with (same_byte case) bs text
-end_longer case text b bs l =
-    let n : suc (length bs) - length text ≡ suc (length bs - length text) = omega arith in
-    ap (λ k. pointwise (same_byte case) text (drop k (b ∷ bs))) n
+end_longer case text b bs l = grind (arith, nat_tests)
 
 -- the end of a value that is no longer is all of it
 end_whole : (case : Case) (text value : List ℕ) → length value ≤ length text →
     ends_with (same_byte case) value text ≡ pointwise (same_byte case) text value
-end_whole case text value l =
-    let n : length value - length text ≡ 0 = omega arith in
-    ap (λ k. pointwise (same_byte case) text (drop k value)) n
+end_whole case text value l = grind (arith, nat_tests)
 
 -- what is before the end of a longer value has its first byte
 before_longer : (text : List ℕ) (b : ℕ) (bs : List ℕ) → length text ≤ length bs →
     list_any is_slash (take (suc (length bs) - length text) (b ∷ bs))
     ≡ (is_slash b || list_any is_slash (take (length bs - length text) bs))
-before_longer text b bs l =
-    let n : suc (length bs) - length text ≡ suc (length bs - length text) = omega arith in
-    ap (λ k. list_any is_slash (take k (b ∷ bs))) n
+before_longer text b bs l = grind (arith, nat_tests)
 
 -- nothing is before the end of a value that is no longer
 before_none : (text value : List ℕ) → length value ≤ length text → list_any is_slash (take (length value - length text) value) ≡ false
-before_none text value l =
-    let n : length value - length text ≡ 0 = omega arith in
-    ap (λ k. list_any is_slash (take k value)) n
+before_none text value l = grind (arith, nat_tests)
 
 -- a star and then bytes that stand for themselves take a value that ends with these, and has no slash before
 star_then-end : (case : Case) (text value : List ℕ) → star_then (matches case (literals text)) value ≡ ends_after_star case value text
-star_then-end case text [] =
-    matches-literals case text []
-    ∙ (sym (ap (pointwise (same_byte case) text) (drop-none (0 - length text)))
-    ∙ (and_true (ends_with (same_byte case) [] text)
-    ∙ sym (ap (λ v. ends_with (same_byte case) [] text && not (list_any is_slash v)) (take-none (0 - length text)))))
+star_then-end case text [] = grind (arith, nat_tests, matches-literals, drop-none, and_true, take-none)
 star_then-end case text (b ∷ bs) =
     let rest = star_then-end case text bs in
     let here = matches-literals case text (b ∷ bs) in
@@ -126,9 +102,7 @@ star_then-end case text (b ∷ bs) =
     ∙ (ap (λ x. x || (not (b == slash) && ends_after_star case bs text)) here ∙ decided case text b bs)
   where
     joined : (s e r : Bool) → (not s && (e && not r)) ≡ (e && not (s || r))
-    joined true true r = refl
-    joined true false r = refl
-    joined false e r = refl
+    joined s e r = grind arith
 
     decided : (case : Case) (text : List ℕ) (b : ℕ) (bs : List ℕ) →
         (pointwise (same_byte case) text (b ∷ bs) || (not (b == slash) && ends_after_star case bs text)) ≡ ends_after_star case (b ∷ bs) text
@@ -161,10 +135,10 @@ star_then-end case text (b ∷ bs) =
 tokens-suffix : (text : List ℕ) → list_any is_wildcard text ≡ false → tokens (asterisk ∷ text) ≡ Some (star ∷ literals text)
 tokens-suffix [] h = refl
 tokens-suffix (b ∷ bs) h =
-    let w = or_none (is_wildcard b) (list_any is_wildcard bs) h in
-    let u = or_none (b == asterisk || b == question_mark || b == open_bracket) (b == backslash) w.0 in
-    let v = or_none (b == asterisk || b == question_mark) (b == open_bracket) u.0 in
-    let s = or_none (b == asterisk) (b == question_mark) v.0 in
+    let w = or_parts (is_wildcard b) (list_any is_wildcard bs) h in
+    let u = or_parts (b == asterisk || b == question_mark || b == open_bracket) (b == backslash) w.0 in
+    let v = or_parts (b == asterisk || b == question_mark) (b == open_bracket) u.0 in
+    let s = or_parts (b == asterisk) (b == question_mark) v.0 in
     rw s.0 (ap (option_map (λ ts. star ∷ ts)) (tokens_from-literal (suc (length bs)) false (b ∷ bs) (omega arith) h))
 
 -- a text of one star and no other wildcard takes a value that ends with what follows the star, and has no slash before
@@ -201,18 +175,17 @@ record Taken (case : Case) (c : ℕ) (o : Option (List Token)) (value : List ℕ
 
 taken : (case : Case) (c : ℕ) (o : Option (List Token)) (value : List ℕ) →
     some_match case (option_map (λ ts. lit c ∷ ts) o) value ≡ true → Taken case c o value
-taken case c None value h = cc
-taken case c (Some ts) [] h = cc
 taken case c (Some ts) (b ∷ bs) h =
     let w = and_parts (same_byte case c b) (matches case ts bs) h in
     record { byte = b; others = bs; whole = refl; same = w.0; tail = w.1 }
+taken case c o value h = cc
 
 front_taken : (case : Case) (front others : List ℕ) (n : ℕ) (border : Bool) (value : List ℕ) → list_any is_wildcard front ≡ false →
     some_match case (tokens_from n border (front ++ others)) value ≡ true → starts_with (same_byte case) value front ≡ true
 front_taken case [] others n border value h k = refl
 front_taken case (c ∷ cs) others zero border value h k = cc
 front_taken case (c ∷ cs) others (suc n) border value h k =
-    let w = or_none (is_wildcard c) (list_any is_wildcard cs) h in
+    let w = or_parts (is_wildcard c) (list_any is_wildcard cs) h in
     let t = taken case c (tokens_from n (c == slash) (cs ++ others)) value (rw (token_at-literal border c (cs ++ others) w.0) at k) in
     let rest = front_taken case cs others n (c == slash) t.others w.1 t.tail in
     subst (λ v. starts_with (same_byte case) v (c ∷ cs) ≡ true) (sym t.whole)
@@ -256,27 +229,22 @@ offset_inside text n h = let found = position-Some is_wildcard text n 0 h in fou
 -- texts whose lower forms are equal are the same under `Fold`
 fold_same : (text value : List ℕ) → map to_ascii_lowercase text ≡ map to_ascii_lowercase value → pointwise (same_byte Fold) text value ≡ true
 fold_same [] [] h = refl
-fold_same [] (b ∷ bs) h = cc
-fold_same (c ∷ cs) [] h = cc
 fold_same (c ∷ cs) (b ∷ bs) h =
     let here : to_ascii_lowercase c ≡ to_ascii_lowercase b = cc in
     let tail : map to_ascii_lowercase cs ≡ map to_ascii_lowercase bs = cc in
     and_both (same_byte Fold c b) (pointwise (same_byte Fold) cs bs)
     (equal_so (to_ascii_lowercase b) (to_ascii_lowercase c) (sym here)) (fold_same cs bs tail)
+fold_same text value h = cc
 
 same_fold : (text value : List ℕ) → pointwise (same_byte Fold) text value ≡ true → map to_ascii_lowercase text ≡ map to_ascii_lowercase value
 same_fold [] [] h = refl
-same_fold [] (b ∷ bs) h = cc
-same_fold (c ∷ cs) [] h = cc
 same_fold (c ∷ cs) (b ∷ bs) h =
     let w = and_parts (same_byte Fold c b) (pointwise (same_byte Fold) cs bs) h in
     let here : to_ascii_lowercase b ≡ to_ascii_lowercase c = equal (to_ascii_lowercase b) (to_ascii_lowercase c) w.0 in
     let tail : map to_ascii_lowercase cs ≡ map to_ascii_lowercase bs = same_fold cs bs w.1 in
     cc
+same_fold text value h = cc
 
 pub folded : (text value : List ℕ) (r : Bool) → (r ≡ true → map to_ascii_lowercase text ≡ map to_ascii_lowercase value) →
     (map to_ascii_lowercase text ≡ map to_ascii_lowercase value → r ≡ true) → r ≡ pointwise (same_byte Fold) text value
-folded text value r told so =
-    by_test r (λ t. t ∙ sym (fold_same text value (told t)))
-    (λ f. f ∙ sym (by_test (pointwise (same_byte Fold) text value)
-    (λ t. let e : true ≡ false = sym (so (same_fold text value t)) ∙ f in cc) (λ g. g)))
+folded text value r told so = grind (arith, nat_tests, fold_same, same_fold)

@@ -1,5 +1,5 @@
 -- A line that matches a path is a candidate for it, so that a search may pass over all others.
-use Rattle.std.proofs.Common.{◌≡◌, ℕ, ◌-◌, Bool, true, false, cond, not, ◌&&◌, ◌||◌, ◌==◌, List, [], ◌∷◌, length, drop, Option, Some, None, refl, sym}
+use Rattle.std.proofs.Common.{◌≡◌, ℕ, Bool, true, false, cond, not, ◌||◌, ◌==◌, List, [], ◌∷◌, length, drop, Option, Some, None, refl, sym}
 use Rattle.std.proofs.Common.{ap, ◌∙◌, arith, nat_eq}
 use Rattle.std.specs.Prelude.{is_none}
 use Rattle.std.specs.List.{ends_with as ends_with_list}
@@ -25,17 +25,12 @@ turned a b = grind (arith, nat_tests)
 
 -- texts are the same byte by byte just if they fold to the same
 pub bytewise : (case : Case) (x y : List ℕ) → pointwise (same_byte case) x y ≡ pointwise nat_eq (folded case x) (folded case y)
-bytewise Sensitive [] [] = refl
-bytewise Sensitive [] (b ∷ bs) = refl
-bytewise Sensitive (c ∷ cs) [] = refl
-bytewise Sensitive (c ∷ cs) (b ∷ bs) = ap (λ t. t && pointwise (same_byte Sensitive) cs bs) (sym (turned c b))
-    ∙ ap (λ t. nat_eq c b && t) (bytewise Sensitive cs bs)
+bytewise Sensitive (c ∷ cs) (b ∷ bs) = grind (arith, nat_tests, turned, bytewise Sensitive cs bs)
+bytewise Fold (c ∷ cs) (b ∷ bs) = grind (arith, nat_tests, turned, bytewise Fold cs bs)
+bytewise Sensitive x y = refl
 bytewise Fold [] [] = refl
 bytewise Fold [] (b ∷ bs) = refl
 bytewise Fold (c ∷ cs) [] = refl
-bytewise Fold (c ∷ cs) (b ∷ bs) =
-    ap (λ t. t && pointwise (same_byte Fold) cs bs) (sym (turned (to_ascii_lowercase c) (to_ascii_lowercase b)))
-    ∙ ap (λ t. nat_eq (to_ascii_lowercase c) (to_ascii_lowercase b) && t) (bytewise Fold cs bs)
 
 pub length-folded : (case : Case) (x : List ℕ) → length (folded case x) ≡ length x
 length-folded Sensitive x = refl
@@ -48,9 +43,7 @@ drop-folded Fold n x = drop-map to_ascii_lowercase n x
 -- an end, byte by byte and folded
 pub ends_folded : (case : Case) (value tail : List ℕ) → ends_with_list (same_byte case) value tail
     ≡ ends_with_list nat_eq (folded case value) (folded case tail)
-ends_folded case value tail =
-    rw (length-folded case value, length-folded case tail, drop-folded case (length value - length tail) value)
-    (bytewise case tail (drop (length value - length tail) value))
+ends_folded case value tail = grind (arith, nat_tests, length-folded, drop-folded, bytewise)
 
 -- a base name that a line's text matches has the line's key
 has_key_if_matched : (case : Case) (text : List ℕ) (r : Reading) (base : List ℕ) → reading text ≡ Some r →
@@ -65,8 +58,7 @@ has_key_if_matched case text r base read m true literal suffix flag =
     none_of : (o : Option ℕ) → is_none o ≡ true → o ≡ None
     none_of None h = refl
     none_of (Some x) h = cc
-has_key_if_matched case text r base read m false literal true flag =
-    sym (ends_folded case base (drop 1 r.text)) ∙ suffix-ends case r.text base (sym (reading-ends_with text r read) ∙ flag) m
+has_key_if_matched case text r base read m false literal true flag = grind (arith, nat_tests, ends_folded, suffix-ends, reading-ends_with)
 has_key_if_matched case text r base read m false literal false flag = refl
 
 -- a line that matches a path is a candidate for its base name

@@ -1,5 +1,5 @@
 -- The flags of a mode are different bits, so that joining them adds them.
-use Rattle.std.proofs.Common.{◌≡◌, ℕ, ◌+◌, Bool, true, false, bit_or, refl}
+use Rattle.std.proofs.Common.{arith, ◌≡◌, ℕ, ◌+◌, Bool, bit_or}
 use Rattle.attr_glob.specs.Patterns.{has_flag, set_where, no_sub_dir, ends_with, must_be_dir, negative, absolute}
 
 abbrev joined : Bool → Bool → Bool → Bool → Bool → ℕ
@@ -12,73 +12,11 @@ added a b c d e =
     set_where a no_sub_dir + set_where b ends_with + set_where c must_be_dir + set_where d negative + set_where e absolute
 
 pub joined_flags : (a b c d e : Bool) → joined a b c d e ≡ added a b c d e
-joined_flags true true true true true = refl
-joined_flags true true true true false = refl
-joined_flags true true true false true = refl
-joined_flags true true true false false = refl
-joined_flags true true false true true = refl
-joined_flags true true false true false = refl
-joined_flags true true false false true = refl
-joined_flags true true false false false = refl
-joined_flags true false true true true = refl
-joined_flags true false true true false = refl
-joined_flags true false true false true = refl
-joined_flags true false true false false = refl
-joined_flags true false false true true = refl
-joined_flags true false false true false = refl
-joined_flags true false false false true = refl
-joined_flags true false false false false = refl
-joined_flags false true true true true = refl
-joined_flags false true true true false = refl
-joined_flags false true true false true = refl
-joined_flags false true true false false = refl
-joined_flags false true false true true = refl
-joined_flags false true false true false = refl
-joined_flags false true false false true = refl
-joined_flags false true false false false = refl
-joined_flags false false true true true = refl
-joined_flags false false true true false = refl
-joined_flags false false true false true = refl
-joined_flags false false true false false = refl
-joined_flags false false false true true = refl
-joined_flags false false false true false = refl
-joined_flags false false false false true = refl
-joined_flags false false false false false = refl
+joined_flags a b c d e = grind arith
 
 -- of the flags that are added, these two are found again
 added-found : (a b c d e : Bool) → (has_flag (added a b c d e) ends_with ≡ b) × (has_flag (added a b c d e) negative ≡ d)
-added-found true true true true true = (refl, refl)
-added-found true true true true false = (refl, refl)
-added-found true true true false true = (refl, refl)
-added-found true true true false false = (refl, refl)
-added-found true true false true true = (refl, refl)
-added-found true true false true false = (refl, refl)
-added-found true true false false true = (refl, refl)
-added-found true true false false false = (refl, refl)
-added-found true false true true true = (refl, refl)
-added-found true false true true false = (refl, refl)
-added-found true false true false true = (refl, refl)
-added-found true false true false false = (refl, refl)
-added-found true false false true true = (refl, refl)
-added-found true false false true false = (refl, refl)
-added-found true false false false true = (refl, refl)
-added-found true false false false false = (refl, refl)
-added-found false true true true true = (refl, refl)
-added-found false true true true false = (refl, refl)
-added-found false true true false true = (refl, refl)
-added-found false true true false false = (refl, refl)
-added-found false true false true true = (refl, refl)
-added-found false true false true false = (refl, refl)
-added-found false true false false true = (refl, refl)
-added-found false true false false false = (refl, refl)
-added-found false false true true true = (refl, refl)
-added-found false false true true false = (refl, refl)
-added-found false false true false true = (refl, refl)
-added-found false false true false false = (refl, refl)
-added-found false false false true true = (refl, refl)
-added-found false false false true false = (refl, refl)
-added-found false false false false true = (refl, refl)
-added-found false false false false false = (refl, refl)
+added-found a b c d e = grind arith
 
 pub added-ends_with : (a b c d e : Bool) → has_flag (added a b c d e) ends_with ≡ b
 added-ends_with a b c d e = (added-found a b c d e).0

@@ -53,8 +53,7 @@ pub data Outcome (text : List ℕ) : Type 0 where
   plain_text : ¬ BeginsQuoted text → Outcome text
 
 outcome_of : (spelling plain rest : List ℕ) → SpellsAll spelling plain → Stops rest → Outcome (quote ∷ (spelling ++ rest))
-outcome_of spelling plain _ spells at_end =
-    ends (record { spelling = spelling; plain = plain; whole = ap (λ l. quote ∷ l) (append-nil spelling); spells = spells })
+outcome_of spelling plain _ spells at_end = grind (arith, nat_tests, ends, append-nil)
 outcome_of spelling plain _ spells (at_quote others) =
     quoted plain (length spelling + 2) (record { spelling = spelling; rest = others; whole = refl; spells = spells; length_taken = refl })
 outcome_of spelling plain _ spells (at_bad others none) =

@@ -1,19 +1,19 @@
 -- What a pattern is matched against, and what is known of a pattern that was read.
-use Rattle.std.proofs.Common.{◌≡◌, ℕ, zero, suc, ◌-◌, ◌<◌, ◌≤◌, Bool, true, false, not, ◌||◌, List, [], ◌∷◌, ◌++◌, reverse, length, drop, get_or}
+use Rattle.std.proofs.Common.{◌≡◌, ℕ, zero, suc, ◌-◌, ◌<◌, ◌≤◌, Bool, true, false, not, ◌||◌, List, [], ◌∷◌, ◌++◌, reverse, length, get_or}
 use Rattle.std.proofs.Common.{position, Option, Some, None, cond, refl, sym, ap, subst, ◌∙◌, arith}
-use Rattle.std.specs.List.{list_any, list_all, prefix_len, suffix_len}
+use Rattle.std.specs.List.{list_any, list_all, prefix_len}
+use Rattle.std.proofs.lemmas.Bool.Decides.{nat_tests}
 use Rattle.std.proofs.lemmas.List.{length-reverse, length-drop}
 use Rattle.std.proofs.lemmas.List.Sums.{suffix_len_is}
 use Rattle.attr_wildmatch.specs.declared.case.Case.{Case}
-use Rattle.attr_glob.specs.Patterns.{Reading, reading, read_rest, is_space, is_wildcard, is_suffix, is_negated, without_negation}
+use Rattle.attr_glob.specs.Patterns.{Reading, reading, read_rest, is_space, is_wildcard, is_suffix, is_negated, without_negation, without_root}
+use Rattle.attr_glob.specs.Patterns.{without_end, first, has_flag, ends_with, must_be_dir, negative}
 use Rattle.attr_wildmatch.specs.Slashes.{is_slash, ends_in_slash}
-use Rattle.attr_glob.specs.Patterns.{without_root, without_end, first, has_flag, ends_with, must_be_dir, negative}
 use Rattle.attr_wildmatch.specs.Deciding.{text_matches}
 use Rattle.attr_wildmatch.specs.Matching.{TextMatches}
 use Rattle.attr_glob.specs.Paths.{matched_part, is_directory, PathMatches, path_matches}
 use Rattle.attr_glob.specs.BaseNames.{base_name, base_name_offset}
-use Rattle.attr_wildmatch.proofs.ForCallers.{by_test, and_parts, and_both, or_left, or_right, reverse-cons}
-use Rattle.attr_wildmatch.proofs.ForCallers.{text_match_of_test, test_of_text_match}
+use Rattle.attr_wildmatch.proofs.ForCallers.{by_test, and_parts, and_both, or_left, or_right, reverse-cons, text_match_of_test, test_of_text_match}
 use Rattle.attr_glob.proofs.Modes.{added-ends_with, added-negative}
 
 read_of : {A : Type 0} (blank : Bool) (a b : A) → cond blank None (Some a) ≡ Some b → a ≡ b
@@ -39,10 +39,7 @@ reading-ends_with text r h =
 
 -- what is read after a negation has its flag
 pub read_rest-negative : (negated : Bool) (rest : List ℕ) → has_flag (read_rest negated rest).mode negative ≡ negated
-read_rest-negative negated rest =
-    let below = without_root rest in
-    let body = without_end below in
-    added-negative (not (list_any is_slash body)) (is_suffix body) (ends_in_slash below) negated (is_slash (first rest))
+read_rest-negative negated rest = grind (arith, nat_tests, added-negative)
 
 directory : (is_dir : Option Bool) → is_directory is_dir ≡ true → is_dir ≡ Some true
 directory None h = cc
@@ -58,15 +55,11 @@ kind_fits false is_dir h = refl
 
 pub path_match_of_test : (case : Case) (r : Reading) (path : List ℕ) (is_dir : Option Bool) → path_matches case r path is_dir ≡ true → PathMatches
     case r path is_dir
-path_match_of_test case r path is_dir h =
-    let w = and_parts (not (has_flag r.mode must_be_dir) || is_directory is_dir) (text_matches case r.text (matched_part r path)) h in
-    (kind_of (has_flag r.mode must_be_dir) is_dir w.0, text_match_of_test case r.text (matched_part r path) w.1)
+path_match_of_test case r path is_dir h = grind (arith, nat_tests, and_parts, kind_of, text_match_of_test)
 
 pub test_of_path_match : (case : Case) (r : Reading) (path : List ℕ) (is_dir : Option Bool) → PathMatches case r path is_dir → path_matches case r
     path is_dir ≡ true
-test_of_path_match case r path is_dir m =
-    and_both (not (has_flag r.mode must_be_dir) || is_directory is_dir) (text_matches case r.text (matched_part r path))
-    (kind_fits (has_flag r.mode must_be_dir) is_dir m.0) (test_of_text_match case r.text (matched_part r path) m.1)
+test_of_path_match case r path is_dir m = grind (arith, nat_tests, and_both, kind_fits, test_of_text_match)
 
 -- where all pass, the test holds up to the end
 all_pass : (p : ℕ → Bool) (xs : List ℕ) → list_any p xs ≡ false → prefix_len (λ x. not (p x)) xs ≡ length xs
@@ -79,36 +72,21 @@ list_any-append p (x ∷ xs) ys h k = by_test (p x) (λ t. let e = rw t at h in 
 
 list_any-reverse : (p : ℕ → Bool) (xs : List ℕ) → list_any p xs ≡ false → list_any p (reverse xs) ≡ false
 list_any-reverse p [] h = refl
-list_any-reverse p (x ∷ xs) h = by_test (p x)
-    (λ t. let e = rw t at h in cc)
-    (λ f. subst (λ l. list_any p l ≡ false) (sym (reverse-cons x xs)) (list_any-append p (reverse xs) (x ∷ []) (list_any-reverse p xs (rw f at h))
-    (rw f refl)))
+list_any-reverse p (x ∷ xs) h = grind (arith, nat_tests, reverse-cons, list_any-append, list_any-reverse p xs)
 
 -- a path without a slash is its own base name
 pub base_name-whole : (path : List ℕ) → list_any is_slash path ≡ false → base_name path ≡ path
-base_name-whole path h =
-    let all = all_pass is_slash (reverse path) (list_any-reverse is_slash path h) in
-    let long : length (reverse path) ≡ length path = length-reverse path in
-    let n : length path - suffix_len (λ b. not (is_slash b)) path ≡ 0 = omega (arith, all, long) in
-    ap (λ k. drop k path) n
+base_name-whole path h = grind (arith, nat_tests, all_pass, list_any-reverse, length-reverse)
 
 -- a path without such an offset is its own base name
 pub no_offset : (path : List ℕ) → None ≡ base_name_offset path → path ≡ base_name path
-no_offset path h = by_test (list_any is_slash path)
-    (λ t. let e : None ≡ Some (length path - length (base_name path)) = rw t at h in cc)
-    (λ f. sym (base_name-whole path f))
+no_offset path h = grind (arith, nat_tests, base_name-whole)
 
 -- where the path's kind fits, an answer for the matched part is that for the path
 pub path_answer : (case : Case) (r : Reading) (path part : List ℕ) (is_dir : Option Bool) (answer : Bool) →
     (not (has_flag r.mode must_be_dir) || is_directory is_dir) ≡ true → part ≡ matched_part r path → answer ≡ text_matches case r.text part →
     (answer ≡ true → PathMatches case r path is_dir) × (PathMatches case r path is_dir → answer ≡ true)
-path_answer case r path part is_dir answer kind same told =
-    let kind_test = not (has_flag r.mode must_be_dir) || is_directory is_dir in
-    let text_test = text_matches case r.text (matched_part r path) in
-    let exact : answer ≡ text_test = told ∙ ap (text_matches case r.text) same in (
-      (λ t. path_match_of_test case r path is_dir (and_both kind_test text_test kind (sym exact ∙ t))),
-      (λ m. let w = and_parts kind_test text_test (test_of_path_match case r path is_dir m) in exact ∙ w.1),
-    )
+path_answer case r path part is_dir answer kind same told = grind (arith, nat_tests, path_match_of_test, and_both, and_parts, test_of_path_match)
 
 -- an answer that is yes exactly for a match is that of the test
 pub answer_of_match : (case : Case) (text value : List ℕ) (answer : Bool) → (answer ≡ true → TextMatches case text value) →
@@ -129,10 +107,7 @@ none_in p (x ∷ xs) h = rw (h 0 (omega arith)) (none_in p xs (λ k l. h (suc k)
 -- the offset after a slash, after which there is no other
 pub base_name_offset-found : (path : List ℕ) (offset : ℕ) → 0 < offset → offset ≤ length path → is_slash (get_or path (offset - 1) 0) ≡ true →
     ((k : ℕ) → offset ≤ k → k < length path → is_slash (get_or path k 0) ≡ false) → Some offset ≡ base_name_offset path
-base_name_offset-found path offset some inside here tail =
-    let n = suffix_len_is (λ b. not (is_slash b)) path offset 0 inside (λ k l m. ap not (tail k l m)) (λ _. ap not here) in
-    let long : length path - length (base_name path) ≡ offset = rw length-drop (omega (arith, n)) in
-    rw (list_any-at is_slash path (offset - 1) (omega arith) here) (ap Some (sym long))
+base_name_offset-found path offset some inside here tail = grind (arith, nat_tests, suffix_len_is, length-drop, list_any-at)
 
 pub base_name_offset-none : (path : List ℕ) → ((k : ℕ) → k < length path → is_slash (get_or path k 0) ≡ false) → None ≡ base_name_offset path
 base_name_offset-none path h = rw (none_in is_slash path h) refl

@@ -27,14 +27,8 @@ escaped-digits high middle low others h m l = rw (letter_byte-digit high h, esca
 pub Spells-escaped : (spelling others rest : List ℕ) (byte : ℕ) → Spells spelling byte → backslash ∷ rest ≡ spelling ++ others → escaped rest ≡ None →
     ⊥
 Spells-escaped _ others rest _ (itself no_quote no_backslash) e none = no_backslash cc
-Spells-escaped _ others rest _ (by_letter {letter} {byte} e') e none =
-    let some = escaped-letter letter byte others e' in
-    let tail : rest ≡ letter ∷ others = cc in
-    let absurdity : ⊥ = cc in absurdity
-Spells-escaped _ others rest _ (by_digits {high} {middle} {low} h m l) e none =
-    let some = escaped-digits high middle low others h m l in
-    let tail : rest ≡ digit high ∷ digit middle ∷ digit low ∷ others = cc in
-    let absurdity : ⊥ = cc in absurdity
+Spells-escaped _ others rest _ (by_letter {letter} {byte} e') e none = grind (arith, nat_tests, escaped-letter)
+Spells-escaped _ others rest _ (by_digits {high} {middle} {low} h m l) e none = grind (arith, nat_tests, escaped-digits)
 
 abbrev Undone : Type 0
 Undone = Result (List ℕ × ℕ) Fault
@@ -45,17 +39,9 @@ piece-itself b bytes no_quote no_backslash = grind (arith, nat_tests)
 -- a spelling is undone to its byte
 undone_from-spelling : (spelling : List ℕ) (byte : ℕ) → Spells spelling byte → (offset : ℕ) (others : List ℕ) → undone_from offset 0
     (spelling ++ others) ≡ with_front (byte ∷ []) (undone_from (offset + length spelling) 0 others)
-undone_from-spelling _ _ (itself {byte} no_quote no_backslash) offset others =
-    undone_from-piece offset byte others (spelled byte 0) (piece-itself byte others no_quote no_backslash)
-undone_from-spelling _ _ (by_letter {letter} {byte} e) offset others =
-    let at : offset + 1 + 1 ≡ offset + 2 = omega arith in
-    undone_from-piece offset backslash (letter ∷ others) (spelled byte 1) (rw (escaped-letter letter byte others e) refl)
-    ∙ ap (λ n. with_front (byte ∷ []) (undone_from n 0 others)) at
-undone_from-spelling _ _ (by_digits {high} {middle} {low} h m l) offset others =
-    let at : offset + 1 + 1 + 1 + 1 ≡ offset + 4 = omega arith in
-    let bytes = digit high ∷ digit middle ∷ digit low ∷ others in
-    undone_from-piece offset backslash bytes (spelled (octal_byte high middle low) 3) (rw (escaped-digits high middle low others h m l) refl)
-    ∙ ap (λ n. with_front (octal_byte high middle low ∷ []) (undone_from n 0 others)) at
+undone_from-spelling _ _ (itself {byte} no_quote no_backslash) offset others = grind (arith, nat_tests, undone_from-piece, piece-itself)
+undone_from-spelling _ _ (by_letter {letter} {byte} e) offset others = grind (arith, nat_tests, undone_from-piece, escaped-letter)
+undone_from-spelling _ _ (by_digits {high} {middle} {low} h m l) offset others = grind (arith, nat_tests, undone_from-piece, escaped-digits)
 
 -- spellings are undone to their bytes
 pub undone_from-spellings : (plain spelling : List ℕ) → SpellsAll spelling plain → (offset : ℕ) (rest : List ℕ) → undone_from offset 0

@@ -64,8 +64,7 @@ pub undone_from-more : (text plain : List ℕ) (offset byte left : ℕ) → offs
     spelled byte left → (whole : Undone) → whole ≡ with_front plain (undone_from offset 0 (drop offset text)) →
     whole ≡ with_front (plain ++ byte ∷ [])
     (undone_from (offset + 1 + left) 0 (drop (offset + 1 + left) text))
-undone_from-more text plain offset byte left inside e whole so_far =
-    so_far ∙ ap (with_front plain) (undone_from-at text offset byte left inside e) ∙ sym (with_front-append plain (byte ∷ []) _)
+undone_from-more text plain offset byte left inside e whole so_far = grind (arith, nat_tests, so_far, undone_from-at, inside, with_front-append)
 
 -- a turn at a byte that stands for itself
 pub undone_from-plain : (text plain : List ℕ) (offset : ℕ) → offset < length text → get_or text offset 0 ≢ quote → get_or text offset 0 ≢ backslash →

@@ -1,15 +1,14 @@
 -- Where the buckets of hashes start.
-use Rattle.std.proofs.Common.{◌≡◌, ℕ, zero, suc, ◌+◌, ◌-◌, ◌/◌, ◌^◌, ◌<◌, ◌≤◌, ◌≢◌, Bool, true, false, List, [], ◌∷◌, ◌++◌}
-use Rattle.std.proofs.Common.{length, take, drop, get_or, refl, sym}
-use Rattle.std.proofs.Common.{ap, subst, ◌∙◌, arith, eqb, leb, le_trans, length-append}
+use Rattle.std.proofs.Common.{◌≡◌, ℕ, inl, inr, zero, suc, ◌+◌, ◌-◌, ◌/◌, ◌^◌, ◌<◌, ◌≤◌, Bool, false, List, [], ◌∷◌, ◌++◌, length, take, drop}
+use Rattle.std.proofs.Common.{get_or, refl, sym, ap, subst, ◌∙◌, arith, eqb, le_trans, length-append}
 use Rattle.std.specs.List.{filter, AllWithin}
 use Rattle.std.specs.List.Sorted.{IsNonDecreasingBy}
 use Rattle.std.proofs.Math.Nat.{div-mul-le_self}
 use Rattle.std.proofs.lemmas.Nat.{le-div}
 use Rattle.std.proofs.lemmas.Bool.Decides.{nat_tests}
 use Rattle.std.proofs.Math.ListN.{get_or-append}
-use Rattle.std.proofs.lemmas.Bool.{eqb-true}
-use Rattle.std.proofs.lemmas.List.{length-drop, get_or-drop, get_or_push}
+use Rattle.std.proofs.lemmas.Bool.{eqb-true, cases_lt}
+use Rattle.std.proofs.lemmas.List.{length-drop, get_or-drop, get_or_default, get_or_push}
 use Rattle.attr_keys.specs.declared.hashed.HashedRow.{HashedRow}
 use Rattle.attr_keys.specs.inner.Hashes.{AreStarts, IsBucketStart}
 use Rattle.attr_keys.proofs.Narrowing.{filter_drop}
@@ -33,23 +32,14 @@ filter_front p d (suc j) (x ∷ xs) out =
 starts_rise : (width bucket start end : ℕ) (rows : List HashedRow) → IsBucketStart width rows bucket start →
     IsBucketStart width rows (bucket + 1) end → start ≤ end
 starts_rise width bucket start end rows first second =
-    by_test (leb start end)
-    (λ t. within start end t)
-    (λ f.
-    let d : HashedRow = record { hash = 0; row = 0 } in
-    let lt : end < start = beyond start end f in
-    let below = first.point.0 end d (omega arith) lt in
-    let above = second.point.1 end d (omega arith) (omega (arith, first.bound)) in
-    absurd (omega (arith, below, above)))
-  where
-    within : (a b : ℕ) → leb a b ≡ true → a ≤ b
-    within a b t = grind (arith, nat_tests)
-
-    beyond : (a b : ℕ) → leb a b ≡ false → b < a
-    beyond a b f = grind (arith, nat_tests)
-
-apart : (a b : ℕ) → a ≢ b → eqb a b ≡ false
-apart a b ne = grind (arith, nat_tests)
+    elim (cases_lt end start) [
+      | inl lt ↦
+          let d : HashedRow = record { hash = 0; row = 0 } in
+          let below = first.point.0 end d (omega arith) lt in
+          let above = second.point.1 end d (omega arith) (omega (arith, first.bound)) in
+          absurd (omega (arith, below, above))
+      | inr le ↦ le
+    ]
 
 -- the rows of a hash are in its bucket
 in_bucket : (width hash start end : ℕ) (rows : List HashedRow) → IsBucketStart width rows (hash / width) start →
@@ -66,15 +56,10 @@ in_bucket width hash start end rows first second =
     (second.point.1 (start + k) d (omega arith) (omega (arith, first.bound))))))
   where
     before : (h : ℕ) → h / width < hash / width → eqb h hash ≡ false
-    before h lt = apart h hash (λ e. let same : h / width ≡ hash / width = ap (λ n. n / width) e in absurd (omega (arith, lt, same)))
+    before h lt = grind (arith, nat_tests)
 
     after : (h : ℕ) → hash / width + 1 ≤ h / width → eqb h hash ≡ false
-    after h le = apart h hash (λ e. let same : h / width ≡ hash / width = ap (λ n. n / width) e in absurd (omega (arith, le, same)))
-
-same_there : {X : Type 0} (xs : List X) (i : ℕ) (d e : X) → i < length xs → get_or xs i d ≡ get_or xs i e
-same_there [] i d e lt = absurd (omega arith)
-same_there (x ∷ xs) zero d e lt = refl
-same_there (x ∷ xs) (suc i) d e lt = same_there xs i d e (omega arith)
+    after h le = grind (arith, nat_tests)
 
 -- the rows before an index are of earlier buckets, and the one there isn't
 pub start_here : (width bucket start : ℕ) (rows : List HashedRow) → 0 < width → IsNonDecreasingBy (λ h. h.hash) rows → start ≤ length rows →
@@ -88,7 +73,7 @@ start_here width bucket start rows some order bound before e inside here =
         λ k d le within.
             le_trans here
             (div_rises (get_or rows start e).hash (get_or rows k d).hash width some
-            (rw (same_there rows start d e inside) at (order start k d le within))),
+            (rw (get_or_default rows start d e inside) at (order start k d le within))),
       );
     }
 
@@ -97,28 +82,12 @@ pub starts_more : (width index start : ℕ) (rows : List HashedRow) (starts star
     ((bucket : ℕ) → bucket < length starts → IsBucketStart width rows bucket (get_or starts bucket 0)) → IsBucketStart width rows index start →
     (bucket : ℕ) → bucket < length starts' → IsBucketStart width rows bucket (get_or starts' bucket 0)
 starts_more width index start rows starts starts' is count known more bucket lt =
-    let long = ap length is ∙ length-append starts (start ∷ []) in
-    subst (λ l. IsBucketStart width rows bucket (get_or l bucket 0)) (sym is)
-    (by_test (eqb bucket index)
-    (λ t.
-    let e = eqb-true bucket index t in
-    let at = get_or_push starts start 0 bucket (count ∙ sym e) in
-    subst (λ n. IsBucketStart width rows bucket n) (sym at) (subst (λ n. IsBucketStart width rows n start) (sym e) more))
-    (λ f.
-    let less : bucket < index = below bucket index f (omega arith) in
-    let inside : bucket < length starts = omega arith in
-    let at = get_or-append starts (start ∷ []) 0 bucket inside in
-    subst (λ n. IsBucketStart width rows bucket n) (sym at) (known bucket inside)))
-  where
-    below : (b p : ℕ) → eqb b p ≡ false → b ≤ p → b < p
-    below b p f le = grind (arith, nat_tests)
+    grind (arith, nat_tests, length-append, eqb-true, get_or_push, get_or-append)
 
 -- each hash has a bucket
 pub bucket_within : (width : ℕ) (rows : List HashedRow) (starts : List ℕ) → 2 ≤ width → AreStarts width rows starts →
     (hash index : ℕ) → hash < 2 ^ 64 → index ≡ hash / width → index + 1 < length starts
-bucket_within width rows starts wide are hash index fits is =
-    let last = div_rises hash (2 ^ 64 - 1) width (omega (arith, wide)) (omega (arith, fits)) in
-    omega (arith, last, is, are.count)
+bucket_within width rows starts wide are hash index fits is = grind (arith, nat_tests, div_rises)
 
 -- the rows of a hash lie between two starts
 pub between_starts : (width : ℕ) (rows : List HashedRow) (starts : List ℕ) → 2 ≤ width → AreStarts width rows starts →
@@ -137,5 +106,4 @@ between_starts width rows starts wide are hash index start end fits is from to =
     )
   where
     start_of : (p n : ℕ) → p < length starts → n ≡ get_or starts p n → IsBucketStart width rows p n
-    start_of p n lt at =
-        subst (λ m. IsBucketStart width rows p m) (sym (at ∙ same_there starts p n 0 lt)) (are.each p lt)
+    start_of p n lt at = grind (arith, nat_tests, get_or_default)

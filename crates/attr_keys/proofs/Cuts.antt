@@ -1,14 +1,12 @@
 -- Parts of texts that are cut from them, and texts that begin with others.
-use Rattle.std.proofs.Common.{◌≡◌, ◌≢◌, ℕ, zero, suc, ◌+◌, ◌<◌, ◌≤◌, ◌⊎◌, inl, inr, Bool}
-use Rattle.std.proofs.Common.{true, false, List, [], ◌∷◌, length, take, drop, map, refl, sym, ap}
-use Rattle.std.proofs.Common.{◌∙◌, arith, nat_eq, get_or}
-use Rattle.std.specs.Bool.{OnFalse}
+use Rattle.std.proofs.Common.{◌≡◌, ◌≢◌, ℕ, zero, suc, ◌+◌, ◌<◌, ◌≤◌, ◌⊎◌, Bool, true, false, List, [], ◌∷◌, length, take, drop, refl, sym, ap, ◌∙◌}
+use Rattle.std.proofs.Common.{arith, nat_eq, get_or}
 use Rattle.std.specs.Char.{to_ascii_lowercase}
 use Rattle.std.specs.Cmp.Lexicographic.{pointwise, bytes_decides, slice_cmp}
 use Rattle.std.specs.List.{starts_with}
 use Rattle.std.specs.Ordering.{nat_cmp}
 use Rattle.std.proofs.lemmas.Bool.Decides.{nat_tests}
-use Rattle.std.proofs.lemmas.List.{length-take-le}
+use Rattle.std.proofs.lemmas.List.{length-take-le, take-map}
 use Rattle.attr_keys.specs.inner.Cases.{in_case}
 use Rattle.attr_keys.specs.shared.Codes.{codes_of}
 use Rattle.attr_keys.specs.shared.Meeting.{directed}
@@ -17,18 +15,9 @@ use Rattle.attr_keys.proofs.Parts.{no_end, shifted}
 use Rattle.attr_keys.proofs.RowLemmas.{by_test}
 use Rattle.attr_keys.proofs.SeenTexts.{codes_in_case, directed_in_case, directed_twice, length-seen}
 
-pub on_false : {P : Type 0} (b : Bool) → (b ≡ false → P) → OnFalse b P
-on_false true f = tt
-on_false false f = f refl
-
-take_map : (f : ℕ → ℕ) (n : ℕ) (xs : List ℕ) → take n (map f xs) ≡ map f (take n xs)
-take_map f zero xs = refl
-take_map f (suc n) [] = refl
-take_map f (suc n) (x ∷ xs) = ap (λ l. f x ∷ l) (take_map f n xs)
-
 take_in_case : (fold : Bool) (n : ℕ) (text : List ℕ) → take n (in_case fold text) ≡ in_case fold (take n text)
 take_in_case false n text = refl
-take_in_case true n text = take_map to_ascii_lowercase n text
+take_in_case true n text = take-map to_ascii_lowercase n text
 
 directed_same : (from_end : Bool) (x y : List ℕ) → directed from_end x ≡ directed from_end y → x ≡ y
 directed_same from_end x y e = sym (directed_twice from_end x) ∙ (ap (directed from_end) e ∙ directed_twice from_end y)
@@ -67,10 +56,7 @@ pub begin_below : (x y : List ℕ) (w v : Bool) → starts_with nat_eq (codes_of
 begin_below x [] w v h = refl
 begin_below [] (c ∷ cs) true v h = let no : false ≡ true = rw (no_end c) at h in absurd cc
 begin_below [] (c ∷ cs) false v h = absurd cc
-begin_below (b ∷ bs) (c ∷ cs) w v h =
-    by_test (nat_eq c b)
-    (λ t. rw t (begin_below bs cs w v (rw (shifted c b, t) at h)))
-    (λ f. let no : false ≡ true = rw (shifted c b, f) at h in absurd cc)
+begin_below (b ∷ bs) (c ∷ cs) w v h = grind (arith, nat_tests, shifted, begin_below bs cs w v)
 
 -- codes don't begin with others if the texts don't
 pub none_begins : (fold from_end : Bool) (text part : List ℕ) (w v : Bool) (cs ds : List ℕ) → codes_of fold (directed from_end text) w ≡ cs →
@@ -89,22 +75,10 @@ pub ends_order : (n : ℕ) (x y : List ℕ) → n ≤ length x → n ≤ length 
 ends_order zero [] [] le le' end = refl
 ends_order zero [] (b ∷ ys) le le' end = grind (arith, nat_tests)
 ends_order zero (a ∷ xs) [] le le' end = grind (arith, nat_tests)
-ends_order zero (a ∷ xs) (b ∷ ys) le le' end = absurd (none end)
-  where
-    none : (zero ≡ suc (length xs)) ⊎ (zero ≡ suc (length ys)) → ⊥
-    none (inl e) = absurd (omega (arith, e))
-    none (inr e) = absurd (omega (arith, e))
+ends_order zero (a ∷ xs) (b ∷ ys) le le' end = absurd (grind arith)
 ends_order (suc n) [] y le le' end = absurd (omega arith)
 ends_order (suc n) (a ∷ xs) [] le le' end = absurd (omega arith)
-ends_order (suc n) (a ∷ xs) (b ∷ ys) le le' end =
-    ends_order n xs ys (omega arith) (omega arith) (less end) ∙ sym (up (length xs) (length ys))
-  where
-    up : (i j : ℕ) → nat_cmp (suc i) (suc j) ≡ nat_cmp i j
-    up i j = grind (arith, nat_tests)
-
-    less : (suc n ≡ suc (length xs)) ⊎ (suc n ≡ suc (length ys)) → (n ≡ length xs) ⊎ (n ≡ length ys)
-    less (inl e) = inl (omega (arith, e))
-    less (inr e) = inr (omega (arith, e))
+ends_order (suc n) (a ∷ xs) (b ∷ ys) le le' end = grind (arith, nat_tests, ends_order n xs ys)
 
 -- the first code of a text
 pub first_is : (fold : Bool) (text : List ℕ) (w : Bool) → 0 < length text →
@@ -118,22 +92,15 @@ common_codes : (text part : List ℕ) (w : Bool) (n : ℕ) → n ≤ length text
     (n < length text → n < length part → get_or text n 0 ≢ get_or part n 0) →
     starts_with nat_eq (codes_of false text true) (codes_of false part w) ≡ false →
     get_or (codes_of false text true) n 0 ≢ get_or (codes_of false part w) n 0
-common_codes [] [] true zero le le' same apart lacks e = let no : true ≡ false = lacks in absurd cc
-common_codes [] [] false zero le le' same apart lacks e = let no : true ≡ false = lacks in absurd cc
+common_codes [] [] true zero le le' same apart lacks e = absurd cc
+common_codes [] [] false zero le le' same apart lacks e = absurd cc
 common_codes [] (p ∷ ps) w zero le le' same apart lacks e = absurd (omega (arith, e))
 common_codes (t ∷ ts) [] true zero le le' same apart lacks e = absurd (omega (arith, e))
 common_codes (t ∷ ts) [] false zero le le' same apart lacks e = absurd (omega (arith, e))
 common_codes (t ∷ ts) (p ∷ ps) w zero le le' same apart lacks e = absurd (apart (omega arith) (omega arith) (omega (arith, e)))
 common_codes [] part w (suc n) le le' same apart lacks e = absurd (omega (arith, le))
 common_codes (t ∷ ts) [] w (suc n) le le' same apart lacks e = absurd (omega (arith, le'))
-common_codes (t ∷ ts) (p ∷ ps) w (suc n) le le' same apart lacks e =
-    let first : t ≡ p = ap (λ l. get_or l 0 0) same in
-    let alike : nat_eq (p + 2) (t + 2) ≡ true = equal t p first in
-    common_codes ts ps w n (omega (arith, le)) (omega (arith, le')) (ap (drop 1) same)
-    (λ a b. apart (omega (arith, a)) (omega (arith, b))) (rw alike at lacks) e
-  where
-    equal : (a b : ℕ) → a ≡ b → nat_eq (b + 2) (a + 2) ≡ true
-    equal a b e = grind (arith, nat_tests)
+common_codes (t ∷ ts) (p ∷ ps) w (suc n) le le' same apart lacks e = grind (arith, nat_tests, common_codes ts ps w n)
 
 -- what is cut from a text is what it has in common with a key, as they are read
 pub common_is : (fold from_end : Bool) (text part own : List ℕ) (w : Bool) (codes : List ℕ) (n : ℕ) →

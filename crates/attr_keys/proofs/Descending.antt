@@ -1,9 +1,9 @@
 -- Rows that pass a test, the greatest first.
-use Rattle.std.proofs.Common.{◌≡◌, ℕ, ◌+◌, ◌<◌, ◌≤◌, Bool, true, false, ◌||◌, ◌⊎◌, inl}
-use Rattle.std.proofs.Common.{inr, List, [], ◌∷◌, ◌++◌, length, refl, sym, ap, ◌∙◌, arith, eqb}
-use Rattle.std.specs.Prelude.{Some, get_or, map, option_map, slice_get, slice_index}
+use Rattle.std.proofs.Common.{◌≡◌, ℕ, ◌+◌, ◌<◌, ◌≤◌, Bool, true, false, ◌||◌, ◌⊎◌, inl, inr, List, [], ◌∷◌, ◌++◌, length, sym, ap, ◌∙◌, arith, eqb}
+use Rattle.std.specs.Prelude.{Some, get_or, map, slice_get, slice_index}
 use Rattle.std.proofs.Math.ListN.{get_or-append}
 use Rattle.std.proofs.Math.Seq.{get_or-append_seam}
+use Rattle.std.proofs.lemmas.Bool.Decides.{nat_tests}
 use Rattle.std.proofs.lemmas.Bool.{cases_eq, cases_lt, eq-eqb, ne_eqb}
 use Rattle.std.proofs.lemmas.List.{length-append}
 use Rattle.std.proofs.lemmas.List.Folds.{list_any-append}
@@ -63,12 +63,9 @@ push_from passes from next rows after pass are = record {
     has_other row ne = has_more row ∙ (ap (λ b. has_row rows row || b) (ne_eqb from row ne) ∙ or_none (has_row rows row))
 
     last : (k : ℕ) → k + 1 ≡ length rows → slice_index (rows ++ from ∷ []) (k + 1) < slice_index (rows ++ from ∷ []) k
-    last k e =
-        let le = are.above k (omega (arith, e)) in
-        rw (get_or-append rows (from ∷ []) 0 k (omega (arith, e)), e, get_or-append_seam rows from [] 0) (omega (arith, le, after))
+    last k e = grind (arith, nat_tests, get_or-append, get_or-append_seam)
 
 -- the key of a line
 pub key_at : {K : Type 0} (content : K → KeyContent) (lines : List K) (i : ℕ) (line : K) (key : KeyContent) → i < length lines →
     line ≡ get_or lines i line → key ≡ content line → slice_get (map content lines) i ≡ Some key
-key_at content lines i line key lt is same =
-    slice_get-map content lines i ∙ (ap (option_map content) (slice_get_read lines (length lines) i line refl lt is) ∙ ap Some (sym same))
+key_at content lines i line key lt is same = grind (arith, nat_tests, slice_get-map, slice_get_read)

@@ -1,12 +1,13 @@
 -- Whole keys and extensions, by the hashes of their texts.
-use Rattle.std.proofs.Common.{◌≡◌, ℕ, zero, suc, ◌<◌, ◌≤◌, Bool, true, false, not, ◌&&◌, ◌||◌, List, []}
-use Rattle.std.proofs.Common.{◌∷◌, ◌++◌, length, get_or, reverse, Option, None, Some, option_map, refl, sym, ap, subst}
-use Rattle.std.proofs.Common.{◌∙◌, arith, eqb, nat_eq}
+use Rattle.std.proofs.Common.{◌≡◌, ℕ, zero, suc, ◌<◌, ◌≤◌, Bool, true, false, not, ◌&&◌, ◌||◌, List, [], ◌∷◌, ◌++◌, length, get_or, reverse, Option}
+use Rattle.std.proofs.Common.{None, Some, option_map, refl, sym, ap, subst, ◌∙◌, arith, eqb, nat_eq}
 use Rattle.std.specs.Prelude.{All, filter, slice_get, unwrap_or}
 use Rattle.std.specs.List.{starts_with}
 use Rattle.std.specs.List.Sorted.{IsPermutation}
+use Rattle.std.proofs.lemmas.Grind.{common_steps}
 use Rattle.std.proofs.lemmas.List.Sorted.{IsPermutation-map, list_any-IsPermutation}
-use Rattle.std.proofs.lemmas.Bool.{eqb-true}
+use Rattle.std.proofs.lemmas.Bool.{eq-eqb, eqb-true}
+use Rattle.std.proofs.lemmas.List.{map_push}
 use Rattle.std.proofs.lemmas.List.Elements.{All-push}
 use Rattle.std.proofs.lemmas.Bool.Decides.{nat_tests}
 use Rattle.attr_keys.specs.shared.KeyContents.{KeyContent}
@@ -14,13 +15,13 @@ use Rattle.attr_keys.specs.declared.hashed.HashedRow.{HashedRow}
 use Rattle.attr_keys.specs.shared.Codes.{codes_of, key_codes, row_codes}
 use Rattle.attr_keys.specs.inner.Extensions.{is_hashed, is_reversed_extension}
 use Rattle.attr_keys.specs.shared.Meeting.{directed}
-use Rattle.attr_keys.specs.inner.Hashes.{AreAmong, AreNoLonger, IsHashOfKey, IsLonger}
-use Rattle.attr_keys.specs.inner.Hashes.{hash_of_row, hashed_part, hashed_rows, key_text, quick_hash, rows_of_hash, text_of_row}
+use Rattle.attr_keys.specs.inner.Hashes.{AreAmong, AreNoLonger, IsHashOfKey, IsLonger, hash_of_row, hashed_part, hashed_rows, key_text, quick_hash}
+use Rattle.attr_keys.specs.inner.Hashes.{rows_of_hash, text_of_row}
 use Rattle.attr_keys.specs.shared.Rows.{has_row}
 use Rattle.attr_keys.proofs.Cuts.{begin_below}
 use Rattle.attr_keys.proofs.ExtensionTexts.{extension_of_begun, part_in_case}
 use Rattle.attr_keys.proofs.Parts.{no_byte, no_end, shifted}
-use Rattle.attr_keys.proofs.RowLemmas.{and_none, by_test}
+use Rattle.attr_keys.proofs.RowLemmas.{and_none, by_test, or_true}
 use Rattle.attr_keys.proofs.SeenTexts.{directed_in_case, length-in_case}
 use Rattle.attr_keys.specs.inner.Cases.{in_case}
 
@@ -29,10 +30,7 @@ whole_same : (text key : List ℕ) → starts_with nat_eq (codes_of false text t
 whole_same [] [] h = refl
 whole_same (b ∷ bs) [] h = let no : false ≡ true = rw (no_byte b) at h in absurd cc
 whole_same [] (k ∷ ks) h = let no : false ≡ true = rw (no_end k) at h in absurd cc
-whole_same (b ∷ bs) (k ∷ ks) h =
-    by_test (nat_eq k b)
-    (λ t. ap (λ x. x ∷ ks) (eqb-true k b t) ∙ ap (λ l. b ∷ l) (whole_same bs ks (rw (shifted k b, t) at h)))
-    (λ f. let no : false ≡ true = rw (shifted k b, f) at h in absurd cc)
+whole_same (b ∷ bs) (k ∷ ks) h = grind (arith, nat_tests, eqb-true, shifted, whole_same bs ks)
 
 -- a text that has a key has the key's text where it is hashed
 part_found : (from_end : Bool) (keys : List KeyContent) (h : HashedRow) (key : Option KeyContent) → slice_get keys h.row ≡ key →
@@ -52,29 +50,18 @@ part_found true keys h (Some key) at is text has =
     extension_of_begun text key.text parts.1 begins
   where
     both : (w e : Bool) → not w && e ≡ true → (w ≡ false) × (e ≡ true)
-    both false e h = (refl, h)
-    both true e h = absurd cc
+    both w e h = grind arith
 
 has_own : (hashed : List HashedRow) (k : ℕ) (d : HashedRow) → k < length hashed → has_row (hashed_rows hashed) (get_or hashed k d).row ≡ true
 has_own [] k d lt = absurd (omega arith)
-has_own (h ∷ hs) zero d lt = ap (λ b. b || has_row (hashed_rows hs) h.row) (equal h.row)
-  where
-    equal : (a : ℕ) → eqb a a ≡ true
-    equal a = grind (arith, nat_tests)
+has_own (h ∷ hs) zero d lt = ap (λ b. b || has_row (hashed_rows hs) h.row) (eq-eqb h.row h.row refl)
 has_own (h ∷ hs) (suc k) d lt = ap (λ b. eqb h.row (get_or hs k d).row || b) (has_own hs k d (omega arith)) ∙ or_true (eqb h.row (get_or hs k d).row)
-  where
-    or_true : (a : Bool) → a || true ≡ true
-    or_true true = refl
-    or_true false = refl
 
 -- the hashes of keys that are found by them
 pub all_find : (from_end : Bool) (keys : List KeyContent) (rows : List ℕ) (hashed : List HashedRow) → hashed_rows hashed ≡ rows →
     ((row : ℕ) → has_row rows row ≡ true → is_hashed from_end (slice_get keys row) ≡ true) →
     All (λ (h : HashedRow). h.hash ≡ hash_of_row from_end keys h.row) hashed → All (IsHashOfKey from_end keys) hashed
-all_find from_end keys rows hashed are kinds hashes k d lt =
-    let h = get_or hashed k d in
-    let kind = kinds h.row (ap (λ l. has_row l h.row) (sym are) ∙ has_own hashed k d lt) in
-    record { kind = kind; hash = hashes k d lt; finds = part_found from_end keys h (slice_get keys h.row) refl kind }
+all_find from_end keys rows hashed are kinds hashes k d lt = grind (arith, nat_tests, has_own, part_found)
 
 -- rows of a number are kept
 kept_rows : (row : ℕ) (test : HashedRow → Bool) (rows : List HashedRow) → ((k : ℕ) (d : HashedRow) → k < length rows →
@@ -92,26 +79,13 @@ kept_rows row test (h ∷ hs) kept =
 -- the rows of a hash are all of that hash
 pub of_hash_again : (hash : ℕ) (rows : List HashedRow) → rows_of_hash hash (rows_of_hash hash rows) ≡ rows_of_hash hash rows
 of_hash_again hash [] = refl
-of_hash_again hash (h ∷ hs) =
-    by_test (eqb h.hash hash)
-    (λ t. rw (t, t) (ap (λ l. h ∷ l) (of_hash_again hash hs)))
-    (λ f. rw f (of_hash_again hash hs))
+of_hash_again hash (h ∷ hs) = grind (arith, nat_tests, of_hash_again hash hs)
 
 -- no key of another hash is had
 pub alike_rows : (has : ℕ → Bool) (row : ℕ) (rows alike : List HashedRow) (hash : ℕ) →
     All (λ h. has h.row ≡ true → h.hash ≡ hash) rows → rows_of_hash hash alike ≡ rows_of_hash hash rows →
     has_row (hashed_rows (rows_of_hash hash alike)) row && has row ≡ has_row (hashed_rows rows) row && has row
-alike_rows has row rows alike hash hashes same =
-    ap (λ l. has_row (hashed_rows l) row && has row) same
-    ∙ by_test (has row)
-    (λ t. ap (λ b. b && has row) (kept_rows row (λ h. eqb h.hash hash) rows
-    (λ k d lt e.
-    let h = get_or rows k d in
-    equal h.hash hash (hashes k d lt (ap has (eqb-true h.row row e) ∙ t)))))
-    (λ f. rw f (and_none (has_row (hashed_rows (filter (λ h. eqb h.hash hash) rows)) row) ∙ sym (and_none (has_row (hashed_rows rows) row))))
-  where
-    equal : (a b : ℕ) → a ≡ b → eqb a b ≡ true
-    equal a b e = grind (arith, nat_tests)
+alike_rows has row rows alike hash hashes same = grind (arith, nat_tests, kept_rows, eq-eqb, eqb-true, and_none)
 
 -- no key is had at all
 pub no_row : (has : ℕ → Bool) (row : ℕ) (rows : List HashedRow) → All (λ h. has h.row ≡ true → ⊥) rows →
@@ -125,8 +99,7 @@ no_row has row (h ∷ hs) none =
     (λ f. rw f (and_none (eqb h.row row || has_row (hashed_rows hs) row)))
 
 pub rows_push : (hashed : List HashedRow) (h : HashedRow) → hashed_rows (hashed ++ h ∷ []) ≡ hashed_rows hashed ++ h.row ∷ []
-rows_push [] h = refl
-rows_push (g ∷ gs) h = ap (λ l. g.row ∷ l) (rows_push gs h)
+rows_push hashed h = map_push (λ (r : HashedRow). r.row) hashed h
 
 -- the hash of a key is that of the part of a text that has the key
 pub hash_of_part : (part : Option (List ℕ)) (text key : List ℕ) (hash : ℕ) → part ≡ Some text → part ≡ Some key → hash ≡ quick_hash key →
@@ -146,22 +119,18 @@ found_in_case fold from_end text keys h is has =
 
 pub longer_in_case : (fold : Bool) (longest : ℕ) (part : Option (List ℕ)) → IsLonger longest part → IsLonger longest (option_map (in_case fold) part)
 longer_in_case fold longest None longer text is = absurd cc
-longer_in_case fold longest (Some part) longer text is =
-    let e = ap (λ o. length (unwrap_or o [])) is in
-    omega (arith, longer part refl, length-in_case fold part, e)
+longer_in_case fold longest (Some part) longer text is = grind (arith, nat_tests, length-in_case)
 
 -- those of some keys of another order, and of some of them
 pub no_longer_push : (from_end : Bool) (keys : List KeyContent) (most more : ℕ) (rows : List HashedRow) (row : HashedRow) →
     AreNoLonger from_end keys most rows → most ≤ more → length (text_of_row from_end keys row.row) ≤ more →
     AreNoLonger from_end keys more (rows ++ row ∷ [])
-no_longer_push from_end keys most more rows row short le last =
-    All-push (λ h. length (text_of_row from_end keys h.row) ≤ more) rows row (λ k d lt. let a = short k d lt in omega (arith, a, le)) last
+no_longer_push from_end keys most more rows row short le last = grind (arith, common_steps, All-push)
 
 -- in another order there are the same numbers
 pub rows_moved : (rows moved : List HashedRow) → IsPermutation rows moved → (row : ℕ) →
     has_row (hashed_rows moved) row ≡ has_row (hashed_rows rows) row
-rows_moved rows moved p row =
-    sym (list_any-IsPermutation (λ r. eqb r row) _ _ (IsPermutation-map (λ (h : HashedRow). h.row) _ _ p))
+rows_moved rows moved p row = grind (arith, nat_tests, list_any-IsPermutation, IsPermutation-map)
 
 -- what is true of each row is true of some
 pub all_among : (P : HashedRow → Type 0) (some all : List HashedRow) → AreAmong some all → All P all → All P some

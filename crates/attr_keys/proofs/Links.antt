@@ -1,6 +1,6 @@
 -- Rows in the order of their keys, of which those are sought that a text begins with.
 use Rattle.std.proofs.Common.{◌≡◌, ◌≢◌, ℕ, zero, suc, ◌+◌, ◌-◌, ◌<◌, ◌≤◌, ◌⊎◌, inl, inr, Bool, true, false, not, ◌&&◌, ◌||◌, List, [], ◌∷◌, ◌++◌}
-use Rattle.std.proofs.Common.{length, drop, take, get_or, refl, sym, ap, subst, ◌∙◌, arith, eqb, leb, nat_eq}
+use Rattle.std.proofs.Common.{length, drop, take, get_or, refl, sym, ap, ◌∙◌, arith, eqb, leb, nat_eq}
 use Rattle.std.specs.Cmp.Lexicographic.{slice_cmp, nat_list_cmp_total}
 use Rattle.std.specs.List.{starts_with}
 use Rattle.std.specs.List.Sorted.{IsPartitionedBy}
@@ -8,7 +8,7 @@ use Rattle.std.specs.Ordering.{nat_cmp, is_lt}
 use Rattle.std.specs.declared.cmp.Ordering.TheVariants.{Less}
 use Rattle.std.proofs.Math.ListN.{get_or-append}
 use Rattle.std.proofs.Math.Seq.{drop-cons}
-use Rattle.std.proofs.lemmas.Bool.{eqb-true}
+use Rattle.std.proofs.lemmas.Bool.{eqb-true, not-true}
 use Rattle.std.proofs.lemmas.Bool.Decides.{nat_tests}
 use Rattle.std.proofs.lemmas.List.{get_or-drop, get_or_push, length-append, length-drop}
 use Rattle.std.proofs.lemmas.List.Folds.{list_any-append}
@@ -25,25 +25,14 @@ below : (a b : ℕ) → a < b → nat_cmp a b ≡ Less
 below a b lt = grind (arith, nat_tests)
 
 sides : (a b : ℕ) → nat_eq a b ≡ false → (a < b) ⊎ (b < a)
-sides zero zero f = absurd cc
-sides zero (suc b) f = inl (omega arith)
-sides (suc a) zero f = inr (omega arith)
-sides (suc a) (suc b) f = elim (sides a b (less a b f)) [ inl l ↦ inl (omega arith) | inr l ↦ inr (omega arith) ]
-  where
-    less : (i j : ℕ) → nat_eq (suc i) (suc j) ≡ false → nat_eq i j ≡ false
-    less i j f = grind (arith, nat_tests)
+sides a b f = grind (arith, nat_tests)
 
 -- what a text begins with is not after it
 begun_before : (text key : List ℕ) → starts_with nat_eq text key ≡ true → is_lt (slice_cmp nat_cmp text key) ≡ false
 begun_before [] [] h = refl
 begun_before (d ∷ t) [] h = refl
 begun_before [] (c ∷ q) h = absurd cc
-begun_before (d ∷ t) (c ∷ q) h =
-    by_test (nat_eq c d)
-    (λ e.
-    let same : nat_cmp d c ≡ nat_cmp d d = ap (nat_cmp d) (eqb-true c d e) in
-    rw (same, itself) (begun_before t q (rw e at h)))
-    (λ e. let no : false ≡ true = rw e at h in absurd cc)
+begun_before (d ∷ t) (c ∷ q) h = grind (arith, nat_tests, eqb-true, itself, begun_before t q)
 
 -- what stands between a text and what this begins with begins with it, too
 between_begins : (key mid text : List ℕ) → is_lt (slice_cmp nat_cmp mid key) ≡ false → is_lt (slice_cmp nat_cmp text mid) ≡ false →
@@ -51,26 +40,7 @@ between_begins : (key mid text : List ℕ) → is_lt (slice_cmp nat_cmp mid key)
 between_begins [] mid text low high h = refl
 between_begins (c ∷ q) mid [] low high h = absurd cc
 between_begins (c ∷ q) [] (d ∷ t) low high h = absurd cc
-between_begins (c ∷ q) (a ∷ m) (d ∷ t) low high h =
-    by_test (nat_eq c d)
-    (λ e. by_test (nat_eq c a)
-    (λ f.
-    let same : nat_cmp a c ≡ nat_cmp a a = ap (nat_cmp a) (eqb-true c a f) in
-    let same' : nat_cmp d a ≡ nat_cmp d d = ap (nat_cmp d) (sym (eqb-true c a f) ∙ eqb-true c d e) in
-    rw f (between_begins q m t (rw (same, itself) at low) (rw (same', itself) at high) (rw e at h)))
-    (λ f. absurd (elim (sides c a f) [
-      | inl lt ↦
-          let less : nat_cmp d a ≡ Less = ap (λ n. nat_cmp n a) (sym (eqb-true c d e)) ∙ below c a lt in
-          let no : true ≡ false = rw less at high in absurd cc
-      | inr lt ↦
-          let less : nat_cmp a c ≡ Less = below a c lt in
-          let no : true ≡ false = rw less at low in absurd cc
-    ])))
-    (λ e. let no : false ≡ true = rw e at h in absurd cc)
-
-not_true : (b : Bool) → not b ≡ true → b ≡ false
-not_true true h = absurd cc
-not_true false h = refl
+between_begins (c ∷ q) (a ∷ m) (d ∷ t) low high h = grind (arith, nat_tests, eqb-true, itself, sides, below, between_begins q m t)
 
 far : (keys : List KeyContent) (rows : List ℕ) → AreInOrder keys rows → (i j : ℕ) → i ≤ j → j < length rows →
     is_lt (slice_cmp nat_cmp (row_codes keys (get_or rows j 0)) (row_codes keys (get_or rows i 0))) ≡ false
@@ -82,13 +52,7 @@ far keys rows order i j ij within =
 pub none_between : (keys : List KeyContent) (rows : List ℕ) (text : List ℕ) (index end : ℕ) → AreInOrder keys rows → index < length rows →
     is_up_to text (row_codes keys (get_or rows index 0)) ≡ true → IsLink keys rows index end → (k : ℕ) → end ≤ k → k < index →
     starts_with nat_eq text (row_codes keys (get_or rows k 0)) ≡ false
-none_between keys rows text index end order within up link k le lt =
-    by_test (starts_with nat_eq text (row_codes keys (get_or rows k 0)))
-    (λ t.
-    let begins = between_begins (row_codes keys (get_or rows k 0)) (row_codes keys (get_or rows index 0)) text
-    (far keys rows order k index (omega arith) within) (not_true _ up) t in
-    let no : false ≡ true = sym (link.none k le lt) ∙ begins in absurd cc)
-    (λ f. f)
+none_between keys rows text index end order within up link k le lt = grind (arith, nat_tests, between_begins, far, not-true)
 
 -- a shorter link, if the row before the old end is none
 pub link_less : (keys : List KeyContent) (rows : List ℕ) (index end end' : ℕ) → AreInOrder keys rows → index < length rows → 0 < end →
@@ -119,21 +83,7 @@ link_less keys rows index end end' order within some link other before =
 -- one more link
 pub links_more : (keys : List KeyContent) (rows links links' : List ℕ) (end : ℕ) → links' ≡ links ++ end ∷ [] → AreLinks keys rows links →
     IsLink keys rows (length links) end → AreLinks keys rows links'
-links_more keys rows links links' end is known more index lt =
-    let long = ap length is ∙ length-append links (end ∷ []) in
-    subst (λ l. IsLink keys rows index (get_or l index 0)) (sym is)
-    (by_test (eqb index (length links))
-    (λ t.
-    let e = eqb-true index (length links) t in
-    let at = get_or_push links end 0 index (sym e) in
-    subst (λ n. IsLink keys rows index n) (sym at) (subst (λ n. IsLink keys rows n end) (sym e) more))
-    (λ f.
-    let inside = lower index (length links) f (omega (arith, lt, long)) in
-    let at = get_or-append links (end ∷ []) 0 index inside in
-    subst (λ n. IsLink keys rows index n) (sym at) (known index inside)))
-  where
-    lower : (b p : ℕ) → eqb b p ≡ false → b < p + 1 → b < p
-    lower b p f le = grind (arith, nat_tests)
+links_more keys rows links links' end is known more index lt = grind (arith, nat_tests, length-append, eqb-true, get_or_push, get_or-append)
 
 -- rows that pass no test
 none_in : (has : ℕ → Bool) (xs : List ℕ) (row : ℕ) → ((k : ℕ) → k < length xs → has (get_or xs k 0) ≡ false) → has_row xs row && has row ≡ false
@@ -183,15 +133,7 @@ linked_more has old found rows index end row lt le none passes known =
     ∙ ap (λ b. has_row old row || b) (sym (last_row has rows index end row lt le none))))
   where
     merge : (o d h b : Bool) → (b ≡ true → h ≡ true) → (o || (d && h)) || (b || false) ≡ o || ((b || d) && h)
-    merge true d h b p = refl
-    merge false true true true p = refl
-    merge false true true false p = refl
-    merge false true false true p = sym (p refl)
-    merge false true false false p = refl
-    merge false false true true p = refl
-    merge false false true false p = refl
-    merge false false false true p = sym (p refl)
-    merge false false false false p = refl
+    merge o d h b p = grind arith
 
 -- a row that fails it was not
 pub linked_less : (has : ℕ → Bool) (old found rows : List ℕ) (index end row : ℕ) → index < length rows → end ≤ index →
@@ -205,29 +147,21 @@ linked_less has old found rows index end row lt le none fails known =
     ∙ ap (λ b. has_row old row || b) (sym (last_row has rows index end row lt le none)))
   where
     merge : (o d h b : Bool) → (b ≡ true → h ≡ false) → o || (d && h) ≡ o || ((b || d) && h)
-    merge true d h b p = refl
-    merge false d h false p = refl
-    merge false true h true p = refl
-    merge false false true true p = sym (p refl)
-    merge false false false true p = refl
+    merge o d h b p = grind arith
 
 -- the keys that are not after a text come first
 pub up_to_first : (keys : List KeyContent) (rows : List ℕ) (text : List ℕ) → AreInOrder keys rows →
     IsPartitionedBy (λ row. is_up_to text (row_codes keys row)) rows
 up_to_first keys rows text order i j d le lt e =
     let weak = ranks_by nat_list_cmp_total (λ (x : List ℕ). x) in
-    ap not (weak.chain text (row_codes keys (get_or rows j d)) (row_codes keys (get_or rows i d)) (not_true _ e)
+    ap not (weak.chain text (row_codes keys (get_or rows j d)) (row_codes keys (get_or rows i d)) (not-true _ e)
     (sorted_far (λ x y. is_lt (slice_cmp nat_cmp (row_codes keys x) (row_codes keys y))) (ranks_by nat_list_cmp_total (row_codes keys)) rows order
     i j d le lt))
 
 -- keys after a text are none that it begins with
 none_after : (keys : List KeyContent) (row : ℕ) (text : List ℕ) → is_up_to text (row_codes keys row) ≡ false →
     starts_with nat_eq text (row_codes keys row) ≡ false
-none_after keys row text after =
-    by_test (starts_with nat_eq text (row_codes keys row))
-    (λ t.
-    let no : true ≡ false = sym (ap not (begun_before text (row_codes keys row) t)) ∙ after in absurd cc)
-    (λ f. f)
+none_after keys row text after = grind (arith, nat_tests, begun_before)
 
 pub none_dropped : (keys : List KeyContent) (rows : List ℕ) (text : List ℕ) (from : ℕ) →
     ((k : ℕ) → from ≤ k → k < length rows → is_up_to text (row_codes keys (get_or rows k 0)) ≡ false) → (row : ℕ) →
@@ -246,18 +180,8 @@ no_longer : (text key codes : List ℕ) (n : ℕ) → get_or text n 0 ≢ get_or
 no_longer text key [] n apart h h' = omega arith
 no_longer [] key (c ∷ cs) n apart h h' = absurd cc
 no_longer (t ∷ ts) [] (c ∷ cs) n apart h h' = absurd cc
-no_longer (t ∷ ts) (k ∷ ks) (c ∷ cs) zero apart h h' =
-    by_test (nat_eq c t)
-    (λ e. by_test (nat_eq c k)
-    (λ f. absurd (apart (sym (eqb-true c t e) ∙ eqb-true c k f)))
-    (λ f. let no : false ≡ true = rw f at h' in absurd cc))
-    (λ e. let no : false ≡ true = rw e at h in absurd cc)
-no_longer (t ∷ ts) (k ∷ ks) (c ∷ cs) (suc n) apart h h' =
-    by_test (nat_eq c t)
-    (λ e. by_test (nat_eq c k)
-    (λ f. let le = no_longer ts ks cs n apart (rw e at h) (rw f at h') in omega (arith, le))
-    (λ f. let no : false ≡ true = rw f at h' in absurd cc))
-    (λ e. let no : false ≡ true = rw e at h in absurd cc)
+no_longer (t ∷ ts) (k ∷ ks) (c ∷ cs) zero apart h h' = grind (arith, nat_tests, eqb-true)
+no_longer (t ∷ ts) (k ∷ ks) (c ∷ cs) (suc n) apart h h' = grind (arith, nat_tests, no_longer ts ks cs n apart)
 
 -- what the codes of a text begin with stands in so many of its bytes
 begins_short : (text codes : List ℕ) (n : ℕ) → n ≤ length text → length codes ≤ n → starts_with nat_eq (codes_of false text true) codes ≡ true →
@@ -265,10 +189,7 @@ begins_short : (text codes : List ℕ) (n : ℕ) → n ≤ length text → lengt
 begins_short text [] n within le h = refl
 begins_short text (c ∷ cs) zero within le h = absurd (omega (arith, le))
 begins_short [] (c ∷ cs) (suc n) within le h = absurd (omega (arith, within))
-begins_short (b ∷ bs) (c ∷ cs) (suc n) within le h =
-    by_test (nat_eq c (b + 2))
-    (λ e. rw e (begins_short bs cs n (omega (arith, within)) (omega (arith, le)) (rw e at h)))
-    (λ e. let no : false ≡ true = rw e at h in absurd cc)
+begins_short (b ∷ bs) (c ∷ cs) (suc n) within le h = grind (arith, nat_tests, begins_short bs cs n)
 
 -- no row after what a text has in common with a key has a key that the text has
 pub none_common : (keys : List KeyContent) (rows : List ℕ) (text common : List ℕ) (index end : ℕ) → AreInOrder keys rows → index < length rows →
@@ -277,18 +198,7 @@ pub none_common : (keys : List KeyContent) (rows : List ℕ) (text common : List
     ((k : ℕ) → end ≤ k → k < length rows → is_up_to (codes_of false common false) (row_codes keys (get_or rows k 0)) ≡ false) →
     (k : ℕ) → end ≤ k → k < index → starts_with nat_eq (codes_of false text true) (row_codes keys (get_or rows k 0)) ≡ false
 none_common keys rows text common index end order within up is after k le lt =
-    let key = row_codes keys (get_or rows k 0) in
-    let mid = row_codes keys (get_or rows index 0) in
-    let whole = codes_of false text true in
-    by_test (starts_with nat_eq whole key)
-    (λ t.
-    let begins = between_begins key mid whole (far keys rows order k index (omega (arith, lt)) within) (not_true _ up) t in
-    let short = no_longer whole mid key (length common) is.apart t begins in
-    let stands = begins_short text key (length common) is.bound short t in
-    let before : is_up_to (codes_of false (take (length common) text) false) key ≡ true = ap not (begun_before _ key stands) in
-    let no : true ≡ false = sym before ∙ (ap (λ l. is_up_to (codes_of false l false) key) (sym is.begins) ∙ after k le (omega (arith, lt, within))) in
-    absurd cc)
-    (λ f. f)
+    grind (arith, nat_tests, between_begins, far, not-true, no_longer, begins_short, begun_before)
 
 -- no row between the lesser of two ends and a row
 pub none_lesser : (has : ℕ → Bool) (rows : List ℕ) (index end other least : ℕ) → (least ≡ end) ⊎ (least ≡ other) →
@@ -296,8 +206,3 @@ pub none_lesser : (has : ℕ → Bool) (rows : List ℕ) (index end other least 
     (k : ℕ) → least ≤ k → k < index → has (get_or rows k 0) ≡ false
 none_lesser has rows index end other least (inl e) one two k le lt = one k (omega (arith, e, le)) lt
 none_lesser has rows index end other least (inr e) one two k le lt = two k (omega (arith, e, le)) lt
-
-pub either_order : (a b : ℕ) → (a ≤ b) ⊎ (b < a)
-either_order zero b = inl (omega arith)
-either_order (suc a) zero = inr (omega arith)
-either_order (suc a) (suc b) = elim (either_order a b) [ inl l ↦ inl (omega arith) | inr l ↦ inr (omega arith) ]

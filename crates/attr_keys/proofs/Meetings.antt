@@ -1,11 +1,11 @@
 -- Which numbers are those of a subject's keys, and which keys the texts have.
-use Rattle.std.proofs.Common.{◌≡◌, ◌≢◌, ℕ, zero, suc, ◌+◌, ◌<◌, Bool, true, false, ◌&&◌, ◌||◌, List, [], ◌∷◌, ◌++◌, length, take, get_or, reverse}
-use Rattle.std.proofs.Common.{map, refl}
-use Rattle.std.proofs.Common.{sym, ap, ◌∙◌, arith, eqb, nat_eq, add-one, Option, Some, None}
+use Rattle.std.proofs.Common.{◌≡◌, ◌≢◌, ℕ, zero, suc, ◌+◌, ◌<◌, Bool, true, false, ◌||◌, List, [], ◌∷◌, ◌++◌, length, take, get_or, reverse, map}
+use Rattle.std.proofs.Common.{refl, sym, ap, ◌∙◌, arith, nat_eq, add-one, Option, Some, None}
 use Rattle.std.specs.List.{starts_with}
 use Rattle.std.specs.Prelude.{slice_get}
+use Rattle.std.proofs.lemmas.Grind.{common_steps}
 use Rattle.std.proofs.lemmas.List.{take_more}
-use Rattle.std.proofs.lemmas.Bool.{eqb-true}
+use Rattle.std.proofs.lemmas.Bool.{eqb-false, eqb-true}
 use Rattle.std.proofs.lemmas.Bool.Decides.{nat_tests}
 use Rattle.std.proofs.lemmas.List.Folds.{list_any-append}
 use Rattle.attr_keys.specs.declared.key.Key.{Key}
@@ -16,11 +16,11 @@ use Rattle.attr_keys.specs.shared.Codes.{codes_of}
 use Rattle.attr_keys.specs.inner.Cases.{in_case, content_in_case}
 use Rattle.attr_keys.specs.declared.kinds.Kind.{Kind}
 use Rattle.attr_keys.specs.inner.Kinds.{is_of, kind_of, rows_with, same_kind}
-use Rattle.attr_keys.specs.shared.Meeting.{directed, is_end, same_subject, is_about, has_content, key_content, content_met_at, content_met_by}
+use Rattle.attr_keys.specs.shared.Meeting.{directed, is_end, is_about, has_content, key_content, content_met_at, content_met_by}
 use Rattle.attr_keys.specs.inner.Orders.{gathered}
 use Rattle.attr_keys.specs.shared.Rows.{has_row}
 use Rattle.attr_keys.proofs.SeenTexts.{codes_in_case, directed_in_case}
-use Rattle.attr_keys.proofs.RowLemmas.{by_test, or_none}
+use Rattle.attr_keys.proofs.RowLemmas.{by_test, or_none, or_true}
 
 get_here : {K : Type 0} (content : K → KeyContent) (lines : List K) (i : ℕ) (d : K) → i < length lines →
     slice_get (map content (take (suc i) lines)) i ≡ Some (content (get_or lines i d))
@@ -43,34 +43,13 @@ get_other content (l ∷ ls) zero (suc r) apart = refl
 get_other content (l ∷ ls) (suc i) zero apart = refl
 get_other content (l ∷ ls) (suc i) (suc r) apart = get_other content ls i r (λ e. apart (ap suc e))
 
-or_true : (a : Bool) → a || true ≡ true
-or_true true = refl
-or_true false = refl
-
-unequal : (a b : ℕ) → eqb a b ≡ false → a ≢ b
-unequal a b f e = grind (arith, nat_tests)
-
 -- one more key passes a test
 about_more : {K : Type 0} (content : K → KeyContent) (test : Option KeyContent → Bool) (lines : List K) (rows : List ℕ) (i : ℕ) (line : K) →
     i < length lines → line ≡ get_or lines i line → test (Some (content line)) ≡ true →
     ((r : ℕ) → has_row rows r ≡ test (slice_get (map content (take i lines)) r)) →
     (r : ℕ) → has_row (rows ++ i ∷ []) r ≡ test (slice_get (map content (take (i + 1) lines)) r)
 about_more content test lines rows i line lt at passes known r =
-    list_any-append (λ n. eqb n r) rows (i ∷ [])
-    ∙ by_test (eqb i r)
-    (λ t.
-    let e = eqb-true i r t in
-    ap (λ b. has_row rows r || (b || false)) t
-    ∙ (or_true (has_row rows r)
-    ∙ sym (ap (λ n. test (slice_get (map content (take n lines)) r)) (add-one i)
-    ∙ (ap (λ n. test (slice_get (map content (take (suc i) lines)) n)) (sym e)
-    ∙ (ap test (get_here content lines i line lt ∙ ap (λ l. Some (content l)) (sym at)) ∙ passes)))))
-    (λ f.
-    ap (λ b. has_row rows r || (b || false)) f
-    ∙ (or_none (has_row rows r)
-    ∙ (known r
-    ∙ sym (ap (λ n. test (slice_get (map content (take n lines)) r)) (add-one i)
-    ∙ ap test (get_other content lines i r (unequal i r f))))))
+    grind (arith, nat_tests, list_any-append, eqb-true, or_true, add-one, get_here, or_none, get_other, eqb-false)
 
 -- one more key doesn't
 about_less : {K : Type 0} (content : K → KeyContent) (test : Option KeyContent → Bool) (lines : List K) (rows : List ℕ) (i : ℕ) (line : K) →
@@ -78,19 +57,7 @@ about_less : {K : Type 0} (content : K → KeyContent) (test : Option KeyContent
     ((r : ℕ) → has_row rows r ≡ test (slice_get (map content (take i lines)) r)) →
     (r : ℕ) → has_row rows r ≡ test (slice_get (map content (take (i + 1) lines)) r)
 about_less content test lines rows i line lt at nothing fails known r =
-    known r
-    ∙ by_test (eqb i r)
-    (λ t.
-    let e = eqb-true i r t in
-    ap (λ n. test (slice_get (map content (take i lines)) n)) (sym e)
-    ∙ (ap test (get_past content lines i)
-    ∙ (nothing
-    ∙ sym (ap (λ n. test (slice_get (map content (take n lines)) r)) (add-one i)
-    ∙ (ap (λ n. test (slice_get (map content (take (suc i) lines)) n)) (sym e)
-    ∙ (ap test (get_here content lines i line lt ∙ ap (λ l. Some (content l)) (sym at)) ∙ fails))))))
-    (λ f.
-    sym (ap (λ n. test (slice_get (map content (take n lines)) r)) (add-one i)
-    ∙ ap test (get_other content lines i r (unequal i r f))))
+    grind (arith, nat_tests, eqb-true, get_past, add-one, get_here, get_other, eqb-false)
 
 -- one more line among those of a kind
 pub kinds_more : {K : Type 0} (content : K → KeyContent) (k : Kind) (lines : List K) (rows : List ℕ) (i : ℕ) (line : K) →
@@ -106,19 +73,7 @@ pub lower_more : {K : Type 0} (content : K → KeyContent) (lines : List K) (i :
     content_in_case true (content line) ≡ content line →
     map (content_in_case true) (map content (take i lines)) ≡ map content (take i lines) →
     map (content_in_case true) (map content (take (i + 1) lines)) ≡ map content (take (i + 1) lines)
-lower_more content lines i line lt at lower known =
-    let low = content_in_case true in
-    let before = take i lines in
-    let more = take_more lines i line lt ∙ ap (λ l. before ++ l ∷ []) (sym at) in
-    ap (λ l. map low (map content l)) more
-    ∙ (ap (map low) (snoc content before line)
-    ∙ (snoc low (map content before) (content line)
-    ∙ (ap (λ l. l ++ low (content line) ∷ []) known
-    ∙ (ap (λ k. map content before ++ k ∷ []) lower ∙ (sym (snoc content before line) ∙ ap (map content) (sym more))))))
-  where
-    snoc : {A B : Type 0} (f : A → B) (xs : List A) (x : A) → map f (xs ++ x ∷ []) ≡ map f xs ++ f x ∷ []
-    snoc f [] x = refl
-    snoc f (y ∷ xs) x = ap (λ l. f y ∷ l) (snoc f xs x)
+lower_more content lines i line lt at lower known = grind (arith, common_steps, take_more)
 
 -- a key's text without a capital letter
 pub lower_content : (key : Key) → in_case true key.text.now ≡ key.text.now → content_in_case true (key_content key) ≡ key_content key
@@ -133,20 +88,7 @@ lower_content key same =
 gathered_or_any : (name path : List ℕ) (key : Option KeyContent) → gathered name path key || is_about Anything key
     ≡ content_met_at false name path key
 gathered_or_any name path None = refl
-gathered_or_any name path (Some key) = by_subject key.subject
-  where
-    has : List ℕ → Bool
-    has text = has_content false text key
-
-    by_subject : (subject : Subject) →
-        ((same_subject Name subject && has name) || (same_subject End subject && has (reverse name))
-        || (same_subject Path subject && has path)) || same_subject Anything subject
-        ≡ content_met_by false name path subject key
-    by_subject Name = or_none ((has name || false) || false) ∙ (or_none (has name || false) ∙ or_none (has name))
-    by_subject End = or_none (has (reverse name) || false) ∙ or_none (has (reverse name))
-    by_subject Path = or_none (has path)
-    by_subject Anything = refl
-    by_subject Nothing = refl
+gathered_or_any name path (Some key) = grind (arith, nat_tests, or_none)
 
 has_in_case : (fold : Bool) (text : List ℕ) (key : KeyContent) → has_content false (in_case fold text) (content_in_case fold key)
     ≡ has_content fold text key
@@ -179,9 +121,4 @@ any_in_case fold (key ∷ keys) (suc row) = any_in_case fold keys row
 pub met_of_gathered : (fold : Bool) (name path : List ℕ) (keys : List KeyContent) (row : ℕ) →
     gathered (in_case fold name) (in_case fold path) (slice_get (map (content_in_case fold) keys) row) || is_about Anything (slice_get keys row)
     ≡ content_met_at fold name path (slice_get keys row)
-met_of_gathered fold name path keys row =
-    let name' = in_case fold name in
-    let path' = in_case fold path in
-    let lower = slice_get (map (content_in_case fold) keys) row in
-    ap (λ b. gathered name' path' lower || b) (sym (any_in_case fold keys row))
-    ∙ (gathered_or_any name' path' lower ∙ met_in_case fold name path keys row)
+met_of_gathered fold name path keys row = grind (arith, nat_tests, any_in_case, gathered_or_any, met_in_case)

@@ -1,17 +1,15 @@
 -- Halving finds the elements of one hash in a list whose hashes don't fall.
-use Rattle.std.proofs.Common.{◌≡◌, ℕ, zero, suc, ◌+◌, ◌-◌, ◌<◌, ◌≤◌, Bool, true, false, List, [], ◌∷◌, length, take, drop, get_or, refl, sym, ap, ◌∙◌}
-use Rattle.std.proofs.Common.{arith}
-use Rattle.std.proofs.Common.{eqb, leb, ltb}
+use Rattle.std.proofs.Common.{◌≡◌, ℕ, zero, suc, ◌-◌, ◌<◌, ◌≤◌, Bool, true, false, List, [], ◌∷◌, length, take, drop, get_or, refl, sym, ap, ◌∙◌}
+use Rattle.std.proofs.Common.{arith, eqb, leb, ltb}
 use Rattle.std.specs.List.{filter}
 use Rattle.std.specs.List.Sorted.{IsPartitionPoint}
 use Rattle.std.proofs.lemmas.Bool.Decides.{nat_tests}
-use Rattle.std.proofs.lemmas.List.{length-drop, get_or-drop}
+use Rattle.std.proofs.lemmas.List.{length-drop, get_or-drop, take_all}
 
 -- what the first elements fail is dropped
 pub filter_drop : {X : Type 0} (p : X → Bool) (d : X) (i : ℕ) (xs : List X) → ((k : ℕ) → k < i → k < length xs → p (get_or xs k d) ≡ false) →
     filter p xs ≡ filter p (drop i xs)
-filter_drop p d zero [] out = refl
-filter_drop p d zero (x ∷ xs) out = refl
+filter_drop p d zero xs out = refl
 filter_drop p d (suc i) [] out = refl
 filter_drop p d (suc i) (x ∷ xs) out =
     rw (out 0 (omega arith) (omega arith)) (filter_drop p d i xs (λ k lt within. out (suc k) (omega arith) (omega arith)))
@@ -29,14 +27,8 @@ filter_take p d (suc j) (x ∷ xs) on out =
     (ap (λ l. x ∷ l) (filter_take p d j xs (λ k lt within. on (suc k) (omega arith) (omega arith))
     (λ k le within. out (suc k) (omega arith) (omega arith))))
 
-take_long : {X : Type 0} (j : ℕ) (xs : List X) → length xs ≤ j → take j xs ≡ xs
-take_long zero [] le = refl
-take_long (suc j) [] le = refl
-take_long zero (x ∷ xs) le = absurd (omega arith)
-take_long (suc j) (x ∷ xs) le = ap (λ l. x ∷ l) (take_long j xs (omega arith))
-
 pub rest_is : {X : Type 0} (xs : List X) (i : ℕ) → i ≤ length xs → take (length xs - i) (drop i xs) ≡ drop i xs
-rest_is xs i within = let len = length-drop i xs in take_long (length xs - i) (drop i xs) (omega arith)
+rest_is xs i within = take_all (length xs - i) (drop i xs) (omega (arith, length-drop i xs))
 
 -- what stands between two points of halving
 pub between_points : {X : Type 0} (n : X → ℕ) (d : X) (xs : List X) (hash i j : ℕ) → i ≤ length xs →
@@ -60,8 +52,4 @@ between_points n d xs hash i j within first rest is second =
     above a f = grind (arith, nat_tests)
 
     from : (k : ℕ) → k < length rest → ltb (n (get_or rest k d)) hash ≡ false
-    from k inside =
-        let len = length-drop i xs in
-        let len' = ap length is in
-        let e : get_or rest k d ≡ get_or xs (i + k) d = ap (λ l. get_or l k d) is ∙ get_or-drop i xs k d in
-        rw e (first.1 (i + k) d (omega arith) (omega arith))
+    from k inside = grind (arith, nat_tests, length-drop, get_or-drop)

@@ -1,17 +1,18 @@
 -- The codes of a text and whether it is whole.
-use Rattle.std.proofs.Common.{◌≡◌, ◌≢◌, ◌⊎◌, inl, inr, ℕ, suc, ◌+◌, Bool, true, false, not, ◌&&◌, ◌||◌, List, [], ◌∷◌, length}
+use Rattle.std.proofs.Common.{◌≡◌, ◌≢◌, ◌⊎◌, ℕ, suc, ◌+◌, Bool, true, false, not, ◌&&◌, ◌||◌, List, [], ◌∷◌, length}
 use Rattle.std.proofs.Common.{refl, sym, ap, ◌∙◌, arith, eqb, nat_eq}
 use Rattle.std.specs.Cmp.Lexicographic.{slice_cmp}
 use Rattle.std.specs.List.{starts_with}
 use Rattle.std.specs.Ordering.{nat_cmp, bool_cmp, ordering_then}
 use Rattle.std.specs.declared.cmp.Ordering.{Ordering}
-use Rattle.std.specs.declared.cmp.Ordering.TheVariants.{Less, Equal, Greater}
+use Rattle.std.specs.declared.cmp.Ordering.TheVariants.{Less, Greater}
 use Rattle.std.proofs.lemmas.Bool.Decides.{nat_tests}
 use Rattle.attr_keys.specs.declared.key.View.{View}
 use Rattle.attr_keys.specs.inner.Cases.{in_case, seen_text}
 use Rattle.attr_keys.specs.shared.Codes.{codes_of}
 use Rattle.attr_keys.specs.shared.Meeting.{directed}
 use Rattle.attr_keys.proofs.SeenTexts.{codes_in_case, length-seen}
+use Rattle.attr_keys.proofs.RowLemmas.{and_none}
 
 end_below : (b : ℕ) → nat_cmp 1 (b + 2) ≡ Less
 end_below b = grind (arith, nat_tests)
@@ -38,13 +39,10 @@ both_longer : (a b : ℕ) → eqb (suc a) (suc b) ≡ eqb a b
 both_longer a b = grind (arith, nat_tests)
 
 then_then : (o p q : Ordering) → ordering_then o (ordering_then p q) ≡ ordering_then (ordering_then o p) q
-then_then Less p q = refl
-then_then Equal p q = refl
-then_then Greater p q = refl
+then_then o p q = grind arith
 
 and_assoc : (a b c : Bool) → a && (b && c) ≡ (a && b) && c
-and_assoc true b c = refl
-and_assoc false b c = refl
+and_assoc a b c = grind arith
 
 -- codes are ordered as the texts are, and a whole text comes after one that isn't
 codes_order : (x y : List ℕ) (w v : Bool) → slice_cmp nat_cmp (codes_of false x w) (codes_of false y v)
@@ -57,9 +55,7 @@ codes_order [] (b ∷ bs) true v = ap (λ o. ordering_then o (slice_cmp nat_cmp 
 codes_order [] (b ∷ bs) false v = refl
 codes_order (a ∷ xs) [] w true = ap (λ o. ordering_then o (slice_cmp nat_cmp (codes_of false xs w) [])) (above_end a)
 codes_order (a ∷ xs) [] w false = refl
-codes_order (a ∷ xs) (b ∷ bs) w v =
-    ap (λ o. ordering_then o (slice_cmp nat_cmp (codes_of false xs w) (codes_of false bs v))) (shifted_order a b)
-    ∙ (ap (ordering_then (nat_cmp a b)) (codes_order xs bs w v) ∙ then_then (nat_cmp a b) (slice_cmp nat_cmp xs bs) (bool_cmp w v))
+codes_order (a ∷ xs) (b ∷ bs) w v = grind (arith, nat_tests, shifted_order, then_then, codes_order xs bs w v)
 
 -- the same of codes as they are read
 pub order_seen : (view : View) (x y : List ℕ) (w v : Bool) (cs ds : List ℕ) → codes_of view.fold (directed view.from_end x) w ≡ cs →
@@ -78,11 +74,7 @@ codes_begin [] [] true = refl
 codes_begin (b ∷ bs) [] true = ap (λ t. t && true) (no_byte b) ∙ sym (longer (length bs))
 codes_begin [] (c ∷ cs) true = ap (λ t. t && starts_with nat_eq [] (codes_of false cs true)) (no_end c)
 codes_begin [] (c ∷ cs) false = ap (λ t. t && starts_with nat_eq [] (codes_of false cs false)) (no_end c)
-codes_begin (b ∷ bs) (c ∷ cs) w =
-    ap (λ t. t && starts_with nat_eq (codes_of false bs true) (codes_of false cs w)) (shifted c b)
-    ∙ (ap (λ t. nat_eq c b && t) (codes_begin bs cs w)
-    ∙ (and_assoc (nat_eq c b) (starts_with nat_eq bs cs) (not w || eqb (length cs) (length bs))
-    ∙ ap (λ t. (nat_eq c b && starts_with nat_eq bs cs) && (not w || t)) (sym (both_longer (length cs) (length bs)))))
+codes_begin (b ∷ bs) (c ∷ cs) w = grind (arith, nat_tests, shifted, and_assoc, both_longer, codes_begin bs cs w)
 
 -- the same of a text and a part of a line as they are read
 begin_in_case : (fold from_end : Bool) (text part : List ℕ) (w : Bool) →
@@ -103,41 +95,9 @@ pub has_if_long : (fold from_end : Bool) (text part codes : List ℕ) (w : Bool)
     ((w ≡ true) × (length part ≡ length text)) ⊎ (w ≡ false) →
     starts_with nat_eq (in_case fold (directed from_end text)) (in_case fold (directed from_end part))
     ≡ starts_with nat_eq (codes_of false (in_case fold (directed from_end text)) true) codes
-has_if_long fold from_end text part codes w is long =
-    let text' = in_case fold (directed from_end text) in
-    let begins = starts_with nat_eq text' (in_case fold (directed from_end part)) in
-    sym (ap (starts_with nat_eq (codes_of false text' true)) (sym is)
-    ∙ (begin_in_case fold from_end text part w ∙ (ap (λ b. begins && b) (fits long) ∙ and_all begins)))
-  where
-    and_all : (a : Bool) → a && true ≡ a
-    and_all true = refl
-    and_all false = refl
-
-    equal : (a b : ℕ) → a ≡ b → eqb a b ≡ true
-    equal a b e = grind (arith, nat_tests)
-
-    or_true : (a : Bool) → a || true ≡ true
-    or_true true = refl
-    or_true false = refl
-
-    fits : ((w ≡ true) × (length part ≡ length text)) ⊎ (w ≡ false) → not w || eqb (length part) (length text) ≡ true
-    fits (inl e) = ap (λ b. not w || b) (equal (length part) (length text) e.1) ∙ or_true (not w)
-    fits (inr e) = ap (λ b. not b || eqb (length part) (length text)) e
+has_if_long fold from_end text part codes w is long = grind (arith, nat_tests, begin_in_case)
 
 -- a whole key of another length
 pub lacks_if_other : (fold from_end : Bool) (text part codes : List ℕ) (w : Bool) → codes_of fold (directed from_end part) w ≡ codes →
     w ≡ true → length part ≢ length text → false ≡ starts_with nat_eq (codes_of false (in_case fold (directed from_end text)) true) codes
-lacks_if_other fold from_end text part codes w is whole other =
-    let text' = in_case fold (directed from_end text) in
-    let begins = starts_with nat_eq text' (in_case fold (directed from_end part)) in
-    sym (ap (starts_with nat_eq (codes_of false text' true)) (sym is)
-    ∙ (begin_in_case fold from_end text part w
-    ∙ (ap (λ b. begins && (not b || eqb (length part) (length text))) whole
-    ∙ (ap (λ b. begins && b) (apart (length part) (length text) other) ∙ and_none begins))))
-  where
-    apart : (a b : ℕ) → a ≢ b → eqb a b ≡ false
-    apart a b ne = grind (arith, nat_tests)
-
-    and_none : (a : Bool) → a && false ≡ false
-    and_none true = refl
-    and_none false = refl
+lacks_if_other fold from_end text part codes w is whole other = grind (arith, nat_tests, begin_in_case, and_none)

@@ -1,20 +1,19 @@
 -- Rows of equal keys, which are sorted among themselves.
-use Rattle.std.proofs.Common.{◌≡◌, ◌≢◌, ℕ, zero, suc, ◌⊎◌, inl, inr, ◌+◌, ◌-◌, ◌<◌, ◌≤◌}
-use Rattle.std.proofs.Common.{Bool, false, true, ◌||◌, List, [], ◌∷◌, ◌++◌, length, map, take, drop, get_or}
+use Rattle.std.proofs.Common.{◌≡◌, ◌≢◌, ℕ, suc, ◌+◌, ◌-◌, ◌<◌, ◌≤◌, Bool, false, true, ◌||◌, List, [], ◌∷◌, ◌++◌, length, map, take, drop, get_or}
 use Rattle.std.proofs.Common.{refl, sym, ap, ◌∙◌, eqb, arith}
 use Rattle.std.specs.Cmp.Lexicographic.{bytes_decides, slice_cmp}
 use Rattle.std.specs.List.{All, list_any}
 use Rattle.std.specs.Ordering.{is_eq, is_lt, is_ne, nat_cmp}
 use Rattle.std.specs.declared.cmp.Ordering.{Ordering}
-use Rattle.std.specs.declared.cmp.Ordering.TheVariants.{Less, Equal, Greater}
-use Rattle.std.proofs.lemmas.List.{drop-drop, get_or-append-add, get_or-drop, get_or-take, get_or_append_left}
-use Rattle.std.proofs.lemmas.List.{length-drop, length-map, length-take, map-append, take-append-drop}
+use Rattle.std.proofs.Math.ListN.{get_or-map}
+use Rattle.std.proofs.lemmas.Bool.Decides.{nat_tests}
+use Rattle.std.proofs.lemmas.List.{drop-drop, get_or-append-add, get_or-drop, get_or-take, get_or_append_left, length-drop, length-map, length-take}
+use Rattle.std.proofs.lemmas.List.{map-append, take-append-drop}
 use Rattle.std.proofs.lemmas.List.Elements.{All-from_get_or}
 use Rattle.std.proofs.lemmas.List.Folds.{list_any-append}
 use Rattle.std.proofs.lemmas.List.Sorted.{All-permutation, length_permutation, list_any-IsPermutation}
 use Rattle.std.proofs.lemmas.Bool.{eqb-true, eqb-false}
 use Rattle.std.proofs.lemmas.Map.Text.{is_eq-slice_cmp}
-use Rattle.std.proofs.Math.ListN.{get_or-map}
 use Rattle.attr_keys.specs.shared.KeyContents.{KeyContent}
 use Rattle.attr_keys.specs.shared.Codes.{row_codes}
 use Rattle.attr_keys.specs.shared.Rows.{AreInOrder, IsRaisedWithin, has_row}
@@ -70,9 +69,7 @@ ordered_by_codes keys rows new same order k d from below =
     ∙ order k d from (omega (arith, below, len))
 
 unequal : (r : Ordering) → is_ne r ≡ true → is_eq r ≡ true → ⊥
-unequal Less n e = cc
-unequal Equal n e = cc
-unequal Greater n e = cc
+unequal r n e = grind arith
 
 module _ (keys : List KeyContent) (rows new : List ℕ) (start end : ℕ) (le : start ≤ end) (in_rows : end ≤ length rows)
     (m : IsRaisedWithin start end rows new) where
@@ -115,62 +112,15 @@ module _ (keys : List KeyContent) (rows new : List ℕ) (start end : ℕ) (le : 
       sym (get_or-map f new k 0) ∙ ap (λ l. get_or l k (f 0)) (moved_codes alike) ∙ get_or-map f rows k 0
 
   left_at : (k : ℕ) → k < start → get_or new k 0 ≡ get_or rows k 0
-  left_at k below =
-      let left = length-take start rows in
-      ap (λ l. get_or l k 0) m.is
-      ∙ (get_or_append_left (take start rows) (m.moved ++ drop end rows) 0 k (omega (arith, below, left, le, in_rows))
-      ∙ get_or-take start rows k 0 below)
+  left_at k below = grind (arith, nat_tests, length-take, get_or_append_left, get_or-take)
 
   moved_at : (k : ℕ) → start ≤ k → k < end → get_or new k 0 ≡ get_or m.moved (k - start) 0
-  moved_at k from below =
-      let left = length-take start rows in
-      let whole = take start rows ++ (m.moved ++ drop end rows) in
-      ap (λ l. get_or l k 0) m.is
-      ∙ (ap (λ n. get_or whole n 0) {x = k} {y = length (take start rows) + (k - start)} (omega (arith, from, left, le, in_rows))
-      ∙ (get_or-append-add (take start rows) (m.moved ++ drop end rows) (k - start) 0
-      ∙ get_or_append_left m.moved (drop end rows) 0 (k - start)
-      (let a = moved_len in omega (arith, from, below, a))))
-    where
-      moved_len : length m.moved ≡ end - start
-      moved_len =
-          let a = length_permutation part m.moved m.permutation in
-          let b = length-take (end - start) (drop start rows) in
-          let c = length-drop start rows in
-          omega (arith, a, b, c, le, in_rows)
+  moved_at k from below = grind (arith, nat_tests, length-take, get_or-append-add, get_or_append_left, length_permutation, length-drop)
 
   pub moved_raised : AreAlike keys rows start end → IsRaisedUpTo keys rows start →
       ((k : ℕ) → k + 1 ≡ start → row_codes keys (get_or rows k 0) ≢ row_codes keys (get_or rows start 0)) → IsRaisedUpTo keys new end
   moved_raised alike raised apart k below same =
-      elim (three_ways k start) [
-        | inl before ↦ omega (arith, left_at k (omega (arith, before)), left_at (k + 1) before, raised k before same_before)
-        | inr (inl at) ↦ absurd (apart k at (same_before ∙ ap (λ n. row_codes keys (get_or rows n 0)) at))
-        | inr (inr after) ↦ omega (
-          arith,
-          moved_at k after (omega (arith, below)),
-          moved_at (k + 1) (omega (arith, after)) below,
-          m.ascend (k - start) (k + 1 - start) 0 (omega (arith, after)) (omega (arith, after, below, part_len)),
-        )
-      ]
-    where
-      same_before : row_codes keys (get_or rows k 0) ≡ row_codes keys (get_or rows (k + 1) 0)
-      same_before = sym (code_at alike k) ∙ (same ∙ code_at alike (k + 1))
-
-      part_len : length m.moved ≡ end - start
-      part_len =
-          let a = length_permutation part m.moved m.permutation in
-          let b = length-take (end - start) (drop start rows) in
-          let c = length-drop start rows in
-          omega (arith, a, b, c, le, in_rows)
-
-      three_ways : (k start : ℕ) → (k + 1 < start) ⊎ ((k + 1 ≡ start) ⊎ (start ≤ k))
-      three_ways k zero = inr (inr (omega arith))
-      three_ways zero (suc zero) = inr (inl refl)
-      three_ways zero (suc (suc start)) = inl (omega arith)
-      three_ways (suc k) (suc start) = elim (three_ways k start) [
-        | inl before ↦ inl (omega (arith, before))
-        | inr (inl at) ↦ inr (inl (omega (arith, at)))
-        | inr (inr after) ↦ inr (inr (omega (arith, after)))
-      ]
+      grind (arith, nat_tests, left_at, raised, apart, moved_at, code_at, alike, length_permutation, length-take, length-drop)
 
   -- where the rows of one key end, that of the next one has another
   pub next_apart : AreAlike keys rows start end →
@@ -188,9 +138,7 @@ pub first_alike : (keys : List KeyContent) (rows : List ℕ) (start : ℕ) → A
 first_alike keys rows start k from below = ap (λ n. row_codes keys (get_or rows n 0)) {x = k} {y = start} (omega (arith, from, below))
 
 equal : (r : Ordering) → is_ne r ≡ false → is_eq r ≡ true
-equal Less e = absurd cc
-equal Equal e = refl
-equal Greater e = absurd cc
+equal r e = grind arith
 
 -- one more row, whose key is that of the row before it
 pub one_more : (keys : List KeyContent) (rows : List ℕ) (start index : ℕ) → start < index → AreAlike keys rows start index →

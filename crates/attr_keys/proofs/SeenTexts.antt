@@ -1,9 +1,10 @@
 -- Keys as they are read, and texts in lower case.
-use Rattle.std.proofs.Common.{◌≡◌, ℕ, zero, suc, Bool, true, false, List, [], ◌∷◌, ◌++◌, Option, Some, length}
-use Rattle.std.proofs.Common.{map, reverse, refl, sym, ap, ◌∙◌}
+use Rattle.std.proofs.Common.{arith, ◌≡◌, ℕ, zero, suc, Bool, true, false, List, [], ◌∷◌, Option, Some, length, map, reverse, refl, sym, ap, ◌∙◌}
 use Rattle.std.specs.Char.{to_ascii_lowercase}
 use Rattle.std.specs.Prelude.{option_map, slice_get}
-use Rattle.std.proofs.lemmas.List.{length-map, length-reverse, reverse-append, reverse-reverse}
+use Rattle.std.proofs.lemmas.Grind.{common_steps}
+use Rattle.std.proofs.lemmas.Bool.Decides.{nat_tests}
+use Rattle.std.proofs.lemmas.List.{length-map, length-reverse, map_push, reverse-append, reverse-reverse}
 use Rattle.attr_keys.specs.declared.key.Key.{Key}
 use Rattle.attr_keys.specs.shared.KeyContents.{KeyContent}
 use Rattle.attr_keys.specs.inner.Cases.{content_in_case, in_case, natural, seen, seen_keys, text_standing}
@@ -28,9 +29,7 @@ natural_is key = directed_twice (is_end key.subject) key.text.now
 -- the codes of a key that is read like this
 pub codes_seen : (fold from_end : Bool) (key : Key) → codes_of fold (directed from_end key.text.now) key.is_whole
     ≡ key_codes (Some (seen fold from_end (key_content key)))
-codes_seen fold from_end key =
-    sym (codes_in_case fold (directed from_end key.text.now) key.is_whole)
-    ∙ ap (λ l. codes_of false (in_case fold (directed from_end l)) key.is_whole) (sym (natural_is key))
+codes_seen fold from_end key = grind (arith, nat_tests, codes_in_case, natural_is)
 
 -- the codes of the key of a line
 pub row_seen : {K : Type 0} (content : K → KeyContent) (fold from_end : Bool) (lines : List K) (row : ℕ) (line : Option K) →
@@ -40,15 +39,9 @@ row_seen content fold from_end [] row line is = ap (λ o. key_codes (option_map 
 row_seen content fold from_end (l ∷ ls) zero line is = ap (λ o. key_codes (option_map (λ k. seen fold from_end (content k)) o)) (sym is)
 row_seen content fold from_end (l ∷ ls) (suc row) line is = row_seen content fold from_end ls row line is
 
-map_snoc : (f : ℕ → ℕ) (l : List ℕ) (c : ℕ) → map f (l ++ c ∷ []) ≡ map f l ++ f c ∷ []
-map_snoc f [] c = refl
-map_snoc f (d ∷ l) c = ap (λ m. f d ∷ m) (map_snoc f l c)
-
 map_reverse : (f : ℕ → ℕ) (x : List ℕ) → map f (reverse x) ≡ reverse (map f x)
 map_reverse f [] = refl
-map_reverse f (b ∷ bs) =
-    ap (map f) (reverse-append (b ∷ []) bs) ∙ (map_snoc f (reverse bs) b ∙ (ap (λ l. l ++ f b ∷ []) (map_reverse f bs)
-    ∙ sym (reverse-append (f b ∷ []) (map f bs))))
+map_reverse f (b ∷ bs) = grind (arith, common_steps, reverse-append, map_push, map_reverse f bs)
 
 pub directed_in_case : (from_end fold : Bool) (text : List ℕ) → directed from_end (in_case fold text) ≡ in_case fold (directed from_end text)
 directed_in_case false fold text = refl
@@ -71,13 +64,8 @@ seen_lower from_end (key ∷ keys) =
 -- the text of a key that is read like this, as it stands in its line
 pub standing_seen : (fold from_end : Bool) (keys : List KeyContent) (row : ℕ) →
     in_case fold (text_standing (slice_get keys row)) ≡ text_of_row from_end (seen_keys fold from_end keys) row
-standing_seen fold from_end [] row = nothing fold
-  where
-    nothing : (f : Bool) → in_case f [] ≡ []
-    nothing false = refl
-    nothing true = refl
-standing_seen fold from_end (key ∷ keys) zero =
-    sym (directed_in_case from_end fold (directed from_end (natural key)) ∙ ap (in_case fold) (directed_twice from_end (natural key)))
+standing_seen fold from_end [] row = grind (arith, nat_tests)
+standing_seen fold from_end (key ∷ keys) zero = grind (arith, nat_tests, directed_in_case, directed_twice)
 standing_seen fold from_end (key ∷ keys) (suc row) = standing_seen fold from_end keys row
 
 pub whole_seen : (fold from_end : Bool) (keys : List KeyContent) (row : ℕ) →

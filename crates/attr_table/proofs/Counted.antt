@@ -1,7 +1,9 @@
 -- Parts of a search, with their counts.
 use Rattle.std.proofs.Common.{◌≡◌, ℕ, zero, suc, ◌+◌, ◌-◌, ◌^◌, ◌<◌, ◌≤◌, List, [], ◌∷◌, ◌++◌, map, length, get_or, drop, Option, Some, None, min}
-use Rattle.std.proofs.Common.{refl, sym, ap, ⊎_elim, arith, true, false}
+use Rattle.std.proofs.Common.{refl, sym, ap, arith, true, false}
 use Rattle.std.specs.Prelude.{is_some, sum_by}
+use Rattle.std.proofs.lemmas.Grind.{common_steps}
+use Rattle.std.proofs.lemmas.Bool.Decides.{nat_tests}
 use Rattle.std.proofs.lemmas.Bool.{cases_eq, cases_Bool}
 use Rattle.std.proofs.lemmas.List.{length-append, append-nil}
 use Rattle.std.proofs.lemmas.List.Sums.{sum_by-cons}
@@ -9,8 +11,8 @@ use Rattle.attr_table.specs.Setting.{Item, Line, Origin, Setting, Answer, body_o
 use Rattle.attr_table.specs.Table.{Slots}
 use Rattle.attr_table.specs.Cut.{is_done}
 use Rattle.attr_table.specs.Work.{work_of, newly_at, newly_filled}
-use Rattle.attr_table.specs.shared.Walk.{Task, Walks, ends, stops, skips, fills, Searches, tasks_in, line_tasks, list_tasks, tasks_of, backwards}
-use Rattle.attr_table.specs.shared.Walk.{expands, opened, fill, free_items, left_in}
+use Rattle.attr_table.specs.shared.Walk.{Task, Walks, ends, stops, skips, fills, Searches, tasks_in, tasks_of, backwards, expands, opened, fill}
+use Rattle.attr_table.specs.shared.Walk.{free_items, left_in}
 use Rattle.attr_table.proofs.Listed.{backwards-more}
 use Rattle.attr_table.proofs.Walked.{length-tasks_in, fill_other, left_in-fill, then_walks, walks_past}
 
@@ -24,8 +26,7 @@ newly_at-same (Some x) = refl
 
 pub newly_filled-same : (slots : Slots) (n : ℕ) → newly_filled slots slots n ≡ 0
 newly_filled-same slots zero = refl
-newly_filled-same slots (suc n) =
-    let e = newly_filled-same slots n in let d = newly_at-same (slots n) in omega arith
+newly_filled-same slots (suc n) = grind (arith, nat_tests, newly_at-same, newly_filled-same slots n)
 
 newly_at-first : (o p : Option Answer) → newly_at o p ≤ 1
 newly_at-first None None = omega arith
@@ -33,57 +34,33 @@ newly_at-first None (Some x) = omega arith
 newly_at-first (Some y) p = omega arith
 
 newly_at-through : (o m p : Option Answer) → newly_at o p ≤ newly_at o m + newly_at m p
-newly_at-through None None p = omega arith
 newly_at-through None (Some y) p = let h = newly_at-first None p in omega arith
-newly_at-through (Some x) m p = omega arith
+newly_at-through o m p = omega arith
 
 pub newly_filled-through : (first second third : Slots) (n : ℕ) →
     newly_filled first third n ≤ newly_filled first second n + newly_filled second third n
 newly_filled-through first second third zero = omega arith
-newly_filled-through first second third (suc n) =
-    let h = newly_filled-through first second third n in
-    let k = newly_at-through (first n) (second n) (third n) in
-    omega arith
+newly_filled-through first second third (suc n) = grind (arith, nat_tests, newly_at-through, newly_filled-through first second third n)
 
 pub newly_filled-most : (before after : Slots) (n : ℕ) → newly_filled before after n ≤ n
 newly_filled-most before after zero = omega arith
-newly_filled-most before after (suc n) =
-    let h = newly_filled-most before after n in let k = newly_at-first (before n) (after n) in omega arith
+newly_filled-most before after (suc n) = grind (arith, nat_tests, newly_at-first, newly_filled-most before after n)
 
 -- slots that differ at one attribute at most
 newly_none : (before after : Slots) (a n : ℕ) → n ≤ a → ((b : ℕ) → (b ≡ a → ⊥) → after b ≡ before b) →
     newly_filled before after n ≡ 0
 newly_none before after a zero le same = refl
-newly_none before after a (suc n) le same =
-    let h = newly_none before after a n (omega arith) same in
-    let e = same n (λ (d : n ≡ a). omega arith) in
-    let k = newly_at-same (before n) in
-    rw e (omega arith)
+newly_none before after a (suc n) le same = grind (arith, nat_tests, newly_at-same, newly_none before after a n)
 
 newly_one : (before after : Slots) (a n : ℕ) → ((b : ℕ) → (b ≡ a → ⊥) → after b ≡ before b) →
     newly_filled before after n ≤ 1
 newly_one before after a zero same = omega arith
 newly_one before after a (suc n) same =
-    ⊎_elim
-    (λ (e : n ≡ a).
-    let h = newly_none before after a n (omega arith) same in
-    let k = newly_at-first (before n) (after n) in
-    omega arith)
-    (λ ne.
-    let h = newly_one before after a n same in
-    let e = same n ne in
-    let k = newly_at-same (before n) in
-    rw e (omega arith))
-    (cases_eq n a)
+    grind (arith, nat_tests, newly_none, newly_at-first, newly_at-same, cases_eq, newly_one before after a n same)
 
 pub length-free : (slots : Slots) (items : List Item) → length (free_items slots items) ≤ length items
 length-free slots [] = omega arith
-length-free slots (i ∷ items) =
-    let h = length-free slots items in
-    ⊎_elim
-    (λ (e : is_some (slots i.attribute) ≡ true). rw e (omega arith))
-    (λ (e : is_some (slots i.attribute) ≡ false). rw e (omega arith))
-    (cases_Bool (is_some (slots i.attribute)))
+length-free slots (i ∷ items) = grind (arith, nat_tests, cases_Bool, length-free slots items)
 
 -- a part that takes nothing
 pub nothing_taken : (bodies : List (List Item)) (wanted : List ℕ) (slots : Slots) (taken : ℕ) →
@@ -184,21 +161,14 @@ left_in-less bodies t before next is empty = let e = left_in-fill bodies t befor
 pub left_in-open : (bodies : List (List Item)) (t : Task) (body : List Item) (before next : Slots) (m n : ℕ) →
     next ≡ fill bodies t before → is_some (before t.item.attribute) ≡ false → body_of bodies t.item.attribute ≡ body →
     n ≤ m + length body → n + left_in bodies next ≤ m + left_in bodies before
-left_in-open bodies t body before next m n is empty body_is le =
-    let e = left_in-less bodies t before next is empty in
-    let d = ap length body_is in
-    omega arith
+left_in-open bodies t body before next m n is empty body_is le = grind (arith, nat_tests, left_in-less)
 
 -- items of which none is free are passed over
 pub row_filled : (bodies : List (List Item)) (wanted : List ℕ) (origin : Origin) (cause : Option ℕ) (items : List Item) (slots : Slots) (taken : ℕ) →
     free_items slots items ≡ [] → Searches bodies wanted (tasks_in origin cause items) slots slots taken taken
 row_filled bodies wanted origin cause items slots taken none =
     let past = walks_past bodies (is_done wanted) slots slots origin cause items [] (rw none ends) in
-    record {
-      walks = rw append-nil at past;
-      most = omega arith;
-      least = λ n. let e = newly_filled-same slots n in omega arith;
-    }
+    grind (arith, nat_tests, append-nil, newly_filled-same)
 
 -- the free ones are processed
 pub row_searched : (bodies : List (List Item)) (wanted : List ℕ) (origin : Origin) (cause : Option ℕ) (items : List Item) (ts : List Task)
@@ -214,11 +184,7 @@ row_searched bodies wanted origin cause items ts before after a b on_stack p =
     let y = length-tasks_in origin cause items in
     let z = length-free before items in
     let l = ap length on_stack in
-    record {
-      walks = rw append-nil at past;
-      most = let m = p.most in omega arith;
-      least = p.least;
-    }
+    grind (arith, nat_tests, append-nil)
 
 -- one more element of a list, from its end
 pub more_searched : {X Y : Type 0} (bodies : List (List Item)) (wanted : List ℕ) (f : Y → List Task) (g : X → Y) (xs : List X) (k : ℕ) (d : X)
@@ -234,43 +200,22 @@ more_searched bodies wanted f g xs k d first second third a b c pos le p q =
 length-backwards : {X Y : Type 0} (f : X → List Y) (size : X → ℕ) (xs : List X) → ((x : X) → length (f x) ≡ size x) →
     length (backwards f xs) ≡ sum_by size xs
 length-backwards f size [] same = refl
-length-backwards f size (x ∷ xs) same =
-    let a = length-append (backwards f xs) (f x) in
-    let h = length-backwards f size xs same in
-    let s = sum_by-cons size x xs in
-    let e = same x in
-    omega arith
+length-backwards f size (x ∷ xs) same = grind (arith, nat_tests, length-append, sum_by-cons, length-backwards f size xs same)
 
 length-tasks_of : (lists : List (List Line)) →
     length (tasks_of lists) ≡ sum_by (λ lines. sum_by (λ line. length line.items) lines) lists
-length-tasks_of lists =
-    length-backwards list_tasks (λ lines. sum_by (λ line. length line.items) lines) lists
-    (λ lines. length-backwards line_tasks (λ line. length line.items) lines
-    (λ line. length-tasks_in line.origin None line.items))
+length-tasks_of lists = grind (arith, nat_tests, length-backwards, length-tasks_in)
 
 left_in-most : (bodies : List (List Item)) (slots : Slots) → left_in bodies slots ≤ sum_by (λ body. length body) bodies
 left_in-most [] slots = omega arith
-left_in-most (body ∷ bodies) slots =
-    let h = left_in-most bodies (λ a. slots (suc a)) in
-    let s = sum_by-cons (λ (body : List Item). length body) body bodies in
-    ⊎_elim
-    (λ (e : is_some (slots 0) ≡ true). rw e (omega arith))
-    (λ (e : is_some (slots 0) ≡ false). rw e (omega arith))
-    (cases_Bool (is_some (slots 0)))
+left_in-most (body ∷ bodies) slots = grind (arith, common_steps, sum_by-cons, cases_Bool, left_in-most bodies)
 
 -- a search over all lists takes no more than the work
 pub taken_most : (s : Setting) (wanted : List ℕ) (before after : Slots) (taken : ℕ) →
     Searches s.bodies wanted (tasks_of s.lists) before after 0 taken → taken ≤ work_of s
-taken_most s wanted before after taken p =
-    let m = p.most in
-    let t = length-tasks_of s.lists in
-    let l = left_in-most s.bodies before in
-    omega arith
+taken_most s wanted before after taken p = grind (arith, nat_tests, length-tasks_of, left_in-most)
 
 -- and no less than the slots that it fills
 pub taken_least : (s : Setting) (wanted : List ℕ) (before after : Slots) (taken n : ℕ) → n ≤ top →
     Searches s.bodies wanted (tasks_of s.lists) before after 0 taken → newly_filled before after n ≤ taken
-taken_least s wanted before after taken n fits p =
-    let l = p.least n in
-    let m = newly_filled-most before after n in
-    omega arith
+taken_least s wanted before after taken n fits p = grind (arith, nat_tests, newly_filled-most)

@@ -1,13 +1,15 @@
 -- The slots after a search are the cut of the only stable table, and no others are.
-use Rattle.std.proofs.Common.{◌≡◌, ℕ, zero, suc, ◌+◌, ◌<◌, ◌⊎◌, List, [], ◌∷◌, ◌++◌, length, Option, Some, None, refl, subst, inl, inr, ⊎_elim, arith}
-use Rattle.std.proofs.Common.{true, false}
+use Rattle.std.proofs.Common.{◌≡◌, ℕ, zero, suc, ◌+◌, ◌<◌, ◌⊎◌, List, [], ◌∷◌, ◌++◌, length, Option, Some, None, refl, subst, inl, inr, ⊎_elim}
+use Rattle.std.proofs.Common.{arith, true, false}
 use Rattle.std.specs.Prelude.{Contains, is_some, MatchOption, slice_index_or}
+use Rattle.std.proofs.lemmas.Grind.{common_steps}
+use Rattle.std.proofs.lemmas.Bool.Decides.{nat_tests}
 use Rattle.std.proofs.lemmas.Bool.{cases_eq, cases_Bool, and_parts}
 use mathlib.Core.Path.{fun_ext}
 use Rattle.attr_table.specs.Setting.{Item, Line, Setting, Answer}
 use Rattle.attr_table.specs.Table.{Occurrence, Table, Slots, path, IsEarlier, IsStable}
 use Rattle.attr_table.specs.Cut.{full_answer, IsKept, IsCutAt, IsCut, IsSearched, is_done}
-use Rattle.attr_table.specs.shared.Walk.{Walks, list_tasks, tasks_of, fill, left_in}
+use Rattle.attr_table.specs.shared.Walk.{Walks, list_tasks, tasks_of, left_in}
 use Rattle.attr_table.proofs.Order.{first_irreflexive, first_trans, earlier_below}
 use Rattle.attr_table.proofs.Stable.{some_or_none, some_value, none_value, entry_free}
 use Rattle.attr_table.proofs.Facts.{Covers, empty_parts}
@@ -31,8 +33,7 @@ done_at : (wanted : List ℕ) (slots : Slots) → is_done wanted slots ≡ true 
     slice_index_or wanted k w ≡ w → is_some (slots w) ≡ true
 done_at [] slots d w k lt e = absurd (omega arith)
 done_at (v ∷ wanted) slots d w zero lt e = rw e at (and_parts (is_some (slots v)) (is_done wanted slots) d).0
-done_at (v ∷ wanted) slots d w (suc k) lt e =
-    done_at wanted slots (and_parts (is_some (slots v)) (is_done wanted slots) d).1 w k (omega arith) e
+done_at (v ∷ wanted) slots d w (suc k) lt e = grind (arith, nat_tests, and_parts, done_at wanted slots)
 
 -- a search that is done has an answer for each wanted attribute
 pub all_done : (wanted : List ℕ) (slots : Slots) → is_done wanted slots ≡ true → (w : ℕ) → Contains wanted w →
@@ -40,15 +41,7 @@ pub all_done : (wanted : List ℕ) (slots : Slots) → is_done wanted slots ≡ 
 all_done wanted slots d w c = some_value (slots w) (done_at wanted slots d w c.0 c.1 c.2)
 
 pub turned_by_wanted : (bodies : List (List Item)) (wanted : List ℕ) → IsTurnedByWanted bodies (is_done wanted) wanted
-turned_by_wanted bodies wanted t slots before after =
-    let r = not_done wanted slots before in
-    ⊎_elim
-    (λ (e : r.0 ≡ t.item.attribute). rw e at r.1)
-    (λ ne.
-    let x = all_done wanted (fill bodies t slots) after r.0 r.1 in
-    let e = fill_other bodies t slots r.0 ne in
-    let f = r.2 in let g = x.1 in absurd (cc))
-    (cases_eq r.0 t.item.attribute)
+turned_by_wanted bodies wanted t slots before after = grind (arith, common_steps, not_done, all_done, fill_other, cases_eq)
 
 -- the end of a walk for some wanted attributes, against any stable table
 module _ (s : Setting) (start : Slots) (wanted : List ℕ) (final : Slots) (end : IsEnd s start (is_done wanted) wanted final) (table : Table)

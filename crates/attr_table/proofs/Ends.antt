@@ -32,15 +32,12 @@ end_of : (s : Setting) (start : Slots) (done : Slots → Bool) (wanted : List �
     IsEnd s start done wanted final
 end_of s start done wanted turns ends table [] e facts =
     record { table = table; nodes = []; facts = facts; over = inl refl }
-end_of s start done wanted turns ends table (h ∷ nodes) e facts = absurd (cc)
 end_of s start done wanted turns (stops d) table nodes e facts =
     record { table = table; nodes = nodes; facts = facts; over = inr d }
-end_of s start done wanted turns (skips f w) table [] e facts = absurd (cc)
 end_of s start done wanted turns (skips {t = t} {slots = slots} f w) table (h ∷ nodes) e facts =
     let same : h.task ≡ t = cc in
     end_of s start done wanted turns w table nodes (cc)
     (skipped s start done wanted table h nodes slots facts (rw same f))
-end_of s start done wanted turns (fills d f w) table [] e facts = absurd (cc)
 end_of s start done wanted turns (fills {t = t} {ts = ts} {slots = slots} d f w) table (h ∷ nodes) e facts =
     let same : h.task ≡ t = cc in
     let rest : map task_at nodes ≡ ts = cc in
@@ -53,6 +50,7 @@ end_of s start done wanted turns (fills {t = t} {ts = ts} {slots = slots} d f w)
     (λ (x : Slots). Facts s start done wanted r.0 (child_nodes s.bodies h ++ nodes) x)
     (ap (λ (x : Task). fill s.bodies x slots) same)
     r.1)
+end_of s start done wanted turns nodes table t e facts = absurd (cc)
 
 pub roots_end : (s : Setting) (start : Slots) (done : Slots → Bool) (wanted : List ℕ) → IsTurnedByWanted s.bodies done wanted →
     (final : Slots) → Walks s.bodies done (tasks_of s.lists) start final → IsEnd s start done wanted final

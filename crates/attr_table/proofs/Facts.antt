@@ -1,5 +1,6 @@
 -- Facts at each point of a walk.
-use Rattle.std.proofs.Common.{◌≡◌, ℕ, ◌⊎◌, List, Option, Some, None, refl, inl, inr, ⊎_elim, Bool, false}
+use Rattle.std.proofs.Common.{arith, ◌≡◌, ℕ, ◌⊎◌, List, Option, Some, None, refl, inl, inr, ⊎_elim, Bool, false}
+use Rattle.std.proofs.lemmas.Bool.Decides.{nat_tests}
 use Rattle.std.specs.Prelude.{Contains}
 use Rattle.attr_table.specs.Setting.{Item, Setting, Answer}
 use Rattle.attr_table.specs.Table.{Occurrence, Root, Inside, Table, Slots, item_at, IsEarlier, IsReached, IsLive, IsStable}
@@ -92,15 +93,8 @@ abbrev pub no_entries : Table
 no_entries a = None
 
 pub root_above : (s : Setting) (o : Occurrence) (i : Item) → item_at s o ≡ Some i → Covers (nodes_of s.lists) o
-root_above s (Root list line item) i e =
-    let r = root_in s list line item i e in (r.0, r.1, inl r.2)
-root_above s (Inside parent index) i e =
-    ⊎_elim
-    (λ (r : (j : Item) × (item_at s parent ≡ Some j)).
-    let c = root_above s parent r.0 r.1 in
-    (c.0, c.1, ⊎_elim (λ d. inr (inl d)) (λ b. inr (inr b)) c.2))
-    (λ (n : item_at s parent ≡ None). let d = rw n at e in absurd (cc))
-    (some_or_none (item_at s parent))
+root_above s (Root list line item) i e = grind (arith, nat_tests, root_in, item)
+root_above s (Inside parent index) i e = grind (arith, nat_tests, some_or_none, root_above s parent)
 
 -- as a walk over all roots begins
 pub at_start : (s : Setting) (start : Slots) (done : Slots → Bool) (wanted : List ℕ) →

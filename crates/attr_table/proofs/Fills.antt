@@ -1,5 +1,6 @@
 -- A walk fills the slot of a task whose attribute has no answer.
-use Rattle.std.proofs.Common.{◌≡◌, ℕ, ◌⊎◌, List, [], ◌∷◌, ◌++◌, Some, None, refl, sym, ap, ◌∙◌, inl, inr, ⊎_elim, Bool, true, eqb}
+use Rattle.std.proofs.Common.{arith, ◌≡◌, ℕ, ◌⊎◌, List, [], ◌∷◌, ◌++◌, Some, None, refl, sym, ap, ◌∙◌, inl, inr, ⊎_elim, Bool, true, eqb}
+use Rattle.std.proofs.lemmas.Bool.Decides.{nat_tests}
 use Rattle.std.specs.Prelude.{Contains, if◌then◌else◌}
 use Rattle.std.proofs.lemmas.Bool.{cases_eq, eq-eqb, ne_eqb, cases_Bool}
 use Rattle.attr_table.specs.Setting.{Set, Item, Setting}
@@ -45,18 +46,10 @@ module _ (s : Setting) (start : Slots) (done : Slots → Bool) (wanted : List �
   -- an entry of the next table is the node's, or was there before
   next_cases : (a : ℕ) (o : Occurrence) → next a ≡ Some o →
       ((a ≡ h.task.item.attribute) × (o ≡ h.occurrence)) ⊎ (table a ≡ Some o)
-  next_cases a o e =
-      ⊎_elim
-      (λ (d : a ≡ h.task.item.attribute). let f = next_same in let g = rw d at e in inl (d, cc))
-      (λ ne. let f = next_other a ne in inr (cc))
-      (cases_eq a h.task.item.attribute)
+  next_cases a o e = grind (arith, nat_tests, next_same, next_other, cases_eq)
 
   within : IsWithin table next
-  within a o e =
-      ⊎_elim
-      (λ (d : a ≡ h.task.item.attribute). let f = no_entry in let g = rw d at e in absurd (cc))
-      (λ ne. let f = next_other a ne in cc)
-      (cases_eq a h.task.item.attribute)
+  within a o e = grind (arith, nat_tests, no_entry, next_other, cases_eq)
 
   more : List Node
   more = child_nodes s.bodies h ++ nodes
@@ -174,32 +167,11 @@ module _ (s : Setting) (start : Slots) (done : Slots → Bool) (wanted : List �
           (c.0, mem_left c.0 (child_nodes s.bodies h) nodes c.1, rw e c.2)
 
   shown : (a : ℕ) → fill s.bodies h.task slots a ≡ full_answer s (start a) (next a)
-  shown a =
-      ⊎_elim
-      (λ (d : a ≡ h.task.item.attribute).
-      let e = eq-eqb a h.task.item.attribute d in
-      let n = next_same in let f = free in
-      let x = node_answer s h is in
-      rw (e, d, f, n, x) refl)
-      (λ ne.
-      let e = ne_eqb a h.task.item.attribute ne in
-      let n = next_other a ne in
-      rw (e, n) (facts.shown a))
-      (cases_eq a h.task.item.attribute)
+  shown a = grind (arith, nat_tests, eq-eqb, next_same, free, node_answer, is, ne_eqb, next_other, cases_eq)
 
   -- the nodes cover no occurrence that is earlier than the node's
   covered_later : (o : Occurrence) → Covers (h ∷ nodes) o → (h.occurrence ≡ o) ⊎ IsEarlier h.occurrence o
-  covered_later o c =
-      ⊎_elim
-      (λ (d : c.0 ≡ h).
-      let here : h.occurrence ≡ c.0.occurrence = sym (ap (λ (x : Node). x.occurrence) d) in
-      ⊎_elim
-      (λ (e : c.0.occurrence ≡ o). inl (here ∙ e))
-      (λ (b : Below c.0.occurrence o). inr (rw here (below_later c.0.occurrence o b)))
-      c.2)
-      (λ m. inr (parts_first (path h.occurrence) (path o)
-      (parts_below h.occurrence c.0.occurrence o (facts.ordered.0 c.0 m) c.2)))
-      c.1
+  covered_later o c = grind (arith, nat_tests, below_later, parts_first, parts_below)
 
   module _ (other : Table) (stable : IsStable s start other) where
     -- each stable table has the node's occurrence as its attribute's entry

@@ -1,7 +1,8 @@
 -- Lists from their end: their members, and their order.
-use Rattle.std.proofs.Common.{◌≡◌, ℕ, suc, ◌+◌, ◌-◌, ◌<◌, ◌≤◌, ◌⊎◌, List, [], ◌∷◌, ◌++◌, map, length, get_or, take, drop, Some, refl, sym, ap, ◌∙◌}
-use Rattle.std.proofs.Common.{inl, inr, ⊎_elim, arith, zero}
+use Rattle.std.proofs.Common.{◌≡◌, ℕ, suc, ◌-◌, ◌<◌, ◌≤◌, ◌⊎◌, List, [], ◌∷◌, ◌++◌, map, length, get_or, take, drop, Some, refl, sym, ◌∙◌, inl}
+use Rattle.std.proofs.Common.{inr, ⊎_elim, arith, zero}
 use Rattle.std.specs.Prelude.{slice_get}
+use Rattle.std.proofs.lemmas.Bool.Decides.{nat_tests}
 use Rattle.std.proofs.lemmas.List.{map-append, append-nil, append_assoc, drop_all, drop_more, take-append-drop}
 use Rattle.attr_table.specs.shared.Walk.{backwards}
 
@@ -12,8 +13,7 @@ Mem y (x ∷ xs) = (y ≡ x) ⊎ Mem y xs
 
 pub mem_cases : {X : Type 0} (y : X) (xs ys : List X) → Mem y (xs ++ ys) → Mem y xs ⊎ Mem y ys
 mem_cases y [] ys m = inr m
-mem_cases y (x ∷ xs) ys m =
-    ⊎_elim (λ e. inl (inl e)) (λ r. ⊎_elim (λ a. inl (inr a)) (λ b. inr b) (mem_cases y xs ys r)) m
+mem_cases y (x ∷ xs) ys m = grind (arith, nat_tests, mem_cases y xs ys)
 
 pub mem_left : {X : Type 0} (y : X) (xs ys : List X) → Mem y xs → Mem y (xs ++ ys)
 mem_left y [] ys m = absurd m
@@ -40,8 +40,7 @@ mem_backward f (x ∷ xs) y m =
 pub backward_mem : {X Y : Type 0} (f : ℕ → X → List Y) (xs : List X) (k : ℕ) (x : X) (y : Y) →
     slice_get xs k ≡ Some x → Mem y (f k x) → Mem y (backward f xs)
 backward_mem f [] k x y e m = absurd (cc)
-backward_mem {X} {Y} f (z ∷ xs) zero x y e m =
-    mem_right y (backward (λ k. f (suc k)) xs) (f 0 z) (let h : x ≡ z = cc in rw h at m)
+backward_mem {X} {Y} f (z ∷ xs) zero x y e m = grind (arith, nat_tests, mem_right)
 backward_mem f (z ∷ xs) (suc k) x y e m =
     mem_left y (backward (λ j. f (suc j)) xs) (f 0 z) (backward_mem (λ j. f (suc j)) xs k x y e m)
 
@@ -84,8 +83,7 @@ map-backward g f h (x ∷ xs) same =
 pub backwards-append : {X Y : Type 0} (f : X → List Y) (xs ys : List X) →
     backwards f (xs ++ ys) ≡ backwards f ys ++ backwards f xs
 backwards-append f [] ys = sym (append-nil (backwards f ys))
-backwards-append f (x ∷ xs) ys =
-    let e = backwards-append f xs ys in rw (e, append_assoc) refl
+backwards-append f (x ∷ xs) ys = grind (arith, nat_tests, append_assoc, backwards-append f xs ys)
 
 -- a list from its end: no element, one more element, and the rest
 pub backwards-none : {X Y Z : Type 0} (f : Y → List Z) (g : X → Y) (xs : List X) →
@@ -94,15 +92,10 @@ backwards-none f g xs = let e = drop_all (length xs) xs (omega arith) in rw e re
 
 pub backwards-more : {X Y Z : Type 0} (f : Y → List Z) (g : X → Y) (xs : List X) (k : ℕ) (d : X) → 0 < k → k ≤ length xs →
     backwards f (map g (drop (k - 1) xs)) ≡ backwards f (map g (drop k xs)) ++ f (g (get_or xs (k - 1) d))
-backwards-more f g xs k d pos le =
-    let e = drop_more xs (k - 1) d (omega arith) in
-    let n : k - 1 + 1 ≡ k = omega arith in
-    rw (e, n) refl
+backwards-more f g xs k d pos le = grind (arith, nat_tests, drop_more)
 
 pub backwards-split : {X Y Z : Type 0} (f : Y → List Z) (g : X → Y) (xs : List X) (k : ℕ) →
     backwards f (map g xs) ≡ backwards f (map g (drop k xs)) ++ backwards f (map g (take k xs))
 backwards-split f g xs k =
     let e = take-append-drop k xs in
-    ap (λ l. backwards f (map g l)) (sym e)
-    ∙ (ap (λ l. backwards f l) (map-append g (take k xs) (drop k xs))
-    ∙ backwards-append f (map g (take k xs)) (map g (drop k xs)))
+    grind (arith, nat_tests, map-append, backwards-append)

@@ -1,7 +1,8 @@
 -- Nodes: tasks with their occurrences.
-use Rattle.std.proofs.Common.{◌≡◌, ℕ, List, [], ◌∷◌, map, Option, Some, None, refl, ap, inl, inr, ⊎_elim, Bool, true, false}
+use Rattle.std.proofs.Common.{arith, ◌≡◌, ℕ, List, [], ◌∷◌, map, Option, Some, None, refl, ap, inl, inr, ⊎_elim, Bool, true, false}
+use Rattle.std.proofs.lemmas.Bool.Decides.{nat_tests}
 use Rattle.std.specs.Prelude.{option_and_then, slice_get, if◌then◌else◌}
-use Rattle.attr_table.specs.Setting.{State, Set, Unset, Value, Unspecified, Item, Line, Origin, Setting, body_of}
+use Rattle.attr_table.specs.Setting.{State, Set, Item, Line, Origin, Setting, body_of}
 use Rattle.attr_table.specs.Table.{Occurrence, Root, Inside, path, item_at}
 use Rattle.attr_table.specs.Cut.{origin_at, cause_at, answer_of, answer_at}
 use Rattle.attr_table.specs.shared.Walk.{Task, tasks_in, line_tasks, list_tasks, tasks_of, expands, opened}
@@ -24,8 +25,7 @@ task_at n = n.task
 -- the answer of a node's occurrence is that of its task
 pub node_answer : (s : Setting) (n : Node) → IsNode s n →
     answer_at s n.occurrence ≡ Some (answer_of s.bodies n.task.origin n.task.item n.task.cause)
-node_answer s n is =
-    let e = is.item in let d = is.origin in let f = is.cause in rw (d, e, f) refl
+node_answer s n is = grind (arith, nat_tests)
 
 -- the first node comes before the second, with all that is inside either
 abbrev pub PartsAt : Node → Node → Type 0
@@ -88,16 +88,11 @@ item_occurrence list line k origin i n m =
 
 line_occurrence : (list line : ℕ) (l : Line) (n : Node) → Mem n (line_nodes list line l) →
     (item : ℕ) × (n.occurrence ≡ Root list line item)
-line_occurrence list line l n m =
-    let r = mem_backward (item_node list line l.origin) l.items n m in
-    (r.0, item_occurrence list line r.0 l.origin r.1 n r.3)
+line_occurrence list line l n m = grind (arith, nat_tests, mem_backward, item_occurrence)
 
 list_occurrence : (list : ℕ) (lines : List Line) (n : Node) → Mem n (list_nodes list lines) →
     (line item : ℕ) × (n.occurrence ≡ Root list line item)
-list_occurrence list lines n m =
-    let r = mem_backward (line_nodes list) lines n m in
-    let q = line_occurrence list r.0 r.1 n r.3 in
-    (r.0, q.0, q.1)
+list_occurrence list lines n m = grind (arith, nat_tests, mem_backward, line_occurrence)
 
 -- facts of the node of a root
 root_is : (s : Setting) (list line item : ℕ) (lines : List Line) (l : Line) (i : Item) (n : Node) →
@@ -173,9 +168,7 @@ map-child_nodes bodies n = go (expands n.task.item.state)
 
 pub set_state : (state : State) → expands state ≡ true → state ≡ Set
 set_state Set e = refl
-set_state Unset e = absurd (cc)
-set_state (Value bytes) e = absurd (cc)
-set_state Unspecified e = absurd (cc)
+set_state state e = absurd (cc)
 
 -- facts of the node of an item in a body
 pub child_is : (s : Setting) (n c : Node) → IsNode s n → Mem c (child_nodes s.bodies n) →

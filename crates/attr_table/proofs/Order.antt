@@ -1,5 +1,6 @@
 -- Precedence among occurrences.
 use Rattle.std.proofs.Common.{◌≡◌, ℕ, ◌<◌, ◌⊎◌, List, [], ◌∷◌, ◌++◌, refl, inl, inr, ⊎_elim, arith}
+use Rattle.std.proofs.lemmas.Bool.Decides.{nat_tests}
 use Rattle.std.proofs.lemmas.List.{append_assoc}
 use Rattle.attr_table.specs.Table.{Occurrence, Root, Inside, path, ComesFirst, IsEarlier}
 
@@ -9,16 +10,10 @@ first_irreflexive (x ∷ xs) h = ⊎_elim (λ lt. omega arith) (λ r. first_irre
 
 pub first_trans : (xs ys zs : List ℕ) → ComesFirst xs ys → ComesFirst ys zs → ComesFirst xs zs
 first_trans [] [] zs h k = absurd h
-first_trans [] (y ∷ ys) [] h k = absurd k
 first_trans [] (y ∷ ys) (z ∷ zs) h k = tt
 first_trans (x ∷ xs) [] zs h k = absurd h
-first_trans (x ∷ xs) (y ∷ ys) [] h k = absurd k
-first_trans (x ∷ xs) (y ∷ ys) (z ∷ zs) h k =
-    ⊎_elim
-    (λ (a : y < x). ⊎_elim (λ (b : z < y). inl (omega arith)) (λ r. let e = r.0 in inl (omega arith)) k)
-    (λ r. let e = r.0 in
-    ⊎_elim (λ (b : z < y). inl (omega arith)) (λ q. inr (let d = q.0 in cc, first_trans xs ys zs r.1 q.1)) k)
-    h
+first_trans (x ∷ xs) (y ∷ ys) (z ∷ zs) h k = grind (arith, nat_tests, first_trans xs ys zs)
+first_trans xs (y ∷ ys) [] h k = absurd k
 
 pub first_beginning : (xs : List ℕ) (y : ℕ) (ys : List ℕ) → ComesFirst xs (xs ++ y ∷ ys)
 first_beginning [] y ys = tt
@@ -31,19 +26,16 @@ Parts (x ∷ xs) [] = ⊥
 Parts (x ∷ xs) (y ∷ ys) = (y < x) ⊎ ((x ≡ y) × Parts xs ys)
 
 pub parts_first : (xs ys : List ℕ) → Parts xs ys → ComesFirst xs ys
-parts_first [] ys h = absurd h
-parts_first (x ∷ xs) [] h = absurd h
 parts_first (x ∷ xs) (y ∷ ys) h = ⊎_elim (λ lt. inl lt) (λ r. inr (r.0, parts_first xs ys r.1)) h
+parts_first xs ys h = absurd h
 
 pub parts_left : (xs ys more : List ℕ) → Parts xs ys → Parts (xs ++ more) ys
-parts_left [] ys more h = absurd h
-parts_left (x ∷ xs) [] more h = absurd h
 parts_left (x ∷ xs) (y ∷ ys) more h = ⊎_elim (λ lt. inl lt) (λ r. inr (r.0, parts_left xs ys more r.1)) h
+parts_left xs ys more h = absurd h
 
 pub parts_right : (xs ys more : List ℕ) → Parts xs ys → Parts xs (ys ++ more)
-parts_right [] ys more h = absurd h
-parts_right (x ∷ xs) [] more h = absurd h
 parts_right (x ∷ xs) (y ∷ ys) more h = ⊎_elim (λ lt. inl lt) (λ r. inr (r.0, parts_right xs ys more r.1)) h
+parts_right xs ys more h = absurd h
 
 pub parts_last : (xs : List ℕ) (j k : ℕ) → j < k → Parts (xs ++ k ∷ []) (xs ++ j ∷ [])
 parts_last [] j k lt = inl lt
@@ -78,16 +70,7 @@ below_child o (Inside parent index) b =
 
 -- what is at an occurrence or inside it comes after what parts from it before
 pub parts_below : (o p q : Occurrence) → Parts (path o) (path p) → (p ≡ q) ⊎ Below p q → Parts (path o) (path q)
-parts_below o p q h c =
-    ⊎_elim
-    (λ (e : p ≡ q). rw e at h)
-    (λ b. let r = below_path p q b in let e = r.2 in
-    rw e (parts_right (path o) (path p) (r.0 ∷ r.1) h))
-    c
+parts_below o p q h c = grind (arith, nat_tests, below_path, parts_right)
 
 pub earlier_below : (o p q : Occurrence) → IsEarlier o p → (p ≡ q) ⊎ Below p q → IsEarlier o q
-earlier_below o p q h c =
-    ⊎_elim
-    (λ (e : p ≡ q). rw e at h)
-    (λ b. first_trans (path o) (path p) (path q) h (below_later p q b))
-    c
+earlier_below o p q h c = grind (arith, nat_tests, first_trans, below_later)

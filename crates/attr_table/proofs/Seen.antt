@@ -1,15 +1,16 @@
 -- The slots and the stack of the plain search, in the terms of the walk.
 use Rattle.std.proofs.Common.{◌≡◌, ℕ, ◌+◌, ◌<◌, ◌≤◌, List, [], ◌∷◌, ◌++◌, length, get_or, set, take, map, Option, Some, None, refl, sym, ap, ◌∙◌}
-use Rattle.std.proofs.Common.{⊎_elim, arith, subst, Bool, true, false}
+use Rattle.std.proofs.Common.{⊎_elim, arith, Bool, true, false}
 use Rattle.std.specs.Prelude.{is_some, is_none, option_map, not, ◌==◌}
 use Rattle.std.specs.Borrow.{Bor}
 use Rattle.std.proofs.Math.ListN
+use Rattle.std.specs.List.{list_any}
+use Rattle.std.proofs.lemmas.Grind.{common_steps}
+use Rattle.std.proofs.lemmas.Bool.Decides.{nat_tests}
 use Rattle.std.proofs.lemmas.Bool.{cases_Bool, ne_eqb, or_parts, cases_lt}
 use Rattle.std.proofs.lemmas.List.{get_or-map, map-set, length-map, map-append, take_more, append-nil, length-append, get_or_past}
 use Rattle.std.proofs.lemmas.List.Elements.{filter-append, All-nil, All-push, All-pop}
 use Rattle.std.proofs.lemmas.List.Folds.{list_all_more, list_all_at}
-use Rattle.std.specs.List.{list_any}
-use mathlib.Core.Path.{fun_ext}
 use Rattle.attr_table.specs.Setting.{Item, Origin, body_of}
 use Rattle.attr_table.specs.Table.{Slots, slots_in}
 use Rattle.attr_table.specs.Cut.{is_done, is_filled, answer_of, no_answers}
@@ -53,8 +54,7 @@ done_more wanted slots i lt e before =
 is_filled-seen : (items : List PlainItem) (empty : Bool) → empty ≡ (length items == 0) →
     not empty ≡ is_filled (plain_items items)
 is_filled-seen [] empty e = rw e refl
-is_filled-seen (i ∷ items) empty e =
-    let d = ne_eqb (length (i ∷ items)) 0 (λ (f : length (i ∷ items) ≡ 0). omega arith) in rw (e, d) refl
+is_filled-seen (i ∷ items) empty e = grind (arith, nat_tests, ne_eqb)
 
 pub body_of-seen : (bodies : List (Bor (List PlainItem))) (a : ℕ) (d : Bor (List PlainItem)) → a < length bodies →
     body_of (plain_bodies bodies) a ≡ plain_items (get_or bodies a d).now
@@ -87,21 +87,16 @@ pub tasks_push : (slots : Slots) (origin : Origin) (cause : Option ℕ) (items :
     is_some (slots i.attribute) ≡ false →
     tasks_in origin cause (free_items slots (items ++ i ∷ []))
     ≡ record { origin = origin; item = i; cause = cause } ∷ tasks_in origin cause (free_items slots items)
-tasks_push slots origin cause items i e =
-    rw (filter-append (λ (i : Item). is_none (slots i.attribute)) items (i ∷ []), e)
-    (backwards-append (λ i. record { origin = origin; item = i; cause = cause } ∷ []) (free_items slots items) (i ∷ []))
+tasks_push slots origin cause items i e = grind (arith, nat_tests, filter-append, backwards-append)
 
 pub tasks_pass : (slots : Slots) (origin : Origin) (cause : Option ℕ) (items : List Item) (i : Item) →
     is_some (slots i.attribute) ≡ true →
     tasks_in origin cause (free_items slots (items ++ i ∷ [])) ≡ tasks_in origin cause (free_items slots items)
-tasks_pass slots origin cause items i e =
-    rw (filter-append (λ (i : Item). is_none (slots i.attribute)) items (i ∷ []), e, append-nil) refl
+tasks_pass slots origin cause items i e = grind (arith, nat_tests, filter-append, append-nil)
 
 pub items_more : (items : List PlainItem) (k : ℕ) (d : PlainItem) → k < length items →
     plain_items (take (k + 1) items) ≡ plain_items (take k items) ++ plain_item (get_or items k d) ∷ []
-items_more items k d lt =
-    let e = take_more items k d lt in
-    rw (e, map-append) refl
+items_more items k d lt = grind (arith, common_steps, take_more, map-append)
 
 pub plain_tasks-push : (stack : List PlainTask) (t : PlainTask) → plain_tasks (stack ++ t ∷ []) ≡ plain_task t ∷ plain_tasks stack
 plain_tasks-push stack t = backwards-append (λ t. plain_task t ∷ []) stack (t ∷ [])
@@ -137,28 +132,18 @@ pushed_same before stack after slots origin cause items k d lt filled same on_st
 
 pub slots_push : (n : ℕ) (stack after : List PlainTask) (t : PlainTask) → after ≡ stack ++ t ∷ [] →
     t.item.attribute < n → TasksHaveSlots n stack → TasksHaveSlots n after
-slots_push n stack after t e lt all =
-    rw e (All-push (λ (t : PlainTask). t.item.attribute < n) stack t all lt)
+slots_push n stack after t e lt all = grind (arith, common_steps, All-push)
 
 pub length-plain_tasks : (stack : List PlainTask) → length (plain_tasks stack) ≡ length stack
 length-plain_tasks [] = refl
-length-plain_tasks (t ∷ stack) =
-    let e = length-plain_tasks stack in
-    let d = length-append (plain_tasks stack) (plain_task t ∷ []) in
-    omega arith
+length-plain_tasks (t ∷ stack) = grind (arith, nat_tests, length-append, length-plain_tasks stack)
 
 -- no more tasks are pushed than there are items
 pub length-pushed : (stack after : List PlainTask) (slots : Slots) (origin : Origin) (cause : Option ℕ) (items : List Item) →
     plain_tasks after ≡ tasks_in origin cause (free_items slots items) ++ plain_tasks stack →
     length after ≤ length stack + length items
 length-pushed stack after slots origin cause items on_stack =
-    let e = length-plain_tasks stack in
-    let f = length-plain_tasks after in
-    let g = length-append (tasks_in origin cause (free_items slots items)) (plain_tasks stack) in
-    let h = length-tasks_in origin cause (free_items slots items) in
-    let k = length-free slots items in
-    let l = ap length on_stack in
-    omega arith
+    grind (arith, nat_tests, length-plain_tasks, length-append, length-tasks_in, length-free)
 
 pub plain_tasks-none : (stack : List PlainTask) → length stack ≡ 0 → plain_tasks stack ≡ []
 plain_tasks-none [] e = refl
@@ -179,10 +164,7 @@ no_tasks n stack e = rw e (All-nil (λ (t : PlainTask). t.item.attribute < n))
 pub none_free : (slots : Slots) (items : List PlainItem) →
     list_any (λ i. is_none (slots i.attribute)) items ≡ false → free_items slots (plain_items items) ≡ []
 none_free slots [] e = refl
-none_free slots (i ∷ items) e =
-    let parts = or_parts (is_none (slots i.attribute)) (list_any (λ i. is_none (slots i.attribute)) items) e in
-    let first = parts.0 in
-    rw first (none_free slots items parts.1)
+none_free slots (i ∷ items) e = grind (arith, nat_tests, or_parts, none_free slots items)
 
 -- a line without a free item, one that does not match, and one whose items are processed
 pub line_filled : (bodies : List (List Item)) (wanted : List ℕ) (row : Row) (slots : Slots) (taken : ℕ) →
@@ -214,25 +196,13 @@ line_searched bodies wanted row stack on_stack before after a b e empty is p =
 module _ (s s' : SearchState) (same : KeepsInput s s') {ts : List Task} {before after : Slots} {a b : ℕ} where
   pub searches_before : Searches (plain_bodies s'.bodies.now) s'.wanted.now ts before after a b →
       Searches (plain_bodies s.bodies.now) s.wanted.now ts before after a b
-  searches_before p =
-      subst (λ (w : Bor (List ℕ)). Searches (plain_bodies s.bodies.now) w.now ts before after a b) same.wanted
-      (subst (λ (v : Bor (List (Bor (List PlainItem)))). Searches (plain_bodies v.now) s'.wanted.now ts before after a b) same.bodies p)
+  searches_before p = grind (arith, nat_tests)
 
   pub searches_after : Searches (plain_bodies s.bodies.now) s.wanted.now ts before after a b →
       Searches (plain_bodies s'.bodies.now) s'.wanted.now ts before after a b
-  searches_after p =
-      subst (λ (w : Bor (List ℕ)). Searches (plain_bodies s'.bodies.now) w.now ts before after a b) (sym same.wanted)
-      (subst (λ (v : Bor (List (Bor (List PlainItem)))). Searches (plain_bodies v.now) s.wanted.now ts before after a b) (sym same.bodies) p)
+  searches_after p = grind (arith, nat_tests)
 
 -- empty slots have no answers
 pub plain_answers-empty : (slots : List (Option PlainAnswer)) →
     ((k : ℕ) → k < length slots → get_or slots k None ≡ None) → plain_answers slots ≡ no_answers
-plain_answers-empty slots empty = fun_ext at
-  where
-    at : (a : ℕ) → plain_answers slots a ≡ no_answers a
-    at a =
-        let e = plain_answers-at slots a in
-        ⊎_elim
-        (λ (lt : a < length slots). let f = empty a lt in rw f at e)
-        (λ (le : length slots ≤ a). let f = get_or_past slots a None le in rw f at e)
-        (cases_lt a (length slots))
+plain_answers-empty slots empty = grind (arith, nat_tests, plain_answers-at, get_or_past, cases_lt)

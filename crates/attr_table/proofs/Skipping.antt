@@ -1,5 +1,6 @@
 -- A search may skip the attributes that nothing depends on: a walk goes past their tasks and those of their bodies.
-use Rattle.std.proofs.Common.{◌≡◌, ℕ, List, [], ◌∷◌, ◌++◌, Option, Some, refl, subst, inl, inr, ⊎_elim, Bool, true, false}
+use Rattle.std.proofs.Common.{arith, ◌≡◌, ℕ, List, [], ◌∷◌, ◌++◌, Option, Some, refl, subst, inl, ⊎_elim, Bool, true, false}
+use Rattle.std.proofs.lemmas.Bool.Decides.{nat_tests}
 use Rattle.std.specs.Prelude.{All, is_some, if◌then◌else◌}
 use Rattle.std.proofs.lemmas.Bool.{cases_eq, eq-eqb, cases_Bool}
 use Rattle.std.proofs.lemmas.List.Elements.{All-head, All-tail}
@@ -36,31 +37,11 @@ done_narrowed needed (w ∷ wanted) slots all =
 -- a needed slot is filled in both, any other one in none
 narrowed_fill : (bodies : List (List Item)) (needed : ℕ → Bool) (t : Task) (slots : Slots) → needed t.item.attribute ≡ true →
     narrowed needed (fill bodies t slots) ≡ fill bodies t (narrowed needed slots)
-narrowed_fill bodies needed t slots n = fun_ext at
-  where
-    at : (a : ℕ) → narrowed needed (fill bodies t slots) a ≡ fill bodies t (narrowed needed slots) a
-    at a =
-        ⊎_elim
-        (λ (e : a ≡ t.item.attribute).
-        let g = eq-eqb a t.item.attribute e in
-        let m : needed a ≡ true = rw e n in
-        rw (g, m) refl)
-        (λ ne.
-        let e = fill_other bodies t slots a ne in
-        let d = fill_other bodies t (narrowed needed slots) a ne in
-        rw (e, d) refl)
-        (cases_eq a t.item.attribute)
+narrowed_fill bodies needed t slots n = grind (arith, nat_tests, eq-eqb, fill_other, cases_eq)
 
 narrowed_unfilled : (bodies : List (List Item)) (needed : ℕ → Bool) (t : Task) (slots : Slots) →
     needed t.item.attribute ≡ false → narrowed needed (fill bodies t slots) ≡ narrowed needed slots
-narrowed_unfilled bodies needed t slots n = fun_ext at
-  where
-    at : (a : ℕ) → narrowed needed (fill bodies t slots) a ≡ narrowed needed slots a
-    at a =
-        ⊎_elim
-        (λ (e : a ≡ t.item.attribute). let m : needed a ≡ false = rw e n in rw m refl)
-        (λ ne. let e = fill_other bodies t slots a ne in rw e refl)
-        (cases_eq a t.item.attribute)
+narrowed_unfilled bodies needed t slots n = grind (arith, nat_tests, fill_other, cases_eq)
 
 -- what holds of items holds of those of their tasks
 task_in : (P : Item → Type 0) (origin : Origin) (cause : Option ℕ) (items : List Item) (u : Task) → All P items →
@@ -96,8 +77,7 @@ walks_without : (bodies : List (List Item)) (done : Slots → Bool) (xs ts : Lis
     Walks bodies done ts slots final
 walks_without bodies done [] ts slots final filled w = w
 walks_without bodies done (x ∷ xs) ts slots final filled (stops d) = stops d
-walks_without bodies done (x ∷ xs) ts slots final filled (skips e w) =
-    walks_without bodies done xs ts slots final (λ t m. filled t (inr m)) w
+walks_without bodies done (x ∷ xs) ts slots final filled (skips e w) = grind (arith, nat_tests, walks_without bodies done xs ts slots final)
 walks_without bodies done (x ∷ xs) ts slots final filled (fills d e w) = let f = filled x (inl refl) in absurd (cc)
 
 -- the same tasks lead from the needed slots to the needed slots

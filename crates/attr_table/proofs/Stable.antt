@@ -1,5 +1,6 @@
 -- What a stable table has.
-use Rattle.std.proofs.Common.{◌≡◌, ℕ, ◌⊎◌, Option, Some, None, refl, inl, inr, ⊎_elim, true, false}
+use Rattle.std.proofs.Common.{arith, ◌≡◌, ℕ, ◌⊎◌, Option, Some, None, refl, inl, inr, ⊎_elim, true, false}
+use Rattle.std.proofs.lemmas.Bool.Decides.{nat_tests}
 use Rattle.std.specs.Prelude.{option_map, option_and_then, slice_get, is_some}
 use Rattle.std.proofs.lemmas.Option.{MatchOption-at_some, MatchOption-at_none}
 use Rattle.attr_table.specs.Setting.{Set, Item, Line, Origin, Setting, Answer}
@@ -28,12 +29,7 @@ origin_of s (Root list line item) i e = go (line_at s list line) e
         (origin : Origin) × (option_map (λ l. l.origin) l ≡ Some origin)
     go None d = absurd (cc)
     go (Some l) d = (l.origin, refl)
-origin_of s (Inside parent index) i e =
-    ⊎_elim
-    (λ (r : (j : Item) × (item_at s parent ≡ Some j)). origin_of s parent r.0 r.1)
-    (λ (n : item_at s parent ≡ None).
-    let d = rw n at e in absurd (cc))
-    (some_or_none (item_at s parent))
+origin_of s (Inside parent index) i e = grind (arith, nat_tests, some_or_none, origin_of s parent)
 
 pub answered : (s : Setting) (o : Occurrence) (i : Item) → item_at s o ≡ Some i →
     (x : Answer) × (answer_at s o ≡ Some x)
@@ -51,11 +47,7 @@ module _ (s : Setting) (start : Slots) (table : Table) (stable : IsStable s star
 
   -- an attribute with an entry had no answer at the start
   pub entry_free : (a : ℕ) (o : Occurrence) → table a ≡ Some o → start a ≡ None
-  entry_free a o e =
-      ⊎_elim
-      (λ (r : (x : Answer) × (start a ≡ Some x)). let d = stable_taken a r.0 r.1 in absurd (cc))
-      (λ (n : start a ≡ None). n)
-      (some_or_none (start a))
+  entry_free a o e = grind (arith, nat_tests, stable_taken, some_or_none)
 
   -- an entry is the earliest of its live occurrences
   pub entry_is : (a : ℕ) (o : Occurrence) → table a ≡ Some o → IsEarliest s table a (Some o)
@@ -77,10 +69,4 @@ module _ (s : Setting) (start : Slots) (table : Table) (stable : IsStable s star
   pub above_live : (o p : Occurrence) → IsReached s table p → Below o p →
       (i : Item) × IsLive s table o i × (i.state ≡ Set) × (table i.attribute ≡ Some o)
   above_live o (Root list line item) h b = absurd b
-  above_live o (Inside parent index) h b =
-      let live = (entry_is h.0.attribute parent h.3).0 in
-      ⊎_elim
-      (λ (e : o ≡ parent).
-      (h.0, record { item = rw e h.1; reached = rw e live.1.reached }, h.2, rw e h.3))
-      (λ (d : Below o parent). above_live o parent live.1.reached d)
-      b
+  above_live o (Inside parent index) h b = grind (arith, nat_tests, entry_is, above_live o parent)

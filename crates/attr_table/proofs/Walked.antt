@@ -1,35 +1,24 @@
 -- Walks: each has an end, one goes on from another, and tasks whose slots are filled may be left out.
-use Rattle.std.proofs.Common.{◌≡◌, ℕ, zero, suc, ◌+◌, ◌≤◌, List, [], ◌∷◌, ◌++◌, length, ◌<◌, set, Option, Some, None, refl, ⊎_elim, arith, Bool, true}
-use Rattle.std.proofs.Common.{false}
-use Rattle.std.specs.Prelude.{is_some, if◌then◌else◌}
+use Rattle.std.proofs.Common.{◌≡◌, ℕ, zero, suc, ◌+◌, ◌≤◌, List, [], ◌∷◌, ◌++◌, length, ◌<◌, set, Option, Some, None, refl, ⊎_elim, arith, Bool}
+use Rattle.std.proofs.Common.{true, false}
+use Rattle.std.specs.Prelude.{is_some}
+use Rattle.std.proofs.lemmas.Bool.Decides.{nat_tests}
 use Rattle.std.proofs.lemmas.Bool.{cases_eq, eq-eqb, ne_eqb, cases_Bool}
 use Rattle.std.proofs.lemmas.List.{length-append, append_assoc, append-nil, get_or-set_same, get_or-set_other}
-use mathlib.Core.Path.{fun_ext}
 use Rattle.attr_table.specs.Setting.{Item, Origin, Answer, body_of}
 use Rattle.attr_table.specs.Table.{Slots, slots_in}
 use Rattle.attr_table.specs.Cut.{answer_of}
-use Rattle.attr_table.specs.shared.Walk.{Task, Walks, ends, stops, skips, fills, tasks_in, expands, opened, fill, left_in, free_items}
+use Rattle.attr_table.specs.shared.Walk.{Task, Walks, ends, stops, skips, fills, tasks_in, opened, fill, left_in, free_items}
 use Rattle.attr_table.proofs.Stable.{some_or_none}
 
 pub length-tasks_in : (origin : Origin) (cause : Option ℕ) (items : List Item) →
     length (tasks_in origin cause items) ≡ length items
 length-tasks_in origin cause [] = refl
-length-tasks_in origin cause (i ∷ items) =
-    let e = length-tasks_in origin cause items in
-    let one : Task = record { origin = origin; item = i; cause = cause } in
-    let d = length-append (tasks_in origin cause items) (one ∷ []) in
-    omega arith
+length-tasks_in origin cause (i ∷ items) = grind (arith, nat_tests, length-append, length-tasks_in origin cause items)
 
 pub length-opened : (bodies : List (List Item)) (t : Task) →
     length (opened bodies t) ≤ length (body_of bodies t.item.attribute)
-length-opened bodies t = go (expands t.item.state)
-  where
-    go : (b : Bool) →
-        length (if b then tasks_in t.origin (Some t.item.attribute) (body_of bodies t.item.attribute) else [])
-        ≤ length (body_of bodies t.item.attribute)
-    go true =
-        let e = length-tasks_in t.origin (Some t.item.attribute) (body_of bodies t.item.attribute) in omega arith
-    go false = omega arith
+length-opened bodies t = grind (arith, nat_tests, length-tasks_in)
 
 pub fill_same : (bodies : List (List Item)) (t : Task) (slots : Slots) →
     is_some (fill bodies t slots t.item.attribute) ≡ true
@@ -42,56 +31,29 @@ fill_other bodies t slots a ne = let e = ne_eqb a t.item.attribute ne in rw e re
 -- a write to a row of slots
 pub slots_in-fill : (bodies : List (List Item)) (t : Task) (slots : List (Option Answer)) → t.item.attribute < length slots →
     slots_in (set slots t.item.attribute (Some (answer_of bodies t.origin t.item t.cause))) ≡ fill bodies t (slots_in slots)
-slots_in-fill bodies t slots lt = fun_ext at
-  where
-    x : Option Answer
-    x = Some (answer_of bodies t.origin t.item t.cause)
-
-    at : (a : ℕ) → slots_in (set slots t.item.attribute x) a ≡ fill bodies t (slots_in slots) a
-    at a =
-        ⊎_elim
-        (λ (f : a ≡ t.item.attribute).
-        let g = eq-eqb a t.item.attribute f in
-        let h = get_or-set_same slots t.item.attribute x None lt in
-        rw g (rw f h))
-        (λ ne. let g = ne_eqb a t.item.attribute ne in rw g (get_or-set_other slots t.item.attribute a x None ne))
-        (cases_eq a t.item.attribute)
+slots_in-fill bodies t slots lt = grind (arith, nat_tests, eq-eqb, get_or-set_same, ne_eqb, get_or-set_other, cases_eq)
 
 -- a slot that is filled stays so
 pub fill_keeps : (bodies : List (List Item)) (t : Task) (slots : Slots) (a : ℕ) → is_some (slots a) ≡ true →
     is_some (fill bodies t slots a) ≡ true
-fill_keeps bodies t slots a e =
-    ⊎_elim
-    (λ (d : a ≡ t.item.attribute). rw d (fill_same bodies t slots))
-    (λ ne. let d = fill_other bodies t slots a ne in rw d e)
-    (cases_eq a t.item.attribute)
+fill_keeps bodies t slots a e = grind (arith, nat_tests, fill_same, fill_other, cases_eq)
 
 left_same : (bodies : List (List Item)) (old new : Slots) → ((a : ℕ) → new a ≡ old a) →
     left_in bodies old ≡ left_in bodies new
 left_same [] old new same = refl
-left_same (body ∷ bodies) old new same =
-    let e = same 0 in
-    let d = left_same bodies (λ a. old (suc a)) (λ a. new (suc a)) (λ a. same (suc a)) in
-    rw (e, d) refl
+left_same (body ∷ bodies) old new same = grind (arith, nat_tests, left_same bodies)
 
 left_one : (bodies : List (List Item)) (old new : Slots) (a : ℕ) → is_some (old a) ≡ false → is_some (new a) ≡ true →
     ((b : ℕ) → (b ≡ a → ⊥) → new b ≡ old b) →
     left_in bodies old ≡ left_in bodies new + length (body_of bodies a)
 left_one [] old new a empty full same = omega arith
-left_one (body ∷ bodies) old new zero empty full same =
-    let d = left_same bodies (λ a. old (suc a)) (λ a. new (suc a)) (λ a. same (suc a) (λ (e : suc a ≡ 0). omega arith)) in
-    rw (empty, full) (omega arith)
-left_one (body ∷ bodies) old new (suc a) empty full same =
-    let d = left_one bodies (λ a. old (suc a)) (λ a. new (suc a)) a empty full
-    (λ b ne. same (suc b) (λ (e : suc b ≡ suc a). ne (omega arith))) in
-    let e = same 0 (λ (e : 0 ≡ suc a). omega arith) in
-    rw e (omega arith)
+left_one (body ∷ bodies) old new zero empty full same = grind (arith, nat_tests, left_same)
+left_one (body ∷ bodies) old new (suc a) empty full same = grind (arith, nat_tests, left_one bodies)
 
 -- a task that fills its slot leaves as many fewer items as its attribute's body has
 pub left_in-fill : (bodies : List (List Item)) (t : Task) (slots : Slots) → is_some (slots t.item.attribute) ≡ false →
     left_in bodies slots ≡ left_in bodies (fill bodies t slots) + length (body_of bodies t.item.attribute)
-left_in-fill bodies t slots empty =
-    left_one bodies slots (fill bodies t slots) t.item.attribute empty (fill_same bodies t slots) (fill_other bodies t slots)
+left_in-fill bodies t slots empty = grind (arith, nat_tests, left_one, fill_same, fill_other)
 
 -- from each point a walk leads to an end
 pub walk_from : (bodies : List (List Item)) (done : Slots → Bool) (fuel : ℕ) (ts : List Task) (slots : Slots) →
@@ -159,8 +121,7 @@ leaves_out_fill : (bodies : List (List Item)) (t : Task) {slots : Slots} {ts us 
     LeavesOut (fill bodies t slots) ts us
 leaves_out_fill bodies t none_left = none_left
 leaves_out_fill bodies t (kept_one l) = kept_one (leaves_out_fill bodies t l)
-leaves_out_fill bodies t {slots} (left_one_out {t = u} e l) =
-    left_one_out (fill_keeps bodies t slots u.item.attribute e) (leaves_out_fill bodies t l)
+leaves_out_fill bodies t {slots} (left_one_out {t = u} e l) = grind (arith, nat_tests, left_one_out, fill_keeps, leaves_out_fill bodies t l)
 
 -- up to the first that is kept, all are skipped
 all_out : (bodies : List (List Item)) (done : Slots → Bool) {slots : Slots} {ts : List Task} → LeavesOut slots ts [] →
@@ -205,13 +166,10 @@ leaves_item slots origin cause i items rest =
 leaves_filled : (slots : Slots) (origin : Origin) (cause : Option ℕ) (items : List Item) →
     LeavesOut slots (tasks_in origin cause items) (tasks_in origin cause (free_items slots items))
 leaves_filled slots origin cause [] = none_left
-leaves_filled slots origin cause (i ∷ items) =
-    leaves_item slots origin cause i items (leaves_filled slots origin cause items)
+leaves_filled slots origin cause (i ∷ items) = grind (arith, nat_tests, leaves_item, leaves_filled slots origin cause items)
 
 pub walks_past : (bodies : List (List Item)) (done : Slots → Bool) (slots final : Slots) (origin : Origin) (cause : Option ℕ) (items : List Item)
     (rest : List Task) →
     Walks bodies done (tasks_in origin cause (free_items slots items) ++ rest) slots final →
     Walks bodies done (tasks_in origin cause items ++ rest) slots final
-walks_past bodies done slots final origin cause items rest w =
-    walks_with bodies done w (tasks_in origin cause items ++ rest)
-    (leaves_out_append (leaves_filled slots origin cause items) (leaves_none slots rest))
+walks_past bodies done slots final origin cause items rest w = grind (arith, nat_tests, walks_with, leaves_out_append, leaves_filled, leaves_none)

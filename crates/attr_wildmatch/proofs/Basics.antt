@@ -1,6 +1,6 @@
 -- Cases on a test, and a fact of each element by recursion.
-use Rattle.std.proofs.Common.{◌≡◌, ◌≢◌, ℕ, Bool, true, false, not, ◌&&◌, ◌||◌, ◌==◌, ◌⊎◌, inl, inr, List, [], ◌∷◌, ◌++◌, reverse, All, Option, Some}
-use Rattle.std.proofs.Common.{None, refl, sym, ap, subst, ◌∙◌, arith}
+use Rattle.std.proofs.Common.{◌≡◌, ◌≢◌, ℕ, Bool, true, false, not, ◌==◌, List, [], ◌∷◌, ◌++◌, reverse, All, Option, Some, None, refl, sym, ap, subst}
+use Rattle.std.proofs.Common.{◌∙◌, arith, ne_eqb}
 use Rattle.std.proofs.lemmas.List.{reverse-append}
 use Rattle.std.proofs.lemmas.List.Elements.{All-nil, All-cons, All-head, All-tail}
 
@@ -8,15 +8,6 @@ use Rattle.std.proofs.lemmas.List.Elements.{All-nil, All-cons, All-head, All-tai
 pub by_test : {P : Type 0} (v : Bool) → (v ≡ true → P) → (v ≡ false → P) → P
 by_test true pass fail = pass refl
 by_test false pass fail = fail refl
-
-pub unequal : (a b : ℕ) → a ≢ b → (a == b) ≡ false
-unequal a b h = grind arith
-
-pub equal : (a b : ℕ) → (a == b) ≡ true → a ≡ b
-equal a b h = grind arith
-
-pub not_equal : (a b : ℕ) → (a == b) ≡ false → a ≢ b
-not_equal a b h = grind arith
 
 -- P holds of each element
 abbrev pub Each : {A : Type 0} → (A → Type 0) → List A → Type 0
@@ -35,26 +26,6 @@ pub Each-append : {A : Type 0} (P : A → Type 0) (xs ys : List A) → Each P xs
 Each-append P [] ys h k = k
 Each-append P (x ∷ xs) ys h k = (h.0, Each-append P xs ys h.1 k)
 
-pub and_parts : (a b : Bool) → (a && b) ≡ true → (a ≡ true) × (b ≡ true)
-and_parts true b h = (refl, h)
-and_parts false b h = cc
-
-pub and_both : (a b : Bool) → a ≡ true → b ≡ true → (a && b) ≡ true
-and_both true b h k = k
-and_both false b h k = h
-
-pub or_part : (a b : Bool) → (a || b) ≡ true → (a ≡ true) ⊎ (b ≡ true)
-or_part true b h = inl refl
-or_part false b h = inr h
-
-pub or_left : (a b : Bool) → a ≡ true → (a || b) ≡ true
-or_left true b h = refl
-or_left false b h = cc
-
-pub or_right : (a b : Bool) → b ≡ true → (a || b) ≡ true
-or_right true b h = refl
-or_right false b h = h
-
 pub true_false : (v : Bool) → v ≡ true → v ≡ false → ⊥
 true_false v t f = let e : true ≡ false = sym t ∙ f in cc
 
@@ -62,10 +33,7 @@ pub differs : (a b : ℕ) → not (a == b) ≡ true → a ≢ b
 differs a b h = grind arith
 
 pub differs_so : (a b : ℕ) → a ≢ b → not (a == b) ≡ true
-differs_so a b h = rw (unequal a b h)
-
-pub equal_so : (a b : ℕ) → a ≡ b → (a == b) ≡ true
-equal_so a b h = grind arith
+differs_so a b h = rw (ne_eqb a b h)
 
 pub reverse-cons : {A : Type 0} (x : A) (xs : List A) → reverse (x ∷ xs) ≡ reverse xs ++ x ∷ []
 reverse-cons x xs = reverse-append (x ∷ []) xs

@@ -1,6 +1,6 @@
 -- A byte that is put into a set, and the bytes that the members of a bracket put in.
-use Rattle.std.proofs.Common.{◌≡◌, ℕ, ◌+◌, ◌*◌, ◌/◌, ◌%◌, ◌^◌, ◌<◌, Bool, true, false, ◌||◌, ◌==◌, nat_lt, ◌&&◌, [], ◌∷◌, ◌++◌, take, bit_or}
-use Rattle.std.proofs.Common.{List, length, get_or, set, refl, sym, ◌∙◌, ap, inl, inr, arith, get_or-set_same, get_or-set_other, eq-eqb, ne_eqb, w64}
+use Rattle.std.proofs.Common.{◌≡◌, ℕ, ◌+◌, ◌*◌, ◌/◌, ◌%◌, ◌^◌, ◌<◌, Bool, true, false, ◌||◌, ◌==◌, nat_lt, ◌&&◌, [], ◌∷◌, ◌++◌, take, bit_or, List}
+use Rattle.std.proofs.Common.{length, get_or, set, refl, sym, ◌∙◌, ap, inl, inr, arith, get_or-set_same, get_or-set_other, eq-eqb, ne_eqb, w64}
 use Rattle.std.proofs.lemmas.Bool.{cases_eq}
 use Rattle.std.proofs.lemmas.Bool.Decides.{nat_tests}
 use Rattle.std.proofs.lemmas.List.{take_more}
@@ -58,26 +58,13 @@ and_false : (a : Bool) → (a && false) ≡ false
 and_false true = refl
 and_false false = refl
 
--- the byte n comes beside those below it
-pub next_held : (old held : Bool) (b n : ℕ) →
-    ((old || (held && nat_lt b n)) || (held && b == n)) ≡ (old || (held && nat_lt b (n + 1)))
-next_held true held b n = refl
-next_held false true b n = grind (arith, nat_tests)
-next_held false false b n = refl
-
 pub one_held : (old : Bool) (held : ℕ → Bool) (b n : ℕ) → held n ≡ true → (old || b == n) ≡ (old || (held b && b == n))
 one_held true held b n h = refl
-one_held false held b n h = elim (cases_eq b n) [
-  | inl same ↦ ap (λ x. x && b == n) (sym (ap held same ∙ h))
-  | inr other ↦ ne_eqb b n other ∙ sym (ap (λ x. held b && x) (ne_eqb b n other) ∙ and_false (held b))
-]
+one_held false held b n h = grind (arith, nat_tests, cases_eq, and_false)
 
 pub none_held : (old : Bool) (held : ℕ → Bool) (b n : ℕ) → held n ≡ false → old ≡ (old || (held b && b == n))
 none_held true held b n h = refl
-none_held false held b n h = elim (cases_eq b n) [
-  | inl same ↦ sym (ap (λ x. x && b == n) (ap held same ∙ h))
-  | inr other ↦ sym (ap (λ x. held b && x) (ne_eqb b n other) ∙ and_false (held b))
-]
+none_held false held b n h = grind (arith, nat_tests, cases_eq, and_false)
 
 pub all_below : (held : Bool) (b n : ℕ) → (held ≡ true → b < n) → (held && nat_lt b n) ≡ held
 all_below true b n h = let l : b < n = h refl in grind (arith, nat_tests)
@@ -89,11 +76,7 @@ or_nil false = refl
 
 list_any_push : {A : Type 0} (p : A → Bool) (xs : List A) (x : A) → list_any p (xs ++ x ∷ []) ≡ (list_any p xs || p x)
 list_any_push p [] x = or_nil (p x)
-list_any_push p (y ∷ xs) x = ap (λ r. p y || r) (list_any_push p xs x) ∙ or_assoc (p y) (list_any p xs) (p x)
-  where
-    or_assoc : (a b c : Bool) → (a || (b || c)) ≡ ((a || b) || c)
-    or_assoc true b c = refl
-    or_assoc false b c = refl
+list_any_push p (y ∷ xs) x = grind (arith, nat_tests, list_any_push p xs x)
 
 -- one member more holds what it holds itself and what those before it hold
 pub held_more : (ms : List Member) (i : ℕ) (d : Member) (b : ℕ) → i < length ms →

@@ -1,7 +1,8 @@
 -- How many bytes there are from the first `]` on.
-use Rattle.std.proofs.Common.{◌≡◌, ◌≢◌, ◌≤◌, ◌<◌, ℕ, zero, suc, ◌+◌, ◌-◌, ◌==◌, ◌&&◌, List, [], ◌∷◌, length, drop, Option, Some}
-use Rattle.std.proofs.Common.{None, option_map, refl, sym, ap, ◌∙◌, arith}
+use Rattle.std.proofs.Common.{◌≡◌, ◌≢◌, ◌≤◌, ◌<◌, ℕ, suc, ◌+◌, ◌-◌, ◌==◌, ◌&&◌, List, [], ◌∷◌, length, drop, Option, Some, None, option_map, refl}
+use Rattle.std.proofs.Common.{sym, ap, ◌∙◌, arith}
 use Rattle.std.specs.List.{position, position_from}
+use Rattle.std.proofs.lemmas.Bool.Decides.{nat_tests}
 use Rattle.std.proofs.lemmas.Iterator.Adapters.{position_from-zero}
 use Rattle.attr_wildmatch.specs.declared.bracket.Class.{Class}
 use Rattle.attr_wildmatch.specs.declared.bracket.Member.{Member}
@@ -14,9 +15,7 @@ use Rattle.attr_wildmatch.proofs.Names.{closes}
 
 pub from_close-few : (bs : List ℕ) → from_close bs ≤ length bs
 from_close-few [] = omega arith
-from_close-few (b ∷ bs) =
-    let few = from_close-few bs in
-    by_test (b == close_bracket) (λ t. rw t (omega arith)) (λ t. rw t (omega (arith, few)))
+from_close-few (b ∷ bs) = grind (arith, nat_tests, from_close-few bs)
 
 from_close-none : (i : ℕ) (bs : List ℕ) → position_from closes i bs ≡ None → from_close bs ≡ 0
 from_close-none i [] h = refl
@@ -35,37 +34,22 @@ pub position-none : (bs : List ℕ) → position closes bs ≡ None → from_clo
 position-none bs h = from_close-none 0 bs (sym (position_from-zero closes bs) ∙ h)
 
 pub position-some : (bs : List ℕ) (j : ℕ) → position closes bs ≡ Some j → (from_close bs + j ≡ length bs) × (0 < from_close bs)
-position-some bs j h =
-    let r = from_close-some 0 bs j (sym (position_from-zero closes bs) ∙ h) in
-    (omega (arith, r.0), r.1)
+position-some bs j h = grind (arith, nat_tests, from_close-some, position_from-zero, closes)
 
 -- the first `]`, by how many bytes there are from it on
 pub close-position : (bs : List ℕ) → from_close bs ≢ 0 → position closes bs ≡ Some (length bs - from_close bs)
-close-position bs h = found (position closes bs) refl
-  where
-    found : (o : Option ℕ) → position closes bs ≡ o → position closes bs ≡ Some (length bs - from_close bs)
-    found None e = absurd (h (position-none bs e))
-    found (Some j) e =
-        let r = position-some bs j e in
-        let same : j ≡ length bs - from_close bs = omega (arith, r.0) in e ∙ ap Some same
+close-position bs h = grind (arith, nat_tests, closes, position-none, position-some)
 
 pub no-close : (bs : List ℕ) → from_close bs ≡ 0 → position closes bs ≡ None
-no-close bs h = found (position closes bs) refl
-  where
-    found : (o : Option ℕ) → position closes bs ≡ o → position closes bs ≡ None
-    found None e = e
-    found (Some j) e = absurd (let r = position-some bs j e in omega (arith, r.1, h))
+no-close bs h = grind (arith, nat_tests, closes, position-some)
 
 -- what is left of the bytes has the same first `]`, unless that is passed
 pub close-tail : (n b : ℕ) (bs : List ℕ) → (n ≤ length (b ∷ bs) → n ≡ from_close (b ∷ bs)) → n ≤ length bs → n ≡ from_close bs
-close-tail n b bs h le =
-    let e = h (omega (arith, le)) in
-    by_test (b == close_bracket) (λ t. absurd (let f = rw t at e in omega (arith, f, le))) (λ t. rw t at e)
+close-tail n b bs h le = grind (arith, nat_tests)
 
 pub close-drop : (n k : ℕ) (bs : List ℕ) → (n ≤ length bs → n ≡ from_close bs) → n ≤ length (drop k bs) → n ≡ from_close (drop k bs)
-close-drop n zero bs h le = h le
-close-drop n (suc k) [] h le = h le
 close-drop n (suc k) (b ∷ bs) h le = close-drop n k bs (close-tail n b bs h) le
+close-drop n k bs h le = h le
 
 -- what follows a member is an end of the bytes
 abbrev pub IsEnd : List ℕ → List ℕ → Type 0

@@ -1,7 +1,8 @@
 -- What a token that stands alone takes, and how a directory star goes on from directory to directory.
-use Rattle.std.proofs.Common.{◌≡◌, ◌≢◌, ℕ, zero, suc, ◌+◌, ◌-◌, ◌<◌, Bool, true, false, not, ◌&&◌, ◌||◌, ◌==◌, List, [], ◌∷◌, length, drop, get_or}
-use Rattle.std.proofs.Common.{slice_index, Some, None, refl, sym, ap, ◌∙◌, arith, add-one}
+use Rattle.std.proofs.Common.{◌≡◌, ◌≢◌, ℕ, zero, suc, ◌+◌, ◌<◌, Bool, true, false, not, ◌&&◌, ◌||◌, ◌==◌, List, [], ◌∷◌, length, drop, get_or, Some}
+use Rattle.std.proofs.Common.{None, refl, sym, ap, ◌∙◌, arith, add-one}
 use Rattle.std.specs.List.{list_any, position, position_from}
+use Rattle.std.proofs.lemmas.Bool.Decides.{nat_tests}
 use Rattle.std.proofs.lemmas.List.Quantifiers.{position-Some}
 use Rattle.std.proofs.lemmas.Iterator.Adapters.{position_from-zero}
 use Rattle.attr_wildmatch.specs.declared.case.Case.{Case}
@@ -34,19 +35,11 @@ neither true b = refl
 neither false b = refl
 
 ends_behind : (b c : ℕ) (bs : List ℕ) → ends_in_slash (c ∷ bs) ≡ ends_in_slash (b ∷ c ∷ bs)
-ends_behind b c bs =
-    let e : suc (length (c ∷ bs) - 1) ≡ length (b ∷ c ∷ bs) - 1 = omega arith in
-    ap (λ n. is_slash (slice_index (b ∷ c ∷ bs) n)) e
+ends_behind b c bs = grind (arith, nat_tests)
 
 last_slash : (case : Case) (b : ℕ) (bs : List ℕ) → slash_then (matches case []) (b ∷ bs) ≡ ends_in_slash (b ∷ bs)
 last_slash case b [] = only (b == slash)
-last_slash case b (c ∷ bs) =
-    neither (b == slash) (slash_then (matches case []) (c ∷ bs)) ∙ (last_slash case c bs ∙ ends_behind b c bs)
-
--- a directory star alone takes nothing
-pub dirs_alone_empty : (case : Case) (v : List ℕ) → length v ≡ 0 → matches case (dirs ∷ []) v ≡ true
-dirs_alone_empty case [] h = refl
-dirs_alone_empty case (b ∷ bs) h = absurd (omega arith)
+last_slash case b (c ∷ bs) = grind (arith, nat_tests, neither, ends_behind, last_slash case c bs)
 
 -- or what ends in a slash
 pub dirs_alone : (case : Case) (v : List ℕ) → length v ≢ 0 → matches case (dirs ∷ []) v ≡ ends_in_slash v
@@ -79,6 +72,4 @@ slash_then-found f (b ∷ bs) (suc k) inside here before =
 -- after the first slash the next directory begins
 pub next_directory : (f : List ℕ → Bool) (v : List ℕ) (k : ℕ) → position is_slash v ≡ Some k →
     slash_then f v ≡ (f (drop (k + 1) v) || slash_then f (drop (k + 1) v))
-next_directory f v k h =
-    let found = position-Some is_slash v k 0 h in
-    slash_then-found f v k found.0 found.1 found.2 ∙ ap (λ n. f (drop n v) || slash_then f (drop n v)) (sym (add-one k))
+next_directory f v k h = grind (arith, nat_tests, position-Some, slash_then-found, add-one)

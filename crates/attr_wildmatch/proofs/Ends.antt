@@ -1,12 +1,14 @@
 -- Tokens that take one byte each, taken off at either end with their bytes, and the tokens that then take any rest.
-use Rattle.std.proofs.Common.{◌≡◌, ℕ, Bool, true, false, ◌&&◌, List, [], ◌∷◌, ◌++◌, length, refl, sym, ap, subst, ◌∙◌, arith}
+use Rattle.std.proofs.Common.{◌≡◌, ℕ, Bool, true, false, ◌&&◌, List, [], ◌∷◌, ◌++◌, length, refl, sym, ap, ◌∙◌, arith}
+use Rattle.std.proofs.lemmas.Bool.Decides.{nat_tests}
+use Rattle.std.proofs.lemmas.Bool.{and_from, and_parts}
 use Rattle.attr_wildmatch.specs.declared.case.Case.{Case}
 use Rattle.attr_wildmatch.specs.Tokens.{Token, lit, one, set, star, dirs, rest, token_ends_in_slash}
 use Rattle.attr_wildmatch.specs.inner.Bordered.{is_bordered}
 use Rattle.attr_wildmatch.specs.Matching.{Match}
 use Rattle.attr_wildmatch.specs.Deciding.{takes_byte, matches}
 use Rattle.attr_wildmatch.specs.inner.RowIndexes.{may_be_nothing}
-use Rattle.attr_wildmatch.proofs.Basics.{and_parts, and_both, by_test}
+use Rattle.attr_wildmatch.proofs.Basics.{by_test}
 use Rattle.attr_wildmatch.proofs.DecidingLemmas.{match_of_test, test_of_match}
 use Rattle.attr_wildmatch.proofs.Reached.{match-last, match-unlast}
 use Rattle.attr_wildmatch.proofs.Splits.{is_single, single_takes, single_taken}
@@ -20,9 +22,7 @@ single_of : (t : Token) → may_be_nothing t ≡ false → is_single t ≡ true
 single_of (lit c) h = refl
 single_of one h = refl
 single_of (set negated ms) h = refl
-single_of star h = cc
-single_of dirs h = cc
-single_of rest h = cc
+single_of t h = cc
 
 -- the first token takes the first byte, and the others the rest
 pub matches-cons : (case : Case) (t : Token) (ts : List Token) (b : ℕ) (bs : List ℕ) → may_be_nothing t ≡ false →
@@ -30,9 +30,7 @@ pub matches-cons : (case : Case) (t : Token) (ts : List Token) (b : ℕ) (bs : L
 matches-cons case (lit c) ts b bs h = refl
 matches-cons case one ts b bs h = refl
 matches-cons case (set negated ms) ts b bs h = refl
-matches-cons case star ts b bs h = cc
-matches-cons case dirs ts b bs h = cc
-matches-cons case rest ts b bs h = cc
+matches-cons case t ts b bs h = cc
 
 not_snoc : (xs : List ℕ) (x : ℕ) → [] ≡ xs ++ x ∷ [] → ⊥
 not_snoc [] x h = cc
@@ -43,12 +41,7 @@ snoc_parts : (xs ys : List ℕ) (x y : ℕ) → xs ++ x ∷ [] ≡ ys ++ y ∷ [
 snoc_parts [] [] x y h = let e : x ≡ y = cc in (refl, e)
 snoc_parts [] (b ∷ ys) x y h = let e : [] ≡ ys ++ y ∷ [] = cc in absurd (not_snoc ys y e)
 snoc_parts (a ∷ xs) [] x y h = let e : [] ≡ xs ++ x ∷ [] = cc in absurd (not_snoc xs x e)
-snoc_parts (a ∷ xs) (b ∷ ys) x y h =
-    let here : a ≡ b = cc in
-    let tail : xs ++ x ∷ [] ≡ ys ++ y ∷ [] = cc in
-    let p = snoc_parts xs ys x y tail in
-    let front : a ∷ xs ≡ b ∷ ys = ap (λ z. z ∷ xs) here ∙ ap (λ zs. b ∷ zs) p.0 in
-    (front, p.1)
+snoc_parts (a ∷ xs) (b ∷ ys) x y h = grind (arith, nat_tests, snoc_parts xs ys x y)
 
 -- the last token takes the last byte, and those before it the bytes before it
 pub matches-snoc : (case : Case) (ts : List Token) (t : Token) (v : List ℕ) (b : ℕ) → may_be_nothing t ≡ false →
@@ -56,18 +49,10 @@ pub matches-snoc : (case : Case) (ts : List Token) (t : Token) (v : List ℕ) (b
 matches-snoc case ts t v b h = same_answer (matches case (ts ++ t ∷ []) (v ++ b ∷ [])) (takes_byte case t b && matches case ts v) split joined
   where
     split : matches case (ts ++ t ∷ []) (v ++ b ∷ []) ≡ true → (takes_byte case t b && matches case ts v) ≡ true
-    split m =
-        let l = match-unlast case ts t (v ++ b ∷ []) (match_of_test case (ts ++ t ∷ []) (v ++ b ∷ []) m) in
-        let s = single_taken case t l.part (single_of t h) l.takes in
-        let p = snoc_parts v l.front b s.0 (l.whole ∙ ap (λ x. l.front ++ x) s.1) in
-        and_both (takes_byte case t b) (matches case ts v)
-        (ap (takes_byte case t) p.1 ∙ s.2) (test_of_match case ts v (subst (Match case ts) (sym p.0) l.before))
+    split m = grind (arith, nat_tests, match-unlast, match_of_test, single_taken, single_of, snoc_parts, and_from, test_of_match)
 
     joined : (takes_byte case t b && matches case ts v) ≡ true → matches case (ts ++ t ∷ []) (v ++ b ∷ []) ≡ true
-    joined m =
-        let w = and_parts (takes_byte case t b) (matches case ts v) m in
-        test_of_match case (ts ++ t ∷ []) (v ++ b ∷ [])
-        (match-last case ts t v (b ∷ []) (match_of_test case ts v w.1) (single_takes case t b w.0))
+    joined m = grind (arith, nat_tests, and_parts, test_of_match, match-last, match_of_test, single_takes)
 
 pub matches-snoc_nil : (case : Case) (ts : List Token) (t : Token) → may_be_nothing t ≡ false → matches case (ts ++ t ∷ []) [] ≡ false
 matches-snoc_nil case ts t h = by_test (matches case (ts ++ t ∷ []) []) (λ m. absurd (clash m)) (λ f. f)
@@ -80,12 +65,8 @@ matches-snoc_nil case ts t h = by_test (matches case (ts ++ t ∷ []) []) (λ m.
 
 bordered_start : (border : Bool) (ts : List Token) → is_bordered border ts ≡ true → is_bordered true ts ≡ true
 bordered_start border [] h = refl
-bordered_start border (lit c ∷ ts) h = h
-bordered_start border (one ∷ ts) h = h
-bordered_start border (set negated ms ∷ ts) h = h
-bordered_start border (star ∷ ts) h = h
 bordered_start border (dirs ∷ ts) h = let w = and_parts border (is_bordered true ts) h in w.1
-bordered_start border (rest ∷ ts) h = h
+bordered_start border ts h = h
 
 -- without its first token a list is bordered as well
 pub bordered-tail : (t : Token) (ts : List Token) → is_bordered true (t ∷ ts) ≡ true → is_bordered true ts ≡ true
@@ -103,25 +84,20 @@ bordered-init border (lit c ∷ ts) t h = bordered-init (token_ends_in_slash (li
 bordered-init border (one ∷ ts) t h = bordered-init (token_ends_in_slash one) ts t h
 bordered-init border (set negated ms ∷ ts) t h = bordered-init (token_ends_in_slash (set negated ms)) ts t h
 bordered-init border (star ∷ ts) t h = bordered-init (token_ends_in_slash star) ts t h
-bordered-init border (dirs ∷ ts) t h =
-    let w = and_parts border (is_bordered true (ts ++ t ∷ [])) h in
-    and_both border (is_bordered true ts) w.0 (bordered-init true ts t w.1)
+bordered-init border (dirs ∷ ts) t h = grind (arith, nat_tests, and_parts, and_from, bordered-init true ts t)
 bordered-init border (rest ∷ ts) t h = bordered-init (token_ends_in_slash rest) ts t h
 
 -- one step at the front: the token takes the byte
 pub front_step : (case : Case) (ts left tail : List Token) (v bytes others : List ℕ) (t : Token) (b : ℕ) → may_be_nothing t ≡ false →
     left ≡ t ∷ tail → bytes ≡ b ∷ others → takes_byte case t b ≡ true → matches case ts v ≡ matches case left bytes →
     matches case ts v ≡ matches case tail others
-front_step case ts left tail v bytes others t b single l r h before =
-    before ∙ (ap (λ x. matches case x bytes) l ∙ (ap (matches case (t ∷ tail)) r ∙
-    (matches-cons case t tail b others single ∙ ap (λ x. x && matches case tail others) h)))
+front_step case ts left tail v bytes others t b single l r h before = grind (arith, nat_tests, matches-cons)
 
 -- one step at the end: the test of the token decides, and what is before it
 pub end_step : (case : Case) (ts left before : List Token) (v bytes others : List ℕ) (t : Token) (b : ℕ) → may_be_nothing t ≡ false →
     left ≡ before ++ t ∷ [] → bytes ≡ others ++ b ∷ [] → matches case ts v ≡ matches case left bytes →
     matches case ts v ≡ (takes_byte case t b && matches case before others)
-end_step case ts left before v bytes others t b single l r e =
-    e ∙ (ap (λ x. matches case x bytes) l ∙ (ap (matches case (before ++ t ∷ [])) r ∙ matches-snoc case before t others b single))
+end_step case ts left before v bytes others t b single l r e = grind (arith, nat_tests, matches-snoc)
 
 pub end_none : (case : Case) (ts left before : List Token) (v bytes : List ℕ) (t : Token) → may_be_nothing t ≡ false →
     left ≡ before ++ t ∷ [] → length bytes ≡ 0 → matches case ts v ≡ matches case left bytes → matches case ts v ≡ false
@@ -136,5 +112,4 @@ no_match case ts v f m = let e : true ≡ false = sym (test_of_match case ts v m
 pub exact_answer : (case : Case) (ts : List Token) (v : List ℕ) (answer : Bool) → (answer ≡ true → Match case ts v) →
     (Match case ts v → answer ≡ true) →
     answer ≡ matches case ts v
-exact_answer case ts v answer so back =
-    same_answer answer (matches case ts v) (λ t. test_of_match case ts v (so t)) (λ t. back (match_of_test case ts v t))
+exact_answer case ts v answer so back = grind (arith, nat_tests, same_answer, test_of_match, match_of_test)

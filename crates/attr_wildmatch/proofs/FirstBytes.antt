@@ -1,6 +1,7 @@
 -- Directories that begin with a byte, and where tokens that begin with it may match.
-use Rattle.std.proofs.Common.{◌≡◌, ◌≤◌, ◌+◌, ◌-◌, ℕ, zero, suc, Bool, true, false, ◌&&◌, ◌||◌, ◌==◌, List, [], ◌∷◌, length, drop, take}
-use Rattle.std.proofs.Common.{Option, Some, None, IfNone, refl, sym, ap, ◌∙◌, arith}
+use Rattle.std.proofs.Common.{◌≡◌, ◌≤◌, ◌+◌, ◌-◌, ℕ, suc, Bool, true, false, ◌&&◌, ◌||◌, ◌==◌, List, [], ◌∷◌, length, drop, take, Option, Some, None}
+use Rattle.std.proofs.Common.{IfNone, refl, sym, ap, ◌∙◌, arith}
+use Rattle.std.proofs.lemmas.Bool.Decides.{nat_tests}
 use Rattle.std.proofs.lemmas.List.{take_all, length-drop, drop-drop}
 use Rattle.attr_wildmatch.specs.declared.case.Case.{Case}
 use Rattle.attr_wildmatch.specs.declared.case.Case.TheVariants.{Sensitive}
@@ -10,7 +11,7 @@ use Rattle.attr_wildmatch.specs.Slashes.{is_slash}
 use Rattle.attr_wildmatch.specs.Tokens.{Token, lit}
 use Rattle.attr_wildmatch.specs.Deciding.{matches, slash_then}
 use Rattle.attr_wildmatch.specs.inner.FirstBytes.{BeginWith, BeginWithPair, begins_with_pair, from_first}
-use Rattle.attr_wildmatch.specs.inner.Stretches.{first_left, front_left, or_else}
+use Rattle.attr_wildmatch.specs.inner.Stretches.{first_left, front_left}
 use Rattle.attr_wildmatch.proofs.Basics.{by_test}
 
 pub fewer : (n : ℕ) (v : List ℕ) → length (take (length v - n) (drop n v)) ≡ length v - n
@@ -20,9 +21,8 @@ passed : (b x y : Bool) → (b && x) ≡ false → ((b && x) || y) ≡ y
 passed b x y h = ap (λ e. e || y) h
 
 not_both : (s f m : Bool) → (s && f) ≡ false → (s && (f && m)) ≡ false
-not_both true false m h = refl
 not_both true true m h = absurd cc
-not_both false f m h = refl
+not_both s f m h = refl
 
 and_first : (a b : Bool) → (a && b) ≡ true → a ≡ true
 and_first true b h = refl
@@ -32,35 +32,23 @@ and_first false b h = h
 skip_start : (c : ℕ) (ts : List Token) (b : ℕ) (bs : List ℕ) → (is_slash b && begins c bs) ≡ false →
     slash_then (matches Sensitive (lit c ∷ ts)) (b ∷ bs) ≡ slash_then (matches Sensitive (lit c ∷ ts)) bs
 skip_start c ts b [] h = by_test (is_slash b) (λ t. rw t refl) (λ t. rw t refl)
-skip_start c ts b (d ∷ ds) h =
-    passed (b == slash) (matches Sensitive (lit c ∷ ts) (d ∷ ds)) _ (not_both (b == slash) (d == c) (matches Sensitive ts ds) h)
+skip_start c ts b (d ∷ ds) h = grind (arith, nat_tests, passed, not_both)
 
 pub next_start : (c : ℕ) (ts : List Token) (v next : List ℕ) (s : ℕ) → from_first (begins_with_pair slash c) v ≡ s ∷ next →
     slash_then (matches Sensitive (lit c ∷ ts)) v
     ≡ (matches Sensitive (lit c ∷ ts) next || slash_then (matches Sensitive (lit c ∷ ts)) next)
 next_start c ts [] next s h = absurd cc
-next_start c ts (b ∷ bs) next s h =
-    by_test (is_slash b && begins c bs)
-    (λ t. let e : b ∷ bs ≡ s ∷ next = rw t at h in let same : bs ≡ next = cc in
-    let here : is_slash b ≡ true = and_first (is_slash b) _ t in
-    ap (λ x. (x && matches Sensitive (lit c ∷ ts) bs) || slash_then (matches Sensitive (lit c ∷ ts)) bs) here
-    ∙ ap (λ x. matches Sensitive (lit c ∷ ts) x || slash_then (matches Sensitive (lit c ∷ ts)) x) same)
-    (λ t. skip_start c ts b bs t ∙ next_start c ts bs next s (rw t at h))
+next_start c ts (b ∷ bs) next s h = grind (arith, nat_tests, and_first, skip_start, next_start c ts bs next s)
 
 pub no_next_start : (c : ℕ) (ts : List Token) (v : List ℕ) → from_first (begins_with_pair slash c) v ≡ [] →
     slash_then (matches Sensitive (lit c ∷ ts)) v ≡ false
 no_next_start c ts [] h = refl
-no_next_start c ts (b ∷ bs) h =
-    by_test (is_slash b && begins c bs)
-    (λ t. absurd (let e = rw t at h in cc))
-    (λ t. skip_start c ts b bs t ∙ no_next_start c ts bs (rw t at h))
+no_next_start c ts (b ∷ bs) h = grind (arith, nat_tests, skip_start, no_next_start c ts bs)
 
 -- where the search finds nothing, it finds nothing further on
 none_later : (test : List ℕ → Bool) (k : ℕ) (v : List ℕ) → from_first test v ≡ [] → from_first test (drop k v) ≡ []
-none_later test zero v h = h
-none_later test (suc k) [] h = h
-none_later test (suc k) (b ∷ bs) h =
-    by_test (test (b ∷ bs)) (λ t. absurd (let e = rw t at h in cc)) (λ t. none_later test k bs (rw t at h))
+none_later test (suc k) (b ∷ bs) h = grind (arith, nat_tests, none_later test k bs)
+none_later test k v h = h
 
 all_after : (n : ℕ) (v : List ℕ) → take (length v - n) (drop n v) ≡ drop n v
 all_after n v = take_all (length v - n) (drop n v) (omega (arith, length-drop n v))
@@ -110,9 +98,7 @@ no_pair a c (b ∷ d ∷ r) l = absurd (omega (arith, l))
 over_others : (case : Case) (ts : List Token) (test : List ℕ → Bool) → ((w : List ℕ) → test w ≡ false → front_left case ts w ≡ None) →
     (v : List ℕ) → first_left case ts v ≡ first_left case ts (from_first test v)
 over_others case ts test needed [] = refl
-over_others case ts test needed (b ∷ bs) =
-    by_test (test (b ∷ bs)) (λ t. rw t refl)
-    (λ t. rw t (ap (λ l. or_else l (first_left case ts bs)) (needed (b ∷ bs) t) ∙ over_others case ts test needed bs))
+over_others case ts test needed (b ∷ bs) = grind (arith, nat_tests, over_others case ts test needed bs)
 
 byte_needed : (c : ℕ) (ts : List Token) (w : List ℕ) → begins c w ≡ false → front_left Sensitive (lit c ∷ ts) w ≡ None
 byte_needed c ts [] h = refl
@@ -130,8 +116,7 @@ from_first_byte case c ts v w h e = rw (h.sensitive, h.tokens, e) (over_others S
 
 pub from_first_pair : (case : Case) (a c : ℕ) (ts : List Token) (v w : List ℕ) → BeginWithPair case a c ts →
     w ≡ from_first (begins_with_pair a c) v → first_left case ts v ≡ first_left case ts w
-from_first_pair case a c ts v w h e =
-    rw (h.sensitive, h.tokens, e) (over_others Sensitive (lit a ∷ lit c ∷ h.others) (begins_with_pair a c) (pair_needed a c h.others) v)
+from_first_pair case a c ts v w h e = grind (arith, nat_tests, over_others, pair_needed)
 
 -- they are found nowhere where the search finds nothing
 pub no_first_byte : (case : Case) (c : ℕ) (ts : List Token) (v : List ℕ) → BeginWith case c ts → [] ≡ from_first (begins c) v →
@@ -159,11 +144,6 @@ unlike_pair : (a c : ℕ) (ts : List Token) (v : List ℕ) → begins_with_pair 
 unlike_pair a c ts [] h = refl
 unlike_pair a c ts (x ∷ []) h = by_test (x == a) (λ t. rw t refl) (λ t. rw t refl)
 unlike_pair a c ts (x ∷ y ∷ r) h = by_test (x == a) (λ t. rw t (let e = rw t at h in rw e refl)) (λ t. rw t refl)
-
--- tokens that begin with two bytes whose case matters match no value that begins otherwise
-pub unlike_front : (case : Case) (a c : ℕ) (ts : List Token) (v : List ℕ) → BeginWithPair case a c ts → begins_with_pair a c v ≡ false →
-    matches case ts v ≡ false
-unlike_front case a c ts v h e = rw (h.sensitive, h.tokens) (unlike_pair a c h.others v e)
 
 pub none_then : {X : Type 0} (r : Option X) {P Q : Type 0} → IfNone r P → (P → Q) → IfNone r Q
 none_then None h f = f h

@@ -3,7 +3,8 @@
 -- by_test: the two cases of a test. and_parts: both tests of a conjunction pass. and_both, or_left, or_right: a conjunction and a
 -- disjunction of tests that pass. equal, equal_so: numbers that pass `==` are equal, and equal numbers pass it. reverse-cons: the
 -- reverse of a list with one more element. same_answer: tests that imply each other are equal.
-pub use Rattle.attr_wildmatch.proofs.Basics.{by_test, and_parts, and_both, or_left, or_right, equal, equal_so, reverse-cons}
+pub use Rattle.attr_wildmatch.proofs.Basics.{by_test, reverse-cons}
+pub use Rattle.std.proofs.lemmas.Bool.{and_parts, and_from as and_both, or_left, or_right, eqb-true as equal, eq-eqb as equal_so}
 pub use Rattle.attr_wildmatch.proofs.Ends.{same_answer}
 -- match_of_test: tokens that pass the computed test match. text_match_of_test, test_of_text_match: the test of matching a text
 -- decides the relation. exact_answer: an answer by the relation of tokens and a value is that of the test.

@@ -1,15 +1,17 @@
 -- Which indexes are reached: the first tokens against the first bytes, by recursion on both reversed, so
 -- that one more byte and one more token each stand in front.
-use Rattle.std.proofs.Common.{◌≡◌, ℕ, Bool, true, cond, ◌||◌, ◌==◌, inl, inr, List, [], ◌∷◌, ◌++◌, take, reverse, slice_get, refl, sym, ap, subst}
-use Rattle.std.proofs.Common.{◌∙◌, append_assoc, append-nil}
+use Rattle.std.proofs.Common.{arith, ◌≡◌, ℕ, Bool, true, cond, ◌||◌, ◌==◌, inl, inr, List, [], ◌∷◌, ◌++◌, take, reverse, slice_get, refl, sym, ap}
+use Rattle.std.proofs.Common.{subst, ◌∙◌, append_assoc, append-nil}
+use Rattle.std.proofs.lemmas.Bool.Decides.{nat_tests}
 use Rattle.std.proofs.lemmas.List.{reverse-append}
+use Rattle.std.proofs.lemmas.Bool.{eqb-true, or_cases, or_left, or_right}
 use Rattle.attr_wildmatch.specs.declared.case.Case.{Case}
 use Rattle.attr_wildmatch.specs.Bytes.{slash}
 use Rattle.attr_wildmatch.specs.Tokens.{Token, lit, one, set, star, dirs, rest}
 use Rattle.attr_wildmatch.specs.Matching.{Takes, Match}
 use Rattle.attr_wildmatch.specs.Deciding.{takes_byte, byte_then, star_then, rest_then, is_nil}
 use Rattle.attr_wildmatch.specs.inner.RowIndexes.{is_dirs_at}
-use Rattle.attr_wildmatch.proofs.Basics.{each_of_all, all_of_each, Each-reverse, reverse-cons, or_part, or_left, or_right, equal}
+use Rattle.attr_wildmatch.proofs.Basics.{each_of_all, all_of_each, Each-reverse, reverse-cons}
 use Rattle.attr_wildmatch.proofs.Splits.{NoSlash, Split, byte_split, byte_joined, star_split, star_joined, rest_split, rest_joined, single_takes}
 use Rattle.attr_wildmatch.proofs.Splits.{single_taken}
 
@@ -91,7 +93,7 @@ back_split case star f v h =
       holds = all_of_each NoSlash (reverse s.part) (Each-reverse NoSlash s.part s.holds);
       taken = s.taken;
     }
-back_split case dirs f v h = elim (or_part (f v) (byte_then (λ b. b == slash) (rest_then f) v) h) [
+back_split case dirs f v h = elim (or_cases (f v) (byte_then (λ b. b == slash) (rest_then f) v) h) [
   | inl t ↦ record { part = []; others = v; whole = refl; holds = inl refl; taken = t }
   | inr t ↦
       let s = byte_split (λ b. b == slash) (rest_then f) v t in
@@ -100,7 +102,7 @@ back_split case dirs f v h = elim (or_part (f v) (byte_then (λ b. b == slash) (
         part = s.byte ∷ r.part;
         others = r.others;
         whole = s.whole ∙ ap (λ x. s.byte ∷ x) r.whole;
-        holds = inr (reverse r.part, reverse-cons s.byte r.part ∙ ap (λ x. reverse r.part ++ x ∷ []) (equal s.byte slash s.passes));
+        holds = inr (reverse r.part, reverse-cons s.byte r.part ∙ ap (λ x. reverse r.part ++ x ∷ []) (eqb-true s.byte slash s.passes));
         taken = r.taken;
       }
 ]
@@ -108,22 +110,16 @@ back_split case rest f v h = let s = rest_split f v h in record { part = s.part;
 
 single_back_joined : (case : Case) (t : Token) (f : List ℕ → Bool) (others part : List ℕ) → f others ≡ true →
     ((b : ℕ) × (part ≡ b ∷ []) × (takes_byte case t b ≡ true)) → byte_then (takes_byte case t) f (reverse part ++ others) ≡ true
-single_back_joined case t f others part k h =
-    subst (λ x. byte_then (takes_byte case t) f (reverse x ++ others) ≡ true) (sym h.1) (byte_joined (takes_byte case t) f h.0 others h.2 k)
+single_back_joined case t f others part k h = grind (arith, nat_tests, byte_joined)
 
 back_joined : (case : Case) (t : Token) (f : List ℕ → Bool) (part others : List ℕ) → Takes case t part → f others ≡ true →
     back_then case t f (reverse part ++ others) ≡ true
 back_joined case (lit c) f part others h k = single_back_joined case (lit c) f others part k (single_taken case (lit c) part refl h)
 back_joined case one f part others h k = single_back_joined case one f others part k (single_taken case one part refl h)
-back_joined case (set negated ms) f part others h k =
-    single_back_joined case (set negated ms) f others part k (single_taken case (set negated ms) part refl h)
+back_joined case (set negated ms) f part others h k = grind (arith, nat_tests, single_back_joined, part, single_taken)
 back_joined case star f part others h k = star_joined f (reverse part) others (Each-reverse NoSlash part (each_of_all NoSlash part h)) k
-back_joined case dirs f part others (inl h) k =
-    subst (λ x. back_then case dirs f (reverse x ++ others) ≡ true) (sym h) (or_left (f others) (byte_then (λ b. b == slash) (rest_then f) others) k)
-back_joined case dirs f part others (inr h) k =
-    let same : reverse part ≡ slash ∷ reverse h.0 = ap reverse h.1 ∙ reverse-append h.0 (slash ∷ []) in
-    subst (λ x. back_then case dirs f (x ++ others) ≡ true) (sym same)
-    (or_right (f (slash ∷ (reverse h.0 ++ others))) (rest_then f (reverse h.0 ++ others)) (rest_joined f (reverse h.0) others k))
+back_joined case dirs f part others (inl h) k = grind (arith, nat_tests, or_left)
+back_joined case dirs f part others (inr h) k = grind (arith, nat_tests, part, reverse-append, or_right, rest_joined)
 back_joined case rest f part others h k = rest_joined f (reverse part) others k
 
 nil_of : (v : List ℕ) → is_nil v ≡ true → v ≡ []

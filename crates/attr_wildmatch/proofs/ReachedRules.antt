@@ -1,6 +1,8 @@
 -- The rules of a step hold for the indexes that are reached.
 use Rattle.std.proofs.Common.{◌≡◌, ◌<◌, ◌+◌, ℕ, zero, suc, Bool, true, false, cond, not, ◌&&◌, ◌==◌, ◌⊎◌, inl, inr, List, [], ◌∷◌, length, slice_get}
 use Rattle.std.proofs.Common.{Option, Some, None, refl, sym, ap, subst, ◌∙◌, arith, add-one}
+use Rattle.std.proofs.lemmas.Bool.Decides.{nat_tests}
+use Rattle.std.proofs.lemmas.Bool.{and_from, and_parts, or_cases, or_right}
 use Rattle.attr_wildmatch.specs.declared.case.Case.{Case}
 use Rattle.attr_wildmatch.specs.Bytes.{slash}
 use Rattle.attr_wildmatch.specs.Tokens.{Token, lit, one, set, star, dirs, rest, token_ends_in_slash}
@@ -8,7 +10,7 @@ use Rattle.attr_wildmatch.specs.inner.Bordered.{is_bordered}
 use Rattle.attr_wildmatch.specs.Deciding.{takes_byte, star_then, rest_then}
 use Rattle.attr_wildmatch.specs.inner.RowIndexes.{may_be_nothing, is_dirs, continues_with, ends_at, may_skip, is_dirs_at, stays_on, advances_on}
 use Rattle.attr_wildmatch.specs.inner.RowIndexes.{token_before, IsStep}
-use Rattle.attr_wildmatch.proofs.Basics.{by_test, and_parts, and_both, or_part, or_right}
+use Rattle.attr_wildmatch.proofs.Basics.{by_test}
 use Rattle.attr_wildmatch.proofs.Reached.{back_then, fresh, alive}
 use Rattle.attr_wildmatch.proofs.ReachedSteps.{before_index, fresh-next, alive-directory, alive-plain, growing, no_directory_behind}
 
@@ -21,38 +23,28 @@ is_wide _ = false
 wide_end : (t : Token) → is_wide t ≡ true → token_ends_in_slash t ≡ false
 wide_end star h = refl
 wide_end rest h = refl
-wide_end (lit c) h = cc
-wide_end one h = cc
-wide_end (set n ms) h = cc
-wide_end dirs h = cc
+wide_end t h = cc
 
 goes_wide : (t : Token) (b : ℕ) → continues_with t b ≡ true → is_wide t ≡ true
 goes_wide star b h = refl
 goes_wide rest b h = refl
-goes_wide (lit c) b h = cc
-goes_wide one b h = cc
-goes_wide (set n ms) b h = cc
-goes_wide dirs b h = cc
+goes_wide t b h = cc
 
 -- over a byte a star or a rest keeps what it had taken
 stay_back : (case : Case) (t : Token) (f : List ℕ → Bool) (b : ℕ) (w : List ℕ) → continues_with t b ≡ true → back_then case t f w ≡ true → back_then
     case t f (b ∷ w) ≡ true
-stay_back case star f b w h k = or_right (f (b ∷ w)) (not (b == slash) && star_then f w) (and_both (not (b == slash)) (star_then f w) h k)
+stay_back case star f b w h k = or_right (f (b ∷ w)) (not (b == slash) && star_then f w) (and_from (not (b == slash)) (star_then f w) h k)
 stay_back case rest f b w h k = or_right (f (b ∷ w)) (rest_then f w) k
-stay_back case (lit c) f b w h k = cc
-stay_back case one f b w h k = cc
-stay_back case (set n ms) f b w h k = cc
-stay_back case dirs f b w h k = cc
+stay_back case t f b w h k = cc
 
 -- a byte leads on from where the token stood
 advance_back : (case : Case) (t : Token) (f : List ℕ → Bool) (b : ℕ) (w : List ℕ) → ends_at case t b ≡ true →
     cond (is_dirs t) (rest_then f w) (f w) ≡ true → back_then case t f (b ∷ w) ≡ true
-advance_back case (lit c) f b w h k = and_both (takes_byte case (lit c) b) (f w) h k
-advance_back case one f b w h k = and_both (takes_byte case one b) (f w) h k
-advance_back case (set n ms) f b w h k = and_both (takes_byte case (set n ms) b) (f w) h k
-advance_back case star f b w h k = cc
-advance_back case rest f b w h k = cc
-advance_back case dirs f b w h k = or_right (f (b ∷ w)) (b == slash && rest_then f w) (and_both (b == slash) (rest_then f w) h k)
+advance_back case (lit c) f b w h k = and_from (takes_byte case (lit c) b) (f w) h k
+advance_back case one f b w h k = and_from (takes_byte case one b) (f w) h k
+advance_back case (set n ms) f b w h k = and_from (takes_byte case (set n ms) b) (f w) h k
+advance_back case dirs f b w h k = or_right (f (b ∷ w)) (b == slash && rest_then f w) (and_from (b == slash) (rest_then f w) h k)
+advance_back case t f b w h k = cc
 
 -- how a token came to take what ends with the byte
 abbrev BackFrom : Case → Token → (List ℕ → Bool) → ℕ → List ℕ → Type 0
@@ -65,15 +57,9 @@ back_from : (case : Case) (t : Token) (f : List ℕ → Bool) (b : ℕ) (w : Lis
 back_from case (lit c) f b w h = inr (inl (and_parts (takes_byte case (lit c) b) (f w) h))
 back_from case one f b w h = inr (inl (and_parts (takes_byte case one b) (f w) h))
 back_from case (set n ms) f b w h = inr (inl (and_parts (takes_byte case (set n ms) b) (f w) h))
-back_from case star f b w h = elim (or_part (f (b ∷ w)) (not (b == slash) && star_then f w) h) [
-  | inl t ↦ inr (inr (refl, t))
-  | inr t ↦ inl (and_parts (not (b == slash)) (star_then f w) t)
-]
-back_from case rest f b w h = elim (or_part (f (b ∷ w)) (rest_then f w) h) [ inl t ↦ inr (inr (refl, t)) | inr t ↦ inl (refl, t) ]
-back_from case dirs f b w h = elim (or_part (f (b ∷ w)) (b == slash && rest_then f w) h) [
-  | inl t ↦ inr (inr (refl, t))
-  | inr t ↦ inr (inl (and_parts (b == slash) (rest_then f w) t))
-]
+back_from case star f b w h = grind (arith, nat_tests, or_cases, and_parts)
+back_from case rest f b w h = elim (or_cases (f (b ∷ w)) (rest_then f w) h) [ inl t ↦ inr (inr (refl, t)) | inr t ↦ inl (refl, t) ]
+back_from case dirs f b w h = grind (arith, nat_tests, or_cases, and_parts)
 
 alive-token : (case : Case) (ts : List Token) (v : List ℕ) (k : ℕ) (t : Token) → slice_get ts k ≡ Some t →
     alive case ts v k ≡ cond (is_dirs t) (rest_then (before_index case ts k) v) (before_index case ts k v)
@@ -82,24 +68,20 @@ alive-token case ts v k t h = ap (λ x. cond (is_dirs_at x) (rest_then (before_i
 -- an index after a star or a rest is alive only where it is fresh
 alive-tail : (case : Case) (ts : List Token) (v : List ℕ) (k : ℕ) (t : Token) → is_bordered true ts ≡ true → slice_get ts k ≡ Some t →
     is_wide t ≡ true → alive case ts v (k + 1) ≡ back_then case t (before_index case ts k) v
-alive-tail case ts v k t h e n =
-    alive-plain case ts v (k + 1)
-    (subst (λ x. is_dirs_at (slice_get ts x) ≡ false) (sym (add-one k)) (no_directory_behind true ts k t h e (wide_end t n))) ∙
-    fresh-next case ts v k t e
+alive-tail case ts v k t h e n = grind (arith, nat_tests, alive-plain, add-one, no_directory_behind, wide_end, fresh-next)
 
 token_before-next : (ts : List Token) (k : ℕ) (t : Token) → slice_get ts k ≡ Some t → token_before ts (k + 1) ≡ Some t
 token_before-next ts k t e = ap (token_before ts) (add-one k) ∙ e
 
 module _ (case : Case) (ts : List Token) (b : ℕ) (w : List ℕ) (bordered : is_bordered true ts ≡ true) where
   stay_at : (o : Option Token) (k : ℕ) → token_before ts k ≡ o → stays_on o b ≡ true → alive case ts w k ≡ true → fresh case ts (b ∷ w) k ≡ true
-  stay_at None k e h a = cc
-  stay_at (Some t) zero e h a = cc
   stay_at (Some t) (suc k) e h a =
       let n = goes_wide t b h in
       subst (λ x. fresh case ts (b ∷ w) x ≡ true) (add-one k)
       (fresh-next case ts (b ∷ w) k t e ∙
       stay_back case t (before_index case ts k) b w h
       (sym (alive-tail case ts w k t bordered e n) ∙ subst (λ x. alive case ts w x ≡ true) (sym (add-one k)) a))
+  stay_at o k e h a = cc
 
   advance_at : (o : Option Token) (k : ℕ) → slice_get ts k ≡ o → advances_on case o b ≡ true → alive case ts w k ≡ true →
       fresh case ts (b ∷ w) (k + 1) ≡ true
@@ -109,12 +91,7 @@ module _ (case : Case) (ts : List Token) (b : ℕ) (w : List ℕ) (bordered : is
 
   alive_from_at : (k : ℕ) → alive case ts (b ∷ w) k ≡ true →
       (fresh case ts (b ∷ w) k ≡ true) ⊎ ((is_dirs_at (slice_get ts k) ≡ true) × (alive case ts w k ≡ true))
-  alive_from_at k a = by_test (is_dirs_at (slice_get ts k))
-      (λ d. elim (or_part (before_index case ts k (b ∷ w)) (rest_then (before_index case ts k) w) (sym (alive-directory case ts (b ∷ w) k d) ∙ a)) [
-        | inl t ↦ inl t
-        | inr t ↦ inr (d, alive-directory case ts w k d ∙ t)
-      ])
-      (λ d. inl (sym (alive-plain case ts (b ∷ w) k d) ∙ a))
+  alive_from_at k a = grind (arith, nat_tests, or_cases, before_index, alive-directory, alive-plain)
 
   fresh_from_at : (o : Option Token) (k : ℕ) → slice_get ts k ≡ o → k < length ts → fresh case ts (b ∷ w) (k + 1) ≡ true →
       ((stays_on (token_before ts (k + 1)) b ≡ true) × (alive case ts w (k + 1) ≡ true)) ⊎
@@ -138,15 +115,7 @@ module _ (case : Case) (ts : List Token) (b : ℕ) (w : List ℕ) (bordered : is
   ]
 
   pub steps : IsStep case ts b (fresh case ts (b ∷ w)) (alive case ts (b ∷ w)) (alive case ts w)
-  steps = record {
-    growing = growing case ts (b ∷ w);
-    directory = λ k d a. alive-directory case ts (b ∷ w) k d ∙
-        or_right (before_index case ts k (b ∷ w)) (rest_then (before_index case ts k) w) (sym (alive-directory case ts w k d) ∙ a);
-    stay = λ k h a. stay_at (token_before ts k) k refl h a;
-    advance = λ k h a. advance_at (slice_get ts k) k refl h a;
-    alive_from = λ k l a. alive_from_at k a;
-    fresh_from = λ k l h. fresh_from_at (slice_get ts k) k refl l h;
-  }
+  steps = grind (arith, nat_tests, growing, alive-directory, or_right, before_index, stay_at, advance_at, alive_from_at, fresh_from_at)
 
 -- at the start nothing was alive before
 abbrev pub nothing : ℕ → Bool
@@ -155,10 +124,8 @@ nothing k = false
 back_from_nil : (case : Case) (t : Token) (f : List ℕ → Bool) → back_then case t f [] ≡ true → (may_be_nothing t ≡ true) × (f [] ≡ true)
 back_from_nil case star f h = (refl, h)
 back_from_nil case rest f h = (refl, h)
-back_from_nil case dirs f h = elim (or_part (f []) false h) [ inl t ↦ (refl, t) | inr t ↦ cc ]
-back_from_nil case (lit c) f h = cc
-back_from_nil case one f h = cc
-back_from_nil case (set n ms) f h = cc
+back_from_nil case dirs f h = elim (or_cases (f []) false h) [ inl t ↦ (refl, t) | inr t ↦ cc ]
+back_from_nil case t f h = cc
 
 pub starts : (case : Case) (ts : List Token) (b : ℕ) → IsStep case ts b (fresh case ts []) (alive case ts []) nothing
 starts case ts b = record {

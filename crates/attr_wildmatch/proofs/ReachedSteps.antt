@@ -1,14 +1,16 @@
 -- What one more byte makes of the indexes that are reached.
-use Rattle.std.proofs.Common.{◌≡◌, ◌+◌, ℕ, zero, suc, Bool, true, false, cond, not, ◌&&◌, ◌==◌, List, [], ◌∷◌, ◌++◌, take, reverse, slice_get, Option}
-use Rattle.std.proofs.Common.{Some, None, refl, sym, ap, subst, ◌∙◌, add-one}
+use Rattle.std.proofs.Common.{arith, ◌≡◌, ◌+◌, ℕ, zero, suc, Bool, true, false, cond, not, ◌&&◌, ◌==◌, List, [], ◌∷◌, ◌++◌, take, reverse, slice_get}
+use Rattle.std.proofs.Common.{Option, Some, None, refl, ap, ◌∙◌, add-one}
+use Rattle.std.proofs.lemmas.Bool.Decides.{nat_tests}
 use Rattle.std.proofs.lemmas.List.{reverse-append}
+use Rattle.std.proofs.lemmas.Bool.{and_parts, or_left}
 use Rattle.attr_wildmatch.specs.declared.case.Case.{Case}
 use Rattle.attr_wildmatch.specs.Bytes.{slash}
-use Rattle.attr_wildmatch.specs.Tokens.{Token, lit, one, set, star, dirs, rest, token_ends_in_slash}
+use Rattle.attr_wildmatch.specs.Tokens.{Token, star, dirs, rest, token_ends_in_slash}
 use Rattle.attr_wildmatch.specs.inner.Bordered.{is_bordered}
 use Rattle.attr_wildmatch.specs.Deciding.{byte_then, star_then, rest_then}
 use Rattle.attr_wildmatch.specs.inner.RowIndexes.{may_be_nothing, may_skip, is_dirs_at, IsGrowing}
-use Rattle.attr_wildmatch.proofs.Basics.{by_test, and_parts, or_left, true_false}
+use Rattle.attr_wildmatch.proofs.Basics.{by_test, true_false}
 use Rattle.attr_wildmatch.proofs.Reached.{reached, back_then, fresh, alive}
 
 take-next : (ts : List Token) (k : ℕ) (t : Token) → slice_get ts k ≡ Some t → take (suc k) ts ≡ take k ts ++ t ∷ []
@@ -44,9 +46,7 @@ skip_back : (case : Case) (t : Token) (f : List ℕ → Bool) (v : List ℕ) →
 skip_back case star f v h k = star_now f v k
 skip_back case dirs f v h k = or_left (f v) (byte_then (λ b. b == slash) (rest_then f) v) k
 skip_back case rest f v h k = rest_now f v k
-skip_back case (lit c) f v h k = cc
-skip_back case one f v h k = cc
-skip_back case (set n ms) f v h k = cc
+skip_back case t f v h k = cc
 
 pub growing : (case : Case) (ts : List Token) (v : List ℕ) → IsGrowing ts (fresh case ts v) (alive case ts v)
 growing case ts v = record {
@@ -61,29 +61,14 @@ growing case ts v = record {
     skipped (Some t) k e s h = fresh-next case ts v k t e ∙ skip_back case t (before_index case ts k) v s h
 
 plain_head : (border : Bool) (ts : List Token) → is_bordered border ts ≡ true → border ≡ false → is_dirs_at (slice_get ts 0) ≡ false
-plain_head border [] h e = refl
 plain_head border (dirs ∷ ts) h e = absurd (true_false border (and_parts border (is_bordered true ts) h).0 e)
-plain_head border (lit c ∷ ts) h e = refl
-plain_head border (one ∷ ts) h e = refl
-plain_head border (set m ms ∷ ts) h e = refl
-plain_head border (star ∷ ts) h e = refl
-plain_head border (rest ∷ ts) h e = refl
+plain_head border ts h e = refl
 
 -- after a star or a rest stands no directory star
 pub no_directory_behind : (border : Bool) (ts : List Token) (k : ℕ) (t : Token) → is_bordered border ts ≡ true → slice_get ts k ≡ Some t →
     token_ends_in_slash t ≡ false → is_dirs_at (slice_get ts (suc k)) ≡ false
 no_directory_behind border [] k t h e n = refl
-no_directory_behind border (dirs ∷ ts) zero t h e n = let same : dirs ≡ t = cc in absurd
-    (true_false true refl (subst (λ x. token_ends_in_slash x ≡ false) (sym same) n))
-no_directory_behind border (lit c ∷ ts) zero t h e n = let same : lit c ≡ t = cc in plain_head (token_ends_in_slash (lit c)) ts h
-    (subst (λ x. token_ends_in_slash x ≡ false) (sym same) n)
-no_directory_behind border (one ∷ ts) zero t h e n = plain_head false ts h refl
-no_directory_behind border (set m ms ∷ ts) zero t h e n = plain_head false ts h refl
-no_directory_behind border (star ∷ ts) zero t h e n = plain_head false ts h refl
-no_directory_behind border (rest ∷ ts) zero t h e n = plain_head false ts h refl
+no_directory_behind border (dirs ∷ ts) zero t h e n = grind (arith, nat_tests, true_false)
+no_directory_behind border (u ∷ ts) zero t h e n = grind (arith, nat_tests, plain_head)
 no_directory_behind border (dirs ∷ ts) (suc k) t h e n = no_directory_behind true ts k t (and_parts border (is_bordered true ts) h).1 e n
-no_directory_behind border (lit c ∷ ts) (suc k) t h e n = no_directory_behind (token_ends_in_slash (lit c)) ts k t h e n
-no_directory_behind border (one ∷ ts) (suc k) t h e n = no_directory_behind false ts k t h e n
-no_directory_behind border (set m ms ∷ ts) (suc k) t h e n = no_directory_behind false ts k t h e n
-no_directory_behind border (star ∷ ts) (suc k) t h e n = no_directory_behind false ts k t h e n
-no_directory_behind border (rest ∷ ts) (suc k) t h e n = no_directory_behind false ts k t h e n
+no_directory_behind border (u ∷ ts) (suc k) t h e n = no_directory_behind (token_ends_in_slash u) ts k t h e n

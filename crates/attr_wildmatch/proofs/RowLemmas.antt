@@ -2,24 +2,19 @@
 use Rattle.std.proofs.Common.{◌≡◌, ◌≤◌, ◌<◌, ℕ, zero, suc, ◌+◌, ◌-◌, Bool, true, false, cond, List, [], ◌∷◌, ◌++◌, length, slice_get, filter, ◌⊎◌}
 use Rattle.std.proofs.Common.{inl, inr, sym, ap, subst, ◌∙◌, append-nil, add-zero, add-one, arith}
 use Rattle.std.specs.List.{range_with_len}
+use Rattle.std.proofs.lemmas.Bool.Decides.{nat_tests}
 use Rattle.attr_wildmatch.specs.declared.case.Case.{Case}
 use Rattle.attr_wildmatch.specs.Tokens.{Token}
-use Rattle.attr_wildmatch.specs.inner.RowIndexes.{may_skip, is_dirs_at, stays_on, advances_on, token_before, indexes_below}
-use Rattle.attr_wildmatch.specs.inner.RowIndexes.{IsRow, IsSettled, IsUnderway}
+use Rattle.attr_wildmatch.specs.inner.RowIndexes.{is_dirs_at, stays_on, advances_on, token_before, indexes_below, IsRow, IsSettled, IsUnderway}
 use Rattle.attr_wildmatch.proofs.Basics.{by_test}
 
 filter_range-more : (test : ℕ → Bool) (n a : ℕ) →
     filter test (range_with_len a (suc n)) ≡ filter test (range_with_len a n) ++ cond (test (a + n)) ((a + n) ∷ []) []
 filter_range-more test zero a = rw add-zero
-filter_range-more test (suc n) a =
-    let same : a + 1 + n ≡ a + suc n = omega arith in
-    let rest = rw same at (filter_range-more test n (a + 1)) in
-    by_test (test a) (λ t. rw t (ap (λ x. a ∷ x) rest)) (λ f. rw f rest)
+filter_range-more test (suc n) a = grind (arith, nat_tests, filter_range-more test n)
 
 indexes_below-more : (test : ℕ → Bool) (n : ℕ) → indexes_below test (n + 1) ≡ indexes_below test n ++ cond (test n) (n ∷ []) []
-indexes_below-more test n =
-    let same : 0 + n ≡ n = omega arith in
-    ap (indexes_below test) (add-one n) ∙ (rw same at (filter_range-more test n 0))
+indexes_below-more test n = grind (arith, nat_tests, add-one, filter_range-more)
 
 pub indexes_below-push : (test : ℕ → Bool) (n : ℕ) → test n ≡ true → indexes_below test (n + 1) ≡ indexes_below test n ++ n ∷ []
 indexes_below-push test n h = rw h at (indexes_below-more test n)
@@ -51,8 +46,7 @@ length-filter-le test (x ∷ xs) = let r = length-filter-le test xs in by_test (
 pub row-push : (ts : List Token) (fresh alive : ℕ → Bool) (row : List ℕ) (free index : ℕ) → IsRow ts fresh alive row free →
     free ≤ index → ((k : ℕ) → free ≤ k → k < index → alive k ≡ false) → alive index ≡ true →
     row ++ index ∷ [] ≡ indexes_below alive (index + 1)
-row-push ts fresh alive row free index r l q a =
-    ap (λ x. x ++ index ∷ []) (r.kept ∙ sym (indexes_below-up_to alive free index l q)) ∙ sym (indexes_below-push alive index a)
+row-push ts fresh alive row free index r l q a = grind (arith, nat_tests, indexes_below-up_to, indexes_below-push)
 
 true_false : (v : Bool) → v ≡ true → v ≡ false → ⊥
 true_false v t f = let e : true ≡ false = sym t ∙ f in cc
@@ -60,24 +54,7 @@ true_false v t f = let e : true ≡ false = sym t ∙ f in cc
 refuted : {case : Case} {ts : List Token} {b : ℕ} {fresh alive before : ℕ → Bool} {row : List ℕ} {p free : ℕ} →
     IsUnderway case ts b fresh alive before row p free → (k : ℕ) → free ≤ k + 1 → k + 1 ≤ p → k < length ts →
     (k + 1 ≡ p → stays_on (token_before ts (k + 1)) b ≡ false) → (free ≤ k → fresh k ≡ false) → fresh (k + 1) ≡ true → ⊥
-refuted {case} {ts} {b} {fresh} {alive} {before} {row} {p} {free} u k l h i e r t = elim (u.step.fresh_from k i t) [
-  | inl w ↦ held w.0 w.1 (less_or_equal (k + 1) p h)
-  | inr s ↦ elim s [
-    | inl w ↦ let z : k + 1 < free = u.settled.advance k (omega arith) w.1 w.0 in absurd (omega arith)
-    | inr w ↦ skipped w.0 w.1 (less_or_equal free (k + 1) l)
-  ]
-]
-  where
-    less_or_equal : (x y : ℕ) → x ≤ y → (x < y) ⊎ (x ≡ y)
-    less_or_equal x y q = grind arith
-
-    held : stays_on (token_before ts (k + 1)) b ≡ true → before (k + 1) ≡ true → (k + 1 < p) ⊎ (k + 1 ≡ p) → ⊥
-    held a c (inl q) = let z : k + 1 < free = u.settled.stay (k + 1) q c a in absurd (omega arith)
-    held a c (inr q) = true_false _ a (e q)
-
-    skipped : may_skip (slice_get ts k) ≡ true → fresh k ≡ true → (free < k + 1) ⊎ (free ≡ k + 1) → ⊥
-    skipped a c (inl q) = true_false _ c (r (omega arith))
-    skipped a c (inr q) = u.row_is.closed k (sym q) c a
+refuted {case} {ts} {b} {fresh} {alive} {before} {row} {p} {free} u k l h i e r t = grind (arith, nat_tests, true_false)
 
 -- a settled index is fresh only by the token before it, which holds it
 pub silent_fresh : {case : Case} {ts : List Token} {b : ℕ} {fresh alive before : ℕ → Bool} {row : List ℕ} {p free : ℕ} →
@@ -123,34 +100,16 @@ silent_next {case} {ts} {b} {fresh} {alive} {before} {row} {p} {free} u m o c d 
 
 pub settled-grown : {case : Case} {ts : List Token} {b : ℕ} {before : ℕ → Bool} {p free : ℕ} (more : ℕ) →
     IsSettled case ts b before p free → free ≤ more → IsSettled case ts b before p more
-settled-grown {case} {ts} {b} {before} {p} {free} more s l = record {
-  stay = λ k h o c. let z : k < free = s.stay k h o c in omega arith;
-  directory = λ k h o c. let z : k < free = s.directory k h o c in omega arith;
-  advance = λ k h o c. let z : k + 1 < free = s.advance k h o c in omega arith;
-}
+settled-grown {case} {ts} {b} {before} {p} {free} more s l = grind (arith, nat_tests)
 
 -- a row that ends with an index that is alive and not fresh
 pub kept_row : (ts : List Token) (fresh alive : ℕ → Bool) (row : List ℕ) (index : ℕ) → row ≡ indexes_below alive (index + 1) →
     alive index ≡ true → fresh index ≡ false → IsRow ts fresh alive row (index + 1)
-kept_row ts fresh alive row index e a f = record {
-  kept = e;
-  last = λ k h. let same : index ≡ k = omega arith in subst (λ x. alive x ≡ true) same a;
-  closed = λ k h t n. let same : k ≡ index = omega arith in true_false _ (subst (λ x. fresh x ≡ true) same t) f;
-}
+kept_row ts fresh alive row index e a f = grind (arith, nat_tests, true_false)
 
 pub settled-skip : {case : Case} {ts : List Token} {b : ℕ} {before : ℕ → Bool} {p free : ℕ} (q : ℕ) →
     IsSettled case ts b before p free → ((k : ℕ) → p ≤ k → k < q → before k ≡ false) → IsSettled case ts b before q free
-settled-skip {case} {ts} {b} {before} {p} {free} q s none = record {
-  stay = λ k h o c. s.stay k (below k h o) o c;
-  directory = λ k h o c. s.directory k (below k h o) o c;
-  advance = λ k h o c. s.advance k (below k h o) o c;
-}
-  where
-    below_or_not : (x y : ℕ) → (x < y) ⊎ (y ≤ x)
-    below_or_not x y = grind arith
-
-    below : (k : ℕ) → k < q → before k ≡ true → k < p
-    below k h o = elim (below_or_not k p) [ inl l ↦ l | inr l ↦ absurd (true_false _ o (none k l h)) ]
+settled-skip {case} {ts} {b} {before} {p} {free} q s none = grind (arith, nat_tests, true_false, none)
 
 pub settled-next : {case : Case} {ts : List Token} {b : ℕ} {before : ℕ → Bool} {p free : ℕ} →
     IsSettled case ts b before p free → (stays_on (token_before ts p) b ≡ true → p < free) →
@@ -219,27 +178,11 @@ first_of_indexes test (suc d) p q others h = by_test (test p) (λ t. found t (rw
 
 pub none_of_indexes : (test : ℕ → Bool) (d p : ℕ) → [] ≡ filter test (range_with_len p d) → (k : ℕ) → p ≤ k → k < p + d → test k ≡ false
 none_of_indexes test zero p h k l m = absurd (omega arith)
-none_of_indexes test (suc d) p h k l m = by_test (test p)
-    (λ t. let e : [] ≡ p ∷ filter test (range_with_len (p + 1) d) = rw t at h in cc)
-    (λ f. elim (at_or_above k p l) [
-      | inl e ↦ subst (λ x. test x ≡ false) (sym e) f
-      | inr e ↦ none_of_indexes test d (p + 1) (rw f at h) k (omega arith) (omega arith)
-    ])
-  where
-    at_or_above : (x y : ℕ) → y ≤ x → (x ≡ y) ⊎ (y < x)
-    at_or_above x y l = grind arith
+none_of_indexes test (suc d) p h k l m = grind (arith, nat_tests, none_of_indexes test d)
 
 -- the empty row
 pub empty_row : (ts : List Token) (fresh alive : ℕ → Bool) (row : List ℕ) → row ≡ [] → IsRow ts fresh alive row 0
-empty_row ts fresh alive row e = record {
-  kept = e;
-  last = λ k h. absurd (omega arith);
-  closed = λ k h t n. absurd (omega arith);
-}
+empty_row ts fresh alive row e = grind (arith, nat_tests)
 
 pub settled-none : (case : Case) (ts : List Token) (b : ℕ) (before : ℕ → Bool) (free : ℕ) → IsSettled case ts b before 0 free
-settled-none case ts b before free = record {
-  stay = λ k h o t. absurd (omega arith);
-  directory = λ k h o t. absurd (omega arith);
-  advance = λ k h o t. absurd (omega arith);
-}
+settled-none case ts b before free = grind (arith, nat_tests)

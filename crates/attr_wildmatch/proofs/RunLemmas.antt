@@ -1,8 +1,8 @@
 -- A row moved over a value: what it holds after each byte, and how many indexes were visited.
-use Rattle.std.proofs.Common.{◌≡◌, ◌≤◌, ◌<◌, ◌+◌, ◌*◌, ◌-◌, ℕ, zero, suc, Bool, true, false, cond, ◌⊎◌, inl, inr, List, [], ◌∷◌, ◌++◌, length, take}
-use Rattle.std.proofs.Common.{reverse, slice_get, get_or, filter, sum_by, count_by, All, refl, sym, ap, subst, ◌∙◌, arith, add-one, add-zero}
-use Rattle.std.proofs.Common.{zero-add}
+use Rattle.std.proofs.Common.{◌≡◌, ◌≤◌, ◌<◌, ◌+◌, ◌*◌, ◌-◌, ℕ, zero, suc, Bool, true, false, List, [], ◌∷◌, ◌++◌, length, take, reverse, slice_get}
+use Rattle.std.proofs.Common.{get_or, filter, sum_by, count_by, All, refl, sym, ap, subst, ◌∙◌, arith, add-one, add-zero, zero-add}
 use Rattle.std.specs.List.{range_with_len}
+use Rattle.std.proofs.lemmas.Bool.Decides.{nat_tests}
 use Rattle.std.proofs.lemmas.List.{reverse-append, reverse-reverse, take_more, take_all}
 use Rattle.std.proofs.lemmas.List.Sums.{length-filter, sum_by-le-sum_by, sum_by-append}
 use Rattle.std.proofs.lemmas.List.FromFn.{length-range_with_len}
@@ -10,10 +10,9 @@ use Rattle.attr_wildmatch.specs.declared.case.Case.{Case}
 use Rattle.attr_wildmatch.specs.Tokens.{Token}
 use Rattle.attr_wildmatch.specs.inner.Bordered.{is_bordered}
 use Rattle.attr_wildmatch.specs.Matching.{Match, ReachedAtMost, pairs_passed}
-use Rattle.attr_wildmatch.specs.inner.RowIndexes.{indexes_below, is_dirs_at, IsStep, IsRow}
+use Rattle.attr_wildmatch.specs.inner.RowIndexes.{indexes_below, is_dirs_at, IsStep, IsRow, IsUnderway}
 use Rattle.attr_wildmatch.proofs.Basics.{by_test, true_false, Each, all_of_each}
 use Rattle.attr_wildmatch.proofs.TokenLemmas.{slice_get-missing}
-use Rattle.attr_wildmatch.specs.inner.RowIndexes.{IsUnderway}
 use Rattle.attr_wildmatch.proofs.RowLemmas.{indexes_below-up_to, silent, empty_row, length-filter-le}
 use Rattle.attr_wildmatch.proofs.Reached.{fresh, alive, match_of_reached, reached_of_match}
 use Rattle.attr_wildmatch.proofs.ReachedSteps.{growing, alive-plain}
@@ -29,9 +28,7 @@ alive_at case ts value k j = alive case ts (first_bytes value j) k
 
 range-more : (m a : ℕ) → range_with_len a (suc m) ≡ range_with_len a m ++ (a + m) ∷ []
 range-more zero a = ap (λ x. x ∷ []) (sym (add-zero a))
-range-more (suc m) a =
-    let same : a + 1 + m ≡ a + suc m = omega arith in
-    ap (λ x. a ∷ x) (range-more m (a + 1) ∙ ap (λ x. range_with_len (a + 1) m ++ x ∷ []) same)
+range-more (suc m) a = grind (arith, nat_tests, range-more m)
 
 pub pairs-more : (test : ℕ → ℕ → Bool) (n i : ℕ) →
     pairs_passed test n (i + 1) ≡ pairs_passed test n i + count_by (λ k. test k (i + 1)) (range_with_len 0 (n + 1))
@@ -60,10 +57,7 @@ length-indexes_below : (test : ℕ → Bool) (n : ℕ) (row : List ℕ) → row 
 length-indexes_below test n row e = ap length e ∙ length-filter test (range_with_len 0 n)
 
 length-row : (test : ℕ → Bool) (n : ℕ) (row : List ℕ) → row ≡ indexes_below test n → length row ≤ n
-length-row test n row e =
-    let a : length row ≤ length (range_with_len 0 n) = subst (λ x. length x ≤ length (range_with_len 0 n)) (sym e)
-    (length-filter-le test (range_with_len 0 n)) in
-    omega (arith, length-range_with_len 0 n)
+length-row test n row e = grind (arith, nat_tests, length-filter-le, length-range_with_len)
 
 pub at_start : (case : Case) (ts : List Token) (value row : List ℕ) (free : ℕ) →
     IsRow ts (fresh case ts []) (alive case ts []) row free → 0 < free → free ≤ length ts + 1 → free ≤ length row →
@@ -160,8 +154,7 @@ dead case ts value i bordered none (suc d) h k l =
     subst (λ x. alive_at case ts value k x ≡ false) same (silent u (omega arith) k (omega arith) (omega arith))
 
 count_by-le : (p q : ℕ → Bool) (xs : List ℕ) → ((x : ℕ) → p x ≡ true → q x ≡ true) → count_by p xs ≤ count_by q xs
-count_by-le p q xs h = sum_by-le-sum_by (λ x. cond (p x) 1 0) (λ x. cond (q x) 1 0) xs
-    (λ x. by_test (p x) (λ t. rw (t, h x t) (omega arith)) (λ f. rw f (omega arith)))
+count_by-le p q xs h = grind (arith, nat_tests, sum_by-le-sum_by)
 
 alive_of_match : (case : Case) (ts : List Token) (value : List ℕ) (k j : ℕ) → Match case (take k ts) (take j value) → alive_at case ts value k j ≡
     true
@@ -171,13 +164,7 @@ alive_of_match case ts value k j m =
 
 missed : (case : Case) (ts : List Token) (value : List ℕ) (visits : ℕ) → pairs_passed (alive_at case ts value) (length ts) (length value) ≤ visits →
     ReachedAtMost case ts value visits
-missed case ts value visits h = λ test sound.
-    let numbers = range_with_len 0 (length ts + 1) in
-    let less : pairs_passed test (length ts) (length value) ≤ pairs_passed (alive_at case ts value) (length ts) (length value) =
-    sum_by-le-sum_by (λ j. count_by (λ k. test k j) numbers) (λ j. count_by (λ k. alive_at case ts value k j) numbers)
-    (range_with_len 0 (length value + 1))
-    (λ j. count_by-le (λ k. test k j) (λ k. alive_at case ts value k j) numbers (λ k t. alive_of_match case ts value k j (sound k j t))) in
-    omega arith
+missed case ts value visits h = grind (arith, nat_tests, sum_by-le-sum_by, count_by-le, alive_of_match)
 
 match_of_last : (case : Case) (ts : List Token) (value : List ℕ) → alive_at case ts value (length ts) (length value) ≡ true → Match case ts value
 match_of_last case ts value h =
@@ -189,24 +176,12 @@ match_of_last case ts value h =
     (omega arith)) m)
 
 last_of_match : (case : Case) (ts : List Token) (value : List ℕ) → Match case ts value → alive_at case ts value (length ts) (length value) ≡ true
-last_of_match case ts value m =
-    alive_of_match case ts value (length ts) (length value)
-    (subst (λ x. Match case x (take (length value) value)) (sym (take_all (length ts) ts (omega arith)))
-    (subst (Match case ts) (sym (take_all (length value) value (omega arith))) m))
+last_of_match case ts value m = grind (arith, nat_tests, alive_of_match, take_all)
 
 -- at the end of the value
 pub matched_at_end : (case : Case) (ts : List Token) (value row : List ℕ) (free visits : ℕ) → IsAt case ts value row free visits (length value) →
     ((free ≡ length ts + 1) → Match case ts value) × (Match case ts value → free ≡ length ts + 1)
-matched_at_end case ts value row free visits a = (
-  (λ e. match_of_last case ts value (a.last (length ts) (sym e))),
-  (λ m. elim (above_or_not (length ts) free) [
-    | inl l ↦ let b = a.bound in omega arith
-    | inr l ↦ absurd (true_false _ (last_of_match case ts value m) (a.beyond (length ts) l (omega arith)))
-  ]),
-)
-  where
-    above_or_not : (x y : ℕ) → (x < y) ⊎ (y ≤ x)
-    above_or_not x y = grind arith
+matched_at_end case ts value row free visits a = grind (arith, nat_tests, match_of_last, true_false, last_of_match)
 
 pub missed_at_end : (case : Case) (ts : List Token) (value row : List ℕ) (free visits : ℕ) → IsAt case ts value row free visits (length value) →
     ReachedAtMost case ts value visits
@@ -225,15 +200,7 @@ pairs-dead : (case : Case) (ts : List Token) (value : List ℕ) (i : ℕ) → is
     pairs_passed (alive_at case ts value) (length ts) (i + d) ≡ pairs_passed (alive_at case ts value) (length ts) i
 pairs-dead case ts value i bordered none zero h = ap (pairs_passed (alive_at case ts value) (length ts)) (add-zero i)
 pairs-dead case ts value i bordered none (suc d) h =
-    let same : i + suc d ≡ i + d + 1 = omega arith in
-    let test : ℕ → Bool = λ k. alive_at case ts value k (i + d + 1) in
-    let gone : (k : ℕ) → k ≤ length ts → test k ≡ false = λ k l. subst (λ x. alive_at case ts value k x ≡ false) same
-    (dead case ts value i bordered none (suc d) h k l) in
-    let zero_more : count_by test (range_with_len 0 (length ts + 1)) ≡ 0 = no_pairs test (length ts + 1) 0 (λ k l. gone k (omega arith)) in
-    ap (pairs_passed (alive_at case ts value) (length ts)) same ∙
-    (pairs-more (alive_at case ts value) (length ts) (i + d) ∙
-    (ap (λ x. pairs_passed (alive_at case ts value) (length ts) (i + d) + x) zero_more ∙
-    (add-zero (pairs_passed (alive_at case ts value) (length ts) (i + d)) ∙ pairs-dead case ts value i bordered none d (omega arith))))
+    grind (arith, nat_tests, dead, no_pairs, pairs-more, add-zero, pairs-dead case ts value i bordered none d)
 
 pub unmatched_where_dead : (case : Case) (ts : List Token) (value row : List ℕ) (visits i : ℕ) → is_bordered true ts ≡ true →
     IsAt case ts value row 0 visits i → i ≤ length value → Match case ts value → ⊥

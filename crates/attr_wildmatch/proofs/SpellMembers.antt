@@ -1,32 +1,25 @@
 -- The members of a bracket, read and spelled.
 use Rattle.std.proofs.Common.{◌≡◌, ◌≢◌, ◌≤◌, ◌<◌, ◌+◌, ℕ, zero, suc, Bool, true, false, cond, not, ◌&&◌, ◌||◌, ◌==◌, inl, inr, List, [], ◌∷◌, ◌++◌}
-use Rattle.std.proofs.Common.{length, drop, Option, Some, None, option_map, codes, refl, sym, ap, subst, ◌∙◌, arith, length-append}
+use Rattle.std.proofs.Common.{length, drop, Option, Some, None, option_map, refl, sym, ap, subst, ◌∙◌, arith, length-append}
 use Rattle.std.specs.Str.{bytes_eq}
+use Rattle.std.proofs.lemmas.Bool.Decides.{nat_tests}
 use Rattle.std.proofs.lemmas.Slice.Eq.{bytes_eq-Decides}
+use Rattle.std.proofs.lemmas.Bool.{and_from, and_parts, eq-eqb, eqb-false, eqb-true, ne_eqb, or_left, or_right, not-true}
 use Rattle.attr_wildmatch.specs.declared.bracket.Class.{Class}
-use Rattle.attr_wildmatch.specs.declared.bracket.Class.TheVariants.{Alnum, Alpha, Blank, Cntrl, Digit, Graph, Lower, Print}
-use Rattle.attr_wildmatch.specs.declared.bracket.Class.TheVariants.{Punct, Space, Upper, Xdigit}
 use Rattle.attr_wildmatch.specs.declared.bracket.Member.{Member}
 use Rattle.attr_wildmatch.specs.declared.bracket.Member.TheVariants.{Single, Span, Named}
 use Rattle.attr_wildmatch.specs.Bytes.{hyphen, colon, open_bracket, backslash, close_bracket}
-use Rattle.attr_wildmatch.specs.Brackets.{class_named, begins, name_in, span_end, ranged, from_single, from_escape, class_member}
-use Rattle.attr_wildmatch.specs.Brackets.{from_class, member_at, members}
+use Rattle.attr_wildmatch.specs.Brackets.{class_named, begins, name_in, span_end, from_single, from_escape, class_member, from_class, member_at}
+use Rattle.attr_wildmatch.specs.Brackets.{members}
 use Rattle.attr_wildmatch.specs.Spelling.{class_name, BeginsClass, IsSingle, IsEnd, IsMember, AreMembers}
-use Rattle.attr_wildmatch.proofs.Basics.{by_test, unequal, equal, equal_so, not_equal, and_parts, and_both, or_left, or_right, true_false, pair_parts}
-use Rattle.attr_wildmatch.proofs.Basics.{by_option, each_of_all, all_of_each}
+use Rattle.attr_wildmatch.proofs.Basics.{by_test, true_false, pair_parts, by_option, each_of_all, all_of_each}
 use Rattle.attr_wildmatch.proofs.Names.{Unclosed, skipped}
 
 -- Names of classes.
 
 pub name_in-named : (name others : List ℕ) → Unclosed name → name_in (name ++ colon ∷ close_bracket ∷ others) ≡ Some name
 name_in-named [] others h = refl
-name_in-named (b ∷ name) others h =
-    skipped b (name ++ colon ∷ close_bracket ∷ others) h.0 (unclosed_begin name others h.1) ∙ ap (option_map (λ x. b ∷ x))
-    (name_in-named name others h.1)
-  where
-    unclosed_begin : (name others : List ℕ) → Unclosed name → begins close_bracket (name ++ colon ∷ close_bracket ∷ others) ≡ false
-    unclosed_begin [] others h = refl
-    unclosed_begin (b ∷ name) others h = unequal b close_bracket h.0
+name_in-named (b ∷ name) others h = grind (arith, nat_tests, skipped, others, ne_eqb, name_in-named name others)
 
 -- what a name that was found says of the bytes
 pub record HasName (bs name : List ℕ) : Type 0 where
@@ -41,7 +34,7 @@ named_step b bs name before h = by_test (b == close_bracket) (λ t. let e = rw t
   where
     begun : (bs : List ℕ) → begins close_bracket bs ≡ true → (others : List ℕ) × (bs ≡ close_bracket ∷ others)
     begun [] e = cc
-    begun (c ∷ bs) e = (bs, ap (λ x. x ∷ bs) (equal c close_bracket e))
+    begun (c ∷ bs) e = (bs, ap (λ x. x ∷ bs) (eqb-true c close_bracket e))
 
     at_once : b ≡ colon → begins close_bracket bs ≡ true → [] ≡ name → HasName (b ∷ bs) name
     at_once e g n =
@@ -69,8 +62,8 @@ named_step b bs name before h = by_test (b == close_bracket) (λ t. let e = rw t
         cond (b == colon && begins close_bracket bs) (Some []) (option_map (λ x. b ∷ x) (name_in bs)) ≡ Some name → HasName (b ∷ bs) name
     open_still f q = by_test (b == colon && begins close_bracket bs)
         (λ t. let w = and_parts (b == colon) (begins close_bracket bs) t in
-        at_once (equal b colon w.0) w.1 (let e : Some [] ≡ Some name = rw t at q in let same : [] ≡ name = cc in same))
-        (λ g. mapped (not_equal b close_bracket f) (name_in bs) refl (rw g at q))
+        at_once (eqb-true b colon w.0) w.1 (let e : Some [] ≡ Some name = rw t at q in let same : [] ≡ name = cc in same))
+        (λ g. mapped (eqb-false b close_bracket f) (name_in bs) refl (rw g at q))
 
 pub named : (bs name : List ℕ) → name_in bs ≡ Some name → HasName bs name
 named [] name h = cc
@@ -79,25 +72,10 @@ named (b ∷ bs) name h = named_step b bs name (λ rest e. named bs rest e) h
 -- one look at a list of names
 looked : (name text : List ℕ) (class found : Class) (others : Option Class) → text ≡ class_name class →
     (others ≡ Some found → name ≡ class_name found) → cond (bytes_eq name text) (Some class) others ≡ Some found → name ≡ class_name found
-looked name text class found others e r h = by_test (bytes_eq name text)
-    (λ t. let q : Some class ≡ Some found = rw t at h in let same : class ≡ found = cc in
-    (bytes_eq-Decides name text).0 t ∙ (e ∙ ap class_name same))
-    (λ f. r (rw f at h))
+looked name text class found others e r h = grind (arith, nat_tests, bytes_eq-Decides)
 
 pub name_of_class : (name : List ℕ) (class : Class) → class_named name ≡ Some class → name ≡ class_name class
-name_of_class name class h =
-    looked name (codes "alnum") Alnum class _ refl (
-    looked name (codes "alpha") Alpha class _ refl (
-    looked name (codes "blank") Blank class _ refl (
-    looked name (codes "cntrl") Cntrl class _ refl (
-    looked name (codes "digit") Digit class _ refl (
-    looked name (codes "graph") Graph class _ refl (
-    looked name (codes "lower") Lower class _ refl (
-    looked name (codes "print") Print class _ refl (
-    looked name (codes "punct") Punct class _ refl (
-    looked name (codes "space") Space class _ refl (
-    looked name (codes "upper") Upper class _ refl (
-    looked name (codes "xdigit") Xdigit class None refl (λ e. cc)))))))))))) h
+name_of_class name class h = grind (arith, nat_tests, looked)
 
 -- Ends of ranges.
 
@@ -111,10 +89,10 @@ end_of (c ∷ []) d more h = by_test (c == close_bracket || c == backslash)
     inr (ap (λ x. x ∷ []) byte ∙ ap (λ x. d ∷ x) parts.1, different c d byte f, other c d byte f))
   where
     different : (x y : ℕ) → x ≡ y → (x == close_bracket || x == backslash) ≡ false → y ≢ backslash
-    different x y e f q = true_false _ (or_right (x == close_bracket) (x == backslash) (equal_so x backslash (e ∙ q))) f
+    different x y e f q = true_false _ (or_right (x == close_bracket) (x == backslash) (eq-eqb x backslash (e ∙ q))) f
 
     other : (x y : ℕ) → x ≡ y → (x == close_bracket || x == backslash) ≡ false → y ≢ close_bracket
-    other x y e f q = true_false _ (or_left (x == close_bracket) (x == backslash) (equal_so x close_bracket (e ∙ q))) f
+    other x y e f q = true_false _ (or_left (x == close_bracket) (x == backslash) (eq-eqb x close_bracket (e ∙ q))) f
 end_of (c ∷ e ∷ bs) d more h = by_test (c == close_bracket)
     (λ t. let q = rw t at h in cc)
     (λ f. let q = rw f at h in by_test (c == backslash)
@@ -122,20 +100,20 @@ end_of (c ∷ e ∷ bs) d more h = by_test (c == close_bracket)
     let parts = pair_parts e d bs more r in
     let byte = parts.0 in
     let rest = parts.1 in
-    inl (ap (λ x. x ∷ e ∷ bs) (equal c backslash t) ∙ (ap (λ x. backslash ∷ x ∷ bs) byte ∙ ap (λ x. backslash ∷ d ∷ x) rest)))
+    inl (ap (λ x. x ∷ e ∷ bs) (eqb-true c backslash t) ∙ (ap (λ x. backslash ∷ x ∷ bs) byte ∙ ap (λ x. backslash ∷ d ∷ x) rest)))
     (λ g. let r : Some (c, e ∷ bs) ≡ Some (d, more) = rw g at q in
     let parts = pair_parts c d (e ∷ bs) more r in
     let byte = parts.0 in
     let rest = parts.1 in
     inr (
       ap (λ x. x ∷ e ∷ bs) byte ∙ ap (λ x. d ∷ x) rest,
-      (λ z. true_false _ (equal_so c backslash (byte ∙ z)) g),
-      (λ z. true_false _ (equal_so c close_bracket (byte ∙ z)) f),
+      (λ z. true_false _ (eq-eqb c backslash (byte ∙ z)) g),
+      (λ z. true_false _ (eq-eqb c close_bracket (byte ∙ z)) f),
     )))
 
 plain_end : (d : ℕ) (more : List ℕ) → d ≢ backslash → d ≢ close_bracket → span_end (d ∷ more) ≡ Some (d, more)
-plain_end d [] h k = rw (unequal d close_bracket k, unequal d backslash h)
-plain_end d (e ∷ more) h k = rw (unequal d close_bracket k, unequal d backslash h)
+plain_end d [] h k = rw (ne_eqb d close_bracket k, ne_eqb d backslash h)
+plain_end d (e ∷ more) h k = rw (ne_eqb d close_bracket k, ne_eqb d backslash h)
 
 pub end_read : (bs : List ℕ) (d : ℕ) (more : List ℕ) → IsEnd bs d more → span_end bs ≡ Some (d, more)
 end_read bs d more (inl h) = ap span_end h
@@ -150,21 +128,13 @@ NoRange others = (ends : List ℕ) (d : ℕ) (more : List ℕ) → others ≡ hy
 pub alone : (c : ℕ) (bs : List ℕ) → NoRange bs → from_single c bs ≡ (Single c, bs)
 alone c [] h = refl
 alone c (b ∷ bs) h = by_test (b == hyphen)
-    (λ t. rw t (by_option (span_end bs) (λ n. rw n) (λ p e. absurd (h bs p.0 p.1 (ap (λ x. x ∷ bs) (equal b hyphen t)) (end_of bs p.0 p.1 e)))))
+    (λ t. rw t (by_option (span_end bs) (λ n. rw n) (λ p e. absurd (h bs p.0 p.1 (ap (λ x. x ∷ bs) (eqb-true b hyphen t)) (end_of bs p.0 p.1 e)))))
     (λ f. rw f)
 
 pub tail_member : (first : Bool) (text : List ℕ) (c : ℕ) (bs : List ℕ) → IsSingle first text c bs →
     IsMember first text (from_single c bs).0 (from_single c bs).1
 tail_member first text c [] s = (s, (λ ends d more e i. cc))
-tail_member first text c (b ∷ bs) s = by_test (b == hyphen)
-    (λ t. rw t (by_option (span_end bs)
-    (λ n. rw n (
-      s,
-      (λ ends d more e i. let same : bs ≡ ends = cc in
-          let q : span_end bs ≡ Some (d, more) = ap span_end same ∙ end_read ends d more i in cc),
-    ))
-    (λ p e. rw e (bs, subst (λ x. IsSingle first text c (x ∷ bs)) (equal b hyphen t) s, end_of bs p.0 p.1 e))))
-    (λ f. rw f (s, (λ ends d more e i. let same : b ≡ hyphen = cc in true_false _ (equal_so b hyphen same) f)))
+tail_member first text c (b ∷ bs) s = grind (arith, nat_tests, by_option, end_read, eqb-true, end_of, true_false, eq-eqb)
 
 -- Members.
 
@@ -185,13 +155,11 @@ begun_class b bs h =
 
 open_first : (first : Bool) (b : ℕ) → Closes first b ≡ false → b ≡ close_bracket → first ≡ true
 open_first true b f e = refl
-open_first false b f e = absurd (true_false _ (and_both (b == close_bracket) true (equal_so b close_bracket e) refl) f)
+open_first false b f e = absurd (true_false _ (and_from (b == close_bracket) true (eq-eqb b close_bracket e) refl) f)
 
 same_member : (first : Bool) (text : List ℕ) (p : Member × List ℕ) (m : Member) (mid : List ℕ) → Some p ≡ Some (m, mid) →
     IsMember first text p.0 p.1 → IsMember first text m mid
-same_member first text p m mid e h =
-    let parts = pair_parts p.0 m p.1 mid e in
-    subst (λ x. IsMember first text m x) parts.1 (subst (λ x. IsMember first text x p.1) parts.0 h)
+same_member first text p m mid e h = grind (arith, nat_tests, pair_parts)
 
 class_read : (first : Bool) (bs : List ℕ) (m : Member) (mid : List ℕ) → begins colon bs ≡ true → class_member bs (name_in (drop 1 bs)) ≡ Some (m, mid)
     →
@@ -202,8 +170,8 @@ class_read first (b ∷ bs) m mid g h = by_option (name_in bs)
     (tail_member first (open_bracket ∷ b ∷ bs) open_bracket (b ∷ bs)
     (inr (
       refl,
-      not_equal open_bracket backslash refl,
-      (λ e. absurd (not_equal open_bracket close_bracket refl e)),
+      eqb-false open_bracket backslash refl,
+      (λ e. absurd (eqb-false open_bracket close_bracket refl e)),
       (λ c. let f = (begun_class open_bracket (b ∷ bs) c).2 in let q : None ≡ Some f.0 = sym n ∙ f.1 in cc),
     ))))
     (λ name e. named_class name e (rw e at h))
@@ -215,7 +183,7 @@ class_read first (b ∷ bs) m mid g h = by_option (name_in bs)
         let more : length name + 3 ≡ suc (length name + 2) = omega arith in
         let mid_is : r.others ≡ mid = sym r.tail ∙ (sym (ap (λ x. drop x (b ∷ bs)) more) ∙ d) in
         let whole : open_bracket ∷ b ∷ bs ≡ open_bracket ∷ colon ∷ (class_name class ++ colon ∷ close_bracket ∷ mid) =
-        ap (λ x. open_bracket ∷ x ∷ bs) (equal b colon g) ∙ (ap (λ x. open_bracket ∷ colon ∷ x) r.whole ∙
+        ap (λ x. open_bracket ∷ x ∷ bs) (eqb-true b colon g) ∙ (ap (λ x. open_bracket ∷ colon ∷ x) r.whole ∙
         (ap (λ x. open_bracket ∷ colon ∷ (x ++ colon ∷ close_bracket ∷ r.others)) (name_of_class name class k) ∙
         ap (λ x. open_bracket ∷ colon ∷ (class_name class ++ colon ∷ close_bracket ∷ x)) mid_is)) in
         subst (λ x. IsMember first (open_bracket ∷ b ∷ bs) x mid) q whole
@@ -235,19 +203,19 @@ member_of first b bs m mid c h = by_test (b == backslash) (λ t. escaped bs t (r
     escaped : (bs : List ℕ) → (b == backslash) ≡ true → from_escape bs ≡ Some (m, mid) → IsMember first (b ∷ bs) m mid
     escaped [] t e = cc
     escaped (d ∷ bs) t e = same_member first (b ∷ d ∷ bs) (from_single d bs) m mid e
-        (tail_member first (b ∷ d ∷ bs) d bs (inl (ap (λ x. x ∷ d ∷ bs) (equal b backslash t))))
+        (tail_member first (b ∷ d ∷ bs) d bs (inl (ap (λ x. x ∷ d ∷ bs) (eqb-true b backslash t))))
 
     plain : (b == backslash) ≡ false → cond (b == open_bracket && begins colon bs) (from_class bs) (Some (from_single b bs)) ≡ Some (m, mid) →
         IsMember first (b ∷ bs) m mid
     plain f e = by_test (b == open_bracket && begins colon bs)
         (λ t. let w = and_parts (b == open_bracket) (begins colon bs) t in
-        subst (λ x. IsMember first (x ∷ bs) m mid) (sym (equal b open_bracket w.0)) (class_read first bs m mid w.1 (rw t at e)))
+        subst (λ x. IsMember first (x ∷ bs) m mid) (sym (eqb-true b open_bracket w.0)) (class_read first bs m mid w.1 (rw t at e)))
         (λ g. same_member first (b ∷ bs) (from_single b bs) m mid (rw g at e)
         (tail_member first (b ∷ bs) b bs (inr (
           refl,
-          not_equal b backslash f,
+          eqb-false b backslash f,
           open_first first b c,
-          (λ k. let r = begun_class b bs k in true_false _ (and_both (b == open_bracket) (begins colon bs) (equal_so b open_bracket r.0) r.1) g),
+          (λ k. let r = begun_class b bs k in true_false _ (and_from (b == open_bracket) (begins colon bs) (eq-eqb b open_bracket r.0) r.1) g),
         ))))
 
 -- the text begins with a byte that does not close the bracket, at which the member is read
@@ -265,47 +233,35 @@ single_read first text c others m mid e (inr h) = record {
   byte = c;
   tail = others;
   whole = h.0;
-  stays_open = by_test (c == close_bracket) (λ t. rw (t, h.2 (equal c close_bracket t))) (λ f. rw f);
-  read = rw (unequal c backslash h.1) (by_test (c == open_bracket && begins colon others) (λ t. rw t (as_class t)) (λ f. rw f (ap Some e)));
+  stays_open = by_test (c == close_bracket) (λ t. rw (t, h.2 (eqb-true c close_bracket t))) (λ f. rw f);
+  read = rw (ne_eqb c backslash h.1) (by_test (c == open_bracket && begins colon others) (λ t. rw t (as_class t)) (λ f. rw f (ap Some e)));
 }
   where
     colon_first : (bs : List ℕ) → begins colon bs ≡ true → bs ≡ colon ∷ drop 1 bs
     colon_first [] g = cc
-    colon_first (b ∷ bs) g = ap (λ x. x ∷ bs) (equal b colon g)
+    colon_first (b ∷ bs) g = ap (λ x. x ∷ bs) (eqb-true b colon g)
 
     as_class : (c == open_bracket && begins colon others) ≡ true → class_member others (name_in (drop 1 others)) ≡ Some (m, mid)
     as_class t =
         let w = and_parts (c == open_bracket) (begins colon others) t in
         by_option (name_in (drop 1 others))
-        (λ n. rw n (ap (λ x. Some (from_single x others)) (sym (equal c open_bracket w.0)) ∙ ap Some e))
+        (λ n. rw n (ap (λ x. Some (from_single x others)) (sym (eqb-true c open_bracket w.0)) ∙ ap Some e))
         (λ name k. let r = named (drop 1 others) name k in
         absurd (h.3 (
           name,
           r.others,
-          h.0 ∙ (ap (λ x. x ∷ others) (equal c open_bracket w.0) ∙ (ap (λ x. open_bracket ∷ x) (colon_first others w.1) ∙ ap
+          h.0 ∙ (ap (λ x. x ∷ others) (eqb-true c open_bracket w.0) ∙ (ap (λ x. open_bracket ∷ x) (colon_first others w.1) ∙ ap
               (λ x. open_bracket ∷ colon ∷ x) r.whole)),
           all_of_each (λ x. x ≢ close_bracket) name r.unclosed,
         )))
 
 class_at : (class : Class) (others : List ℕ) → member_at open_bracket (colon ∷ (class_name class ++ colon ∷ close_bracket ∷ others)) ≡ Some
     (Named class, others)
-class_at Alnum others = refl
-class_at Alpha others = refl
-class_at Blank others = refl
-class_at Cntrl others = refl
-class_at Digit others = refl
-class_at Graph others = refl
-class_at Lower others = refl
-class_at Print others = refl
-class_at Punct others = refl
-class_at Space others = refl
-class_at Upper others = refl
-class_at Xdigit others = refl
+class_at class others = grind arith
 
 pub member_read : (first : Bool) (text : List ℕ) (m : Member) (mid : List ℕ) → IsMember first text m mid → Reads first text m mid
 member_read first text (Single c) mid h = single_read first text c mid (Single c) mid (alone c mid h.1) h.0
-member_read first text (Span c d) mid h = single_read first text c (hyphen ∷ h.0) (Span c d) mid
-    (ap (ranged c (hyphen ∷ h.0)) (end_read h.0 d mid h.2)) h.1
+member_read first text (Span c d) mid h = grind (arith, nat_tests, single_read, end_read)
 member_read first text (Named class) mid h = record {
   byte = open_bracket;
   tail = colon ∷ (class_name class ++ colon ∷ close_bracket ∷ mid);
@@ -324,13 +280,8 @@ end_shorter text d others (inr h) = let e : length text ≡ suc (length others) 
 
 pub member_shorter : (first : Bool) (text : List ℕ) (m : Member) (mid : List ℕ) → IsMember first text m mid → length mid < length text
 member_shorter first text (Single c) mid h = single_shorter first text c mid h.0
-member_shorter first text (Span c d) mid h =
-    let a : length (hyphen ∷ h.0) < length text = single_shorter first text c (hyphen ∷ h.0) h.1 in
-    let b = end_shorter h.0 d mid h.2 in
-    omega arith
-member_shorter first text (Named class) mid h =
-    let e : length text ≡ suc (suc (length (class_name class ++ colon ∷ close_bracket ∷ mid))) = ap length h in
-    omega (arith, length-append (class_name class) (colon ∷ close_bracket ∷ mid))
+member_shorter first text (Span c d) mid h = grind (arith, nat_tests, single_shorter, end_shorter)
+member_shorter first text (Named class) mid h = grind (arith, nat_tests, length-append)
 
 -- Lists of members.
 
@@ -345,14 +296,9 @@ members_of (suc n) first (b ∷ bs) ms rest h = one_more first b bs ms rest n (�
     end_of_list first b bs ms rest e k c =
         let w = and_parts (b == close_bracket) (not first) c in
         subst (λ x. AreMembers first (b ∷ bs) x rest) e (
-          closed_first first w.1,
-          ap (λ x. x ∷ bs) (equal b close_bracket w.0) ∙ ap
-              (λ x. close_bracket ∷ x) k,
+          not-true first w.1,
+          ap (λ x. x ∷ bs) (eqb-true b close_bracket w.0) ∙ ap (λ x. close_bracket ∷ x) k,
         )
-      where
-        closed_first : (v : Bool) → not v ≡ true → v ≡ false
-        closed_first true q = cc
-        closed_first false q = refl
 
     onto : (first : Bool) (b : ℕ) (bs : List ℕ) (ms : List Member) (rest : List ℕ) (m : Member) (mid : List ℕ) (o : Option (List Member × List ℕ)) →
         IsMember first (b ∷ bs) m mid → ((q : List Member) (z : List ℕ) → o ≡ Some (q, z) → AreMembers false mid q z) →
@@ -374,13 +320,7 @@ members_of (suc n) first (b ∷ bs) ms rest h = one_more first b bs ms rest n (�
 
 pub members_read : (n : ℕ) (first : Bool) (text : List ℕ) (ms : List Member) (rest : List ℕ) → length text ≤ n → AreMembers first text ms rest →
     members n first text ≡ Some (ms, rest)
-members_read n first text [] rest l h =
-    subst (λ x. members n x text ≡ Some ([], rest)) (sym h.0)
-    (subst (λ x. members n false x ≡ Some ([], rest)) (sym h.1) (closed n (let e : length text ≡ suc (length rest) = ap length h.1 in omega arith)))
-  where
-    closed : (n : ℕ) → suc (length rest) ≤ n → members n false (close_bracket ∷ rest) ≡ Some ([], rest)
-    closed zero q = absurd (omega arith)
-    closed (suc n) q = refl
+members_read n first text [] rest l h = grind (arith, nat_tests)
 members_read n first text (m ∷ ms) rest l h =
     let r = member_read first text m h.0 h.1 in
     let s = member_shorter first text m h.0 h.1 in

@@ -1,15 +1,16 @@
 -- The tokens of a text, read and spelled.
 use Rattle.std.proofs.Common.{◌≡◌, ◌≢◌, ◌≤◌, ◌<◌, ℕ, zero, suc, Bool, true, false, ◌&&◌, ◌==◌, ◌⊎◌, inl, inr, List, [], ◌∷◌, ◌++◌, length, replicate}
 use Rattle.std.proofs.Common.{Option, Some, None, option_map, refl, sym, ap, subst, ◌∙◌, arith, length-append, append-nil}
+use Rattle.std.proofs.lemmas.Bool.Decides.{nat_tests}
 use Rattle.std.proofs.lemmas.List.{length-replicate}
+use Rattle.std.proofs.lemmas.Bool.{and_from, and_parts, eq-eqb, eqb-false, eqb-true, ne_eqb, or_left, or_right}
 use Rattle.attr_wildmatch.specs.declared.bracket.Member.{Member}
 use Rattle.attr_wildmatch.specs.Bytes.{exclamation_mark, asterisk, slash, question_mark, open_bracket, backslash, caret}
 use Rattle.attr_wildmatch.specs.Brackets.{negates, begins, members}
 use Rattle.attr_wildmatch.specs.Tokens.{Token, lit, one, set, star, dirs, rest, after_stars, directory_at, stars_at, bracket_at, escape_at, token_at}
 use Rattle.attr_wildmatch.specs.Tokens.{token_ends_in_slash, tokens_from, tokens}
 use Rattle.attr_wildmatch.specs.Spelling.{AreMembers, IsRun, IsToken, AreTokens}
-use Rattle.attr_wildmatch.proofs.Basics.{by_test, by_option, pair_parts, unequal, equal, equal_so, not_equal, and_parts, and_both, or_part, or_left}
-use Rattle.attr_wildmatch.proofs.Basics.{or_right, true_false}
+use Rattle.attr_wildmatch.proofs.Basics.{by_test, by_option, pair_parts, true_false}
 use Rattle.attr_wildmatch.proofs.SpellMembers.{members_of, members_read, member_shorter}
 
 -- Runs of stars.
@@ -32,7 +33,7 @@ stars_of (b ∷ bs) = by_test (b == asterisk) (λ t. further b bs t (stars_of bs
     further : (b : ℕ) (bs : List ℕ) → (b == asterisk) ≡ true → Stars bs → Stars (b ∷ bs)
     further b bs t s = record {
       count = suc s.count;
-      whole = ap (λ x. x ∷ bs) (equal b asterisk t) ∙ (ap (λ x. asterisk ∷ x) s.whole ∙ ap (λ x. asterisk ∷ (replicate s.count asterisk ++ x))
+      whole = ap (λ x. x ∷ bs) (eqb-true b asterisk t) ∙ (ap (λ x. asterisk ∷ x) s.whole ∙ ap (λ x. asterisk ∷ (replicate s.count asterisk ++ x))
           (sym (kept t)));
       longest = λ more e. s.longest more (sym (kept t) ∙ e);
       some = λ e. omega arith;
@@ -47,7 +48,7 @@ stars_of (b ∷ bs) = by_test (b == asterisk) (λ t. further b bs t (stars_of bs
       count = 0;
       whole = sym (stopped f);
       longest = λ more e. let q : b ∷ bs ≡ asterisk ∷ more = sym (stopped f) ∙ e in let same : b ≡ asterisk = cc in true_false _
-          (equal_so b asterisk same) f;
+          (eq-eqb b asterisk same) f;
       some = λ e. absurd (true_false _ e f);
       none = λ e. refl;
     }
@@ -57,13 +58,13 @@ stars_of (b ∷ bs) = by_test (b == asterisk) (λ t. further b bs t (stars_of bs
 
 after_run : (n : ℕ) (others : List ℕ) → ((more : List ℕ) → others ≡ asterisk ∷ more → ⊥) → after_stars (replicate n asterisk ++ others) ≡ others
 after_run zero [] h = refl
-after_run zero (b ∷ others) h = by_test (b == asterisk) (λ t. absurd (h others (ap (λ x. x ∷ others) (equal b asterisk t)))) (λ f. rw f)
+after_run zero (b ∷ others) h = by_test (b == asterisk) (λ t. absurd (h others (ap (λ x. x ∷ others) (eqb-true b asterisk t)))) (λ f. rw f)
 after_run (suc n) others h = after_run n others h
 
 begins_run : (n : ℕ) (others : List ℕ) → ((more : List ℕ) → others ≡ asterisk ∷ more → ⊥) → begins asterisk (replicate n asterisk ++ others) ≡ true →
     1 ≤ n
 begins_run zero [] h e = absurd (true_false false e refl)
-begins_run zero (b ∷ others) h e = absurd (h others (ap (λ x. x ∷ others) (equal b asterisk e)))
+begins_run zero (b ∷ others) h e = absurd (h others (ap (λ x. x ∷ others) (eqb-true b asterisk e)))
 begins_run (suc n) others h e = omega arith
 
 pub stars_spelled : (border : Bool) (bs : List ℕ) → IsToken border (asterisk ∷ bs) (stars_at border bs).0 (stars_at border bs).1
@@ -72,7 +73,7 @@ stars_spelled border bs = by_test (border && begins asterisk bs)
     (λ f. rw f (let s = stars_of bs in (
       s.count,
       (ap (λ x. asterisk ∷ x) s.whole, s.longest),
-      (λ b l. absurd (true_false _ (and_both border (begins asterisk bs) b (long_begins s l)) f)),
+      (λ b l. absurd (true_false _ (and_from border (begins asterisk bs) b (long_begins s l)) f)),
     )))
   where
     long_begins : (s : Stars bs) → 1 ≤ s.count → begins asterisk bs ≡ true
@@ -100,19 +101,19 @@ stars_spelled border bs = by_test (border && begins asterisk bs)
         (λ t. rw t (
           p.0,
           b,
-          whole ∙ (ap (λ x. asterisk ∷ (replicate s.count asterisk ++ x ∷ cs)) (equal c slash t) ∙ ap
+          whole ∙ (ap (λ x. asterisk ∷ (replicate s.count asterisk ++ x ∷ cs)) (eqb-true c slash t) ∙ ap
               (λ x. asterisk ∷ (replicate x asterisk ++ slash ∷ cs)) p.1),
         ))
-        (λ f. rw f (s.count, (whole, (λ more q. s.longest more (e ∙ q))), (λ d l. (c, cs, refl, not_equal c slash f))))
+        (λ f. rw f (s.count, (whole, (λ more q. s.longest more (e ∙ q))), (λ d l. (c, cs, refl, eqb-false c slash f))))
 
 -- Brackets and single tokens.
 
 negates_of : (b : ℕ) → negates b ≡ true → (b ≡ exclamation_mark) ⊎ (b ≡ caret)
-negates_of b h = elim (or_part (b == exclamation_mark) (b == caret) h) [ inl t ↦ inl (equal b exclamation_mark t) | inr t ↦ inr (equal b caret t) ]
+negates_of b h = grind (arith, nat_tests)
 
 negates_so : (b : ℕ) → (b ≡ exclamation_mark) ⊎ (b ≡ caret) → negates b ≡ true
-negates_so b (inl e) = or_left (b == exclamation_mark) (b == caret) (equal_so b exclamation_mark e)
-negates_so b (inr e) = or_right (b == exclamation_mark) (b == caret) (equal_so b caret e)
+negates_so b (inl e) = or_left (b == exclamation_mark) (b == caret) (eq-eqb b exclamation_mark e)
+negates_so b (inr e) = or_right (b == exclamation_mark) (b == caret) (eq-eqb b caret e)
 
 bracket_spelled : (border : Bool) (bs : List ℕ) (t : Token) (others : List ℕ) → bracket_at bs ≡ Some (t, others) → IsToken border (open_bracket ∷ bs)
     t others
@@ -142,16 +143,16 @@ pub token_spelled : (border : Bool) (b : ℕ) (bs : List ℕ) (t : Token) (other
     (b ∷ bs) t others
 token_spelled border b bs t others h =
     by_test (b == question_mark)
-    (λ y. same (one, bs) (rw y at h) (ap (λ x. x ∷ bs) (equal b question_mark y)))
+    (λ y. same (one, bs) (rw y at h) (ap (λ x. x ∷ bs) (eqb-true b question_mark y)))
     (λ n1. let h1 = rw n1 at h in by_test (b == backslash)
-    (λ y. escape bs (rw y at h1) (equal b backslash y))
+    (λ y. escape bs (rw y at h1) (eqb-true b backslash y))
     (λ n2. let h2 = rw n2 at h1 in by_test (b == open_bracket)
-    (λ y. subst (λ x. IsToken border (x ∷ bs) t others) (sym (equal b open_bracket y)) (bracket_spelled border bs t others (rw y at h2)))
+    (λ y. subst (λ x. IsToken border (x ∷ bs) t others) (sym (eqb-true b open_bracket y)) (bracket_spelled border bs t others (rw y at h2)))
     (λ n3. let h3 = rw n3 at h2 in by_test (b == asterisk)
     (λ y. same (stars_at border bs) (rw y at h3) (subst (λ x. IsToken border (x ∷ bs) (stars_at border bs).0 (stars_at border bs).1)
-    (sym (equal b asterisk y)) (stars_spelled border bs)))
+    (sym (eqb-true b asterisk y)) (stars_spelled border bs)))
     (λ n4. same (lit b, bs) (rw n4 at h3)
-    (inr (refl, not_equal b asterisk n4, not_equal b question_mark n1, not_equal b open_bracket n3, not_equal b backslash n2))))))
+    (inr (refl, eqb-false b asterisk n4, eqb-false b question_mark n1, eqb-false b open_bracket n3, eqb-false b backslash n2))))))
   where
     same : (p : Token × List ℕ) → Some p ≡ Some (t, others) → IsToken border (b ∷ bs) p.0 p.1 → IsToken border (b ∷ bs) t others
     same p e i =
@@ -174,7 +175,7 @@ pub record ReadsToken (border : Bool) (text : List ℕ) (t : Token) (others : Li
 
 plain_lit : (border : Bool) (c : ℕ) (bs : List ℕ) → c ≢ asterisk → c ≢ question_mark → c ≢ open_bracket → c ≢ backslash → token_at border c bs ≡ Some
     (lit c, bs)
-plain_lit border c bs h i j k = rw (unequal c question_mark i, unequal c backslash k, unequal c open_bracket j, unequal c asterisk h)
+plain_lit border c bs h i j k = rw (ne_eqb c question_mark i, ne_eqb c backslash k, ne_eqb c open_bracket j, ne_eqb c asterisk h)
 
 set_read : (border n : Bool) (bs : List ℕ) (ms : List Member) (others : List ℕ) → bracket_at bs ≡ Some (set n ms, others) →
     ReadsToken border (open_bracket ∷ bs) (set n ms) others
@@ -184,16 +185,14 @@ pub token_read : (border : Bool) (text : List ℕ) (t : Token) (others : List �
 token_read border text (lit c) others (inl h) = record { byte = backslash; tail = c ∷ others; whole = h; read = refl }
 token_read border text (lit c) others (inr h) = record { byte = c; tail = others; whole = h.0; read = plain_lit border c others h.1 h.2 h.3 h.4 }
 token_read border text one others h = record { byte = question_mark; tail = others; whole = h; read = refl }
-token_read border text (set true ms) others h =
-    subst (λ x. ReadsToken border x (set true ms) others) (sym h.2)
-    (set_read border true (h.0 ∷ h.1) ms others (rw (negates_so h.0 h.3, members_read (length h.1) true h.1 ms others (omega arith) h.4)))
+token_read border text (set true ms) others h = grind (arith, nat_tests, set_read, negates_so, members_read)
 token_read border text (set false ms) others h =
     subst (λ x. ReadsToken border x (set false ms) others) (sym h.2)
     (set_read border false (h.0 ∷ h.1) ms others
     (rw (not_negating h.0 h.3 h.4, members_read (length (h.0 ∷ h.1)) true (h.0 ∷ h.1) ms others (omega arith) h.5)))
   where
     not_negating : (b : ℕ) → b ≢ exclamation_mark → b ≢ caret → negates b ≡ false
-    not_negating b p q = rw (unequal b exclamation_mark p, unequal b caret q)
+    not_negating b p q = rw (ne_eqb b exclamation_mark p, ne_eqb b caret q)
 token_read border text star others h = record {
   byte = asterisk;
   tail = replicate h.0 asterisk ++ others;
@@ -206,7 +205,7 @@ token_read border text star others h = record {
 }
   where
     not_directory : (b : ℕ) (more : List ℕ) → others ≡ b ∷ more → b ≢ slash → directory_at others ≡ (star, others)
-    not_directory b more e n = ap directory_at e ∙ (let same : directory_at (b ∷ more) ≡ (star, b ∷ more) = rw (unequal b slash n) in same ∙ ap
+    not_directory b more e n = ap directory_at e ∙ (let same : directory_at (b ∷ more) ≡ (star, b ∷ more) = rw (ne_eqb b slash n) in same ∙ ap
         (λ x. (star, x)) (sym e))
 token_read border text dirs others h = record {
   byte = asterisk;
@@ -214,7 +213,7 @@ token_read border text dirs others h = record {
   whole = h.2;
   read = rw (
     h.1,
-    after_run h.0 (slash ∷ others) (λ more e. let same : slash ≡ asterisk = head_is slash others asterisk more e in not_equal slash
+    after_run h.0 (slash ∷ others) (λ more e. let same : slash ≡ asterisk = head_is slash others asterisk more e in eqb-false slash
         asterisk refl same),
   );
 }
@@ -240,30 +239,19 @@ members_shorter first text (m ∷ ms) others h =
     omega arith
 
 stars_shorter : (n : ℕ) (text others : List ℕ) → text ≡ replicate (suc n) asterisk ++ others → length others < length text
-stars_shorter n text others h =
-    let e : length text ≡ length (replicate (suc n) asterisk ++ others) = ap length h in
-    omega (arith, e, length-append (replicate (suc n) asterisk) others, length-replicate (suc n) asterisk)
+stars_shorter n text others h = grind (arith, nat_tests, length-append, length-replicate)
 
 token_shorter : (border : Bool) (text : List ℕ) (t : Token) (others : List ℕ) → IsToken border text t others → length others < length text
 token_shorter border text (lit c) others (inl h) = let e : length text ≡ suc (suc (length others)) = ap length h in omega arith
 token_shorter border text (lit c) others (inr h) = let e : length text ≡ suc (length others) = ap length h.0 in omega arith
 token_shorter border text one others h = let e : length text ≡ suc (length others) = ap length h in omega arith
-token_shorter border text (set true ms) others h =
-    let a = members_shorter true h.1 ms others h.4 in
-    let e : length text ≡ suc (suc (length h.1)) = ap length h.2 in
-    omega arith
-token_shorter border text (set false ms) others h =
-    let a : length others < suc (length h.1) = members_shorter true (h.0 ∷ h.1) ms others h.5 in
-    let e : length text ≡ suc (suc (length h.1)) = ap length h.2 in
-    omega arith
+token_shorter border text (set true ms) others h = grind (arith, nat_tests, members_shorter)
+token_shorter border text (set false ms) others h = grind (arith, nat_tests, members_shorter)
 token_shorter border text star others h = stars_shorter h.0 text others h.1.0
 token_shorter border text dirs others h =
     let a : length (slash ∷ others) < length text = stars_shorter (suc h.0) text (slash ∷ others) h.2 in
     omega arith
-token_shorter border text rest others h =
-    let a : length text ≡ suc (suc (length (replicate h.0 asterisk))) = ap length h.2 in
-    let b : length others ≡ 0 = ap length h.3 in
-    omega arith
+token_shorter border text rest others h = grind (arith, nat_tests)
 
 -- Lists of tokens.
 

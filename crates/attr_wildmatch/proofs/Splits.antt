@@ -1,12 +1,13 @@
 -- What each form of a test says of the ways to split a value.
-use Rattle.std.proofs.Common.{◌≡◌, ◌≢◌, ℕ, Bool, true, false, not, ◌&&◌, ◌==◌, inl, inr, List, [], ◌∷◌, ◌++◌, refl, ap, if◌then◌else◌}
+use Rattle.std.proofs.Common.{arith, ◌≡◌, ◌≢◌, ℕ, Bool, true, false, not, ◌&&◌, ◌==◌, inl, inr, List, [], ◌∷◌, ◌++◌, refl, ap}
+use Rattle.std.proofs.lemmas.Bool.Decides.{nat_tests}
+use Rattle.std.proofs.lemmas.Bool.{and_from, and_parts, eqb-true, or_cases, or_left, or_right}
 use Rattle.attr_wildmatch.specs.declared.case.Case.{Case}
 use Rattle.attr_wildmatch.specs.Bytes.{slash}
-use Rattle.attr_wildmatch.specs.Brackets.{set_holds}
 use Rattle.attr_wildmatch.specs.Tokens.{Token, lit, one, set, star, dirs, rest}
 use Rattle.attr_wildmatch.specs.Matching.{Takes}
 use Rattle.attr_wildmatch.specs.Deciding.{takes_byte, byte_then, star_then, slash_then, rest_then}
-use Rattle.attr_wildmatch.proofs.Basics.{Each, and_parts, and_both, or_part, or_left, or_right, differs, differs_so, equal}
+use Rattle.attr_wildmatch.proofs.Basics.{Each, differs, differs_so}
 
 -- the byte is no slash
 abbrev pub NoSlash : ℕ → Type 0
@@ -25,7 +26,7 @@ byte_split p f [] h = cc
 byte_split p f (b ∷ bs) h = let w = and_parts (p b) (f bs) h in record { byte = b; others = bs; whole = refl; passes = w.0; taken = w.1 }
 
 pub byte_joined : (p : ℕ → Bool) (f : List ℕ → Bool) (b : ℕ) (bs : List ℕ) → p b ≡ true → f bs ≡ true → byte_then p f (b ∷ bs) ≡ true
-byte_joined p f b bs h k = and_both (p b) (f bs) h k
+byte_joined p f b bs h k = and_from (p b) (f bs) h k
 
 -- the value begins with a part for which P holds, and f takes what follows
 pub record Split (P : List ℕ → Type 0) (f : List ℕ → Bool) (v : List ℕ) : Type 0 where
@@ -37,7 +38,7 @@ pub record Split (P : List ℕ → Type 0) (f : List ℕ → Bool) (v : List ℕ
 
 pub star_split : (f : List ℕ → Bool) (v : List ℕ) → star_then f v ≡ true → Split (Each NoSlash) f v
 star_split f [] h = record { part = []; others = []; whole = refl; holds = tt; taken = h }
-star_split f (b ∷ bs) h = elim (or_part (f (b ∷ bs)) (not (b == slash) && star_then f bs) h) [
+star_split f (b ∷ bs) h = elim (or_cases (f (b ∷ bs)) (not (b == slash) && star_then f bs) h) [
   | inl t ↦ record { part = []; others = b ∷ bs; whole = refl; holds = tt; taken = t }
   | inr t ↦
       let w = and_parts (not (b == slash)) (star_then f bs) t in
@@ -48,13 +49,11 @@ star_split f (b ∷ bs) h = elim (or_part (f (b ∷ bs)) (not (b == slash) && st
 pub star_joined : (f : List ℕ → Bool) (part others : List ℕ) → Each NoSlash part → f others ≡ true → star_then f (part ++ others) ≡ true
 star_joined f [] [] h k = k
 star_joined f [] (b ∷ bs) h k = or_left (f (b ∷ bs)) (not (b == slash) && star_then f bs) k
-star_joined f (b ∷ part) others h k =
-    or_right (f (b ∷ (part ++ others))) (not (b == slash) && star_then f (part ++ others))
-    (and_both (not (b == slash)) (star_then f (part ++ others)) (differs_so b slash h.0) (star_joined f part others h.1 k))
+star_joined f (b ∷ part) others h k = grind (arith, nat_tests, or_right, part, others, and_from, differs_so, star_joined f part others)
 
 pub rest_split : (f : List ℕ → Bool) (v : List ℕ) → rest_then f v ≡ true → Split (λ part. Unit {0}) f v
 rest_split f [] h = record { part = []; others = []; whole = refl; holds = tt; taken = h }
-rest_split f (b ∷ bs) h = elim (or_part (f (b ∷ bs)) (rest_then f bs) h) [
+rest_split f (b ∷ bs) h = elim (or_cases (f (b ∷ bs)) (rest_then f bs) h) [
   | inl t ↦ record { part = []; others = b ∷ bs; whole = refl; holds = tt; taken = t }
   | inr t ↦
       let s = rest_split f bs t in
@@ -72,10 +71,10 @@ EndsInSlash part = (front : List ℕ) × (part ≡ front ++ slash ∷ [])
 
 pub slash_split : (f : List ℕ → Bool) (v : List ℕ) → slash_then f v ≡ true → Split EndsInSlash f v
 slash_split f [] h = cc
-slash_split f (b ∷ bs) h = elim (or_part (b == slash && f bs) (slash_then f bs) h) [
+slash_split f (b ∷ bs) h = elim (or_cases (b == slash && f bs) (slash_then f bs) h) [
   | inl t ↦
       let w = and_parts (b == slash) (f bs) t in
-      record { part = b ∷ []; others = bs; whole = refl; holds = ([], ap (λ x. x ∷ []) (equal b slash w.0)); taken = w.1 }
+      record { part = b ∷ []; others = bs; whole = refl; holds = ([], ap (λ x. x ∷ []) (eqb-true b slash w.0)); taken = w.1 }
   | inr t ↦
       let s = slash_split f bs t in
       record {
@@ -90,8 +89,7 @@ slash_split f (b ∷ bs) h = elim (or_part (b == slash && f bs) (slash_then f bs
 
 pub slash_joined : (f : List ℕ → Bool) (front others : List ℕ) → f others ≡ true → slash_then f ((front ++ slash ∷ []) ++ others) ≡ true
 slash_joined f [] others k = or_left (slash == slash && f others) (slash_then f others) k
-slash_joined f (b ∷ front) others k =
-    or_right (b == slash && f ((front ++ slash ∷ []) ++ others)) (slash_then f ((front ++ slash ∷ []) ++ others)) (slash_joined f front others k)
+slash_joined f (b ∷ front) others k = grind (arith, nat_tests, or_right, others, slash_joined f front others k)
 
 -- the token takes exactly one byte
 abbrev pub is_single : Token → Bool
@@ -105,19 +103,12 @@ is_single rest = false
 pub single_takes : (case : Case) (t : Token) (b : ℕ) → takes_byte case t b ≡ true → Takes case t (b ∷ [])
 single_takes case (lit c) b h = (b, refl, h)
 single_takes case one b h = (b, refl, differs b slash h)
-single_takes case (set negated ms) b h =
-    let w = and_parts (not (b == slash)) (if negated then not (set_holds case ms b) else set_holds case ms b) h in
-    (b, refl, differs b slash w.0, w.1)
-single_takes case star b h = cc
-single_takes case dirs b h = cc
-single_takes case rest b h = cc
+single_takes case (set negated ms) b h = grind (arith, nat_tests, and_parts, differs)
+single_takes case t b h = cc
 
 pub single_taken : (case : Case) (t : Token) (part : List ℕ) → is_single t ≡ true → Takes case t part →
     (b : ℕ) × (part ≡ b ∷ []) × (takes_byte case t b ≡ true)
 single_taken case (lit c) part s h = (h.0, h.1, h.2)
 single_taken case one part s h = (h.0, h.1, differs_so h.0 slash h.2)
-single_taken case (set negated ms) part s h =
-    (h.0, h.1, and_both (not (h.0 == slash)) (if negated then not (set_holds case ms h.0) else set_holds case ms h.0) (differs_so h.0 slash h.2) h.3)
-single_taken case star part s h = cc
-single_taken case dirs part s h = cc
-single_taken case rest part s h = cc
+single_taken case (set negated ms) part s h = grind (arith, nat_tests, and_from, differs_so)
+single_taken case t part s h = cc

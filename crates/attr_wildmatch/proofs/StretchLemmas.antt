@@ -1,6 +1,7 @@
 -- The first offset at which a stretch fits between two stars is the best one: the later star takes what others would take.
-use Rattle.std.proofs.Common.{◌≡◌, ℕ, zero, suc, Bool, true, false, not, ◌&&◌, ◌||◌, ◌==◌, List, [], ◌∷◌, ◌++◌, length, drop}
-use Rattle.std.proofs.Common.{Option, Some, None, option_map, if◌then◌else◌, refl, sym, ap, ◌∙◌}
+use Rattle.std.proofs.Common.{arith, ◌≡◌, ℕ, zero, suc, Bool, true, false, not, ◌&&◌, ◌||◌, ◌==◌, List, [], ◌∷◌, ◌++◌, length, drop, Option, Some}
+use Rattle.std.proofs.Common.{None, option_map, if◌then◌else◌, refl, sym, ap, ◌∙◌}
+use Rattle.std.proofs.lemmas.Bool.Decides.{nat_tests}
 use Rattle.std.specs.List.{list_any}
 use Rattle.attr_wildmatch.specs.declared.case.Case.{Case}
 use Rattle.attr_wildmatch.specs.Bytes.{slash}
@@ -55,9 +56,8 @@ pub plain-tail : (b : ℕ) (bs : List ℕ) → Plain (b ∷ bs) → Plain bs
 plain-tail b bs h = not_second (b == slash) (list_any is_slash bs) h
 
 pub plain-drop : (n : ℕ) (v : List ℕ) → Plain v → Plain (drop n v)
-plain-drop zero v h = h
-plain-drop (suc n) [] h = h
 plain-drop (suc n) (b ∷ bs) h = plain-drop n bs (plain-tail b bs h)
+plain-drop n v h = h
 
 -- a star goes on over a byte that is no slash
 star-step : (f : List ℕ → Bool) (b : ℕ) (bs : List ℕ) → Plain (b ∷ bs) → star_then f (b ∷ bs) ≡ (f (b ∷ bs) || star_then f bs)
@@ -70,9 +70,9 @@ or_second false b h = h
 star-absorbs : (f : List ℕ → Bool) (k b : ℕ) (bs : List ℕ) → Plain (b ∷ bs) → star_then f (drop k bs) ≡ true →
     star_then f (drop k (b ∷ bs)) ≡ true
 star-absorbs f zero b bs h e = star-step f b bs h ∙ or_second (f (b ∷ bs)) (star_then f bs) e
+star-absorbs f (suc k) b (c ∷ cs) h e = star-absorbs f k c cs (plain-tail b (c ∷ cs) h) e
 star-absorbs f (suc zero) b [] h e = e
 star-absorbs f (suc (suc k)) b [] h e = e
-star-absorbs f (suc k) b (c ∷ cs) h e = star-absorbs f k c cs (plain-tail b (c ∷ cs) h) e
 
 and-assoc : (a b c : Bool) → (a && (b && c)) ≡ ((a && b) && c)
 and-assoc true b c = refl
@@ -81,22 +81,18 @@ and-assoc false b c = refl
 one-more : (case : Case) (p ts : List Token) (t : Token) (b : ℕ) (bs : List ℕ) →
     matches case (p ++ ts) bs ≡ (fits case p bs && matches case ts (drop (length p) bs)) →
     (takes_byte case t b && matches case (p ++ ts) bs) ≡ ((takes_byte case t b && fits case p bs) && matches case ts (drop (length p) bs))
-one-more case p ts t b bs e =
-    ap (λ x. takes_byte case t b && x) e ∙ and-assoc (takes_byte case t b) (fits case p bs) (matches case ts (drop (length p) bs))
+one-more case p ts t b bs e = grind (arith, nat_tests, and-assoc)
 
 -- a stretch, and then the tokens after it
 pub stretch_then : (case : Case) (p ts : List Token) (v : List ℕ) → is_stretch p ≡ true →
     matches case (p ++ ts) v ≡ (fits case p v && matches case ts (drop (length p) v))
-stretch_then case [] ts v h = refl
-stretch_then case (lit c ∷ p) ts [] s = refl
-stretch_then case (one ∷ p) ts [] s = refl
-stretch_then case (set negated ms ∷ p) ts [] s = refl
 stretch_then case (lit c ∷ p) ts (b ∷ bs) s = one-more case p ts (lit c) b bs (stretch_then case p ts bs s)
 stretch_then case (one ∷ p) ts (b ∷ bs) s = one-more case p ts one b bs (stretch_then case p ts bs s)
 stretch_then case (set negated ms ∷ p) ts (b ∷ bs) s = one-more case p ts (set negated ms) b bs (stretch_then case p ts bs s)
 stretch_then case (star ∷ p) ts v s = absurd cc
 stretch_then case (dirs ∷ p) ts v s = absurd cc
 stretch_then case (rest ∷ p) ts v s = absurd cc
+stretch_then case p ts v t = refl
 
 and_second : (a b : Bool) → (a && b) ≡ true → b ≡ true
 and_second true b h = h
@@ -105,20 +101,13 @@ and_second false b h = absurd cc
 -- wherever the stretch is found, the star after it takes what lies between
 found_later : (case : Case) (p ts : List Token) (v : List ℕ) → is_stretch p ≡ true → Plain v →
     star_then (matches case (p ++ star ∷ ts)) v ≡ true → matches case (star ∷ ts) (drop (length p) v) ≡ true
-found_later case p ts [] s h e =
-    and_second (fits case p []) (matches case (star ∷ ts) (drop (length p) [])) (sym (stretch_then case p (star ∷ ts) [] s) ∙ e)
+found_later case p ts [] s h e = grind (arith, nat_tests, and_second, stretch_then)
 found_later case p ts (b ∷ bs) s h e =
-    by_test (matches case (p ++ star ∷ ts) (b ∷ bs))
-    (λ t. and_second (fits case p (b ∷ bs)) (matches case (star ∷ ts) (drop (length p) (b ∷ bs)))
-    (sym (stretch_then case p (star ∷ ts) (b ∷ bs) s) ∙ t))
-    (λ t. let on : star_then (matches case (p ++ star ∷ ts)) bs ≡ true =
-    ap (λ x. x || star_then (matches case (p ++ star ∷ ts)) bs) (sym t) ∙ (sym (star-step (matches case (p ++ star ∷ ts)) b bs h) ∙ e) in
-    star-absorbs (matches case ts) (length p) b bs h (found_later case p ts bs s (plain-tail b bs h) on))
+    grind (arith, nat_tests, and_second, stretch_then, star-step, star-absorbs, plain-tail, found_later case p ts bs s)
 
 or_absorbed : (a b : Bool) → (b ≡ true → a ≡ true) → (a || b) ≡ a
-or_absorbed true b h = refl
 or_absorbed false true h = sym (h refl)
-or_absorbed false false h = refl
+or_absorbed a b h = refl
 
 drop-nil : (n : ℕ) → drop {A = ℕ} n [] ≡ []
 drop-nil zero = refl
@@ -126,27 +115,9 @@ drop-nil (suc n) = refl
 
 pub first_fit : (case : Case) (p ts : List Token) (v after : List ℕ) → is_stretch p ≡ true → Plain v → after_first case p v ≡ Some after →
     matches case (star ∷ p ++ star ∷ ts) v ≡ matches case (star ∷ ts) after
-first_fit case p ts [] after s h e =
-    by_test (fits case p [])
-    (λ t. let f = rw t at e in let same : [] ≡ after = cc in
-    stretch_then case p (star ∷ ts) [] s
-    ∙ (ap (λ x. x && matches case (star ∷ ts) (drop (length p) [])) t ∙ ap (matches case (star ∷ ts)) (drop-nil (length p) ∙ same)))
-    (λ t. absurd (let f = rw t at e in cc))
+first_fit case p ts [] after s h e = grind (arith, nat_tests, stretch_then, drop-nil)
 first_fit case p ts (b ∷ bs) after s h e =
-    by_test (fits case p (b ∷ bs))
-    (λ t. let f : Some (drop (length p) (b ∷ bs)) ≡ Some after = rw t at e in
-    let same : drop (length p) (b ∷ bs) ≡ after = cc in
-    let here : matches case (p ++ star ∷ ts) (b ∷ bs) ≡ matches case (star ∷ ts) (drop (length p) (b ∷ bs)) =
-    stretch_then case p (star ∷ ts) (b ∷ bs) s ∙ ap (λ x. x && matches case (star ∷ ts) (drop (length p) (b ∷ bs))) t in
-    star-step (matches case (p ++ star ∷ ts)) b bs h
-    ∙ (ap (λ x. x || star_then (matches case (p ++ star ∷ ts)) bs) here
-    ∙ (or_absorbed (matches case (star ∷ ts) (drop (length p) (b ∷ bs))) (star_then (matches case (p ++ star ∷ ts)) bs)
-    (λ on. star-absorbs (matches case ts) (length p) b bs h (found_later case p ts bs s (plain-tail b bs h) on))
-    ∙ ap (matches case (star ∷ ts)) same)))
-    (λ t. star-step (matches case (p ++ star ∷ ts)) b bs h
-    ∙ (ap (λ x. x || star_then (matches case (p ++ star ∷ ts)) bs)
-    (stretch_then case p (star ∷ ts) (b ∷ bs) s ∙ ap (λ x. x && matches case (star ∷ ts) (drop (length p) (b ∷ bs))) t)
-    ∙ first_fit case p ts bs after s (plain-tail b bs h) (rw t at e)))
+    grind (arith, nat_tests, stretch_then, star-step, or_absorbed, star-absorbs, found_later, plain-tail, first_fit case p ts bs after s)
 
 and_none : (a : Bool) → (a && false) ≡ false
 and_none true = refl
@@ -155,29 +126,13 @@ and_none false = refl
 -- what begins with a stretch that is found nowhere matches nowhere
 pub no_fit : (case : Case) (p ts : List Token) (v : List ℕ) → is_stretch p ≡ true → after_first case p v ≡ None →
     star_then (matches case (p ++ ts)) v ≡ false
-no_fit case p ts [] s e =
-    by_test (fits case p [])
-    (λ t. absurd (let f = rw t at e in cc))
-    (λ t. stretch_then case p ts [] s ∙ ap (λ x. x && matches case ts (drop (length p) [])) t)
-no_fit case p ts (b ∷ bs) s e =
-    by_test (fits case p (b ∷ bs))
-    (λ t. absurd (let f = rw t at e in cc))
-    (λ t. ap (λ x. x || (not (b == slash) && star_then (matches case (p ++ ts)) bs))
-    (stretch_then case p ts (b ∷ bs) s ∙ ap (λ x. x && matches case ts (drop (length p) (b ∷ bs))) t)
-    ∙ (ap (λ x. not (b == slash) && x) (no_fit case p ts bs s (rw t at e)) ∙ and_none (not (b == slash))))
+no_fit case p ts [] s e = grind (arith, nat_tests, stretch_then)
+no_fit case p ts (b ∷ bs) s e = grind (arith, nat_tests, stretch_then, and_none, no_fit case p ts bs s)
 
 -- what follows the first fit has no slash either
 pub plain-after : (case : Case) (p : List Token) (v after : List ℕ) → Plain v → after_first case p v ≡ Some after → Plain after
-plain-after case p [] after h e =
-    by_test (fits case p [])
-    (λ t. let f = rw t at e in let same : [] ≡ after = cc in ap (list_any is_slash) (sym same) ∙ h)
-    (λ t. absurd (let f = rw t at e in cc))
-plain-after case p (b ∷ bs) after h e =
-    by_test (fits case p (b ∷ bs))
-    (λ t. let f : Some (drop (length p) (b ∷ bs)) ≡ Some after = rw t at e in
-    let same : drop (length p) (b ∷ bs) ≡ after = cc in
-    ap (list_any is_slash) (sym same) ∙ plain-drop (length p) (b ∷ bs) h)
-    (λ t. plain-after case p bs after (plain-tail b bs h) (rw t at e))
+plain-after case p [] after h e = grind (arith, nat_tests)
+plain-after case p (b ∷ bs) after h e = grind (arith, nat_tests, plain-drop, plain-tail, plain-after case p bs after)
 
 -- Tokens of one byte at the front.
 
@@ -193,19 +148,12 @@ front_by_fit : (case : Case) (ts : List Token) (v : List ℕ) → front_left cas
     ≡ (if fits case (stretch_of ts) v then Some (after_stretch ts, drop (length (stretch_of ts)) v) else None)
 front_by_fit case [] v = refl
 front_by_fit case (t ∷ ts) [] = by_test (may_be_nothing t) (λ m. rw m refl) (λ m. rw m refl)
-front_by_fit case (t ∷ ts) (b ∷ bs) =
-    by_test (may_be_nothing t) (λ m. rw m refl)
-    (λ m. rw m (by_test (takes_byte case t b) (λ y. rw y (front_by_fit case ts bs)) (λ y. rw y refl)))
+front_by_fit case (t ∷ ts) (b ∷ bs) = grind (arith, nat_tests, front_by_fit case ts bs)
 
 first_by_fit : (case : Case) (ts : List Token) (v : List ℕ) →
     first_left case ts v ≡ option_map {U = List Token × List ℕ} (λ w. (after_stretch ts, w)) (after_first case (stretch_of ts) v)
-first_by_fit case ts [] =
-    front_by_fit case ts []
-    ∙ by_test (fits case (stretch_of ts) [])
-    (λ t. rw t (ap (λ l. Some (after_stretch ts, l)) (drop-nil (length (stretch_of ts))))) (λ t. rw t refl)
-first_by_fit case ts (b ∷ bs) =
-    ap (λ l. or_else l (first_left case ts bs)) (front_by_fit case ts (b ∷ bs))
-    ∙ by_test (fits case (stretch_of ts) (b ∷ bs)) (λ t. rw t refl) (λ t. rw t (first_by_fit case ts bs))
+first_by_fit case ts [] = grind (arith, nat_tests, front_by_fit, drop-nil)
+first_by_fit case ts (b ∷ bs) = grind (arith, nat_tests, front_by_fit, first_by_fit case ts bs)
 
 map_none : (x : List Token) (o : Option (List ℕ)) → option_map {U = List Token × List ℕ} (λ w. (x, w)) o ≡ None → o ≡ None
 map_none x None h = refl
@@ -214,8 +162,7 @@ map_none x (Some w) h = absurd cc
 map_some : (x next : List Token) (o : Option (List ℕ)) (after : List ℕ) →
     option_map {U = List Token × List ℕ} (λ w. (x, w)) o ≡ Some (next, after) → (x ≡ next) × (o ≡ Some after)
 map_some x next None after h = absurd cc
-map_some x next (Some w) after h =
-    let p : ◌≡◌ {A = List Token × List ℕ} (x, w) (next, after) = cc in (ap (λ q. q.0) p, ap (λ q. Some q.1) p)
+map_some x next (Some w) after h = grind (arith, nat_tests)
 
 -- a star takes no bytes up to where the tokens after it match, if those of one byte take none
 pub star_missed : (case : Case) (ts : List Token) (v : List ℕ) → first_left case ts v ≡ None → matches case (star ∷ ts) v ≡ false

@@ -1,11 +1,11 @@
 -- The tokens of a text, one after the other.
-use Rattle.std.proofs.Common.{◌≡◌, ◌≤◌, ◌<◌, ℕ, zero, suc, Bool, true, false, ◌==◌, List, [], ◌∷◌, ◌++◌, length, slice_get, get_or, nat_lt, is_some}
+use Rattle.std.proofs.Common.{◌≡◌, ◌≤◌, ◌<◌, ℕ, zero, suc, Bool, true, false, List, [], ◌∷◌, ◌++◌, length, slice_get, get_or, nat_lt, is_some}
 use Rattle.std.proofs.Common.{IfSome, Bor, Option, None, Some, option_map, refl, sym, ap, ◌∙◌, append_assoc, arith}
-use borrow.Author.Tests.{ltb-true, ltb-false}
+use Rattle.std.proofs.lemmas.Bool.Decides.{nat_tests}
+use borrow.Author.Tests.{ltb-false}
 use Rattle.attr_wildmatch.specs.declared.token.Token as written
 use Rattle.attr_wildmatch.specs.declared.bracket.Member.{Member}
-use Rattle.attr_wildmatch.specs.Bytes.{asterisk, question_mark, backslash, open_bracket}
-use Rattle.attr_wildmatch.specs.Tokens.{Token, lit, one, set, star, dirs, rest, tokens_from, token_at, bracket_at, escape_at, token_ends_in_slash}
+use Rattle.attr_wildmatch.specs.Tokens.{Token, set, dirs, tokens_from, token_at, bracket_at, escape_at, token_ends_in_slash}
 use Rattle.attr_wildmatch.specs.Brackets.{members, negates}
 use Rattle.attr_wildmatch.specs.TokenList.{token_of, tokens_of}
 use Rattle.attr_wildmatch.specs.inner.Bordered.{is_bordered}
@@ -41,9 +41,8 @@ length-tokens_of [] = refl
 length-tokens_of (t ∷ ts) = ap suc (length-tokens_of ts)
 
 pub slice_get_tokens_of : (ts : List written.Token) (k : ℕ) → slice_get (tokens_of ts) k ≡ option_map token_of (slice_get ts k)
-slice_get_tokens_of [] k = refl
-slice_get_tokens_of (t ∷ ts) zero = refl
 slice_get_tokens_of (t ∷ ts) (suc k) = slice_get_tokens_of ts k
+slice_get_tokens_of ts k = refl
 
 slice_get-found : (ts : List written.Token) (k : ℕ) (t : written.Token) → k < length ts → t ≡ get_or ts k t →
     slice_get ts k ≡ Some t
@@ -60,8 +59,7 @@ slice_get-missing (u ∷ ts) (suc k) h = slice_get-missing ts k (omega arith)
 pub looked_up : (ts : List written.Token) (k : ℕ) (o : Option (Bor written.Token)) → is_some o ≡ nat_lt k (length ts) →
     IfSome o (λ x. x.now ≡ get_or ts k x.now) → option_map (λ t. token_of t.now) o ≡ slice_get (tokens_of ts) k
 looked_up ts k None h e = sym (slice_get_tokens_of ts k ∙ ap (option_map token_of) (slice_get-missing ts k (ltb-false k (length ts) (sym h))))
-looked_up ts k (Some x) h e = sym (slice_get_tokens_of ts k ∙ ap (option_map token_of)
-    (slice_get-found ts k x.now (ltb-true k (length ts) (sym h)) e))
+looked_up ts k (Some x) h e = grind (arith, nat_tests, slice_get_tokens_of, slice_get-found)
 
 -- what follows tokens that end so: a directory star only where the last one ends in a slash
 abbrev pub border_after : Bool → List Token → Bool
@@ -75,19 +73,11 @@ fits_border border t = true
 
 pub bordered-push : (border : Bool) (ts : List Token) (t : Token) → is_bordered border ts ≡ true →
     fits_border (border_after border ts) t ≡ true → is_bordered border (ts ++ t ∷ []) ≡ true
-bordered-push border [] (lit c) h f = refl
-bordered-push border [] one h f = refl
-bordered-push border [] (set n ms) h f = refl
-bordered-push border [] star h f = refl
 bordered-push border [] dirs h f = rw f
-bordered-push border [] rest h f = refl
-bordered-push border (lit c ∷ ts) t h f = bordered-push (token_ends_in_slash (lit c)) ts t h f
-bordered-push border (one ∷ ts) t h f = bordered-push false ts t h f
-bordered-push border (set n ms ∷ ts) t h f = bordered-push false ts t h f
-bordered-push border (star ∷ ts) t h f = bordered-push false ts t h f
+bordered-push border [] t h f = refl
 bordered-push true (dirs ∷ ts) t h f = bordered-push true ts t h f
 bordered-push false (dirs ∷ ts) t h f = cc
-bordered-push border (rest ∷ ts) t h f = bordered-push false ts t h f
+bordered-push border (u ∷ ts) t h f = bordered-push (token_ends_in_slash u) ts t h f
 
 pub border_after-push : (border : Bool) (ts : List Token) (t : Token) → border_after border (ts ++ t ∷ []) ≡ token_ends_in_slash t
 border_after-push border [] t = refl
@@ -113,21 +103,9 @@ escape_fits [] = refl
 escape_fits (c ∷ bs) = refl
 
 token_fits : (b : ℕ) (bs : List ℕ) → fits_read (token_at false b bs) ≡ true
-token_fits b bs =
-    by_test (b == question_mark) (λ t. rw t) (λ f. rw f
-    (by_test (b == backslash) (λ t. rw t (escape_fits bs)) (λ g. rw g
-    (by_test (b == open_bracket) (λ t. rw t (bracket_fits bs)) (λ h. rw h
-    (by_test (b == asterisk) (λ t. rw t) (λ i. rw i)))))))
+token_fits b bs = grind (arith, nat_tests, escape_fits, bracket_fits)
 
 pub token_at-fits : (border : Bool) (b : ℕ) (bs : List ℕ) (t : Token) (tail : List ℕ) →
     token_at border b bs ≡ Some (t, tail) → fits_border border t ≡ true
-token_at-fits true b bs t tail h = always t
-  where
-    always : (t : Token) → fits_border true t ≡ true
-    always dirs = refl
-    always (lit c) = refl
-    always one = refl
-    always (set n ms) = refl
-    always star = refl
-    always rest = refl
+token_at-fits true b bs t tail h = grind (arith, nat_tests)
 token_at-fits false b bs t tail h = sym (ap fits_read h) ∙ token_fits b bs

@@ -1,14 +1,11 @@
-use Rattle.std.proofs.Common.{◌&&◌, false, not, reverse, eqb, nat_eq, sym, ap, ◌≡◌, ◌≢◌, ℕ, Bool, arith, refl, ◌∙◌}
+use Rattle.std.proofs.Common.{◌&&◌, not, reverse, eqb, nat_eq, sym, ap, ◌≡◌, ◌≢◌, ℕ, Bool, arith, ◌∙◌}
 use Rattle.std.proofs.lemmas.Bool.Decides.{nat_tests}
 use Rattle.attr_keys.specs.inner.Extensions.{dot_byte, is_reversed_extension}
 use Rattle.attr_keys.proofs.ExtensionTexts.{any_dot, extension_cons}
 use Rattle.attr_keys.proofs.by_hash.is_extension.Goals as goal
 
 other : (b : ℕ) (t : Bool) → b ≢ dot_byte → nat_eq b 46 ≡ eqb b dot_byte && t
-other b t apart = rw (fails b apart) refl
-  where
-    fails : (a : ℕ) → a ≢ dot_byte → eqb a dot_byte ≡ false
-    fails a ne = grind (arith, nat_tests)
+other b t apart = grind (arith, nat_tests)
 
 pub returns-then-first-eq46 : goal.returns-then-first-eq46
 returns-then-first-eq46 c =

@@ -1,6 +1,6 @@
-use Rattle.std.proofs.Common.{◌≡◌, ◌+◌, ◌<◌, ◌≤◌, ◌||◌, ℕ, Bool, true, false, List, [], ◌∷◌, ◌++◌, length, get_or, take}
+use Rattle.std.proofs.Common.{◌≡◌, ◌+◌, ◌<◌, ◌≤◌, ◌||◌, ℕ, Bool, false, List, [], ◌∷◌, ◌++◌, length, get_or, take}
 use Rattle.std.proofs.Common.{refl, sym, ap, subst, ◌∙◌, arith, eqb}
-use Rattle.std.proofs.lemmas.List.{get_or_default, get_or_push, length-append, take_all, take_more}
+use Rattle.std.proofs.lemmas.List.{get_or_default, get_or_push, length-append, take_more}
 use Rattle.std.proofs.Math.ListN.{get_or-append}
 use Rattle.std.proofs.lemmas.Bool.{eqb-true}
 use Rattle.std.proofs.lemmas.Bool.Decides.{nat_tests}
@@ -22,26 +22,10 @@ has_hashed_push rows h r = ap (λ l. has_row l r) (rows_push rows h) ∙ has_pus
 
 -- one more is on the left or on the right
 on_left : (a b c d x : Bool) → a || b ≡ c || d → (a || x) || b ≡ c || (d || x)
-on_left true b true d x e = refl
-on_left true b false d x e = ap (λ y. y || x) e
-on_left false b true d x e = ap (λ y. x || y) e ∙ or_all x
-  where
-    or_all : (y : Bool) → y || true ≡ true
-    or_all true = refl
-    or_all false = refl
-on_left false b false d x e = ap (λ y. x || y) e ∙ swap x d
-  where
-    swap : (y z : Bool) → y || z ≡ z || y
-    swap true true = refl
-    swap true false = refl
-    swap false true = refl
-    swap false false = refl
+on_left a b c d x e = grind arith
 
 on_right : (a b c d x : Bool) → a || b ≡ c || d → a || (b || x) ≡ c || (d || x)
-on_right true b true d x e = refl
-on_right true b false d x e = ap (λ y. y || x) e
-on_right false b true d x e = ap (λ y. y || x) e
-on_right false b false d x e = ap (λ y. y || x) e
+on_right a b c d x e = grind arith
 
 among_more : (kept all : List HashedRow) (h : HashedRow) (i : ℕ) → i < length all → h ≡ get_or all i h → AreAmong kept all →
     AreAmong (kept ++ h ∷ []) all
@@ -105,8 +89,3 @@ loop-index-preserved c =
                 (among_more kept rows h index c.loop-index-test.true (get_or_default rows index d h c.loop-index-test.true) known.kept));
           }
     ]
-
-pub returns-clause-rows : goal.returns-clause-rows
-returns-clause-rows c = λ row.
-    c.loop-index.invariant.rows row
-    ∙ ap (λ l. has_row c.args.crowded.now.items row || has_row (hashed_rows l) row) (take_all c.loop-index.index c.args.rows.now (omega arith))

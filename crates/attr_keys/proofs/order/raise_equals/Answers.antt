@@ -1,23 +1,9 @@
-use Rattle.std.proofs.Common.{◌≡◌, ◌∙◌, ◌≤◌, length, refl, sym, ap, arith}
+use Rattle.std.proofs.Common.{◌≡◌, ◌∙◌, ◌≤◌, length, sym, ap, arith}
 use Rattle.std.specs.Ordering.{is_ne}
 use Rattle.attr_keys.specs.inner.Cases.{keys_seen}
 use Rattle.attr_keys.proofs.Raising.{first_alike, moved_order, moved_raised, moved_rows, next_apart, one_more}
 use Rattle.attr_keys.proofs.order.raise_equals.Goals as goal
 use Rattle.attr_keys.proofs.order.raise_equals.Goals.{then-is_ne, else-is_ne}
-
-pub loop-index-init : goal.loop-index-init
-loop-index-init g c = record {
-  begun = omega arith;
-  within = omega arith;
-  has = λ row. refl;
-  order = c.requires;
-  alike = first_alike _ _ 0;
-  raised = λ k below. absurd (omega (arith, below));
-  apart = λ k at. absurd (omega (arith, at));
-}
-
-pub raise-requires-clause-order : goal.raise-requires-clause-order
-raise-requires-clause-order g c = omega (arith, c.loop-index.invariant.begun)
 
 pub loop-index-preserved : goal.loop-index-preserved
 loop-index-preserved g c =
@@ -52,9 +38,6 @@ loop-index-preserved g c =
         apart = before.apart;
       }
     ]
-
-pub raise-requires-2-clause-order : goal.raise-requires-2-clause-order
-raise-requires-2-clause-order g c = c.loop-index.invariant.within
 
 pub returns-clause-rows : goal.returns-clause-rows
 returns-clause-rows g c = λ row.

@@ -5,7 +5,8 @@ use Rattle.std.proofs.lemmas.List.Sorted.{IsPartitionPoint-from_clause}
 use Rattle.attr_keys.specs.inner.Cases.{keys_seen, seen_text}
 use Rattle.attr_keys.specs.shared.Codes.{codes_of, row_codes}
 use Rattle.attr_keys.specs.shared.Rows.{has_row, is_up_to}
-use Rattle.attr_keys.proofs.Links.{either_order, linked_less, linked_more, none_between, none_dropped, none_lesser, up_to_first}
+use Rattle.std.proofs.lemmas.Bool.{cases_lt}
+use Rattle.attr_keys.proofs.Links.{linked_less, linked_more, none_between, none_dropped, none_lesser, up_to_first}
 use Rattle.attr_keys.proofs.prefixes.append_linked.Goals as goal
 use Rattle.attr_keys.proofs.RowLemmas.{or_none}
 
@@ -73,9 +74,9 @@ loop-end-preserved-then-end-gt0 g c =
     let least = c.min-end.ensures in
     let end = get_or c.args.links.now index 0 in
     let other = c.common_end.result in
-    let is : (c.min-end.result ≡ end) ⊎ (c.min-end.result ≡ other) = elim (either_order end other) [
-      | inl le ↦ inl (omega (arith, least, le))
-      | inr lt ↦ inr (omega (arith, least, lt))
+    let is : (c.min-end.result ≡ end) ⊎ (c.min-end.result ≡ other) = elim (cases_lt other end) [
+      | inl lt ↦ inr (omega (arith, least, lt))
+      | inr le ↦ inl (omega (arith, least, le))
     ] in
     let both = none_lesser has rows index end other c.min-end.result is none c.common_end.ensures in
     record {

@@ -1,13 +1,12 @@
-use Rattle.std.proofs.Common.{◌≡◌, ℕ, zero, suc, ◌∷◌, [], refl, subst, inr, arith}
+use Rattle.std.proofs.Common.{◌≡◌, ℕ, suc, ◌∷◌, [], refl, inr, arith, Some, None}
+use Rattle.std.proofs.lemmas.Bool.Decides.{nat_tests}
 use Rattle.std.proofs.lemmas.Bool.{ne_eqb}
-use mathlib.Core.Path.{fun_ext}
 use Rattle.attr_table.specs.Table.{Slots}
 use Rattle.attr_table.specs.Cut.{IsSearched, is_done, no_answers}
 use Rattle.attr_table.specs.shared.Walk.{Task, Walks, stops, fills, tasks_of, fill}
 use Rattle.attr_table.specs.inner.Worked.{cycle, cycle_answers, a_set, b_set, line_numbered}
 use Rattle.attr_table.proofs.Cuts.{walked_searched, same_searched}
 use Rattle.attr_table.proofs.laws.worked_cycle.Goals as goal
-use Rattle.std.proofs.Common.{Some, None}
 
 a_task : Task
 a_task = record { origin = line_numbered 3; item = a_set; cause = None }
@@ -25,17 +24,11 @@ walk = fills refl refl (fills refl refl (stops refl))
 
 left_at : (a : ℕ) → left a ≡ cycle_answers a
 unfolding left a_task b_task
-left_at zero = refl
-left_at (suc zero) = refl
-left_at (suc (suc a)) =
-    let e = ne_eqb (suc (suc a)) 1 (λ (d : suc (suc a) ≡ 1). omega arith) in
-    let f = ne_eqb (suc (suc a)) 0 (λ (d : suc (suc a) ≡ 0). omega arith) in
-    rw (e, f) refl
+left_at (suc (suc a)) = grind (arith, nat_tests, ne_eqb)
+left_at a = refl
 
 searched : IsSearched cycle (0 ∷ 1 ∷ []) no_answers cycle_answers
-searched =
-    subst (λ (x : Slots). IsSearched cycle (0 ∷ 1 ∷ []) no_answers x) (fun_ext left_at)
-    (walked_searched cycle (0 ∷ 1 ∷ []) no_answers left walk)
+searched = grind (arith, nat_tests, left_at, walked_searched, left, walk)
 
 pub returns : goal.returns
 returns c = record {

@@ -1,4 +1,5 @@
-use Rattle.std.proofs.Common.{◌≡◌, ◌≤◌, ◌&&◌, not, suc, ◌==◌, ℕ, List, length, drop, true, Some, false, ◌∷◌, arith, ap, sym, ◌∙◌}
+use Rattle.std.proofs.Common.{◌≡◌, ◌≤◌, ◌&&◌, not, suc, ◌==◌, ℕ, List, length, drop, Some, false, ◌∷◌, arith, ap, sym, ◌∙◌}
+use Rattle.std.proofs.lemmas.Bool.Decides.{nat_tests}
 use Rattle.attr_wildmatch.specs.Bytes.{close_bracket}
 use Rattle.attr_wildmatch.specs.Brackets.{member_at, members as members_at}
 use Rattle.attr_wildmatch.specs.inner.Closing.{from_close}
@@ -7,20 +8,10 @@ use Rattle.attr_wildmatch.proofs.MembersLemmas.{after, after-nil, members_more}
 use Rattle.attr_wildmatch.proofs.bracket.members.Goals as goal
 
 pub loop-byte-init : goal.loop-byte-init
-loop-byte-init c = (
-  omega arith,
-  length c.args.bytes.now,
-  omega arith,
-  rw c.new-list.ensures.items (after-nil (members_at (length c.args.bytes.now) true c.args.bytes.now)),
-  λ le. c.bytes_from_close-close.ensures,
-)
+loop-byte-init c = grind (arith, nat_tests, after-nil)
 
 tail : (n b : ℕ) (bs rest : List ℕ) → rest ≡ b ∷ bs → (n ≤ length rest → n ≡ from_close rest) → n ≤ length bs → n ≡ from_close bs
 tail n b bs rest split before le = close-tail n b bs (let e : n ≤ length (b ∷ bs) → n ≡ from_close (b ∷ bs) = rw split at before in e) le
-
-pub next_close-close-requires : goal.next_close-close-requires
-next_close-close-requires c =
-    tail c.loop-byte.close c.in-Some.byte.now c.in-Some.tail.now c.loop-byte.rest.now c.in-Some.ensures.cases.0 c.loop-byte.invariant.4
 
 ends : (n k : ℕ) (bs rest : List ℕ) → rest ≡ drop k bs → (n ≤ length bs → n ≡ from_close bs) → n ≤ length rest → n ≡ from_close rest
 ends n k bs rest e before = rw e (close-drop n k bs before)

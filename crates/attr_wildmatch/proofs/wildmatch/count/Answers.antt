@@ -1,17 +1,14 @@
-use Rattle.std.proofs.Common.{true, ◌≡◌, List, Some, None, length, arith, sym, ap, subst, ◌∙◌}
+use Rattle.std.proofs.Common.{true, ◌≡◌, List, Some, arith, sym, subst, ◌∙◌}
+use Rattle.std.proofs.lemmas.Bool.Decides.{nat_tests}
 use Rattle.attr_wildmatch.specs.Tokens.{Token, tokens}
 use Rattle.attr_wildmatch.specs.Spelling.{AreTokens}
-use Rattle.attr_wildmatch.specs.Matching.{Match, ReachedAtMost}
+use Rattle.attr_wildmatch.specs.Matching.{ReachedAtMost}
 use Rattle.attr_wildmatch.proofs.SpellTokens.{spelled, read_back}
 use Rattle.attr_wildmatch.proofs.wildmatch.count.Goals as goal
 
 -- a malformed text has no tokens
 malformed : (c : goal.In_default) (ts : List Token) → AreTokens true c.args.text.now ts → ⊥
-malformed c ts a =
-    let none : tokens c.args.text.now ≡ None = sym c.in_ok-tokens.ensures.tokens ∙ c.in_default.is in
-    let some : tokens c.args.text.now ≡ Some ts = read_back c.args.text.now ts a in
-    let clash : None ≡ Some ts = sym none ∙ some in
-    cc
+malformed c ts a = grind (arith, nat_tests, read_back)
 
 pub returns-in_default-clause-matched : goal.returns-in_default-clause-matched
 returns-in_default-clause-matched c = ((λ t. cc), (λ m. absurd (malformed c m.0 m.1)))
@@ -28,16 +25,10 @@ only : (c : goal.After-drop-tokens-inside-2) (ts : List Token) → AreTokens tru
 only c ts a = let e : Some c.in-Some.tokens ≡ Some ts = sym (read_as c) ∙ read_back c.args.text.now ts a in cc
 
 pub returns-clause-matched : goal.returns-clause-matched
-returns-clause-matched c = (
-  (λ t. (c.in-Some.tokens, spelled c.args.text.now c.in-Some.tokens (read_as c), c.count.ensures.matched.0 t)),
-  (λ m. c.count.ensures.matched.1 (subst (λ x. Match c.args.case x c.args.value.now) (sym (only c m.0 m.1)) m.2)),
-)
+returns-clause-matched c = grind (arith, nat_tests, spelled, read_as, only)
 
 pub returns-clause-found : goal.returns-clause-found
-returns-clause-found c = λ t ts a.
-    let e : length c.in-Some.tokens ≡ length ts = ap length (only c ts a) in
-    let l = c.count.ensures.found t in
-    omega arith
+returns-clause-found c = grind (arith, nat_tests, only)
 
 pub returns-clause-missed : goal.returns-clause-missed
 returns-clause-missed c = λ f ts a. subst (λ x. ReachedAtMost c.args.case x c.args.value.now c.count.result.1) (only c ts a) c.count.ensures.missed

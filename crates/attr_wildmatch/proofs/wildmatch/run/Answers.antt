@@ -1,8 +1,9 @@
-use Rattle.std.proofs.Common.{◌≡◌, ◌≤◌, ◌<◌, ◌+◌, ◌*◌, ◌^◌, ℕ, [], length, vec_capacity, All, arith, refl, ap, sym, subst, ◌∙◌}
+use Rattle.std.proofs.Common.{◌≡◌, ◌≤◌, ◌<◌, ◌+◌, ◌*◌, ℕ, [], length, vec_capacity, All, arith, refl, ap, sym, subst, ◌∙◌}
 use Rattle.std.proofs.Math.Nat.{mul-le-mul}
+use Rattle.std.proofs.lemmas.Bool.Decides.{nat_tests}
+use Rattle.std.proofs.lemmas.Bool.{eq-eqb, eqb-true}
 use Rattle.attr_wildmatch.specs.TokenList.{tokens_of}
 use Rattle.attr_wildmatch.specs.inner.RowIndexes.{IsRow, indexes_below}
-use Rattle.attr_wildmatch.proofs.Basics.{equal, equal_so}
 use Rattle.attr_wildmatch.proofs.TokenLemmas.{length-tokens_of}
 use Rattle.attr_wildmatch.proofs.RowLemmas.{empty_row}
 use Rattle.attr_wildmatch.proofs.Reached.{fresh, alive}
@@ -13,11 +14,7 @@ use Rattle.attr_wildmatch.proofs.wildmatch.run.Goals as goal
 
 -- a bound at one byte is one at any later byte
 fits_all : (m n i t visits : ℕ) → m ≡ n → visits ≤ (m + 1) * (i + 1) → i ≤ t → visits ≤ (n + 1) * (t + 1)
-fits_all m n i t visits e h l =
-    let a : m + 1 ≤ n + 1 = omega arith in
-    let b : i + 1 ≤ t + 1 = omega arith in
-    let more : (m + 1) * (i + 1) ≤ (n + 1) * (t + 1) = mul-le-mul a b in
-    omega arith
+fits_all m n i t visits e h l = grind (arith, nat_tests, mul-le-mul)
 
 pub loop-byte-init : goal.loop-byte-init
 loop-byte-init c =
@@ -91,18 +88,7 @@ next_at c =
     (c.next_row-free.ensures.reached c.loop-byte.free below)
 
 pub overflow_add-visits : goal.overflow_add-visits
-overflow_add-visits c =
-    let n = length c.args.tokens.now in
-    let same = length-tokens_of c.args.tokens.now in
-    let most : c.loop-byte.visits + length c.next_row-free.new.next.items ≤ (n + 1) * (length c.args.value.now + 1) =
-    fits_all (length (tokens_of c.args.tokens.now)) n (c.loop-byte.byte-index + 1) (length c.args.value.now)
-    (c.loop-byte.visits + length c.next_row-free.new.next.items) same (next_at c).most (omega arith) in
-    let length_is : length c.swap.new.x.items ≡ length c.next_row-free.new.next.items = ap (λ x. length x.items) c.swap.ensures.x_after in
-    let counted : c.len.result ≡ length c.next_row-free.new.next.items = omega (arith, c.len.ensures, c.swap.new.x.ok) in
-    let few : n + 1 ≤ 2 ^ 63 = omega (arith, c.requires.few) in
-    let value_fits : length c.args.value.now + 1 ≤ 2 ^ 64 = omega arith in
-    let product : (n + 1) * (length c.args.value.now + 1) ≤ 2 ^ 63 * 2 ^ 64 = mul-le-mul few value_fits in
-    omega arith
+overflow_add-visits c = grind (arith, nat_tests, length-tokens_of, fits_all, next_at, mul-le-mul)
 
 pub loop-byte-preserved : goal.loop-byte-preserved
 loop-byte-preserved c =
@@ -124,25 +110,20 @@ loop-byte-preserved c =
 
 ended : (c : goal.After-loop-byte) → IsAt c.args.case (tokens_of c.args.tokens.now) c.args.value.now c.loop-byte.row.items c.loop-byte.free
     c.loop-byte.visits (length c.args.value.now)
-ended c =
-    let at_end : c.loop-byte.byte-index ≡ length c.args.value.now = omega arith in
-    subst (IsAt c.args.case (tokens_of c.args.tokens.now) c.args.value.now c.loop-byte.row.items c.loop-byte.free c.loop-byte.visits) at_end
-    c.loop-byte.invariant.0
+ended c = grind (arith, nat_tests)
 
 pub returns-clause-matched : goal.returns-clause-matched
 returns-clause-matched c =
     let same = length-tokens_of c.args.tokens.now in
     let m = matched_at_end c.args.case (tokens_of c.args.tokens.now) c.args.value.now c.loop-byte.row.items c.loop-byte.free c.loop-byte.visits
     (ended c) in (
-      (λ t. m.0 (let e : c.loop-byte.free ≡ length c.args.tokens.now + 1 = equal c.loop-byte.free (length c.args.tokens.now + 1) t in omega arith)),
-      (λ x. let e : c.loop-byte.free ≡ length (tokens_of c.args.tokens.now) + 1 = m.1 x in equal_so c.loop-byte.free (length c.args.tokens.now + 1)
+      (λ t. m.0 (let e : c.loop-byte.free ≡ length c.args.tokens.now + 1 = eqb-true _ _ t in omega arith)),
+      (λ x. let e : c.loop-byte.free ≡ length (tokens_of c.args.tokens.now) + 1 = m.1 x in eq-eqb c.loop-byte.free (length c.args.tokens.now + 1)
           (omega arith)),
     )
 
 pub returns-clause-at_most : goal.returns-clause-at_most
-returns-clause-at_most c =
-    fits_all (length (tokens_of c.args.tokens.now)) (length c.args.tokens.now) (length c.args.value.now) (length c.args.value.now) c.loop-byte.visits
-    (length-tokens_of c.args.tokens.now) (ended c).most (omega arith)
+returns-clause-at_most c = grind (arith, nat_tests, fits_all, length-tokens_of, ended)
 
 pub returns-clause-missed : goal.returns-clause-missed
 returns-clause-missed c =

@@ -1,5 +1,6 @@
 -- By the first quote or backslash after the opening quote.
 use Rattle.std.proofs.Common.{◌≢◌, ◌-◌, length, drop, take, get_or, position, ap, sym, ◌∙◌, arith}
+use Rattle.std.proofs.lemmas.Bool.Decides.{nat_tests}
 use Rattle.std.proofs.lemmas.Slice.{between_to_end}
 use Rattle.attr_wildmatch.specs.Bytes.{quote}
 use Rattle.attr_glob.specs.Quotes.{is_mark, BeginsQuoted}
@@ -68,10 +69,4 @@ returns-clause-lent c =
     rw (← c.as_bytes-text.ensures) (λ _. HoldsEscape-marked text c.in-Some.front_len quoted found (rw tail at no_quote), λ _. tt)
 
 pub returns-in_err-plain-clause-memory : goal.returns-in_err-plain-clause-memory
-returns-in_err-plain-clause-memory c =
-    let text = c.as_bytes-text.result.now in
-    let tail = between_to_end text 1 (length text) (omega arith) in
-    let found = ap (position is_mark) (sym tail) ∙ sym c.in-Some.ensures in
-    let quoted : BeginsQuoted text = omega arith in
-    let no_quote : get_or (take (length text - 1) (drop 1 text)) c.in-Some.front_len 0 ≢ quote = λ e. omega arith in
-    rw (← c.as_bytes-text.ensures) (λ _. HoldsEscape-Contains text (HoldsEscape-marked text c.in-Some.front_len quoted found (rw tail at no_quote)))
+returns-in_err-plain-clause-memory c = grind (arith, nat_tests, between_to_end, HoldsEscape-Contains, HoldsEscape-marked)

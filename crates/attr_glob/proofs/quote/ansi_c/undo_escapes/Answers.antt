@@ -1,7 +1,7 @@
 -- Each turn undoes one more byte.
-use Rattle.std.proofs.Common.{◌≡◌, ◌≢◌, ◌+◌, length, drop, get_or, Some, ap, ◌∙◌, arith}
+use Rattle.std.proofs.Common.{◌≡◌, ◌+◌, length, drop, Some, ap, ◌∙◌, arith}
+use Rattle.std.proofs.lemmas.Bool.Decides.{nat_tests}
 use Rattle.std.proofs.lemmas.Slice.{between_to_end}
-use Rattle.attr_wildmatch.specs.Bytes.{quote, backslash}
 use Rattle.attr_glob.specs.Quotes.{escaped, undone}
 use Rattle.attr_glob.proofs.Undoing.{undone_from-plain, undone_from-escape}
 use Rattle.attr_glob.proofs.quote.ansi_c.undo_escapes.Goals as goal
@@ -17,11 +17,4 @@ loop-offset-preserved-in-92 c =
     (turn.inside, rw c.in_ok-push-in-92.ensures.items turn.so_far)
 
 pub loop-offset-preserved : goal.loop-offset-preserved
-loop-offset-preserved c =
-    let text = c.args.text.now in
-    let offset = c.loop-offset.offset in
-    let no_quote : get_or text offset 0 ≢ quote = λ e. omega arith in
-    let no_backslash : get_or text offset 0 ≢ backslash = λ e. omega arith in
-    let so_far = undone_from-plain text c.loop-offset.plain.items offset (omega arith) no_quote no_backslash
-    (undone text) c.loop-offset.invariant.1 in
-    (omega arith, rw c.in_ok-push-in_default.ensures.items so_far)
+loop-offset-preserved c = grind (arith, nat_tests, undone_from-plain)

@@ -1,8 +1,9 @@
 -- Each text is one of four, and each of the four has one answer.
-use Rattle.std.proofs.Common.{◌≡◌, ℕ, List, Err}
+use Rattle.std.proofs.Common.{arith, ◌≡◌, ℕ, List, Err}
+use Rattle.std.proofs.lemmas.Bool.Decides.{nat_tests}
 use Rattle.attr_glob.specs.Quotes.{undone, IsUnclosed, IsBadEscape, BeginsQuoted, not_quoted, unclosed, bad_escape}
-use Rattle.attr_glob.proofs.Outcomes.{undone-IsQuoted, undone-IsUnclosed, undone-IsBadEscape, undone-unquoted, Outcome, quoted, ends, bad, plain_text}
-use Rattle.attr_glob.proofs.Outcomes.{outcome}
+use Rattle.attr_glob.proofs.Outcomes.{undone-IsQuoted, undone-IsUnclosed, undone-IsBadEscape, undone-unquoted, Outcome, quoted, ends, bad}
+use Rattle.attr_glob.proofs.Outcomes.{plain_text, outcome}
 use Rattle.attr_glob.proofs.UndoneTexts.{IsQuoted-undone}
 use Rattle.attr_glob.proofs.quote.ansi_c.undone_as_spelled.Goals as goal
 
@@ -15,10 +16,7 @@ IsUnclosed-undone text (plain_text n) e = let e' = undone-unquoted text n in abs
 IsBadEscape-undone : (text : List ℕ) (offset : ℕ) → Outcome text → undone text ≡ Err (bad_escape offset) → IsBadEscape text offset
 IsBadEscape-undone text offset (quoted plain taken q) e = let e' = undone-IsQuoted text plain taken q in absurd cc
 IsBadEscape-undone text offset (ends u) e = let e' = undone-IsUnclosed text u in absurd cc
-IsBadEscape-undone text offset (bad offset' b) e =
-    let e' = undone-IsBadEscape text offset' b in
-    let same : offset' ≡ offset = cc in
-    rw same at b
+IsBadEscape-undone text offset (bad offset' b) e = grind (arith, nat_tests, undone-IsBadEscape)
 IsBadEscape-undone text offset (plain_text n) e = let e' = undone-unquoted text n in absurd cc
 
 unquoted-undone : (text : List ℕ) → Outcome text → undone text ≡ Err not_quoted → ¬ BeginsQuoted text

@@ -1,18 +1,9 @@
-use Rattle.std.proofs.Common.{length, ap, sym, subst, arith, rules}
+use Rattle.std.proofs.Common.{sym, subst, rules}
 use Rattle.std.specs.List.Sorted.{IsNonDecreasingBy}
 use Rattle.std.proofs.lemmas.List.Sorted.{IsNonDecreasingBy-from_sort_by_key}
 use Rattle.attr_keys.specs.declared.hashed.HashedRow.{HashedRow}
 use Rattle.attr_keys.specs.inner.Hashes.{AreStarts}
 use Rattle.attr_keys.proofs.hashed.HashedRows.of.Goals as goal
-
-pub invariant_of-result : goal.invariant_of-result
-invariant_of-result c =
-    let none = ap length c.new-starts.ensures.items in
-    record {
-      width = λ some. absurd (omega (arith, some, none));
-      order = λ some. absurd (omega (arith, some, none));
-      starts = λ some. absurd (omega (arith, some, none));
-    }
 
 pub push_starts-requires-clause-order : goal.push_starts-requires-clause-order
 push_starts-requires-clause-order c =

@@ -10,26 +10,13 @@ use Rattle.attr_keys.proofs.Hashing.{of_hash_again}
 use Rattle.attr_keys.proofs.hashed.HashedRows.of_hash.Goals as goal
 
 some : (v : Vec ℕ Global) (empty : Bool) → empty ≡ eqb v.len 0 → empty ≡ false → 0 < length v.items
-some v empty is f = let ok = v.ok in let more = positive v.len empty is f in omega (arith, ok, more)
-  where
-    positive : (n : ℕ) (none : Bool) → none ≡ eqb n 0 → none ≡ false → 0 < n
-    positive n none is f = grind (arith, nat_tests)
+some v empty is f = grind (arith, nat_tests)
 
 pub index-requires : goal.index-requires
-index-requires c =
-    let more = some c.self.inside.starts _ c.is_empty.ensures c.if-is_empty.false in
-    let last = bucket_within c.self.inside.width c.self.inside.rows.items c.self.inside.starts.items (c.self.invariant.width more)
-    (c.self.invariant.starts more) c.args.hash c.bucket-index.result c.ranges.hash.fits c.bucket-index.ensures in
-    let ok = c.self.inside.starts.ok in
-    omega (arith, last, ok)
+index-requires c = grind (arith, nat_tests, some, bucket_within)
 
 pub index-requires-2 : goal.index-requires-2
-index-requires-2 c =
-    let more = some c.self.inside.starts _ c.is_empty.ensures c.if-is_empty.false in
-    let last = bucket_within c.self.inside.width c.self.inside.rows.items c.self.inside.starts.items (c.self.invariant.width more)
-    (c.self.invariant.starts more) c.args.hash c.bucket-index.result c.ranges.hash.fits c.bucket-index.ensures in
-    let ok = c.self.inside.starts.ok in
-    omega (arith, last, ok)
+index-requires-2 c = grind (arith, nat_tests, some, bucket_within)
 
 pub between-rows-requires-clause-start : goal.between-rows-requires-clause-start
 between-rows-requires-clause-start c =

@@ -1,38 +1,20 @@
-use Rattle.std.proofs.Common.{false, true, map, refl, sym, ap, ◌∙◌}
+use Rattle.std.proofs.Common.{arith, false, true, map, refl, ◌∙◌}
+use Rattle.std.proofs.lemmas.Bool.Decides.{nat_tests}
 use Rattle.std.specs.Prelude.{slice_get}
 use Rattle.attr_keys.specs.declared.key.Subject.TheVariants.{Name, End, Path}
 use Rattle.attr_keys.specs.declared.kinds.Kind.TheVariants as kind
-use Rattle.attr_keys.specs.shared.Rows.{has_row}
-use Rattle.attr_keys.proofs.Gathering.{are_subject_rows, either_kind, ends_are, extension_hashed, hashed_by, name_hashed, names_are}
-use Rattle.attr_keys.proofs.Gathering.{path_hashed, paths_are, seen_by}
+use Rattle.attr_keys.proofs.Gathering.{are_subject_rows, either_kind, ends_are, extension_hashed, hashed_by, name_hashed, names_are, path_hashed}
+use Rattle.attr_keys.proofs.Gathering.{paths_are, seen_by}
 use Rattle.attr_keys.proofs.key_index.KeyRows.of.Goals as goal
 
 pub of-requires : goal.of-requires
-of-requires g c = λ row has.
-    let content = g.K.Keyed.content in
-    let lines = c.args.lines.now in
-    let by = c.keys_of-keys.ensures in
-    hashed_by _ false _ _ row by.from_end (seen_by content c.keys_of-keys.result lines c.args.fold false by.lines by.fold by.from_end)
-    (name_hashed c.args.fold (map content lines) row
-    (sym (c.requires kind.Name refl row) ∙ (ap (λ l. has_row l row) (sym c.deref.ensures.value) ∙ has)))
+of-requires g c = grind (arith, nat_tests, hashed_by, seen_by, name_hashed)
 
 pub of-requires-2 : goal.of-requires-2
-of-requires-2 g c = λ row has.
-    let content = g.K.Keyed.content in
-    let lines = c.args.lines.now in
-    let by = c.keys_of-ends.ensures in
-    hashed_by _ true _ _ row by.from_end (seen_by content c.keys_of-ends.result lines c.args.fold true by.lines by.fold by.from_end)
-    (extension_hashed c.args.fold (map content lines) row
-    (sym (c.requires kind.Extension refl row) ∙ (ap (λ l. has_row l row) (sym c.deref-3.ensures.value) ∙ has)))
+of-requires-2 g c = grind (arith, nat_tests, hashed_by, seen_by, extension_hashed)
 
 pub of-requires-3 : goal.of-requires-3
-of-requires-3 g c = λ row has.
-    let content = g.K.Keyed.content in
-    let lines = c.args.lines.now in
-    let by = c.keys_of-keys.ensures in
-    hashed_by _ false _ _ row by.from_end (seen_by content c.keys_of-keys.result lines c.args.fold false by.lines by.fold by.from_end)
-    (path_hashed c.args.fold (map content lines) row
-    (sym (c.requires kind.Path refl row) ∙ (ap (λ l. has_row l row) (sym c.deref-5.ensures.value) ∙ has)))
+of-requires-3 g c = grind (arith, nat_tests, hashed_by, seen_by, path_hashed)
 
 pub returns : goal.returns
 returns g c =

@@ -1,4 +1,5 @@
-use Rattle.std.proofs.Common.{refl, sym}
+use Rattle.std.proofs.Common.{arith, refl, sym}
+use Rattle.std.proofs.lemmas.Bool.Decides.{nat_tests}
 use Rattle.attr_table.specs.inner.Plain.{plain_answers, plain_bodies}
 use Rattle.attr_table.proofs.Seen.{line_filled, line_unmatched, line_searched}
 use Rattle.attr_table.proofs.plain.SearchState.search_row.Goals as goal
@@ -26,12 +27,7 @@ returns-then-not-row c =
     }
 
 pub run_stack-requires : goal.run_stack-requires
-run_stack-requires c = record {
-  bodies = c.requires.state.bodies;
-  in_bodies = c.requires.state.in_bodies;
-  in_wanted = c.requires.state.in_wanted;
-  in_stack = c.in_ok-push_free.ensures.in_stack _ c.requires.in_row c.requires.state.in_stack;
-}
+run_stack-requires c = grind (arith, nat_tests)
 
 pub returns : goal.returns
 returns c =

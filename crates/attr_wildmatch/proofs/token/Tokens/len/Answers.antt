@@ -1,9 +1,7 @@
-use Rattle.std.proofs.Common.{◌≡◌, length, arith, ap, sym, ◌∙◌}
+use Rattle.std.proofs.Common.{arith}
+use Rattle.std.proofs.lemmas.Bool.Decides.{nat_tests}
 use Rattle.attr_wildmatch.proofs.TokenLemmas.{length-tokens_of}
 use Rattle.attr_wildmatch.proofs.token.Tokens.len.Goals as goal
 
 pub returns-clause-len : goal.returns-clause-len
-returns-clause-len c =
-    let same : length c.args.self.now ≡ length c.self.inside.list.items =
-    ap length (sym c.self.view_is) ∙ length-tokens_of c.self.inside.list.items in
-    omega (arith, same, c.self.inside.list.ok)
+returns-clause-len c = grind (arith, nat_tests, length-tokens_of)

@@ -1,16 +1,11 @@
 use Rattle.std.proofs.Common.{refl, arith}
+use Rattle.std.proofs.lemmas.Bool.Decides.{nat_tests}
 use Rattle.attr_wildmatch.specs.Brackets.{begins}
 use Rattle.attr_wildmatch.proofs.FirstBytes.{fewer, left_after, over_eight, none_in_end, no_byte}
 use Rattle.attr_wildmatch.proofs.wildmatch.first_bytes.skip_others.Goals as goal
 
 pub loop-rest-preserved : goal.loop-rest-preserved
-loop-rest-preserved c =
-    let v = c.loop-rest.rest.now in
-    let test = begins c.args.byte in (
-      over_eight test c.args.value.now v (c.loop-rest-test.ensures.passed refl) c.loop-rest.invariant.0,
-      omega (arith, fewer 8 v, c.loop-rest.invariant.1),
-      left_after c.args.value.now v (omega (arith, c.loop-rest-test.ensures.enough refl)) c.loop-rest.invariant.1 c.loop-rest.invariant.2,
-    )
+loop-rest-preserved c = grind (arith, nat_tests, over_eight, fewer, left_after)
 
 pub returns-then-not-may_hold_byte-clause-same : goal.returns-then-not-may_hold_byte-clause-same
 returns-then-not-may_hold_byte-clause-same c =

@@ -1,11 +1,12 @@
 use Rattle.std.proofs.Common.{◌≡◌, [], ◌∷◌, ℕ, List, length, arith, true, Some, not, sym, ap, ◌∙◌}
+use Rattle.std.proofs.lemmas.Bool.Decides.{nat_tests}
+use Rattle.std.proofs.lemmas.Bool.{eqb-true}
 use Rattle.attr_wildmatch.specs.declared.case.Case.{Case}
 use Rattle.attr_wildmatch.specs.declared.token.Token as written
 use Rattle.attr_wildmatch.specs.Deciding.{matches}
 use Rattle.attr_wildmatch.specs.Tokens.{Token, star}
 use Rattle.attr_wildmatch.specs.TokenList.{tokens_of}
 use Rattle.attr_wildmatch.specs.inner.Stretches.{first_left}
-use Rattle.attr_wildmatch.proofs.Basics.{equal}
 use Rattle.attr_wildmatch.proofs.Directories.{star_alone}
 use Rattle.attr_wildmatch.proofs.StretchLemmas.{Plain, star_found, star_missed}
 use Rattle.attr_wildmatch.proofs.wildmatch.stretches.match_plain.Goals as goal
@@ -26,15 +27,10 @@ last case all left [] value v before plain first empty =
 last case all left (t ∷ ts) value v before plain first empty = absurd (omega (arith, empty))
 
 pub returns-then-is_empty : goal.returns-then-is_empty
-returns-then-is_empty c =
-    last c.args.case (tokens_of c.args.tokens.now) (tokens_of c.loop-others.left.now) c.in-Some.others.now c.args.value.now c.loop-others.rest.now
-    c.loop-others.invariant.0 c.loop-others.invariant.1 c.in-Some.ensures.star
-    (equal _ _ (sym c.is_empty.ensures ∙ c.if-is_empty.true))
+returns-then-is_empty c = grind (arith, nat_tests, last, eqb-true)
 
 pub returns-in_default-first_fit : goal.returns-in_default-first_fit
-returns-in_default-first_fit c =
-    sym (c.loop-others.invariant.0 ∙ (ap (λ l. matches c.args.case l c.loop-others.rest.now) c.in-Some.ensures.star
-    ∙ star_missed c.args.case (tokens_of c.in-Some.others.now) c.loop-others.rest.now c.in_default-first_fit.ensures.none))
+returns-in_default-first_fit c = grind (arith, nat_tests, star_missed)
 
 pub loop-others-preserved : goal.loop-others-preserved
 loop-others-preserved c =

@@ -1,4 +1,5 @@
-use Rattle.std.proofs.Common.{sym, ap, ◌∙◌}
+use Rattle.std.proofs.Common.{arith, sym, ap, ◌∙◌}
+use Rattle.std.proofs.lemmas.Bool.Decides.{nat_tests}
 use Rattle.std.proofs.lemmas.Option.{IfSome_then}
 use Rattle.attr_wildmatch.specs.Deciding.{matches}
 use Rattle.attr_wildmatch.specs.TokenList.{tokens_of}
@@ -6,9 +7,7 @@ use Rattle.attr_wildmatch.proofs.StretchLemmas.{star_found, star_missed}
 use Rattle.attr_wildmatch.proofs.wildmatch.stretches.match_stretches.Goals as goal
 
 pub returns-in_default : goal.returns-in_default
-returns-in_default c =
-    sym (ap (λ l. matches c.args.case l c.args.value.now) c.in_ok-others.ensures.star
-    ∙ star_missed c.args.case (tokens_of c.in_ok-others.others.now) c.args.value.now c.in_default.ensures.none)
+returns-in_default c = grind (arith, nat_tests, star_missed)
 
 pub match_plain-requires : goal.match_plain-requires
 match_plain-requires c =

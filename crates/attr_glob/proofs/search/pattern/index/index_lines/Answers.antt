@@ -1,6 +1,6 @@
-use Rattle.std.proofs.Common.{◌∙◌, ap}
+use Rattle.std.proofs.Common.{arith}
+use Rattle.std.proofs.lemmas.Bool.Decides.{nat_tests}
 use Rattle.attr_glob.proofs.IndexLemmas.{take_whole}
-use Rattle.attr_glob.specs.Indexed.{listed_lines}
 use Rattle.attr_glob.proofs.IndexedLemmas.{index_more}
 use Rattle.attr_glob.proofs.search.pattern.index.index_lines.Goals as goal
 
@@ -12,5 +12,4 @@ loop-mapping-preserved g c =
     c.in_ok-of.ensures.pattern c.in_ok-of.ensures.number
 
 pub returns : goal.returns
-returns g c =
-    c.loop-mapping.invariant ∙ ap listed_lines (take_whole c.args.mappings.now c.loop-mapping.mapping-index c.loop-mapping-test.false)
+returns g c = grind (arith, nat_tests, take_whole)

@@ -1,5 +1,6 @@
 -- The candidates that were found are those from an index on.
 use Rattle.std.proofs.Common.{◌≡◌, ◌∙◌, ◌++◌, ◌-◌, [], ◌∷◌, ap, arith, cond, sym, take}
+use Rattle.std.proofs.lemmas.Bool.Decides.{nat_tests}
 use Rattle.std.proofs.lemmas.List.{append-nil, take_all}
 use Rattle.bstr.specs.BStr.{bstr_bytes}
 use Rattle.attr_glob.specs.BaseNames.{base_name}
@@ -10,12 +11,7 @@ use Rattle.attr_glob.proofs.FallingIndexes.{indexes_step}
 use Rattle.attr_glob.proofs.search.pattern.index.Index.candidates.Goals as goal
 
 pub loop-index-init : goal.loop-index-init
-loop-index-init g c =
-    let lines = c.args.self.now.lines.items in
-    let name = c.base_name-base_name.result.now in
-    ap (λ f. f ++ candidates c.args.case name (indexed_patterns (take c.len-index.result lines))) c.new-found.ensures.items
-    ∙ ap (λ ls. candidates c.args.case name (indexed_patterns ls))
-    (take_all c.len-index.result lines (omega (arith, c.len-index.ensures, c.args.self.now.lines.ok)))
+loop-index-init g c = grind (arith, nat_tests, take_all)
 
 pub loop-index-preserved-in-Continue-1 : goal.loop-index-preserved-in-Continue-1
 loop-index-preserved-in-Continue-1 g c =

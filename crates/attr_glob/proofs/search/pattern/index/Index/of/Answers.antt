@@ -1,4 +1,5 @@
-use Rattle.std.proofs.Common.{◌≡◌, ◌∙◌, ap, map, subst, sym}
+use Rattle.std.proofs.Common.{arith, ◌≡◌, ◌∙◌, ap, map, subst, sym}
+use Rattle.std.proofs.lemmas.Bool.Decides.{nat_tests}
 use Rattle.attr_keys.specs.shared.KeyIndexes.{IsKeyIndex}
 use Rattle.attr_glob.specs.shared.LineShapes.{key_of_pattern}
 use Rattle.attr_glob.specs.Indexed.{indexed_lines, listed_lines}
@@ -16,7 +17,4 @@ invariant_of-result g c =
     }
 
 pub returns-clause-patterns : goal.returns-clause-patterns
-returns-clause-patterns g c =
-    let mappings = c.args.list.now.patterns.items in
-    let lines = c.in_ok-lines.lines.items in
-    patterns_same lines mappings (c.in_ok-lines.ensures ∙ ap listed_lines c.deref-2.ensures.value)
+returns-clause-patterns g c = grind (arith, nat_tests, patterns_same)
