@@ -9,14 +9,6 @@ use Rattle.attr_lists.specs.Definitions.{is_of_list, of_other_lists}
 use Rattle.attr_lists.specs.ListViews.{Entry}
 use Rattle.attr_lists.specs.Collections.{MacroDefinition}
 
-filter-none : {X : Type 0} (p q : X → Bool) → ((x : X) → p x ≡ true → q x ≡ false) → (xs : List X) → filter q (filter p xs) ≡ []
-filter-none p q apart [] = refl
-filter-none p q apart (x ∷ xs) =
-    ⊎_elim (λ y. ap (filter q) (cond-true (p x) (x ∷ filter p xs) (filter p xs) y) ∙ cond-false (q x) (x ∷ filter q (filter p xs))
-    (filter q (filter p xs)) (apart x y) ∙ filter-none p q apart xs)
-    (λ n. ap (filter q) (cond-false (p x) (x ∷ filter p xs) (filter p xs) n) ∙ filter-none p q apart xs)
-    (cases_Bool (p x))
-
 filter-same : {X : Type 0} (p q : X → Bool) → ((x : X) → p x ≡ true → q x ≡ true) → (xs : List X) → filter q (filter p xs) ≡ filter p xs
 filter-same p q both [] = refl
 filter-same p q both (x ∷ xs) =
@@ -29,16 +21,6 @@ filter-same p q both (x ∷ xs) =
 -- what is not under a list id stays so
 pub of_other_lists-again : (list_id : ℕ) (ds : List MacroDefinition) → of_other_lists list_id (of_other_lists list_id ds) ≡ of_other_lists list_id ds
 of_other_lists-again list_id ds = filter-same (λ d. not (is_of_list list_id d)) (λ d. not (is_of_list list_id d)) (λ x h. h) ds
-
--- and has no body of the list
-pub bodies_gone : (list_id : ℕ) (ds : List MacroDefinition) → bodies_of_list list_id (of_other_lists list_id ds) ≡ []
-bodies_gone list_id ds =
-    ap (map (λ (d : MacroDefinition). d.body))
-    (filter-none (λ d. not (is_of_list list_id d)) (is_of_list list_id) (λ d h. turned (is_of_list list_id d) h) ds)
-  where
-    turned : (b : Bool) → not b ≡ true → b ≡ false
-    turned false h = refl
-    turned true h = sym h
 
 pub of_other_lists-append : (list_id : ℕ) (xs ys : List MacroDefinition) → of_other_lists list_id (xs ++ ys) ≡ of_other_lists list_id xs ++
     of_other_lists
@@ -79,12 +61,6 @@ pub bodies_named-cons : (name : List ℕ) (entry : Entry) (entries : List Entry)
 bodies_named-cons name entry entries =
     ap (map (λ (e : Entry). e.items)) (filter-append (defines_name name) (entry ∷ []) entries)
     ∙ map-append (λ (e : Entry). e.items) (filter (defines_name name) (entry ∷ [])) (filter (defines_name name) entries)
-
-pub bodies_named-push : (name : List ℕ) (entries : List Entry) (entry : Entry) → bodies_named name (entries ++ entry ∷ []) ≡ bodies_named
-    name entries ++ bodies_named name (entry ∷ [])
-bodies_named-push name entries entry =
-    ap (map (λ (e : Entry). e.items)) (filter-append (defines_name name) entries (entry ∷ []))
-    ∙ map-append (λ (e : Entry). e.items) (filter (defines_name name) entries) (filter (defines_name name) (entry ∷ []))
 
 pub bodies_named-one : (name : List ℕ) (entry : Entry) → defines_name name entry ≡ true → bodies_named name (entry ∷ []) ≡ entry.items ∷ []
 bodies_named-one name entry e = ap (map (λ (x : Entry). x.items)) (cond-true (defines_name name entry) (entry ∷ []) [] e)

@@ -1,41 +1,25 @@
 -- What is entries of names, by number.
-use Rattle.std.proofs.Common.{◌≡◌, ◌≢◌, ℕ, zero, suc, ◌+◌, ◌<◌, ◌≤◌, Bool, false, not, eqb, List, [], ◌∷◌, ◌++◌, length, get_or, set}
-use Rattle.std.proofs.Common.{take, drop, map, filter, All, refl, sym, ap, subst, ◌∙◌, ⊎_elim, arith, ne_eqb, eq-eqb}
-use Rattle.std.proofs.Common.{Option, Some, None, true, bytes_eq}
-use Rattle.std.specs.Prelude.{is_some, ◌&&◌}
-use Rattle.std.specs.Cmp.Lexicographic.{bytes_decides}
+use Rattle.std.proofs.Common.{◌≡◌, ◌≢◌, ℕ, zero, suc, ◌+◌, ◌<◌, Bool, not, eqb, List, [], ◌∷◌, ◌++◌, length, get_or, set}
+use Rattle.std.proofs.Common.{take, drop, map, filter, All, refl, sym, ap, subst, ◌∙◌, ⊎_elim, inl, inr, arith, ne_eqb, eq-eqb}
+use Rattle.std.specs.List.Sorted.{IsNonDecreasingBy}
 use Rattle.std.proofs.lemmas.Bool.{cases_Bool, cases_eq, cond-true, cond-false}
 use Rattle.std.proofs.lemmas.List.{append-nil, append_assoc, map-append, map-set, length-map, length-append, length-set, get_or_push}
 use Rattle.std.proofs.lemmas.List.{get_or_append_left, get_or_default, get_or-set_same, get_or-set_other, at_drop_more, take_more}
-use Rattle.std.proofs.lemmas.List.Elements.{All-nil, All-cons, All-head, All-tail, All-map, All-filter}
-use Rattle.attr_glob.specs.declared.search.pattern.Mapping.{Mapping}
+use Rattle.std.proofs.lemmas.List.Elements.{All-nil, All-cons, All-head, All-tail, All-map, All-push, All-filter}
+use Rattle.std.proofs.lemmas.List.Kept.{IsNonDecreasingBy-filter}
 use Rattle.attr_lists.specs.declared.name_table.entry.Definition.{Definition}
 use Rattle.attr_lists.specs.declared.name_table.entry.NameEntry.{NameEntry}
-use Rattle.attr_lists.specs.declared.types.AttributeId.{AttributeId}
-use Rattle.attr_lists.specs.declared.types.Value.{Value}
-use Rattle.attr_lists.specs.declared.types.Value.TheVariants.{MacroAssignments}
-use Rattle.smallvec.specs.SmallVec.{SmallVec}
 use Rattle.attr_lists.specs.declared.types.TrackedAssignment.{TrackedAssignment}
-use Rattle.attr_lists.specs.Definitions.{bodies_named, bodies_of_list, defines_name, definition_of}
-use Rattle.attr_lists.specs.Definitions.{is_of_list, of_other_lists}
-use Rattle.attr_lists.specs.inner.EntryViews.{definition_view, definitions_view, all_definitions, definitions_at, IsEntry, AreEntries}
-use Rattle.attr_lists.specs.ListViews.{Entry, entry_view, entries_view, macro_id}
-use Rattle.attr_lists.specs.Collections.{MacroDefinition}
-use Rattle.attr_lists.specs.Numbers.{number_of}
-use Rattle.attr_lists.proofs.DefinitionLemmas.{of_other_lists-again, of_other_lists-append, of_other_lists-more, bodies_gone}
-use Rattle.attr_lists.proofs.DefinitionLemmas.{bodies_named-push}
-use Rattle.attr_lists.proofs.DefinitionLemmas.{bodies_named-none, bodies_named-one, bodies_of_list-append}
-use Rattle.attr_lists.specs.inner.EntrySteps.{KeepsOtherDefinitions, RemovesAsMany, StaysWithout}
-use Rattle.attr_lists.specs.inner.Registered.{NumberedBody, bodies_of_number, numbered_body}
 use Rattle.attr_lists.specs.declared.types.Metadata.{Metadata}
+use Rattle.attr_lists.specs.Collections.{MacroDefinition, NumberedBody}
+use Rattle.attr_lists.specs.Definitions.{bodies_of_number, definition_of, is_of_list, of_other_lists}
+use Rattle.attr_lists.specs.inner.EntrySteps.{RemovesListed}
+use Rattle.attr_lists.specs.inner.EntryViews.{definition_view, definitions_view, all_definitions, definitions_at, AreAllInOrder, AreInListOrder}
+use Rattle.attr_lists.specs.inner.EntryViews.{IsEntry, AreEntries}
+use Rattle.attr_lists.specs.inner.Registered.{numbered_body}
+use Rattle.attr_lists.proofs.DefinitionLemmas.{of_other_lists-again, of_other_lists-more}
 use Rattle.attr_lists.proofs.ListLemmas.{front, front-more, get_or-map}
-use Rattle.attr_lists.proofs.NamedDefinitions.{number_name}
-
-some_is : {a b : ℕ} → Some a ≡ Some b → a ≡ b
-some_is e = cc
-
-none_is : {b : ℕ} → None ≡ Some b → ⊥
-none_is e = cc
+use Rattle.attr_lists.proofs.NameTableLaws.{bodies_of_number-append}
 
 filter-map : {X Y : Type 0} (p : Y → Bool) (f : X → Y) (xs : List X) → map f (filter (λ x. p (f x)) xs) ≡ filter p (map f xs)
 filter-map p f [] = refl
@@ -56,10 +40,6 @@ pub ids_kept : (list_id number : ℕ) (old new : List Definition) → new ≡ fi
 ids_kept list_id number old new e h =
     subst (All (λ (d : Definition). d.metadata.id.0 ≡ number)) (sym e)
     (All-filter (λ d. not (eqb d.list_id list_id)) (λ (d : Definition). d.metadata.id.0 ≡ number) old h)
-
-all_before : {X : Type 0} (P : X → Type 0) (xs ys : List X) → All P (xs ++ ys) → All P xs
-all_before P [] ys h = All-nil P
-all_before P (x ∷ xs) ys h = All-cons P x xs (All-head P x (xs ++ ys) h) (all_before P xs ys (All-tail P x (xs ++ ys) h))
 
 push_nothing : {X : Type 0} (xs : List (List X)) (n : ℕ) → get_or (xs ++ [] ∷ []) n [] ≡ get_or xs n []
 push_nothing [] zero = refl
@@ -128,61 +108,6 @@ remove_all_step list_id start entries i d x lt e is =
     (omega (arith, length-map start definitions_view))
     (is ∙ ap (of_other_lists list_id) (sym (get_or-map definitions_view entries i d))) e
 
--- the last definition is removed, which is the list's
-module _ (list_id : ℕ) (old new : List Definition) (last : Definition) (own : last.list_id ≡ list_id) (e : old ≡ new ++ last ∷ []) where
-  parts_are : map definition_view old ≡ map definition_view new ++ definition_view last ∷ []
-  parts_are = ap (map definition_view) e ∙ map-append definition_view new (last ∷ [])
-
-  pub popped_others : of_other_lists list_id (map definition_view new) ≡ of_other_lists list_id (map definition_view old)
-  popped_others =
-      sym (ap (of_other_lists list_id) parts_are
-      ∙ of_other_lists-append list_id (map definition_view new) (definition_view last ∷ [])
-      ∙ ap (λ l. of_other_lists list_id (map definition_view new) ++ l)
-      (cond-false (not (eqb last.list_id list_id)) (definition_view last ∷ []) [] (ap not (eq-eqb last.list_id list_id own)))
-      ∙ append-nil (of_other_lists list_id (map definition_view new)))
-
-  pub popped_count : length (bodies_of_list list_id (map definition_view new)) + 1 ≡ length (bodies_of_list list_id (map definition_view old))
-  popped_count =
-      sym (ap (λ l. length (bodies_of_list list_id l)) parts_are
-      ∙ ap length (bodies_of_list-append list_id (map definition_view new) (definition_view last ∷ []))
-      ∙ length-append (bodies_of_list list_id (map definition_view new)) (bodies_of_list list_id (definition_view last ∷ []))
-      ∙ ap (λ l. length (bodies_of_list list_id (map definition_view new)) + length (map (λ (d : MacroDefinition). d.body) l))
-      (cond-true (eqb last.list_id list_id) (definition_view last ∷ []) [] (eq-eqb last.list_id list_id own)))
-
-  pub popped_ids : (number : ℕ) → All (λ d. d.metadata.id.0 ≡ number) old → All (λ d. d.metadata.id.0 ≡ number) new
-  popped_ids number h = all_before (λ (d : Definition). d.metadata.id.0 ≡ number) new (last ∷ [])
-      (subst (All (λ (d : Definition). d.metadata.id.0 ≡ number)) e h)
-
--- as many definitions are removed as one more line has
-pub removed_more : (list_id number : ℕ) (name : List ℕ) (start entries now : List NameEntry) (lines : List (Mapping Value)) (i : ℕ)
-    (line : Mapping Value) → i < length lines → line ≡ get_or lines i line
-    → length (bodies_of_list list_id (definitions_at entries number)) + length (bodies_named name (entries_view (take i lines)))
-    ≡ length (bodies_of_list list_id (definitions_at start number))
-    → length (bodies_of_list list_id (definitions_at now number)) + length (bodies_named name (entry_view line ∷ []))
-    ≡ length (bodies_of_list list_id (definitions_at entries number))
-    → length (bodies_of_list list_id (definitions_at now number)) + length (bodies_named name (entries_view (take (i + 1) lines)))
-    ≡ length (bodies_of_list list_id (definitions_at start number))
-removed_more list_id number name start entries now lines i line lt at before here =
-    let one = bodies_named name (entry_view line ∷ []) in
-    let parts : bodies_named name (entries_view (take (i + 1) lines)) ≡ bodies_named name (entries_view (take i lines)) ++ one =
-    ap (λ l. bodies_named name (entries_view l)) (take_more lines i line lt)
-    ∙ ap (bodies_named name) (map-append entry_view (take i lines) (get_or lines i line ∷ []))
-    ∙ bodies_named-push name (entries_view (take i lines)) (entry_view (get_or lines i line))
-    ∙ ap (λ l. bodies_named name (entries_view (take i lines)) ++ bodies_named name (entry_view l ∷ [])) (sym at) in
-    omega (arith, ap length parts, length-append (bodies_named name (entries_view (take i lines))) one, before, here)
-
--- the bodies of a number in a list, from those of its first one
-bodies-first : (number : ℕ) (b : NumberedBody) (list : List NumberedBody)
-    → bodies_of_number number (b ∷ list) ≡ bodies_of_number number (b ∷ []) ++ bodies_of_number number list
-bodies-first number b list =
-    let rest = filter (λ (x : NumberedBody). eqb x.number number) list in
-    ⊎_elim
-    (λ yes. ap (map (λ (x : NumberedBody). x.body)) (cond-true (eqb b.number number) (b ∷ rest) rest yes)
-    ∙ sym (ap (λ l. map (λ (x : NumberedBody). x.body) l ++ bodies_of_number number list) (cond-true (eqb b.number number) (b ∷ []) [] yes)))
-    (λ no. ap (map (λ (x : NumberedBody). x.body)) (cond-false (eqb b.number number) (b ∷ rest) rest no)
-    ∙ sym (ap (λ l. map (λ (x : NumberedBody). x.body) l ++ bodies_of_number number list) (cond-false (eqb b.number number) (b ∷ []) [] no)))
-    (cases_Bool (eqb b.number number))
-
 -- the definitions of a name after those of one more macro are added
 pub define_list_step : (list_id number : ℕ) (start entries now : List NameEntry) (list : List Metadata) (i : ℕ) (known : Metadata)
     → i < length list → known ≡ get_or list i known
@@ -199,7 +124,7 @@ define_list_step list_id number start entries now list i known lt at before here
     ∙ append_assoc (definitions_at entries number) (bodies (first ∷ [])) (bodies rest)
     ∙ ap (λ l. definitions_at entries number ++ l)
     (sym (map-append (definition_of list_id) (bodies_of_number number (numbered_body first ∷ [])) (bodies_of_number number (map numbered_body rest)))
-    ∙ ap (map (definition_of list_id)) (sym (bodies-first number (numbered_body first) (map numbered_body rest)))
+    ∙ ap (map (definition_of list_id)) (sym (bodies_of_number-append number (numbered_body first ∷ []) (map numbered_body rest)))
     ∙ sym (at_drop_more bodies list i known lt))
     ∙ before
 
@@ -216,71 +141,61 @@ definitions_at-cases P entries i n d x lt here there =
     (λ other. subst P (sym (definitions_at-other entries i n x (λ e. other (sym e)))) (there other))
     (cases_eq i n)
 
--- no name gets a definition of the list
-pub stays_without : (list_id i : ℕ) (entries : List NameEntry) (d x : NameEntry) → i < length entries
-    → (bodies_of_list list_id (definitions_view (get_or entries i d)) ≡ [] → bodies_of_list list_id (definitions_view x) ≡ [])
-    → StaysWithout list_id entries (set entries i x)
-stays_without list_id i entries d x lt keeps n none =
-    definitions_at-cases (λ ds. bodies_of_list list_id ds ≡ []) entries i n d x lt
-    (λ at same. keeps (ap (bodies_of_list list_id) at ∙ none)) (λ other. none)
-
 -- the definitions of the list are removed from a name
 module _ (list_id i : ℕ) (entries : List NameEntry) (d x : NameEntry) (lt : i < length entries)
     (is : definitions_view x ≡ of_other_lists list_id (definitions_view (get_or entries i d))) where
-  pub gone_own : bodies_of_list list_id (definitions_view x) ≡ []
-  gone_own = ap (bodies_of_list list_id) is ∙ bodies_gone list_id (definitions_view (get_or entries i d))
+  pub removed_here : definitions_at (set entries i x) i ≡ of_other_lists list_id (definitions_at entries i)
+  removed_here =
+      definitions_at-same entries i x lt ∙ (is ∙ ap (of_other_lists list_id) (sym (definitions_at-within entries i d lt)))
 
-  pub gone_here : bodies_of_list list_id (definitions_at (set entries i x) i) ≡ []
-  gone_here = ap (bodies_of_list list_id) (definitions_at-same entries i x lt) ∙ gone_own
+-- the list ids of a name don't fall
+pub in_order : (ds : List Definition) → AreInListOrder (map definition_view ds) → IsNonDecreasingBy (λ d. d.list_id) ds
+in_order ds h = λ i j d le lt.
+    omega (
+      arith,
+      h i j (definition_view d) le (omega (arith, lt, length-map ds definition_view)),
+      ap (λ m. m.list_id) (get_or-map definition_view ds i d),
+      ap (λ m. m.list_id) (get_or-map definition_view ds j d),
+    )
 
-  pub gone_others : KeepsOtherDefinitions list_id entries (set entries i x)
-  gone_others n =
-      definitions_at-cases (λ ds. of_other_lists list_id ds ≡ of_other_lists list_id (definitions_at entries n)) entries i n d x lt
-      (λ at same. ap (of_other_lists list_id) is ∙ of_other_lists-again list_id (definitions_view (get_or entries i d))
-      ∙ ap (of_other_lists list_id) at)
-      (λ other. refl)
+pub order_at : (entries : List NameEntry) (i : ℕ) (d : NameEntry) → i < length entries → AreAllInOrder entries
+    → AreInListOrder (definitions_view (get_or entries i d))
+order_at entries i d lt all = subst AreInListOrder (definitions_at-within entries i d lt) (all i)
 
--- a line defines no other macro than its own
-no_body : (names : List (List ℕ)) (entry : Entry) (name : List ℕ) (n : ℕ) (own : Option ℕ) → number_of names name ≡ Some n
-    → number_of names entry.pattern.text ≡ own → (own ≡ Some n → ⊥) → bodies_named name (entry ∷ []) ≡ []
-no_body names entry name n own e is other =
-    bodies_named-none name entry (⊎_elim
-    (λ (same : bytes_eq name entry.pattern.text ≡ true).
-    absurd (other (sym is ∙ (ap (number_of names) (sym ((bytes_decides name entry.pattern.text).0 same)) ∙ e))))
-    (λ (differ : bytes_eq name entry.pattern.text ≡ false). ap (λ b. is_some entry.macro && b) differ ∙ nothing entry.macro)
-    (cases_Bool (bytes_eq name entry.pattern.text)))
-  where
-    nothing : (m : Option AttributeId) → (is_some m && false) ≡ false
-    nothing None = refl
-    nothing (Some id) = refl
+pub others_in_order : (list_id : ℕ) (ds : List MacroDefinition) → AreInListOrder ds → AreInListOrder (of_other_lists list_id ds)
+others_in_order list_id ds h = IsNonDecreasingBy-filter (λ d. d.list_id) (λ d. not (is_of_list list_id d)) ds h
 
--- a definition of the name of a line is removed
-module _ (names : List (List ℕ)) (list_id own : ℕ) (entries : List NameEntry) (mapping : Mapping Value) (d x : NameEntry)
-    (is : number_of names mapping.pattern.text.items ≡ Some own) (lt : own < length entries) where
-  pub removed_one : (id : AttributeId) (v : SmallVec TrackedAssignment) → mapping.value ≡ MacroAssignments id v
-      → length (bodies_of_list list_id (definitions_view x)) + 1 ≡ length (bodies_of_list list_id (definitions_view (get_or entries own d)))
-      → RemovesAsMany list_id names (entry_view mapping ∷ []) entries (set entries own x)
-  removed_one id v value less name n e =
-      definitions_at-cases
-      (λ ds. length (bodies_of_list list_id ds) + length (bodies_named name (entry_view mapping ∷ []))
-      ≡ length (bodies_of_list list_id (definitions_at entries n))) entries own n d x lt
-      (λ at same.
-      let text : name ≡ mapping.pattern.text.items =
-      sym (number_name names name n e).1 ∙ (ap (λ k. get_or names k []) (sym same) ∙ (number_name names mapping.pattern.text.items own is).1) in
-      let defines : defines_name name (entry_view mapping) ≡ true =
-      ap (λ m. is_some (macro_id m) && bytes_eq name mapping.pattern.text.items) value ∙ (bytes_decides name mapping.pattern.text.items).1 text in
-      ap (λ b. length (bodies_of_list list_id (definitions_view x)) + length b) (bodies_named-one name (entry_view mapping) defines)
-      ∙ less ∙ ap (λ ds. length (bodies_of_list list_id ds)) at)
-      (λ other.
-      let none : length (bodies_named name (entry_view mapping ∷ [])) ≡ 0 =
-      ap length (no_body names (entry_view mapping) name n (Some own) e is (λ same. other (some_is same))) in
-      omega (arith, none))
+-- the definitions of a list are removed from one more name
+module _ (list_id at : ℕ) (old new : List NameEntry) (here : definitions_at new at ≡ of_other_lists list_id (definitions_at old at))
+    (others : (other : ℕ) → other ≢ at → definitions_at new other ≡ definitions_at old other) where
+  pub order_kept : AreAllInOrder old → AreAllInOrder new
+  order_kept all n =
+      ⊎_elim
+      (λ same. subst AreInListOrder (sym (ap (definitions_at new) same ∙ here)) (others_in_order list_id (definitions_at old at) (all at)))
+      (λ apart. subst AreInListOrder (sym (others n apart)) (all n))
+      (cases_eq n at)
 
-  pub others_left : of_other_lists list_id (definitions_view x) ≡ of_other_lists list_id (definitions_view (get_or entries own d))
-      → KeepsOtherDefinitions list_id entries (set entries own x)
-  others_left same n =
-      definitions_at-cases (λ ds. of_other_lists list_id ds ≡ of_other_lists list_id (definitions_at entries n)) entries own n d x lt
-      (λ at here. same ∙ ap (of_other_lists list_id) at) (λ other. refl)
+  pub removed_step : (start : List NameEntry) (list : List Metadata) (i : ℕ) (known : Metadata) → i < length list → known ≡ get_or list i known
+      → at ≡ known.id.0 → RemovesListed list_id (map numbered_body (take i list)) start old
+      → RemovesListed list_id (map numbered_body (take (i + 1) list)) start new
+  removed_step start list i known lt is at_is before n =
+      ⊎_elim
+      (λ (same : n ≡ at).
+      let now : definitions_at new n ≡ of_other_lists list_id (definitions_at old n) =
+      ap (definitions_at new) same ∙ here ∙ ap (λ k. of_other_lists list_id (definitions_at old k)) (sym same) in
+      inl (now ∙ ⊎_elim (λ e. ap (of_other_lists list_id) e ∙ of_other_lists-again list_id (definitions_at start n))
+      (λ e. ap (of_other_lists list_id) e.1) (before n)))
+      (λ (apart : n ≢ at).
+      ⊎_elim (λ e. inl (others n apart ∙ e))
+      (λ e. inr (
+        subst (All (λ (b : NumberedBody). b.number ≢ n)) (sym (ap (map numbered_body) (take_more list i known lt)
+            ∙ map-append numbered_body (take i list) (get_or list i known ∷ [])))
+            (All-push (λ (b : NumberedBody). b.number ≢ n) (map numbered_body (take i list)) (numbered_body (get_or list i known)) e.0
+            (λ same. apart (sym same ∙ ap (λ (m : Metadata). m.id.0) (sym is) ∙ sym at_is))),
+        others n apart ∙ e.1,
+      ))
+      (before n))
+      (cases_eq n at)
 
 -- a name has one more definition
 pub defined_at : (list_id n : ℕ) (entries : List NameEntry) (b : NumberedBody) (d x : NameEntry) → b.number < length entries

@@ -2,9 +2,12 @@
 
 -- Definitions of macros. `of_other_lists-append`: the definitions of other lists in two parts. `of_other_lists-own`: a list's own
 -- definitions are none of another list's. `bodies_past`: no line defines a macro with a number that no name has.
--- `added_for`, `removed_for`: the definitions of a name after a list is added, and after one is removed.
+-- `registered_for`, `removed_for`: the definitions of a name after a list is registered, and after one is removed; `added_at`, `removed_at`:
+-- those of a number. `definitions_by_name`: of a name's number they are the same. `body_within`, `body_named`: the items of a body have
+-- numbers of names, and those of their names. `held_registered`: a list that is held is registered.
 pub use Rattle.attr_lists.proofs.DefinitionLemmas.{of_other_lists-append, of_other_lists-own}
-pub use Rattle.attr_lists.proofs.NameTableLaws.{added_for, bodies_past, of_other_lists-free, removed_for}
+pub use Rattle.attr_lists.proofs.NameTableLaws.{added_at, bodies_past, of_other_lists-free, removed_at, removed_for}
+pub use Rattle.attr_lists.proofs.RegistersLemmas.{body_named, body_within, definitions_by_name, held_registered, registered_for}
 -- Names. `with_names-extends`: new names are appended. `count_more`: there are no fewer names after that. `list_numbered`: the lines of
 -- a list that is added have the numbers of their names. `number_at`: of names that differ, the one at a number has this number.
 pub use Rattle.attr_lists.proofs.NameLemmas.{with_names-extends}

@@ -1,11 +1,8 @@
 pub mod DefinitionLemmas
 pub mod EntryLemmas
-pub mod FreeIdLemmas
 pub mod KeptLaws
 pub mod KeptLemmas
-pub mod LineLemmas
 pub mod LineLaws
-pub mod ListDefinitions
 pub mod ListLemmas
 pub mod MacroLemmas
 pub mod NameLemmas
@@ -15,5 +12,7 @@ pub mod NameTableSteps
 pub mod NamedDefinitions
 pub mod NumberLemmas
 pub mod RegisteredLemmas
+pub mod RegistersLemmas
+pub mod RunLemmas
 pub mod SameItems
 pub mod ForCallers

@@ -1,11 +1,8 @@
 -- The numbers of the names that have definitions are listed.
-use Rattle.std.proofs.Common.{◌≡◌, ℕ, ◌<◌, ◌≤◌, false, List, [], ◌++◌, length, map, sym, ap}
-use Rattle.std.proofs.Common.{◌∙◌, ⊎_elim, arith}
+use Rattle.std.proofs.Common.{◌≡◌, ℕ, false, List, ◌++◌, map, sym, ap, ◌∙◌, ⊎_elim}
 use Rattle.std.specs.BTreeSet.{BTreeSet, contains}
 use Rattle.std.specs.Ordering.{nat_cmp}
-use Rattle.std.proofs.lemmas.Bool.{cases_Bool, cases_lt, true≢false}
-use Rattle.std.proofs.lemmas.List.{get_or_past}
-use Rattle.std.proofs.lemmas.List.FromFn.{get_or-map-range_with_len, length-map-range_with_len}
+use Rattle.std.proofs.lemmas.Bool.{cases_Bool, true≢false}
 use Rattle.attr_lists.specs.declared.name_table.entry.NameEntry.{NameEntry}
 use Rattle.attr_lists.specs.Collections.{Collection}
 use Rattle.attr_lists.specs.Definitions.{bodies_defined, definition_of, definitions_of, of_other_lists, with_list, without_list}
@@ -13,14 +10,14 @@ use Rattle.attr_lists.specs.ListViews.{Entry}
 use Rattle.attr_lists.specs.Numbers.{names_in, numbered_lines, with_names}
 use Rattle.attr_lists.specs.inner.EntryViews.{definitions_at}
 use Rattle.attr_lists.specs.shared.MacroNumbers.{KeepsNumbers, ListsDefined, ListsMacros, RemovesUndefined}
-use Rattle.attr_lists.proofs.ListLemmas.{get_or-map}
+use Rattle.attr_lists.proofs.NameTableLaws.{added_at, removed_at}
 
 -- a number that isn't among more numbers isn't among fewer
 absent : (old new : BTreeSet ℕ) (n : ℕ) → KeepsNumbers old new → contains nat_cmp new n ≡ false → contains nat_cmp old n ≡ false
 absent old new n kept none =
     ⊎_elim (λ t. absurd (true≢false (sym (kept n t) ∙ none))) (λ f. f) (cases_Bool (contains nat_cmp old n))
 
--- what one line after the other removes
+-- what one macro after the other removes
 pub removed_both : (entries : List NameEntry) (a b c : BTreeSet ℕ) → RemovesUndefined entries a b → RemovesUndefined entries b c →
     RemovesUndefined entries a c
 removed_both entries a b c first second = λ n had none.
@@ -30,16 +27,10 @@ removed_both entries a b c first second = λ n had none.
 pub added_listed : (old : Collection) (list_id : ℕ) (entries : List Entry) (now after : BTreeSet ℕ) → ListsMacros now old → KeepsNumbers now after →
     ListsDefined after (numbered_lines (with_names old.names (names_in entries)) entries) → ListsMacros after (with_list list_id entries old)
 added_listed old list_id entries now after listed kept defined = λ number none.
-    let names = with_names old.names (names_in entries) in
-    let lines = numbered_lines names entries in
-    let Added : ℕ → _ = λ n. definitions_of old n ++ map (definition_of list_id) (bodies_defined n lines) in
-    ⊎_elim
-    (λ (lt : number < length names). get_or-map-range_with_len Added 0 (length names) number number [] lt (omega arith)
-    ∙ ap (λ l. l ++ map (definition_of list_id) (bodies_defined number lines)) (listed number (absent now after number kept none))
+    added_at old list_id entries number
+    ∙ (ap (λ l. l ++ map (definition_of list_id) (bodies_defined number (numbered_lines (with_names old.names (names_in entries)) entries)))
+    (listed number (absent now after number kept none))
     ∙ ap (map (definition_of list_id)) (defined number none))
-    (λ (past : length names ≤ number).
-    get_or_past (map Added _) number [] (omega (arith, length-map-range_with_len Added 0 (length names))))
-    (cases_lt number (length names))
 
 pub still_listed : (known : Collection) (now after : BTreeSet ℕ) → ListsMacros now known → KeepsNumbers now after → ListsMacros after known
 still_listed known now after listed kept = λ number none. listed number (absent now after number kept none)
@@ -51,5 +42,5 @@ pub removed_listed : (old : Collection) (list_id : ℕ) (entries : List NameEntr
 removed_listed old list_id entries now after listed removed same = λ number none.
     ⊎_elim
     (λ had. sym (same number) ∙ removed number had none)
-    (λ not_had. get_or-map (of_other_lists list_id) old.definitions number [] ∙ ap (of_other_lists list_id) (listed number not_had))
+    (λ not_had. removed_at old list_id number ∙ ap (of_other_lists list_id) (listed number not_had))
     (cases_Bool (contains nat_cmp now number))

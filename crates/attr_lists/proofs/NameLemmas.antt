@@ -1,9 +1,10 @@
 -- Names by number: a list that takes names grows at its end, and its names differ and are valid.
-use Rattle.std.proofs.Common.{◌≡◌, ℕ, ◌+◌, ◌<◌, true, false, List, [], ◌∷◌, ◌++◌, length, get_or, drop, map, IsTrue, bytes_eq}
+use Rattle.std.proofs.Common.{◌≡◌, ℕ, suc, ◌+◌, ◌-◌, ◌<◌, true, false, cond, ltb, List, [], ◌∷◌, ◌++◌, length, get_or, drop, map, IsTrue, bytes_eq}
+use Rattle.std.proofs.Common.{Some, None}
 use Rattle.std.proofs.Common.{refl, sym, ap, subst, ◌∙◌, ⊎_elim, arith}
-use Rattle.std.specs.List.{list_any, IsDistinct}
+use Rattle.std.specs.List.{list_any, range_with_len, IsDistinct}
 use Rattle.std.specs.Cmp.Lexicographic.{nat_list_eq_equiv}
-use Rattle.std.proofs.lemmas.Bool.{cases_Bool, cond-true, cond-false}
+use Rattle.std.proofs.lemmas.Bool.{cases_Bool, cond-true, cond-false, lt-ltb}
 use Rattle.std.proofs.lemmas.List.{append-nil, append_assoc, at_drop_more, length-map, length-append, get_or_at, get_or_default}
 use Rattle.std.proofs.lemmas.List.{get_or_append_left}
 use Rattle.std.proofs.lemmas.List.Elements.{All-push}
@@ -101,3 +102,12 @@ pub macro_valid_at : (lines : List (Mapping Value)) (i : ℕ) (line : Mapping Va
 macro_valid_at lines i line lt at valid =
     ap macro_valid (ap entry_view at ∙ sym (get_or-map entry_view lines i line)) ∙ list_all-within macro_valid (entries_view lines) i
     (entry_view line) (omega (arith, length-map lines entry_view)) valid
+
+-- the first of the numbers up to n, and the others
+pub range_first : {X : Type 0} (f : ℕ → X) (i n : ℕ) (x : X) → i < n → Some x ≡ cond (ltb i n) (Some (f i)) None
+    → map f (range_with_len i (n - i)) ≡ x ∷ map f (range_with_len (i + 1) (n - (i + 1)))
+range_first f i n x lt is =
+    let count : n - i ≡ suc (n - (i + 1)) = omega arith in
+    let own : Some x ≡ Some (f i) = is ∙ cond-true (ltb i n) (Some (f i)) None (lt-ltb i n lt) in
+    let here : x ≡ f i = cc in
+    ap (λ k. map f (range_with_len i k)) count ∙ ap (λ y. y ∷ map f (range_with_len (i + 1) (n - (i + 1)))) (sym here)

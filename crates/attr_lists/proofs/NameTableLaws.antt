@@ -1,32 +1,37 @@
 -- What the addition and the removal of a list do to a collection, and to its other lists.
 use Rattle.std.proofs.Common.{◌≡◌, ◌≢◌, ℕ, zero, suc, ◌+◌, ◌-◌, ◌^◌, ◌<◌, ◌≤◌, Bool, true, false, not, cond, eqb, ltb, List, [], ◌∷◌, ◌++◌, length}
-use Rattle.std.proofs.Common.{get_or, set, map, filter, All, slice_get, bytes_eq, IsTrue, Option, Some, None, IfSome, unwrap_or, option_map, refl}
+use Rattle.std.proofs.Common.{get_or, map, filter, All, slice_get, bytes_eq, IsTrue, Option, Some, None, IfSome, unwrap_or, option_map, refl}
 use Rattle.std.proofs.Common.{sym, ap, subst, ◌∙◌, ⊎_elim, arith, true≢false, ne_eqb, eq-eqb}
-use Rattle.std.specs.List.{list_any, position_or_len, IsDistinct}
+use Rattle.std.specs.Prelude.{◌==◌, ◌||◌}
+use Rattle.std.specs.List.{list_any, flat_map, position_or_len, AllPairs, IsDistinct}
 use Rattle.std.specs.Cmp.Lexicographic.{bytes_decides}
-use Rattle.std.proofs.lemmas.Bool.{cases_Bool, cases_eq, cases_lt, cond-true, cond-false, eqb-true, eqb-false, lt-ltb, le-ltb}
-use Rattle.std.proofs.lemmas.Bool.{or_left, or_right}
-use Rattle.std.proofs.lemmas.List.{append-nil, length-map, length-append, get_or_append_left, get_or_past, get_or_push, get_or-set_same}
-use Rattle.std.proofs.lemmas.List.{get_or-set_other}
-use Rattle.std.proofs.lemmas.List.Elements.{All-nil, All-cons, All-head, All-tail, All-append, All-filter, All-map, All-weaker}
+use Rattle.std.proofs.lemmas.Bool.{cases_Bool, cases_lt, cond-true, cond-false, eqb-true, eqb-false, lt-ltb, le-ltb}
+use Rattle.std.proofs.lemmas.Bool.{or_left, or_right, or_parts}
+use Rattle.std.proofs.lemmas.List.{append-nil, length-append, get_or_append_left, map-append}
+use Rattle.std.proofs.lemmas.List.Concat.{flat_map-append}
+use Rattle.std.proofs.lemmas.List.Elements.{All-nil, All-cons, All-head, All-tail, All-append, All-filter, All-map, All-weaker, filter-append}
 use Rattle.std.proofs.lemmas.List.Folds.{list_any-append, prefix_len-append}
-use Rattle.std.proofs.lemmas.List.FromFn.{length-map-range_with_len, get_or-map-range_with_len}
+use Rattle.std.proofs.lemmas.List.Kept.{AllPairs-filter}
+use Rattle.std.proofs.lemmas.List.Quantifiers.{all_pairs_push}
 use Rattle.std.proofs.lemmas.List.Sums.{passes_at_first}
+use Rattle.std.proofs.lemmas.Option.{get_or_from_slice_get}
 use Rattle.attr_text.specs.Names.{is_valid_name}
 use Rattle.attr_lists.specs.declared.types.AttributeId.{AttributeId}
 use Rattle.attr_lists.specs.declared.types.TrackedAssignment.{TrackedAssignment}
 use Rattle.attr_lists.specs.Definitions.{is_definition, bodies_defined, bodies_named, definition_of, is_of_list, bodies_of_list, of_other_lists}
-use Rattle.attr_lists.specs.Definitions.{definitions_of, definitions_for}
+use Rattle.attr_lists.specs.Definitions.{bodies_of_number, definitions_by, definitions_of, definitions_for, is_registered, macro_defined}
+use Rattle.attr_lists.specs.Definitions.{macros_defined}
+use Rattle.attr_lists.specs.Definitions.{with_list, without_list, HoldsList, IsWithin, IsSoundCollection}
 use Rattle.attr_lists.specs.shared.Keeping.{HasMacroNumber, IsNumbered}
 use Rattle.attr_lists.proofs.NamedDefinitions.{Has, itself, index_of, number_at, number_name, defined_by_name, none_by_name}
-use Rattle.attr_lists.specs.Definitions.{is_active, free_id, with_active, with_list, without_list, HoldsList, IsWithin, IsSoundCollection}
 use Rattle.attr_lists.specs.inner.EntryViews.{AreValid}
 use Rattle.attr_lists.specs.ListViews.{Entry}
-use Rattle.attr_lists.specs.Collections.{MacroDefinition, Collection, empty_collection}
+use Rattle.attr_lists.specs.Collections.{MacroDefinition, NumberedBody, RegisteredList, Collection, empty_collection}
 use Rattle.attr_lists.specs.Numbers.{macro_names, names_of, names_in, with_name, with_names, number_of, id_of, numbered_item, numbered}
 use Rattle.attr_lists.specs.Numbers.{numbered_lines, AreNamed, IsNumberOf}
 use Rattle.attr_lists.proofs.DefinitionLemmas.{bodies_defined-cons, bodies_defined-none, bodies_of_list-append}
-use Rattle.attr_lists.proofs.ListLemmas.{get_or-map, slice_get-within}
+use Rattle.attr_lists.proofs.DefinitionLemmas.{of_other_lists-append, of_other_lists-own}
+use Rattle.attr_lists.proofs.ListLemmas.{slice_get-within}
 use Rattle.attr_lists.proofs.NameLemmas.{with_name-known, with_name-new, with_names-extends, with_names-distinct}
 
 -- ---- numbers
@@ -216,17 +221,6 @@ bodies_of_list-other other list_id (body ∷ bodies) apart =
     (filter (is_of_list other) (map (definition_of list_id) bodies)) (ne_eqb list_id other (λ e. apart (sym e))))
     ∙ bodies_of_list-other other list_id bodies apart
 
--- a list that is not registered has no definitions
-bodies_of_list-free : (active : List Bool) (list_id : ℕ) (ds : List MacroDefinition) → is_active active list_id ≡ false → All
-    (λ d. is_active active d.list_id ≡ true) ds → bodies_of_list list_id ds ≡ []
-bodies_of_list-free active list_id [] free h = refl
-bodies_of_list-free active list_id (d ∷ ds) free h =
-    let other : eqb d.list_id list_id ≡ false = ne_eqb d.list_id list_id
-    (λ e. true≢false (sym (All-head (λ x. is_active active x.list_id ≡ true) d ds h) ∙ ap (is_active active) e ∙ free)) in
-    ap (map (λ (x : MacroDefinition). x.body)) (cond-false (eqb d.list_id list_id) (d ∷ filter (is_of_list list_id) ds)
-    (filter (is_of_list list_id) ds) other)
-    ∙ bodies_of_list-free active list_id ds free (All-tail (λ x. is_active active x.list_id ≡ true) d ds h)
-
 pub of_other_lists-free : (list_id : ℕ) (ds : List MacroDefinition) → bodies_of_list list_id ds ≡ [] → of_other_lists list_id ds ≡ ds
 of_other_lists-free list_id [] h = refl
 of_other_lists-free list_id (d ∷ ds) h =
@@ -266,294 +260,316 @@ bodies_of_list-of_other_lists other list_id (d ∷ ds) apart =
     one true x xs ys e = ap (λ l. x.body ∷ l) e
     one false x xs ys e = e
 
--- what is true of all definitions of each number is true of those of a name
-pub all_for : (known : Collection) (name : List ℕ) (P : MacroDefinition → Type 0) → ((number : ℕ) → All P (definitions_of known number))
-    → All P (definitions_for known name)
-all_for known name P all = at (number_of known.names name)
-  where
-    at : (o : Option ℕ) → All P (unwrap_or (option_map (definitions_of known) o) [])
-    at None = All-nil P
-    at (Some n) = all n
-
 some_is : {a b : ℕ} → Some a ≡ Some b → a ≡ b
 some_is e = cc
 
 none_is : {b : ℕ} → None ≡ Some b → ⊥
 none_is e = cc
 
--- ---- list ids
+-- ---- lists
 
-pub free_within : (active : List Bool) → free_id active ≤ length active
-free_within [] = omega arith
-free_within (true ∷ active) = let rest = free_within active in omega arith
-free_within (false ∷ active) = omega arith
+-- the definitions that lists have of a number
+abbrev pub definitions_in : ℕ → List RegisteredList → List MacroDefinition
+definitions_in number lists = flat_map (definitions_by number) lists
 
-pub free_is : (active : List Bool) → is_active active (free_id active) ≡ false
-free_is [] = refl
-free_is (true ∷ active) =
-    let one : 1 + free_id active ≡ suc (free_id active) = omega arith in ap (λ k. is_active (true ∷ active) k) one ∙ free_is active
-free_is (false ∷ active) = refl
+-- lists of which none has the list id
+abbrev pub Lack : ℕ → List RegisteredList → Type 0
+Lack list_id lists = All (λ l. l.list_id ≢ list_id) lists
 
-pub active_below : (active : List Bool) (list_id : ℕ) → is_active active list_id ≡ true → list_id < length active
-active_below active list_id h =
-    ⊎_elim (λ lt. lt) (λ past. absurd (true≢false (sym h ∙ get_or_past active list_id false past))) (cases_lt list_id (length active))
+-- the list ids differ
+abbrev Differ : List RegisteredList → Type 0
+Differ lists = AllPairs (λ x y. x.list_id ≢ y.list_id) lists
 
-pub is_active_now : (active : List Bool) (list_id : ℕ) → list_id ≤ length active → is_active (with_active list_id active) list_id ≡ true
-is_active_now active list_id h =
-    ⊎_elim
-    (λ lt. ap (λ l. is_active l list_id) (cond-true (ltb list_id (length active)) (set active list_id true) (active ++ true ∷ [])
-    (lt-ltb list_id (length active) lt)) ∙ get_or-set_same active list_id true false lt)
-    (λ past. ap (λ l. is_active l list_id) (cond-false (ltb list_id (length active)) (set active list_id true) (active ++ true ∷ [])
-    (le-ltb list_id (length active) past)) ∙ get_or_push active true false list_id (omega arith))
-    (cases_lt list_id (length active))
+pub none_registered : (list_id : ℕ) (lists : List RegisteredList) → list_any (λ l. l.list_id == list_id) lists ≡ false → Lack list_id lists
+none_registered list_id [] h = All-nil (λ l. l.list_id ≢ list_id)
+none_registered list_id (l ∷ lists) h =
+    let both = or_parts (eqb l.list_id list_id) (list_any (λ l. l.list_id == list_id) lists) h in
+    All-cons (λ l. l.list_id ≢ list_id) l lists (eqb-false l.list_id list_id both.0) (none_registered list_id lists both.1)
 
-pub is_active_still : (active : List Bool) (list_id other : ℕ) → list_id ≤ length active → is_active active other ≡ true → is_active
-    (with_active list_id active) other ≡ true
-is_active_still active list_id other h s =
-    ⊎_elim
-    (λ same. ap (is_active (with_active list_id active)) same ∙ is_active_now active list_id h)
-    (λ apart. ⊎_elim
-    (λ lt. ap (λ l. is_active l other) (cond-true (ltb list_id (length active)) (set active list_id true) (active ++ true ∷ [])
-    (lt-ltb list_id (length active) lt)) ∙ get_or-set_other active list_id other true false apart ∙ s)
-    (λ past. ap (λ l. is_active l other) (cond-false (ltb list_id (length active)) (set active list_id true) (active ++ true ∷ [])
-    (le-ltb list_id (length active) past)) ∙ get_or_append_left active (true ∷ []) false other (active_below active other s) ∙ s)
-    (cases_lt list_id (length active)))
-    (cases_eq other list_id)
+pub lack_registered : (list_id : ℕ) (lists : List RegisteredList) → Lack list_id lists → list_any (λ l. l.list_id == list_id) lists ≡ false
+lack_registered list_id [] h = refl
+lack_registered list_id (l ∷ lists) h =
+    ap (λ b. b || list_any (λ l. l.list_id == list_id) lists) (ne_eqb l.list_id list_id (All-head (λ l. l.list_id ≢ list_id) l lists h))
+    ∙ lack_registered list_id lists (All-tail (λ l. l.list_id ≢ list_id) l lists h)
 
--- another list id is active if it was
-pub is_active_other : (active : List Bool) (list_id other : ℕ) → list_id ≤ length active → other ≢ list_id
-    → is_active (with_active list_id active) other ≡ is_active active other
-is_active_other active list_id other h apart =
-    ⊎_elim
-    (λ (lt : list_id < length active).
-    ap (λ l. is_active l other) (cond-true (ltb list_id (length active)) (set active list_id true) (active ++ true ∷ [])
-    (lt-ltb list_id (length active) lt)) ∙ get_or-set_other active list_id other true false apart)
-    (λ (past : length active ≤ list_id).
-    ap (λ l. is_active l other) (cond-false (ltb list_id (length active)) (set active list_id true) (active ++ true ∷ [])
-    (le-ltb list_id (length active) past))
-    ∙ ⊎_elim (λ (below : other < length active). get_or_append_left active (true ∷ []) false other below)
-    (λ (above : length active ≤ other).
-    get_or_past (active ++ true ∷ []) other false (omega (arith, length-append active (true ∷ []), above, past, h, apart))
-    ∙ sym (get_or_past active other false above))
-    (cases_lt other (length active)))
-    (cases_lt list_id (length active))
+-- a list id that no list has, has no definitions
+pub none_of_list : (list_id number : ℕ) (lists : List RegisteredList) → Lack list_id lists
+    → bodies_of_list list_id (definitions_in number lists) ≡ []
+none_of_list list_id number [] h = refl
+none_of_list list_id number (l ∷ lists) h =
+    bodies_of_list-append list_id (definitions_by number l) (definitions_in number lists)
+    ∙ ap (λ bs. bs ++ bodies_of_list list_id (definitions_in number lists))
+    (bodies_of_list-other list_id l.list_id (bodies_of_number number l.macros) (λ e. All-head (λ l. l.list_id ≢ list_id) l lists h (sym e)))
+    ∙ none_of_list list_id number lists (All-tail (λ l. l.list_id ≢ list_id) l lists h)
+
+differ_head : (l : RegisteredList) (lists : List RegisteredList) → Differ (l ∷ lists) → Lack l.list_id lists
+differ_head l lists pairs = λ k d lt e. pairs zero (suc k) d (omega arith) (omega arith) (sym e)
+
+differ_tail : (l : RegisteredList) (lists : List RegisteredList) → Differ (l ∷ lists) → Differ lists
+differ_tail l lists pairs = λ i j d lt below. pairs (suc i) (suc j) d (omega arith) (omega arith)
+
+-- the definitions of a registered list are those of its macros
+pub own_bodies : (number : ℕ) (lists : List RegisteredList) (i : ℕ) (own : RegisteredList) → Differ lists → slice_get lists i ≡ Some own
+    → bodies_of_list own.list_id (definitions_in number lists) ≡ bodies_of_number number own.macros
+own_bodies number [] i own pairs at = absurd cc
+own_bodies number (l ∷ lists) zero own pairs at =
+    let same : l ≡ own = cc in
+    subst (λ (o : RegisteredList). bodies_of_list o.list_id (definitions_in number (l ∷ lists)) ≡ bodies_of_number number o.macros) same
+    (bodies_of_list-append l.list_id (definitions_by number l) (definitions_in number lists)
+    ∙ ap (λ bs. bodies_of_list l.list_id (definitions_by number l) ++ bs) (none_of_list l.list_id number lists (differ_head l lists pairs))
+    ∙ append-nil (bodies_of_list l.list_id (definitions_by number l))
+    ∙ bodies_of_list-own l.list_id (bodies_of_number number l.macros))
+own_bodies number (l ∷ lists) (suc i) own pairs at =
+    let apart : own.list_id ≢ l.list_id = λ e. differ_head l lists pairs i own (below lists i own at)
+    (ap (λ (o : RegisteredList). o.list_id) (get_or_from_slice_get lists i own own at) ∙ e) in
+    bodies_of_list-append own.list_id (definitions_by number l) (definitions_in number lists)
+    ∙ ap (λ bs. bs ++ bodies_of_list own.list_id (definitions_in number lists))
+    (bodies_of_list-other own.list_id l.list_id (bodies_of_number number l.macros) apart)
+    ∙ own_bodies number lists i own (differ_tail l lists pairs) at
+
+-- the bodies of a number among two parts of macros
+pub bodies_of_number-append : (number : ℕ) (xs ys : List NumberedBody)
+    → bodies_of_number number (xs ++ ys) ≡ bodies_of_number number xs ++ bodies_of_number number ys
+bodies_of_number-append number xs ys =
+    ap (map (λ (b : NumberedBody). b.body)) (filter-append (λ (b : NumberedBody). b.number == number) xs ys)
+    ∙ map-append (λ (b : NumberedBody). b.body) (filter (λ (b : NumberedBody). b.number == number) xs)
+    (filter (λ (b : NumberedBody). b.number == number) ys)
+
+-- the macros of lines have the bodies that the lines define
+pub bodies_of_lines : (number : ℕ) (lines : List Entry) → bodies_of_number number (macros_defined lines) ≡ bodies_defined number lines
+bodies_of_lines number [] = refl
+bodies_of_lines number (line ∷ lines) =
+    bodies_of_number-append number (macro_defined line) (macros_defined lines)
+    ∙ ap (λ bs. bs ++ bodies_of_number number (macros_defined lines)) (at line.macro)
+    ∙ ap (λ bs. bodies_defined number (line ∷ []) ++ bs) (bodies_of_lines number lines)
+    ∙ sym (bodies_defined-cons number line lines)
+  where
+    one : (b : Bool) (own : NumberedBody) → own.body ≡ line.items
+        → map (λ (x : NumberedBody). x.body) (cond b (own ∷ []) []) ≡ map (λ (x : Entry). x.items) (cond b (line ∷ []) [])
+    one true own same = ap (λ x. x ∷ []) same
+    one false own same = refl
+
+    at : (m : Option AttributeId)
+        → bodies_of_number number (unwrap_or (option_map (λ id. record { number = id.0; body = line.items } ∷ []) m) [])
+        ≡ map (λ (x : Entry). x.items) (cond (unwrap_or (option_map (λ id. id.0 == number) m) false) (line ∷ []) [])
+    at None = refl
+    at (Some id) = one (eqb id.0 number) (record { number = id.0; body = line.items }) refl
 
 -- ---- a list is added
 
-module _ (old : Collection) (entries : List Entry) (sound : IsSoundCollection old) where
-  abbrev list_id : ℕ
-  list_id = free_id old.active
-
+module _ (old : Collection) (list_id : ℕ) (entries : List Entry) where
   abbrev names : List (List ℕ)
   names = with_names old.names (names_in entries)
 
   abbrev lines : List Entry
   lines = numbered_lines names entries
 
+  abbrev own : RegisteredList
+  own = record { list_id = list_id; macros = macros_defined lines }
+
   abbrev new : Collection
   new = with_list list_id entries old
-
-  free : is_active old.active list_id ≡ false
-  free = free_is old.active
 
   more : length old.names ≤ length names
   more = count_more old.names (names_in entries)
 
-  at_name : (number : ℕ) → number < length names → definitions_of new number ≡ definitions_of old number ++ map (definition_of list_id)
-      (bodies_defined number lines)
-  at_name number lt = get_or-map-range_with_len (λ n. definitions_of old n ++ map (definition_of list_id) (bodies_defined n lines)) 0 (length names)
-      number number [] lt (omega arith)
+  -- the definitions of a number after an addition
+  pub added_at : (number : ℕ)
+      → definitions_of new number ≡ definitions_of old number ++ map (definition_of list_id) (bodies_defined number lines)
+  added_at number =
+      flat_map-append (definitions_by number) old.lists (own ∷ [])
+      ∙ ap (λ ds. definitions_of old number ++ ds)
+      (append-nil (definitions_by number own) ∙ ap (map (definition_of list_id)) (bodies_of_lines number lines))
 
-  past_names : (number : ℕ) → length names ≤ number → definitions_of new number ≡ []
-  past_names number past = get_or_past new.definitions number [] (omega
-      (arith, length-map-range_with_len (λ n. definitions_of old n ++ map (definition_of list_id) (bodies_defined n lines)) 0 (length names)))
+  -- the list is registered then
+  pub added_registered : is_registered new list_id ≡ true
+  added_registered =
+      list_any-append (λ (l : RegisteredList). l.list_id == list_id) old.lists (own ∷ [])
+      ∙ or_right (list_any (λ (l : RegisteredList). l.list_id == list_id) old.lists) (eqb list_id list_id || false)
+      (or_left (eqb list_id list_id) false (eqb_self list_id))
 
-  past_old : (number : ℕ) → length names ≤ number → definitions_of old number ≡ []
-  past_old number past = get_or_past old.definitions number [] (omega (arith, more, sound.counted))
+  -- and so are the others
+  pub still_registered : (other : ℕ) → is_registered old other ≡ true → is_registered new other ≡ true
+  still_registered other h =
+      list_any-append (λ (l : RegisteredList). l.list_id == other) old.lists (own ∷ [])
+      ∙ or_left (list_any (λ (l : RegisteredList). l.list_id == other) old.lists) (list_any (λ (l : RegisteredList). l.list_id == other) (own ∷ [])) h
 
-  macros_numbered : All (HasMacroNumber names) lines
-  macros_numbered = All-weaker (IsNumbered names) (HasMacroNumber names) (λ e is. is.macro) lines (list_numbered old.names entries)
+  module _ (sound : IsSoundCollection old) where
+    macros_numbered : All (HasMacroNumber names) lines
+    macros_numbered = All-weaker (IsNumbered names) (HasMacroNumber names) (λ e is. is.macro) lines (list_numbered old.names entries)
 
-  distinct_now : IsDistinct bytes_eq names
-  distinct_now = with_names-distinct old.names (names_in entries) sound.distinct
+    distinct_now : IsDistinct bytes_eq names
+    distinct_now = with_names-distinct old.names (names_in entries) sound.distinct
 
-  -- the definitions that a name had
-  had_before : (name : List ℕ) (n : ℕ) → number_of names name ≡ Some n → (o : Option ℕ) → number_of old.names name ≡ o
-      → definitions_of old n ≡ unwrap_or (option_map (definitions_of old) o) []
-  had_before name n e (Some k) f =
-      ap (definitions_of old) (some_is (sym e ∙ number_stays old.names (names_in entries) name k f))
-  had_before name n e None f =
-      ⊎_elim
-      (λ (lt : n < length old.names).
-      let more = with_names-extends old.names (names_in entries) in
-      let at : get_or old.names n [] ≡ name =
-      sym (ap (λ ns. get_or ns n []) more.1 ∙ get_or_append_left old.names more.0 [] n lt) ∙ (number_name names name n e).1 in
-      absurd (none_is (sym f ∙ ap (number_of old.names) (sym at) ∙ number_at old.names n sound.distinct lt)))
-      (λ past. get_or_past old.definitions n [] (omega (arith, past, sound.counted)))
-      (cases_lt n (length old.names))
+    -- the definitions that a name had
+    had_before : (name : List ℕ) (n : ℕ) → number_of names name ≡ Some n → (o : Option ℕ) → number_of old.names name ≡ o
+        → definitions_of old n ≡ unwrap_or (option_map (definitions_of old) o) []
+    had_before name n e (Some k) f =
+        ap (definitions_of old) (some_is (sym e ∙ number_stays old.names (names_in entries) name k f))
+    had_before name n e None f =
+        ⊎_elim
+        (λ (lt : n < length old.names).
+        let more = with_names-extends old.names (names_in entries) in
+        let at : get_or old.names n [] ≡ name =
+        sym (ap (λ ns. get_or ns n []) more.1 ∙ get_or_append_left old.names more.0 [] n lt) ∙ (number_name names name n e).1 in
+        absurd (none_is (sym f ∙ ap (number_of old.names) (sym at) ∙ number_at old.names n sound.distinct lt)))
+        (λ past. sound.numbers n past)
+        (cases_lt n (length old.names))
 
-  -- a name that is not there now was not there before
-  none_before : (name : List ℕ) → number_of names name ≡ None → (o : Option ℕ) → number_of old.names name ≡ o
-      → unwrap_or (option_map (definitions_of old) o) [] ≡ []
-  none_before name e (Some k) f = absurd (none_is (sym e ∙ number_stays old.names (names_in entries) name k f))
-  none_before name e None f = refl
+    -- a name that is not there now was not there before
+    none_before : (name : List ℕ) → number_of names name ≡ None → (o : Option ℕ) → number_of old.names name ≡ o
+        → unwrap_or (option_map (definitions_of old) o) [] ≡ []
+    none_before name e (Some k) f = absurd (none_is (sym e ∙ number_stays old.names (names_in entries) name k f))
+    none_before name e None f = refl
 
-  added_at : (name : List ℕ) (o : Option ℕ) → number_of names name ≡ o → unwrap_or (option_map (definitions_of new) o) []
-      ≡ definitions_for old name ++ map (definition_of list_id) (bodies_named name lines)
-  added_at name None e =
-      sym (ap (λ ds. ds ++ map (definition_of list_id) (bodies_named name lines)) (none_before name e (number_of old.names name) refl)
-      ∙ ap (map (definition_of list_id)) (none_by_name names distinct_now name e lines macros_numbered))
-  added_at name (Some n) e =
-      at_name n (number_name names name n e).0
-      ∙ (ap (λ ds. ds ++ map (definition_of list_id) (bodies_defined n lines)) (had_before name n e (number_of old.names name) refl)
-      ∙ ap (λ bs. definitions_for old name ++ map (definition_of list_id) bs) (defined_by_name names distinct_now name n e lines macros_numbered))
+    for_option : (name : List ℕ) (o : Option ℕ) → number_of names name ≡ o → unwrap_or (option_map (definitions_of new) o) []
+        ≡ definitions_for old name ++ map (definition_of list_id) (bodies_named name lines)
+    for_option name None e =
+        sym (ap (λ ds. ds ++ map (definition_of list_id) (bodies_named name lines)) (none_before name e (number_of old.names name) refl)
+        ∙ ap (map (definition_of list_id)) (none_by_name names distinct_now name e lines macros_numbered))
+    for_option name (Some n) e =
+        added_at n
+        ∙ (ap (λ ds. ds ++ map (definition_of list_id) (bodies_defined n lines)) (had_before name n e (number_of old.names name) refl)
+        ∙ ap (λ bs. definitions_for old name ++ map (definition_of list_id) bs) (defined_by_name names distinct_now name n e lines macros_numbered))
 
-  -- the definitions of a name after an addition
-  pub added_for : (name : List ℕ) → definitions_for new name ≡ definitions_for old name ++ map (definition_of list_id) (bodies_named name lines)
-  added_for name = added_at name (number_of names name) refl
+    -- the definitions of a name after an addition
+    pub added_for : (name : List ℕ) → definitions_for new name ≡ definitions_for old name ++ map (definition_of list_id) (bodies_named name lines)
+    added_for name = for_option name (number_of names name) refl
 
-  at_number : (P : List MacroDefinition → Type 0) (number : ℕ) → (number < length names → P
-      (definitions_of old number ++ map (definition_of list_id) (bodies_defined number lines))) → P [] → P (definitions_of new number)
-  at_number P number here none =
-      ⊎_elim (λ lt. subst P (sym (at_name number lt)) (here lt)) (λ past. subst P (sym (past_names number past)) none)
-      (cases_lt number (length names))
+    added_all : (P : MacroDefinition → Type 0) (number : ℕ) → All P (definitions_of old number)
+        → All P (map (definition_of list_id) (bodies_defined number lines)) → All P (definitions_of new number)
+    added_all P number before here =
+        subst (All P) (sym (added_at number))
+        (All-append P (definitions_of old number) (map (definition_of list_id) (bodies_defined number lines)) before here)
 
-  -- the collection after an addition is sound
-  pub added_sound : AreValid names → IsSoundCollection new
-  added_sound valid = record {
-    valid = valid;
-    distinct = with_names-distinct old.names (names_in entries) sound.distinct;
-    counted = length-map-range_with_len (λ n. definitions_of old n ++ map (definition_of list_id) (bodies_defined n lines)) 0 (length names);
-    within = λ number. at_number (All (IsWithin (length names))) number
-        (λ lt. All-append (IsWithin (length names)) (definitions_of old number) (map (definition_of list_id) (bodies_defined number lines))
-        (All-weaker (IsWithin (length old.names)) (IsWithin (length names))
-        (λ d h. All-weaker (λ (item : TrackedAssignment). item.id.0 < length old.names) (λ (item : TrackedAssignment). item.id.0 < length names)
-        (λ item i. omega (arith, more)) d.body h) (definitions_of old number) (sound.within number))
-        (bodies_within names list_id number lines (list_numbered old.names entries)))
-        (All-nil (IsWithin (length names)));
-    named = λ number. at_number (All (λ d. AreNamed names d.body)) number
-        (λ lt. All-append (λ d. AreNamed names d.body) (definitions_of old number) (map (definition_of list_id) (bodies_defined number lines))
-        (All-weaker (λ d. AreNamed old.names d.body) (λ d. AreNamed names d.body)
-        (λ d h. named_still old.names (names_in entries) d.body h) (definitions_of old number) (sound.named number))
-        (bodies_named_by names list_id number lines (list_numbered old.names entries)))
-        (All-nil (λ d. AreNamed names d.body));
-    active = λ number. at_number (All (λ d. is_active (with_active list_id old.active) d.list_id ≡ true)) number
-        (λ lt. All-append (λ d. is_active (with_active list_id old.active) d.list_id ≡ true) (definitions_of old number)
-        (map (definition_of list_id) (bodies_defined number lines))
-        (All-weaker (λ d. is_active old.active d.list_id ≡ true) (λ d. is_active (with_active list_id old.active) d.list_id ≡ true)
-        (λ d s. is_active_still old.active list_id d.list_id (free_within old.active) s) (definitions_of old number) (sound.active number))
-        (All-map (λ d. is_active (with_active list_id old.active) d.list_id ≡ true) (definition_of list_id) (bodies_defined number lines)
-        (λ k d lt. is_active_now old.active list_id (free_within old.active))))
-        (All-nil (λ d. is_active (with_active list_id old.active) d.list_id ≡ true));
-  }
-
-  -- the list is registered
-  pub added_holds : HoldsList new list_id lines
-  added_holds = record {
-    active = is_active_now old.active list_id (free_within old.active);
-    bodies = λ name. ap (bodies_of_list list_id) (added_for name)
-        ∙ (bodies_of_list-append list_id (definitions_for old name) (map (definition_of list_id) (bodies_named name lines))
-        ∙ (ap (λ l. l ++ bodies_of_list list_id (map (definition_of list_id) (bodies_named name lines)))
-        (bodies_of_list-free old.active list_id (definitions_for old name) free
-        (all_for old name (λ d. is_active old.active d.list_id ≡ true) sound.active))
-        ∙ bodies_of_list-own list_id (bodies_named name lines)));
-  }
-
-  -- the other lists stay registered
-  pub added_keeps : (other : ℕ) (es : List Entry) → HoldsList old other es → HoldsList new other es
-  added_keeps other es h =
-      let apart : other ≢ list_id = λ e. true≢false (sym h.active ∙ ap (is_active old.active) e ∙ free) in
-      record {
-        active = is_active_still old.active list_id other (free_within old.active) h.active;
-        bodies = λ name. ap (bodies_of_list other) (added_for name)
-            ∙ (bodies_of_list-append other (definitions_for old name) (map (definition_of list_id) (bodies_named name lines))
-            ∙ (ap (λ l. bodies_of_list other (definitions_for old name) ++ l) (bodies_of_list-other other list_id (bodies_named name lines) apart)
-            ∙ (append-nil (bodies_of_list other (definitions_for old name)) ∙ h.bodies name)));
+    module _ (fresh : is_registered old list_id ≡ false) where
+      -- the collection after an addition is sound
+      pub added_sound : AreValid names → IsSoundCollection new
+      added_sound valid = record {
+        valid = valid;
+        distinct = distinct_now;
+        ids = all_pairs_push (λ x y. x.list_id ≢ y.list_id) old.lists own sound.ids (none_registered list_id old.lists fresh);
+        numbers = λ number past. added_at number
+            ∙ (ap (λ ds. ds ++ map (definition_of list_id) (bodies_defined number lines)) (sound.numbers number (omega (arith, past, more)))
+            ∙ ap (map (definition_of list_id)) (bodies_past names lines number past (list_numbered old.names entries)));
+        within = λ number. added_all (IsWithin (length names)) number
+            (All-weaker (IsWithin (length old.names)) (IsWithin (length names))
+            (λ d h. All-weaker (λ (item : TrackedAssignment). item.id.0 < length old.names) (λ (item : TrackedAssignment). item.id.0 < length names)
+            (λ item i. omega (arith, more)) d.body h) (definitions_of old number) (sound.within number))
+            (bodies_within names list_id number lines (list_numbered old.names entries));
+        named = λ number. added_all (λ d. AreNamed names d.body) number
+            (All-weaker (λ d. AreNamed old.names d.body) (λ d. AreNamed names d.body)
+            (λ d h. named_still old.names (names_in entries) d.body h) (definitions_of old number) (sound.named number))
+            (bodies_named_by names list_id number lines (list_numbered old.names entries));
       }
 
-  -- the bodies of the list are those of its lines, by number
-  pub added_own : (number : ℕ) → bodies_of_list list_id (definitions_of new number) ≡ bodies_defined number lines
-  added_own number =
-      ⊎_elim
-      (λ (lt : number < length names). ap (bodies_of_list list_id) (at_name number lt)
-      ∙ bodies_of_list-append list_id (definitions_of old number) (map (definition_of list_id) (bodies_defined number lines))
-      ∙ ap (λ l. l ++ bodies_of_list list_id (map (definition_of list_id) (bodies_defined number lines)))
-      (bodies_of_list-free old.active list_id (definitions_of old number) free (sound.active number))
-      ∙ bodies_of_list-own list_id (bodies_defined number lines))
-      (λ (past : length names ≤ number). ap (bodies_of_list list_id) (past_names number past)
-      ∙ sym (bodies_past names lines number past (list_numbered old.names entries)))
-      (cases_lt number (length names))
+      none_for : (name : List ℕ) → bodies_of_list list_id (definitions_for old name) ≡ []
+      none_for name = at (number_of old.names name)
+        where
+          at : (o : Option ℕ) → bodies_of_list list_id (unwrap_or (option_map (definitions_of old) o) []) ≡ []
+          at None = refl
+          at (Some n) = none_of_list list_id n old.lists (none_registered list_id old.lists fresh)
 
-  -- and those of other lists stay
-  pub added_other : (other number : ℕ) → other ≢ list_id
-      → bodies_of_list other (definitions_of new number) ≡ bodies_of_list other (definitions_of old number)
-  added_other other number apart =
-      ⊎_elim
-      (λ (lt : number < length names). ap (bodies_of_list other) (at_name number lt)
-      ∙ bodies_of_list-append other (definitions_of old number) (map (definition_of list_id) (bodies_defined number lines))
-      ∙ ap (λ l. bodies_of_list other (definitions_of old number) ++ l) (bodies_of_list-other other list_id (bodies_defined number lines) apart)
-      ∙ append-nil (bodies_of_list other (definitions_of old number)))
-      (λ (past : length names ≤ number). ap (bodies_of_list other) (past_names number past ∙ sym (past_old number past)))
-      (cases_lt number (length names))
+      -- the list is registered
+      pub added_holds : HoldsList new list_id lines
+      added_holds = record {
+        registered = added_registered;
+        bodies = λ name. ap (bodies_of_list list_id) (added_for name)
+            ∙ (bodies_of_list-append list_id (definitions_for old name) (map (definition_of list_id) (bodies_named name lines))
+            ∙ (ap (λ l. l ++ bodies_of_list list_id (map (definition_of list_id) (bodies_named name lines))) (none_for name)
+            ∙ bodies_of_list-own list_id (bodies_named name lines)));
+      }
 
--- no definition belongs to a list that is not registered
-pub free_of : (table : Collection) (list_id number : ℕ) → IsSoundCollection table → is_active table.active list_id ≡ false → of_other_lists list_id
-    (definitions_of table number) ≡ definitions_of table number
-free_of table list_id number sound free = of_other_lists-free list_id (definitions_of table number)
-    (bodies_of_list-free table.active list_id (definitions_of table number) free (sound.active number))
+      -- the other lists stay registered
+      pub added_keeps : (other : ℕ) (es : List Entry) → HoldsList old other es → HoldsList new other es
+      added_keeps other es h =
+          let apart : other ≢ list_id = λ e. true≢false (sym h.registered ∙ ap (is_registered old) e ∙ fresh) in
+          record {
+            registered = still_registered other h.registered;
+            bodies = λ name. ap (bodies_of_list other) (added_for name)
+                ∙ (bodies_of_list-append other (definitions_for old name) (map (definition_of list_id) (bodies_named name lines))
+                ∙ (ap (λ l. bodies_of_list other (definitions_for old name) ++ l) (bodies_of_list-other other list_id (bodies_named name lines) apart)
+                ∙ (append-nil (bodies_of_list other (definitions_for old name)) ∙ h.bodies name)));
+          }
 
 -- ---- a list is removed
 
 module _ (old : Collection) (gone : ℕ) where
-  at_all : (number : ℕ) → definitions_of (without_list gone old) number ≡ of_other_lists gone (definitions_of old number)
-  at_all number = get_or-map (of_other_lists gone) old.definitions number []
+  abbrev others : List RegisteredList → List RegisteredList
+  others lists = filter (λ l. not (l.list_id == gone)) lists
 
-  removed_at : (name : List ℕ) (o : Option ℕ) → unwrap_or (option_map (definitions_of (without_list gone old)) o) []
-      ≡ of_other_lists gone (unwrap_or (option_map (definitions_of old) o) [])
-  removed_at name None = refl
-  removed_at name (Some n) = at_all n
+  others_left : (number : ℕ) (lists : List RegisteredList)
+      → definitions_in number (others lists) ≡ of_other_lists gone (definitions_in number lists)
+  others_left number [] = refl
+  others_left number (l ∷ lists) =
+      let mine = definitions_by number l in
+      let bodies = bodies_of_number number l.macros in
+      ⊎_elim
+      (λ own.
+      ap (definitions_in number) (cond-false (not (eqb l.list_id gone)) (l ∷ others lists) (others lists) (ap not own))
+      ∙ others_left number lists
+      ∙ sym (of_other_lists-append gone mine (definitions_in number lists)
+      ∙ ap (λ ds. ds ++ of_other_lists gone (definitions_in number lists))
+      (ap (λ id. of_other_lists gone (map (definition_of id) bodies)) (eqb-true l.list_id gone own) ∙ of_other_lists-own gone bodies)))
+      (λ other.
+      ap (definitions_in number) (cond-true (not (eqb l.list_id gone)) (l ∷ others lists) (others lists) (ap not other))
+      ∙ ap (λ ds. mine ++ ds) (others_left number lists)
+      ∙ sym (of_other_lists-append gone mine (definitions_in number lists)
+      ∙ ap (λ ds. ds ++ of_other_lists gone (definitions_in number lists))
+      (of_other_lists-free gone mine (bodies_of_list-other gone l.list_id bodies (λ e. eqb-false l.list_id gone other (sym e))))))
+      (cases_Bool (eqb l.list_id gone))
+
+  -- the definitions of a number after a removal
+  pub removed_at : (number : ℕ) → definitions_of (without_list gone old) number ≡ of_other_lists gone (definitions_of old number)
+  removed_at number = others_left number old.lists
 
   -- the definitions of a name after a removal
   pub removed_for : (name : List ℕ) → definitions_for (without_list gone old) name ≡ of_other_lists gone (definitions_for old name)
-  removed_for name = removed_at name (number_of old.names name)
+  removed_for name = at (number_of old.names name)
+    where
+      at : (o : Option ℕ) → unwrap_or (option_map (definitions_of (without_list gone old)) o) []
+          ≡ of_other_lists gone (unwrap_or (option_map (definitions_of old) o) [])
+      at None = refl
+      at (Some n) = removed_at n
 
-  not_gone : (ds : List MacroDefinition) → All (λ d. is_active old.active d.list_id ≡ true) ds → All
-      (λ d. is_active (set old.active gone false) d.list_id ≡ true) (of_other_lists gone ds)
-  not_gone [] h = All-nil (λ d. is_active (set old.active gone false) d.list_id ≡ true)
-  not_gone (d ∷ ds) h =
-      let P : MacroDefinition → Type 0 = λ x. is_active (set old.active gone false) x.list_id ≡ true in
-      let S : MacroDefinition → Type 0 = λ x. is_active old.active x.list_id ≡ true in
-      let rest = not_gone ds (All-tail S d ds h) in
-      ⊎_elim
-      (λ own. subst (All P) (sym (cond-false (not (eqb d.list_id gone)) (d ∷ of_other_lists gone ds) (of_other_lists gone ds) (ap not own))) rest)
-      (λ other. subst (All P) (sym (cond-true (not (eqb d.list_id gone)) (d ∷ of_other_lists gone ds) (of_other_lists gone ds) (ap not other)))
-      (All-cons P d (of_other_lists gone ds) (get_or-set_other old.active gone d.list_id false false (eqb-false d.list_id gone other) ∙ All-head S d
-      ds h) rest))
-      (cases_Bool (eqb d.list_id gone))
+  removed_all : (P : MacroDefinition → Type 0) (number : ℕ) → All P (definitions_of old number)
+      → All P (definitions_of (without_list gone old) number)
+  removed_all P number h =
+      subst (All P) (sym (removed_at number)) (All-filter (λ d. not (is_of_list gone d)) P (definitions_of old number) h)
 
   pub removed_sound : IsSoundCollection old → IsSoundCollection (without_list gone old)
   removed_sound sound = record {
     valid = sound.valid;
     distinct = sound.distinct;
-    counted = length-map old.definitions (of_other_lists gone) ∙ sound.counted;
-    within = λ number. subst (All (IsWithin (length old.names))) (sym (at_all number))
-        (All-filter (λ d. not (is_of_list gone d)) (IsWithin (length old.names)) (definitions_of old number) (sound.within number));
-    named = λ number. subst (All (λ d. AreNamed old.names d.body)) (sym (at_all number))
-        (All-filter (λ d. not (is_of_list gone d)) (λ d. AreNamed old.names d.body) (definitions_of old number) (sound.named number));
-    active = λ number. subst (All (λ d. is_active (set old.active gone false) d.list_id ≡ true)) (sym (at_all number))
-        (not_gone (definitions_of old number) (sound.active number));
+    ids = AllPairs-filter (λ x y. x.list_id ≢ y.list_id) (λ l. not (l.list_id == gone)) old.lists sound.ids;
+    numbers = λ number past. removed_at number ∙ ap (of_other_lists gone) (sound.numbers number past);
+    within = λ number. removed_all (IsWithin (length old.names)) number (sound.within number);
+    named = λ number. removed_all (λ d. AreNamed old.names d.body) number (sound.named number);
   }
 
-  -- the bodies of the other lists stay
-  pub removed_other : (other number : ℕ) → other ≢ gone
-      → bodies_of_list other (definitions_of (without_list gone old) number) ≡ bodies_of_list other (definitions_of old number)
-  removed_other other number apart =
-      ap (bodies_of_list other) (at_all number) ∙ bodies_of_list-of_other_lists other gone (definitions_of old number) apart
+  left_registered : (other : ℕ) (lists : List RegisteredList) → other ≢ gone → list_any (λ l. l.list_id == other) lists ≡ true
+      → list_any (λ l. l.list_id == other) (others lists) ≡ true
+  left_registered other [] apart h = h
+  left_registered other (l ∷ lists) apart h =
+      let rest = list_any (λ l. l.list_id == other) lists in
+      let left = list_any (λ l. l.list_id == other) (others lists) in
+      ⊎_elim
+      (λ own.
+      let differs : eqb l.list_id other ≡ false = ne_eqb l.list_id other (λ e. apart (sym e ∙ eqb-true l.list_id gone own)) in
+      ap (list_any (λ l. l.list_id == other)) (cond-false (not (eqb l.list_id gone)) (l ∷ others lists) (others lists) (ap not own))
+      ∙ left_registered other lists apart (sym (ap (λ b. b || rest) differs) ∙ h))
+      (λ kept.
+      ap (list_any (λ l. l.list_id == other)) (cond-true (not (eqb l.list_id gone)) (l ∷ others lists) (others lists) (ap not kept))
+      ∙ ⊎_elim
+      (λ here. or_left (eqb l.list_id other) left here)
+      (λ there. or_right (eqb l.list_id other) left (left_registered other lists apart (sym (ap (λ b. b || rest) there) ∙ h)))
+      (cases_Bool (eqb l.list_id other)))
+      (cases_Bool (eqb l.list_id gone))
 
   -- the other lists stay registered
   pub removed_keeps : (other : ℕ) (es : List Entry) → other ≢ gone → HoldsList old other es → HoldsList (without_list gone old) other es
   removed_keeps other es apart h = record {
-    active = get_or-set_other old.active gone other false false apart ∙ h.active;
+    registered = left_registered other old.lists apart h.registered;
     bodies = λ name. ap (bodies_of_list other) (removed_for name)
         ∙ (bodies_of_list-of_other_lists other gone (definitions_for old name) apart ∙ h.bodies name);
   }
@@ -563,8 +579,8 @@ unfolding IsDistinct
 nothing_sound = record {
   valid = All-nil (λ name. IsTrue (is_valid_name name));
   distinct = tt;
-  counted = refl;
+  ids = λ i j d lt below. absurd (omega arith);
+  numbers = λ number past. refl;
   within = λ number. All-nil (IsWithin 0);
   named = λ number. All-nil (λ d. AreNamed [] d.body);
-  active = λ number. All-nil (λ d. is_active [] d.list_id ≡ true);
 }

@@ -1,220 +1,374 @@
--- What the steps of an addition and of a removal do to a name table.
-use Rattle.std.proofs.Common.{◌≡◌, ℕ, ◌+◌, ◌<◌, ◌≤◌, Bool, true, false, List, [], ◌∷◌, ◌++◌, length, get_or, set, take, map, All, refl, sym, ap}
-use Rattle.std.proofs.Common.{subst, ◌∙◌, true≢false}
-use Rattle.std.proofs.Common.{⊎_elim, arith, bytes_eq, Option, unwrap_or, option_map}
-use Rattle.std.specs.List.{IsDistinct}
-use Rattle.std.proofs.lemmas.List.{length-map, length-take, get_or-take, get_or_past, get_or-set_same, get_or-set_other, ext_get_or, take_at}
-use Rattle.std.proofs.lemmas.List.FromFn.{fill_by_all}
-use Rattle.std.proofs.lemmas.Bool.{cases_eq, cases_lt}
+-- What the steps of an addition and of a removal do to the parts of a name table.
+use Rattle.std.proofs.Common.{◌≡◌, ◌≢◌, ℕ, zero, suc, ◌<◌, ◌≤◌, true, false, not, eqb, List, [], ◌∷◌, ◌++◌, length, get_or, take, drop, map}
+use Rattle.std.proofs.Common.{filter, slice_get, All, Option, Some, None, unwrap_or, option_map, refl, sym, ap, subst, ◌∙◌, ⊎_elim, arith}
+use Rattle.std.proofs.Common.{ne_eqb, eq-eqb}
+use Rattle.std.specs.Prelude.{◌==◌}
+use Rattle.std.specs.Global.{Vec}
+use Rattle.std.specs.List.{AllPairs, remove}
+use Rattle.std.specs.BTreeSet.{BTreeSet}
+use Rattle.std.proofs.lemmas.Bool.{cases_lt, cond-true, cond-false}
+use Rattle.std.proofs.lemmas.List.{length-map, length-take, map-append, take-map, drop-map, get_or-take, get_or_past, take_at}
+use Rattle.std.proofs.lemmas.List.Elements.{All-nil, All-head, All-tail, All-append, All-map, All-weaker}
+use Rattle.std.proofs.lemmas.List.Folds.{list_any_at}
+use Rattle.std.proofs.lemmas.List.Kept.{AllPairs-filter}
+use Rattle.std.proofs.lemmas.List.Quantifiers.{all_pairs_push}
+use Rattle.std.proofs.lemmas.Option.{get_or_from_slice_get, slice_get-map, slice_get_read, slice_get_within}
 use Rattle.attr_lists.specs.declared.name_table.entry.NameEntry.{NameEntry}
-use Rattle.attr_lists.specs.Definitions.{bodies_defined, bodies_named, bodies_of_list, definition_of, of_other_lists, by_number, is_active}
-use Rattle.attr_lists.specs.Definitions.{free_id, with_list}
-use Rattle.attr_lists.specs.Definitions.{definitions_of, without_list, HoldsList, IsSoundCollection}
-use Rattle.attr_lists.specs.shared.Keeping.{StayRegistered, IsNumbered}
-use Rattle.attr_lists.specs.inner.EntrySteps.{HasBodies, KeepsOtherDefinitions, RemovesAsMany}
-use Rattle.attr_lists.specs.inner.EntryViews.{definitions_view, all_definitions, definitions_at, definitions_by, IsEntry, AreEntries, AreValid}
-use Rattle.attr_lists.specs.inner.Registered.{bodies_of_number, registered_at, AreRegistered}
-use Rattle.std.specs.Prelude.{◌≢◌, Vec}
-use Rattle.attr_lists.specs.declared.types.Metadata.{Metadata}
-use Rattle.attr_lists.specs.inner.NameTableView.{rolled_back, IsPartlyAdded}
+use Rattle.attr_lists.specs.declared.name_table.parts.Parts.{Parts}
+use Rattle.attr_lists.specs.declared.name_table.registered.ListMacros.{ListMacros}
+use Rattle.attr_lists.specs.Collections.{MacroDefinition, NumberedBody, RegisteredList, Collection}
+use Rattle.attr_lists.specs.Definitions.{bodies_defined, bodies_of_list, bodies_of_number, definition_of, definitions_by, definitions_for}
+use Rattle.attr_lists.specs.Definitions.{definitions_of, is_registered, of_other_lists, macros_defined, with_list, without_list, HoldsList}
+use Rattle.attr_lists.specs.Definitions.{IsSoundCollection}
 use Rattle.attr_lists.specs.ListViews.{Entry}
-use Rattle.attr_lists.specs.Collections.{MacroDefinition, Collection}
-use Rattle.attr_lists.specs.Numbers.{AppendsNames, names_in, with_names, numbered_lines}
+use Rattle.attr_lists.specs.Numbers.{AppendsNames, names_in, number_of, numbered_lines, with_names}
+use Rattle.attr_lists.specs.inner.EntrySteps.{KeepsOtherDefinitions, RemovesListed}
+use Rattle.attr_lists.specs.inner.EntryViews.{definitions_view, all_definitions, definitions_at, AreAllInOrder, AreEntries, AreInListOrder, AreValid}
+use Rattle.attr_lists.specs.inner.EntryViews.{IsEntry}
+use Rattle.attr_lists.specs.inner.NameTableView.{parts_view, AreWhole, IsPartlyAdded}
+use Rattle.attr_lists.specs.inner.Registered.{bodies_of_name, registered_views, registered_view, AgreesOn, AreAscending, IsAbove, ListsBodies}
+use Rattle.attr_lists.specs.shared.Keeping.{IsNumbered, StayRegistered}
+use Rattle.attr_lists.specs.shared.MacroNumbers.{KeepsNumbers, ListsMacros, RemovesUndefined}
 use Rattle.attr_lists.proofs.ListLemmas.{get_or-map}
+use Rattle.attr_lists.proofs.MacroLemmas.{added_listed, removed_listed, still_listed}
 use Rattle.attr_lists.proofs.NameLemmas.{with_names-extends}
-use Rattle.attr_lists.proofs.NamedDefinitions.{number_at}
-use Rattle.attr_lists.proofs.NameTableLaws.{of_other_lists-free, free_of, free_is, added_sound, added_holds, added_keeps}
-use Rattle.attr_lists.proofs.NameTableLaws.{active_below, removed_other, added_other, added_own, free_within, is_active_other, list_numbered}
-
--- the table of these parts
-abbrev pub table_of : List (List ℕ) → List NameEntry → List Bool → Collection
-table_of names entries active = record { names = names; definitions = all_definitions entries; active = active }
+use Rattle.attr_lists.proofs.NameTableLaws.{added_at, added_holds, added_keeps, added_sound, bodies_of_lines, definitions_in, lack_registered}
+use Rattle.attr_lists.proofs.NameTableLaws.{none_of_list, of_other_lists-free}
+use Rattle.attr_lists.proofs.NameTableLaws.{list_numbered, own_bodies, removed_at, removed_sound, Lack}
+use Rattle.attr_lists.proofs.RegisteredLemmas.{bodies_none}
 
 pub AreEntries-take : (n : ℕ) (entries : List NameEntry) → AreEntries entries → AreEntries (take n entries)
 AreEntries-take n entries all = λ k d lt.
     subst (IsEntry k) (sym (get_or-take n entries k d (omega (arith, length-take n entries)))) (all k d (omega (arith, length-take n entries)))
 
--- the definitions of all names, from those of each name
-pub all_defined : (start before now : List NameEntry) (names : List (List ℕ)) (list_id : ℕ) (lines : List Entry) → length now ≡ length names
-    → ((n : ℕ) → n < length now → definitions_at now n ≡ definitions_at before n ++ map (definition_of list_id) (bodies_defined n lines))
-    → ((n : ℕ) → definitions_at before n ≡ definitions_at start n)
-    → all_definitions now ≡ by_number (length names) (λ n. definitions_at start n ++ map (definition_of list_id) (bodies_defined n lines))
-all_defined start before now names list_id lines len defined same =
-    fill_by_all (λ n. definitions_at start n ++ map (definition_of list_id) (bodies_defined n lines)) (all_definitions now) (length names) []
-    (length-map now definitions_view ∙ len)
-    (λ n lt. defined n (omega arith) ∙ ap (λ l. l ++ map (definition_of list_id) (bodies_defined n lines)) (same n))
+-- ---- ids
 
--- lists of definitions are equal if they have the same ones for each number
-same_definitions : (xs ys : List (List MacroDefinition)) → length xs ≡ length ys → ((n : ℕ) → get_or xs n [] ≡ get_or ys n []) → xs ≡ ys
-same_definitions xs ys len same = ext_get_or [] xs ys len (λ n lt. same n)
+-- lists whose ids ascend have ids that differ
+pub ids_differ : (lists : List RegisteredList) → AreAscending lists → AllPairs (λ x y. x.list_id ≢ y.list_id) lists
+ids_differ lists ascend = λ i j d lt below e. omega (arith, ascend i j d lt below, e)
 
--- a roll back leaves the definitions that were there before the addition
-definitions_back : (start mid : List (List MacroDefinition)) (list_id : ℕ) → length start ≤ length mid
-    → ((n : ℕ) → of_other_lists list_id (get_or mid n []) ≡ of_other_lists list_id (get_or start n []))
-    → ((n : ℕ) → of_other_lists list_id (get_or start n []) ≡ get_or start n [])
-    → map (of_other_lists list_id) (take (length start) mid) ≡ start
-definitions_back start mid list_id more same free =
-    let len : length (take (length start) mid) ≡ length start = omega (arith, length-take (length start) mid) in
-    same_definitions (map (of_other_lists list_id) (take (length start) mid)) start
-    (length-map (take (length start) mid) (of_other_lists list_id) ∙ len)
-    (λ n. get_or-map (of_other_lists list_id) (take (length start) mid) n []
-    ∙ ⊎_elim
-    (λ lt. ap (of_other_lists list_id) (get_or-take (length start) mid n [] lt) ∙ same n ∙ free n)
-    (λ past. ap (of_other_lists list_id) (get_or_past (take (length start) mid) n [] (omega arith)) ∙ sym (get_or_past start n [] past))
-    (cases_lt n (length start)))
+-- no list has an id that is above all
+pub above_lacks : (list_id : ℕ) (lists : List RegisteredList) → IsAbove list_id lists → Lack list_id lists
+above_lacks list_id lists above = λ k d lt e. omega (arith, above k d lt, e)
 
--- a roll back leaves the table that was there before the addition
-pub rolled_back_is : (old mid : Collection) (list_id count : ℕ) → IsSoundCollection old → is_active old.active list_id ≡ false
-    → count ≡ length old.definitions → IsPartlyAdded list_id old mid → rolled_back count list_id mid ≡ old
-rolled_back_is old mid list_id count sound free count_is part =
-    let len : length old.names ≡ count = omega (arith, sound.counted, count_is) in
-    let names : take count mid.names ≡ old.names = ap (take count) part.names.1 ∙ take_at old.names part.names.0 count len in
-    let definitions : map (of_other_lists list_id) (take count mid.definitions) ≡ old.definitions =
-    ap (λ k. map (of_other_lists list_id) (take k mid.definitions)) count_is
-    ∙ definitions_back old.definitions mid.definitions list_id part.counted part.definitions (λ n. free_of old list_id n sound free) in
-    λ j. record { names = names j; definitions = definitions j; active = part.active j }
+-- the id of a new list is above those of the others
+pub still_ascending : (lists : List RegisteredList) (own : RegisteredList) → AreAscending lists → IsAbove own.list_id lists
+    → AreAscending (lists ++ own ∷ [])
+still_ascending lists own ascend above = all_pairs_push (λ x y. x.list_id < y.list_id) lists own ascend above
 
--- the table after an addition ran out of memory
-pub partly_added : (names names' : List (List ℕ)) (active active' : List Bool) (old new items : List NameEntry) (list_id : ℕ)
-    → AppendsNames names names' → length old ≤ length new → KeepsOtherDefinitions list_id old new → items ≡ new → active' ≡ active
-    → IsPartlyAdded list_id (table_of names old active) (table_of names' items active')
-partly_added names names' active active' old new items list_id more longer others items_is same = record {
-  names = more;
-  counted = omega (arith, length-map old definitions_view, length-map items definitions_view, ap length items_is, longer);
-  definitions = λ n. ap (λ l. of_other_lists list_id (definitions_at l n)) items_is ∙ others n;
-  active = same;
-}
+-- ---- the order of definitions
 
--- the same after the definitions of the list were added: `borrowed` are the entries before, `now` those after
-pub partly_defined : (names names' : List (List ℕ)) (active active' : List Bool) (old before borrowed now items : List NameEntry) (list_id : ℕ)
-    → AppendsNames names names' → length old ≤ length before → ((n : ℕ) → definitions_at before n ≡ definitions_at old n)
-    → borrowed ≡ before → length now ≡ length borrowed → KeepsOtherDefinitions list_id borrowed now → items ≡ now → active' ≡ active
-    → IsPartlyAdded list_id (table_of names old active) (table_of names' items active')
-partly_defined names names' active active' old before borrowed now items list_id more longer extended borrowed_is len others items_is same =
-    partly_added names names' active active' old now items list_id more (omega (arith, len, ap length borrowed_is, longer))
-    (λ n. others n ∙ ap (λ l. of_other_lists list_id (definitions_at l n)) borrowed_is ∙ ap (of_other_lists list_id) (extended n)) items_is same
+from_first : (t : ℕ) (xs ys : List MacroDefinition) → All (λ d. d.list_id ≡ t) xs → All (λ d. t ≤ d.list_id) ys → AreInListOrder ys
+    → AreInListOrder (xs ++ ys)
+from_first t [] ys own later order = order
+from_first t (x ∷ xs) ys own later order =
+    let rest = from_first t xs ys (All-tail (λ d. d.list_id ≡ t) x xs own) later order in
+    let here = All-head (λ d. d.list_id ≡ t) x xs own in
+    let above : All (λ d. t ≤ d.list_id) (xs ++ ys) = All-append (λ d. t ≤ d.list_id) xs ys
+    (All-weaker (λ d. d.list_id ≡ t) (λ d. t ≤ d.list_id) (λ d e. omega (arith, e)) xs (All-tail (λ d. d.list_id ≡ t) x xs own)) later in
+    in_cons x (xs ++ ys) (All-weaker (λ d. t ≤ d.list_id) (λ d. x.list_id ≤ d.list_id) (λ d le. omega (arith, le, here)) (xs ++ ys) above) rest
+  where
+    in_cons : (x : MacroDefinition) (xs : List MacroDefinition) → All (λ d. x.list_id ≤ d.list_id) xs → AreInListOrder xs → AreInListOrder (x ∷ xs)
+    in_cons x xs above order zero zero d le lt = omega arith
+    in_cons x xs above order zero (suc j) d le lt = above j d (omega arith)
+    in_cons x xs above order (suc i) zero d le lt = absurd (omega arith)
+    in_cons x xs above order (suc i) (suc j) d le lt = order i j d (omega arith) (omega arith)
 
--- entries that have the same definitions of other lists are alike without those of the list
-pub others_alike : (list_id : ℕ) (old now : List NameEntry) → length now ≡ length old → KeepsOtherDefinitions list_id old now
-    → map (of_other_lists list_id) (all_definitions now) ≡ map (of_other_lists list_id) (all_definitions old)
-others_alike list_id old now len others =
-    same_definitions (map (of_other_lists list_id) (all_definitions now)) (map (of_other_lists list_id) (all_definitions old))
-    (length-map (all_definitions now) (of_other_lists list_id) ∙ length-map now definitions_view ∙ len ∙ sym (length-map old definitions_view)
-    ∙ sym (length-map (all_definitions old) (of_other_lists list_id)))
-    (λ n. get_or-map (of_other_lists list_id) (all_definitions now) n [] ∙ others n
-    ∙ sym (get_or-map (of_other_lists list_id) (all_definitions old) n []))
+later_ids : (t number : ℕ) (lists : List RegisteredList) → All (λ l. t < l.list_id) lists → All (λ d. t ≤ d.list_id) (definitions_in number lists)
+later_ids t number [] h = All-nil (λ d. t ≤ d.list_id)
+later_ids t number (l ∷ lists) h =
+    All-append (λ d. t ≤ d.list_id) (definitions_by number l) (definitions_in number lists)
+    (All-map (λ d. t ≤ d.list_id) (definition_of l.list_id) (bodies_of_number number l.macros)
+    (λ k d lt. let below = All-head (λ l. t < l.list_id) l lists h in omega (arith, below)))
+    (later_ids t number lists (All-tail (λ l. t < l.list_id) l lists h))
 
--- where no definition of the list is left, those of other lists are all
-pub all_gone : (list_id : ℕ) (old now : List NameEntry) → length now ≡ length old
-    → ((n : ℕ) → bodies_of_list list_id (definitions_at now n) ≡ []) → KeepsOtherDefinitions list_id old now
-    → all_definitions now ≡ map (of_other_lists list_id) (all_definitions old)
-all_gone list_id old now len gone others =
-    same_definitions (all_definitions now) (map (of_other_lists list_id) (all_definitions now))
-    (sym (length-map (all_definitions now) (of_other_lists list_id)))
-    (λ n. sym (of_other_lists-free list_id (definitions_at now n) (gone n)) ∙ sym (get_or-map (of_other_lists list_id) (all_definitions now) n []))
-    ∙ others_alike list_id old now len others
+-- the definitions of a number are in the order of list ids
+pub definitions_in_order : (number : ℕ) (lists : List RegisteredList) → AreAscending lists → AreInListOrder (definitions_in number lists)
+definitions_in_order number [] ascend = λ i j d le lt. absurd (omega arith)
+definitions_in_order number (l ∷ lists) ascend =
+    from_first l.list_id (definitions_by number l) (definitions_in number lists)
+    (All-map (λ d. d.list_id ≡ l.list_id) (definition_of l.list_id) (bodies_of_number number l.macros) (λ k d lt. refl))
+    (later_ids l.list_id number lists (λ k d lt. ascend zero (suc k) d (omega arith) (omega arith)))
+    (definitions_in_order number lists (λ i j d lt below. ascend (suc i) (suc j) d (omega arith) (omega arith)))
 
-no_more : {X : Type 0} (xs ys zs : List X) → length xs + length ys ≡ length zs → zs ≡ ys → xs ≡ []
-no_more [] ys zs h e = refl
-no_more (x ∷ xs) ys zs h e = absurd (omega (arith, h, ap length e))
+pub all_in_order : (p : Parts) → AreWhole p → AreAllInOrder p.entries.items
+all_in_order p whole = λ number.
+    subst AreInListOrder (sym (whole.defined number)) (definitions_in_order number (registered_views p.lists.items) whole.ascending)
 
--- as many definitions of a registered list were removed as it has, so all were
-pub all_removed : (names : List (List ℕ)) (old now : List NameEntry) (list_id : ℕ) (lines : List Entry) → length now ≡ length old
-    → length old ≡ length names → IsDistinct bytes_eq names
-    → ((name : List ℕ) → HasBodies list_id name lines (definitions_by names old name))
-    → RemovesAsMany list_id names lines old now → KeepsOtherDefinitions list_id old now
-    → all_definitions now ≡ map (of_other_lists list_id) (all_definitions old)
-all_removed names old now list_id lines len count distinct bodies gone others =
-    all_gone list_id old now len
-    (λ n. ⊎_elim
-    (λ (lt : n < length names).
-    let name = get_or names n [] in
-    let number = number_at names n distinct lt in
-    let own : HasBodies list_id name lines (definitions_at old n) =
-    subst (λ (o : Option ℕ). HasBodies list_id name lines (unwrap_or (option_map (definitions_at old) o) [])) number (bodies name) in
-    no_more (bodies_of_list list_id (definitions_at now n)) (bodies_named name lines) (bodies_of_list list_id (definitions_at old n))
-    (gone name n number) own)
-    (λ (past : length names ≤ n).
-    ap (bodies_of_list list_id) (get_or_past (all_definitions now) n [] (omega (arith, past, len, count, length-map now definitions_view))))
-    (cases_lt n (length names)))
-    others
+-- ---- a list is removed
 
--- the table after a registered list is removed
-pub removed_is : (names : List (List ℕ)) (active : List Bool) (old borrowed now items : List NameEntry) (list_id : ℕ)
-    → borrowed ≡ old → items ≡ now → all_definitions now ≡ map (of_other_lists list_id) (all_definitions borrowed)
-    → table_of names items (set active list_id false) ≡ without_list list_id (table_of names old active)
-removed_is names active old borrowed now items list_id same items_is all =
-    ap (λ d. record { names = names; definitions = d; active = set active list_id false })
-    (ap all_definitions items_is ∙ all ∙ ap (λ l. map (of_other_lists list_id) (all_definitions l)) same)
+-- the other lists, and no definition of this one
+module _ (lists : List RegisteredList) (at : ℕ) (own : RegisteredList) (ascend : AreAscending lists) (here : slice_get lists at ≡ Some own) where
+  pub no_other : (number : ℕ) → All (λ b. b.number ≢ number) own.macros
+      → of_other_lists own.list_id (definitions_in number lists) ≡ definitions_in number lists
+  no_other number none =
+      of_other_lists-free own.list_id (definitions_in number lists)
+      (own_bodies number lists at own (ids_differ lists ascend) here ∙ bodies_none number own.macros none)
 
--- the clauses of an addition
-module _ (old now new : Collection) (list_id : ℕ) (entries lines : List Entry) (is : old ≡ now) (id_is : list_id ≡ free_id old.active)
-    (added : new ≡ with_list list_id entries old) (numbered_is : lines ≡ numbered_lines new.names entries) (sound : IsSoundCollection old) where
-  names_are : new.names ≡ with_names old.names (names_in entries)
+pub others_all : (list_id : ℕ) (lists : List RegisteredList) → Lack list_id lists → filter (λ l. not (l.list_id == list_id)) lists ≡ lists
+others_all list_id [] h = refl
+others_all list_id (l ∷ lists) h =
+    let others = filter (λ (x : RegisteredList). not (x.list_id == list_id)) lists in
+    cond-true (not (eqb l.list_id list_id)) (l ∷ others) others (ap not (ne_eqb l.list_id list_id (All-head (λ x. x.list_id ≢ list_id) l lists h)))
+    ∙ ap (λ ls. l ∷ ls) (others_all list_id lists (All-tail (λ x. x.list_id ≢ list_id) l lists h))
+
+pub removed_list : (lists : List RegisteredList) (at : ℕ) (own : RegisteredList) → AreAscending lists → slice_get lists at ≡ Some own
+    → remove lists at ≡ filter (λ l. not (l.list_id == own.list_id)) lists
+removed_list [] at own ascend here = absurd cc
+removed_list (l ∷ lists) zero own ascend here =
+    let same : l ≡ own = cc in
+    let others = filter (λ (x : RegisteredList). not (x.list_id == own.list_id)) lists in
+    sym (cond-false (not (eqb l.list_id own.list_id)) (l ∷ others) others
+    (ap not (eq-eqb l.list_id own.list_id (ap (λ (x : RegisteredList). x.list_id) same)))
+    ∙ others_all own.list_id lists
+    (λ k d lt e. omega (arith, ascend zero (suc k) d (omega arith) (omega arith), e, ap (λ (x : RegisteredList). x.list_id) same)))
+removed_list (l ∷ lists) (suc at) own ascend here =
+    let others = filter (λ (x : RegisteredList). not (x.list_id == own.list_id)) lists in
+    let within = slice_get_within lists at own here in
+    let apart : l.list_id ≢ own.list_id = λ e. omega (
+      arith,
+      ascend zero (suc at) own (omega arith) (omega arith),
+      ap (λ (x : RegisteredList). x.list_id) (get_or_from_slice_get lists at own own here),
+      e,
+    ) in
+    sym (cond-true (not (eqb l.list_id own.list_id)) (l ∷ others) others (ap not (ne_eqb l.list_id own.list_id apart))
+    ∙ ap (λ ls. l ∷ ls)
+    (sym (removed_list lists at own (λ i j d lt below. ascend (suc i) (suc j) d (omega arith) (omega arith)) here)))
+
+map_remove : {X Y : Type 0} (f : X → Y) (xs : List X) (i : ℕ) → map f (remove xs i) ≡ remove (map f xs) i
+map_remove f xs i =
+    map-append f (take i xs) (drop (suc i) xs)
+    ∙ ap (λ l. l ++ map f (drop (suc i) xs)) (sym (take-map f i xs)) ∙ ap (λ l. take i (map f xs) ++ l) (sym (drop-map f (suc i) xs))
+
+-- the list at an index
+pub view_at : (lists : List ListMacros) (at : ℕ) (own : RegisteredList) (list : ListMacros) → slice_get (registered_views lists) at ≡ Some own
+    → list ≡ get_or lists at list → own ≡ registered_view list
+view_at lists at own list here is =
+    let within = slice_get_within (registered_views lists) at own here in
+    let found : Some own ≡ Some (registered_view list) = sym here ∙ slice_get-map registered_view lists at
+    ∙ ap (option_map registered_view)
+    (slice_get_read lists (length lists) at list refl (omega (arith, within, length-map lists registered_view)) is) in
+    cc
+
+-- `q` are the parts after the list at an index is removed
+module _ (p q : Parts) (list_id at : ℕ) (own : RegisteredList) (whole : AreWhole p)
+    (here : slice_get (registered_views p.lists.items) at ≡ Some own) (own_id : own.list_id ≡ list_id) (names : q.names ≡ p.names)
+    (lists : q.lists.items ≡ remove p.lists.items at) where
+  pub left : parts_view q ≡ without_list list_id (parts_view p)
+  left =
+      let others : registered_views q.lists.items ≡ filter (λ l. not (l.list_id == list_id)) (registered_views p.lists.items) =
+      ap registered_views lists ∙ map_remove registered_view p.lists.items at
+      ∙ removed_list (registered_views p.lists.items) at own whole.ascending here
+      ∙ ap (λ id. filter (λ (l : RegisteredList). not (l.list_id == id)) (registered_views p.lists.items)) own_id in
+      λ j. record { names = names j; lists = others j }
+
+  pub left_whole : length q.entries.items ≡ length p.entries.items → AreEntries q.entries.items
+      → RemovesListed list_id own.macros p.entries.items q.entries.items → RemovesUndefined q.entries.items p.macros q.macros → AreWhole q
+  left_whole count entries removed undefined =
+      let gone = removed_at (parts_view p) list_id in
+      let defined : (n : ℕ) → definitions_at q.entries.items n ≡ definitions_of (without_list list_id (parts_view p)) n =
+      λ n. ⊎_elim
+      (λ own_gone. own_gone ∙ ap (of_other_lists list_id) (whole.defined n) ∙ sym (gone n))
+      (λ none. none.1 ∙ whole.defined n
+      ∙ sym (gone n ∙ ap (λ id. of_other_lists id (definitions_of (parts_view p) n)) (sym own_id)
+      ∙ no_other (registered_views p.lists.items) at own whole.ascending here n none.0))
+      (removed n) in
+      record {
+        sound = subst IsSoundCollection (sym left) (removed_sound (parts_view p) list_id whole.sound);
+        counted = count ∙ whole.counted ∙ ap length (sym names);
+        entries = entries;
+        defined = λ n. defined n ∙ ap (λ v. definitions_of v n) (sym left);
+        ascending = subst (λ (v : Collection). AreAscending v.lists) (sym left)
+            (AllPairs-filter (λ x y. x.list_id < y.list_id) (λ l. not (l.list_id == list_id)) (registered_views p.lists.items) whole.ascending);
+        macros = subst (ListsMacros q.macros) (sym left)
+            (removed_listed (parts_view p) list_id q.entries.items p.macros q.macros whole.macros undefined defined);
+      }
+
+-- the parts stay where no list has the list id
+pub none_left : (p : Parts) (list_id : ℕ) → Lack list_id (registered_views p.lists.items) → parts_view p ≡ without_list list_id (parts_view p)
+none_left p list_id lack = ap (λ lists. record { names = p.names; lists = lists }) (sym (others_all list_id (registered_views p.lists.items) lack))
+
+-- ---- a list is added
+
+-- `q` are the parts after the addition
+module _ (p q : Parts) (list_id : ℕ) (entries : List Entry) (list : List NumberedBody) (whole : AreWhole p)
+    (above : IsAbove list_id (registered_views p.lists.items)) (added : parts_view q ≡ with_list list_id entries (parts_view p)) where
+  abbrev lines : List Entry
+  lines = numbered_lines (with_names p.names (names_in entries)) entries
+
+  pub added_whole : list ≡ macros_defined lines → (AreValid p.names → AreValid q.names) → length q.entries.items ≡ length q.names
+      → AreEntries q.entries.items
+      → ((n : ℕ) → n < length q.entries.items
+      → definitions_at q.entries.items n ≡ definitions_at p.entries.items n ++ map (definition_of list_id) (bodies_of_number n list))
+      → KeepsNumbers p.macros q.macros → ListsBodies q.macros list → AreWhole q
+  added_whole macros valid count are defined kept listed =
+      let fresh = lack_registered list_id (registered_views p.lists.items) (above_lacks list_id (registered_views p.lists.items) above) in
+      let names_are : q.names ≡ with_names p.names (names_in entries) = ap (λ (v : Collection). v.names) added in
+      let sound : IsSoundCollection (parts_view q) = subst IsSoundCollection (sym added)
+      (added_sound (parts_view p) list_id entries whole.sound fresh (subst AreValid names_are (valid whole.sound.valid))) in
+      let bodies : (n : ℕ) → bodies_of_number n list ≡ bodies_defined n lines =
+      λ n. ap (bodies_of_number n) macros ∙ bodies_of_lines n lines in
+      record {
+        sound = sound;
+        counted = count;
+        entries = are;
+        defined = λ n. ⊎_elim
+            (λ (lt : n < length q.entries.items).
+            defined n lt ∙ ap (λ ds. ds ++ map (definition_of list_id) (bodies_of_number n list)) (whole.defined n)
+            ∙ ap (λ bs. definitions_of (parts_view p) n ++ map (definition_of list_id) bs) (bodies n)
+            ∙ sym (ap (λ v. definitions_of v n) added ∙ added_at (parts_view p) list_id entries n))
+            (λ (past : length q.entries.items ≤ n).
+            get_or_past (all_definitions q.entries.items) n [] (omega (arith, past, length-map q.entries.items definitions_view))
+            ∙ sym (sound.numbers n (omega (arith, past, count))))
+            (cases_lt n (length q.entries.items));
+        ascending = subst (λ (v : Collection). AreAscending v.lists) (sym added)
+            (still_ascending (registered_views p.lists.items) (record { list_id = list_id; macros = macros_defined lines }) whole.ascending above);
+        macros = subst (ListsMacros q.macros) (sym added)
+            (added_listed (parts_view p) list_id entries p.macros q.macros whole.macros kept (λ n none. sym (bodies n) ∙ listed n none));
+      }
+
+-- the parts when memory runs out
+pub partly_added : (p : Parts) (names texts : List (List ℕ)) (entries : Vec NameEntry) (lists : Vec ListMacros) (macros : BTreeSet ℕ) (list_id : ℕ)
+    → names ≡ with_names p.names texts → length p.entries.items ≤ length entries.items → AreEntries entries.items
+    → KeepsOtherDefinitions list_id p.entries.items entries.items → lists.items ≡ p.lists.items → KeepsNumbers p.macros macros
+    → IsPartlyAdded list_id p (record { names = names; entries = entries; lists = lists; macros = macros })
+partly_added p names texts entries lists macros list_id is count are others same kept =
+    let more = with_names-extends p.names texts in
+    record {
+      names = (more.0, is ∙ more.1);
+      counted = count;
+      entries = are;
+      definitions = others;
+      lists = same;
+      macros = kept;
+    }
+
+-- the definitions of other lists stay when names and definitions are added
+pub others_kept_on : (list_id : ℕ) (old extended seen now items : List NameEntry) → ((n : ℕ) → definitions_at extended n ≡ definitions_at old n)
+    → seen ≡ extended → KeepsOtherDefinitions list_id seen now → items ≡ now → KeepsOtherDefinitions list_id old items
+others_kept_on list_id old extended seen now items same seen_is others items_is n =
+    ap (λ l. of_other_lists list_id (definitions_at l n)) items_is ∙ others n
+    ∙ ap (λ l. of_other_lists list_id (definitions_at l n)) seen_is ∙ ap (of_other_lists list_id) (same n)
+
+-- `mid` are the parts when memory runs out, and `now` those that are taken back
+module _ (start mid now : Parts) (list_id count : ℕ) (part : IsPartlyAdded list_id start mid) (count_is : count ≡ length start.names)
+    (whole : AreWhole start) (above : IsAbove list_id (registered_views start.lists.items)) (names : now.names ≡ take count mid.names)
+    (definitions : all_definitions now.entries.items ≡ map (of_other_lists list_id) (all_definitions (take count mid.entries.items)))
+    (entries : AreEntries mid.entries.items → AreEntries now.entries.items) (lists : now.lists.items ≡ mid.lists.items)
+    (macros : now.macros ≡ mid.macros)
+  where
+    same_names : now.names ≡ start.names
+    same_names = names ∙ ap (take count) part.names.1 ∙ take_at start.names part.names.0 count (sym count_is)
+
+    same_view : parts_view now ≡ parts_view start
+    same_view = λ j. record { names = same_names j; lists = registered_views ((lists ∙ part.lists) j) }
+
+    counted_now : length now.entries.items ≡ count
+    counted_now = omega (
+      arith,
+      length-map now.entries.items definitions_view,
+      ap length definitions,
+      length-map (all_definitions (take count mid.entries.items)) (of_other_lists list_id),
+      length-map (take count mid.entries.items) definitions_view,
+      length-take count mid.entries.items,
+      part.counted,
+      whole.counted,
+      count_is,
+    )
+
+    at_number : (n : ℕ) → definitions_at now.entries.items n ≡ of_other_lists list_id (definitions_at (take count mid.entries.items) n)
+    at_number n =
+        ap (λ l. get_or l n []) definitions ∙ get_or-map (of_other_lists list_id) (all_definitions (take count mid.entries.items)) n []
+
+    defined_now : (n : ℕ) → definitions_at now.entries.items n ≡ definitions_of (parts_view start) n
+    defined_now n =
+        ⊎_elim
+        (λ (lt : n < count).
+        at_number n
+        ∙ ap (of_other_lists list_id) (ap (λ l. get_or l n []) (sym (take-map definitions_view count mid.entries.items))
+        ∙ get_or-take count (all_definitions mid.entries.items) n [] lt)
+        ∙ part.definitions n ∙ ap (of_other_lists list_id) (whole.defined n)
+        ∙ of_other_lists-free list_id (definitions_of (parts_view start) n)
+        (none_of_list list_id n (registered_views start.lists.items) (above_lacks list_id (registered_views start.lists.items) above)))
+        (λ (past : count ≤ n).
+        get_or_past (all_definitions now.entries.items) n [] (omega (arith, past, counted_now, length-map now.entries.items definitions_view))
+        ∙ sym (whole.sound.numbers n (omega (arith, past, count_is))))
+        (cases_lt n count)
+
+    pub rolled_back : (parts_view now ≡ parts_view start) × AreWhole now
+    rolled_back = (
+      same_view,
+      record {
+        sound = subst IsSoundCollection (sym same_view) whole.sound;
+        counted = counted_now ∙ count_is ∙ ap length (sym same_names);
+        entries = entries part.entries;
+        defined = λ n. defined_now n ∙ ap (λ v. definitions_of v n) (sym same_view);
+        ascending = subst (λ (v : Collection). AreAscending v.lists) (sym same_view) whole.ascending;
+        macros = subst (ListsMacros now.macros) (sym same_view) (still_listed (parts_view start) start.macros now.macros whole.macros
+            (subst (KeepsNumbers start.macros) (sym macros) part.macros));
+      },
+    )
+
+-- ---- a list is held
+
+-- what a registered list has of a name are the bodies of its macros
+module _ (table : Collection) (at : ℕ) (own : RegisteredList) (sound : IsSoundCollection table) (here : slice_get table.lists at ≡ Some own) where
+  pub held_for : (name : List ℕ)
+      → bodies_of_list own.list_id (definitions_for table name) ≡ bodies_of_name table.names own.macros name
+  held_for name = by_number (number_of table.names name)
+    where
+      by_number : (o : Option ℕ) → bodies_of_list own.list_id (unwrap_or (option_map (definitions_of table) o) [])
+          ≡ unwrap_or (option_map (λ number. bodies_of_number number own.macros) o) []
+      by_number None = refl
+      by_number (Some n) = own_bodies n table.lists at own sound.ids here
+
+  pub held_registered : is_registered table own.list_id ≡ true
+  held_registered =
+      list_any_at (λ (l : RegisteredList). l.list_id == own.list_id) table.lists at own (slice_get_within table.lists at own here)
+      (eq-eqb (get_or table.lists at own).list_id own.list_id
+      (ap (λ (l : RegisteredList). l.list_id) (get_or_from_slice_get table.lists at own own here)))
+
+  pub held_lines : (entries : List Entry) → ((name : List ℕ) → AgreesOn table.names own.macros entries name)
+      → HoldsList table own.list_id entries
+  held_lines entries agrees = record { registered = held_registered; bodies = λ name. held_for name ∙ agrees name }
+
+  pub lines_held : (entries : List Entry) → HoldsList table own.list_id entries
+      → (name : List ℕ) → AgreesOn table.names own.macros entries name
+  lines_held entries h name = sym (held_for name) ∙ h.bodies name
+
+-- ---- the clauses of an addition
+
+-- `p` are the parts before and `q` those after, and `seen` the lists that have no list id as great as the new one
+module _ (p q : Parts) (now : Collection) (seen : List ListMacros) (list_id : ℕ) (entries lines : List Entry) (is : parts_view p ≡ now)
+    (seen_is : seen ≡ p.lists.items) (above : IsAbove list_id (registered_views seen))
+    (added : parts_view q ≡ with_list list_id entries (parts_view p)) (numbered_is : lines ≡ numbered_lines q.names entries)
+    (sound : IsSoundCollection (parts_view p)) where
+  fresh : is_registered (parts_view p) list_id ≡ false
+  fresh = lack_registered list_id (registered_views p.lists.items) (above_lacks list_id (registered_views p.lists.items)
+      (subst (λ ls. IsAbove list_id (registered_views ls)) seen_is above))
+
+  names_are : q.names ≡ with_names p.names (names_in entries)
   names_are = ap (λ (v : Collection). v.names) added
 
-  exact : with_list (free_id old.active) entries old ≡ new
-  exact = sym (added ∙ ap (λ m. with_list m entries old) id_is)
-
-  lines_are : numbered_lines (with_names old.names (names_in entries)) entries ≡ lines
+  lines_are : numbered_lines (with_names p.names (names_in entries)) entries ≡ lines
   lines_are = sym (numbered_is ∙ ap (λ names. numbered_lines names entries) names_are)
 
-  pub is_fresh : is_active now.active list_id ≡ false
-  is_fresh = ap (λ (v : Collection). is_active v.active list_id) (sym is) ∙ ap (is_active old.active) id_is ∙ free_is old.active
+  pub is_fresh : is_registered now list_id ≡ false
+  is_fresh = subst (λ v. is_registered v list_id ≡ false) is fresh
 
-  pub is_added : new ≡ with_list list_id entries now
-  is_added = added ∙ ap (with_list list_id entries) is
+  pub are_numbered : All (IsNumbered q.names) lines
+  are_numbered = subst (λ ls. All (IsNumbered q.names) ls) (sym numbered_is)
+      (subst (λ names. All (IsNumbered names) (numbered_lines names entries)) (sym names_are) (list_numbered p.names entries))
 
-  pub is_sound : (AreValid old.names → AreValid new.names) → IsSoundCollection new
-  is_sound valid = subst IsSoundCollection exact (added_sound old entries sound (subst AreValid names_are (valid sound.valid)))
-
-  pub are_numbered : All (IsNumbered new.names) lines
-  are_numbered = subst (λ ls. All (IsNumbered new.names) ls) (sym numbered_is)
-      (subst (λ names. All (IsNumbered names) (numbered_lines names entries)) (sym names_are) (list_numbered old.names entries))
-
-  pub are_kept : AppendsNames now.names new.names
+  pub are_kept : AppendsNames now.names q.names
   are_kept =
-      let more = with_names-extends old.names (names_in entries) in
-      (more.0, names_are ∙ (more.1 ∙ ap (λ (v : Collection). v.names ++ more.0) is))
+      let more = with_names-extends p.names (names_in entries) in
+      (more.0, names_are ∙ more.1 ∙ ap (λ (v : Collection). v.names ++ more.0) is)
 
-  pub is_held : HoldsList new list_id lines
-  is_held =
-      subst (λ v. HoldsList v list_id lines) exact
-      (subst (λ m. HoldsList (with_list (free_id old.active) entries old) m lines) (sym id_is)
-      (subst (HoldsList (with_list (free_id old.active) entries old) (free_id old.active)) lines_are (added_holds old entries sound)))
+  pub is_held : HoldsList (parts_view q) list_id lines
+  is_held = subst (λ v. HoldsList v list_id lines) (sym added)
+      (subst (HoldsList (with_list list_id entries (parts_view p)) list_id) lines_are (added_holds (parts_view p) list_id entries sound fresh))
 
-  pub are_registered : {A : Type 0} (before after : List (Vec Metadata A)) → AreRegistered before old
-      → ((number : ℕ) → bodies_of_number number (registered_at after list_id) ≡ bodies_defined number (numbered_lines new.names entries))
-      → ((other : ℕ) → other ≢ list_id → registered_at after other ≡ registered_at before other) → AreRegistered after new
-  are_registered before after known own others other number =
-      subst (λ (v : Collection). is_active v.active other ≡ true → bodies_of_list other (definitions_of v number)
-      ≡ bodies_of_number number (registered_at after other)) exact
-      (λ on. ⊎_elim
-      (λ (same : other ≡ list_id).
-      ap (λ k. bodies_of_list k (definitions_of (with_list (free_id old.active) entries old) number)) (same ∙ id_is)
-      ∙ added_own old entries sound number
-      ∙ ap (bodies_defined number) (lines_are ∙ numbered_is)
-      ∙ sym (own number) ∙ ap (λ k. bodies_of_number number (registered_at after k)) (sym same))
-      (λ (apart : other ≢ list_id).
-      let new_id : other ≢ free_id old.active = λ e. apart (e ∙ sym id_is) in
-      added_other old entries sound other number new_id
-      ∙ known other number (sym (is_active_other old.active (free_id old.active) other (free_within old.active) new_id) ∙ on)
-      ∙ ap (bodies_of_number number) (sym (others other apart)))
-      (cases_eq other list_id))
-
-  pub are_held : StayRegistered now new
-  are_held other es h =
-      subst (λ v. HoldsList v other es) exact (added_keeps old entries sound other es (subst (λ v. HoldsList v other es) (sym is) h))
-
--- the lists that are registered after one is removed
-pub left_registered : {A : Type 0} (before after : List (Vec Metadata A)) (old : Collection) (gone : ℕ) → is_active old.active gone ≡ true
-    → AreRegistered before old → ((other : ℕ) → other ≢ gone → registered_at after other ≡ registered_at before other)
-    → AreRegistered after (without_list gone old)
-left_registered before after old gone own known others other number on =
-    ⊎_elim
-    (λ (same : other ≡ gone). absurd (true≢false (sym on ∙ ap (is_active (set old.active gone false)) same
-    ∙ get_or-set_same old.active gone false false (active_below old.active gone own))))
-    (λ (apart : other ≢ gone). removed_other old gone other number apart
-    ∙ known other number (sym (get_or-set_other old.active gone other false false apart) ∙ on)
-    ∙ ap (bodies_of_number number) (sym (others other apart)))
-    (cases_eq other gone)
+  pub are_held : StayRegistered now (parts_view q)
+  are_held other es h = subst (λ v. HoldsList v other es) (sym added)
+      (added_keeps (parts_view p) list_id entries sound fresh other es (subst (λ v. HoldsList v other es) (sym is) h))

@@ -4,7 +4,7 @@
 //! Each list is registered under a list id that no other registered list has. A definition belongs to a list, and is
 //! removed with it.
 ghost use Rattle.std.specs.Prelude.{◌≡◌, true, false, ◌<◌, ◌↔◌, length, All, Some, None, nat_lt, if◌then◌else◌, option_map, IfOk, OnOk, OnErr, IfSome, IsSome, IsTrue, slice_get, option_copied};
-ghost use Rattle.attr_lists.specs.Definitions.{macro_body, is_active, free_id, with_list, without_list, HoldsList, IsSoundCollection};
+ghost use Rattle.attr_lists.specs.Definitions.{macro_body, is_registered, with_list, without_list, HoldsList, IsSoundCollection};
 ghost use Rattle.attr_lists.specs.shared.Keeping.{StayRegistered, OthersStayRegistered, IsNumbered};
 ghost use Rattle.attr_lists.specs.shared.MacroNumbers.{ListsMacros};
 ghost use Rattle.std.specs.Iterator.{YieldsFirstBy, item_count};
@@ -23,7 +23,7 @@ mod recent_numbers;
 mod registered;
 
 use crate::name_table::name_set::NameSet;
-use crate::name_table::parts::{Parts, free_id, is_set};
+use crate::name_table::parts::Parts;
 use crate::name_table::recent_numbers::RecentNumbers;
 use crate::types::{Metadata, Value};
 use attr_glob::search::pattern::Mapping;
@@ -59,9 +59,7 @@ impl NameTable {
             parts: Parts {
                 names: NameSet::new(alloc),
                 entries: Vec::new(alloc),
-                active: Vec::new(alloc),
-                free_from: 0,
-                registered: Vec::new(alloc),
+                lists: Vec::new(alloc),
                 macros: BTreeSet::new(alloc),
             },
         }
@@ -128,8 +126,9 @@ impl NameTable {
         Some((name, entry.metadata()))
     }
 
-    /// Registers a list and returns its list id, the least that is free. The list's new names get the next numbers,
-    /// and its items and macros get the numbers of their names. Its definitions come after those of the other lists.
+    /// Registers a list and returns its list id, which no registered list has. The list's new names get the next
+    /// numbers, and its items and macros get the numbers of their names. Its definitions come after those of the other
+    /// lists.
     ///
     /// # Errors
     ///
@@ -140,8 +139,7 @@ impl NameTable {
         mappings: &mut [Mapping<Value>],
     ) -> Result<usize, AllocError>
         requires { macros_valid (entries_view mappings.old) ≡ true }
-        ensures list_id { IfOk result (λ list_id. list_id ≡ free_id self.old.active) }
-        ensures fresh { IfOk result (λ list_id. is_active self.old.active list_id ≡ false) }
+        ensures fresh { IfOk result (λ list_id. is_registered self.old list_id ≡ false) }
         ensures added { IfOk result (λ list_id. self.new
             ≡ with_list list_id (entries_view mappings.old) self.old) }
         ensures numbered { OnOk result (entries_view mappings.new
@@ -156,12 +154,13 @@ impl NameTable {
         ensures err { OnErr result (self.new ≡ self.old) }
         ensures err_list { OnErr result (mappings.new ≡ mappings.old) }
     {
+        let Some(list_id) = registered::next_id(&self.parts.lists) else {
+            return Err(AllocError);
+        };
         let count = self.parts.entries.len();
-        let list_id = free_id(&self.parts.active, self.parts.free_from);
         let mut recent = RecentNumbers::new();
         match self.parts.insert(alloc, &mut recent, list_id, mappings) {
             Ok(()) => {
-                self.parts.free_from = list_id;
                 numbers::number_list(&self.parts.names, &mut recent, mappings);
                 Ok(list_id)
             }
@@ -172,33 +171,24 @@ impl NameTable {
         }
     }
 
-    /// Removes the list with this list id and its definitions. Each name then has the body of the last definition that is left,
-    /// and keeps its number. It takes no memory. It takes a step for each line. If a list that was added later defines one of the
-    /// names too, it also sorts the list's macros, and takes a step for each definition of each of them. Other names are not
-    /// looked at.
-    pub fn remove(&mut self, list_id: usize, mappings: &[Mapping<Value>])
-        requires { HoldsList self.old list_id (entries_view mappings.now) }
+    /// Removes the list with this list id, if there is one, and its definitions. Each name then has the body of the last
+    /// definition that is left, and keeps its number. It takes no memory. The list is found by halving, and so are its
+    /// definitions of each macro, of which those of later lists are moved. Other names are not looked at.
+    pub fn remove(&mut self, list_id: usize)
         ensures removed { self.new ≡ without_list list_id self.old }
         ensures others { OthersStayRegistered list_id self.old self.new }
         ensures sound { IsSoundCollection self.new }
     {
-        let (names, entries) = (&self.parts.names, &mut self.parts.entries);
-        let registered = &mut self.parts.registered;
-        entry::remove_list(names, entries, registered, list_id, mappings);
-        let macros = &mut self.parts.macros;
-        macros::remove_macros(names, &self.parts.entries, macros, mappings);
-        self.parts.active[list_id] = false;
-        self.parts.free_from = self.parts.free_from.min(list_id);
+        self.parts.remove(list_id);
     }
 
     /// Whether the list is registered under the list id: for each name, the definitions under the list id are, in their order,
     /// those of the list. It takes no memory. It takes a step for each line. A list that isn't as registered takes more: for each
-    /// line of it or of the registered list that defines a macro, a step for each definition of the macro and one for each line.
-    /// Other names are not looked at.
+    /// line of it or of the registered list that defines a macro, a step for each line of both. Other names are not looked at.
     pub fn holds(&self, list_id: usize, mappings: &[Mapping<Value>]) -> bool
         ensures { IsTrue result ↔ HoldsList self.now list_id (entries_view mappings.now) }
     {
-        is_set(&self.parts.active, list_id) && self.parts.has_list(list_id, mappings)
+        self.parts.holds(list_id, mappings)
     }
 
     /// A copy, with the lists that are registered.
@@ -212,16 +202,13 @@ impl NameTable {
     {
         let names = self.parts.names.clone(alloc)?;
         let entries = entry::clone_entries(alloc, &self.parts.entries)?;
-        let active = Vec::from_slice(alloc, &self.parts.active)?;
-        let registered = registered::clone_registered(alloc, &self.parts.registered)?;
+        let lists = registered::clone_lists(alloc, &self.parts.lists)?;
         let macros = self.parts.macros.clone()?;
         Ok(NameTable {
             parts: Parts {
                 names,
                 entries,
-                active,
-                free_from: self.parts.free_from,
-                registered,
+                lists,
                 macros,
             },
         })

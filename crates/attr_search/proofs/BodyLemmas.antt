@@ -1,10 +1,11 @@
 -- How bodies grow and change.
+use Rattle.std.proofs.lemmas.Bool.Decides.{nat_tests}
 use Rattle.std.proofs.Common.{◌≡◌, ℕ, ◌+◌, ◌-◌, ◌<◌, ◌≤◌, List, [], ◌∷◌, ◌++◌, length, length-take, set, take, replicate, All, Vec, append_assoc}
 use Rattle.std.proofs.Common.{Bool, false, Result, Ok, Err, is_err, length-append, refl, sym, ap, ◌∙◌, arith}
 use Rattle.std.specs.Global.{Global}
 use Rattle.std.specs.Result.{OnOk}
 use Rattle.std.proofs.lemmas.List.{length-replicate, take-map, length-map, length-set, map_push, map-set, replicate_more, take-append-le}
-use Rattle.std.proofs.lemmas.List.Elements.{All-same, All-tail, All-weaker}
+use Rattle.std.proofs.lemmas.List.Elements.{All-same, All-tail}
 use Rattle.attr_lists.specs.declared.types.TrackedAssignment.{TrackedAssignment}
 use Rattle.attr_search.specs.declared.bodies.BodyChange.{BodyChange}
 use Rattle.attr_search.specs.shared.BodyChanges.{changed_bodies, sized_bodies}
@@ -21,17 +22,13 @@ grown_more old now after body n empty pushed so_far =
 
 -- what there was stays in front
 pub kept_more : {X : Type 0} (old now after : List X) (x : X) → after ≡ now ++ x ∷ [] → take (length old) now ≡ old → take (length old) after ≡ old
-kept_more old now after x pushed kept =
-    let le : length old ≤ length now = omega (arith, ap length kept, length-take (length old) now) in
-    ap (take (length old)) pushed ∙ take-append-le (length old) now (x ∷ []) le ∙ kept
+kept_more old now after x pushed kept = grind (arith, nat_tests, length-take, take-append-le)
 
 -- one change is made, and the others are left
 pub change_made : (left rest : List BodyChange) (change : BodyChange) (bodies : List (Vec TrackedAssignment Global))
     (made : List (List TrackedAssignment)) → left ≡ change ∷ rest → changed_bodies left (bodies_view bodies) ≡ made →
     changed_bodies rest (bodies_view (set bodies change.number change.body)) ≡ made
-change_made left rest change bodies made e told =
-    ap (changed_bodies rest) (map-set (λ b. b.items) bodies change.number change.body)
-    ∙ sym (ap (λ l. changed_bodies l (bodies_view bodies)) e) ∙ told
+change_made left rest change bodies made e told = grind (arith, nat_tests, map-set)
 
 pub change_below : (left rest : List BodyChange) (change : BodyChange) (bodies : List (Vec TrackedAssignment Global)) → left ≡ change ∷ rest →
     All (λ c. c.number < length bodies) left → All (λ c. c.number < length (set bodies change.number change.body)) rest
@@ -48,26 +45,11 @@ told_ok (Err x) b e is h = absurd cc
 pub cut_sized : (old grown cut : List (Vec TrackedAssignment Global)) (bodies : List (List TrackedAssignment)) (count n : ℕ) → count ≡ n →
     bodies_view old ≡ bodies → bodies_view grown ≡ bodies_view old ++ replicate (count - length old) [] → cut ≡ take count grown →
     bodies_view cut ≡ sized_bodies n bodies
-cut_sized old grown cut bodies count n counted same grows is =
-    let len : length old ≡ length (bodies_view old) = sym (length-map old (λ b. b.items)) in
-    ap bodies_view is ∙ sym (take-map (λ b. b.items) count grown)
-    ∙ ap (take count) (grows ∙ ap (λ k. bodies_view old ++ replicate (count - k) []) len) ∙ ap (sized_bodies count) same
-    ∙ ap (λ k. sized_bodies k bodies) counted
+cut_sized old grown cut bodies count n counted same grows is = grind (arith, nat_tests, length-map, take-map)
 
 pub length_sized : (count : ℕ) (bodies : List (List TrackedAssignment)) → length (sized_bodies count bodies) ≡ count
-length_sized count bodies =
-    let all = bodies ++ replicate (count - length bodies) [] in
-    let len : length all ≡ length bodies + (count - length bodies) = length-append bodies (replicate (count - length bodies) []) ∙ ap
-    (λ k. length bodies + k) (length-replicate (count - length bodies) []) in
-    omega (arith, length-take count all)
+length_sized count bodies = grind (arith, nat_tests, length-append, length-replicate, length-take)
 
 pub length_changed : (changes : List BodyChange) (bodies : List (List TrackedAssignment)) → length (changed_bodies changes bodies) ≡ length bodies
 length_changed [] bodies = refl
-length_changed (c ∷ changes) bodies =
-    length_changed changes (set bodies c.number c.body.items) ∙ length-set bodies c.number c.body.items
-
-pub all_below : (changes : List BodyChange) (cut : List (Vec TrackedAssignment Global)) (bodies : List (List TrackedAssignment)) (n : ℕ) →
-    bodies_view cut ≡ sized_bodies n bodies → All (λ c. c.number < n) changes → All (λ c. c.number < length cut) changes
-all_below changes cut bodies n same below =
-    let len : length cut ≡ n = sym (length-map cut (λ b. b.items)) ∙ ap length same ∙ length_sized n bodies in
-    All-weaker (λ c. c.number < n) (λ c. c.number < length cut) (λ c lt. omega arith) changes below
+length_changed (c ∷ changes) bodies = grind (arith, nat_tests, length-set, length_changed changes)

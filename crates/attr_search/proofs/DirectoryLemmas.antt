@@ -1,7 +1,6 @@
 -- The lists that apply to a path are found by the keys of its directories.
 use Rattle.std.proofs.Common.{◌≡◌, ◌≢◌, ◌&&◌, map, not, ℕ, zero, suc, ◌+◌, ◌-◌, ◌<◌, ◌≤◌, inl, inr, Bool, true, false, List, [], ◌∷◌, ◌++◌, length}
-use Rattle.std.proofs.Common.{get_or, take, drop, min}
-use Rattle.std.proofs.Common.{Option, Some, None, refl, sym, ap, subst, ◌∙◌, arith}
+use Rattle.std.proofs.Common.{get_or, take, drop, min, Option, Some, None, refl, sym, ap, subst, ◌∙◌, arith}
 use Rattle.std.specs.Prelude.{Contains, MatchOption, ⊤, option_map, slice_get, slice_index, if◌then◌else◌}
 use Rattle.std.specs.Char.{is_ascii_uppercase, to_ascii_lowercase}
 use Rattle.std.specs.List.{list_any}
@@ -12,8 +11,9 @@ use Rattle.std.proofs.lemmas.Bool.Decides.{eqb_tells, leb_tells, nat_tests}
 use Rattle.std.proofs.lemmas.List.Elements.{Contains-get_or}
 use Rattle.std.proofs.lemmas.List.Sorted.{IsNonDecreasingBy-from_default}
 use Rattle.std.proofs.lemmas.List.{get_or-map, get_or_append_left, get_or-take, length-append, length-map, length-take, map-append, take-map}
+use Rattle.std.proofs.lemmas.List.{take-take}
 use Rattle.std.proofs.lemmas.List.Sums.{fold-append}
-use Rattle.std.proofs.lemmas.Option.{slice_get-map, slice_get_within}
+use Rattle.std.proofs.lemmas.Option.{slice_get-map, slice_get_within, same_Some}
 use Rattle.std.proofs.lemmas.Bool.{eqb-true, or_parts}
 use Rattle.std.proofs.lemmas.Cmp.{nat_eq_equiv}
 use Rattle.std.proofs.lemmas.Map.Views.{Contains-from_any, list_any-from_Contains}
@@ -26,12 +26,11 @@ use Rattle.attr_wildmatch.specs.declared.case.Case.{Case}
 use Rattle.attr_wildmatch.specs.declared.case.Case.TheVariants.{Sensitive, Fold}
 use Rattle.attr_search.specs.declared.indexed_list.IndexedList.{IndexedList}
 use Rattle.attr_search.specs.inner.BaseKeys.{HaveRoots, base_keys, is_rooted, key_in, longest_base, text_of_base}
-use Rattle.attr_search.proofs.KeyedLemmas.{below_or, get_front, get_seam, some_inside}
+use Rattle.attr_search.proofs.KeyedLemmas.{below_or, get_front, get_seam}
 use Rattle.attr_search.specs.inner.Counting.{CountUp}
 use Rattle.attr_search.specs.inner.FoundLists.{AreListsFor}
 use Rattle.attr_wildmatch.specs.Slashes.{ends_in_slash}
-use Rattle.attr_search.specs.inner.DirectoryKeys.{GathersDirectories, HasNumbersOf, Includes, base_text, keys_of}
-use Rattle.attr_search.specs.inner.DirectoryKeys.{short_key, text_key}
+use Rattle.attr_search.specs.inner.DirectoryKeys.{GathersDirectories, HasNumbersOf, Includes, base_text, keys_of, short_key, text_key}
 use Rattle.attr_search.specs.declared.directory_keys.BaseKeys.{BaseKeys}
 
 -- what lists have, after one more and after one less
@@ -50,16 +49,12 @@ mapped_popped f keys all xs x is whole =
 pub longest_pushed : (lists : List IndexedList) (list : IndexedList) (longest : ℕ) → longest_base lists ≤ longest →
     length (text_of_base list) ≤ longest → longest_base (lists ++ list ∷ []) ≤ longest
 longest_pushed [] list longest le own = omega (arith, own)
-longest_pushed (l ∷ lists) list longest le own =
-    let rest = longest_pushed lists list longest (omega (arith, le)) own in
-    omega (arith, le, rest)
+longest_pushed (l ∷ lists) list longest le own = grind (arith, nat_tests, longest_pushed lists list longest)
 
 pub longest_popped : (lists : List IndexedList) (list : IndexedList) (longest : ℕ) → longest_base (lists ++ list ∷ []) ≤ longest →
     longest_base lists ≤ longest
 longest_popped [] list longest le = omega arith
-longest_popped (l ∷ lists) list longest le =
-    let rest = longest_popped lists list longest (omega (arith, le)) in
-    omega (arith, le, rest)
+longest_popped (l ∷ lists) list longest le = grind (arith, nat_tests, longest_popped lists list longest)
 
 pub root_found : (lists : List IndexedList) (roots : List ℕ) (number : ℕ) (list : IndexedList) → HaveRoots lists roots →
     slice_get lists number ≡ Some list → is_rooted list ≡ true → Contains roots number
@@ -73,7 +68,7 @@ roots_pushed lists list roots more have kept own = λ number other has rooted.
     list_any-from_Contains nat_eq_equiv number more (elim (below_or number (length lists) (omega (arith, lt, long))) [
       | inl less ↦ kept number (root_found lists roots number other have (sym (get_front lists (list ∷ []) number less) ∙ has) rooted)
       | inr same ↦
-          let is = some_inside list other (sym (get_seam lists list []) ∙ ap (slice_get (lists ++ list ∷ [])) (sym same) ∙ has) in
+          let is = same_Some list other (sym (get_seam lists list []) ∙ ap (slice_get (lists ++ list ∷ [])) (sym same) ∙ has) in
           subst (Contains more) (sym same) (own (ap is_rooted is ∙ rooted))
     ])
 
@@ -89,8 +84,7 @@ roots_popped all lists last roots fewer whole have kept = λ number list has roo
 pub one_within : (lists : List IndexedList) (number : ℕ) (list : IndexedList) (longest : ℕ) → slice_get lists number ≡ Some list →
     longest_base lists ≤ longest → length (text_of_base list) ≤ longest
 one_within [] number list longest is le = let none = slice_get_within [] number list is in absurd (omega (arith, none))
-one_within (l ∷ lists) zero list longest is le =
-    subst (λ (x : IndexedList). length (text_of_base x) ≤ longest) (some_inside l list is) (omega (arith, le))
+one_within (l ∷ lists) zero list longest is le = grind (arith, nat_tests, same_Some)
 one_within (l ∷ lists) (suc number) list longest is le = one_within lists number list longest is (omega (arith, le))
 
 -- a hasher that has a text's first part, and then the part up to an offset
@@ -107,11 +101,7 @@ hashed_none hasher is = is
 
 -- the key of a text that is not short
 pub key_of_long : (text : List ℕ) → 8 < length text → text_key text ≡ sip.finish (sip.write sip.initial text)
-key_of_long text long =
-    elim (leb_tells (length text) 8) [
-      | inl short ↦ let few = short.1 in absurd (omega (arith, few, long))
-      | inr other ↦ ap (λ b. if b then short_key text else sip.finish (sip.write sip.initial text)) other.0
-    ]
+key_of_long text long = grind (arith, nat_tests, leb_tells)
 
 -- one more offset
 pub gathered_on : (keys text : List ℕ) (k : ℕ) (found more : List ℕ) → GathersDirectories keys text k found → Includes found more →
@@ -136,15 +126,11 @@ one_small b other = grind (arith, nat_tests)
 
 pub small_same : (text : List ℕ) → list_any is_ascii_uppercase text ≡ false → folded Fold text ≡ text
 small_same [] none = refl
-small_same (b ∷ bs) none =
-    let both = or_parts (is_ascii_uppercase b) (list_any is_ascii_uppercase bs) none in
-    ap (λ s. s ∷ folded Fold bs) (one_small b both.0) ∙ ap (λ ss. b ∷ ss) (small_same bs both.1)
+small_same (b ∷ bs) none = grind (arith, nat_tests, or_parts, one_small, small_same bs)
 
 pub same_keys : (base : List ℕ) (key : ℕ) → key ≡ text_key base → list_any is_ascii_uppercase base ≡ false →
     record { spelled = key; folded = key } ≡ keys_of base
-same_keys base key is none =
-    ap (λ k. record { spelled = k; folded = k }) is
-    ∙ ap (λ small. record { spelled = text_key base; folded = text_key small }) (sym (small_same base none))
+same_keys base key is none = grind (arith, nat_tests, small_same)
 
 length-folded : (case : Case) (text : List ℕ) → length (folded case text) ≡ length text
 length-folded Sensitive text = refl
@@ -163,12 +149,6 @@ key_of : (case : Case) (list : IndexedList) → list.base_keys ≡ keys_of (text
     → key_in case list ≡ text_key (folded case (text_of_base list))
 key_of Sensitive list is = ap (λ (keys : BaseKeys). keys.spelled) is
 key_of Fold list is = ap (λ (keys : BaseKeys). keys.folded) is
-
-take_less : {X : Type 0} (p m : ℕ) (xs : List X) → p ≤ m → take p (take m xs) ≡ take p xs
-take_less zero m xs le = refl
-take_less (suc p) zero xs le = absurd (omega (arith, le))
-take_less (suc p) (suc m) [] le = refl
-take_less (suc p) (suc m) (x ∷ xs) le = ap (λ ys. x ∷ ys) (take_less p m xs (omega (arith, le)))
 
 -- where a text has a directory
 pub record EndsAt (directory text : List ℕ) : Type 0 where
@@ -198,7 +178,7 @@ base_ends (Some (b ∷ bs)) case path rest longest le ends is =
     let size = length-folded case (take m path) ∙ length-take m path in
     let back : length base ≡ length base - 1 + 1 = omega arith in
     let whole : folded case base ≡ take (length base) front =
-    same ∙ ap (folded case) (sym (take_less (length base) m path fits)) ∙ sym (take-folded case (length base) (take m path)) in
+    same ∙ ap (folded case) (sym (take-take (length base) m path fits)) ∙ sym (take-folded case (length base) (take m path)) in
     let below : length base - 1 < length base = omega arith in
     record {
       offset = length base - 1;
@@ -248,8 +228,7 @@ few_counted zero le = none_counted
 few_counted (suc zero) le = count_on 0 [] none_counted
 few_counted (suc (suc zero)) le = count_on 1 (0 ∷ []) (count_on 0 [] none_counted)
 few_counted (suc (suc (suc zero))) le = count_on 2 (0 ∷ 1 ∷ []) (count_on 1 (0 ∷ []) (count_on 0 [] none_counted))
-few_counted (suc (suc (suc (suc zero)))) le =
-    count_on 3 (0 ∷ 1 ∷ 2 ∷ []) (count_on 2 (0 ∷ 1 ∷ []) (count_on 1 (0 ∷ []) (count_on 0 [] none_counted)))
+few_counted (suc (suc (suc (suc zero)))) le = grind (arith, nat_tests, count_on, none_counted)
 few_counted (suc (suc (suc (suc (suc n))))) le = absurd (omega (arith, le))
 
 -- all lists are found by the numbers below their count

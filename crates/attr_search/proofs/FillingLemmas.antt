@@ -1,36 +1,33 @@
 -- What filling slots by numbered items reads and writes, in the terms of the table.
-use Rattle.std.proofs.Common.{◌≡◌, ℕ, ◌+◌, ◌<◌, ◌≤◌, min, List, [], ◌∷◌, ◌++◌, length, get_or, set, take, map, Option, Some, None, refl, sym, ap}
+use Rattle.std.proofs.lemmas.Bool.Decides.{nat_tests}
+use Rattle.std.proofs.Common.{◌≡◌, ℕ, ◌+◌, ◌<◌, ◌≤◌, List, [], ◌∷◌, ◌++◌, length, get_or, set, take, map, Option, Some, None, refl, sym, ap}
 use Rattle.std.proofs.Common.{subst, ◌∙◌, ⊎_elim, arith, Bool, true, false}
-use Rattle.std.specs.Prelude.{is_some, option_map, not, ◌==◌, All, slice_get, slice_index_or}
+use Rattle.std.specs.Prelude.{is_some, not, ◌==◌, All, Vec, slice_index_or}
+use Rattle.std.specs.Global.{Global}
 use Rattle.std.proofs.Math.ListN
 use Rattle.std.proofs.lemmas.Bool.{false≢true, cases_eq, eq-eqb, ne_eqb, cases_lt}
-use Rattle.std.proofs.lemmas.List.{map-append, take_more, append-nil, length-append, get_or_past, get_or-set_same, get_or-set_other}
+use Rattle.std.proofs.lemmas.List.{map-append, take_more, append-nil, length-append, get_or_past, get_or-set_same, get_or-set_other, length-set}
 use Rattle.std.proofs.lemmas.List.{get_or_default}
 use Rattle.std.proofs.lemmas.List.Elements.{All-push}
 use mathlib.Core.Path.{fun_ext}
 use Rattle.attr_lists.specs.declared.types.TrackedAssignment.{TrackedAssignment}
-use Rattle.attr_table.specs.Setting.{Item, Origin, Answer, body_of}
+use Rattle.attr_table.specs.Setting.{Item, Origin, body_of}
 use Rattle.attr_table.specs.Table.{Slots}
-use Rattle.attr_table.specs.Cut.{is_done, is_filled}
-use Rattle.attr_table.specs.Skipped.{narrowed}
-use Rattle.attr_table.specs.shared.Walk.{Task, expands, tasks_in, free_items, fill, left_in, Searches}
-use Rattle.attr_table.proofs.ForCallers.{backwards-append}
-use Rattle.attr_table.proofs.ForCallers.{length-tasks_in}
-use Rattle.attr_table.proofs.ForCallers.{top, length-free, row_searched, taken_skip, taken_closed, taken_open, left_in-less, left_in-open}
-use Rattle.attr_table.proofs.ForCallers.{tasks_push, tasks_pass}
+use Rattle.attr_table.specs.Cut.{is_filled}
+use Rattle.attr_table.specs.shared.Walk.{Task, expands, tasks_in, free_items, fill, Searches}
+use Rattle.attr_table.proofs.ForCallers.{backwards-append, length-tasks_in, top, length-free, row_searched, taken_skip, taken_closed, taken_open}
+use Rattle.attr_table.proofs.ForCallers.{left_in-less, left_in-open, tasks_push, tasks_pass}
 use Rattle.attr_search.specs.declared.pending_item.PendingItem.{PendingItem}
-use Rattle.attr_search.specs.Slots.{SkipsSlots, Matched, is_needed, table_item, table_items, table_answer, table_state, slots_of}
+use Rattle.attr_search.specs.Slots.{Matched, is_needed, table_item, table_items, table_state, slots_of}
 use Rattle.attr_search.specs.shared.SlotContents.{SlotContents, open_slots, wanted_numbers}
 use Rattle.attr_search.proofs.OpenLemmas.{open_needed}
-use Rattle.attr_search.specs.Settings.{HaveSlots, BodiesAreNamed, HeldAreNamed}
-use Rattle.attr_search.specs.shared.Slotted.{BodiesHaveSlots}
+use Rattle.attr_search.specs.Settings.{HaveSlots}
 use Rattle.attr_lists.specs.Numbers.{AreNamed}
 use Rattle.attr_search.specs.declared.matching_line.MatchingLine.{MatchingLine}
 use Rattle.attr_search.specs.declared.slot_filler.SlotFiller.{SlotFiller}
-use Rattle.attr_lists.specs.declared.types.MatchKind.{MatchKind}
-use Rattle.attr_search.specs.Matches.{is_macro_kind, cause_of}
-use Rattle.attr_search.specs.inner.Filling.{BodiesFit, KeepsFiller}
-use Rattle.attr_search.specs.inner.Pending.{item_answer, line_origin, items_beside, pending_item, IsInside, task_of, pending_tasks, no_item}
+use Rattle.attr_search.specs.inner.Filling.{AtLine, BodiesFit, FillsNamed, KeepsFiller, Processes, filler_slots, item_task, most_left, stack_tasks}
+use Rattle.attr_search.specs.inner.Pending.{PushesFree, item_answer, line_origin, items_beside, pending_item, IsInside, task_of, pending_tasks}
+use Rattle.attr_search.specs.inner.Pending.{no_item, table_bodies}
 
 -- a test and its denial
 free_of : (x : Bool) → true ≡ not x → x ≡ false
@@ -46,230 +43,161 @@ pub body_table : (bs : List (List TrackedAssignment)) (a : ℕ) →
     body_of (map table_items bs) a ≡ table_items (slice_index_or bs a [])
 body_table bs a = ListN.get_or-map table_items bs a []
 
-is_filled-table : (items : List TrackedAssignment) (empty : Bool) → empty ≡ (length items == 0) →
-    not empty ≡ is_filled (table_items items)
-is_filled-table [] empty e = rw e refl
-is_filled-table (i ∷ items) empty e =
-    let d = ne_eqb (length (i ∷ items)) 0 (λ (f : length (i ∷ items) ≡ 0). omega arith) in rw (e, d) refl
+-- what holds of the items of the line and of each body holds of the items among which one waits
+beside : (P : List TrackedAssignment → Type 0) (line : List TrackedAssignment) (bs : List (List TrackedAssignment)) (cause : Option ℕ) →
+    P [] → P line → All P bs → P (items_beside line bs cause)
+beside P line bs None none h b = h
+beside P line bs (Some a) none h b = grind (arith, nat_tests, get_or_past, cases_lt)
 
--- a slot that a task fills
-pub fill_is : (bs : List (List TrackedAssignment)) (origin : Origin) (line body : List TrackedAssignment) (top : PendingItem)
-    (item : TrackedAssignment) (empty : Bool) (held new : List (Option Matched)) →
-    item ≡ pending_item line bs top → item.id.0 < length held → body ≡ slice_index_or bs item.id.0 [] →
-    empty ≡ (length body == 0) →
-    new ≡ set held item.id.0 (Some (record {
-      origin = origin;
-      assignment = item.inner;
-      is_macro = not empty;
-      cause = top.cause;
-    })) → slots_of new ≡ fill (map table_items bs) (task_of origin line bs top) (slots_of held)
-fill_is bs origin line body top item empty held new is lt bodied e written = fun_ext at
-  where
-    m : Matched
-    m = record { origin = origin; assignment = item.inner; is_macro = not empty; cause = top.cause }
+pub has_slot : (line : MatchingLine) (top : PendingItem) (item : TrackedAssignment) (filler : SlotFiller) → AtLine line filler →
+    IsInside line.items.now filler.slots.bodies top → item ≡ pending_item line.items.now filler.slots.bodies top →
+    item.id.0 < length filler.slots.answers
+has_slot line top item filler at inside is =
+    rw is (beside (HaveSlots (length filler.slots.answers)) line.items.now filler.slots.bodies top.cause (λ k d lt. absurd (omega arith))
+    at.can_fill.in_line at.can_fill.bodies.in_bodies top.index no_item inside)
 
-    filled : not empty ≡ is_filled (body_of (map table_items bs) item.id.0)
-    filled =
-        is_filled-table body empty e
-        ∙ ap (λ (b : List TrackedAssignment). is_filled (table_items b)) bodied
-        ∙ ap (λ (b : List Item). is_filled b) (sym (body_table bs item.id.0))
+is_filled-table : (items : List TrackedAssignment) → not (length items == 0) ≡ is_filled (table_items items)
+is_filled-table [] = refl
+is_filled-table (i ∷ items) = let d = ne_eqb (length (i ∷ items)) 0 (λ (f : length (i ∷ items) ≡ 0). omega arith) in rw d refl
 
-    given : ℕ → Option Answer
-    given a =
-        Some (record {
-          origin = origin;
-          assignment = record { attribute = item.id.0; state = table_state item.inner.state };
-          is_macro = is_filled (body_of (map table_items bs) item.id.0);
-          cause = top.cause;
-        })
+-- The free slot of an item that waits was filled by the item.
+pub record FillsItem (line : MatchingLine) (top : PendingItem) (item : TrackedAssignment) (held new : SlotContents) : Type 0 where
+  pub is : item ≡ pending_item line.items.now held.bodies top
+  pub inside : IsInside line.items.now held.bodies top
+  pub within : (pending_item line.items.now held.bodies top).id.0 < length held.answers
+  pub free : is_some (open_slots held (pending_item line.items.now held.bodies top).id.0) ≡ false
+  pub written : new.answers ≡ set held.answers (pending_item line.items.now held.bodies top).id.0
+      (Some (item_answer line held.bodies (pending_item line.items.now held.bodies top) top.cause))
+  pub wanted : new.wanted ≡ held.wanted
+  pub needed : new.needed ≡ held.needed
+  pub bodies : new.bodies ≡ held.bodies
 
-    same : option_map (table_answer item.id.0) (Some m) ≡ given 0
-    same = rw filled refl
+pub fills_item : (line : MatchingLine) (top : PendingItem) (item : TrackedAssignment) (filler : SlotFiller) (new : SlotContents) →
+    AtLine line filler → IsInside line.items.now filler.slots.bodies top → item ≡ pending_item line.items.now filler.slots.bodies top →
+    true ≡ not (is_some (open_slots filler.slots item.id.0)) →
+    new.answers ≡ set filler.slots.answers item.id.0
+    (Some (item_answer line filler.slots.bodies (pending_item line.items.now filler.slots.bodies top) top.cause)) →
+    new.wanted ≡ filler.slots.wanted → new.needed ≡ filler.slots.needed → new.bodies ≡ filler.slots.bodies →
+    FillsItem line top item filler.slots new
+fills_item line top item filler new at inside is free written wanted needed bodies = record {
+  is = is;
+  inside = inside;
+  within = has_slot line top (pending_item line.items.now filler.slots.bodies top) filler at inside refl;
+  free = free_of (is_some (open_slots filler.slots (pending_item line.items.now filler.slots.bodies top).id.0)) (rw is at free);
+  written = rw is at written;
+  wanted = wanted;
+  needed = needed;
+  bodies = bodies;
+}
 
-    at : (a : ℕ) → slots_of new a ≡ fill (map table_items bs) (task_of origin line bs top) (slots_of held) a
-    at a =
-        ⊎_elim
-        (λ (f : a ≡ item.id.0).
-        let g = get_or-set_same held item.id.0 (Some m) None lt in
-        let n : (a == (pending_item line bs top).id.0) ≡ true = rw (← is) (rw f (eq-eqb item.id.0 item.id.0 refl)) in
-        rw (n, ← is, f, written, g) same)
-        (λ (ne : a ≡ item.id.0 → ⊥).
-        let g = get_or-set_other held item.id.0 a (Some m) None ne in
-        let n : (a == (pending_item line bs top).id.0) ≡ false = rw (← is) (ne_eqb a item.id.0 ne) in
-        rw (n, written, g) refl)
-        (cases_eq a item.id.0)
+item_opened : {line : MatchingLine} {top : PendingItem} {item : TrackedAssignment} {held new : SlotContents} → FillsItem line top item held new →
+    open_slots new ≡ fill (table_bodies held.bodies) (item_task line held.bodies top) (open_slots held)
+item_opened {line} {top} {item} {held} {new} p =
+    grind (arith, nat_tests, top, open_needed, is_filled-table, body_table, get_or-set_same, eq-eqb, get_or-set_other, ne_eqb, cases_eq)
 
-item_filled : (line : MatchingLine) (bs : List (List TrackedAssignment)) (top : PendingItem) (item : TrackedAssignment)
-    (held new : List (Option Matched)) → item ≡ pending_item line.items.now bs top → item.id.0 < length held →
-    new ≡ set held item.id.0 (Some (item_answer line bs item top.cause)) →
-    slots_of new ≡ fill (map table_items bs) (task_of (line_origin line) line.items.now bs top) (slots_of held)
-item_filled line bs top item held new is lt written =
-    let body = slice_index_or bs item.id.0 [] in
-    fill_is bs (line_origin line) line.items.now body top item (length body == 0) held new is lt refl refl written
+-- the rest is kept
+pub fills_kept : {line : MatchingLine} {top : PendingItem} {item : TrackedAssignment} (before after : SlotFiller) →
+    FillsItem line top item before.slots after.slots → KeepsFiller before after
+fills_kept {line} {top} before after p =
+    let held = before.slots in
+    let own = pending_item line.items.now held.bodies top in
+    let answer = item_answer line held.bodies own top.cause in
+    record {
+      wanted = p.wanted;
+      needed = p.needed;
+      len = ap length p.written ∙ length-set held.answers own.id.0 (Some answer);
+      bodies = p.bodies;
+      skipped = λ a skip.
+          let needed : is_needed held.needed own.id.0 ≡ true =
+          open_needed (is_needed held.needed) (slots_of held.answers) own.id.0 p.free in
+          let apart : a ≡ own.id.0 → ⊥ = λ e. absurd (false≢true (sym skip ∙ ap (is_needed held.needed) e ∙ needed)) in
+          ap (λ l. get_or l a None) p.written ∙ get_or-set_other held.answers own.id.0 a (Some answer) None apart;
+    }
 
--- what fills a needed slot fills it where others are skipped
-fill_narrowed : (bodies : List (List Item)) (t : Task) (needed : ℕ → Bool) (held new : Slots) → needed t.item.attribute ≡ true →
-    new ≡ fill bodies t held → narrowed needed new ≡ fill bodies t (narrowed needed held)
-fill_narrowed bodies t needed held new own filled = fun_ext at
-  where
-    at : (a : ℕ) → narrowed needed new a ≡ fill bodies t (narrowed needed held) a
-    at a =
-        ⊎_elim
-        (λ (same : a ≡ t.item.attribute).
-        let here : needed a ≡ true = ap needed same ∙ own in
-        let n : (a == t.item.attribute) ≡ true = eq-eqb a t.item.attribute same in
-        rw (here, filled, n) refl)
-        (λ (ne : a ≡ t.item.attribute → ⊥).
-        let n : (a == t.item.attribute) ≡ false = ne_eqb a t.item.attribute ne in
-        rw (filled, n) refl)
-        (cases_eq a t.item.attribute)
-
-pub item_opened : (line : MatchingLine) (bs : List (List TrackedAssignment)) (top : PendingItem) (item : TrackedAssignment)
-    (held new : SlotContents) → new.needed ≡ held.needed → true ≡ not (is_some (open_slots held item.id.0)) →
-    item ≡ pending_item line.items.now bs top → item.id.0 < length held.answers →
-    new.answers ≡ set held.answers item.id.0 (Some (item_answer line bs item top.cause)) →
-    open_slots new ≡ fill (map table_items bs) (task_of (line_origin line) line.items.now bs top) (open_slots held)
-item_opened line bs top item held new same free is lt written =
-    let t = task_of (line_origin line) line.items.now bs top in
-    let own : is_needed held.needed item.id.0 ≡ true =
-    open_needed (is_needed held.needed) (slots_of held.answers) item.id.0 (free_of (is_some (open_slots held item.id.0)) free) in
-    let taken : is_needed held.needed t.item.attribute ≡ true = ap (λ (i : TrackedAssignment). is_needed held.needed i.id.0) (sym is) ∙ own in
-    ap (λ flags. narrowed (is_needed flags) (slots_of new.answers)) same
-    ∙ fill_narrowed (map table_items bs) t (is_needed held.needed) (slots_of held.answers) (slots_of new.answers) taken
-    (item_filled line bs top item held.answers new.answers is lt written)
-
--- filling a slot that is open leaves those that are not needed as they are
-pub set_skips : (held new : SlotContents) (i : ℕ) (x : Option Matched) → new.answers ≡ set held.answers i x →
-    true ≡ not (is_some (open_slots held i)) → SkipsSlots held.needed held.answers new.answers
-set_skips held new i x written free a skip =
-    let own : is_needed held.needed i ≡ true =
-    open_needed (is_needed held.needed) (slots_of held.answers) i (free_of (is_some (open_slots held i)) free) in
-    let apart : a ≡ i → ⊥ = λ e. absurd (false≢true (sym skip ∙ ap (is_needed held.needed) e ∙ own)) in
-    ap (λ l. get_or l a None) written ∙ get_or-set_other held.answers i a x None apart
-
--- the slot of the item that waited was filled, and so that of the item which it is
-pub filled_as : (line : MatchingLine) (bs : List (List TrackedAssignment)) (w : PendingItem) (item : TrackedAssignment)
-    (held new : List (Option Matched)) → item ≡ pending_item line.items.now bs w →
-    new ≡ set held item.id.0 (Some (item_answer line bs (pending_item line.items.now bs w) w.cause)) →
-    new ≡ set held item.id.0 (Some (item_answer line bs item w.cause))
-filled_as line bs w item held new is written =
-    written ∙ ap (λ (i : TrackedAssignment). set held item.id.0 (Some (item_answer line bs i w.cause))) (sym is)
-
--- the items among which one waits have the names of their numbers
-named_source : (names : List (List ℕ)) (line : List TrackedAssignment) (bs : List (List TrackedAssignment)) (cause : Option ℕ) →
-    AreNamed names line → BodiesAreNamed names bs → AreNamed names (items_beside line bs cause)
-named_source names line bs None h b = h
-named_source names line bs (Some a) h b =
+pub fills_named : {line : MatchingLine} {top : PendingItem} {item : TrackedAssignment} (before : SlotFiller) (new : SlotContents) →
+    FillsItem line top item before.slots new → FillsNamed line.items.now before (record before { slots = new })
+fills_named {line} {top} before new p names h b held a =
+    let bs = before.slots.bodies in
+    let own = pending_item line.items.now bs top in
+    let answer = item_answer line bs own top.cause in
     ⊎_elim
-    (λ (lt : a < length bs). b a [] lt)
-    (λ (le : length bs ≤ a). let e = get_or_past bs a [] le in rw e (λ k d lt. absurd (omega arith)))
-    (cases_lt a (length bs))
-
--- and their slots
-slots_source : (n : ℕ) (line : List TrackedAssignment) (bs : List (List TrackedAssignment)) (cause : Option ℕ) →
-    HaveSlots n line → BodiesHaveSlots n bs → HaveSlots n (items_beside line bs cause)
-slots_source n line bs None h b = h
-slots_source n line bs (Some a) h b =
-    ⊎_elim
-    (λ (lt : a < length bs). b a [] lt)
-    (λ (le : length bs ≤ a). let e = get_or_past bs a [] le in rw e (λ k d lt. absurd (omega arith)))
-    (cases_lt a (length bs))
-
-pub has_slot : (n : ℕ) (line : List TrackedAssignment) (bs : List (List TrackedAssignment)) (w : PendingItem) (item : TrackedAssignment) →
-    HaveSlots n line → BodiesHaveSlots n bs → IsInside line bs w → item ≡ pending_item line bs w → item.id.0 < n
-has_slot n line bs w item h b inside is = rw is (slots_source n line bs w.cause h b w.index no_item inside)
-
-pub named_fill : (names : List (List ℕ)) (line : List TrackedAssignment) (bs : List (List TrackedAssignment)) (top : PendingItem)
-    (item : TrackedAssignment) (m : Matched) (held new : List (Option Matched)) →
-    item ≡ pending_item line bs top → IsInside line bs top → item.id.0 < length held → m.assignment ≡ item.inner →
-    new ≡ set held item.id.0 (Some m) →
-    AreNamed names line → BodiesAreNamed names bs → HeldAreNamed names held → HeldAreNamed names new
-named_fill names line bs top item m held new is inside lt said written h b before a =
-    ⊎_elim
-    (λ (f : a ≡ item.id.0).
-    let g = get_or-set_same held item.id.0 (Some m) None lt in
-    let named = named_source names line bs top.cause h b top.index no_item inside in
-    let named' : slice_get names item.id.0 ≡ Some item.inner.name = rw is named in
-    rw (written, f, g, said) named')
-    (λ (ne : a ≡ item.id.0 → ⊥).
-    let g = get_or-set_other held item.id.0 a (Some m) None ne in
-    rw (written, g) (before a))
-    (cases_eq a item.id.0)
+    (λ (f : a ≡ own.id.0).
+    let g = get_or-set_same before.slots.answers own.id.0 (Some answer) None p.within in
+    let named = beside (AreNamed names) line.items.now bs top.cause (λ k d lt. absurd (omega arith)) h b top.index no_item p.inside in
+    rw (p.written, f, g) named)
+    (λ (ne : a ≡ own.id.0 → ⊥).
+    let g = get_or-set_other before.slots.answers own.id.0 a (Some answer) None ne in
+    rw (p.written, g) (held a))
+    (cases_eq a own.id.0)
 
 -- the top of the stack is taken where its slot is filled
-pub step_skip : (bodies : List (List Item)) (bs : List (List TrackedAssignment)) (wanted : List ℕ) (origin : Origin) (line : List TrackedAssignment)
-    (w : PendingItem) (item : TrackedAssignment) (ts : List Task) (before after : Slots) (a b c : ℕ) →
-    item ≡ pending_item line bs w → false ≡ not (is_some (before item.id.0)) → b ≡ min (a + 1) top →
-    Searches bodies wanted ts before after b c →
-    Searches bodies wanted (task_of origin line bs w ∷ ts) before after a c
-step_skip bodies bs wanted origin line w item ts before after a b c is filled counted p =
-    taken_skip bodies wanted (task_of origin line bs w) ts before after a b c counted
-    (rw (← is) (filled_of (is_some (before item.id.0)) filled)) p
+pub skips_item : (line : MatchingLine) (top : PendingItem) (item : TrackedAssignment) (filler : SlotFiller) →
+    item ≡ pending_item line.items.now filler.slots.bodies top → false ≡ not (is_some (open_slots filler.slots item.id.0)) →
+    Processes line top filler filler
+skips_item line top item filler is filled undone final earlier later counted q =
+    let bs = filler.slots.bodies in
+    taken_skip (table_bodies bs) (wanted_numbers filler.slots.wanted) (item_task line bs top) (stack_tasks line bs filler.stack.items)
+    (filler_slots filler) final earlier filler.taken later counted (rw (← is) (filled_of (is_some (filler_slots filler item.id.0)) filled)) q
 
 -- where it fills its slot, and does not set its attribute
-pub step_closed : (bs : List (List TrackedAssignment)) (wanted : List ℕ) (origin : Origin) (line : List TrackedAssignment) (w : PendingItem)
-    (item : TrackedAssignment) (ts : List Task) (before next after : Slots) (a b c : ℕ) →
-    item ≡ pending_item line bs w → true ≡ not (is_some (before item.id.0)) → false ≡ expands (table_state item.inner.state) →
-    next ≡ fill (map table_items bs) (task_of origin line bs w) before →
-    is_done wanted before ≡ false → b ≡ min (a + 1) top →
-    Searches (map table_items bs) wanted ts next after b c →
-    Searches (map table_items bs) wanted (task_of origin line bs w ∷ ts) before after a c
-step_closed bs wanted origin line w item ts before next after a b c is free closed filled undone counted p =
-    taken_closed (map table_items bs) wanted (task_of origin line bs w) ts before next after a b c filled
-    (rw (← is) (sym closed)) (rw (← is) (free_of (is_some (before item.id.0)) free)) undone counted p
+pub closes_item : {line : MatchingLine} {top : PendingItem} {item : TrackedAssignment} (before : SlotFiller) (new : SlotContents) →
+    FillsItem line top item before.slots new → false ≡ expands (table_state item.inner.state) →
+    Processes line top before (record before { slots = new })
+closes_item {line} {top} before new p closed undone final earlier later counted q =
+    let bs = before.slots.bodies in
+    taken_closed (table_bodies bs) (wanted_numbers before.slots.wanted) (item_task line bs top) (stack_tasks line bs before.stack.items)
+    (filler_slots before) (open_slots new) final earlier before.taken later (item_opened p) (sym (rw p.is at closed)) p.free undone counted
+    (rw (p.bodies, p.wanted) at q)
 
--- and where it sets it
-pub step_open : (bs : List (List TrackedAssignment)) (wanted : List ℕ) (origin : Origin) (line body : List TrackedAssignment) (w : PendingItem)
-    (item : TrackedAssignment) (ts us : List Task) (before next after : Slots) (a b c : ℕ) →
-    item ≡ pending_item line bs w → true ≡ not (is_some (before item.id.0)) → true ≡ expands (table_state item.inner.state) →
-    next ≡ fill (map table_items bs) (task_of origin line bs w) before → body ≡ slice_index_or bs item.id.0 [] →
-    us ≡ tasks_in origin (Some item.id.0) (free_items next (table_items body)) ++ ts →
-    is_done wanted before ≡ false → b ≡ min (a + 1) top →
-    Searches (map table_items bs) wanted us next after b c →
-    Searches (map table_items bs) wanted (task_of origin line bs w ∷ ts) before after a c
-step_open bs wanted origin line body w item ts us before next after a b c is free set filled bodied laid undone counted p =
-    taken_open (map table_items bs) wanted (task_of origin line bs w) (table_items body) ts us before next after a b c filled
-    (rw (← is) (sym set)) (rw (← is) (free_of (is_some (before item.id.0)) free))
-    (rw (← is) (body_table bs item.id.0 ∙ ap table_items (sym bodied)))
-    (rw (← is) laid) undone counted p
+pub less_closed : {line : MatchingLine} {top : PendingItem} {item : TrackedAssignment} (before : SlotFiller) (new : SlotContents) →
+    FillsItem line top item before.slots new → most_left (record before { slots = new }) ≤ most_left before
+less_closed {line} {top} before new p =
+    let bs = before.slots.bodies in
+    let e = left_in-less (table_bodies bs) (item_task line bs top) (filler_slots before) (open_slots new) (item_opened p) p.free in
+    rw p.bodies (omega arith)
 
--- what is left after a step
-pub less_closed : (bs : List (List TrackedAssignment)) (origin : Origin) (line : List TrackedAssignment) (w : PendingItem) (item : TrackedAssignment)
-    (before next : Slots) (n : ℕ) →
-    item ≡ pending_item line bs w → true ≡ not (is_some (before item.id.0)) →
-    next ≡ fill (map table_items bs) (task_of origin line bs w) before →
-    n + left_in (map table_items bs) next ≤ n + left_in (map table_items bs) before
-less_closed bs origin line w item before next n is free filled =
-    let e = left_in-less (map table_items bs) (task_of origin line bs w) before next filled
-    (rw (← is) (free_of (is_some (before item.id.0)) free)) in
-    omega arith
+body_is : (line : MatchingLine) (top : PendingItem) (item : TrackedAssignment) (held new : SlotContents) (body : List TrackedAssignment) →
+    FillsItem line top item held new → body ≡ slice_index_or held.bodies item.id.0 [] →
+    body_of (table_bodies held.bodies) (pending_item line.items.now held.bodies top).id.0 ≡ table_items body
+body_is line top item held new body p bodied = grind (arith, nat_tests, body_table, top)
+
+-- and where it sets it, and the free items of its body are pushed
+pub opens_item : {line : MatchingLine} {top : PendingItem} {item : TrackedAssignment} (before : SlotFiller) (new : SlotContents)
+    (stack : Vec PendingItem Global) (body : List TrackedAssignment) →
+    FillsItem line top item before.slots new → true ≡ expands (table_state item.inner.state) →
+    body ≡ slice_index_or before.slots.bodies item.id.0 [] →
+    PushesFree (open_slots new) (Some item.id.0) body before.stack.items stack.items →
+    Processes line top before (record before { slots = new; stack = stack })
+opens_item {line} {top} {item} before new stack body p set bodied pushed undone final earlier later counted q =
+    let bs = before.slots.bodies in
+    taken_open (table_bodies bs) (wanted_numbers before.slots.wanted) (item_task line bs top) (table_items body)
+    (stack_tasks line bs before.stack.items) (stack_tasks line bs stack.items) (filler_slots before) (open_slots new) final
+    earlier before.taken later (item_opened p) (sym (rw p.is at set)) p.free (body_is line top item before.slots new body p bodied)
+    (rw p.is at (pushed (line_origin line) line.items.now bs (sym bodied))) undone counted (rw (p.bodies, p.wanted) at q)
 
 length-pending_tasks : (origin : Origin) (line : List TrackedAssignment) (bs : List (List TrackedAssignment)) (stack : List PendingItem) →
     length (pending_tasks origin line bs stack) ≡ length stack
 length-pending_tasks origin line bs [] = refl
-length-pending_tasks origin line bs (w ∷ stack) =
-    let e = length-pending_tasks origin line bs stack in
-    let d = length-append (pending_tasks origin line bs stack) (task_of origin line bs w ∷ []) in
-    omega arith
+length-pending_tasks origin line bs (w ∷ stack) = grind (arith, nat_tests, length-append, length-pending_tasks origin line bs stack)
 
-pub less_open : (bs : List (List TrackedAssignment)) (origin : Origin) (line body : List TrackedAssignment) (w : PendingItem)
-    (item : TrackedAssignment) (before next : Slots) (stack after : List PendingItem) (cause : Option ℕ) →
-    item ≡ pending_item line bs w → true ≡ not (is_some (before item.id.0)) →
-    next ≡ fill (map table_items bs) (task_of origin line bs w) before → body ≡ slice_index_or bs item.id.0 [] →
-    pending_tasks origin line bs after
-    ≡ tasks_in origin cause (free_items next (table_items body)) ++ pending_tasks origin line bs stack →
-    length after + left_in (map table_items bs) next ≤ length stack + left_in (map table_items bs) before
-less_open bs origin line body w item before next stack after cause is free filled bodied laid =
-    left_in-open (map table_items bs) (task_of origin line bs w) (table_items body) before next (length stack) (length after) filled
-    (rw (← is) (free_of (is_some (before item.id.0)) free))
-    (rw (← is) (body_table bs item.id.0 ∙ ap table_items (sym bodied)))
-    (let e = length-pending_tasks origin line bs stack in
-    let f = length-pending_tasks origin line bs after in
-    let g = length-append (tasks_in origin cause (free_items next (table_items body))) (pending_tasks origin line bs stack) in
-    let h = length-tasks_in origin cause (free_items next (table_items body)) in
-    let k = length-free next (table_items body) in
+pub less_open : {line : MatchingLine} {top : PendingItem} {item : TrackedAssignment} (before : SlotFiller) (new : SlotContents)
+    (stack : Vec PendingItem Global) (body : List TrackedAssignment) →
+    FillsItem line top item before.slots new → body ≡ slice_index_or before.slots.bodies item.id.0 [] →
+    PushesFree (open_slots new) (Some item.id.0) body before.stack.items stack.items →
+    most_left (record before { slots = new; stack = stack }) ≤ most_left before
+less_open {line} {top} {item} before new stack body p bodied pushed =
+    let bs = before.slots.bodies in
+    let origin = line_origin line in
+    let laid = pushed origin line.items.now bs (sym bodied) in
+    let free = free_items (open_slots new) (table_items body) in
+    let e = length-pending_tasks origin line.items.now bs before.stack.items in
+    let f = length-pending_tasks origin line.items.now bs stack.items in
+    let g = length-append (tasks_in origin (Some item.id.0) free) (stack_tasks line bs before.stack.items) in
+    let h = length-tasks_in origin (Some item.id.0) free in
+    let k = length-free (open_slots new) (table_items body) in
     let l = ap length laid in
-    omega arith)
+    rw p.bodies (left_in-open (table_bodies bs) (item_task line bs top) (table_items body) (filler_slots before) (open_slots new)
+    (length before.stack.items) (length stack.items) (item_opened p) p.free (body_is line top item before.slots new body p bodied) (omega arith))
 
 -- one more item is laid on, or left out
 items_more : (items : List TrackedAssignment) (k : ℕ) (i : TrackedAssignment) → k < length items → i ≡ get_or items k i →

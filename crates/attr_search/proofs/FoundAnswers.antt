@@ -1,24 +1,27 @@
 -- What a whole search leaves, and whether it found what was wanted.
 use Rattle.std.proofs.Common.{◌≡◌, ℕ, suc, ◌+◌, ◌<◌, ◌≤◌, Bool, true, false, ◌&&◌, ◌||◌, List, [], ◌∷◌, length, map, get_or, Option, Some, None, refl}
-use Rattle.std.proofs.Common.{sym, ap, subst, ◌∙◌, arith, nat_lt}
+use Rattle.std.proofs.Common.{sym, ap, ◌∙◌, arith, nat_lt}
 use Rattle.std.specs.Prelude.{is_some, is_none, option_map}
 use Rattle.std.specs.List.{list_any}
 use Rattle.std.proofs.lemmas.Bool.Decides.{nat_tests}
-use Rattle.attr_wildmatch.specs.declared.case.Case.{Case}
+use Rattle.std.proofs.lemmas.List.Folds.{list_any_none}
 use Rattle.attr_wildmatch.proofs.ForCallers.{by_test}
 use Rattle.attr_table.specs.Setting.{Item, Setting}
 use Rattle.attr_table.specs.Table.{Slots}
 use Rattle.attr_table.specs.Cut.{is_done, no_answers, IsSearched, ExtendsCuts}
 use Rattle.attr_table.specs.shared.Walk.{Task, Walks, ends, stops, skips, fills, Searches, tasks_of}
-use Rattle.attr_table.proofs.ForCallers.{fill_keeps}
-use Rattle.attr_table.proofs.ForCallers.{searched_joined}
+use Rattle.attr_table.proofs.ForCallers.{fill_keeps, searched_joined}
 use Rattle.attr_search.specs.ListView.{Listed}
 use Rattle.attr_search.specs.SearchContents.{SearchContents}
-use Rattle.attr_search.specs.inner.Searched.{KeepsState, state_slots, state_wanted}
+use Rattle.attr_search.specs.declared.path_query.PathQuery.{PathQuery}
+use Rattle.attr_search.specs.inner.Lines.{all_lines}
+use Rattle.attr_search.specs.inner.Searched.{KeepsState, SearchedLists, state_bodies, state_slots, state_wanted}
+use Rattle.attr_search.proofs.RoundLemmas.{rounds_walked}
 use Rattle.attr_search.specs.shared.SlotContents.{AreFlagsAmong, wanted_numbers, remaining_at, count_remaining}
 use Rattle.attr_search.specs.Slots.{is_needed, table_answer, slots_of}
-use Rattle.attr_search.specs.Settings.{is_found, lines_of}
+use Rattle.attr_search.specs.Settings.{is_found}
 use Rattle.attr_search.proofs.OpenLemmas.{flag_needed, narrowed_needed}
+use Rattle.attr_search.proofs.SlotLemmas.{is_some_map}
 
 -- slots that are filled stay so
 walks_keep : (bodies : List (List Item)) (done : Slots → Bool) {ts : List Task} {before after : Slots} →
@@ -26,12 +29,7 @@ walks_keep : (bodies : List (List Item)) (done : Slots → Bool) {ts : List Task
 walks_keep bodies done ends a e = e
 walks_keep bodies done (stops d) a e = e
 walks_keep bodies done (skips f w) a e = walks_keep bodies done w a e
-walks_keep bodies done (fills {t = t} {slots = slots} d f w) a e =
-    walks_keep bodies done w a (fill_keeps bodies t slots a e)
-
-some-map : {X Y : Type 0} (f : X → Y) (o : Option X) → is_some (option_map f o) ≡ is_some o
-some-map f None = refl
-some-map f (Some x) = refl
+walks_keep bodies done (fills {t = t} {slots = slots} d f w) a e = grind (arith, nat_tests, fill_keeps, walks_keep bodies done w a)
 
 none-map : {X Y : Type 0} (f : X → Y) (o : Option X) → is_none (option_map f o) ≡ is_none o
 none-map f None = refl
@@ -45,18 +43,13 @@ any-same : {X : Type 0} (p q : X → Bool) (xs : List X) → ((x : X) → p x �
 any-same p q [] same = refl
 any-same p q (x ∷ xs) same = ap (λ b. b || list_any p xs) (same x) ∙ ap (λ b. q x || b) (any-same p q xs same)
 
-any-none : {X : Type 0} (p : X → Bool) (xs : List X) → ((x : X) → p x ≡ false) → list_any p xs ≡ false
-any-none p [] none = refl
-any-none p (x ∷ xs) none = ap (λ b. b || list_any p xs) (none x) ∙ any-none p xs none
-
 -- fewer are left where something wanted was found, and else as many
 record IsLeft (found : Bool) (old new : ℕ) : Type 0 where
   some : found ≡ true → new < old
   none : found ≡ false → new ≡ old
 
 less_left : (found : Bool) (old new : ℕ) → IsLeft found old new → new ≤ old
-less_left found old new left =
-    by_test found (λ t. let h = left.some t in omega arith) (λ f. let h = left.none f in omega arith)
+less_left found old new left = grind (arith, nat_tests)
 
 left_past : (found : Bool) (old new h : ℕ) → IsLeft found old new → IsLeft found (h + old) (h + new)
 left_past found old new h left =
@@ -90,7 +83,7 @@ left_by : {X : Type 0} (flags : List Bool) (old new : List (Option X)) → lengt
     IsLeft (list_any (newly old new) (wanted_numbers flags)) (count_remaining flags old) (count_remaining flags new)
 left_by [] old new same kept = record { some = λ t. absurd (cc); none = λ f. refl }
 left_by {X = X} (w ∷ flags) [] [] same kept =
-    let none = any-none (newly {X = X} [] []) (wanted_numbers (w ∷ flags)) (λ a. refl) in
+    let none = list_any_none (newly {X = X} [] []) (wanted_numbers (w ∷ flags)) (λ k d lt. refl) in
     record { some = λ t. let e : true ≡ false = sym t ∙ none in absurd (cc); none = λ f. refl }
 left_by (w ∷ flags) [] (n ∷ ns) same kept = absurd (omega arith)
 left_by (w ∷ flags) (o ∷ os) [] same kept = absurd (omega arith)
@@ -103,21 +96,12 @@ left_by (w ∷ flags) (o ∷ os) (n ∷ ns) same kept =
 wanted_same : (flags : List Bool) (p q : ℕ → Bool) → ((a : ℕ) → get_or flags a false ≡ true → p a ≡ q a) →
     list_any p (wanted_numbers flags) ≡ list_any q (wanted_numbers flags)
 wanted_same [] p q same = refl
-wanted_same (w ∷ flags) p q same =
-    any_wanted w flags p
-    ∙ ap (λ b. b || list_any (λ a. p (suc a)) (wanted_numbers flags)) (here w (same 0))
-    ∙ ap (λ b. (w && q 0) || b) (wanted_same flags (λ a. p (suc a)) (λ a. q (suc a)) (λ a. same (suc a)))
-    ∙ sym (any_wanted w flags q)
-  where
-    here : (w : Bool) → (w ≡ true → p 0 ≡ q 0) → (w && p 0) ≡ (w && q 0)
-    here true h = h refl
-    here false h = refl
+wanted_same (w ∷ flags) p q same = grind (arith, nat_tests, any_wanted, wanted_same flags)
 
 -- the slot of a wanted number is seen as it is
 wanted_seen : (state : SearchContents) (a : ℕ) → AreFlagsAmong state.wanted state.needed → get_or state.wanted a false ≡ true →
     state_slots state a ≡ slots_of state.answers a
-wanted_seen state a among w =
-    narrowed_needed (is_needed state.needed) (slots_of state.answers) a (flag_needed state.needed a (among a w))
+wanted_seen state a among w = grind (arith, nat_tests, narrowed_needed, flag_needed)
 
 -- the answer of a search
 pub found_is : (bodies : List (List Item)) (wanted : List ℕ) (ts : List Task) (old new : SearchContents) (left left' a b : ℕ) →
@@ -131,9 +115,9 @@ found_is bodies wanted ts old new left left' a b among p same e e' =
     let is : (k : ℕ) → get_or flags k false ≡ true → state_slots new k ≡ slots_of new.answers k =
     λ k w. wanted_seen new k new_among (ap (λ f. get_or f k false) same.wanted ∙ w) in
     let some_was : (k : ℕ) → is_some (slots_of old.answers k) ≡ is_some (get_or old.answers k None) =
-    λ k. some-map (table_answer k) (get_or old.answers k None) in
+    λ k. is_some_map (table_answer k) (get_or old.answers k None) in
     let some_is : (k : ℕ) → is_some (slots_of new.answers k) ≡ is_some (get_or new.answers k None) =
-    λ k. some-map (table_answer k) (get_or new.answers k None) in
+    λ k. is_some_map (table_answer k) (get_or new.answers k None) in
     let kept : (k : ℕ) → get_or flags k false ≡ true → is_some (get_or old.answers k None) ≡ true →
     is_some (get_or new.answers k None) ≡ true =
     λ k w t. sym (some_is k) ∙ sym (ap is_some (is k w))
@@ -154,25 +138,21 @@ found_is bodies wanted ts old new left left' a b among p same e e' =
     (λ n. n ∙ (sym f ∙ told)))
 
 pub nothing_found : (wanted : List ℕ) (slots : Slots) → false ≡ is_found wanted slots slots
-nothing_found wanted slots = sym (any-none (λ w. is_none (slots w) && is_some (slots w)) wanted (λ w. neither (slots w)))
-  where
-    neither : {X : Type 0} (o : Option X) → is_none o && is_some o ≡ false
-    neither None = refl
-    neither (Some x) = refl
-
--- what a search over all lists goes through, as it was asked
-pub as_asked : (bodies : List (List Item)) (wanted : List ℕ) (case case' : Case) (is_dir is_dir' : Option Bool) (path path' : List ℕ)
-    (lists : List Listed) (before after : Slots) (a b : ℕ) →
-    path' ≡ path → case' ≡ case → is_dir' ≡ is_dir →
-    Searches bodies wanted (tasks_of (map (lines_of case' is_dir' path') lists)) before after a b →
-    Searches bodies wanted (tasks_of (map (lines_of case is_dir path) lists)) before after a b
-as_asked bodies wanted case case' is_dir is_dir' path path' lists before after a b p c d s =
-    subst (λ (x : List ℕ). Searches bodies wanted (tasks_of (map (lines_of case is_dir x) lists)) before after a b) p
-    (subst (λ (x : Case). Searches bodies wanted (tasks_of (map (lines_of x is_dir path') lists)) before after a b) c
-    (subst (λ (x : Option Bool). Searches bodies wanted (tasks_of (map (lines_of case' x path') lists)) before after a b) d s))
+nothing_found wanted slots = grind (arith, nat_tests, list_any_none)
 
 -- the slots after a search, over other lists that were searched before
 pub extends : (s : Setting) (wanted : List ℕ) (before after : Slots) → IsSearched s wanted before after →
     ExtendsCuts s.lists s.bodies wanted before after
 extends s wanted before after searched = λ lists first.
     searched_joined lists s.lists s.bodies wanted no_answers before after first searched
+
+-- the counts of a state say nothing of what is kept
+pub counted_from : (before after : SearchContents) (taken tested : ℕ) → KeepsState (record before { taken = taken; tested = tested }) after →
+    KeepsState before after
+counted_from before after taken tested kept = grind (arith, nat_tests)
+
+-- lists that were searched are searched by the tasks of their setting
+pub searched_as : (query : PathQuery) (lists : List Listed) {before after : SearchContents} → SearchedLists query lists before after →
+    Searches (state_bodies before) (state_wanted before) (tasks_of (all_lines query lists)) (state_slots before) (state_slots after)
+    before.taken after.taken
+searched_as query lists {before} p = rounds_walked (state_bodies before) (state_wanted before) (all_lines query lists) p.rounds

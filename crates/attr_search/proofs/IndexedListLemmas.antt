@@ -1,10 +1,9 @@
 -- What is made of a list's patterns stays theirs when the list is numbered.
-use Rattle.std.proofs.Common.{arith}
-use Rattle.std.proofs.Common.{◌≡◌, ℕ, ◌+◌, ◌<◌, List, [], ◌∷◌, ◌++◌, length, get_or, take, map, Option, Some, None, refl, sym, ap, ◌∙◌}
-use Rattle.std.proofs.Common.{drop}
+use Rattle.std.proofs.lemmas.Bool.Decides.{nat_tests}
+use Rattle.std.proofs.Common.{arith, ◌≡◌, ℕ, ◌<◌, List, [], ◌∷◌, ◌++◌, length, get_or, take, map, Option, Some, None, refl, sym, ap, ◌∙◌, drop}
 use Rattle.std.specs.Prelude.{option_map, string_bytes}
 use Rattle.std.proofs.Math.Seq.{take-append_seam}
-use Rattle.std.proofs.lemmas.List.{take_more, map-append, length-map, get_or-map}
+use Rattle.std.proofs.lemmas.List.{length-map, get_or-map}
 use Rattle.std.proofs.lemmas.List.Elements.{All-nil, All-cons, All-head, All-tail}
 use Rattle.attr_glob.specs.declared.search.pattern.Mapping.{Mapping}
 use Rattle.attr_glob.specs.declared.search.pattern.List.{List as PatternList}
@@ -21,19 +20,11 @@ use Rattle.attr_search.specs.ListView.{list_view}
 use Rattle.attr_glob.specs.declared.search.pattern.indexed_line.IndexedLine.{IndexedLine}
 use Rattle.attr_glob.specs.Indexed.{NumberedPattern, indexed_line, indexed_lines, listed_lines}
 use Rattle.attr_glob.proofs.ForCallers.{lines_length}
+use Rattle.attr_search.proofs.EntryAtLemmas.{lines_patterns}
 use Rattle.attr_search.specs.inner.EntryAt.{entry_at, no_entry}
 use Rattle.attr_search.specs.shared.ReadLines.{IsRead, AreRead}
 
--- the patterns of a list, as its lines have them
-patterns_in : List Entry → List Reading
-patterns_in entries = map (λ e. e.pattern) entries
-
-lines-patterns : (mappings : List (Mapping Value)) → patterns_of mappings ≡ patterns_in (entries_view mappings)
-unfolding patterns_in
-lines-patterns [] = refl
-lines-patterns (m ∷ ms) = ap (λ r. pattern_view m.pattern ∷ r) (lines-patterns ms)
-
--- and so have the numbers of its lines
+-- the patterns and the numbers of a list's lines
 abbrev numbered_pattern : Entry → NumberedPattern
 numbered_pattern e = record { pattern = e.pattern; number = e.line }
 
@@ -64,12 +55,11 @@ pub same_lines : (before after : List (Mapping Value)) → entries_view after �
 same_lines before after e = lines-entries after ∙ ap (map numbered_pattern) e ∙ sym (lines-entries before)
 
 pub same_patterns : (before after : List (Mapping Value)) → entries_view after ≡ entries_view before → patterns_of after ≡ patterns_of before
-same_patterns before after e = lines-patterns after ∙ ap patterns_in e ∙ sym (lines-patterns before)
+same_patterns before after e = lines_patterns after ∙ ap (map (λ (entry : Entry). entry.pattern)) e ∙ sym (lines_patterns before)
 
 pub numbered_lines_in : (names : List (List ℕ)) (before after : List (Mapping Value)) → entries_view after ≡ numbered_lines names
     (entries_view before) → listed_lines after ≡ listed_lines before
-numbered_lines_in names before after e =
-    lines-entries after ∙ ap (map numbered_pattern) e ∙ numbered-entries names (entries_view before) ∙ sym (lines-entries before)
+numbered_lines_in names before after e = grind (arith, nat_tests, lines-entries, numbered-entries)
 
 entry-numbered : (names : List (List ℕ)) (pattern : Reading) (items : List _) (line : ℕ) (macro : Option _)
     → IsRead (record { pattern = pattern; macro = macro; items = items; line = line }) → IsRead
@@ -84,18 +74,14 @@ numbered_read names (e ∷ es) h =
     All-cons IsRead (numbered names e) (numbered_lines names es) (entry-numbered names e.pattern e.items e.line e.macro (All-head IsRead e es h))
     (numbered_read names es (All-tail IsRead e es h))
 
-take-all : {X : Type 0} (xs ys : List X) (n : ℕ) → n ≡ length xs → take n (xs ++ ys) ≡ xs
-take-all xs ys n e = ap (λ k. take k (xs ++ ys)) e ∙ take-append_seam xs ys
-
 -- what is written through a slice over all of a vector
 pub written : {X : Type 0} (old new : List X) (n : ℕ) → n ≡ length old → length new ≡ length old → take n (new ++ drop (length new) old) ≡ new
-written old new n e same = take-all new (drop (length new) old) n (e ∙ sym same)
+written old new n e same = ap (λ k. take k (new ++ drop (length new) old)) (e ∙ sym same) ∙ take-append_seam new (drop (length new) old)
 
 -- a numbered list is as long as it was
 pub numbered_length : (names : List (List ℕ)) (before after : List (Mapping Value)) → entries_view after ≡ numbered_lines names (entries_view before)
     → length after ≡ length before
-numbered_length names before after e =
-    sym (length-map after entry_view) ∙ ap length e ∙ length-map (entries_view before) (numbered names) ∙ length-map before entry_view
+numbered_length names before after e = grind (arith, nat_tests, length-map)
 
 -- a copy of a list has its lines, its source and its base
 copied_value : (v w : Value) → SameValue v w → (macro_id w ≡ macro_id v) × (items_in w ≡ items_in v)
@@ -105,22 +91,15 @@ copied_value (Assignments v) (MacroAssignments j w) same = absurd same
 copied_value (Assignments v) (Assignments w) same = (refl, same)
 
 copied_line : (m copy : Mapping Value) → IsMappingClone SameValue m copy → entry_view copy ≡ entry_view m
-copied_line m copy same =
-    let value = copied_value m.value copy.value same.value in
-    cc (same.pattern, value.0, value.1, same.sequence_number)
+copied_line m copy same = grind (arith, nat_tests, copied_value)
 
 pub copied_lines : (ms copies : List (Mapping Value)) → AreMappingClones SameValue ms copies → entries_view copies ≡ entries_view ms
 copied_lines [] [] same = refl
 copied_lines [] (c ∷ copies) same = absurd same
 copied_lines (m ∷ ms) [] same = absurd same
-copied_lines (m ∷ ms) (c ∷ copies) same =
-    let first = copied_line m c same.0 in
-    let rest = copied_lines ms copies same.1 in
-    cc (first, rest)
+copied_lines (m ∷ ms) (c ∷ copies) same = grind (arith, nat_tests, copied_line, copied_lines ms copies)
 
 pub copied_list : (list copy : PatternList Attributes Value Dropped) → AreMappingClones SameValue list.patterns.items copy.patterns.items →
     option_map string_bytes copy.source ≡ option_map string_bytes list.source → base_bytes copy.base ≡ base_bytes list.base →
     list_view copy ≡ list_view list
-copied_list list copy lines source base =
-    let rest = copied_lines list.patterns.items copy.patterns.items lines in
-    cc (rest, source, base)
+copied_list list copy lines source base = grind (arith, nat_tests, copied_lines)

@@ -1,7 +1,7 @@
 -- Numbers by key: the greatest with a key, after one more and after one less.
-use Rattle.std.proofs.Common.{◌≡◌, ◌≢◌, ℕ, zero, suc, ◌+◌, ◌<◌, ◌≤◌, ◌⊎◌, inl, inr, true, false, cond, List, [], ◌∷◌, ◌++◌, length, get_or}
-use Rattle.std.proofs.Common.{Option, Some, None}
-use Rattle.std.proofs.Common.{refl, sym, ap, subst, ◌∙◌, arith, eq-eqb, nat_eq}
+use Rattle.std.proofs.lemmas.Bool.Decides.{nat_tests}
+use Rattle.std.proofs.Common.{◌≡◌, ◌≢◌, ℕ, zero, suc, ◌+◌, ◌<◌, ◌≤◌, ◌⊎◌, inl, inr, true, false, cond, List, [], ◌∷◌, ◌++◌, length, get_or, Option}
+use Rattle.std.proofs.Common.{Some, None, refl, sym, ap, subst, ◌∙◌, arith, eq-eqb, nat_eq}
 use Rattle.std.specs.Prelude.{Contains, MatchOption, ⊤, ◌↔◌, IsTrue, is_none, option_map, slice_get}
 use Rattle.std.specs.List.{AllPairs, IsDistinct, list_all}
 use Rattle.std.specs.Bool.{Decides}
@@ -11,14 +11,10 @@ use Rattle.std.proofs.lemmas.Map.Made.{AllPairs-from_IsDistinct, IsDistinct-from
 use Rattle.std.proofs.lemmas.Bool.Decides.{eqb_tells}
 use Rattle.std.proofs.lemmas.List.{get_or-map, length-append, length-map}
 use Rattle.std.proofs.lemmas.List.Elements.{Contains-append_left, Contains-push}
-use Rattle.std.proofs.lemmas.Option.{get_or_from_slice_get, slice_get-get_or, slice_get-map, slice_get_read, slice_get_within}
-use Rattle.std.specs.Option.{unwrap_or}
+use Rattle.std.proofs.lemmas.Option.{IfSome_then, get_or_from_slice_get, same_Some, slice_get-get_or, slice_get-map, slice_get_read, slice_get_within}
 use Rattle.attr_search.specs.declared.numbers_by_key.Link.{Link}
 use Rattle.attr_search.specs.inner.KeyLinks.{IsLatest}
 use Rattle.attr_search.specs.inner.NumbersView.{AreLatest, LeadOn, link_keys}
-
-pub some_inside : {X : Type 0} (a b : X) → Some a ≡ Some b → a ≡ b
-some_inside a b same = ap (λ o. unwrap_or o a) same
 
 -- an element of the front part, and the one after it
 pub get_front : {X : Type 0} (xs ys : List X) (m : ℕ) → m < length xs → slice_get (xs ++ ys) m ≡ slice_get xs m
@@ -31,19 +27,9 @@ get_seam [] y ys = refl
 get_seam (x ∷ xs) y ys = get_seam xs y ys
 
 -- the keys below the bound are the same
-latest_has : (keys others : List ℕ) (bound key : ℕ) (latest : Option ℕ) → ((m : ℕ) → m < bound → slice_get others m ≡ slice_get keys m) →
-    MatchOption latest ⊤ (λ n. (n < bound) × (slice_get keys n ≡ Some key)) →
-    MatchOption latest ⊤ (λ n. (n < bound) × (slice_get others n ≡ Some key))
-latest_has keys others bound key None same h = h
-latest_has keys others bound key (Some n) same h = (h.0, same n h.0 ∙ h.1)
-
 latest_same : (keys others : List ℕ) (bound key : ℕ) (latest : Option ℕ) → ((m : ℕ) → m < bound → slice_get others m ≡ slice_get keys m) →
     IsLatest keys bound key latest → IsLatest others bound key latest
-latest_same keys others bound key latest same is =
-    record {
-      has = latest_has keys others bound key latest same is.has;
-      greatest = λ number lt has. is.greatest number lt (sym (same number lt) ∙ has);
-    }
+latest_same keys others bound key latest same is = grind (arith, nat_tests)
 
 -- one more number of this key, and one of another
 latest_own : (keys : List ℕ) (bound key : ℕ) → slice_get keys bound ≡ Some key → IsLatest keys (bound + 1) key (Some bound)
@@ -52,45 +38,20 @@ latest_own keys bound key is = record { has = (omega arith, is); greatest = λ n
 pub below_or : (number bound : ℕ) → number < bound + 1 → (number < bound) ⊎ (number ≡ bound)
 below_or number bound lt = elim (eqb_tells number bound) [ inl same ↦ inr same.1 | inr other ↦ let ne = other.1 in inl (omega (arith, lt, ne)) ]
 
-other_has : (keys : List ℕ) (bound key : ℕ) (latest : Option ℕ) → MatchOption latest ⊤ (λ n. (n < bound) × (slice_get keys n ≡ Some key)) →
-    MatchOption latest ⊤ (λ n. (n < bound + 1) × (slice_get keys n ≡ Some key))
-other_has keys bound key None h = h
-other_has keys bound key (Some n) h = let lt = h.0 in (omega (arith, lt), h.1)
-
 other_greatest : (keys : List ℕ) (bound own key : ℕ) (latest : Option ℕ) → slice_get keys bound ≡ Some own → own ≢ key →
     IsLatest keys bound key latest → (number : ℕ) → (number < bound) ⊎ (number ≡ bound) → slice_get keys number ≡ Some key →
     MatchOption latest ⊥ (λ n. number ≤ n)
 other_greatest keys bound own key latest is other l number (inl lt) has = l.greatest number lt has
-other_greatest keys bound own key latest is other l number (inr same) has =
-    absurd (other (some_inside own key (sym is ∙ ap (slice_get keys) (sym same) ∙ has)))
+other_greatest keys bound own key latest is other l number (inr same) has = grind (arith, nat_tests, same_Some)
 
 latest_other : (keys : List ℕ) (bound own key : ℕ) (latest : Option ℕ) → slice_get keys bound ≡ Some own → own ≢ key →
     IsLatest keys bound key latest → IsLatest keys (bound + 1) key latest
-latest_other keys bound own key latest is other l =
-    record {
-      has = other_has keys bound key latest l.has;
-      greatest = λ number lt has. other_greatest keys bound own key latest is other l number (below_or number bound lt) has;
-    }
+latest_other keys bound own key latest is other l = grind (arith, nat_tests, other_greatest, below_or)
 
 -- and back
-less_has : (keys : List ℕ) (bound own key : ℕ) (latest : Option ℕ) → slice_get keys bound ≡ Some own → own ≢ key →
-    MatchOption latest ⊤ (λ n. (n < bound + 1) × (slice_get keys n ≡ Some key)) →
-    MatchOption latest ⊤ (λ n. (n < bound) × (slice_get keys n ≡ Some key))
-less_has keys bound own key None is other h = h
-less_has keys bound own key (Some n) is other h =
-    let below : (n < bound) ⊎ (n ≡ bound) = below_or n bound h.0 in
-    elim below [
-      | inl lt ↦ (lt, h.1)
-      | inr same ↦ absurd (other (some_inside own key (sym is ∙ ap (slice_get keys) (sym same) ∙ h.1)))
-    ]
-
 latest_less : (keys : List ℕ) (bound own key : ℕ) (latest : Option ℕ) → slice_get keys bound ≡ Some own → own ≢ key →
     IsLatest keys (bound + 1) key latest → IsLatest keys bound key latest
-latest_less keys bound own key latest is other l =
-    record {
-      has = less_has keys bound own key latest is other l.has;
-      greatest = λ number lt has. l.greatest number (omega (arith, lt)) has;
-    }
+latest_less keys bound own key latest is other l = grind (arith, nat_tests, below_or, same_Some)
 
 abbrev option_key : Option Link → Option ℕ
 option_key link = option_map (λ l. l.key) link
@@ -98,13 +59,10 @@ option_key link = option_map (λ l. l.key) link
 -- the keys of links, with one more link
 keys_front : (links : List Link) (link : Link) (m : ℕ) → m < length links →
     slice_get (link_keys (links ++ link ∷ [])) m ≡ slice_get (link_keys links) m
-keys_front links link m lt =
-    slice_get-map (λ (l : Link). l.key) (links ++ link ∷ []) m ∙ ap option_key (get_front links (link ∷ []) m lt)
-    ∙ sym (slice_get-map (λ (l : Link). l.key) links m)
+keys_front links link m lt = grind (arith, nat_tests, slice_get-map, get_front)
 
 keys_seam : (links : List Link) (link : Link) → slice_get (link_keys (links ++ link ∷ [])) (length links) ≡ Some link.key
-keys_seam links link =
-    slice_get-map (λ (l : Link). l.key) (links ++ link ∷ []) (length links) ∙ ap option_key (get_seam links link [])
+keys_seam links link = grind (arith, nat_tests, slice_get-map, get_seam)
 
 length_more : (links : List Link) (link : Link) → length (links ++ link ∷ []) ≡ length links + 1
 length_more links link = length-append links (link ∷ [])
@@ -114,10 +72,7 @@ more_latest : (links : List Link) (link : Link) (key : ℕ) (before after : Opti
     ((nat_eq link.key key ≡ true) × (link.key ≡ key)) ⊎ ((nat_eq link.key key ≡ false) × (link.key ≢ key)) →
     IsLatest (link_keys links) (length links) key before → after ≡ cond (nat_eq link.key key) (Some (length links)) before →
     IsLatest (link_keys (links ++ link ∷ [])) (length links + 1) key after
-more_latest links link key before after (inl own) l is =
-    let latest : after ≡ Some (length links) = is ∙ ap (λ t. cond t (Some (length links)) before) own.0 in
-    subst (IsLatest (link_keys (links ++ link ∷ [])) (length links + 1) key) (sym latest)
-    (latest_own (link_keys (links ++ link ∷ [])) (length links) key (keys_seam links link ∙ ap Some own.1))
+more_latest links link key before after (inl own) l is = grind (arith, nat_tests, latest_own, keys_seam)
 more_latest links link key before after (inr other) l is =
     let latest : after ≡ before = is ∙ ap (λ t. cond t (Some (length links)) before) other.0 in
     subst (IsLatest (link_keys (links ++ link ∷ [])) (length links + 1) key) (sym latest)
@@ -136,12 +91,7 @@ one_leads : (links : List Link) (link : Link) → LeadOn links → IsLatest (lin
 one_leads links link lead l number other (inl lt) is =
     latest_same (link_keys links) (link_keys (links ++ link ∷ [])) number other.key other.earlier
     (λ m below. keys_front links link m (omega (arith, lt, below))) (lead number other (sym (get_front links (link ∷ []) number lt) ∙ is))
-one_leads links link lead l number other (inr same) is =
-    let own : link ≡ other =
-    some_inside link other (sym (get_seam links link []) ∙ ap (slice_get (links ++ link ∷ [])) (sym same) ∙ is) in
-    subst (λ n. IsLatest (link_keys (links ++ link ∷ [])) n other.key other.earlier) (sym same)
-    (subst (λ (o : Link). IsLatest (link_keys (links ++ link ∷ [])) (length links) o.key o.earlier) own
-    (latest_same (link_keys links) (link_keys (links ++ link ∷ [])) (length links) link.key link.earlier (keys_front links link) l))
+one_leads links link lead l number other (inr same) is = grind (arith, nat_tests, same_Some, get_seam, latest_same, keys_front)
 
 pub pushed_lead : (links : List Link) (link : Link) (before : ℕ → Option ℕ) → AreLatest links before → link.earlier ≡ before link.key →
     LeadOn links → LeadOn (links ++ link ∷ [])
@@ -157,14 +107,8 @@ less_latest : (links : List Link) (link : Link) (key : ℕ) (before after : Opti
     IsLatest (link_keys (links ++ link ∷ [])) (length links) link.key link.earlier →
     IsLatest (link_keys (links ++ link ∷ [])) (length links + 1) key before → after ≡ cond (nat_eq link.key key) link.earlier before →
     IsLatest (link_keys (links ++ link ∷ [])) (length links) key after
-less_latest links link key before after (inl own) lead l is =
-    let latest : after ≡ link.earlier = is ∙ ap (λ t. cond t link.earlier before) own.0 in
-    subst (IsLatest (link_keys (links ++ link ∷ [])) (length links) key) (sym latest)
-    (subst (λ k. IsLatest (link_keys (links ++ link ∷ [])) (length links) k link.earlier) own.1 lead)
-less_latest links link key before after (inr other) lead l is =
-    let latest : after ≡ before = is ∙ ap (λ t. cond t link.earlier before) other.0 in
-    subst (IsLatest (link_keys (links ++ link ∷ [])) (length links) key) (sym latest)
-    (latest_less (link_keys (links ++ link ∷ [])) (length links) link.key key before (keys_seam links link) other.1 l)
+less_latest links link key before after (inl own) lead l is = grind (arith, nat_tests)
+less_latest links link key before after (inr other) lead l is = grind (arith, nat_tests, latest_less, keys_seam)
 
 pub popped_latest : (all links : List Link) (link : Link) (before after : ℕ → Option ℕ) → all ≡ links ++ link ∷ [] → AreLatest all before →
     LeadOn all → ((key : ℕ) → after key ≡ cond (nat_eq link.key key) link.earlier (before key)) → AreLatest links after
@@ -196,14 +140,7 @@ count_down (Some n) = n + 1
 
 same_key : (links : List Link) (link : Link) (number key : ℕ) → slice_get links number ≡ Some link → slice_get (link_keys links) number ≡ Some key →
     link.key ≡ key
-same_key links link number key is has =
-    some_inside link.key key (sym (ap option_key is) ∙ sym (slice_get-map (λ (l : Link). l.key) links number) ∙ has)
-
-at_earlier : (keys : List ℕ) (bound key : ℕ) (earlier : Option ℕ) → bound < length keys →
-    MatchOption earlier ⊤ (λ n. (n < bound) × (slice_get keys n ≡ Some key)) →
-    MatchOption earlier ⊤ (λ n. (n < length keys) × (slice_get keys n ≡ Some key))
-at_earlier keys bound key None lt h = h
-at_earlier keys bound key (Some n) lt h = let less = h.0 in (omega (arith, lt, less), h.1)
+same_key links link number key is has = grind (arith, nat_tests, same_Some, slice_get-map)
 
 walked_one : (keys : List ℕ) (key bound number : ℕ) (found : List ℕ) (earlier : Option ℕ) → IsLatest keys bound key earlier →
     slice_get keys number ≡ Some key → Contains found number ⊎ (number ≤ bound) →
@@ -222,15 +159,13 @@ walk_on links link key number before found lead is covers =
     (lead number link is) in
     record {
       kept = λ n has. Contains-append_left found (number ∷ []) n (covers.kept n has);
-      at = at_earlier (link_keys links) number key link.earlier covers.at.0 own.has;
+      at = let below = covers.at.0 in IfSome_then link.earlier own.has (λ n h. let less = h.0 in (omega (arith, below, less), h.1));
       found = λ n has. walked_one (link_keys links) key number n found link.earlier own has (covers.found n has);
     }
 
 pub link_at : (links : List Link) (link : Link) (key number : ℕ) (before found : List ℕ) (next : Option ℕ) → next ≡ Some number →
     link ≡ get_or links number link → CoversDown (link_keys links) key before found next → slice_get links number ≡ Some link
-link_at links link key number before found next at is covers =
-    let here = subst (CoversDown (link_keys links) key before found) at covers in
-    slice_get_read links (length links) number link refl (subst (λ n. number < n) (length-map links (λ (l : Link). l.key)) here.at.0) is
+link_at links link key number before found next at is covers = grind (arith, nat_tests, found, at, slice_get_read, length-map)
 
 smaller_earlier : (keys : List ℕ) (bound key : ℕ) (earlier : Option ℕ) →
     MatchOption earlier ⊤ (λ n. (n < bound) × (slice_get keys n ≡ Some key)) → count_down earlier < bound + 1
@@ -260,8 +195,7 @@ alone (Some n) is = absurd cc
 
 first_of_key : (keys : List ℕ) (bound key : ℕ) (latest : Option ℕ) → IsLatest keys bound key latest → latest ≡ None → (number : ℕ) → number < bound →
     slice_get keys number ≡ Some key → ⊥
-first_of_key keys bound key latest l none number lt has =
-    subst (λ (o : Option ℕ). MatchOption o ⊥ (λ n. number ≤ n)) none (l.greatest number lt has)
+first_of_key keys bound key latest l none number lt has = grind (arith, nat_tests)
 
 unlinked_differ : (links : List Link) → LeadOn links → list_all (λ (l : Link). is_none l.earlier) links ≡ true →
     AllPairs (λ x y. x ≢ y) (link_keys links)

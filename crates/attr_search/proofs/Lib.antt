@@ -10,7 +10,6 @@ pub mod OpenLemmas
 pub mod FillingLemmas
 pub mod LineLemmas
 pub mod CandidateLemmas
-pub mod ListLemmas
 pub mod ListedLemmas
 pub mod FoundAnswers
 pub mod RoundLemmas

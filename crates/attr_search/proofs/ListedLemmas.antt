@@ -1,4 +1,5 @@
 -- The first filled slot from a number on, by numbers in their order.
+use Rattle.attr_search.proofs.SlotLemmas.{is_some_map}
 use Rattle.std.proofs.Common.{◌≡◌, ◌≢◌, ℕ, ◌+◌, ◌<◌, ◌≤◌, true, false, List, length, get_or, Option, None, refl, sym, ap, ◌∙◌, arith}
 use Rattle.std.proofs.Common.{MatchOption, subst, ⊎_elim, nat_eq, is_some, zero, suc, [], ◌∷◌, map, option_map, Some}
 use Rattle.std.specs.List.Sorted.{IsNonDecreasing, IsPermutation}
@@ -15,10 +16,6 @@ mapped_at f [] n = refl
 mapped_at f (o ∷ slots) zero = refl
 mapped_at f (o ∷ slots) (suc n) = mapped_at f slots n
 
-is_some_map : {X Y : Type 0} (f : X → Y) (o : Option X) → is_some (option_map f o) ≡ is_some o
-is_some_map f None = refl
-is_some_map f (Some x) = refl
-
 -- no number from this index on is n
 abbrev pub IsPast : List ℕ → ℕ → ℕ → Type 0
 IsPast numbers index n = (j d : ℕ) → index ≤ j → j < length numbers → get_or numbers j d ≢ n
@@ -30,50 +27,24 @@ AreFreeButLeft slots numbers from index = (n : ℕ) → from ≤ n → IsPast nu
 -- at first, if the numbers before the index are below
 pub free_first : {X : Type 0} (slots : List (Option X)) (numbers : List ℕ) (from index : ℕ) → AreListed slots numbers →
     ((j d : ℕ) → j < index → j < length numbers → get_or numbers j d < from) → AreFreeButLeft slots numbers from index
-free_first slots numbers from index listed below = λ n le past.
-    listed.others n (list_any_none (nat_eq n) numbers (λ j d lt.
-    other n (get_or numbers j d)
-    (λ e. ⊎_elim
-    (λ (early : j < index). let lower = below j d early lt in absurd (omega (arith, lower, e, le)))
-    (λ (late : index ≤ j). past j d late lt e)
-    (cases_lt j index))))
-  where
-    other : (n m : ℕ) → m ≢ n → nat_eq n m ≡ false
-    other n m apart = grind (arith, nat_tests)
+free_first slots numbers from index listed below = grind (arith, nat_tests, list_any_none, cases_lt)
 
 -- one more slot is free
 pub free_more : {X : Type 0} (slots : List (Option X)) (numbers : List ℕ) (from index number : ℕ) → ((d : ℕ) → get_or numbers index d ≡ number) →
     get_or slots number None ≡ None → AreFreeButLeft slots numbers from index → AreFreeButLeft slots numbers from (index + 1)
-free_more slots numbers from index number at free so_far = λ n le past.
-    ⊎_elim
-    (λ (here : n ≡ number). ap (λ i. get_or slots i None) here ∙ free)
-    (λ (apart : n ≢ number). so_far n le (λ j d ge lt e.
-    ⊎_elim
-    (λ (same : j ≡ index). apart (sym (sym (at d) ∙ ap (λ i. get_or numbers i d) (sym same) ∙ e)))
-    (λ (later : j ≢ index). past j d (after j ge later) lt e)
-    (cases_eq j index)))
-    (cases_eq n number)
-  where
-    after : (j : ℕ) → index ≤ j → j ≢ index → index + 1 ≤ j
-    after j ge apart = ⊎_elim (λ (lt : index < j). omega (arith, lt)) (λ (le : j ≤ index). absurd (apart (omega (arith, ge, le)))) (cases_lt index j)
+free_more slots numbers from index number at free so_far = grind (arith, nat_tests, cases_eq, cases_lt)
 
 -- up to the number that is next in the order, slots are free
 pub free_up_to : {X : Type 0} (slots : List (Option X)) (numbers : List ℕ) (from index number : ℕ) → IsNonDecreasing numbers →
     index < length numbers → ((d : ℕ) → get_or numbers index d ≡ number) → AreFreeButLeft slots numbers from index →
     (k : ℕ) → from ≤ k → k < number → get_or slots k None ≡ None
-free_up_to slots numbers from index number rising within at so_far = λ k ge lt. so_far k ge (λ j d later below e.
-    let rises = rising index j d later below in
-    absurd (omega (arith, rises, ap (λ i. i) (at d), e, lt)))
+free_up_to slots numbers from index number rising within at so_far = grind (arith, nat_tests)
 
 -- this one is filled
 pub next_is : {X : Type 0} (slots : List (Option X)) (numbers : List ℕ) (from index number : ℕ) → IsNonDecreasing numbers →
     index < length numbers → ((d : ℕ) → get_or numbers index d ≡ number) → from ≤ number → is_some (get_or slots number None) ≡ true →
     AreFreeButLeft slots numbers from index → IsNextFilled slots from number
-next_is slots numbers from index number rising within at le filled so_far = record {
-  reached = le;
-  filled = filled;
-  free = free_up_to slots numbers from index number rising within at so_far;
-}
+next_is slots numbers from index number rising within at le filled so_far = grind (arith, nat_tests, free_up_to)
 
 -- none is left
 pub none_left : {X : Type 0} (slots : List (Option X)) (numbers : List ℕ) (from index : ℕ) → length numbers ≤ index →
@@ -87,11 +58,7 @@ seen_free f slots from free = λ n le. mapped_at f slots n ∙ ap (option_map f)
 
 pub seen_next : {X Y : Type 0} (f : X → Y) (slots : List (Option X)) (from number : ℕ) → IsNextFilled slots from number →
     IsNextFilled (map (λ o. option_map f o) slots) from number
-seen_next f slots from number next = record {
-  reached = next.reached;
-  filled = ap is_some (mapped_at f slots number) ∙ is_some_map f (get_or slots number None) ∙ next.filled;
-  free = λ k ge lt. mapped_at f slots k ∙ ap (option_map f) (next.free k ge lt);
-}
+seen_next f slots from number next = grind (arith, nat_tests, mapped_at, is_some_map)
 
 pub seen_match : {X Y : Type 0} (f : X → Y) (slots slots' : List (Option X)) (from : ℕ) (found : Option ℕ) → slots' ≡ slots →
     MatchOption found (AreFreeFrom slots' from) (IsNextFilled slots' from) →
@@ -118,12 +85,4 @@ listed_permuted slots numbers sorted same listed = record {
 -- from a later number on, a slot is free if its number isn't left but for this one, which is before
 pub free_on : {X : Type 0} (slots : List (Option X)) (numbers : List ℕ) (from after index number : ℕ) → ((d : ℕ) → get_or numbers index d ≡ number) →
     from ≤ after → number < after → AreFreeButLeft slots numbers from index → AreFreeButLeft slots numbers after (index + 1)
-free_on slots numbers from after index number at le lt so_far = λ n ge past.
-    so_far n (omega (arith, le, ge)) (λ j d later below e.
-    ⊎_elim
-    (λ (same : j ≡ index). let here : number ≡ n = sym (at d) ∙ ap (λ i. get_or numbers i d) (sym same) ∙ e in absurd (omega (arith, here, lt, ge)))
-    (λ (apart : j ≢ index). past j d (next j later apart) below e)
-    (cases_eq j index))
-  where
-    next : (j : ℕ) → index ≤ j → j ≢ index → index + 1 ≤ j
-    next j ge apart = ⊎_elim (λ (lt : index < j). omega (arith, lt)) (λ (le : j ≤ index). absurd (apart (omega (arith, ge, le)))) (cases_lt index j)
+free_on slots numbers from after index number at le lt so_far = grind (arith, nat_tests, cases_eq, cases_lt)

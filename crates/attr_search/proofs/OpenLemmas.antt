@@ -1,12 +1,13 @@
 -- Slots that are open: needed, and without an answer.
-use Rattle.std.proofs.Common.{◌≡◌, ℕ, zero, suc, ◌<◌, ◌≤◌, Bool, true, false, not, ◌&&◌, List, [], ◌∷◌, length, get_or, set, map, take}
-use Rattle.std.proofs.Common.{replicate, nat_eq, ◌++◌, ◌-◌, ◌+◌}
-use Rattle.std.proofs.Common.{Option, Some, None, is_some, is_none, refl, sym, ap, ◌∙◌, ⊎_elim, arith}
+use Rattle.std.proofs.lemmas.Bool.Decides.{nat_tests}
+use Rattle.std.proofs.Common.{◌≡◌, ℕ, zero, suc, ◌<◌, ◌≤◌, Bool, true, false, ◌&&◌, List, [], ◌∷◌, length, get_or, set, map, take, replicate}
+use Rattle.std.proofs.Common.{nat_eq, ◌++◌, ◌-◌, ◌+◌, Option, Some, None, is_some, is_none, refl, sym, ap, ◌∙◌, ⊎_elim, arith}
 use Rattle.std.specs.Prelude.{if◌then◌else◌}
 use Rattle.std.proofs.lemmas.Bool.{cases_eq, cases_lt}
 use Rattle.std.proofs.lemmas.List.Elements.{All-weaker}
+use Rattle.std.proofs.Math.Bool.{and-false, and-true}
 use Rattle.std.proofs.Math.ListN.{get_or-append}
-use Rattle.std.proofs.lemmas.List.{get_or_default, get_or_past, get_or-append_right, get_or_at, get_or-set_other, get_or-set_same}
+use Rattle.std.proofs.lemmas.List.{ext_get_or, get_or_past, get_or-append_right, get_or_at, get_or-set_other, get_or-set_same}
 use Rattle.std.proofs.lemmas.List.{get_or-take, length-append, length-replicate, length-set, length-take}
 use Rattle.attr_table.specs.Cut.{is_done}
 use Rattle.attr_table.specs.Skipped.{narrowed, skipped_answer}
@@ -19,17 +20,6 @@ use Rattle.attr_search.specs.shared.SlotContents.{AreFlagsAmong, count_remaining
 use Rattle.attr_search.specs.declared.answer_parts.MatchRef.{MatchRef}
 use Rattle.attr_search.proofs.SlotLemmas.{left_done, none_at, seen_filled}
 
--- lists of flags are the same that are as long and agree at each number
-pub same_flags : (flags others : List Bool) → length flags ≡ length others →
-    ((a : ℕ) → get_or flags a false ≡ get_or others a false) → flags ≡ others
-same_flags [] [] e same = refl
-same_flags [] (b ∷ others) e same = absurd (omega arith)
-same_flags (b ∷ flags) [] e same = absurd (omega arith)
-same_flags (b ∷ flags) (d ∷ others) e same =
-    let first : b ≡ d = same 0 in
-    let rest = same_flags flags others (omega arith) (λ a. same (suc a)) in
-    cc (first, rest)
-
 -- a number whose flag is set is needed
 pub flag_needed : (flags : List Bool) (a : ℕ) → get_or flags a false ≡ true → is_needed flags a ≡ true
 flag_needed [] a e = absurd cc
@@ -38,100 +28,37 @@ flag_needed (b ∷ flags) (suc a) e = flag_needed flags a e
 
 -- a slot that is not filled where others are skipped is needed, and is not filled
 pub open_needed : (needed : ℕ → Bool) (slots : Slots) (a : ℕ) → is_some (narrowed needed slots a) ≡ false → needed a ≡ true
-open_needed needed slots a free = by (needed a) refl
-  where
-    by : (b : Bool) → needed a ≡ b → needed a ≡ true
-    by true e = e
-    by false e = absurd (let f = sym (ap (λ b. is_some (if b then slots a else Some skipped_answer)) e) ∙ free in cc)
+open_needed needed slots a free = grind (arith, nat_tests)
 
 pub narrowed_needed : (needed : ℕ → Bool) (slots : Slots) (a : ℕ) → needed a ≡ true → narrowed needed slots a ≡ slots a
 narrowed_needed needed slots a own = ap (λ b. if b then slots a else Some skipped_answer) own
 
 pub open_free : (needed : ℕ → Bool) (slots : Slots) (a : ℕ) → is_some (narrowed needed slots a) ≡ false → is_some (slots a) ≡ false
-open_free needed slots a free =
-    sym (ap is_some (narrowed_needed needed slots a (open_needed needed slots a free))) ∙ free
+open_free needed slots a free = grind (arith, nat_tests, narrowed_needed, open_needed)
 
--- the flag of an open slot, by what is seen
-pub open_seen : (needed : List Bool) (store : PartsContent) (slots : List (Option MatchRef)) (a : ℕ) → a < length needed →
-    (get_or needed a false && is_none (get_or slots a None))
-    ≡ not (is_some (narrowed (is_needed needed) (slots_of (matches_by_ref store slots)) a))
-open_seen needed store slots a lt = by (get_or needed a false) (get_or_default needed a true false lt)
-  where
-    S : Slots
-    S = slots_of (matches_by_ref store slots)
+-- a slot is filled, and open no more, or emptied, and open if it is needed
+open_set : {X : Type 0} (needed : List Bool) (slots : List (Option X)) (is_open : List Bool) (i : ℕ) (o : Option X) (b : Bool) → i < length slots →
+    (get_or needed i false && is_none o) ≡ b → AreOpen needed slots is_open → AreOpen needed (set slots i o) (set is_open i b)
+open_set needed slots is_open i o b lt told sound = grind (arith, nat_tests, length-set, get_or-set_same, get_or-set_other, cases_eq)
 
-    free : (o : Option MatchRef) → is_none o ≡ not (is_some o)
-    free None = refl
-    free (Some m) = refl
-
-    by : (b : Bool) → is_needed needed a ≡ b → (b && is_none (get_or slots a None)) ≡ not (is_some (narrowed (is_needed needed) S a))
-    by true e =
-        free (get_or slots a None) ∙ ap not (sym (seen_filled store slots a))
-        ∙ sym (ap (λ o. not (is_some o)) (narrowed_needed (is_needed needed) S a e))
-    by false e = sym (ap (λ b. not (is_some (if b then S a else Some skipped_answer))) e)
-
--- a slot is filled, and open no more
 pub open_filled : {X : Type 0} (needed : List Bool) (slots : List (Option X)) (is_open : List Bool) (i : ℕ) (x : X) → i < length slots →
     AreOpen needed slots is_open → AreOpen needed (set slots i (Some x)) (set is_open i false)
-open_filled needed slots is_open i x lt sound =
-    (length-set is_open i false ∙ sound.0 ∙ sym (length-set slots i (Some x)), at)
-  where
-    neither : (b : Bool) → false ≡ (b && false)
-    neither true = refl
-    neither false = refl
+open_filled needed slots is_open i x lt sound = open_set needed slots is_open i (Some x) false lt (and-false (get_or needed i false)) sound
 
-    at : (a : ℕ) → get_or (set is_open i false) a false ≡ (get_or needed a false && is_none (get_or (set slots i (Some x)) a None))
-    at a =
-        ⊎_elim
-        (λ (same : a ≡ i). ap (λ k. get_or (set is_open i false) k false) same
-        ∙ get_or-set_same is_open i false false (omega (arith, sound.0))
-        ∙ neither (get_or needed a false)
-        ∙ sym (ap (λ o. get_or needed a false && is_none o)
-        (ap (λ k. get_or (set slots i (Some x)) k None) same ∙ get_or-set_same slots i (Some x) None lt)))
-        (λ (apart : a ≡ i → ⊥). get_or-set_other is_open i a false false apart ∙ sound.1 a
-        ∙ sym (ap (λ o. get_or needed a false && is_none o) (get_or-set_other slots i a (Some x) None apart)))
-        (cases_eq a i)
+pub open_emptied : {X : Type 0} (needed : List Bool) (slots : List (Option X)) (is_open : List Bool) (i : ℕ) → i < length slots →
+    get_or needed i false ≡ true → AreOpen needed slots is_open → AreOpen needed (set slots i None) (set is_open i true)
+open_emptied needed slots is_open i lt own sound = open_set needed slots is_open i None true lt (ap (λ b. b && true) own) sound
 
 -- if no slot is filled, those that are needed are open
 pub all_open : {X : Type 0} (needed : List Bool) (slots : List (Option X)) (is_open : List Bool) → length needed ≡ length slots →
     ((a : ℕ) → get_or slots a None ≡ None) → AreOpen needed slots is_open → is_open ≡ needed
 all_open needed slots is_open same none sound =
-    same_flags is_open needed (sound.0 ∙ sym same)
-    (λ a. sound.1 a ∙ ap (λ o. get_or needed a false && is_none o) (none a) ∙ whole (get_or needed a false))
-  where
-    whole : (b : Bool) → (b && true) ≡ b
-    whole true = refl
-    whole false = refl
+    ext_get_or false is_open needed (sound.0 ∙ sym same)
+    (λ a lt. sound.1 a ∙ ap (λ o. get_or needed a false && is_none o) (none a) ∙ and-true (get_or needed a false))
 
 pub open_all : {X Y : Type 0} (needed is_open : List Bool) (slots : List (Option X)) (ys : List Y) → is_open ≡ needed →
     length needed ≡ length slots → slots ≡ map (λ y. None) ys → AreOpen needed slots is_open
-open_all {X} needed is_open slots ys is same none = (
-  ap length is ∙ same,
-  λ a. ap (λ l. get_or l a false) is
-      ∙ sym (ap (λ o. get_or needed a false && is_none o) (ap (λ l. get_or l a None) none ∙ none_at X ys a) ∙ whole (get_or needed a false)),
-)
-  where
-    whole : (b : Bool) → (b && true) ≡ b
-    whole true = refl
-    whole false = refl
-
--- and emptied, if it is needed
-pub open_emptied : {X : Type 0} (needed : List Bool) (slots : List (Option X)) (is_open : List Bool) (i : ℕ) → i < length slots →
-    get_or needed i false ≡ true → AreOpen needed slots is_open → AreOpen needed (set slots i None) (set is_open i true)
-open_emptied needed slots is_open i lt own sound =
-    (length-set is_open i true ∙ sound.0 ∙ sym (length-set slots i None), at)
-  where
-    at : (a : ℕ) → get_or (set is_open i true) a false ≡ (get_or needed a false && is_none (get_or (set slots i None) a None))
-    at a =
-        ⊎_elim
-        (λ (same : a ≡ i). ap (λ k. get_or (set is_open i true) k false) same
-        ∙ get_or-set_same is_open i true false (omega (arith, sound.0))
-        ∙ sym (ap (λ k. get_or needed k false && is_none (get_or (set slots i None) k None)) same
-        ∙ ap (λ b. b && is_none (get_or (set slots i None) i None)) own
-        ∙ ap is_none (get_or-set_same slots i None None lt)))
-        (λ (apart : a ≡ i → ⊥). get_or-set_other is_open i a true false apart ∙ sound.1 a
-        ∙ sym (ap (λ o. get_or needed a false && is_none o) (get_or-set_other slots i a None None apart)))
-        (cases_eq a i)
+open_all {X} needed is_open slots ys is same none = grind (arith, nat_tests, none_at, and-true)
 
 -- nothing is left where each wanted slot is filled, since what is wanted is needed
 pub is_done_left : (flags needed : List Bool) (store : PartsContent) (slots : List (Option MatchRef)) (left : ℕ) →
@@ -150,38 +77,22 @@ same_everywhere x (suc n) (suc k) = same_everywhere x n k
 
 -- a list to which the default was appended reads as before
 appended : {X : Type 0} (xs : List X) (x : X) (n a : ℕ) → get_or (xs ++ replicate n x) a x ≡ get_or xs a x
-appended xs x n a =
-    ⊎_elim
-    (λ (lt : a < length xs). get_or-append xs (replicate n x) x a lt)
-    (λ (le : length xs ≤ a). get_or-append_right xs (replicate n x) (length xs) a x refl le
-    ∙ same_everywhere x n (a - length xs) ∙ sym (get_or_past xs a x le))
-    (cases_lt a (length xs))
+appended xs x n a = grind (arith, nat_tests, get_or-append, get_or-append_right, same_everywhere, get_or_past, cases_lt)
 
 -- slots that were appended are free, and not open
 pub open_grown : {X : Type 0} (needed : List Bool) (slots : List (Option X)) (is_open : List Bool) (n : ℕ) →
     AreOpen needed slots is_open →
     AreOpen (needed ++ replicate n false) (slots ++ replicate n None) (is_open ++ replicate n false)
-open_grown {X} needed slots is_open n sound = (
-  length-append is_open (replicate n false) ∙ ap (λ k. k + length (replicate n false)) sound.0
-      ∙ ap (λ k. length slots + k) (length-replicate n false ∙ sym (let none : Option X = None in length-replicate n none))
-      ∙ sym (length-append slots (replicate n None)),
-  λ a. appended is_open false n a ∙ sound.1 a
-      ∙ sym (ap (λ b. b && is_none (get_or (slots ++ replicate n None) a None)) (appended needed false n a)
-      ∙ ap (λ o. get_or needed a false && is_none o) (appended slots None n a)),
-)
+open_grown {X} needed slots is_open n sound = grind (arith, nat_tests, length-append, length-replicate, appended)
 
 -- numbers stay needed where more are appended
 pub needed_grown : (needed : List Bool) (numbers : List ℕ) (n : ℕ) → AllAreNeeded needed numbers → AllAreNeeded (needed ++ replicate n false) numbers
-needed_grown needed numbers n all =
-    All-weaker (λ number. get_or needed number false ≡ true) (λ number. get_or (needed ++ replicate n false) number false ≡ true)
-    (λ number e. appended needed false n number ∙ e) numbers all
+needed_grown needed numbers n all = grind (arith, nat_tests, All-weaker, appended)
 
 -- and in flags of which these are among
 pub needed_among : (needed others : List Bool) (numbers : List ℕ) → AreFlagsAmong needed others → AllAreNeeded needed numbers →
     AllAreNeeded others numbers
-needed_among needed others numbers among all =
-    All-weaker (λ number. get_or needed number false ≡ true) (λ number. get_or others number false ≡ true)
-    (λ number e. among number e) numbers all
+needed_among needed others numbers among all = grind (arith, nat_tests, All-weaker)
 
 -- the flags of the first slots, one by one
 pub record AreOpenUpTo {X : Type 0} (needed : List Bool) (slots : List (Option X)) (is_open : List Bool) (number : ℕ) : Type 0 where
@@ -205,13 +116,7 @@ open_pushed needed slots is_open number b told so_far = record {
 
 pub open_whole : {X : Type 0} (needed : List Bool) (slots : List (Option X)) (is_open : List Bool) (number : ℕ) →
     length needed ≡ length slots → number ≡ length slots → AreOpenUpTo needed slots is_open number → AreOpen needed slots is_open
-open_whole needed slots is_open number same end all = (
-  all.count ∙ end,
-  λ a. ⊎_elim (λ (lt : a < number). all.at a lt)
-      (λ (le : number ≤ a). get_or_past is_open a false (omega (arith, le, all.count))
-      ∙ sym (ap (λ b. b && is_none (get_or slots a None)) (get_or_past needed a false (omega (arith, le, same, end)))))
-      (cases_lt a number),
-)
+open_whole needed slots is_open number same end all = grind (arith, nat_tests, get_or_past, cases_lt)
 
 -- after all slots were emptied the flags are those that are needed, and of slots that were appended none is set
 pub flags_cut : {X : Type 0} (needed : List Bool) (slots grown : List (Option X)) (is_open opened emptied cut : List Bool) (numbers : List ℕ)
@@ -240,20 +145,11 @@ flags_cut {X} needed slots grown is_open opened emptied cut numbers count same s
 
 pub length_cut : (needed : List Bool) (slots : ℕ) (cut : List Bool) (count : ℕ) → length needed ≡ slots →
     cut ≡ take count (needed ++ replicate (count - slots) false) → length cut ≡ count
-length_cut needed slots cut count same is =
-    omega (
-      arith,
-      ap length is,
-      length-take count (needed ++ replicate (count - slots) false),
-      length-append needed (replicate (count - slots) false),
-      length-replicate (count - slots) false,
-      same,
-    )
+length_cut needed slots cut count same is = grind (arith, nat_tests, length-take, count, length-append, length-replicate)
 
 pub flag_cut : (needed : List Bool) (n : ℕ) (cut : List Bool) (count number : ℕ) → cut ≡ take count (needed ++ replicate n false) →
     number < count → get_or cut number false ≡ get_or needed number false
-flag_cut needed n cut count number is lt =
-    ap (λ l. get_or l number false) is ∙ get_or-take count (needed ++ replicate n false) number false lt ∙ appended needed false n number
+flag_cut needed n cut count number is lt = grind (arith, nat_tests, get_or-take, count, appended)
 
 -- any flags are among as many that are all set
 pub all_among : (flags : List Bool) (n : ℕ) → length flags ≡ n → AreFlagsAmong flags (replicate n true)

@@ -1,39 +1,33 @@
 -- What is left to fill, and slots over what is stored.
-use Rattle.std.proofs.Common.{◌≡◌, ◌==◌, ℕ, zero, suc, ◌+◌, ◌-◌, ◌<◌, ◌≤◌, Bool, true}
-use Rattle.std.proofs.Common.{false, ◌&&◌, ◌||◌, cond, nat_eq, List, [], ◌∷◌, ◌++◌, length, get_or}
-use Rattle.std.proofs.Common.{set}
-use Rattle.std.proofs.Common.{take, map, Option, Some, None, is_some, option_map, MatchOption, refl, sym, ap, ◌∙◌, arith, Result, Ok, Err, zero-add}
-use Rattle.std.proofs.Common.{length-take}
+use Rattle.std.proofs.Common.{◌≡◌, ◌==◌, ℕ, zero, suc, ◌+◌, ◌-◌, ◌<◌, ◌≤◌, Bool, true, false, ◌&&◌, ◌||◌, cond, nat_eq, List, [], ◌∷◌, ◌++◌, length}
+use Rattle.std.proofs.Common.{get_or, set, take, map, Option, Some, None, is_some, option_map, MatchOption, refl, sym, ap, ◌∙◌, arith, Result, Ok}
+use Rattle.std.proofs.Common.{Err, zero-add, length-take, slice_get, drop, replicate, length-append}
 use Rattle.std.specs.Bool.{⊤}
 use Rattle.std.specs.List.{list_all, list_any}
-use Rattle.std.proofs.Common.{slice_get}
 use Rattle.std.proofs.Math.Seq.{get_or-append_seam}
 use Rattle.std.specs.Result.{OnErr, OnOk}
 use mir.Val.{bool_byte}
-use Rattle.std.proofs.Common.{drop, get_or, subst, replicate, length-append}
 use Rattle.std.proofs.lemmas.Bool.Decides.{nat_tests}
 use Rattle.std.proofs.lemmas.List.{drop_all, drop_more, get_or-set_other, get_or-set_same, get_or-take, length-map, length-replicate, length-set}
-use Rattle.std.proofs.lemmas.List.{get_or_default, take_more, map-set}
+use Rattle.std.proofs.lemmas.List.{ext_get_or, get_or_default, take_more, map-set}
 use Rattle.std.proofs.lemmas.List.Elements.{All-set, All-weaker, All-head, All-tail, All-same, All-map, All-nil, All-push}
-use Rattle.std.proofs.lemmas.List.Folds.{list_any-append}
+use Rattle.std.proofs.lemmas.List.Folds.{list_all-map, list_any-append}
+use mathlib.Core.List.{map-map}
 use Rattle.attr_table.specs.Setting.{Origin}
 use Rattle.attr_search.specs.shared.SlotContents.{AreListed, count_remaining, remaining_at, wanted_numbers}
 use Rattle.std.specs.Prelude.{not, slice_index_or}
 use Rattle.attr_search.specs.Matches.{cause_of, is_macro_kind}
-use Rattle.attr_search.specs.inner.AnswerRefs.{HasAssignment, KeepsAnswer, RefersTo, IsMatchRef}
-use Rattle.attr_search.specs.inner.AnswerRefs.{AreMatchRefs, assignment_at, line_by_ref, match_by_ref}
-use Rattle.attr_search.specs.inner.AnswerRefs.{matches_by_ref}
+use Rattle.attr_search.specs.inner.AnswerRefs.{HasAssignment, KeepsAnswer, RefersTo, IsMatchRef, AreMatchRefs, assignment_at, line_by_ref}
+use Rattle.attr_search.specs.inner.AnswerRefs.{match_by_ref, matches_by_ref}
 use Rattle.attr_search.specs.Slots.{Matched, filled_in, slots_of, table_answer}
 use Rattle.attr_search.specs.inner.PartsContents.{PartsContent, KeepsOneMore, KeepsParts, no_assignment}
-use Rattle.std.specs.Prelude.{Vec}
-use Rattle.std.specs.Global.{Global}
 use Rattle.attr_lists.specs.declared.types.TrackedAssignment.{TrackedAssignment}
 use Rattle.attr_text.specs.declared.assignment.Assignment.{Assignment}
 use Rattle.attr_lists.specs.declared.types.MatchKind.{MatchKind}
 use Rattle.attr_search.specs.declared.matching_line.MatchingLine.{MatchingLine}
 use Rattle.attr_search.specs.declared.pending_item.PendingItem.{PendingItem}
 use Rattle.attr_search.specs.inner.Pending.{item_answer, item_match, items_beside, line_origin, no_item, pending_item}
-use Rattle.attr_search.specs.shared.Slotted.{bodies_view, no_origin}
+use Rattle.attr_search.specs.shared.Slotted.{no_origin}
 use Rattle.attr_search.specs.declared.answer_parts.MatchRef.{MatchRef}
 use Rattle.std.proofs.lemmas.Option.{get_or_from_slice_get, slice_get_within}
 use Rattle.attr_search.proofs.PartLemmas.{grows_at, grows_length}
@@ -47,13 +41,9 @@ pub on_err : {T E F : Type 0} (r : Result T E) → F → OnErr r F
 on_err (Ok x) f = tt
 on_err (Err e) f = f
 
-is_some_map : {X Y : Type 0} (f : X → Y) (o : Option X) → is_some (option_map f o) ≡ is_some o
+pub is_some_map : {X Y : Type 0} (f : X → Y) (o : Option X) → is_some (option_map f o) ≡ is_some o
 is_some_map f None = refl
 is_some_map f (Some x) = refl
-
-all_mapped : {X Y : Type 0} (test : Y → Bool) (f : X → Y) (xs : List X) → list_all test (map f xs) ≡ list_all (λ x. test (f x)) xs
-all_mapped test f [] = refl
-all_mapped test f (x ∷ xs) = ap (λ b. test (f x) && b) (all_mapped test f xs)
 
 more_left : (n : ℕ) → nat_eq (1 + n) 0 ≡ false
 more_left n = grind arith
@@ -64,36 +54,30 @@ pub left_done : {X Y : Type 0} (flags : List Bool) (slots : List (Option X)) (fo
     nat_eq (count_remaining flags slots) 0 ≡ list_all (λ w. is_some (found w)) (wanted_numbers flags)
 left_done [] slots found e same = refl
 left_done (w ∷ flags) [] found e same = absurd (omega arith)
-left_done (true ∷ flags) (None ∷ slots) found e same =
-    more_left (count_remaining flags slots) ∙ sym (ap (λ b. b && list_all (λ v. is_some (found v)) (map suc (wanted_numbers flags))) (same 0 refl))
+left_done (true ∷ flags) (None ∷ slots) found e same = grind (arith, nat_tests, more_left)
 left_done (true ∷ flags) (Some x ∷ slots) found e same =
     ap (λ n. nat_eq n 0) (zero-add (count_remaining flags slots))
     ∙ left_done flags slots (λ a. found (suc a)) (omega arith) (λ a w. same (suc a) w)
-    ∙ sym (all_mapped (λ v. is_some (found v)) suc (wanted_numbers flags))
+    ∙ sym (list_all-map (λ v. is_some (found v)) suc (wanted_numbers flags))
     ∙ sym (ap (λ b. b && list_all (λ v. is_some (found v)) (map suc (wanted_numbers flags))) (same 0 refl))
 left_done (false ∷ flags) (o ∷ slots) found e same =
     ap (λ n. nat_eq n 0) (zero-add (count_remaining flags slots))
     ∙ left_done flags slots (λ a. found (suc a)) (omega arith) (λ a w. same (suc a) w)
-    ∙ sym (all_mapped (λ v. is_some (found v)) suc (wanted_numbers flags))
+    ∙ sym (list_all-map (λ v. is_some (found v)) suc (wanted_numbers flags))
 
 -- a slot is seen as filled where it is filled
 pub seen_filled : (store : PartsContent) (slots : List (Option MatchRef)) (a : ℕ) → is_some (slots_of (matches_by_ref store slots) a) ≡ is_some
     (get_or slots a None)
 seen_filled store [] a = refl
 seen_filled store (o ∷ slots) zero = is_some_map (table_answer 0) (option_map (match_by_ref store) o) ∙ is_some_map (match_by_ref store) o
-seen_filled store (o ∷ slots) (suc a) =
-    is_some_map (table_answer (suc a)) (get_or (matches_by_ref store slots) a None) ∙ sym
-    (is_some_map (table_answer a) (get_or (matches_by_ref store slots) a None)) ∙ seen_filled store slots a
+seen_filled store (o ∷ slots) (suc a) = grind (arith, nat_tests, is_some_map, seen_filled store slots a)
 
 count_left_push : {X : Type 0} (flags : List Bool) (slots : List (Option X)) (w : Bool) (o : Option X) → length flags ≡ length slots →
     count_remaining (flags ++ w ∷ []) (slots ++ o ∷ []) ≡ count_remaining flags slots + remaining_at w o
 count_left_push [] [] w o e = omega arith
 count_left_push [] (p ∷ slots) w o e = absurd (omega arith)
 count_left_push (v ∷ flags) [] w o e = absurd (omega arith)
-count_left_push (v ∷ flags) (p ∷ slots) w o e =
-    let rest : length flags ≡ length slots = omega arith in
-    let more = count_left_push flags slots w o rest in
-    omega arith
+count_left_push (v ∷ flags) (p ∷ slots) w o e = grind (arith, nat_tests, count_left_push flags slots w o)
 
 -- one more slot
 pub count_left_more : {X : Type 0} (flags : List Bool) (slots : List (Option X)) (i : ℕ) → i < length flags → length flags ≡ length slots →
@@ -115,35 +99,28 @@ count_left_set [] (o ∷ slots) i x e lt free = absurd (omega arith)
 count_left_set (true ∷ flags) (None ∷ slots) zero x e lt free = omega arith
 count_left_set (false ∷ flags) (None ∷ slots) zero x e lt free = omega arith
 count_left_set (w ∷ flags) (Some y ∷ slots) zero x e lt free = absurd cc
-count_left_set (w ∷ flags) (o ∷ slots) (suc i) x e lt free =
-    let rest : length flags ≡ length slots = omega arith in
-    let lt' : i < length slots = omega arith in
-    let more = count_left_set flags slots i x rest lt' free in
-    omega arith
+count_left_set (w ∷ flags) (o ∷ slots) (suc i) x e lt free = grind (arith, nat_tests, count_left_set flags slots i x)
 
 -- slots that are all empty
+pub none_at : {Y : Type 0} (X : Type 0) (xs : List Y) (a : ℕ) → get_or {A = Option X} (map (λ x. None) xs) a None ≡ None
+none_at X [] a = refl
+none_at X (x ∷ xs) zero = refl
+none_at X (x ∷ xs) (suc a) = none_at X xs a
+
 pub all_empty : {X Y : Type 0} (slots : List (Option X)) (old : List Y) → length slots ≡ length old →
     ((k : ℕ) → k < length slots → get_or slots k None ≡ None) → slots ≡ map (λ y. None) old
-all_empty [] [] e empty = refl
-all_empty [] (y ∷ old) e empty = absurd (omega arith)
-all_empty (o ∷ slots) [] e empty = absurd (omega arith)
-all_empty (o ∷ slots) (y ∷ old) e empty =
-    let first : o ≡ None = empty 0 (omega arith) in
-    let rest = all_empty slots old (omega arith) (λ k lt. empty (suc k) (omega arith)) in
-    cc
+all_empty {X} slots old e empty =
+    ext_get_or None slots (map (λ y. None) old) (e ∙ sym (length-map {B = Option X} old (λ y. None)))
+    (λ k lt. empty k lt ∙ sym (none_at X old k))
 
 -- a kept line stays what it is
 pub line_stays : (old new : PartsContent) (l : ℕ) → KeepsParts old new → l < length old.lines →
     (l < length new.lines) × (line_by_ref new l ≡ line_by_ref old l)
-line_stays old new l extends within =
-    (omega (arith, grows_length old.lines new.lines extends.lines, within), grows_at old.lines new.lines l no_origin extends.lines within)
+line_stays old new l extends within = grind (arith, nat_tests, grows_length, grows_at)
 
 assignment_stays : (old new : PartsContent) (cause : Option ℕ) (index : ℕ) → KeepsParts old new → HasAssignment old cause index →
     HasAssignment new cause index × (assignment_at new cause index ≡ assignment_at old cause index)
-assignment_stays old new None index extends within = (
-  omega (arith, grows_length old.assignments new.assignments extends.assignments, within),
-  grows_at old.assignments new.assignments index no_assignment extends.assignments within,
-)
+assignment_stays old new None index extends within = grind (arith, nat_tests, grows_length, grows_at)
 assignment_stays old new (Some cause) index extends within = (rw extends.bodies within, rw extends.bodies refl)
 
 -- and a stored match
@@ -189,14 +166,7 @@ pub matches_filled : (old new : PartsContent) (slots : List (Option MatchRef)) (
     → AreMatchRefs
     old slots → match_by_ref new m ≡ x →
     matches_by_ref new (set slots i (Some m)) ≡ set (matches_by_ref old slots) i (Some x)
-matches_filled old new slots i m x extends within here =
-    map-set (λ o. option_map (match_by_ref new) o) slots i (Some m)
-    ∙ ap (λ l. set l i (Some (match_by_ref new m))) (matches_stay old new slots extends within)
-    ∙ ap (λ y. set (matches_by_ref old slots) i (Some y)) here
-
-map_map : {X Y Z : Type 0} (g : Y → Z) (f : X → Y) (xs : List X) → map g (map f xs) ≡ map (λ x. g (f x)) xs
-map_map g f [] = refl
-map_map g f (x ∷ xs) = ap (λ l. g (f x) ∷ l) (map_map g f xs)
+matches_filled old new slots i m x extends within here = grind (arith, nat_tests, map-set, matches_stay)
 
 -- empty slots hold no match
 pub empty_within : {X : Type 0} (store : PartsContent) (slots : List (Option MatchRef)) (xs : List X) → slots ≡ map (λ x. None) xs
@@ -209,7 +179,7 @@ empty_within store slots xs e =
 pub empty_seen : {X : Type 0} (store : PartsContent) (slots : List (Option MatchRef)) (xs : List X) → slots ≡ map (λ x. None) xs
     → matches_by_ref store
     slots ≡ map (λ x. None) xs
-empty_seen store slots xs e = ap (matches_by_ref store) e ∙ map_map (λ o. option_map (match_by_ref store) o) (λ x. None) xs
+empty_seen store slots xs e = ap (matches_by_ref store) e ∙ map-map (λ o. option_map (match_by_ref store) o) (λ x. None) xs
 
 -- emptied slots are seen as such, whatever is stored then
 pub emptied_seen : (store store' : PartsContent) (slots slots' : List (Option MatchRef)) (held : List (Option Matched)) →
@@ -217,7 +187,7 @@ pub emptied_seen : (store store' : PartsContent) (slots slots' : List (Option Ma
     slots' ≡ map (λ o. None) slots →
     matches_by_ref store' slots' ≡ map (λ o. None) held
 emptied_seen store store' slots slots' held is e =
-    empty_seen store' slots' slots e ∙ sym (map_map (λ (m : Option Matched). None) (λ o. option_map (match_by_ref store) o) slots) ∙ ap
+    empty_seen store' slots' slots e ∙ sym (map-map (λ (m : Option Matched). None) (λ o. option_map (match_by_ref store) o) slots) ∙ ap
     (map (λ o. None)) is
 
 byte_is : (b : Bool) → bool_byte b ≡ cond b 1 0
@@ -238,17 +208,9 @@ fill_counts flags slots i x w left taken same lt free counted read byte =
 pub match_made : (line : MatchingLine) (item : TrackedAssignment) (kind : MatchKind) (cause : Option ℕ) (bodies : List (List TrackedAssignment))
     (body : List TrackedAssignment) (empty : Bool) → body ≡ slice_index_or bodies item.id.0 [] → empty ≡ (length body == 0) →
     is_macro_kind kind ≡ not empty → cause_of kind ≡ cause → item_match line item kind ≡ item_answer line bodies item cause
-match_made line item kind cause bodies body empty bodied counted told caused =
-    let Made : Bool → Option ℕ → Matched = λ k c. record { origin = line_origin line; assignment = item.inner; is_macro = k; cause = c } in
-    ap (λ k. Made k (cause_of kind)) (told ∙ ap not (counted ∙ ap (λ (b : List TrackedAssignment). length b == 0) bodied))
-    ∙ ap (Made (not (length (slice_index_or bodies item.id.0 []) == 0))) caused
+match_made line item kind cause bodies body empty bodied counted told caused = grind (arith, nat_tests)
 
-pub line_kept : (store : PartsContent) (origin : Origin) (l : Option ℕ) → MatchOption l ⊤ (λ s. RefersTo store s origin) → MatchOption l ⊤
-    (λ s. s < length store.lines)
-line_kept store origin None h = tt
-line_kept store origin (Some l) h = slice_get_within store.lines l origin h
-
--- it is seen there
+-- the line that was kept last is seen as it is
 pub line_seen : (store : PartsContent) (origin : Origin) (l : Option ℕ) → MatchOption l ⊤ (λ s. RefersTo store s origin) →
     MatchOption (option_map (line_by_ref store) l) ⊤ (λ o. o ≡ origin)
 line_seen store origin None h = tt
@@ -264,10 +226,7 @@ pub left_seen : (flags : List Bool) (store : PartsContent) (slots : List (Option
     (matches_by_ref store slots)
 left_seen [] store slots = refl
 left_seen (w ∷ flags) store [] = refl
-left_seen (w ∷ flags) store (slot ∷ slots) =
-    let a = remaining_at-seen store w slot in
-    let b = left_seen flags store slots in
-    omega arith
+left_seen (w ∷ flags) store (slot ∷ slots) = grind (arith, nat_tests, remaining_at-seen, left_seen flags store slots)
 
 -- every slot but those with these numbers is empty
 abbrev pub OthersEmpty : {X : Type 0} → List (Option X) → List ℕ → Type 0
@@ -276,30 +235,12 @@ OthersEmpty slots numbers = (a : ℕ) → list_any (nat_eq a) numbers ≡ false 
 -- a slot is emptied
 pub one_emptied : {X : Type 0} (slots : List (Option X)) (numbers : List ℕ) (i number : ℕ) → i < length numbers → number ≡ get_or numbers i 0 →
     number < length slots → OthersEmpty slots (drop i numbers) → OthersEmpty (set slots number None) (drop (i + 1) numbers)
-one_emptied slots numbers i number lt is below others = λ a rest. by a rest (nat_eq a number) refl
-  where
-    by : (a : ℕ) → list_any (nat_eq a) (drop (i + 1) numbers) ≡ false → (b : Bool) → nat_eq a number ≡ b
-        → get_or (set slots number None) a None ≡ None
-    by a rest true same =
-        let here : a ≡ number = grind (arith, nat_tests) in
-        ap (λ k. get_or (set slots number None) k None) here ∙ get_or-set_same slots number None None below
-    by a rest false apart =
-        let other : a ≡ number → ⊥ = λ e. grind (arith, nat_tests) in
-        let any : list_any (nat_eq a) (drop i numbers) ≡ false =
-        ap (list_any (nat_eq a)) (drop_more numbers i 0 lt) ∙ ap (λ k. nat_eq a k || list_any (nat_eq a) (drop (i + 1) numbers)) (sym is)
-        ∙ ap (λ b. b || list_any (nat_eq a) (drop (i + 1) numbers)) apart ∙ rest in
-        get_or-set_other slots number a None None other ∙ others a any
+one_emptied slots numbers i number lt is below others = grind (arith, nat_tests, get_or-set_same, drop_more, get_or-set_other)
 
 -- all are empty, once those with all numbers are
 pub all_emptied : {X Y : Type 0} (slots : List (Option X)) (old : List Y) (numbers : List ℕ) (i : ℕ) → length slots ≡ length old →
     length numbers ≤ i → OthersEmpty slots (drop i numbers) → slots ≡ map (λ y. None) old
-all_emptied slots old numbers i same le others =
-    all_empty slots old same (λ k lt. others k (ap (list_any (nat_eq k)) (drop_all i numbers le)))
-
-pub none_at : {Y : Type 0} (X : Type 0) (xs : List Y) (a : ℕ) → get_or {A = Option X} (map (λ x. None) xs) a None ≡ None
-none_at X [] a = refl
-none_at X (x ∷ xs) zero = refl
-none_at X (x ∷ xs) (suc a) = none_at X xs a
+all_emptied slots old numbers i same le others = grind (arith, nat_tests, all_empty, drop_all)
 
 -- empty slots need no number
 pub empty_listed : {X Y : Type 0} (slots : List (Option X)) (xs : List Y) → slots ≡ map (λ x. None) xs → AreListed slots []
@@ -320,21 +261,7 @@ listed_more slots numbers number below listed = record {
 -- the slot of a listed number is filled
 pub listed_filled : {X : Type 0} (slots : List (Option X)) (numbers : List ℕ) (number : ℕ) (o : Option X) →
     AreListed slots (numbers ++ number ∷ []) → AreListed (set slots number o) (numbers ++ number ∷ [])
-listed_filled slots numbers number o listed = record {
-  below = All-weaker (λ n. n < length slots) (λ n. n < length (set slots number o)) (λ n lt. rw (length-set slots number o) lt)
-      (numbers ++ number ∷ []) listed.below;
-  others = λ a none. get_or-set_other slots number a o None (other a none) ∙ listed.others a none;
-}
-  where
-    last : (b c : Bool) → b || (c || false) ≡ false → c ≡ false
-    last true c e = absurd cc
-    last false true e = e
-    last false false e = refl
-
-    other : (a : ℕ) → list_any (nat_eq a) (numbers ++ number ∷ []) ≡ false → a ≡ number → ⊥
-    other a none e =
-        let apart = last (list_any (nat_eq a) numbers) (nat_eq a number) (sym (list_any-append (nat_eq a) numbers (number ∷ [])) ∙ none) in
-        grind (arith, nat_tests)
+listed_filled slots numbers number o listed = grind (arith, nat_tests, All-weaker, length-set, get_or-set_other, list_any-append)
 
 -- slots that were emptied and cut are as many as flags
 pub empty_cut : (old grown emptied cut : List (Option MatchRef)) (count : ℕ) (flags : List Bool) → count ≡ length flags →
@@ -347,17 +274,6 @@ empty_cut old grown emptied cut count flags counted grows empty is =
     all_empty cut flags same
     (λ k lt. ap (λ l. get_or l k None) is ∙ get_or-take count emptied k None (omega arith) ∙ ap (λ l. get_or l k None) empty
     ∙ none_at MatchRef grown k)
-
--- copies are as sound
-pub listed_same : {X : Type 0} (slots slots' : List (Option X)) (numbers numbers' : List ℕ) → slots ≡ slots' → numbers ≡ numbers' →
-    AreListed slots' numbers' → AreListed slots numbers
-listed_same slots slots' numbers numbers' e f listed = rw (e, f) listed
-
-pub refs_same : (store store' : PartsContent) (slots slots' : List (Option MatchRef)) → store ≡ store' → slots ≡ slots' → AreMatchRefs store' slots' →
-    AreMatchRefs store slots
-refs_same store store' slots slots' e f within =
-    let own : AreMatchRefs store slots' = subst (λ s. AreMatchRefs s slots') (sym e) within in
-    All-same (λ o. MatchOption o ⊤ (IsMatchRef store)) slots slots' f own
 
 -- how many slots are filled
 pub filled_set : {X : Type 0} (slots : List (Option X)) (i : ℕ) (x : X) → i < length slots → is_some (get_or slots i None) ≡ false →
@@ -380,15 +296,7 @@ pub answer_kept : (line : MatchingLine) (top : PendingItem) (kind : MatchKind) (
     assignment_at after top.cause i ≡ (pending_item line.items.now before.bodies top).inner →
     KeepsAnswer line top kind before after (record { line = l; assignment = i; kind = kind })
 answer_kept line top kind before after l i cause extends more handed found has same =
-    let origin : line_by_ref after l ≡ line_origin line = get_or_from_slice_get after.lines l (line_origin line) no_origin found in
-    let own : assignment_at after (cause_of kind) i ≡ (pending_item line.items.now before.bodies top).inner = rw cause same in
-    record {
-      extends = extends;
-      more = more;
-      at_hand = rw handed found;
-      within = record { line = slice_get_within after.lines l (line_origin line) found; assignment = rw cause has };
-      found = cc (origin, own);
-    }
+    grind (arith, nat_tests, get_or_from_slice_get, slice_get_within)
 
 -- an item of a body is there
 pub body_has : (items : List TrackedAssignment) (after : PartsContent) (cause : Option ℕ) (index : ℕ) → is_some cause ≡ true →
@@ -404,8 +312,5 @@ pub own_has : (items : List TrackedAssignment) (bodies : List (List TrackedAssig
     after.assignments ≡ before ++ own ∷ [] → HasAssignment after cause (length before) ×
     (assignment_at after cause (length before) ≡ (get_or (items_beside items bodies cause) index no_item).inner)
 own_has items bodies after (Some a) index item own before none inside is same pushed = absurd cc
-own_has items bodies after None index item own before none inside is same pushed = (
-  omega (arith, ap length pushed, length-append before (own ∷ [])),
-  ap (λ l. get_or l (length before) no_assignment) pushed ∙ get_or-append_seam before own [] no_assignment ∙ same
-      ∙ ap (λ (t : TrackedAssignment). t.inner) (is ∙ get_or_default items index item no_item inside),
-)
+own_has items bodies after None index item own before none inside is same pushed =
+    grind (arith, nat_tests, length-append, get_or-append_seam, get_or_default)

@@ -1,5 +1,6 @@
 -- A search whose lines are told apart by tags in place of their origins.
-use Rattle.std.proofs.Common.{◌≡◌, ℕ, zero, suc, ◌+◌, ◌-◌, ◌^◌, ◌≤◌, inl, inr, ⊎_elim, min, true, false, ◌&&◌, List, [], ◌∷◌, ◌++◌, length, map}
+use Rattle.std.proofs.lemmas.Bool.Decides.{nat_tests}
+use Rattle.std.proofs.Common.{◌≡◌, ℕ, zero, suc, ◌+◌, ◌-◌, ◌^◌, ◌≤◌, ⊎_elim, min, true, false, ◌&&◌, List, [], ◌∷◌, ◌++◌, length, map}
 use Rattle.std.proofs.Common.{Option, Some, None, refl, sym, ap, subst, ◌∙◌, arith, ◌==◌}
 use Rattle.std.specs.Prelude.{is_some, MatchOption, ⊤, Contains, slice_get, option_map, option_and_then}
 use Rattle.std.specs.List.{flat_map}
@@ -11,12 +12,10 @@ use Rattle.attr_table.specs.Setting.{Item, Origin, Line, Setting, Answer, body_o
 use Rattle.attr_table.specs.Table.{Occurrence, Root, Inside, Table, Slots, line_at, item_at, IsReached, IsLive, IsEarliest, IsStable}
 use Rattle.attr_table.specs.Cut.{is_done, origin_at, answer_at, IsCut, IsCutAt}
 use Rattle.attr_table.specs.shared.Walk.{Task, Walks, ends, stops, skips, fills, tasks_in, line_tasks, list_tasks, tasks_of, expands, opened, fill}
-use Rattle.attr_table.proofs.ForCallers.{Mem}
-use Rattle.attr_table.proofs.ForCallers.{some_or_none, entry_is, none_value}
-use Rattle.attr_table.proofs.ForCallers.{fill_other, then_walks}
-use Rattle.attr_table.proofs.ForCallers.{walked_searched}
-use Rattle.attr_table.proofs.ForCallers.{OneTable-of}
-use Rattle.attr_search.specs.inner.Rounds.{Rounds, over, round, list_rounds, rounds_of}
+use Rattle.attr_table.proofs.ForCallers.{some_or_none, entry_is, none_value, fill_other, then_walks, walked_searched, OneTable-of}
+use Rattle.attr_search.specs.SearchContents.{SearchContents}
+use Rattle.attr_search.specs.inner.Lines.{list_rounds, rounds_of}
+use Rattle.attr_search.specs.inner.Searched.{Rounds, over, round, state_slots}
 use Rattle.attr_search.specs.Roots.{root_line, RootsAtMost}
 
 -- a task with a tag
@@ -29,30 +28,23 @@ Alike x y = (a : ℕ) → is_some (x a) ≡ is_some (y a)
 
 done_alike : (wanted : List ℕ) (x y : Slots) → Alike x y → is_done wanted x ≡ is_done wanted y
 done_alike [] x y same = refl
-done_alike (w ∷ wanted) x y same =
-    ap (λ b. b && is_done wanted x) (same w) ∙ ap (λ b. is_some (y w) && b) (done_alike wanted x y same)
+done_alike (w ∷ wanted) x y same = grind (arith, nat_tests, done_alike wanted x y same)
 
 fill_alike : (bodies : List (List Item)) (g : Origin) (t : Task) (x y : Slots) → Alike x y →
     Alike (fill bodies (retag g t) x) (fill bodies t y)
 unfolding retag
-fill_alike bodies g t x y same a =
-    by_test (a == t.item.attribute) (λ e. rw e refl) (λ e. rw e (same a))
+fill_alike bodies g t x y same a = grind (arith, nat_tests)
 
 retag-tasks : (g origin : Origin) (cause : Option ℕ) (items : List Item) →
     map (retag g) (tasks_in origin cause items) ≡ tasks_in g cause items
 unfolding retag
 retag-tasks g origin cause [] = refl
-retag-tasks g origin cause (i ∷ items) =
-    map-append (retag g) (tasks_in origin cause items) (record { origin = origin; item = i; cause = cause } ∷ [])
-    ∙ ap (λ ts. ts ++ record { origin = g; item = i; cause = cause } ∷ []) (retag-tasks g origin cause items)
+retag-tasks g origin cause (i ∷ items) = grind (arith, nat_tests, map-append, retag, retag-tasks g origin cause items)
 
 retag-opened : (bodies : List (List Item)) (g : Origin) (t : Task) →
     map (retag g) (opened bodies t) ≡ opened bodies (retag g t)
 unfolding retag
-retag-opened bodies g t =
-    by_test (expands t.item.state)
-    (λ e. rw e (retag-tasks g t.origin (Some t.item.attribute) (body_of bodies t.item.attribute)))
-    (λ e. rw e refl)
+retag-opened bodies g t = grind (arith, nat_tests, retag-tasks)
 
 -- a walk over tasks of one tag
 record Retagged (g : Origin) (bodies : List (List Item)) (wanted : List ℕ) (ts : List Task) (before after : Slots) : Type 0 where
@@ -126,11 +118,11 @@ record Chained (bodies : List (List Item)) (wanted : List ℕ) (gs : List ((ℕ 
   lines : List (ℕ × ℕ)
   counted : min (a + length lines) (2 ^ 128 - 1) ≤ b
   known : (x : ℕ) → before x ≡ None → is_some (final x) ≡ true →
-      (t : ℕ × ℕ) × Mem t lines × MatchOption (final x) ⊤ (λ v. v.origin ≡ tag_of t)
+      (t : ℕ × ℕ) × Contains lines t × MatchOption (final x) ⊤ (λ v. v.origin ≡ tag_of t)
 
-chained : (bodies : List (List Item)) (wanted : List ℕ) (gs : List ((ℕ × ℕ) × List Task)) {slots after : Slots} {a b : ℕ} →
-    Rounds bodies wanted (map (λ g. g.1) gs) slots after a b → (before : Slots) → Alike before slots →
-    Chained bodies wanted gs before after a b
+chained : (bodies : List (List Item)) (wanted : List ℕ) (gs : List ((ℕ × ℕ) × List Task)) {first second : SearchContents} →
+    Rounds bodies wanted (map (λ g. g.1) gs) first second → (before : Slots) → Alike before (state_slots first) →
+    Chained bodies wanted gs before (state_slots second) first.tested second.tested
 chained bodies wanted [] over before same =
     record {
       final = before;
@@ -141,14 +133,15 @@ chained bodies wanted [] over before same =
       counted = omega arith;
       known = λ x none some. let e : false ≡ true = rw none at some in absurd (cc);
     }
-chained bodies wanted (g ∷ gs) (round {before = slots} {middle = middle} {a = a} {b = b} {c = c} w changed le rest) before same =
-    let r = retagged (tag_of g.0) bodies wanted w before same in
+chained bodies wanted (g ∷ gs) (round {before = first} {middle = middle} line rest) before same =
+    let le = line.counted in
+    let r = retagged (tag_of g.0) bodies wanted line.searches.walks before same in
     let s = chained bodies wanted gs rest r.final r.alike in
     let walks = then_walks bodies (is_done wanted) (map (retag (tag_of g.0)) g.1) (tagged_tasks gs) before r.final s.final r.walks s.walks in
     let kept : (x : ℕ) → is_some (before x) ≡ true → s.final x ≡ before x =
     λ x e. let h = r.kept x e in s.kept x (ap (λ v. is_some v) h ∙ e) ∙ h in
     ⊎_elim
-    (λ (unchanged : middle ≡ slots). record {
+    (λ (unchanged : state_slots middle ≡ state_slots first). record {
       final = s.final;
       walks = walks;
       alike = s.alike;
@@ -160,7 +153,7 @@ chained bodies wanted (g ∷ gs) (round {before = slots} {middle = middle} {a = 
           r.alike x ∙ (ap (λ (v : Slots). is_some (v x)) unchanged ∙ (sym (same x) ∙ ap (λ v. is_some v) none)) in
           s.known x (none_value (r.final x) empty) some;
     })
-    (λ (up : min (a + 1) (2 ^ 128 - 1) ≤ b). record {
+    (λ (up : min (first.tested + 1) (2 ^ 128 - 1) ≤ middle.tested). record {
       final = s.final;
       walks = walks;
       alike = s.alike;
@@ -169,10 +162,10 @@ chained bodies wanted (g ∷ gs) (round {before = slots} {middle = middle} {a = 
       counted = let h = s.counted in omega arith;
       known = λ x none some.
           by_test (is_some (r.final x))
-          (λ t. (g.0, inl refl, rw (s.kept x t) (r.tagged x none)))
-          (λ f. let k = s.known x (none_value (r.final x) f) some in (k.0, inr k.1, k.2));
+          (λ t. (g.0, (0, omega arith, refl), rw (s.kept x t) (r.tagged x none)))
+          (λ f. let k = s.known x (none_value (r.final x) f) some in (k.0, (suc k.1.0, (let lt = k.1.1 in omega arith), k.1.2), k.2));
     })
-    changed
+    line.changed
 
 -- the lines of a setting, each with its list and its index there
 line_groups : ℕ → ℕ → List Line → List ((ℕ × ℕ) × List Task)
@@ -257,32 +250,14 @@ tagged_line_at s i j =
 
 same_item : (s : Setting) (o : Occurrence) → item_at (tagged_setting s) o ≡ item_at s o
 unfolding tagged_setting tagged_line
-same_item s (Root i j k) =
-    ap (λ l. option_and_then (λ line. slice_get line.items k) l) (tagged_line_at s i j) ∙ go (line_at s i j)
-  where
-    go : (l : Option Line) →
-        option_and_then (λ line. slice_get line.items k) (option_map (tagged_line (i, j)) l)
-        ≡ option_and_then (λ line. slice_get line.items k) l
-    go None = refl
-    go (Some line) = refl
-same_item s (Inside parent index) =
-    ap (λ i. option_and_then (λ (x : Item). slice_get (body_of s.bodies x.attribute) index) i) (same_item s parent)
+same_item s (Root i j k) = grind (arith, nat_tests, tagged_line_at, tagged_line)
+same_item s (Inside parent index) = grind (arith, nat_tests, same_item s parent)
 
 tagged_origin : (s : Setting) (o : Occurrence) (i : Item) → item_at s o ≡ Some i →
     origin_at (tagged_setting s) o ≡ Some (tag_of (root_line o))
 unfolding tagged_line
-tagged_origin s (Root i j k) x e =
-    ap (λ l. option_map (λ line. line.origin) l) (tagged_line_at s i j) ∙ go (line_at s i j) e
-  where
-    go : (l : Option Line) → option_and_then (λ line. slice_get line.items k) l ≡ Some x →
-        option_map (λ line. line.origin) (option_map (tagged_line (i, j)) l) ≡ Some (tag_of (i, j))
-    go None h = absurd (cc)
-    go (Some line) h = refl
-tagged_origin s (Inside parent index) x e =
-    ⊎_elim
-    (λ (r : (j : Item) × (item_at s parent ≡ Some j)). tagged_origin s parent r.0 r.1)
-    (λ (n : item_at s parent ≡ None). let d = rw n at e in absurd (cc))
-    (some_or_none (item_at s parent))
+tagged_origin s (Root i j k) x e = grind (arith, nat_tests, tagged_line_at, tagged_line, tag_of)
+tagged_origin s (Inside parent index) x e = grind (arith, nat_tests, some_or_none, tagged_origin s parent)
 
 -- a table is as stable for the tagged setting
 reached_back : (s : Setting) (table : Table) (o : Occurrence) → IsReached (tagged_setting s) table o → IsReached s table o
@@ -294,12 +269,10 @@ reached_there s table (Root i j k) r = tt
 reached_there s table (Inside parent index) r = (r.0, same_item s parent ∙ r.1, r.2, r.3)
 
 live_back : (s : Setting) (table : Table) (o : Occurrence) (i : Item) → IsLive (tagged_setting s) table o i → IsLive s table o i
-live_back s table o i live =
-    record { item = sym (same_item s o) ∙ live.item; reached = reached_back s table o live.reached }
+live_back s table o i live = grind (arith, nat_tests, same_item, reached_back)
 
 live_there : (s : Setting) (table : Table) (o : Occurrence) (i : Item) → IsLive s table o i → IsLive (tagged_setting s) table o i
-live_there s table o i live =
-    record { item = same_item s o ∙ live.item; reached = reached_there s table o live.reached }
+live_there s table o i live = grind (arith, nat_tests, same_item, reached_there)
 
 earliest_there : (s : Setting) (table : Table) (a : ℕ) (entry : Option Occurrence) → IsEarliest s table a entry →
     IsEarliest (tagged_setting s) table a entry
@@ -310,20 +283,7 @@ earliest_there s table a (Some o) h = (
 )
 
 stable_there : (s : Setting) (start : Slots) (table : Table) → IsStable s start table → IsStable (tagged_setting s) start table
-stable_there s start table stable a = go (start a) (stable a)
-  where
-    go : (x : Option Answer) → MatchOption x (IsEarliest s table a (table a)) (λ answer. table a ≡ None) →
-        MatchOption x (IsEarliest (tagged_setting s) table a (table a)) (λ answer. table a ≡ None)
-    go None h = earliest_there s table a (table a) h
-    go (Some x) h = h
-
-contains_mem : (t : ℕ × ℕ) (lines : List (ℕ × ℕ)) → Mem t lines → Contains lines t
-contains_mem t [] m = absurd m
-contains_mem t (l ∷ lines) m =
-    ⊎_elim
-    (λ (e : t ≡ l). (0, omega arith, sym e))
-    (λ (r : Mem t lines). let c = contains_mem t lines r in (suc c.0, (let lt = c.1 in omega arith), c.2))
-    m
+stable_there s start table stable a = grind (arith, nat_tests, tagged_setting, earliest_there)
 
 -- an entry's slot is filled at the line where its root stands
 root_is : (s : Setting) (start final : Slots) (table : Table) (wanted : List ℕ) (a : ℕ) (o : Occurrence) (t : ℕ × ℕ) →
@@ -347,19 +307,18 @@ root_is s start final table wanted a o t stable cut e free some tagged =
           (λ ne. absurd (apart (λ f. ne (ap (λ (g : Origin). g.line) (sym f))))) (cases_eq t.1 (root_line o).1),
     )
 
-from_none : (n b : ℕ) → min (0 + n) (2 ^ 128 - 1) ≤ b → min n (2 ^ 128 - 1) ≤ b
-from_none n b h = omega arith
-
 pair_is : (t u : ℕ × ℕ) → t.0 ≡ u.0 → t.1 ≡ u.1 → t ≡ u
 pair_is t u e f = ap (λ (x : ℕ). (x, t.1)) e ∙ ap (λ (y : ℕ). (u.0, y)) f
 
-pub roots_most : (s : Setting) (wanted : List ℕ) (start final : Slots) (tested : ℕ) (table : Table) → IsStable s start table →
-    Rounds s.bodies wanted (rounds_of s.lists) start final 0 tested → RootsAtMost table start final tested
+pub roots_most : (s : Setting) (wanted : List ℕ) (before after : SearchContents) (table : Table) → IsStable s (state_slots before) table →
+    before.tested ≡ 0 → Rounds s.bodies wanted (rounds_of s.lists) before after →
+    RootsAtMost table (state_slots before) (state_slots after) after.tested
 unfolding tagged_setting
-roots_most s wanted start final tested table stable rounds =
+roots_most s wanted before after table stable none rounds =
+    let start = state_slots before in
     let gs = list_groups 0 s.lists in
     let c = chained s.bodies wanted gs
-    (subst (λ ls. Rounds s.bodies wanted ls start final 0 tested) (sym (lists_plain 0 s.lists)) rounds) start (λ a. refl) in
+    (rw (← lists_plain 0 s.lists) at rounds) start (λ a. refl) in
     let tagged = tagged_setting s in
     let walks : Walks s.bodies (is_done wanted) (tasks_of tagged.lists) start c.final =
     subst (λ ts. Walks s.bodies (is_done wanted) ts start c.final) (lists_tagged 0 s.lists) c.walks in
@@ -369,10 +328,10 @@ roots_most s wanted start final tested table stable rounds =
     let cut : IsCut tagged start table wanted c.final =
     subst (λ (t : Table). IsCut tagged start t wanted c.final) same searched.2 in (
       c.lines,
-      from_none (length c.lines) tested c.counted,
+      let h = c.counted in omega (arith, none),
       λ a o e free some.
           let filled : is_some (c.final a) ≡ true = c.alike a ∙ some in
           let k = c.known a free filled in
           let at = root_is s start c.final table wanted a o k.0 stable cut e free filled k.2 in
-          subst (λ (t : ℕ × ℕ). Contains c.lines t) (pair_is k.0 (root_line o) at.0 at.1) (contains_mem k.0 c.lines k.1),
+          subst (λ (t : ℕ × ℕ). Contains c.lines t) (pair_is k.0 (root_line o) at.0 at.1) k.1,
     )

@@ -1,7 +1,7 @@
 -- The keys of lines decide between the lines that match a path and the candidates for it.
+use Rattle.std.proofs.lemmas.Bool.Decides.{nat_tests}
 use Rattle.std.proofs.Common.{◌≡◌, ℕ, zero, suc, ◌==◌, Bool, true, false, not, ◌||◌, List, [], ◌∷◌, take, map, position, Option, Some, None, refl}
-use Rattle.std.proofs.Common.{sym, ap, ◌∙◌, arith}
-use Rattle.std.proofs.Common.{cond, Result, Ok, Err, OnOk}
+use Rattle.std.proofs.Common.{sym, ap, ◌∙◌, arith, cond, Result, Ok, Err, OnOk}
 use Rattle.std.specs.Prelude.{is_none, slice_get}
 use Rattle.std.specs.List.{list_all, starts_with}
 use Rattle.attr_keys.specs.declared.key.Subject.TheVariants.{Name, Path}
@@ -16,12 +16,10 @@ use Rattle.attr_wildmatch.specs.Deciding.{text_matches}
 use Rattle.attr_wildmatch.specs.Matching.{same_byte}
 use Rattle.attr_glob.specs.Paths.{matched_part, is_directory, path_matches}
 use Rattle.attr_glob.specs.Patterns.{Reading, reading, has_flag, is_wildcard, must_be_dir, ends_with}
-use Rattle.attr_glob.specs.shared.LineShapes.{folds, is_tried}
-use Rattle.attr_glob.proofs.ForCallers.{matching_line_is_candidate, reading-wildcard, no_wildcard, text_matches-literal}
-use Rattle.attr_wildmatch.proofs.ForCallers.{by_test, and_parts}
-use Rattle.attr_glob.proofs.ForCallers.{text_matches-front}
+use Rattle.attr_glob.specs.shared.LineShapes.{folds, is_tried, key_of_line}
+use Rattle.attr_glob.proofs.ForCallers.{matching_line_is_candidate, reading-wildcard, no_wildcard, text_matches-literal, text_matches-front}
 use Rattle.attr_glob.proofs.ForCallers.{whole_met, front_met, end_met, bytewise, falling_indexes, passes}
-use Rattle.attr_glob.specs.shared.LineShapes.{key_of_line}
+use Rattle.attr_wildmatch.proofs.ForCallers.{by_test, and_parts}
 use Rattle.attr_search.specs.inner.Trying.{AreTried}
 
 -- a line that is tried is a candidate
@@ -41,9 +39,7 @@ tried_is_candidate case path line h =
 -- what a text matches begins with what stands before its first wildcard
 begins_so : (case : Case) (text value : List ℕ) (n : ℕ) → position is_wildcard text ≡ Some n → text_matches case text value ≡ true →
     starts_with (same_byte case) value (take n text) ≡ true
-begins_so case text value n at m =
-    by_test (starts_with (same_byte case) value (take n text)) (λ t. t)
-    (λ f. let e : true ≡ false = sym m ∙ text_matches-front case text value n at f in absurd cc)
+begins_so case text value n at m = grind (arith, nat_tests, text_matches-front)
 
 name_front : (case : Case) (text name path : List ℕ) (wildcard : Option ℕ) → wildcard ≡ position is_wildcard text →
     text_matches case text name ≡ true → content_met (folds case) name path (prefix_of Name text wildcard) ≡ true
@@ -107,8 +103,7 @@ none_passes : (case : Case) (path : List ℕ) (lines : List Reading) (row : ℕ)
     passes (is_tried case path) (slice_get lines row) ≡ false
 none_passes case path [] row all = refl
 none_passes case path (line ∷ lines) zero all = rw (and_parts (has_macro_mode line) (list_all has_macro_mode lines) all).0 refl
-none_passes case path (line ∷ lines) (suc row) all =
-    none_passes case path lines row (and_parts (has_macro_mode line) (list_all has_macro_mode lines) all).1
+none_passes case path (line ∷ lines) (suc row) all = grind (arith, nat_tests, and_parts, none_passes case path lines row)
 
 pub idle_tried : (case : Case) (path : List ℕ) (lines : List Reading) → list_all has_macro_mode lines ≡ true → AreTried case path lines []
 idle_tried case path lines all =

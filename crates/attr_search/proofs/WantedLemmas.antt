@@ -1,11 +1,12 @@
 -- How many flags are set.
+use Rattle.std.proofs.lemmas.Bool.Decides.{nat_tests}
 use Rattle.std.proofs.Common.{◌≡◌, ℕ, zero, suc, ◌+◌, ◌<◌, ◌≤◌, Bool, true, false, not, cond, List, [], ◌∷◌, length, get_or, set, map, replicate}
-use Rattle.std.proofs.Common.{None, refl, sym, ap, ◌∙◌, arith, ◌++◌, ◌⊎◌}
+use Rattle.std.proofs.Common.{None, refl, sym, ap, ◌∙◌, arith, ◌++◌, ◌⊎◌, ◌≢◌, ◌||◌, ⊎_elim, Less, Greater, Equal}
 use mathlib.Core.Bool.{beq}
 use mir.Val.{bool_byte}
-use Rattle.std.proofs.lemmas.List.{length-set}
+use Rattle.std.proofs.Math.Bool.{or-false, or-true}
+use Rattle.std.proofs.lemmas.List.{length-set, get_or-replicate, get_or-set_other, get_or-set_same, length-replicate}
 use Rattle.std.proofs.lemmas.List.Sums.{sum_by-cons, sum_by-set}
-use Rattle.std.proofs.Common.{◌≢◌, ◌%◌, ◌||◌, BTreeSet, ⊎_elim, Less, Greater, Equal}
 use Rattle.std.specs.Prelude.{if◌then◌else◌}
 use Rattle.std.proofs.lemmas.List.Folds.{list_any-append}
 use Rattle.std.specs.BTreeMap.{is_at}
@@ -14,10 +15,9 @@ use Rattle.std.specs.Cmp.{nat_cmp_is}
 use Rattle.std.specs.List.{list_any}
 use Rattle.std.specs.Ordering.{is_eq, nat_cmp}
 use Rattle.std.proofs.lemmas.Bool.{cases_eq, cases_lt}
-use Rattle.std.proofs.lemmas.List.{get_or-replicate, get_or-set_other, get_or-set_same, length-replicate}
 use Rattle.std.proofs.lemmas.List.FromFn.{fill_by_all, get_or-map-range_with_len, length-map-range_with_len}
 use Rattle.attr_search.specs.shared.SlotContents.{count_wanted, count_remaining}
-use Rattle.attr_search.specs.inner.WantedView.{AreSoundFlags, is_flag_set, wanted_flags_view}
+use Rattle.attr_search.specs.inner.WantedView.{is_flag_set, wanted_flags_view}
 use Rattle.attr_search.specs.declared.wanted.WantedFlags.TheInside.{Inside}
 
 abbrev one : Bool → ℕ
@@ -43,10 +43,7 @@ count_replicate (suc n) true =
     let cons = sum_by-cons (λ w. cond w 1 0) true (replicate n true) in
     let rest = count_replicate n true in
     omega arith
-count_replicate (suc n) false =
-    let cons = sum_by-cons (λ w. cond w 1 0) false (replicate n false) in
-    let rest = count_replicate n false in
-    omega arith
+count_replicate (suc n) false = grind (arith, nat_tests, sum_by-cons, count_replicate n false)
 
 byte_of : (w : Bool) → bool_byte (not w) + cond w 1 0 ≡ 1
 byte_of true = refl
@@ -67,22 +64,7 @@ count_set flags number count more w lt counted read told =
 
 -- another number is not at this one's index
 pub at_other : (n k : ℕ) → k ≢ n → is_at (nat_cmp n) k ≡ false
-at_other n k apart =
-    ⊎_elim
-    (λ (below : n < k). ap is_eq (sym (nat_cmp_is n k Less below)))
-    (λ (le : k ≤ n). ⊎_elim
-    (λ (above : k < n). ap is_eq (sym (nat_cmp_is n k Greater above)))
-    (λ (ge : n ≤ k). absurd (apart (omega arith)))
-    (cases_lt k n))
-    (cases_lt n k)
-
-or_false : (b : Bool) → b || false ≡ b
-or_false true = refl
-or_false false = refl
-
-or_true : (b : Bool) → b || true ≡ true
-or_true true = refl
-or_true false = refl
+at_other n k apart = grind (arith, nat_tests, cases_lt)
 
 -- the flag of a number
 pub flag_at : (w : Inside) (k : ℕ) → k < w.len → get_or (wanted_flags_view w) k false ≡ is_flag_set w k
@@ -95,7 +77,7 @@ length_flags w = length-map-range_with_len (is_flag_set w) 0 w.len
 pub flags_same : (w : Inside) → w.numbers.keys ≡ [] → wanted_flags_view w ≡ replicate w.len w.all
 flags_same w none =
     sym (fill_by_all (is_flag_set w) (replicate w.len w.all) w.len false (length-replicate w.len w.all)
-    (λ k lt. get_or-replicate w.len k w.all false lt ∙ sym (ap (λ ks. w.all || list_any (is_at (nat_cmp k)) ks) none ∙ or_false w.all)))
+    (λ k lt. get_or-replicate w.len k w.all false lt ∙ sym (ap (λ ks. w.all || list_any (is_at (nat_cmp k)) ks) none ∙ or-false w.all)))
 
 -- one more flag is set
 pub flags_more : (w v : Inside) (number : ℕ) → number < w.len → v.len ≡ w.len → v.all ≡ w.all → contains nat_cmp v.numbers number ≡ true →
@@ -108,7 +90,7 @@ flags_more w v number lt len all here others =
     ⊎_elim
     (λ (same : k ≡ number). ap (λ i. get_or (set flags number true) i false) same
     ∙ get_or-set_same flags number true false (omega (arith, length_flags w))
-    ∙ sym (ap (is_flag_set v) same ∙ ap (λ b. v.all || b) here ∙ or_true v.all))
+    ∙ sym (ap (is_flag_set v) same ∙ ap (λ b. v.all || b) here ∙ or-true v.all))
     (λ (apart : k ≢ number). get_or-set_other flags number k true false apart ∙ flag_at w k (omega (arith, below, len))
     ∙ sym (ap (λ b. b || contains nat_cmp v.numbers k) all ∙ ap (λ b. w.all || b) (others k (at_other number k apart))))
     (cases_eq k number)))
@@ -123,17 +105,14 @@ count_empty X (true ∷ flags) (x ∷ xs) e =
     let cons = sum_by-cons (λ w. cond w 1 0) true flags in
     let rest = count_empty X flags xs (omega arith) in
     omega arith
-count_empty X (false ∷ flags) (x ∷ xs) e =
-    let cons = sum_by-cons (λ w. cond w 1 0) false flags in
-    let rest = count_empty X flags xs (omega arith) in
-    omega arith
+count_empty X (false ∷ flags) (x ∷ xs) e = grind (arith, nat_tests, sum_by-cons, count_empty X flags xs)
 
 -- a flag after flags of some numbers were set, by its number: of these it has the value, and else what it had
 abbrev pub after_set : List ℕ → Bool → ℕ → Bool → Bool
 after_set seen value number before = if list_any (is_at (nat_cmp number)) seen then value else before
 
 any_last : (p : ℕ → Bool) (xs : List ℕ) (n : ℕ) (b : Bool) → p n ≡ b → list_any p (xs ++ n ∷ []) ≡ (list_any p xs || b)
-any_last p xs n b e = list_any-append p xs (n ∷ []) ∙ ap (λ d. list_any p xs || d) (or_false (p n) ∙ e)
+any_last p xs n b e = list_any-append p xs (n ∷ []) ∙ ap (λ d. list_any p xs || d) (or-false (p n) ∙ e)
 
 at_same : (n : ℕ) → is_at (nat_cmp n) n ≡ true
 at_same n = ap is_eq (sym (nat_cmp_is n n Equal refl))
@@ -143,22 +122,12 @@ pub one_set : (flags : List Bool) (seen : List ℕ) (a n : ℕ) (value before : 
     get_or flags a false ≡ after_set seen value a before →
     get_or (set flags n value) a false ≡ after_set (seen ++ n ∷ []) value a before
 one_set flags seen a n value before lt so_far =
-    ⊎_elim
-    (λ (same : a ≡ n). ap (λ k. get_or (set flags k value) a false) (sym same) ∙ get_or-set_same flags a value false lt
-    ∙ sym (ap (λ b. if b then value else before)
-    (any_last (is_at (nat_cmp a)) seen n true (ap (is_at (nat_cmp a)) (sym same) ∙ at_same a) ∙ or_true (list_any (is_at (nat_cmp a)) seen))))
-    (λ (apart : a ≢ n). get_or-set_other flags n a value false apart ∙ so_far
-    ∙ sym (ap (λ b. if b then value else before)
-    (any_last (is_at (nat_cmp a)) seen n false (at_other a n (λ e. apart (sym e))) ∙ or_false (list_any (is_at (nat_cmp a)) seen))))
-    (cases_eq a n)
+    grind (arith, nat_tests, get_or-set_same, any_last, at_same, or-true, get_or-set_other, at_other, or-false, cases_eq)
 
 -- and none of a number past the flags
 pub none_set : (flags : List Bool) (seen : List ℕ) (a n : ℕ) (value before : Bool) → a < length flags → length flags ≤ n →
     get_or flags a false ≡ after_set seen value a before → get_or flags a false ≡ after_set (seen ++ n ∷ []) value a before
-none_set flags seen a n value before lt past so_far =
-    so_far ∙ sym (ap (λ b. if b then value else before)
-    (any_last (is_at (nat_cmp a)) seen n false (at_other a n (λ e. absurd (omega (arith, lt, past, e))))
-    ∙ or_false (list_any (is_at (nat_cmp a)) seen)))
+none_set flags seen a n value before lt past so_far = grind (arith, nat_tests, any_last, at_other, or-false)
 
 if_set : (b value : Bool) → (if b then true else value) ≡ (b || value)
 if_set true value = refl
@@ -180,25 +149,19 @@ written_flags w flags same at =
     (λ k lt. at k (omega (arith, same, lt)) ∙ if_set (contains nat_cmp w.numbers k) w.all ∙ swap (contains nat_cmp w.numbers k) w.all)
   where
     swap : (a b : Bool) → (a || b) ≡ (b || a)
-    swap true b = sym (or_true b)
-    swap false b = sym (or_false b)
+    swap true b = sym (or-true b)
+    swap false b = sym (or-false b)
 
 -- a flag is that of all, or where these are the same it is as it was
 abbrev pub IsBase : Inside → Inside → ℕ → Bool → Type 0
 IsBase w v a flag = (flag ≡ w.all) ⊎ ((w.all ≡ v.all) × (flag ≡ is_flag_set v a))
 
 pub base_set : (w v : Inside) (a : ℕ) (flag : Bool) → w.all ≡ true → IsBase w v a flag → flag ≡ w.all
-base_set w v a flag all base =
-    ⊎_elim (λ (e : flag ≡ w.all). e)
-    (λ (p : (w.all ≡ v.all) × (flag ≡ is_flag_set v a)). p.1 ∙ ap (λ b. b || contains nat_cmp v.numbers a) (sym p.0 ∙ all) ∙ sym all) base
+base_set w v a flag all base = grind (arith, nat_tests)
 
 pub base_cleared : (w v : Inside) (a : ℕ) (flag : Bool) → w.all ≡ false → IsBase w v a flag →
     after_set v.numbers.keys false a flag ≡ w.all
-base_cleared w v a flag none base =
-    ⊎_elim
-    (λ (e : flag ≡ w.all). ap (after_set v.numbers.keys false a) (e ∙ none) ∙ if_same (contains nat_cmp v.numbers a) false ∙ sym none)
-    (λ (p : (w.all ≡ v.all) × (flag ≡ is_flag_set v a)). ap (after_set v.numbers.keys false a)
-    (p.1 ∙ ap (λ b. b || contains nat_cmp v.numbers a) (sym p.0 ∙ none)) ∙ if_unset (contains nat_cmp v.numbers a) ∙ sym none) base
+base_cleared w v a flag none base = grind (arith, nat_tests, if_same, if_unset)
 
 pub beq_same : (a b : Bool) → beq a b ≡ true → a ≡ b
 beq_same true true e = refl

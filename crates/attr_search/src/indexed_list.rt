@@ -9,7 +9,7 @@ ghost use Rattle.attr_search.specs.inner.EntryAt.{entry_at};
 ghost use Rattle.attr_search.specs.inner.Trying.{AreTried};
 ghost use Rattle.attr_glob.specs.Views.{base_bytes, patterns_of};
 ghost use Rattle.attr_search.specs.inner.DirectoryKeys.{base_text, keys_of};
-ghost use Rattle.attr_lists.specs.Definitions.{free_id, is_active, with_list, HoldsList, IsSoundCollection};
+ghost use Rattle.attr_lists.specs.Definitions.{HoldsList, IsSoundCollection, RegistersAs};
 ghost use Rattle.attr_lists.specs.KeptLists.{macros_valid};
 ghost use Rattle.attr_lists.specs.ListViews.{entries_view};
 ghost use Rattle.attr_lists.specs.Numbers.{numbered_lines};
@@ -64,8 +64,8 @@ impl IndexedList {
     ghost use Rattle.attr_search.specs.inner.BaseKeys.{is_rooted};
     ghost use Rattle.attr_search.specs.IndexedLists.{listed_view};
 
-    /// Registers a list in the table, under the least free list id: its items and macros get the numbers of their
-    /// names, and its definitions of macros are active from then on.
+    /// Registers a list in the table, under a list id that no registered list has: its items and macros get the numbers
+    /// of their names, and its definitions of macros are active from then on.
     ///
     /// # Errors
     ///
@@ -77,14 +77,12 @@ impl IndexedList {
     ) -> Result<IndexedList, AllocError>
         requires read { AreRead (entries_view list.patterns.items) }
         requires valid { macros_valid (entries_view list.patterns.items) ≡ true }
-        ensures list_id { IfOk result (λ s. s.list_id ≡ free_id names.old.active) }
-        ensures fresh { IfOk result (λ s. is_active names.old.active s.list_id ≡ false) }
+        ensures registered { IfOk result (λ s.
+            RegistersAs s.list_id (entries_view list.patterns.items) names.old names.new) }
         ensures lines { IfOk result (λ s. entries_view s.list.patterns.items
             ≡ numbered_lines names.new.names (entries_view list.patterns.items)) }
         ensures source { IfOk result (λ s. s.list.source ≡ list.source) }
         ensures base { IfOk result (λ s. s.list.base ≡ list.base) }
-        ensures added { OnOk result (names.new
-            ≡ with_list (free_id names.old.active) (entries_view list.patterns.items) names.old) }
         ensures holds { IfOk result (λ s.
             HoldsList names.new s.list_id (entries_view s.list.patterns.items)) }
         ensures others { OnOk result (StayRegistered names.old names.new) }

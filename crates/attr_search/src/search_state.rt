@@ -1,6 +1,6 @@
 //! The state of a search over lists: slots that are filled by the lines that match a path.
 
-ghost use Rattle.std.specs.Prelude.{◌≡◌, ◌+◌, ◌*◌, ◌<◌, ◌≤◌, [], length, map, All, OnErr, OnOk, IfOk, IfSome, IsNone, MatchOption, is_none, false, true, Ok, None, option_map, replicate, slice_index_or};
+ghost use Rattle.std.specs.Prelude.{◌≡◌, ◌*◌, ◌<◌, ◌≤◌, [], length, map, All, OnErr, OnOk, IfOk, IfSome, IsNone, MatchOption, is_none, false, true, Ok, None, option_map, replicate, slice_index_or};
 ghost use Rattle.bstr.specs.BStr.{bstr_bytes};
 ghost use Rattle.attr_glob.specs.Views.{patterns_of};
 ghost use Rattle.attr_lists.specs.ListViews.{items_in, macro_id};
@@ -9,16 +9,15 @@ ghost use Rattle.attr_table.specs.Cut.{IsSearched, ExtendsCuts, is_done};
 ghost use Rattle.attr_table.specs.Work.{work_of, newly_filled};
 ghost use Rattle.attr_search.specs.IndexedLists.{listed_view, lists_view};
 ghost use Rattle.attr_search.specs.inner.FoundLists.{AreListsFor};
-ghost use Rattle.attr_search.specs.inner.EntryAt.{entry_at};
 ghost use Rattle.attr_search.specs.inner.Trying.{AreTried};
 ghost use Rattle.attr_search.specs.Matches.{match_view};
-ghost use Rattle.attr_search.specs.Settings.{candidates_in, is_found};
+ghost use Rattle.attr_search.specs.Settings.{is_found};
 ghost use Rattle.attr_search.specs.Slots.{AreFreeFrom, IsNextFilled, filled_in};
 ghost use Rattle.attr_search.specs.shared.BodyChanges.{changed_bodies, sized_bodies};
 ghost use Rattle.attr_search.specs.shared.Slotted.{BodiesHaveSlots, LinesHaveSlots, ListsHaveSlots};
 ghost use Rattle.attr_search.specs.shared.Slotted.{bodies_view};
 ghost use Rattle.attr_search.specs.inner.Filling.{BodiesFit};
-ghost use Rattle.attr_search.specs.inner.Searched.{KeepsState, ListKeepsNamed, ListsKeepNamed, SearchedLine, SearchedLines, SearchedList, SearchedLists, TestsRoots, has_free_item, query_candidates, query_setting, state_slots, state_wanted};
+ghost use Rattle.attr_search.specs.inner.Searched.{KeepsState, ListsKeepNamed, SearchedLine, SearchedLines, SearchedList, SearchedLists, SearchesPart, TestsRoots, query_candidates, query_setting, state_slots, state_wanted};
 ghost use Rattle.attr_search.specs.shared.SlotContents.{AreFlagsAmong, AreListed, count_remaining};
 ghost use Rattle.std.specs.List.Sorted.{IsNonDecreasing};
 ghost use Rattle.std.specs.Option.{option_copied};
@@ -379,13 +378,8 @@ impl SearchState {
     ) -> Result<(), AllocError>
         requires in_lists { ListsHaveSlots (length self.old.answers)
             (lists_view lists.now.lists.items) }
-        ensures kept { KeepsState self.old self.new }
-        ensures named { OnOk result
-            (ListsKeepNamed (lists_view lists.now.lists.items) self.old self.new) }
-        ensures tested { OnOk result (self.new.tested
-            ≤ self.old.tested + query_candidates (lists_view lists.now.lists.items) query.entry) }
-        ensures searched { OnOk result (SearchedLists
-            query.entry (lists_view lists.now.lists.items) self.old self.new) }
+        ensures { SearchesPart result
+            (SearchedLists query.entry (lists_view lists.now.lists.items)) self.old self.new }
     {
         let searched = match lists.few() {
             Some(numbers) => self.search_numbers(alloc, &lists.lists, numbers, query),
@@ -404,13 +398,8 @@ impl SearchState {
     ) -> Result<(), AllocError>
         requires in_lists { ListsHaveSlots (length self.old.answers)
             (lists_view lists.now.lists.items) }
-        ensures kept { KeepsState self.old self.new }
-        ensures named { OnOk result
-            (ListsKeepNamed (lists_view lists.now.lists.items) self.old self.new) }
-        ensures tested { OnOk result (self.new.tested
-            ≤ self.old.tested + query_candidates (lists_view lists.now.lists.items) query.entry) }
-        ensures searched { OnOk result (SearchedLists
-            query.entry (lists_view lists.now.lists.items) self.old self.new) }
+        ensures { SearchesPart result
+            (SearchedLists query.entry (lists_view lists.now.lists.items)) self.old self.new }
     {
         let numbers = self.find_lists(alloc, lists, query)?;
         let searched = self.search_numbers(alloc, &lists.lists, &numbers, query);
@@ -458,12 +447,8 @@ impl SearchState {
     ) -> Result<(), AllocError>
         requires numbers { AreListsFor query.case (bstr_bytes query.path) lists.now numbers.now }
         requires in_lists { ListsHaveSlots (length self.old.answers) (lists_view lists.now) }
-        ensures kept { KeepsState self.old self.new }
-        ensures named { OnOk result (ListsKeepNamed (lists_view lists.now) self.old self.new) }
-        ensures tested { OnOk result (self.new.tested
-            ≤ self.old.tested + query_candidates (lists_view lists.now) query.entry) }
-        ensures searched { OnOk result (SearchedLists
-            query.entry (lists_view lists.now) self.old self.new) }
+        ensures { SearchesPart result
+            (SearchedLists query.entry (lists_view lists.now)) self.old self.new }
     {
         let mut bound = lists.len();
         for k in (0..numbers.len()).rev() {
@@ -487,12 +472,8 @@ impl SearchState {
         query: PathQuery<'_>,
     ) -> Result<(), AllocError>
         requires in_lines { LinesHaveSlots (length self.old.answers) (listed_view list.now).lines }
-        ensures kept { KeepsState self.old self.new }
-        ensures named { OnOk result (ListKeepsNamed (listed_view list.now) self.old self.new) }
-        ensures tested { OnOk result (self.new.tested ≤ self.old.tested
-            + candidates_in query.entry.case (bstr_bytes query.entry.path) (listed_view list.now)) }
-        ensures searched { OnOk result (SearchedList
-            query.entry (listed_view list.now) self.old self.new) }
+        ensures { SearchesPart result
+            (SearchedList query.entry (listed_view list.now)) self.old self.new }
     {
         if list.is_idle {
             return Ok(());
@@ -539,11 +520,8 @@ impl SearchState {
     ) -> Result<(), AllocError>
         requires indexes { All (λ index. index < length list.now.list.patterns.items) indexes.now }
         requires in_lines { LinesHaveSlots (length self.old.answers) (listed_view list.now).lines }
-        ensures kept { KeepsState self.old self.new }
-        ensures named { OnOk result (ListKeepsNamed (listed_view list.now) self.old self.new) }
-        ensures tested { OnOk result (self.new.tested ≤ self.old.tested + length indexes.now) }
-        ensures searched { OnOk result (SearchedLines
-            rest.entry (listed_view list.now) indexes.now self.old self.new) }
+        ensures { SearchesPart result
+            (SearchedLines rest.entry (listed_view list.now) indexes.now) self.old self.new }
     {
         for line in indexes {
             if self.is_done() {
@@ -565,14 +543,8 @@ impl SearchState {
     ) -> Result<(), AllocError>
         requires index { index < length list.now.list.patterns.items }
         requires in_lines { LinesHaveSlots (length self.old.answers) (listed_view list.now).lines }
-        ensures kept { KeepsState self.old self.new }
-        ensures named { OnOk result (ListKeepsNamed (listed_view list.now) self.old self.new) }
-        ensures tested { self.new.tested ≤ self.old.tested + 1 }
-        ensures passed { OnOk result (has_free_item self.old
-            (entry_at (listed_view list.now).lines index).items ≡ false →
-            self.new.tested ≡ self.old.tested) }
-        ensures searched { OnOk result (SearchedLine
-            rest.entry (listed_view list.now) index self.old self.new) }
+        ensures { SearchesPart result
+            (SearchedLine rest.entry (listed_view list.now) index) self.old self.new }
     {
         let mapping = &list.list.patterns[index];
         let Some(items) = assigned(&mapping.value) else {

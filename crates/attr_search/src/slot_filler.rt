@@ -41,8 +41,7 @@ impl SlotFiller {
     ) -> Result<(), AllocError>
         requires can_fill { CanFill self.old line.items.now }
         ensures kept { KeepsFiller self.old self.new }
-        ensures named { OnOk result (FillsNamed line.entry.items.now self.old self.new) }
-        ensures filled { OnOk result (Fills
+        ensures filled { OnOk result (Fills line.entry.items.now
             (tasks_in (line_origin line.entry) None (table_items line.entry.items.now))
             self.old self.new) }
     {
@@ -58,8 +57,7 @@ impl SlotFiller {
     fn run_stack(&mut self, alloc: Global, line: MatchingLine<'_>) -> Result<(), AllocError>
         requires at_line { AtLine line self.old }
         ensures kept { KeepsFiller self.old self.new }
-        ensures named { OnOk result (FillsNamed line.entry.items.now self.old self.new) }
-        ensures filled { OnOk result (Fills
+        ensures filled { OnOk result (Fills line.entry.items.now
             (stack_tasks line.entry self.old.slots.bodies self.old.stack.items) self.old self.new) }
     {
         while !self.slots.is_done() {

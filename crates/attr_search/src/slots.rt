@@ -1,7 +1,7 @@
 //! What a search fills: a slot for each attribute. A slot has the answer for its attribute, or none. The wanted slots are
 //! those that a search looks for. It fills the needed slots alone, and skips the others.
 
-ghost use Rattle.std.specs.Prelude.{◌≡◌, Bool, List, ◌<◌, ◌≤◌, ◌*◌, ◌-◌, ◌++◌, ◌&&◌, ⊤, All, false, None, Some, [], IfOk, IfSome, OnErr, OnOk, MatchOption, is_none, is_some, length, map, not, option_map, replicate, set, slice_index_or};
+ghost use Rattle.std.specs.Prelude.{◌≡◌, Bool, List, ◌<◌, ◌≤◌, ◌*◌, ◌&&◌, ⊤, All, false, None, Some, [], IfOk, IfSome, OnErr, OnOk, MatchOption, is_none, is_some, length, map, not, option_map, set, slice_index_or};
 ghost use Rattle.std.specs.List.{list_any};
 ghost use Rattle.attr_table.specs.Cut.{is_done};
 ghost use Rattle.attr_search.specs.Matches.{match_view};
@@ -13,7 +13,7 @@ ghost use Rattle.attr_search.specs.shared.BodyChanges.{changed_bodies, sized_bod
 ghost use Rattle.attr_search.specs.inner.Pending.{IsInside, item_answer, line_origin, pending_item};
 ghost use Rattle.attr_search.specs.shared.Slotted.{bodies_view};
 ghost use Rattle.attr_search.specs.shared.SlotContents.{AreFlagsAmong, AreListed, SlotContents, count_remaining, empty_slots, open_slots, wanted_numbers};
-ghost use Rattle.attr_search.specs.inner.SlotsView.{AllAreNeeded, AreOpen};
+ghost use Rattle.attr_search.specs.inner.SlotsView.{AllAreNeeded, AreOpen, GrowsTo};
 
 use crate::answer_parts::{AnswerParts, MatchRef};
 use crate::bodies::BodyChange;
@@ -403,15 +403,9 @@ fn grow(
 ) -> Result<(), AllocError>
     requires open_flags { length is_open.old.items ≡ length slots.old.items }
     requires wanted_flags { length is_wanted.old.items ≡ length slots.old.items }
-    ensures slots { OnOk result (slots.new.items
-        ≡ slots.old.items ++ replicate (count - length slots.old.items) None) }
-    ensures opened { OnOk result (is_open.new.items
-        ≡ is_open.old.items ++ replicate (count - length is_open.old.items) false) }
-    ensures wanted { OnOk result (is_wanted.new.items
-        ≡ is_wanted.old.items ++ replicate (count - length is_wanted.old.items) false) }
-    ensures refused { OnErr result (slots.new.items ≡ slots.old.items) }
-    ensures unopened { OnErr result (is_open.new.items ≡ is_open.old.items) }
-    ensures unwanted { OnErr result (is_wanted.new.items ≡ is_wanted.old.items) }
+    ensures slots { GrowsTo result count None slots.old.items slots.new.items }
+    ensures opened { GrowsTo result count false is_open.old.items is_open.new.items }
+    ensures wanted { GrowsTo result count false is_wanted.old.items is_wanted.new.items }
 {
     let before = slots.len();
     if before >= count {
@@ -433,12 +427,8 @@ fn grow_flags(
 ) -> Result<(), AllocError>
     requires few { length is_open.old.items ≤ count }
     requires same { length is_wanted.old.items ≡ length is_open.old.items }
-    ensures opened { OnOk result (is_open.new.items
-        ≡ is_open.old.items ++ replicate (count - length is_open.old.items) false) }
-    ensures wanted { OnOk result (is_wanted.new.items
-        ≡ is_wanted.old.items ++ replicate (count - length is_wanted.old.items) false) }
-    ensures unopened { OnErr result (is_open.new.items ≡ is_open.old.items) }
-    ensures unwanted { OnErr result (is_wanted.new.items ≡ is_wanted.old.items) }
+    ensures opened { GrowsTo result count false is_open.old.items is_open.new.items }
+    ensures wanted { GrowsTo result count false is_wanted.old.items is_wanted.new.items }
 {
     let before = is_open.len();
     is_open.resize(count, false)?;

@@ -1,126 +1,109 @@
 -- Each word has a form, and its item follows from the form.
-use Rattle.std.proofs.Common.{◌≡◌, ◌≢◌, ℕ, Bool, true, false, not, List, [], ◌∷◌, ◌++◌, length, get_or, map, Some, None, Result, Ok, Err}
-use Rattle.std.proofs.Common.{refl, sym, ap, ◌∙◌, arith, subst, ⊎_elim, eqb}
-use Rattle.std.specs.List.{before_first, list_all, AllZip}
+use Rattle.std.proofs.Common.{◌≡◌, ◌≢◌, ℕ, Bool, true, false, List, [], ◌∷◌, ◌++◌, drop, map, Result}
+use Rattle.std.proofs.Common.{refl, sym, ◌∙◌, arith, subst, inl, inr}
+use Rattle.std.specs.List.{before_first, AllZip, position_or_len}
 use Rattle.std.proofs.Math.Seq.{drop-append-add}
-use Rattle.std.proofs.lemmas.List.{append-nil}
-use Rattle.std.proofs.lemmas.Bool.{cases_Bool, cases_eq, and_from, eqb-true, ne_eqb}
+use Rattle.std.proofs.lemmas.List.{append-nil, take-append-drop}
+use Rattle.std.proofs.lemmas.Bool.{cases_Bool, cases_eq, eqb-true}
+use Rattle.std.proofs.lemmas.Bool.Decides.{nat_tests}
 use Rattle.attr_wildmatch.specs.Bytes.{exclamation_mark, hyphen}
 use Rattle.attr_text.specs.Names.{is_valid_name, is_reserved_name}
-use Rattle.attr_text.specs.Items.{equals, is_equals, Refusal, invalid_name, reserved, checked_name, with_state, item_of, items_of}
+use Rattle.attr_text.specs.Items.{equals, is_equals, Refusal, checked_name, with_state, item_of, items_of}
 use Rattle.attr_text.specs.ItemForms.{HasNoEquals, HasNoMark, IsValuePart, HasForm, name_alone, name_and_value, after_minus}
 use Rattle.attr_text.specs.ItemForms.{after_exclamation_mark, IsItem, accepted, bad_name, reserved_name}
 use Rattle.attr_text.specs.Words.{AreWords}
 use Rattle.attr_text.specs.declared.state.State.{State}
 use Rattle.attr_text.specs.declared.state.State.TheVariants.{Set, Unset, Value, Unspecified}
 use Rattle.attr_text.specs.declared.assignment.Assignment.{Assignment}
-use Rattle.attr_text.proofs.ItemLemmas.{before-equals, before-whole, no_offset, offset-equals, item-plain, item-unset, item-unspecified}
-use Rattle.attr_text.proofs.WordLaws.{runs_are_words}
+use Rattle.attr_text.proofs.ItemLemmas.{before-equals, before-whole, no_offset, offset-equals}
+use Rattle.attr_text.proofs.WordLemmas.{drop-one_more}
+use Rattle.attr_text.proofs.WordLaws.{front_fails, runs_are_words}
 
 before-part : (name rest : List ℕ) → HasNoEquals name → IsValuePart rest → before_first is_equals (name ++ rest) ≡ name
-before-part name [] none part = ap (before_first is_equals) (append-nil name) ∙ before-whole name none
-before-part name (b ∷ value) none part =
-    ap (λ c. before_first is_equals (name ++ c ∷ value)) part ∙ before-equals name value none
+before-part name [] none part = grind (arith, append-nil name, before-whole name)
+before-part name (b ∷ value) none part = grind (arith, before-equals name value)
 
 form-reads : (word name : List ℕ) (state : State) → HasForm word name state → item_of word ≡ with_state (checked_name name) state
-form-reads _ _ _ (name_alone name mark none) =
-    item-plain name name None (before-whole name none) (no_offset name none)
-    (ne_eqb (get_or name 0 0) hyphen mark.0) (ne_eqb (get_or name 0 0) exclamation_mark mark.1)
+form-reads _ _ _ (name_alone name mark none) = grind (arith, nat_tests, before-whole name none, no_offset name none)
 form-reads _ _ _ (name_and_value name value mark none) =
-    item-plain (name ++ equals ∷ value) name (Some (length name)) (before-equals name value none) (offset-equals name value none)
-    (ne_eqb (get_or name 0 0) hyphen mark.0) (ne_eqb (get_or name 0 0) exclamation_mark mark.1)
-    ∙ ap (λ rest. with_state (checked_name name) (Value rest)) (drop-append-add name (equals ∷ value) 1)
-form-reads _ _ _ (after_minus name rest none part) =
-    item-unset (hyphen ∷ (name ++ rest)) name (before-part (hyphen ∷ name) rest none part)
-form-reads _ _ _ (after_exclamation_mark name rest none part) =
-    item-unspecified (exclamation_mark ∷ (name ++ rest)) name (before-part (exclamation_mark ∷ name) rest none part)
-
-with-valid : (name : List ℕ) (state : State) → is_valid_name name ≡ true → is_reserved_name name ≡ false →
-    with_state (checked_name name) state ≡ Ok (record { name = name; state = state })
-with-valid name state valid free = rw (valid, free) refl
-
-with-invalid : (name : List ℕ) (state : State) → is_valid_name name ≡ false → with_state (checked_name name) state ≡ Err (invalid_name name)
-with-invalid name state invalid = rw invalid refl
-
-with-reserved : (name : List ℕ) (state : State) → is_valid_name name ≡ true → is_reserved_name name ≡ true →
-    with_state (checked_name name) state ≡ Err (reserved name)
-with-reserved name state valid taken = rw (valid, taken) refl
+    grind (arith, nat_tests, before-equals name value none, offset-equals name value none, drop-append-add name (equals ∷ value) 1)
+form-reads _ _ _ (after_minus name rest none part) = grind (arith, nat_tests, before-part (hyphen ∷ name) rest none part)
+form-reads _ _ _ (after_exclamation_mark name rest none part) = grind (arith, nat_tests, before-part (exclamation_mark ∷ name) rest none part)
 
 -- an item that the relation gives is the computed one
 pub item_only : (word : List ℕ) (item : Result Assignment Refusal) → IsItem word item → item ≡ item_of word
-item_only word _ (accepted name state form valid free) = sym (form-reads word name state form ∙ with-valid name state valid free)
-item_only word _ (bad_name name state form invalid) = sym (form-reads word name state form ∙ with-invalid name state invalid)
-item_only word _ (reserved_name name state form valid taken) = sym (form-reads word name state form ∙ with-reserved name state valid taken)
+item_only word _ (accepted name state form valid free) = grind (arith, form-reads word name state form)
+item_only word _ (bad_name name state form invalid) = grind (arith, form-reads word name state form)
+item_only word _ (reserved_name name state form valid taken) = grind (arith, form-reads word name state form)
+
+-- so the computed item is one that the relation gives, if it gives any
+held : (word : List ℕ) (item : Result Assignment Refusal) → IsItem word item → IsItem word (item_of word)
+held word item is = subst (IsItem word) (item_only word item is) is
 
 item_by : (word name : List ℕ) (state : State) → HasForm word name state → (valid taken : Bool) → is_valid_name name ≡ valid →
     is_reserved_name name ≡ taken → IsItem word (item_of word)
-item_by word name state form true false v r =
-    subst (IsItem word) (sym (form-reads word name state form ∙ with-valid name state v r)) (accepted name state form v r)
-item_by word name state form true true v r =
-    subst (IsItem word) (sym (form-reads word name state form ∙ with-reserved name state v r)) (reserved_name name state form v r)
-item_by word name state form false taken v r =
-    subst (IsItem word) (sym (form-reads word name state form ∙ with-invalid name state v)) (bad_name name state form v)
+item_by word name state form true false v r = held word _ (accepted name state form v r)
+item_by word name state form true true v r = held word _ (reserved_name name state form v r)
+item_by word name state form false taken v r = held word _ (bad_name name state form v)
 
--- a text up to its first `=`, and the rest
-Cut : List ℕ → Type 0
-Cut text = (name : List ℕ) × (rest : List ℕ) × (text ≡ name ++ rest) × HasNoEquals name × IsValuePart rest
+-- the first `=` of a text and the bytes after it
+abbrev from_equals : List ℕ → List ℕ
+from_equals text = drop (position_or_len is_equals text) text
 
-cut-longer : (b : ℕ) (bs : List ℕ) → eqb b equals ≡ false → Cut bs → Cut (b ∷ bs)
-unfolding Cut
-cut-longer b bs e (name, rest, whole, none, part) =
-    (b ∷ name, rest, ap (λ t. b ∷ t) whole, and_from (not (eqb b equals)) (list_all (λ c. not (eqb c equals)) name) (ap not e) none, part)
+value_part : (text : List ℕ) → IsValuePart (from_equals text)
+value_part [] = tt
+value_part (b ∷ bs) = elim (cases_Bool (is_equals b)) [
+  | inl e ↦ rw e (eqb-true b equals e)
+  | inr e ↦ rw (e, drop-one_more) (value_part bs)
+]
 
-cut_of : (text : List ℕ) → Cut text
-unfolding Cut
-cut_of [] = ([], [], refl, refl, tt)
-cut_of (b ∷ bs) = ⊎_elim
-    (λ (e : eqb b equals ≡ true). ([], b ∷ bs, refl, refl, eqb-true b equals e))
-    (λ (e : eqb b equals ≡ false). cut-longer b bs e (cut_of bs))
-    (cases_Bool (eqb b equals))
+-- a text is the part before its first `=`, and the rest
+cut : (text : List ℕ) → before_first is_equals text ++ from_equals text ≡ text
+cut text = take-append-drop (position_or_len is_equals text) text
 
 -- a word has one of the forms
 Formed : List ℕ → Type 0
 Formed word = (name : List ℕ) × (state : State) × HasForm word name state
 
-minus-formed : (bs : List ℕ) → Cut bs → Formed (hyphen ∷ bs)
-unfolding Cut Formed
-minus-formed bs (name, rest, whole, none, part) =
-    (name, Unset, subst (λ t. HasForm (hyphen ∷ t) name Unset) (sym whole) (after_minus name rest none part))
-
-exclaimed-formed : (bs : List ℕ) → Cut bs → Formed (exclamation_mark ∷ bs)
-unfolding Cut Formed
-exclaimed-formed bs (name, rest, whole, none, part) =
-    (name, Unspecified, subst (λ t. HasForm (exclamation_mark ∷ t) name Unspecified) (sym whole) (after_exclamation_mark name rest none part))
-
-unmarked : (b : ℕ) (bs name rest : List ℕ) → b ≢ hyphen → b ≢ exclamation_mark → b ∷ bs ≡ name ++ rest → HasNoMark name
+unmarked : (b : ℕ) (bs name rest : List ℕ) → b ≢ hyphen → b ≢ exclamation_mark → name ++ rest ≡ b ∷ bs → HasNoMark name
 unmarked b bs [] rest no_minus no_bang whole = ((λ e. omega arith), (λ e. omega arith))
-unmarked b bs (c ∷ cs) rest no_minus no_bang whole =
-    let same : b ≡ c = ap (λ l. get_or l 0 0) whole in
-    ((λ e. no_minus (same ∙ e)), (λ e. no_bang (same ∙ e)))
+unmarked b bs (c ∷ cs) rest no_minus no_bang whole = grind arith
 
-named-formed : (word name rest : List ℕ) → HasNoMark name → word ≡ name ++ rest → HasNoEquals name → IsValuePart rest → Formed word
+named-formed : (word name rest : List ℕ) → HasNoMark name → name ++ rest ≡ word → HasNoEquals name → IsValuePart rest → Formed word
 unfolding Formed
 named-formed word name [] mark whole none part =
-    (name, Set, subst (λ t. HasForm t name Set) (sym (whole ∙ append-nil name)) (name_alone name mark none))
+    (name, Set, subst (λ t. HasForm t name Set) (sym (append-nil name) ∙ whole) (name_alone name mark none))
 named-formed word name (c ∷ value) mark whole none part =
-    let spelled : word ≡ name ++ equals ∷ value = whole ∙ ap (λ d. name ++ d ∷ value) part in
-    (name, Value value, subst (λ t. HasForm t name (Value value)) (sym spelled) (name_and_value name value mark none))
-
-unmarked-formed : (b : ℕ) (bs : List ℕ) → b ≢ hyphen → b ≢ exclamation_mark → Cut (b ∷ bs) → Formed (b ∷ bs)
-unfolding Cut
-unmarked-formed b bs no_minus no_bang (name, rest, whole, none, part) =
-    named-formed (b ∷ bs) name rest (unmarked b bs name rest no_minus no_bang whole) whole none part
+    let spelled : name ++ equals ∷ value ≡ word = cc in
+    (name, Value value, subst (λ t. HasForm t name (Value value)) spelled (name_and_value name value mark none))
 
 formed : (word : List ℕ) → Formed word
 unfolding Formed
 formed [] = ([], Set, name_alone [] ((λ e. omega arith), (λ e. omega arith)) refl)
-formed (b ∷ bs) = ⊎_elim
-    (λ (e : b ≡ hyphen). subst (λ c. Formed (c ∷ bs)) (sym e) (minus-formed bs (cut_of bs)))
-    (λ (no_minus : b ≢ hyphen). ⊎_elim
-    (λ (e : b ≡ exclamation_mark). subst (λ c. Formed (c ∷ bs)) (sym e) (exclaimed-formed bs (cut_of bs)))
-    (λ (no_bang : b ≢ exclamation_mark). unmarked-formed b bs no_minus no_bang (cut_of (b ∷ bs)))
-    (cases_eq b exclamation_mark))
-    (cases_eq b hyphen)
+formed (b ∷ bs) =
+    let text = b ∷ bs in
+    let name = before_first is_equals bs in
+    let rest = from_equals bs in
+    elim (cases_eq b hyphen) [
+      | inl e ↦ (name, Unset, subst (λ t. HasForm t name Unset) (minus e) (after_minus name rest (front_fails is_equals bs) (value_part bs)))
+      | inr no_minus ↦ elim (cases_eq b exclamation_mark) [
+        | inl e ↦ (
+          name,
+          Unspecified,
+          subst (λ t. HasForm t name Unspecified) (bang e)
+              (after_exclamation_mark name rest (front_fails is_equals bs) (value_part bs)),
+        )
+        | inr no_bang ↦
+            let mark = unmarked b bs (before_first is_equals text) (from_equals text) no_minus no_bang (cut text) in
+            named-formed text (before_first is_equals text) (from_equals text) mark (cut text) (front_fails is_equals text) (value_part text)
+      ]
+    ]
+  where
+    minus : b ≡ hyphen → hyphen ∷ (before_first is_equals bs ++ from_equals bs) ≡ b ∷ bs
+    minus e = grind (arith, cut bs)
+
+    bang : b ≡ exclamation_mark → exclamation_mark ∷ (before_first is_equals bs ++ from_equals bs) ≡ b ∷ bs
+    bang e = grind (arith, cut bs)
 
 item_of_formed : (word : List ℕ) → Formed word → IsItem word (item_of word)
 unfolding Formed

@@ -1,37 +1,30 @@
 -- The words that are computed are the longest runs of bytes that are not blanks.
-use Rattle.std.proofs.Common.{◌≡◌, ℕ, zero, suc, ◌<◌, ◌≤◌, ◌⊎◌, true, false, not, List, [], ◌∷◌, ◌++◌, length, get_or, filter, refl, sym, ap, ◌∙◌}
-use Rattle.std.proofs.Common.{arith, ⊎_elim, inl, inr, subst, length-append}
-use Rattle.std.specs.List.{slice_split, list_all, All}
-use Rattle.std.proofs.lemmas.List.{append-nil}
+use Rattle.std.proofs.Common.{◌≡◌, ℕ, zero, suc, ◌<◌, ◌≤◌, Bool, true, false, not, List, [], ◌∷◌, ◌++◌, length, get_or, take, refl, sym}
+use Rattle.std.proofs.Common.{ap, ◌∙◌, arith, inl, inr, subst, length-append}
+use Rattle.std.specs.List.{list_all, All, before_first, position_or_len}
+use Rattle.std.proofs.lemmas.List.{append-nil, take-append-drop}
 use Rattle.std.proofs.lemmas.List.Splits.{slice_split_none, slice_split_at}
 use Rattle.std.proofs.lemmas.List.Sums.{AllPass-from_list_all}
-use Rattle.std.proofs.lemmas.Bool.{cases_Bool, and_parts, and_from, not-true}
-use Rattle.attr_text.specs.Items.{is_blank, is_some_text, words}
+use Rattle.std.proofs.lemmas.Bool.{cases_Bool, cases_lt, not-true}
+use Rattle.std.proofs.lemmas.Bool.Decides.{nat_tests}
+use Rattle.attr_text.specs.Items.{is_blank, words, after_blanks, before_blank, from_blank}
 use Rattle.attr_text.specs.Words.{EndsRun, BeginsWith, AreWords}
-use Rattle.attr_text.proofs.WordLemmas.{words-blank, filter-some}
+use Rattle.attr_text.proofs.WordLemmas.{words-blank, words-step, begins_word, drop-one_more, take-one_more}
 
 -- no byte of a run is a blank
 none_blank : (word : List ℕ) → list_all (λ b. not (is_blank b)) word ≡ true → All (λ b. is_blank b ≡ false) word
 none_blank word run k d below = not-true (is_blank (get_or word k d)) (AllPass-from_list_all (λ b. not (is_blank b)) word run k d below)
 
-some_text : (word : List ℕ) → 0 < length word → is_some_text word ≡ true
-some_text [] some = absurd (omega arith)
-some_text (b ∷ bs) some = refl
-
 words-blanks : (gap text : List ℕ) → list_all is_blank gap ≡ true → words (gap ++ text) ≡ words text
 words-blanks [] text blanks = refl
-words-blanks (b ∷ gap) text blanks =
-    let both = and_parts (is_blank b) (list_all is_blank gap) blanks in
-    words-blank b (gap ++ text) both.0 ∙ words-blanks gap text both.1
+words-blanks (b ∷ gap) text blanks = grind (arith, nat_tests, words-blank b (gap ++ text), words-blanks gap text)
 
 pub words-run : (word rest : List ℕ) → list_all (λ b. not (is_blank b)) word ≡ true → 0 < length word → EndsRun rest → words (word ++ rest) ≡ word ∷
     words rest
 words-run word [] run some longest =
-    simp append-nil (ap (filter is_some_text) (slice_split_none is_blank word (none_blank word run)) ∙ filter-some word [] (some_text word some))
+    grind (arith, append-nil word, slice_split_none is_blank word (none_blank word run))
 words-run word (b ∷ rest) run some longest =
-    ap (filter is_some_text) (slice_split_at is_blank word b rest (none_blank word run) longest)
-    ∙ (filter-some word (slice_split is_blank rest) (some_text word some)
-    ∙ ap (λ others. word ∷ others) (sym (words-blank b rest longest)))
+    grind (arith, slice_split_at is_blank word b rest (none_blank word run) longest, words-blank b rest)
 
 words-begins : (text gap word rest : List ℕ) → BeginsWith text gap word rest → words text ≡ word ∷ words rest
 words-begins text gap word rest b =
@@ -45,91 +38,57 @@ runs_are_words text [] blanks = sym (words-all_blank text blanks)
 runs_are_words text (word ∷ others) (gap, rest, begins, after) =
     ap (λ more. word ∷ more) (runs_are_words rest others after) ∙ sym (words-begins text gap word rest begins)
 
--- a run and the text after it
-Run : List ℕ → Type 0
-Run text = (run : List ℕ) × (rest : List ℕ) × (text ≡ run ++ rest) × (list_all (λ b. not (is_blank b)) run ≡ true) × EndsRun rest
+-- what stands before the first byte that passes a test fails it
+pub front_fails : (p : ℕ → Bool) (text : List ℕ) → list_all (λ b. not (p b)) (before_first p text) ≡ true
+front_fails p [] = refl
+front_fails p (b ∷ bs) = grind (arith, nat_tests, take-one_more, front_fails p bs)
 
-run-longer : (b : ℕ) (bs : List ℕ) → is_blank b ≡ false → Run bs → Run (b ∷ bs)
-unfolding Run
-run-longer b bs e (run, rest, whole, others, ends) =
-    (b ∷ run, rest, ap (λ t. b ∷ t) whole, and_from (not (is_blank b)) (list_all (λ b. not (is_blank b)) run) (ap not e) others, ends)
+-- the blanks in front of a text
+abbrev gap_of : List ℕ → List ℕ
+gap_of text = take (position_or_len (λ b. not (is_blank b)) text) text
 
-run_of : (text : List ℕ) → Run text
-unfolding Run
-run_of [] = ([], [], refl, refl, tt)
-run_of (b ∷ bs) = ⊎_elim
-    (λ (e : is_blank b ≡ true). ([], b ∷ bs, refl, refl, e))
-    (λ (e : is_blank b ≡ false). run-longer b bs e (run_of bs))
-    (cases_Bool (is_blank b))
+gap_blank : (text : List ℕ) → list_all is_blank (gap_of text) ≡ true
+gap_blank [] = refl
+gap_blank (b ∷ bs) = grind (arith, nat_tests, take-one_more, gap_blank bs)
 
--- a text is blanks, or begins with a word
-First : List ℕ → Type 0
-First text = (list_all is_blank text ≡ true) ⊎ ((gap : List ℕ) × (word : List ℕ) × (rest : List ℕ) × BeginsWith text gap word rest)
+all_blank : (text : List ℕ) → length (after_blanks text) ≤ 0 → list_all is_blank text ≡ true
+all_blank [] none = refl
+all_blank (b ∷ bs) none = grind (arith, nat_tests, drop-one_more, all_blank bs)
 
-first-word : (b : ℕ) (bs : List ℕ) → is_blank b ≡ false → Run bs → First (b ∷ bs)
-unfolding Run First
-first-word b bs e (run, rest, whole, others, ends) =
-    inr (
-      [],
-      b ∷ run,
-      rest,
-      record {
-        whole = ap (λ t. b ∷ t) whole;
-        blanks = refl;
-        run = and_from (not (is_blank b)) (list_all (λ b. not (is_blank b)) run) (ap not e) others;
-        some = omega arith;
-        longest = ends;
-      },
-    )
+run_ends : (text : List ℕ) → EndsRun (from_blank text)
+run_ends [] = tt
+run_ends (b ∷ bs) = elim (cases_Bool (is_blank b)) [
+  | inl e ↦ rw e e
+  | inr e ↦ rw (e, drop-one_more) (run_ends bs)
+]
 
-first-blank : (b : ℕ) (bs : List ℕ) → is_blank b ≡ true → First bs → First (b ∷ bs)
-unfolding First
-first-blank b bs e f = ⊎_elim
-    (λ (blanks : list_all is_blank bs ≡ true). inl (and_from (is_blank b) (list_all is_blank bs) e blanks))
-    (λ (w : (gap : List ℕ) × (word : List ℕ) × (rest : List ℕ) × BeginsWith bs gap word rest).
-    inr (
-      b ∷ w.0,
-      w.1,
-      w.2,
-      record {
-        whole = ap (λ t. b ∷ t) w.3.whole;
-        blanks = and_from (is_blank b) (list_all is_blank w.0) e w.3.blanks;
-        run = w.3.run;
-        some = w.3.some;
-        longest = w.3.longest;
-      },
-    ))
-    f
-
-first_of : (text : List ℕ) → First text
-unfolding First
-first_of [] = inl refl
-first_of (b ∷ bs) = ⊎_elim
-    (λ (e : is_blank b ≡ true). first-blank b bs e (first_of bs))
-    (λ (e : is_blank b ≡ false). first-word b bs e (run_of bs))
-    (cases_Bool (is_blank b))
+-- a text that is not all blanks begins with a word
+first_of : (text : List ℕ) → 0 < length (after_blanks text)
+    → BeginsWith text (gap_of text) (before_blank (after_blanks text)) (from_blank (after_blanks text))
+first_of text some = record {
+  whole = simp take-append-drop;
+  blanks = gap_blank text;
+  run = front_fails is_blank (after_blanks text);
+  some = grind (arith, begins_word text some);
+  longest = run_ends (after_blanks text);
+}
 
 rest_is_shorter : (text gap word rest : List ℕ) → BeginsWith text gap word rest → length rest < length text
 rest_is_shorter text gap word rest b =
     let some : 0 < length word = b.some in
     omega (arith, simp length-append at (ap length b.whole))
 
-runs-blank : (text : List ℕ) → list_all is_blank text ≡ true → AreWords text (words text)
-runs-blank text blanks = subst (AreWords text) (sym (words-all_blank text blanks)) blanks
-
 runs-within : (fuel : ℕ) (text : List ℕ) → length text ≤ fuel → AreWords text (words text)
-unfolding First
-runs-within zero text enough = ⊎_elim
-    (runs-blank text)
-    (λ (w : (gap : List ℕ) × (word : List ℕ) × (rest : List ℕ) × BeginsWith text gap word rest).
-    let shorter : length w.2 < length text = rest_is_shorter text w.0 w.1 w.2 w.3 in absurd (omega arith))
-    (first_of text)
-runs-within (suc fuel) text enough = ⊎_elim
-    (runs-blank text)
-    (λ (w : (gap : List ℕ) × (word : List ℕ) × (rest : List ℕ) × BeginsWith text gap word rest).
-    let shorter : length w.2 < length text = rest_is_shorter text w.0 w.1 w.2 w.3 in
-    subst (AreWords text) (sym (words-begins text w.0 w.1 w.2 w.3)) (w.0, w.2, w.3, runs-within fuel w.2 (omega arith)))
-    (first_of text)
+runs-within zero [] enough = refl
+runs-within zero (b ∷ bs) enough = absurd (omega arith)
+runs-within (suc fuel) text enough = elim (cases_lt 0 (length (after_blanks text))) [
+  | inl some ↦
+      let rest = from_blank (after_blanks text) in
+      let first = first_of text some in
+      subst (AreWords text) (sym (words-step text (after_blanks text) refl some))
+      (gap_of text, rest, first, runs-within fuel rest (omega (arith, rest_is_shorter text _ _ _ first)))
+  | inr none ↦ let blanks = all_blank text none in subst (AreWords text) (sym (words-all_blank text blanks)) blanks
+]
 
 pub words_are_runs : (text : List ℕ) → AreWords text (words text)
 words_are_runs text = runs-within (length text) text (omega arith)

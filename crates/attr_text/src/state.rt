@@ -20,8 +20,7 @@ use std::rc::RcSlice;
 /// The bytes of a value, which need not be UTF-8. Copies share them.
 #[derive(Drop)]
 pub struct Value {
-    // A value without bytes takes no memory.
-    bytes: Option<RcSlice<u8>>,
+    bytes: RcSlice<u8>,
 }
 
 /// A reference to the bytes of a value, which need not be UTF-8.
@@ -59,12 +58,12 @@ pub enum State {
 }
 
 impl Model for Value {
-    ghost use Rattle.std.specs.Prelude.{ℕ, List, [], option_map, unwrap_or};
+    ghost use Rattle.std.specs.Prelude.{ℕ, List};
     ghost use Rattle.std.specs.Rc.{rc_slice_items};
 
     ghost Value = { List ℕ };
 
-    ghost view = { λ v. unwrap_or (option_map rc_slice_items v.bytes) [] };
+    ghost view = { λ v. rc_slice_items v.bytes };
 }
 
 impl<'a> ValueRef<'a> {
@@ -92,11 +91,8 @@ impl<'a> ValueRef<'a> {
     pub fn to_owned(self, alloc: Global) -> Result<Value, AllocError>
         ensures { IfOk result (λ value. value ≡ value_bytes self.entry) }
     {
-        if self.bytes.is_empty() {
-            return Ok(Value { bytes: None });
-        }
         Ok(Value {
-            bytes: Some(RcSlice::from_slice(alloc, self.bytes)?),
+            bytes: RcSlice::from_slice(alloc, self.bytes)?,
         })
     }
 }
@@ -156,18 +152,7 @@ impl Value {
     fn as_slice(&self) -> &[u8]
         ensures { result.now ≡ self.now }
     {
-        match &self.bytes {
-            Some(bytes) => bytes.as_slice(),
-            None => &[],
-        }
-    }
-}
-
-impl MadeWith<Global> for Value {
-    ghost is_made_with = { λ value. value ≡ [] };
-
-    fn made_with(_alloc: Global) -> Value {
-        Value { bytes: None }
+        self.bytes.as_slice()
     }
 }
 
@@ -175,12 +160,9 @@ impl Clone for Value {
     ghost is_clone = { λ s copy. copy ≡ s };
 
     fn clone(&self) -> Result<Value, AllocError> {
-        match &self.bytes {
-            Some(bytes) => Ok(Value {
-                bytes: Some(bytes.clone()?),
-            }),
-            None => Ok(Value { bytes: None }),
-        }
+        Ok(Value {
+            bytes: self.bytes.clone()?,
+        })
     }
 }
 

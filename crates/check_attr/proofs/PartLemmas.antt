@@ -1,4 +1,5 @@
 -- The parts of a record are read exactly if they are spelled.
+use Rattle.std.proofs.lemmas.Bool.Decides.{nat_tests}
 use Rattle.std.proofs.Common.{◌≡◌, ℕ, ◌+◌, ◌-◌, ◌*◌, ◌^◌, ◌<◌, Bool, true, false, not, ◌&&◌, ◌||◌, List, [], ◌∷◌, ◌++◌}
 use Rattle.std.proofs.Common.{length, take, drop, get_or, fold, Option, Some, None, cond, option_map, refl, sym, ap, ◌∙◌, subst, arith}
 use Rattle.std.proofs.Common.{append_assoc}
@@ -66,19 +67,7 @@ own = numerals_by_fold _ tells _ folds
 -- a number has no zero in front, unless it is `0`
 no_zero : (n : ℕ) → n < 10 ^ 8 → (t : Bool) → ltb n 10 ≡ t → (length (decimal n) == 1 || not (get_or (decimal n) 0 0 == 48)) ≡ true
 no_zero n h true e = ap (λ w. length w == 1 || not (get_or w 0 0 == 48)) (decimal_digit n (ltb-true n 10 e))
-no_zero n h false e =
-    let big = ltb-false n 10 e in
-    or_else (length (decimal n) == 1) (get_or (decimal n) 0 0 == 48) (ne_eqb _ 48 (λ z. omega (
-      arith,
-      z,
-      first_decimal n (omega (arith, big))
-          (omega arith),
-    )))
-  where
-    or_else : (a b : Bool) → b ≡ false → (a || not b) ≡ true
-    or_else true b e = refl
-    or_else false true e = absurd cc
-    or_else false false e = refl
+no_zero n h false e = grind (arith, nat_tests, ltb-false, first_decimal)
 
 zero_alone : (single zero_first : Bool) → (single || not zero_first) ≡ true → zero_first ≡ true → single ≡ true
 zero_alone true b e z = refl
@@ -189,9 +178,7 @@ split_once-only stop bytes word rest e =
 -- the first byte that is the separator
 pub position_at : (stop : ℕ) (bytes : List ℕ) (i : ℕ) → i < length bytes → ((k : ℕ) → k < i → (get_or bytes k 0 == stop) ≡ false)
     → (get_or bytes i 0 == stop) ≡ true → Some i ≡ position (λ b. b == stop) bytes
-position_at stop bytes i within before here =
-    let at = position_or_len_is (λ b. b == stop) bytes i 0 (omega (arith, within)) before (λ lt. here) in
-    sym (ap (λ n. cond (ltb n (length bytes)) (Some n) None) at ∙ ap (λ b. cond b (Some i) None) (lt-ltb i (length bytes) within))
+position_at stop bytes i within before here = grind (arith, nat_tests, position_or_len_is, lt-ltb)
 
 -- no byte is the separator
 pub no_position : (stop : ℕ) (bytes : List ℕ) → ((k : ℕ) → k < length bytes → (get_or bytes k 0 == stop) ≡ false)
@@ -205,9 +192,7 @@ no_position stop bytes others =
 
 no_digit : (stop : ℕ) (word : List ℕ) → is_ascii_digit stop ≡ false → list_all is_ascii_digit word ≡ true → Lacks stop word
 no_digit stop [] other e = refl
-no_digit stop (b ∷ word) other e =
-    let a = both _ _ e in
-    all_of _ _ (ap not (ne_eqb b stop (λ z. true≢false (sym a.0 ∙ (ap is_ascii_digit z ∙ other))))) (no_digit stop word other a.1)
+no_digit stop (b ∷ word) other e = grind (arith, nat_tests, both, all_of, no_digit stop word other)
 
 if-yes : {X : Type 0} (b : Bool) (x y : X) → b ≡ true → (if b then x else y) ≡ x
 if-yes true x y e = refl
@@ -216,10 +201,7 @@ if-yes false x y e = absurd cc
 pub number_before-back : (stop n : ℕ) (rest : List ℕ) → is_ascii_digit stop ≡ false → IsHeaderNumber n
     → number_before stop (decimal n ++ stop ∷ rest) ≡ Some (n, rest)
 number_before-back stop n rest other short =
-    ap (λ o. o then λ word. if is_number word.0 then Some (digits_value word.0, word.1) else None)
-    (split_once-back stop (decimal n) rest (no_digit stop (decimal n) other (digits_decimal own n (omega (arith, short)))))
-    ∙ (if-yes (is_number (decimal n)) _ _ (is_number-decimal n short)
-    ∙ ap (λ (m : ℕ). let p : ℕ × List ℕ = (m, rest) in Some p) (digits_value-decimal-short n short))
+    grind (arith, nat_tests, split_once-back, no_digit, digits_decimal, own, if-yes, is_number-decimal, digits_value-decimal-short)
 
 pub number_before-only : (stop : ℕ) (bytes : List ℕ) (n : ℕ) (rest : List ℕ) → number_before stop bytes ≡ Some (n, rest)
     → IsHeaderNumber n × (bytes ≡ decimal n ++ stop ∷ rest)
@@ -234,23 +216,16 @@ number_before-only stop bytes n rest e =
 -- ---- parts of a length
 
 pub split_at-back : (n : ℕ) (part rest : List ℕ) → length part ≡ n → split_at n (part ++ rest) ≡ Some (part, rest)
-split_at-back n part rest e =
-    if-yes (nat_le n (length (part ++ rest))) _ _ (le-leb n _ (omega (arith, e, length-append part rest)))
-    ∙ λ i. (let p : List ℕ × List ℕ = (take_at part rest n e i, drop_at part rest n e i) in Some p)
+split_at-back n part rest e = grind (arith, nat_tests, if-yes, le-leb, length-append, take_at, drop_at)
 
 pub split_at-only : (n : ℕ) (bytes part rest : List ℕ) → split_at n bytes ≡ Some (part, rest) → (length part ≡ n) × (bytes ≡ part ++ rest)
-split_at-only n bytes part rest e =
-    let read = if-some (nat_le n (length bytes)) (take n bytes, drop n bytes) (part, rest) e in
-    subst (λ (p : List ℕ × List ℕ). (length p.0 ≡ n) × (bytes ≡ p.0 ++ p.1)) read.1
-    (length-take-le n bytes (leb-true n _ read.0), sym (take-append-drop n bytes))
+split_at-only n bytes part rest e = grind (arith, nat_tests, if-some, length-take-le, leb-true, take-append-drop)
 
 pub if_text-back : (part rest : List ℕ) → IsUtf8 part → if_text (part, rest) ≡ Some (part, rest)
 if_text-back part rest text = if-yes (is_utf8 part) _ _ (is_utf8-from_IsUtf8 part text)
 
 pub if_text-only : (p q : List ℕ × List ℕ) → if_text p ≡ Some q → (p ≡ q) × IsUtf8 q.0
-if_text-only p q e =
-    let read = if-some (is_utf8 p.0) p q e in
-    (read.1, subst (λ (r : List ℕ × List ℕ). IsUtf8 r.0) read.1 (IsUtf8-from_is_utf8 p.0 read.0))
+if_text-only p q e = grind (arith, nat_tests, if-some, IsUtf8-from_is_utf8)
 
 pub split_text-back : (n : ℕ) (part rest : List ℕ) → length part ≡ n → IsUtf8 part → (split_at n (part ++ rest) then if_text) ≡ Some (part, rest)
 split_text-back n part rest e text = ap (λ o. o then if_text) (split_at-back n part rest e) ∙ if_text-back part rest text
@@ -277,19 +252,13 @@ choice_by : {X : Type 0} (word : X → List ℕ) (choice : List ℕ × X) (choic
     → (b : Bool) → starts_with nat_eq bytes choice.0 ≡ b
     → (if b then Some (choice.1, drop (length choice.0) bytes) else choice_of choices bytes) ≡ Some (x, rest)
     → word choice.1 ≡ choice.0 → (choice_of choices bytes ≡ Some (x, rest) → bytes ≡ word x ++ rest) → bytes ≡ word x ++ rest
-choice_by {X = X} word choice choices bytes x rest true is e same others =
-    subst (λ (p : X × List ℕ). bytes ≡ word p.0 ++ p.1) (same_some (choice.1, drop (length choice.0) bytes) (x, rest) e)
-    (starts_with-only bytes choice.0 is ∙ ap (λ xs. xs ++ drop (length choice.0) bytes) (sym same))
+choice_by {X = X} word choice choices bytes x rest true is e same others = grind (arith, nat_tests, same_some, starts_with-only)
 choice_by word choice choices bytes x rest false is e same others = others e
 
 pub choice_of-only : {X : Type 0} (word : X → List ℕ) (choices : List (List ℕ × X)) → AreWords word choices
     → (bytes : List ℕ) (x : X) (rest : List ℕ) → choice_of choices bytes ≡ Some (x, rest) → bytes ≡ word x ++ rest
 choice_of-only word [] words bytes x rest e = absurd cc
-choice_of-only word (choice ∷ choices) words bytes x rest e =
-    choice_by word choice choices bytes x rest (starts_with nat_eq bytes choice.0) refl e words.0
-    (choice_of-only word choices words.1 bytes x rest)
+choice_of-only word (choice ∷ choices) words bytes x rest e = grind (arith, nat_tests, choice_by, choice_of-only word choices)
 
 pub strip_prefix-only : (front bytes rest : List ℕ) → strip_prefix front bytes ≡ Some rest → bytes ≡ front ++ rest
-strip_prefix-only front bytes rest e =
-    let read = if-some (starts_with nat_eq bytes front) (drop (length front) bytes) rest e in
-    starts_with-only bytes front read.0 ∙ ap (λ xs. front ++ xs) read.1
+strip_prefix-only front bytes rest e = grind (arith, nat_tests, if-some, starts_with-only)

@@ -1,4 +1,5 @@
 -- Texts that are passed on in pieces, and the counts of a writer.
+use Rattle.std.proofs.lemmas.Bool.Decides.{nat_tests}
 use Rattle.std.proofs.Common.{◌≡◌, ◌≤◌, ◌<◌, ℕ, zero, suc, List, [], ◌∷◌, ◌++◌, length, take, Option, Some, None, Result, Ok, Err}
 use Rattle.std.proofs.Common.{refl, sym, ap, ◌∙◌, subst, arith, append_assoc, append-nil, ◌+◌, drop, get_or}
 use Rattle.std.specs.Prelude.{IfOk, IsErrAnd}
@@ -46,9 +47,7 @@ no_value (Err e) P Q is = tt
 pub item_left : {X : Type 0} (xs : List X) (i : ℕ) (x : X) → i < length xs → x ≡ get_or xs i x → drop i xs ≡ x ∷ drop (i + 1) xs
 item_left [] i x lt is = absurd (omega (arith, lt))
 item_left (y ∷ ys) zero x lt is = ap (λ z. z ∷ ys) (sym is)
-item_left (y ∷ ys) (suc i) x lt is =
-    let e : suc (i + 1) ≡ suc i + 1 = omega arith in
-    subst (λ k. drop (suc i) (y ∷ ys) ≡ x ∷ drop k (y ∷ ys)) e (item_left ys i x (omega (arith, lt)) is)
+item_left (y ∷ ys) (suc i) x lt is = grind (arith, nat_tests, item_left ys i x)
 
 pub none_left : {X : Type 0} (xs : List X) (i : ℕ) → length xs ≤ i → drop i xs ≡ []
 none_left [] zero le = refl
@@ -83,8 +82,7 @@ module _ {W : Type 0} (contents : W → Option (List ℕ)) (failed stalled : W �
   -- what was held is written too
   pub whole_on : (a b c : W) (held text : List ℕ) → Holds a b held text → Appends (contents b) (contents c) held
       → Appends (contents a) (contents c) text
-  whole_on a b c held text h last =
-      subst (Appends (contents a) (contents c)) h.0.2 (Appends-trans (contents a) (contents b) (contents c) h.0.0 held h.0.1 last)
+  whole_on a b c held text h last = grind (arith, nat_tests, Appends-trans)
 
   pub passes_then : {T : Type 0} (a b c : W) (held held' rest text : List ℕ) (r : Result T Fault) → Holds a b (held ++ rest) text
       → Passes contents failed stalled b c held' held r → Passes contents failed stalled a c (held' ++ rest) text r

@@ -1,4 +1,5 @@
 -- A text that was written whole, or a beginning of it before the writer failed.
+use Rattle.std.proofs.lemmas.Bool.Decides.{nat_tests}
 use Rattle.std.proofs.Common.{◌≡◌, ◌+◌, ℕ, zero, suc, List, [], ◌∷◌, ◌++◌, length, take, Option, Result, Ok, Err, OnOk, OnErr, inl, inr}
 use Rattle.std.proofs.Common.{refl, ap, ◌∙◌, arith, subst}
 use Rattle.std.proofs.KnownBytes.{Appends-trans}
@@ -40,8 +41,7 @@ front_after (x ∷ xs) ys n =
 
 -- a beginning of a text after another text
 pub Front-later : (old mid new : Option (List ℕ)) (xs ys : List ℕ) → Appends old mid xs → AppendsFront mid new ys → AppendsFront old new (xs ++ ys)
-Front-later old mid new xs ys first front =
-    (front.0 + length xs, subst (Appends old new) (front_after xs ys front.0) (Appends-trans old mid new xs (take front.0 ys) first front.1))
+Front-later old mid new xs ys first front = grind (arith, nat_tests, front_after, Appends-trans)
 
 pub on_err : {T E : Type 0} (r : Result T E) (P : Type 0) → P → OnErr r P
 on_err (Ok x) P p = tt

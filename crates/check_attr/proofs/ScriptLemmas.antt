@@ -1,4 +1,5 @@
 -- Parts of a script.
+use Rattle.std.proofs.lemmas.Bool.Decides.{nat_tests}
 use Rattle.std.proofs.Common.{◌≡◌, ℕ, zero, suc, ◌-◌, ◌<◌, Bool, true, false, List, [], ◌∷◌, ◌++◌, Option, Some, None, option_map, refl}
 use Rattle.std.proofs.Common.{sym, ap, ◌∙◌, arith, append_assoc, append-nil}
 use Rattle.std.specs.Prelude.{if◌then◌else◌, Result, Ok, Err, MatchResult}
@@ -15,8 +16,7 @@ pub text_lines-step : (n : ℕ) (bytes : List ℕ) → 0 < n →
     text_lines n bytes ≡ ((split_once line_feed bytes then if_text) then λ line. option_map (λ others. (line.0 ∷ others.0, others.1))
     (text_lines (n - 1) line.1))
 text_lines-step zero bytes h = absurd (omega arith)
-text_lines-step (suc n) bytes h = ap (λ k. (split_once line_feed bytes then if_text) then λ line. option_map (λ others. (line.0 ∷ others.0, others.1))
-    (text_lines k line.1)) (omega arith)
+text_lines-step (suc n) bytes h = grind (arith, nat_tests)
 
 -- these lines before others
 abbrev pub before : List (List ℕ) → List (List ℕ) × List ℕ → List (List ℕ) × List ℕ
@@ -48,18 +48,13 @@ text_lines-more whole lines more line n m bytes rest h m_is whole_is first more_
 -- all lines are read
 pub text_lines-done : (whole : Option (List (List ℕ) × List ℕ)) (lines : List (List ℕ)) (n : ℕ) (bytes : List ℕ) → n ≡ 0
     → whole ≡ option_map (before lines) (text_lines n bytes) → Some (lines, bytes) ≡ whole
-text_lines-done whole lines n bytes none whole_is =
-    sym (whole_is ∙ (ap (λ k. option_map (before lines) (text_lines k bytes)) none ∙ ap
-    (λ (l : List (List ℕ)). let p : List (List ℕ) × List ℕ = (l, bytes) in Some p) (append-nil lines)))
+text_lines-done whole lines n bytes none whole_is = grind (arith, nat_tests, append-nil)
 
 -- no line is left
 pub text_lines-stuck : (whole : Option (List (List ℕ) × List ℕ)) (lines : List (List ℕ)) (n : ℕ) (bytes : List ℕ) → 0 < n
     → whole ≡ option_map (before lines) (text_lines n bytes)
     → (split_once line_feed bytes then if_text) ≡ None → whole ≡ None
-text_lines-stuck whole lines n bytes h whole_is none =
-    whole_is ∙ ap (option_map (before lines))
-    (text_lines-step n bytes h ∙ ap (λ (o : Option (List ℕ × List ℕ)). o then λ line. option_map (λ others. (line.0 ∷ others.0, others.1))
-    (text_lines (n - 1) line.1)) none)
+text_lines-stuck whole lines n bytes h whole_is none = grind (arith, nat_tests, text_lines-step)
 
 not_true : (b : Bool) → (b ≡ true → ⊥) → b ≡ false
 not_true true h = absurd (h refl)
@@ -69,7 +64,5 @@ not_true false h = refl
 pub text_is : {E : Type 0} (r : Result (Bor (List ℕ)) E) (bytes : List ℕ) (P : E → Type 0)
     → MatchResult r (λ s. (s.now ≡ bytes) × IsUtf8 bytes) (λ e. ¬ (IsUtf8 bytes) × P e)
     → option_copied (result_ok r) ≡ (if is_utf8 bytes then Some bytes else None)
-text_is (Ok s) bytes P h =
-    ap Some h.0 ∙ ap (λ (b : Bool). if b then Some bytes else None) (sym (is_utf8-from_IsUtf8 bytes h.1))
-text_is (Err e) bytes P h =
-    ap (λ (b : Bool). if b then Some bytes else None) (sym (not_true (is_utf8 bytes) (λ yes. h.0 (IsUtf8-from_is_utf8 bytes yes))))
+text_is (Ok s) bytes P h = grind (arith, nat_tests, is_utf8-from_IsUtf8)
+text_is (Err e) bytes P h = grind (arith, nat_tests, not_true, IsUtf8-from_is_utf8)

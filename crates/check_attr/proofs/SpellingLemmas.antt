@@ -1,4 +1,5 @@
 -- The first record of a script is read exactly if it is spelled.
+use Rattle.std.proofs.lemmas.Bool.Decides.{nat_tests}
 use Rattle.std.proofs.Common.{◌≡◌, ℕ, zero, suc, ◌<◌, ◌⊎◌, inl, inr, Bool, true, false, ◌&&◌, List, [], ◌∷◌, ◌++◌}
 use Rattle.std.proofs.Common.{length, get_or, drop, Option, Some, None, option_map, unwrap_or, IfSome, All, flat_map, codes, refl, sym, ap, ◌∙◌}
 use Rattle.std.proofs.Common.{subst, arith}
@@ -108,13 +109,7 @@ directories-back None rest = refl
 -- a number does not begin with `-`
 no_minus : (digits rest others : List ℕ) → 0 < length digits → list_all is_ascii_digit digits ≡ true → digits ++ rest ≡ 45 ∷ others → ⊥
 no_minus [] rest others some all e = omega (arith, some)
-no_minus (d ∷ digits) rest others some all e =
-    let first : d ≡ 45 = ap (λ xs. get_or xs 0 0) e in
-    absurd (no_digit_first (is_ascii_digit d) (list_all is_ascii_digit digits) all (ap is_ascii_digit first))
-  where
-    no_digit_first : (a b : Bool) → (a && b) ≡ true → a ≡ false → ⊥
-    no_digit_first true b e z = true≢false z
-    no_digit_first false b e z = true≢false (sym e)
+no_minus (d ∷ digits) rest others some all e = grind (arith, nat_tests)
 
 if-no : {X : Type 0} (b : Bool) (x y : X) → (b ≡ true → ⊥) → (if b then x else y) ≡ y
 if-no true x y no_way = absurd (no_way refl)
@@ -124,11 +119,7 @@ root_length-back : (root : Option (List ℕ)) (rest : List ℕ) → IfSome root 
     → root_length (root_word root ++ space ∷ rest) ≡ Some (option_map length root, rest)
 root_length-back None rest short = refl
 root_length-back (Some root) rest short =
-    let text : List ℕ = decimal (length root) ++ space ∷ rest in
-    if-no (starts_with nat_eq text (codes "- ")) _ _
-    (λ yes. no_minus (decimal (length root)) (space ∷ rest) _ (decimal_some (length root) short.0) (decimal_digits (length root) short.0)
-    (starts_with-only text (codes "- ") yes))
-    ∙ ap (option_map _) (number_before-back space (length root) rest refl short.0)
+    grind (arith, nat_tests, if-no, no_minus, decimal_some, decimal_digits, starts_with-only, number_before-back)
 
 root_of-back : (root : Option (List ℕ)) (rest : List ℕ) → IfSome root IsShortText
     → root_of (option_map length root) (unwrap_or root [] ++ rest) ≡ Some (root, rest)
@@ -140,18 +131,11 @@ lengths_of a = record { allow_macros = a.allow_macros; source = length a.source;
 
 add_header-back : (a : AddedFile) (rest : List ℕ) → CanBeWritten (add a) → add_header (onto (addition_words a) rest) ≡ Some (lengths_of a, rest)
 unfolding onto addition_words lengths_of
-add_header-back a rest can =
-    then-step _ _ _ (macros-back a.allow_macros _)
-    ∙ (then-step _ _ _ (number_before-back space (length a.source) _ refl can.0.0)
-    ∙ (then-step _ _ _ (root_length-back a.root _ can.1)
-    ∙ ap (option_map _) (number_before-back line_feed (length a.buffer) rest refl can.2)))
+add_header-back a rest can = grind (arith, nat_tests, then-step, macros-back, number_before-back, root_length-back)
 
 addition_of-back : (a : AddedFile) (rest : List ℕ) → CanBeWritten (add a) → addition_of (lengths_of a) (addition_parts a rest) ≡ Some (a, rest)
 unfolding lengths_of addition_parts
-addition_of-back a rest can =
-    then-step _ _ _ (split_text-back (length a.source) a.source _ refl can.0.1)
-    ∙ (then-step _ _ _ (root_of-back a.root _ can.1)
-    ∙ then-step _ _ _ (split_at-back (length a.buffer) a.buffer (line_feed ∷ rest) refl))
+addition_of-back a rest can = grind (arith, nat_tests, then-step, split_text-back, root_of-back, split_at-back)
 
 -- the facts on all elements are those on the first and on the others
 pub first_of : {X : Type 0} (P : X → Type 0) (x : X) (xs : List X) → All P (x ∷ xs) → P x
@@ -183,23 +167,14 @@ manner_of q = record { form = q.form; case = q.case; is_dir = q.is_dir }
 
 record_of-text_with : (r : Record) (rest : List ℕ) → CanBeWritten r → record_of (text_with r rest) ≡ Some (r, rest)
 unfolding text_with onto addition_words question_words manner_of
-record_of-text_with (add a) rest can =
-    then-step _ _ _ (add_header-back a (addition_parts a rest) can) ∙ ap (option_map _) (addition_of-back a rest can)
+record_of-text_with (add a) rest can = grind (arith, nat_tests, then-step, add_header-back, addition_parts, addition_of-back)
 record_of-text_with pop rest can = refl
-record_of-text_with (names lines) rest can =
-    then-step _ _ _ (number_before-back line_feed (length lines) _ refl can.0) ∙ ap (option_map _) (text_lines-back lines rest can.1)
+record_of-text_with (names lines) rest can = grind (arith, nat_tests, then-step, number_before-back, text_lines-back)
 record_of-text_with (ask q) rest can =
-    then-step _ _ _
-    (then-step _ _ _ (forms-back q.form _)
-    ∙ (then-step _ _ _ (cases-back q.case _)
-    ∙ ap (option_map _) (directories-back q.is_dir _)))
-    ∙ ap (option_map _)
-    (then-step _ _ _ (number_before-back line_feed (length q.path) _ refl can)
-    ∙ then-step _ _ _ (split_at-back (length q.path) q.path (line_feed ∷ rest) refl))
+    grind (arith, nat_tests, then-step, forms-back, cases-back, directories-back, number_before-back, split_at-back)
 
 pub record_of-spelled : (script : List ℕ) (r : Record) (rest : List ℕ) → BeginsWithRecord script r rest → record_of script ≡ Some (r, rest)
-record_of-spelled script r rest begins =
-    ap record_of (begins.1 ∙ spelled-text_with r rest) ∙ record_of-text_with r rest begins.0
+record_of-spelled script r rest begins = grind (arith, nat_tests, spelled-text_with, record_of-text_with)
 
 -- ---- what is read is spelled
 
@@ -246,10 +221,8 @@ choice-only word bytes x rest e = e ∙ append_assoc (word x) (space ∷ []) res
 
 macros-only : (bytes : List ℕ) (b : Bool) (rest : List ℕ) → choice_of macro_flags bytes ≡ Some (b, rest) → bytes ≡ macros_word b ++ space ∷ rest
 unfolding spaced
-macros-only bytes b rest e = choice-only macros_word bytes b rest (choice_of-only (spaced macros_word) macro_flags (
-  refl,
-  (refl, tt),
-) bytes b rest e)
+macros-only bytes b rest e =
+    choice-only macros_word bytes b rest (choice_of-only (spaced macros_word) macro_flags (refl, (refl, tt)) bytes b rest e)
 
 forms-only : (bytes : List ℕ) (f : Form) (rest : List ℕ) → choice_of forms bytes ≡ Some (f, rest) → bytes ≡ form_word f ++ space ∷ rest
 unfolding spaced
@@ -262,13 +235,9 @@ cases-only bytes c rest e = choice-only case_word bytes c rest (choice_of-only (
 directories-only : (bytes : List ℕ) (d : Option Bool) (rest : List ℕ) → choice_of directory_flags bytes ≡ Some (d, rest)
     → bytes ≡ directory_word d ++ space ∷ rest
 unfolding spaced
-directories-only bytes d rest e = choice-only directory_word bytes d rest (choice_of-only (spaced directory_word) directory_flags (
-  refl,
-  (
-    refl,
-    (refl, tt),
-  ),
-) bytes d rest e)
+directories-only bytes d rest e =
+    choice-only directory_word bytes d rest
+    (choice_of-only (spaced directory_word) directory_flags (refl, (refl, (refl, tt))) bytes d rest e)
 
 add_header-only : (bytes : List ℕ) (h : AddHeader) (rest : List ℕ) → add_header bytes ≡ Some (h, rest) → IsAddHeader h bytes rest
 unfolding IsAddHeader onto
@@ -291,9 +260,7 @@ add_header-only bytes h rest e =
 
 root_of-only : (n : Option ℕ) (bytes : List ℕ) (root : Option (List ℕ)) (rest : List ℕ) → root_of n bytes ≡ Some (root, rest)
     → (option_map length root ≡ n) × IfSome root IsUtf8 × (bytes ≡ unwrap_or root [] ++ rest)
-root_of-only None bytes root rest e =
-    subst (λ (p : Option (List ℕ) × List ℕ). (option_map length p.0 ≡ None) × IfSome p.0 IsUtf8 × (bytes ≡ unwrap_or p.0 [] ++ p.1))
-    (same_some (None, bytes) (root, rest) e) (refl, tt, refl)
+root_of-only None bytes root rest e = grind (arith, nat_tests, same_some)
 root_of-only (Some n) bytes root rest e =
     let part = map-some _ (split_at n bytes then if_text) (root, rest) e in
     let read = split_text-only n bytes part.0.0 part.0.1 part.1 in
@@ -358,9 +325,7 @@ question_of-only h bytes q rest e =
 
 text_lines-only : (n : ℕ) (bytes : List ℕ) (lines : List (List ℕ)) (rest : List ℕ) → text_lines n bytes ≡ Some (lines, rest)
     → (length lines ≡ n) × All IsNameLine lines × (bytes ≡ flat_map ended_line lines ++ rest)
-text_lines-only zero bytes lines rest e =
-    subst (λ (p : List (List ℕ) × List ℕ). (length p.0 ≡ 0) × All IsNameLine p.0 × (bytes ≡ flat_map ended_line p.0 ++ p.1))
-    (same_some ([], bytes) (lines, rest) e) (refl, (λ k d inside. absurd (omega (arith, inside))), refl)
+text_lines-only zero bytes lines rest e = grind (arith, nat_tests, same_some)
 text_lines-only (suc n) bytes lines rest e =
     let line = then-some (split_once line_feed bytes then if_text) _ _ e in
     let others = map-some _ (text_lines n line.0.1) _ line.2 in
@@ -412,8 +377,7 @@ ask_record-only bytes after whole r rest e =
 
 pop-only : (bytes after : List ℕ) → bytes ≡ codes "pop\n" ++ after → ReadAs bytes (Some (pop, after))
 unfolding ReadAs text_with onto
-pop-only bytes after whole r rest e =
-    subst (λ (p : Record × List ℕ). CanBeWritten p.0 × (bytes ≡ text_with p.0 p.1)) (same_some (pop, after) (r, rest) e) (tt, whole)
+pop-only bytes after whole r rest e = grind (arith, nat_tests, text_with, same_some)
 
 none-only : (bytes : List ℕ) → ReadAs bytes None
 unfolding ReadAs
@@ -431,11 +395,7 @@ kind-only bytes word after others front back r rest e =
     ]
 
 record_of-only : (bytes : List ℕ) → ReadAs bytes (record_of bytes)
-record_of-only bytes =
-    kind-only bytes (codes "add ") add_record _ (add_record-only bytes)
-    (kind-only bytes (codes "pop\n") (λ left. Some (pop, left)) _ (pop-only bytes)
-    (kind-only bytes (codes "names ") names_record _ (names_record-only bytes)
-    (kind-only bytes (codes "ask ") ask_record None (ask_record-only bytes) (none-only bytes))))
+record_of-only bytes = grind (arith, nat_tests, kind-only, add_record-only, pop-only, names_record-only, ask_record-only, none-only)
 
 pub record_of-begins : (script : List ℕ) (r : Record) (rest : List ℕ) → record_of script ≡ Some (r, rest) → BeginsWithRecord script r rest
 unfolding ReadAs
@@ -472,9 +432,7 @@ first_record script (Some read) e = record_of-begins script read.0 read.1 (sym e
 
 pub number_spelled : (stop : ℕ) (bytes : List ℕ) (read : Option (ℕ × List ℕ)) → read ≡ number_before stop bytes → is_ascii_digit stop ≡ false
     → IsNumberBefore stop bytes read
-number_spelled stop bytes None e other =
-    λ n rest short is. true≢false (sym (ap is_some (ap (number_before stop) is ∙ number_before-back stop n rest other short))
-    ∙ ap is_some (sym e))
+number_spelled stop bytes None e other = grind (arith, nat_tests, number_before-back)
 number_spelled stop bytes (Some read) e other = number_before-only stop bytes read.0 read.1 (sym e)
 
 if-then : {X : Type 0} (b : Bool) (x y : X) → b ≡ true → (if b then x else y) ≡ x
@@ -492,13 +450,7 @@ number_in word = if is_number word.0 then Some (digits_value word.0, word.1) els
 pub word_read : (stop : ℕ) (bytes word rest : List ℕ) (number : Option ℕ) → Some (word, rest) ≡ split_once stop bytes
     → number ≡ (if is_number word then Some (digits_value word) else None) → option_map (λ n. (n, rest)) number ≡ number_before stop bytes
 unfolding number_in
-word_read stop bytes word rest number cut is =
-    ap (option_map (λ n. (n, rest))) is ∙ (either (is_number word) ∙ ap (λ o. o then number_in) cut)
-  where
-    either : (b : Bool) → option_map (λ (n : ℕ). let p : ℕ × List ℕ = (n, rest) in p) (if b then Some (digits_value word) else None)
-        ≡ (if b then Some (digits_value word, rest) else None)
-    either true = refl
-    either false = refl
+word_read stop bytes word rest number cut is = grind (arith, nat_tests, number_in)
 
 pub reads_add : (bytes : List ℕ) (read : Option (Record × List ℕ)) → starts_with nat_eq bytes (codes "add ") ≡ true
     → read ≡ add_record (drop 4 bytes)
@@ -508,20 +460,11 @@ reads_add bytes read add_is e = first_record bytes read (e ∙ sym (if-then (sta
 pub reads_names : (bytes : List ℕ) (read : Option (Record × List ℕ)) → starts_with nat_eq bytes (codes "add ") ≡ false
     → starts_with nat_eq bytes (codes "pop\n") ≡ false → starts_with nat_eq bytes (codes "names ") ≡ true → read ≡ names_record (drop 6 bytes)
     → IsFirstRecord bytes read
-reads_names bytes read add_is pop_is names_is e =
-    first_record bytes read (e ∙ sym (if-else (starts_with nat_eq bytes (codes "add ")) _ _ add_is
-    ∙ (if-else (starts_with nat_eq bytes (codes "pop\n")) _ _ pop_is ∙ if-then (starts_with nat_eq bytes (codes "names ")) _ _ names_is)))
+reads_names bytes read add_is pop_is names_is e = grind (arith, nat_tests, first_record, if-else, if-then)
 
 pub reads_ask : (bytes : List ℕ) (read : Option (Record × List ℕ)) → starts_with nat_eq bytes (codes "ask ") ≡ true
     → read ≡ ask_record (drop 4 bytes) → IsFirstRecord bytes read
-reads_ask bytes read ask_is e =
-    let only = starts_with-only bytes (codes "ask ") ask_is in
-    let is_no : (word : List ℕ) → starts_with nat_eq (codes "ask " ++ drop 4 bytes) word ≡ false → starts_with nat_eq bytes word ≡ false =
-    λ word no. ap (λ b. starts_with nat_eq b word) only ∙ no in
-    first_record bytes read (e ∙ sym (if-else (starts_with nat_eq bytes (codes "add ")) _ _ (is_no (codes "add ") refl)
-    ∙ (if-else (starts_with nat_eq bytes (codes "pop\n")) _ _ (is_no (codes "pop\n") refl)
-    ∙ (if-else (starts_with nat_eq bytes (codes "names ")) _ _ (is_no (codes "names ") refl)
-    ∙ if-then (starts_with nat_eq bytes (codes "ask ")) _ _ ask_is))))
+reads_ask bytes read ask_is e = grind (arith, nat_tests, starts_with-only, first_record, if-else, if-then)
 
 pub if_ok : {X E : Type 0} (r : Result X E) (P Q : X → Type 0) → ((x : X) → P x → Q x) → IfOk r P → IfOk r Q
 if_ok (Ok x) P Q next p = next x p

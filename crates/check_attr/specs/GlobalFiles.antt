@@ -1,11 +1,13 @@
 -- The lists that a script starts from, as they are read from the files of these names (own).
-use Rattle.std.specs.Prelude.{◌≡◌, ◌⊎◌, ℕ, List, []}
+use Rattle.std.specs.Prelude.{◌≡◌, ◌⊎◌, ℕ, List, map}
 use Rattle.std.specs.List.{flat_map, zip}
+use Rattle.gix_attributes.specs.Additions.{dropped_of}
 use Rattle.gix_attributes.specs.Answers.{ReadAnswer}
 use Rattle.gix_attributes.specs.Collections.{Collection, empty_collection}
 use Rattle.gix_attributes.specs.declared.search.Dropped.{Dropped}
 use Rattle.gix_attributes.specs.FileReads.{AreAnswered, FileRead, ReadInOrder, names_read}
-use Rattle.gix_attributes.specs.Globals.{RefusesGlobals, globals_of}
+use Rattle.gix_attributes.specs.EngineView.{started_with}
+use Rattle.gix_attributes.specs.Globals.{RefusesGlobals}
 use Rattle.gix_attributes.specs.declared.search.files.AddError.{AddError}
 use Rattle.gix_attributes.specs.declared.search.files.AddError.TheVariants.{OutOfMemory}
 use Rattle.check_attr.specs.ScriptText.{dropped_text}
@@ -18,11 +20,11 @@ pub record ReadsNames {F : Type 0} (reads : F → List ℕ → ReadAnswer → F 
   pub named : names_read read ≡ names
   pub answered : AreAnswered read
 
--- the global lists of these reads, in an empty collection
+-- the global lists of these reads, and the lines that are dropped of each file
 abbrev pub loaded_from : List FileRead → GlobalLists
 loaded_from read =
-    let globals = globals_of empty_collection [] read in
-    record { names = globals.loaded.known.names; lists = globals.loaded.lists; dropped = globals.dropped }
+    let state = started_with read in
+    record { names = state.names; lists = state.lists; dropped = map (λ file. dropped_of file.answer) read }
 
 -- after these reads the files of the names are refused, with this error
 abbrev pub RefusedAt : List (List ℕ) → List FileRead → AddError → Type 0

@@ -128,6 +128,7 @@ fn play_over<W: Push>(
 
 // Writes the text of a script up to its first malformed record, in pieces. What is left of the text is in `held`.
 // Returns the number of the malformed record, from 1.
+#[inline(always)]
 fn answer<W: Push>(
     alloc: Global,
     script: &[u8],

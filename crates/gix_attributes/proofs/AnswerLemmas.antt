@@ -1,4 +1,6 @@
 -- The answers of an engine after a search: those of the only stable table, and where they are.
+use Rattle.std.proofs.lemmas.Grind.{common_steps}
+use Rattle.std.proofs.lemmas.Bool.Decides.{nat_tests}
 use Rattle.std.proofs.Common.{◌≡◌, ℕ, ◌++◌, ◌-◌, append_assoc, ◌+◌, ◌<◌, ◌≤◌, Bool, true, false, List, [], ◌∷◌, length, drop, map, Option}
 use Rattle.std.proofs.Common.{Some, None, Result, Ok, Err, OnOk, OnErr}
 use Rattle.std.proofs.Common.{⊎_elim, MatchOption, option_map, slice_get, get_or, refl, sym, ap, ◌∙◌, arith, subst, eqb-true}
@@ -44,15 +46,7 @@ names_stay (Err e) names texts before after again same is = ap (λ (h : Content)
 -- an outcome that is initialised is current
 pub current_at_first : (known : Collection) (selected : List (List ℕ)) (held : Content) → IsNarrowed known selected held
     → IsCurrentFor known held
-current_at_first known selected held fresh =
-    let First : List (List ℕ) → Content = λ texts. record (initial_content known texts) { needed = held.needed } in
-    let texts : names_selected held.selection ≡ selected =
-    ap (λ (h : Content). names_selected h.selection) fresh.content ∙ names_looked_up known.names selected in
-    record {
-      content = ap reset_content fresh.content
-          ∙ ap (λ (h : Content). record h { needed = held.needed }) (reset_at_first known selected) ∙ ap First (sym texts);
-      needed = subst (λ l. AreNeeded (length known.names) (bodies_of known) (looked_up known.names l) held.needed) (sym texts) fresh.needed;
-    }
+current_at_first known selected held fresh = grind (arith, nat_tests, names_looked_up, reset_at_first)
 
 -- what a reset leaves decides whether an outcome is current
 current_alike : (known : Collection) (before after : Content) → reset_content after ≡ reset_content before → IsCurrentFor known before
@@ -66,14 +60,12 @@ current_searched known before after kept current = current_alike known before af
 
 pub current_reset : (known : Collection) (before after : Content) → after ≡ reset_content before → IsCurrentFor known before
     → IsCurrentFor known after
-current_reset known before after e current =
-    current_alike known before after (ap reset_content e ∙ emptied_again before) current
+current_reset known before after e current = grind (arith, nat_tests, current_alike, emptied_again)
 
 -- an outcome that is initialised or searched has the selection that it is initialised with
 pub selection_kept : (known : Collection) (selected : List (List ℕ)) (before after : Content) → IsNarrowed known selected before
     → KeepsAllButAnswers before after → after.selection ≡ looked_up known.names selected
-selection_kept known selected before after fresh kept =
-    ap (λ (h : Content). h.selection) kept.rest ∙ ap (λ (h : Content). h.selection) fresh.content
+selection_kept known selected before after fresh kept = grind (arith, nat_tests)
 
 -- ---- answers
 
@@ -103,13 +95,8 @@ module _ (q : Lookup) (list_ids : List ℕ) (before after : Content)
       → (length q.selected ≡ 0 → found_in after.slots ≡ answers_by_number q.known.names answers)
       → selected_in after.slots after.selection ≡ selected_answers q.known.names answers q.selected
       → returned_by after ≡ returned_answers state answers
-  returned answers true e all selected =
-      if_true (length after.selection == 0) _ _ (ap (λ n. n == 0) count ∙ e)
-      ∙ (ap specified_among (all (eqb-true (length q.selected) 0 e))
-      ∙ sym (if_true (length q.selected == 0) _ _ e))
-  returned answers false e all selected =
-      if_false (length after.selection == 0) _ _ (ap (λ n. n == 0) count ∙ e)
-      ∙ (selected ∙ sym (if_false (length q.selected == 0) _ _ e))
+  returned answers true e all selected = grind (arith, nat_tests, if_true, count, eqb-true)
+  returned answers false e all selected = grind (arith, nat_tests, if_false, count)
 
   -- the answers that are returned are those of the only stable table of the lists
   pub answered : OfTheOnlyTable (path_setting state q.path q.case q.is_dir) (λ answers. returned_by after ≡ returned_answers state answers)
@@ -132,13 +119,7 @@ module _ (q : Lookup) (list_ids : List ℕ) (before after : Content)
 
   -- with the names of the collection
   pub of_names : IsOfNames q.known.names after
-  of_names =
-      let selection = selection_kept q.known q.selected before after fresh kept in
-      record {
-        selection = selection
-            ∙ ap (looked_up q.known.names) (sym (ap names_selected selection ∙ names_looked_up q.known.names q.selected));
-        answers = narrowed_named q before after fresh knows.named bodies_named searched keeps kept;
-      }
+  of_names = grind (arith, nat_tests, selection_kept, names_looked_up, narrowed_named, bodies_named)
 
 -- ---- where the answers are, if nothing is selected
 
@@ -159,8 +140,7 @@ none_left slots i le = ap (λ l. map Some (specified_among (found_in l))) (drop_
 -- as many numbers as answers
 pub same_length : (slots : List (Option Matched)) (matches : List Matched) (numbers : List ℕ) → AreNumbersOf slots matches numbers
     → length numbers ≡ length matches
-same_length slots matches numbers numbered =
-    sym (length-map numbers (λ number. get_or slots number None)) ∙ (ap length numbered ∙ length-map matches (λ m. Some m))
+same_length slots matches numbers numbered = grind (arith, nat_tests, length-map)
 
 some_of_some : {X : Type 0} (o p : Option X) → Some o ≡ option_map (λ y. Some y) p → o ≡ p
 some_of_some o None e = absurd (cc)
@@ -179,13 +159,7 @@ at_index slots matches numbers i n numbered here =
 pub answer_in_slot : (has : Bool) (held : Content) (numbers : List ℕ) (i n : ℕ) (o : Option Matched) → has ≡ true → length held.selection ≡ 0
     → (has ≡ true → AreNumbered held numbers) → slice_get numbers i ≡ Some n → o ≡ get_or held.slots n None
     → o ≡ option_and_then (λ answers. slice_get answers i) (if has then Some (returned_by held) else None)
-answer_in_slot has held numbers i n o given none numbered here o_is =
-    let no_selection : (length held.selection == 0) ≡ true = ap (λ k. k == 0) none in
-    let read : Option (List Matched) → Option Matched = option_and_then (λ answers. slice_get answers i) in
-    o_is
-    ∙ (at_index held.slots (specified_among (found_in held.slots)) numbers i n (numbered given no_selection) here
-    ∙ sym (ap read (if_true has (Some (returned_by held)) None given)
-    ∙ ap (λ answers. slice_get answers i) (if_true (length held.selection == 0) _ _ no_selection)))
+answer_in_slot has held numbers i n o given none numbered here o_is = grind (arith, nat_tests, at_index, if_true)
 
 -- ---- the numbers of the attributes that answers are for
 
@@ -245,42 +219,14 @@ next_answer (Some xs) i x e =
 left_more : (slots : List (Option Matched)) (number : ℕ) (o : Option Matched) → number < length slots → get_or slots number None ≡ o →
     left_from slots number ≡ (if is_slot_specified o then o ∷ left_from slots (number + 1) else left_from slots (number + 1))
 left_more slots number None lt e = ap (λ l. map Some (specified_among l)) (found_at slots number None lt e)
-left_more slots number (Some m) lt e =
-    ap (λ l. map Some (specified_among l)) (found_at slots number (Some m) lt e)
-    ∙ more (is_specified m.assignment.state) refl
-  where
-    rest : List Matched
-    rest = found_in (drop (number + 1) slots)
-
-    more : (b : Bool) → is_specified m.assignment.state ≡ b →
-        map Some (specified_among (m ∷ rest)) ≡ (if b then Some m ∷ left_from slots (number + 1) else left_from slots (number + 1))
-    more true is = ap (map Some) (kept_one m rest is)
-    more false is = ap (map Some) (left_out m rest is)
+left_more slots number (Some m) lt e = grind (arith, common_steps, found_at, kept_one, left_out)
 
 -- one more number is looked at
 pub numbered_more : (slots : List (Option Matched)) (before after : List ℕ) (number : ℕ) → number < length slots →
     after ≡ (if is_slot_specified (get_or slots number None) then before ++ number ∷ [] else before) →
     map (λ n. get_or slots n None) before ++ left_from slots number ≡ left_from slots 0 →
     map (λ n. get_or slots n None) after ++ left_from slots (number + 1) ≡ left_from slots 0
-numbered_more slots before after number lt e so_far = by_case (is_slot_specified (get_or slots number None)) refl
-  where
-    at : ℕ → Option Matched
-    at n = get_or slots n None
-
-    by_case : (b : Bool) → is_slot_specified (get_or slots number None) ≡ b →
-        map (λ n. get_or slots n None) after ++ left_from slots (number + 1) ≡ left_from slots 0
-    by_case true is =
-        ap (λ l. map at l ++ left_from slots (number + 1)) (e ∙ ap (λ b. if b then before ++ number ∷ [] else before) is)
-        ∙ ap (λ l. l ++ left_from slots (number + 1)) (map-append at before (number ∷ []))
-        ∙ append_assoc (map at before) (at number ∷ []) (left_from slots (number + 1))
-        ∙ ap (λ l. map at before ++ l) (sym (left_more slots number (at number) lt refl
-        ∙ ap (λ b. if b then at number ∷ left_from slots (number + 1) else left_from slots (number + 1)) is))
-        ∙ so_far
-    by_case false is =
-        ap (λ l. map at l ++ left_from slots (number + 1)) (e ∙ ap (λ b. if b then before ++ number ∷ [] else before) is)
-        ∙ ap (λ l. map at before ++ l) (sym (left_more slots number (at number) lt refl
-        ∙ ap (λ b. if b then at number ∷ left_from slots (number + 1) else left_from slots (number + 1)) is))
-        ∙ so_far
+numbered_more slots before after number lt e so_far = grind (arith, common_steps, map-append, append_assoc, left_more)
 
 -- nothing is left before the number that is listed next
 pub left_at : (slots : List (Option Matched)) (listed : List ℕ) (from index number : ℕ) → IsNonDecreasing listed → index < length listed →
@@ -294,8 +240,4 @@ left_at slots listed from index number rising within at le lt free =
 pub all_numbered : (slots : List (Option Matched)) (listed numbers : List ℕ) (from index : ℕ) → length listed ≤ index →
     AreFreeButLeft slots listed from index → map (λ n. get_or slots n None) numbers ++ left_from slots from ≡ left_from slots 0 →
     AreNumbersOf slots (specified_among (found_in slots)) numbers
-all_numbered slots listed numbers from index past free so_far =
-    sym (append-nil (map (λ n. get_or slots n None) numbers))
-    ∙ ap (λ l. map (λ n. get_or slots n None) numbers ++ l)
-    (sym (ap (λ l. map Some (specified_among l)) (nothing_found slots from (none_listed slots listed from index past free))))
-    ∙ so_far
+all_numbered slots listed numbers from index past free so_far = grind (arith, nat_tests, append-nil, nothing_found, none_listed)

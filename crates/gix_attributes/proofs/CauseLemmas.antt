@@ -1,5 +1,7 @@
 -- After a search from nothing, the macro whose body has the item of an answer has its answer too.
-use Rattle.std.proofs.Common.{◌≡◌, Bool, get_or, slice_get, true, ℕ, ◌⊎◌, List, [], Option, Some, None, refl, inl, inr, ⊎_elim, sym, ap, ◌∙◌, subst}
+use Rattle.std.proofs.lemmas.Bool.Decides.{nat_tests}
+use Rattle.std.proofs.Common.{arith, ◌≡◌, Bool, get_or, slice_get, true, ℕ, ◌⊎◌, List, [], Option, Some, None, refl, inl, inr, ⊎_elim, sym}
+use Rattle.std.proofs.Common.{ap, ◌∙◌, subst}
 use Rattle.std.specs.Prelude.{Contains, option_and_then, option_map}
 use Rattle.std.proofs.lemmas.Option.{get_or_from_slice_get, slice_get_within}
 use Rattle.attr_table.specs.Setting.{Answer, Item, Origin, Setting, body_of}
@@ -11,13 +13,7 @@ use Rattle.gix_attributes.proofs.SearchLaws.{has_answer}
 
 -- the cause of an answer is that of its occurrence
 cause_is : (s : Setting) (o : Occurrence) (x : Answer) → answer_at s o ≡ Some x → x.cause ≡ cause_at s o
-cause_is s o x h = at (origin_at s o) (item_at s o) h
-  where
-    at : (origin : Option Origin) (i : Option Item) →
-        option_and_then (λ origin. option_map (λ i. answer_of s.bodies origin i (cause_at s o)) i) origin ≡ Some x → x.cause ≡ cause_at s o
-    at None i h = absurd cc
-    at (Some origin) None h = absurd cc
-    at (Some origin) (Some i) h = let e : answer_of s.bodies origin i (cause_at s o) ≡ x = cc in sym (ap (λ (y : Answer). y.cause) e)
+cause_is s o x h = grind (arith, nat_tests)
 
 -- what is inside a parent comes after it, so the parent is kept with it
 kept_parent : (table : Table) (wanted : List ℕ) (parent : Occurrence) (index : ℕ) → IsKept no_answers table wanted (Inside parent index) →

@@ -1,28 +1,31 @@
--- What an addition of a buffer leaves, as one equation, and searches without lists.
-use Rattle.std.proofs.Common.{◌≡◌, ◌∙◌, ℕ, Bool, List, [], ◌∷◌, ◌++◌, ap, Option}
+-- Searches without lists, and the state of an engine after the addition of a buffer.
+use Rattle.std.proofs.Common.{◌≡◌, ◌∙◌, ℕ, Bool, List, [], ◌∷◌, ◌++◌, ap, Option, Some}
 use Rattle.std.specs.List.{IsDistinct}
-use Rattle.attr_lists.specs.Definitions.{free_id}
-use Rattle.attr_lists.specs.KeptLists.{kept_list_where}
+use Rattle.attr_glob.specs.Bases.{base_of}
 use Rattle.attr_lists.specs.Collections.{Collection}
-use Rattle.gix_attributes.specs.Additions.{RegisteredLists, buffer_list, with_buffer, with_registered}
+use Rattle.attr_lists.specs.KeptLists.{kept_list_where}
+use Rattle.attr_lists.specs.Numbers.{numbered_lines}
 use Rattle.attr_search.specs.IndexedLists.{list_ids_of, lists_view}
-use Rattle.gix_attributes.specs.SearchViews.{AreHeld}
 use Rattle.attr_search.specs.ListView.{Listed}
 use Rattle.attr_search.specs.declared.indexed_list.IndexedList.{IndexedList}
+use Rattle.gix_attributes.specs.Additions.{AddsBuffer, RegisteredLists}
+use Rattle.gix_attributes.specs.EngineStates.{EngineState, state_with_list}
+use Rattle.gix_attributes.specs.SearchViews.{AreHeld}
 
--- the lists, the list ids and the collection after the addition of a buffer, as one
-pub buffer_added : (source : List ℕ) (root : Option (List ℕ)) (allow_macros : Bool) (bytes : List ℕ) (old : RegisteredLists)
-    (lists : List Listed) (list_ids : List ℕ) (known : Collection)
-    → lists ≡ old.lists ++ buffer_list source root allow_macros bytes known ∷ []
-    → list_ids ≡ old.list_ids ++ free_id old.known.active ∷ []
-    → known ≡ with_registered (kept_list_where allow_macros bytes) old.known
-    → record { lists = lists; list_ids = list_ids; known = known } ≡ with_buffer source root allow_macros bytes old
-buffer_added source root allow_macros bytes old lists list_ids known same_lists same_ids same_known =
-    let added : Collection → List Listed = λ k. old.lists ++ buffer_list source root allow_macros bytes k ∷ [] in
-    let all : List Listed → List ℕ → Collection → RegisteredLists = λ ls ids k. record { lists = ls; list_ids = ids; known = k } in
-    let ids = old.list_ids ++ free_id old.known.active ∷ [] in
-    ap (λ ls. all ls list_ids known) same_lists
-    ∙ (ap (λ ms. all (added known) ms known) same_ids ∙ ap (λ k. all (added k) ids k) same_known)
+-- the names and the lists, without a selection
+abbrev pub state_of : RegisteredLists → EngineState
+state_of l = record { names = l.known.names; lists = l.lists; selection = [] }
+
+-- the names and the lists after the addition of a buffer
+pub buffer_added : (source : List ℕ) (root : Option (List ℕ)) (allow_macros : Bool) (bytes : List ℕ) (before after : RegisteredLists)
+    → AddsBuffer source root allow_macros bytes before after
+    → state_of after ≡ state_with_list (record { allow_macros = allow_macros; source = source; root = root; buffer = bytes }) (state_of before)
+buffer_added source root allow_macros bytes before after added =
+    let names = ap (λ (k : Collection). k.names) added.registered.registered.added in
+    let kept = kept_list_where allow_macros bytes in
+    let list : List (List ℕ) → Listed = λ ns. record { source = Some source; base = base_of source root; lines = numbered_lines ns kept } in
+    let all : List (List ℕ) → List Listed → EngineState = λ ns ls. record { names = ns; lists = ls; selection = [] } in
+    ap (all after.known.names) added.lists ∙ ap (λ ns. all ns (before.lists ++ list ns ∷ [])) names
 
 -- a collection holds a search without lists
 pub none_held : (known : Collection) (lists : List IndexedList) → lists_view lists ≡ [] → AreHeld known (list_ids_of lists) (lists_view lists)

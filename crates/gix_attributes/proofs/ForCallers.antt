@@ -19,8 +19,11 @@ pub use Rattle.attr_lists.proofs.ForCallers.{number_at}
 -- `lists_with_ids`: lists with their list ids are these lists.
 pub use Rattle.gix_attributes.proofs.KeepingLemmas.{bodies_have_names, bodies_registered, left_alone, lists_with_ids}
 -- Engines.
--- `alone_first`: lists that are added to a collection without lists are registered there alone.
+-- `alone_first`: lists that are added to a collection without lists are registered there alone. `globals_state`: the names and the lists
+-- after global files are read into a collection without names.
 pub use Rattle.gix_attributes.proofs.RegistrationLemmas.{alone_first}
+pub use Rattle.gix_attributes.proofs.FileLemmas.{state_of}
+pub use Rattle.gix_attributes.proofs.GlobalLemmas.{globals_state}
 -- Sources that are told in place of labels, as the law `sources_only_tell` says it. `answers_to_told`, `finds_for_told`: what a question
 -- leaves. `added_told`, `popped_told`: lists are added and removed. `number_told`: the numbers of answers stay.
 pub use Rattle.gix_attributes.proofs.ToldLemmas.{added_told, answers_to_told, finds_for_told, number_told, popped_told}

@@ -11,10 +11,11 @@ use Rattle.std.proofs.lemmas.List.Elements.{recursion_from_All}
 use Rattle.std.proofs.lemmas.List.Folds.{list_any_none}
 use Rattle.std.proofs.lemmas.Map.Keys.{IsDistinct-push}
 use Rattle.attr_lists.specs.Collections.{Collection}
-use Rattle.attr_lists.specs.Definitions.{HoldsList, is_active}
+use Rattle.attr_lists.specs.Definitions.{HoldsList, is_registered}
 use Rattle.attr_lists.specs.ListViews.{entries_view}
 use Rattle.attr_lists.specs.shared.Keeping.{StayRegistered}
 use Rattle.attr_lists.specs.shared.Keeping.{OthersStayRegistered}
+use Rattle.attr_lists.proofs.ForCallers.{held_registered}
 use Rattle.gix_attributes.specs.SearchViews.{AreHeld}
 use Rattle.gix_attributes.specs.inner.HeldLists.{AreHeldLists, IsHeldList}
 use Rattle.attr_search.specs.IndexedLists.{list_ids_of, lists_view}
@@ -24,16 +25,17 @@ use Rattle.attr_search.specs.declared.indexed_list.IndexedList.{IndexedList}
 true-false : true ≡ false → ⊥
 true-false e = absurd cc
 
-other : (known : Collection) (list_id : ℕ) → is_active known.active list_id ≡ false → (s : IndexedList) → IsHeldList known s → (b : Bool)
+other : (known : Collection) (list_id : ℕ) → is_registered known list_id ≡ false → (s : IndexedList) → IsHeldList known s → (b : Bool)
     → nat_eq list_id s.list_id ≡ b → b ≡ false
 other known list_id free s held false e = refl
 other known list_id free s held true e =
-    absurd (true-false (sym held.active ∙ ap (is_active known.active) (sym (eqb-true list_id s.list_id e)) ∙ free))
+    absurd (true-false (sym (held_registered known s.list_id (entries_view s.list.patterns.items) held)
+    ∙ ap (is_registered known) (sym (eqb-true list_id s.list_id e)) ∙ free))
 
 -- one more list, under a list id that no other has
 pub held_more : (before after : Collection) (lists : List IndexedList) (s : IndexedList)
     → IsEquivalence nat_eq
-    → StayRegistered before after → HoldsList after s.list_id (entries_view s.list.patterns.items) → is_active before.active s.list_id ≡ false
+    → StayRegistered before after → HoldsList after s.list_id (entries_view s.list.patterns.items) → is_registered before s.list_id ≡ false
     → AreHeldLists before lists → AreHeldLists after (lists ++ s ∷ [])
 held_more before after lists s laws keeps new free held =
     let list_ids = map (λ (x : IndexedList). x.list_id) lists in
@@ -71,11 +73,6 @@ others-held before after list_id keeps (s ∷ ss) differ held =
     (All-head (λ m. nat_eq m list_id ≡ false) s.list_id (list_ids_of ss) differ)) (All-head (IsHeldList before) s ss held))
     (others-held before after list_id keeps ss (All-tail (λ m. nat_eq m list_id ≡ false) s.list_id (list_ids_of ss) differ)
     (All-tail (IsHeldList before) s ss held))
-
--- the last of the lists that are held
-pub last_held : (known : Collection) (lists : List IndexedList) (s : IndexedList) → AreHeldLists known (lists ++ s ∷ []) → HoldsList known s.list_id
-    (entries_view s.list.patterns.items)
-last_held known lists s held = (All-pop (IsHeldList known) (lists ++ s ∷ []) lists (Some s) refl held.held).1
 
 -- the others stay held when the last one is removed
 pub held_less : (before after : Collection) (lists : List IndexedList) (s : IndexedList) → OthersStayRegistered s.list_id before after

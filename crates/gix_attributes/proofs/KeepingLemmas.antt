@@ -5,36 +5,37 @@ use Rattle.std.proofs.Common.{nat_eq, eq-eqb, slice_get, Option, Some, None, opt
 use Rattle.std.proofs.Common.{arith, ⊎_elim}
 use Rattle.std.specs.Bool.{⊤}
 use Rattle.std.specs.Prelude.{IfSome}
-use Rattle.std.specs.List.{IsDistinct, flat_map}
+use Rattle.std.specs.List.{IsDistinct, flat_map, range_with_len}
 use Rattle.std.proofs.lemmas.Bool.{cases_Bool, cond-true, cond-false, eqb-true, true≢false}
 use Rattle.std.proofs.lemmas.Grind.{flat_map-append}
 use Rattle.std.proofs.lemmas.List.{append-nil, map-append, length-map, length-append, get_or_default, ext_get_or}
 use Rattle.std.proofs.lemmas.List.Elements.{All-nil, All-cons, All-head, All-tail, All-map, All-pop, All-push, All-weaker, filter-append}
 use Rattle.attr_lists.specs.Collections.{MacroDefinition, Collection}
-use Rattle.attr_lists.specs.Definitions.{IsSoundCollection, bodies_named, definition_of, definitions_for, definitions_of, free_id}
-use Rattle.attr_lists.specs.Definitions.{is_active, last_body, of_other_lists, without_list}
+use Rattle.attr_lists.specs.Definitions.{IsSoundCollection, RegistersAs, bodies_named, definition_of, definitions_for, definitions_of}
+use Rattle.attr_lists.specs.Definitions.{is_registered, last_body, macro_body, of_other_lists, without_list}
 use Rattle.attr_lists.specs.ListViews.{Entry, entries_view}
 use Rattle.attr_lists.specs.Numbers.{AppendsNames, AreNamed, IsNumberOf, names_in, numbered_lines, with_names}
 use Rattle.attr_lists.specs.declared.types.AttributeId.{AttributeId}
 use Rattle.attr_lists.specs.shared.Keeping.{IsNumbered, OthersStayRegistered, StayRegistered}
 use Rattle.attr_lists.specs.declared.types.TrackedAssignment.{TrackedAssignment}
-use Rattle.attr_lists.proofs.ForCallers.{added_for, get_or-map, list_numbered, number_at, of_other_lists-append, of_other_lists-own, removed_for}
-use Rattle.attr_lists.proofs.ForCallers.{with_names-extends}
+use Rattle.attr_lists.proofs.ForCallers.{body_named, definitions_by_name, get_or-map, held_registered, list_numbered, of_other_lists-append}
+use Rattle.attr_lists.proofs.ForCallers.{of_other_lists-own, registered_for, removed_for, with_names-extends}
 use Rattle.attr_search.specs.IndexedLists.{list_ids_of, listed_view, lists_view}
 use Rattle.attr_search.specs.ListView.{Listed}
 use Rattle.attr_search.specs.declared.indexed_list.IndexedList.{IndexedList}
 use Rattle.attr_search.specs.Settings.{BodiesAreNamed, HeldAreNamed, LinesAreNamed, ListsAreNamed}
 use Rattle.attr_search.specs.Slots.{Matched}
-use Rattle.gix_attributes.specs.Additions.{RegisteredLists, registered_lists, with_registered}
+use Rattle.gix_attributes.specs.Additions.{RegisteredLists, registered_lists}
 use Rattle.gix_attributes.specs.Contents.{bodies_of}
 use Rattle.gix_attributes.specs.Covered.{AreCovered, IsCovered, ListsAreCovered}
-use Rattle.gix_attributes.specs.Keeping.{Adds, AreApart, Keeps, KeepsSearches, Removes}
+use Rattle.gix_attributes.specs.Keeping.{Adds, AreApart, Keeps, KeepsSearches, RegistersLast, Removes}
 use Rattle.gix_attributes.specs.Registers.{Registered, RegistersExactly, definitions_in, definitions_under, last_definition, lists_registered}
 use Rattle.gix_attributes.specs.Registers.{no_lists, with_list_ids, without_registered}
 use Rattle.gix_attributes.specs.SearchViews.{Holds, list_ids_in, lists_in}
 use Rattle.gix_attributes.specs.inner.HeldLists.{IsHeldList}
 use Rattle.gix_attributes.specs.declared.search.attributes.Search.{Search}
 use Rattle.gix_attributes.proofs.HoldsLemmas.{distinct-parts, held_lists, held_views}
+use Rattle.gix_attributes.proofs.SelectionLemmas.{body_at, length_bodies}
 
 -- ---- names
 
@@ -183,13 +184,14 @@ others_held known now list_id stays search apart h =
     })
 
 -- a list id that is free is none of a search that is held
-free_apart : (known : Collection) (list_id : ℕ) (search : Search) → is_active known.active list_id ≡ false → Holds known search
+free_apart : (known : Collection) (list_id : ℕ) (search : Search) → is_registered known list_id ≡ false → Holds known search
     → All (λ m. m ≢ list_id) (list_ids_in search)
 free_apart known list_id search free h =
     let items = search.patterns.lists.items in
     All-map (λ m. m ≢ list_id) (λ (s : IndexedList). s.list_id) items
     (All-weaker (IsHeldList known) (λ (s : IndexedList). s.list_id ≢ list_id)
-    (λ s e same. true≢false (sym e.active ∙ (ap (is_active known.active) same ∙ free))) items (held_lists known items h).held)
+    (λ s e same. true≢false (sym (held_registered known s.list_id (entries_view s.list.patterns.items) e)
+    ∙ (ap (is_registered known) same ∙ free))) items (held_lists known items h).held)
 
 -- ---- lists and their list ids
 
@@ -217,18 +219,21 @@ push_definitions register r name =
 abbrev state : List IndexedList → Collection → RegisteredLists
 state items known = record { lists = lists_view items; list_ids = list_ids_of items; known = known }
 
-module _ (known now : Collection) (entries : List Entry) (now_is : now ≡ with_registered entries known) where
+module _ (known now : Collection) (list_id : ℕ) (entries : List Entry) (registers : RegistersAs list_id entries known now) where
+  names_now : now.names ≡ with_names known.names (names_in entries)
+  names_now = ap (λ (k : Collection). k.names) registers.added
+
   pub names_added : AppendsNames known.names now.names
   names_added =
       let more = with_names-extends known.names (names_in entries) in
-      (more.0, ap (λ (k : Collection). k.names) now_is ∙ more.1)
+      (more.0, names_now ∙ more.1)
 
   -- the lines of the list have the numbers of their names
   pub lines_named : (lines : List Entry) → lines ≡ numbered_lines now.names entries → LinesAreNamed now.names lines
   lines_named lines lines_are =
       let names = with_names known.names (names_in entries) in
       subst (LinesAreNamed now.names) (sym lines_are)
-      (subst (λ ns. LinesAreNamed ns (numbered_lines ns entries)) (sym (ap (λ (k : Collection). k.names) now_is))
+      (subst (λ ns. LinesAreNamed ns (numbered_lines ns entries)) (sym names_now)
       (All-weaker (IsNumbered names) (λ (e : Entry). AreNamed names e.items) (λ e is. is.items) (numbered_lines names entries)
       (list_numbered known.names entries)))
 
@@ -237,57 +242,57 @@ module _ (known now : Collection) (entries : List Entry) (now_is : now ≡ with_
   lines_covered lines lines_are =
       let names = with_names known.names (names_in entries) in
       subst (AreCovered (length now.names)) (sym lines_are)
-      (subst (λ ns. AreCovered (length ns) (numbered_lines ns entries)) (sym (ap (λ (k : Collection). k.names) now_is))
+      (subst (λ ns. AreCovered (length ns) (numbered_lines ns entries)) (sym names_now)
       (All-weaker (IsNumbered names) (IsCovered (length names)) (line_covered names) (numbered_lines names entries)
       (list_numbered known.names entries)))
 
   -- a list is registered after all others
-  pub registers_more : (list_id : ℕ) (list : Listed) → list_id ≡ free_id known.active → list.lines ≡ numbered_lines now.names entries
-      → IsSoundCollection now → (register : List Registered) → RegistersExactly known register
-      → RegistersExactly now (register ++ record { list_id = list_id; list = list } ∷ [])
-  registers_more list_id list id_is lines_are sound register h =
+  pub registers_more : (list : Listed) → list.lines ≡ numbered_lines now.names entries → IsSoundCollection now
+      → RegistersLast known (record { list_id = list_id; list = list }) now
+  registers_more list lines_are sound register h =
       let r : Registered = record { list_id = list_id; list = list } in
-      let names = with_names known.names (names_in entries) in
-      let same : numbered_lines names entries ≡ list.lines = sym (lines_are ∙ ap (λ (k : Collection). numbered_lines k.names entries) now_is) in
       record {
         sound = sound;
         defined = λ name.
-            ap (λ (k : Collection). definitions_for k name) now_is
-            ∙ (added_for known entries h.sound name
-            ∙ (ap (λ ds. ds ++ map (definition_of (free_id known.active)) (bodies_named name (numbered_lines names entries))) (h.defined name)
-            ∙ (ap (λ m. definitions_under register name ++ map (definition_of m) (bodies_named name (numbered_lines names entries))) (sym id_is)
-            ∙ (ap (λ ls. definitions_under register name ++ map (definition_of list_id) (bodies_named name ls)) same
-            ∙ sym (push_definitions register r name)))));
+            registered_for known now list_id entries h.sound registers name
+            ∙ (ap (λ ds. ds ++ map (definition_of list_id) (bodies_named name (numbered_lines now.names entries))) (h.defined name)
+            ∙ (ap (λ ls. definitions_under register name ++ map (definition_of list_id) (bodies_named name ls)) (sym lines_are)
+            ∙ sym (push_definitions register r name)));
       }
 
-  module _ (before after : List IndexedList) (s : IndexedList) (pushed : after ≡ before ++ s ∷ []) (id_is : s.list_id ≡ free_id known.active)
-      (lines_are : entries_view s.list.patterns.items ≡ numbered_lines now.names entries) (fresh : is_active known.active s.list_id ≡ false)
-      (stays : StayRegistered known now) where
-    pub keeps_added : Keeps (state before known) (state after now)
-    keeps_added = record {
-      names = names_added;
-      named = λ h. subst (ListsAreNamed now.names) (sym (ap lists_view pushed ∙ map-append listed_view before (s ∷ [])))
-          (All-push (λ (l : Listed). LinesAreNamed now.names l.lines) (lists_view before) (listed_view s)
-          (lists_still known.names now.names names_added (lists_view before) h) (lines_named (listed_view s).lines lines_are));
-      covered = λ h. subst (ListsAreCovered (length now.names)) (sym (ap lists_view pushed ∙ map-append listed_view before (s ∷ [])))
-          (All-push (λ (l : Listed). AreCovered (length now.names) l.lines) (lists_view before) (listed_view s)
-          (covered_still known.names now.names names_added (lists_view before) h) (lines_covered (listed_view s).lines lines_are));
-      others = λ other apart held. (
-        subst (λ ids. AreApart ids (list_ids_in other))
-            (sym (ap list_ids_of pushed ∙ map-append (λ (x : IndexedList). x.list_id) before (s ∷ [])))
-            (All-push (λ m. All (λ o. o ≢ m) (list_ids_in other)) (list_ids_of before) s.list_id apart
-            (free_apart known s.list_id other fresh held)),
-        stay_held known now stays other held,
-      );
-    }
+module _ (known now : Collection) (entries : List Entry) (before after : List IndexedList) (s : IndexedList)
+    (registers : RegistersAs s.list_id entries known now) (pushed : after ≡ before ++ s ∷ [])
+    (lines_are : entries_view s.list.patterns.items ≡ numbered_lines now.names entries) (stays : StayRegistered known now) where
+  appends : AppendsNames known.names now.names
+  appends = names_added known now s.list_id entries registers
 
-    pub adds_added : IsSoundCollection now → Adds (state before known) (state after now)
-    adds_added sound = record {
-      added = registered_view s ∷ [];
-      to_search = one_registered before after s pushed;
-      to_collection = registers_more s.list_id (listed_view s) id_is lines_are sound;
-      held = stay_held known now stays;
-    }
+  pub keeps_added : Keeps (state before known) (state after now)
+  keeps_added = record {
+    names = appends;
+    named = λ h. subst (ListsAreNamed now.names) (sym (ap lists_view pushed ∙ map-append listed_view before (s ∷ [])))
+        (All-push (λ (l : Listed). LinesAreNamed now.names l.lines) (lists_view before) (listed_view s)
+        (lists_still known.names now.names appends (lists_view before) h)
+        (lines_named known now s.list_id entries registers (listed_view s).lines lines_are));
+    covered = λ h. subst (ListsAreCovered (length now.names)) (sym (ap lists_view pushed ∙ map-append listed_view before (s ∷ [])))
+        (All-push (λ (l : Listed). AreCovered (length now.names) l.lines) (lists_view before) (listed_view s)
+        (covered_still known.names now.names appends (lists_view before) h)
+        (lines_covered known now s.list_id entries registers (listed_view s).lines lines_are));
+    others = λ other apart held. (
+      subst (λ ids. AreApart ids (list_ids_in other))
+          (sym (ap list_ids_of pushed ∙ map-append (λ (x : IndexedList). x.list_id) before (s ∷ [])))
+          (All-push (λ m. All (λ o. o ≢ m) (list_ids_in other)) (list_ids_of before) s.list_id apart
+          (free_apart known s.list_id other registers.fresh held)),
+      stay_held known now stays other held,
+    );
+  }
+
+  pub adds_added : IsSoundCollection now → Adds (state before known) (state after now)
+  adds_added sound = record {
+    added = registered_view s ∷ [];
+    to_search = one_registered before after s pushed;
+    to_collection = registers_more known now s.list_id entries registers (listed_view s) lines_are sound;
+    held = stay_held known now stays;
+  }
 
 -- ---- the last list is removed
 
@@ -442,38 +447,18 @@ pub bodies_registered : (known : Collection) (register : List Registered) → Re
 bodies_registered known register h =
     let f = last_definition (lists_registered register) in
     ext_get_or [] (bodies_of known) (map f known.names)
-    (length-map known.definitions last_body ∙ (h.sound.counted ∙ sym (length-map known.names f)))
+    (length_bodies known ∙ sym (length-map known.names f))
     (λ n lt.
-    let below : n < length known.names = omega (arith, lt, length-map known.definitions last_body, h.sound.counted) in
+    let below : n < length known.names = omega (arith, lt, length_bodies known) in
     let name = get_or known.names n [] in
-    get_or-map last_body known.definitions n []
-    ∙ (ap last_body (sym (ap (λ (o : Option ℕ). unwrap_or (option_map (definitions_of known) o) []) (number_at known.names n h.sound.distinct below))
-    ∙ h.defined name)
+    body_at known n below
+    ∙ (ap last_body (definitions_by_name known n h.sound.distinct below ∙ h.defined name)
     ∙ (last_of (definitions_under register name) (definitions_in (lists_registered register) name) (bodies_under register name)
     ∙ (sym (get_or-map f known.names n [])
     ∙ get_or_default (map f known.names) n (f []) [] (omega (arith, below, length-map known.names f))))))
 
-get_below : {X : Type 0} (xs : List X) (i : ℕ) (x : X) → slice_get xs i ≡ Some x → i < length xs
-get_below [] i x h = absurd cc
-get_below (y ∷ ys) zero x h = omega arith
-get_below (y ∷ ys) (suc i) x h = let rest = get_below ys i x h in omega arith
-
-get_at : {X : Type 0} (xs : List X) (i : ℕ) (x d : X) → slice_get xs i ≡ Some x → get_or xs i d ≡ x
-get_at [] i x d h = absurd cc
-get_at (y ∷ ys) zero x d h = cc
-get_at (y ∷ ys) (suc i) x d h = get_at ys i x d h
-
-last_named : (names : List (List ℕ)) (ds : List MacroDefinition) → All (λ d. AreNamed names d.body) ds → AreNamed names (last_body ds)
-last_named names ds h = at (slice_get ds (length ds - 1)) refl
-  where
-    at : (o : Option MacroDefinition) → slice_get ds (length ds - 1) ≡ o
-        → AreNamed names (unwrap_or (option_map (λ (d : MacroDefinition). d.body) o) [])
-    at None e = All-nil (λ (i : TrackedAssignment). IsNumberOf names i.inner.name i.id)
-    at (Some d) e = subst (λ (x : MacroDefinition). AreNamed names x.body) (get_at ds (length ds - 1) d d e)
-        (h (length ds - 1) d (get_below ds (length ds - 1) d e))
-
 -- the items of each body have the numbers of their names
 pub bodies_have_names : (known : Collection) → IsSoundCollection known → BodiesAreNamed known.names (bodies_of known)
-bodies_have_names known sound = All-map (AreNamed known.names) last_body known.definitions
-    (λ k d lt. subst (λ ds. AreNamed known.names (last_body ds)) (get_or_default known.definitions k [] d lt)
-    (last_named known.names (definitions_of known k) (sound.named k)))
+bodies_have_names known sound =
+    let numbers = range_with_len 0 (length known.names) in
+    All-map (AreNamed known.names) (macro_body known) numbers (λ k number lt. body_named known (get_or numbers k number) sound)

@@ -1,9 +1,12 @@
 -- What labels stand for: each the source with its index, whichever sources are appended.
+use Rattle.std.proofs.lemmas.Bool.Decides.{nat_tests}
 use Rattle.std.proofs.Common.{◌≡◌, ℕ, zero, suc, ◌<◌, ◌^◌, Bool, true, false, List, [], ◌∷◌, ◌++◌, length, map}
 use Rattle.std.proofs.Common.{Option, Some, None, option_map, slice_get, unwrap_or, refl, ap, ◌∙◌, arith}
 use Rattle.std.specs.Prelude.{IfSome, if◌then◌else◌}
 use Rattle.std.specs.Str.{all_ascii_digits}
 use Rattle.std.specs.Str.Parse.{digits_value}
+use Rattle.std.proofs.lemmas.Option.{unwrap_or-slice_get}
+use Rattle.std.proofs.Math.ListN.{get_or-append}
 use Rattle.std.proofs.lemmas.Fmt.{digits_decimal, digits_value-decimal}
 use Rattle.std.proofs.lemmas.List.Elements.{All-head, All-tail}
 use Rattle.std.proofs.lemmas.Str.Parse.{IsNumeralModel, numerals_by_value, tells_all_ascii_digits}
@@ -24,33 +27,15 @@ label_value n below = digits_value-decimal digits n below
 -- and so it stands for the source with this index
 pub source_at_label : (sources : List (List ℕ)) (n : ℕ) → n < 2 ^ 64 →
     source_at sources (label_at n) ≡ unwrap_or (slice_get sources n) (label_at n)
-source_at_label sources n below =
-    at (all_ascii_digits (label_at n)) (label_digits n below)
-    ∙ ap (λ k. unwrap_or (slice_get sources k) (label_at n)) (label_value n below)
-  where
-    at : (b : Bool) → b ≡ true → (if b then unwrap_or (slice_get sources (digits_value 10 (label_at n))) (label_at n) else label_at n)
-        ≡ unwrap_or (slice_get sources (digits_value 10 (label_at n))) (label_at n)
-    at true e = refl
-    at false e = absurd cc
+source_at_label sources n below = grind (arith, nat_tests, label_digits, label_value)
 
 pub label_below : (n count : ℕ) → n < 2 ^ 64 → n < count → IsLabelBelow count (label_at n)
 label_below n count below lt e = omega (arith, label_value n below, lt)
 
 -- sources that are appended change nothing of what is labelled below them
-get_front : (sources more : List (List ℕ)) (n : ℕ) → n < length sources → slice_get (sources ++ more) n ≡ slice_get sources n
-get_front [] more n lt = absurd (omega (arith, lt))
-get_front (x ∷ sources) more zero lt = refl
-get_front (x ∷ sources) more (suc n) lt = get_front sources more n (omega (arith, lt))
-
 pub source_at-more : (sources more : List (List ℕ)) (text : List ℕ) → IsLabelBelow (length sources) text →
     source_at (sources ++ more) text ≡ source_at sources text
-source_at-more sources more text below = at (all_ascii_digits text) below
-  where
-    at : (b : Bool) → (b ≡ true → digits_value 10 text < length sources) →
-        (if b then unwrap_or (slice_get (sources ++ more) (digits_value 10 text)) text else text)
-        ≡ (if b then unwrap_or (slice_get sources (digits_value 10 text)) text else text)
-    at true below = ap (λ o. unwrap_or o text) (get_front sources more (digits_value 10 text) (below refl))
-    at false below = refl
+source_at-more sources more text below = grind (arith, nat_tests, unwrap_or-slice_get, get_or-append)
 
 option_more : (sources more : List (List ℕ)) (source : Option (List ℕ)) → IfSome source (IsLabelBelow (length sources)) →
     option_map (source_at (sources ++ more)) source ≡ option_map (source_at sources) source
@@ -61,13 +46,14 @@ lists_more : (sources more : List (List ℕ)) (lists : List Listed) → AreLabel
     map (list_told (source_at (sources ++ more))) lists ≡ map (list_told (source_at sources)) lists
 lists_more sources more [] below = refl
 lists_more sources more (list ∷ lists) below =
-    let P : Listed → Type 0 = λ list. IfSome list.source (IsLabelBelow (length sources)) in
-    ap (λ source. let made : Listed = record { source = source; base = list.base; lines = list.lines } in
-    made ∷ map (list_told (source_at (sources ++ more))) lists) (option_more sources more list.source (All-head P list lists below))
-    ∙ ap (λ ls. list_told (source_at sources) list ∷ ls) (lists_more sources more lists (All-tail P list lists below))
+    let P : Listed → Type 0 = λ l. IfSome l.source (IsLabelBelow (length sources)) in
+    grind (
+      arith,
+      nat_tests,
+      option_more sources more list.source (All-head P list lists below),
+      lists_more sources more lists (All-tail P list lists below),
+    )
 
 pub state_told-more : (sources more : List (List ℕ)) (s : EngineState) → AreLabelsBelow (length sources) s.lists →
     state_told (source_at (sources ++ more)) s ≡ state_told (source_at sources) s
-state_told-more sources more s below =
-    ap (λ lists. let made : EngineState = record { names = s.names; lists = lists; selection = s.selection } in made)
-    (lists_more sources more s.lists below)
+state_told-more sources more s below = rw (lists_more sources more s.lists below) refl

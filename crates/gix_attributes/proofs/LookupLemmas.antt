@@ -1,4 +1,6 @@
 -- What an outcome returns after a search, by the only stable table, with names.
+use Rattle.std.proofs.lemmas.Grind.{common_steps}
+use Rattle.std.proofs.lemmas.Bool.Decides.{nat_tests}
 use Rattle.std.proofs.Common.{◌≡◌, inl, inr, ℕ, zero, suc, ◌+◌, ◌<◌, ◌==◌, Bool, true, false, List, [], ◌∷◌, ◌++◌, length, get_or, map, replicate}
 use Rattle.std.proofs.Common.{filter, slice_get, All, Option, Some, None, MatchOption, option_map, unwrap_or, refl, sym, ap, ◌∙◌, arith}
 use Rattle.std.proofs.Common.{subst, ⊎_elim, eqb-true}
@@ -90,15 +92,7 @@ named_again : (names : List (List ℕ)) (number : ℕ) (slot : Option Matched) �
     MatchOption slot ⊤ (λ m. slice_get names number ≡ Some m.assignment.name) →
     slot ≡ option_map (named_answer (get_or names number [])) (option_map (table_answer number) slot)
 named_again names number None named = refl
-named_again names number (Some m) named =
-    let name = name_at_number names number m.assignment.name named in
-    sym (ap (λ text. Some (named_answer text (table_answer number m))) name
-    ∙ ap (λ state. let x : Matched = record {
-      origin = m.origin;
-      assignment = record { name = m.assignment.name; state = state };
-      is_macro = m.is_macro;
-      cause = m.cause;
-    } in Some x) (state_again m.assignment.state))
+named_again names number (Some m) named = grind (arith, nat_tests, name_at_number, state_again)
 
 -- the answers that are found, by number
 found_by_number : (g : ℕ → Option Matched) (slots : List (Option Matched)) (k : ℕ) →
@@ -122,9 +116,7 @@ in_found (slot ∷ slots) (suc number) m e = in_cons slot (found_in slots) m (in
 -- the name at the number of a name
 named_at : (names : List (List ℕ)) (name : List ℕ) (number : ℕ) → number_of names name ≡ Some number → (number < length names) ×
     (get_or names number [] ≡ name)
-named_at names name number e =
-    let found = position-Some (bytes_eq name) names number [] e in
-    (found.0, sym ((bytes_eq-Decides name (get_or names number [])).0 found.1))
+named_at names name number e = grind (arith, nat_tests, position-Some, bytes_eq-Decides)
 
 abbrev look : List (List ℕ) → List ℕ → Wanted
 look names name = record { name = name; number = number_of names name }
@@ -159,21 +151,11 @@ module _ (q : Lookup) (held : Content) (answers : Slots) (count : length held.sl
   -- each slot that is needed, by what the table sees
   pub slot_is : (number : ℕ) (answer : Option Answer) → IsSeen held number answer →
       get_or held.slots number None ≡ option_map (named_answer (get_or q.known.names number [])) answer
-  slot_is number answer seen =
-      named_again q.known.names number (get_or held.slots number None) (named number)
-      ∙ ap (option_map (named_answer (get_or q.known.names number [])))
-      (sym (narrowed_at (is_needed held.needed) (slots_of held.slots) number seen.0) ∙ seen.1)
+  slot_is number answer seen = grind (arith, common_steps, named_again, narrowed_at)
 
   pub found_of : (part : Slots) → ((number : ℕ) → number < length q.known.names → IsSeen held number (part number)) →
       found_in held.slots ≡ answers_by_number q.known.names part
-  found_of part same =
-      let g : ℕ → Option Matched = λ number. option_map (named_answer (get_or q.known.names number [])) (part number) in
-      found_by_number g held.slots 0
-      (λ i number lt e.
-      let at : number ≡ i = omega (arith, e) in
-      subst (λ k. get_or held.slots k None ≡ g number) at
-      (slot_is number (part number) (same number (omega (arith, lt, at, count)))))
-      ∙ ap (λ n. filter_map g (range_with_len 0 n)) count
+  found_of part same = grind (arith, nat_tests, part, found_by_number, slot_is, same)
 
   slot_of_name : (name : List ℕ) (number : ℕ) → Contains q.selected name → number_of q.known.names name ≡ Some number →
       get_or held.slots number None ≡ option_map (named_answer name) (answers number)
@@ -198,12 +180,7 @@ module _ (q : Lookup) (held : Content) (answers : Slots) (count : length held.sl
   one_among : (name : List ℕ) → Contains q.selected name → (o : Option ℕ) → number_of q.known.names name ≡ o →
       MatchOption (option_map (named_answer name) (option_and_then answers o)) ⊤ (Contains (found_in held.slots))
   one_among name c None e = tt
-  one_among name c (Some number) e = at (answers number) (slot_of_name name number c e)
-    where
-      at : (answer : Option Answer) → get_or held.slots number None ≡ option_map (named_answer name) answer →
-          MatchOption (option_map (named_answer name) answer) ⊤ (Contains (found_in held.slots))
-      at None h = tt
-      at (Some x) h = in_found held.slots number (named_answer name x) h
+  one_among name c (Some number) e = grind (arith, nat_tests, slot_of_name, in_found)
 
   returned : ArePartOf (answers_in held) answers →
       (length q.selected ≡ 0 → (number : ℕ) → number < length q.known.names → IsSeen held number (answers number)) →
@@ -233,9 +210,7 @@ nothing_named names xs a =
 
 -- nothing of what is wanted changes
 wanted_kept : (before after : Content) → KeepsAllButAnswers before after → wanted_of after ≡ wanted_of before
-wanted_kept before after kept =
-    ap (λ selection. filter (is_wanted selection) (range_with_len 0 (length after.slots))) (ap (λ (h : Content). h.selection) kept.rest)
-    ∙ ap (λ n. filter (is_wanted before.selection) (range_with_len 0 n)) kept.count
+wanted_kept before after kept = grind (arith, nat_tests)
 
 -- a search that leaves something that is wanted without an answer leaves the whole table
 pub unfinished_whole : (lists : List Listed) (path : List ℕ) (case : Case) (is_dir : Option Bool) (before after : Content) (table : Table)
@@ -330,14 +305,10 @@ module _ (q : Lookup) (before after : Content) (looked : IsLookedUp q before aft
 
   -- what is found is the answer, with its name
   found_if : (number : ℕ) → answers_in after number ≡ answers number → IsFound q.known.names answers after.slots number
-  found_if number e =
-      named_again q.known.names number (get_or after.slots number None) (all_named number)
-      ∙ ap (option_map (named_answer (get_or q.known.names number []))) (sym (ap (λ (s : Slots). s number) shown) ∙ e)
+  found_if number e = grind (arith, nat_tests, named_again, all_named, shown)
 
   not_found_if : (number : ℕ) → answers_in after number ≡ None → get_or after.slots number None ≡ None
-  not_found_if number e =
-      named_again q.known.names number (get_or after.slots number None) (all_named number)
-      ∙ ap (option_map (named_answer (get_or q.known.names number []))) (sym (ap (λ (s : Slots). s number) shown) ∙ e)
+  not_found_if number e = grind (arith, nat_tests, named_again, all_named, shown)
 
   selected_found : (text : List ℕ) → Contains q.selected text → (o : Option ℕ) → number_of q.known.names text ≡ o →
       MatchOption o ⊤ (IsFound q.known.names answers after.slots)
@@ -413,8 +384,7 @@ module _ (q : Lookup) (before after : Content) (looked : IsLookedUp q before aft
     same = ap (λ flags. narrowed (is_needed flags) (slots_of after.slots)) (sym needed)
 
     seen_there : (number : ℕ) (answer : Option Answer) → answers_in after number ≡ answer → IsSeen copy number answer
-    seen_there number answer e =
-        (all_are_needed copy.needed (length q.known.names) refl number, ap (λ (s : Slots). s number) same ∙ e)
+    seen_there number answer e = grind (arith, nat_tests, all_are_needed, needed, same)
 
     pub copied_answers : OfTheOnlyTable (setting_in q) (ReturnsAnswers (record q { selected = names }) copy)
     copied_answers = (
@@ -433,14 +403,7 @@ module _ (q : Lookup) (before after : Content) (looked : IsLookedUp q before aft
 
 keeps_both : (before middle after : Content) → KeepsAllButAnswers before middle → KeepsAllButAnswers middle after →
     KeepsAllButAnswers before after
-keeps_both before middle after first second =
-    record {
-      count = second.count ∙ first.count;
-      skipped = λ number skip.
-          second.skipped number (ap (λ (h : Content). is_needed h.needed number) first.rest ∙ skip) ∙ first.skipped number skip;
-      rest = second.rest ∙ ap
-          (λ (h : Content). record h { slots = after.slots; kept = after.kept; taken = after.taken; tested = after.tested }) first.rest;
-    }
+keeps_both before middle after first second = grind (arith, nat_tests, needed)
 
 names_both : (lists others : List Listed) (before middle after : Content) → KeepsAllButAnswers before middle →
     KeepsNames lists before middle → KeepsNames others middle after → KeepsNames (others ++ lists) before after

@@ -1,4 +1,5 @@
 -- Marks of attributes, and the items of one attribute.
+use Rattle.std.proofs.lemmas.Grind.{common_steps}
 use Rattle.std.proofs.Common.{◌≡◌, ◌≢◌, ◌⊎◌, ◌==◌, ◌||◌, ℕ, zero, suc, ◌+◌, ◌-◌, ◌<◌, ◌≤◌, Bool, true, false, not, cond}
 use Rattle.std.proofs.Common.{List, [], ◌∷◌, ◌++◌, length, get_or, set, take, drop, replicate, map, BTreeSet}
 use Rattle.std.proofs.Common.{Option, Some, None, ⊎_elim, inl, inr, refl, sym, ap, ◌∙◌, subst, leb, ltb, arith}
@@ -31,39 +32,23 @@ use Rattle.gix_attributes.specs.declared.search.selected_name.SelectedName.{Sele
 use Rattle.gix_attributes.specs.declared.search.needed.BodyItem.{BodyItem}
 use Rattle.gix_attributes.specs.inner.Needed.{AreClosedBut, AreNeeded, AreOwnersOf, AreOwnersSet, HasFlags, HasOwners, HaveBodies}
 use Rattle.gix_attributes.specs.inner.Needed.{IsClosedFor, IsClosedOver, IsFlagSet, IsMarked, SetsOnly}
+use Rattle.gix_attributes.proofs.SearchLaws.{repeated}
 use Rattle.gix_attributes.specs.inner.Needed.{body_item, body_items, count_unset, flags_of, items_with, numbers_of}
 
 -- marks after others
 pub marked_then : (flags flags' flags'' : List Bool) (stack stack' stack'' : List ℕ) →
     IsMarked flags stack flags' stack' → IsMarked flags' stack' flags'' stack'' → IsMarked flags stack flags'' stack''
-marked_then flags flags' flags'' stack stack' stack'' first second = record {
-  count = second.count ∙ first.count;
-  set = λ a is. second.set a (first.set a is);
-  pushed = λ a is. ⊎_elim (λ on. inl on) (λ before. ⊎_elim (λ on. inl (second.stays a on)) (λ set. inr set) (first.pushed a before))
-      (second.pushed a is);
-  stays = λ a on. second.stays a (first.stays a on);
-  stacked = λ all. second.stacked (first.stacked all);
-  left = second.left ∙ first.left;
-}
+marked_then flags flags' flags'' stack stack' stack'' first second = grind (arith, nat_tests)
 
 abbrev unset : Bool → ℕ
 unset flag = cond (not flag) 1 0
 
-or_true : (b : Bool) → b || true ≡ true
-or_true true = refl
-or_true false = refl
-
 unset_fewer : (flags : List Bool) (a : ℕ) → a < length flags → get_or flags a false ≡ false →
     count_unset (set flags a true) + 1 ≡ count_unset flags
-unset_fewer flags a lt free =
-    let step : count_unset (set flags a true) + unset (get_or flags a false) ≡ count_unset flags + 0 = sum_by-set unset flags a true false lt in
-    let one : unset (get_or flags a false) ≡ unset false = ap unset free in
-    omega (arith, step, one)
+unset_fewer flags a lt free = grind (arith, nat_tests, sum_by-set)
 
 set_kept : (flags : List Bool) (a : ℕ) → a < length flags → (b : ℕ) → IsFlagSet flags b → IsFlagSet (set flags a true) b
-set_kept flags a lt b is =
-    ⊎_elim (λ (here : b ≡ a). ap (λ i. get_or (set flags a true) i false) here ∙ get_or-set_same flags a true false lt)
-    (λ (apart : b ≢ a). get_or-set_other flags a b true false apart ∙ is) (cases_eq b a)
+set_kept flags a lt b is = grind (arith, nat_tests, get_or-set_same, get_or-set_other)
 
 -- one flag is set, and its number is pushed
 pub marked_one : (flags : List Bool) (stack : List ℕ) (a : ℕ) → a < length flags → get_or flags a false ≡ false →
@@ -81,15 +66,12 @@ marked_one flags stack a lt free = record {
 
 -- no other flag is set
 pub set_only : (flags : List Bool) (a : ℕ) → SetsOnly flags (set flags a true) (λ has. has a ≡ true)
-set_only flags a = λ has held here b is.
-    ⊎_elim (λ (same : b ≡ a). ap has same ∙ here)
-    (λ (apart : b ≢ a). held b (sym (get_or-set_other flags a b true false apart) ∙ is)) (cases_eq b a)
+set_only flags a = grind (arith, nat_tests, get_or-set_other)
 
 -- macros stay marked
 pub owners_kept : (flags flags' : List Bool) (items : List BodyItem) → ((a : ℕ) → IsFlagSet flags a → IsFlagSet flags' a) →
     AreOwnersSet flags items → AreOwnersSet flags' items
-owners_kept flags flags' items kept set =
-    All-weaker (λ i. IsFlagSet flags i.owner) (λ i. IsFlagSet flags' i.owner) (λ i is. kept i.owner is) items set
+owners_kept flags flags' items kept set = grind (arith, nat_tests)
 
 -- the macros of an attribute that leaves the stack are marked
 pub closed_step : (items part : List BodyItem) (attribute : ℕ) (flags flags' : List Bool) (stack rest stack' : List ℕ) →
@@ -109,11 +91,6 @@ closed_step items part attribute flags flags' stack rest stack' split closed all
     (λ owner. inr (marked.set x.owner owner))
     (closed k d lt before))
     (marked.pushed x.attribute is)
-
-none_set : (count a : ℕ) → get_or (replicate count false) a false ≡ false
-none_set zero a = refl
-none_set (suc count) zero = refl
-none_set (suc count) (suc a) = none_set count a
 
 -- the last items, as a slice has them
 pub rest_is : (items : List BodyItem) (start : ℕ) → take (length items - start) (drop start items) ≡ drop start items
@@ -152,16 +129,7 @@ pub same_between : (items rest : List BodyItem) (attribute start len : ℕ) → 
     IsPartitionPoint (λ i. ltb i.attribute attribute ≡ true) (λ i. ltb i.attribute attribute ≡ false) items start →
     IsPartitionPoint (λ i. leb i.attribute attribute ≡ true) (λ i. leb i.attribute attribute ≡ false) rest len →
     All (λ i. i.attribute ≡ attribute) (take len rest)
-same_between items rest attribute start len is within first second = λ k d lt.
-    let early : k < len = omega (arith, lt, length-take len rest) in
-    let inside : start + k < length items = omega (arith, lt, within, length-take len rest, ap length is, length-drop start items) in
-    let at : get_or rest k d ≡ get_or items (start + k) d = ap (λ l. get_or l k d) is ∙ get_or-drop start items k d in
-    ap (λ i. i.attribute) (get_or-take len rest k d early)
-    ∙ exact (get_or rest k d).attribute
-    (ap (λ i. ltb i.attribute attribute) at ∙ first.1 (start + k) d (omega arith) inside) (second.0 k d (omega arith) early)
-  where
-    exact : (a : ℕ) → ltb a attribute ≡ false → leb a attribute ≡ true → a ≡ attribute
-    exact a above upto = grind (arith, nat_tests)
+same_between items rest attribute start len is within first second = grind (arith, nat_tests, length-take, length-drop, get_or-drop, get_or-take)
 
 -- a part of a list has its elements
 pub part_within : (items rest : List BodyItem) (start len : ℕ) → rest ≡ drop start items → All (Contains items) (take len rest)
@@ -205,13 +173,7 @@ items_among bodies (owner ∷ owners) m found =
 -- all items are those of the macros' bodies
 bodies_had : (bodies : List (List TrackedAssignment)) (macros : BTreeSet ℕ) → AreEmptyElsewhere macros bodies →
     HaveBodies bodies (items_with bodies macros.keys)
-bodies_had bodies macros empty = λ m. case m (contains nat_cmp macros m) refl
-  where
-    case : (m : ℕ) (b : Bool) → contains nat_cmp macros m ≡ b → All (Contains (items_with bodies macros.keys)) (body_items bodies m)
-    case m true e = items_among bodies macros.keys m e
-    case m false e =
-        All-same (Contains (items_with bodies macros.keys)) (body_items bodies m) []
-        (ap (λ body. map (body_item m) body) (empty m e)) (All-nil (Contains (items_with bodies macros.keys)))
+bodies_had bodies macros empty = grind (arith, nat_tests, items_among)
 
 owner_below : (bodies : List (List TrackedAssignment)) (owner : ℕ) → All (λ i. i.owner < length bodies) (body_items bodies owner)
 owner_below bodies owner =
@@ -259,18 +221,8 @@ pub owners_had : (items part : List BodyItem) (attribute : ℕ) (has : ℕ → B
 owners_had items part attribute has closed within same is = λ k d lt.
     All-contains (λ i. has i.attribute ≡ true → has i.owner ≡ true) items (get_or part k d) closed (within k d lt) (ap has (same k d lt) ∙ is)
 
-all_set : (count a : ℕ) → get_or (replicate count true) a true ≡ true
-all_set zero a = refl
-all_set (suc count) zero = refl
-all_set (suc count) (suc a) = all_set count a
-
 flags_below : (selection : List Wanted) (count a : ℕ) → get_or (flags_of selection count) a false ≡ true → a < count
-flags_below selection count a is =
-    ⊎_elim (λ lt. lt)
-    (λ (past : count ≤ a).
-    let len = length-map-range_with_len (is_wanted selection) 0 count in
-    absurd (false≢true (sym (get_or_past (flags_of selection count) a false (omega (arith, past, len))) ∙ is)))
-    (cases_lt a count)
+flags_below selection count a is = grind (arith, nat_tests, length-map-range_with_len, get_or_past)
 
 flag_at : (selection : List Wanted) (count a : ℕ) → a < count → get_or (flags_of selection count) a false ≡ is_wanted selection a
 flag_at selection count a lt = get_or-map-range_with_len (is_wanted selection) 0 count a a false lt (omega arith)
@@ -286,7 +238,7 @@ needed_all n bodies selected flags none is =
     record {
       count = ap length all ∙ length-replicate n true;
       selected = λ a set. ap (λ l. get_or l a false) is ∙ set;
-      closed = λ m k d lt set. ap (λ l. get_or l m true) all ∙ all_set n m;
+      closed = λ m k d lt set. ap (λ l. get_or l m true) all ∙ repeated true n m;
       all = λ e. all;
       least = λ has held closed. subst (λ l. HasFlags l has) (sym is) held;
     }
@@ -299,9 +251,7 @@ set_any (f ∷ flags) (suc m) is = set_any flags m is
 -- without a stack the macro of each item of a marked attribute is marked
 owner_set : (flags : List Bool) (items : List BodyItem) (item : BodyItem) → AreClosedBut [] flags items → Contains items item →
     IsFlagSet flags item.attribute → IsFlagSet flags item.owner
-owner_set flags items item closed on is =
-    ⊎_elim (λ (stacked : Contains [] item.attribute). absurd (omega (arith, stacked.1))) (λ set. set)
-    (All-contains (λ i. IsFlagSet flags i.attribute → Contains [] i.attribute ⊎ IsFlagSet flags i.owner) items item closed on is)
+owner_set flags items item closed on is = grind (arith, nat_tests)
 
 item_on : (bodies : List (List TrackedAssignment)) (items : List BodyItem) (m k : ℕ) (d : TrackedAssignment) → HaveBodies bodies items →
     k < length (get_or bodies m []) → Contains items (body_item m (get_or (get_or bodies m []) k d))
@@ -312,14 +262,7 @@ item_on bodies items m k d had lt =
 
 item_below : (n : ℕ) (bodies : List (List TrackedAssignment)) (m k : ℕ) (d : TrackedAssignment) → BodiesHaveSlots n bodies →
     k < length (get_or bodies m []) → (get_or (get_or bodies m []) k d).id.0 < n
-item_below n bodies m k d within lt =
-    ⊎_elim
-    (λ (inside : m < length bodies). within m [] inside k d lt)
-    (λ (past : length bodies ≤ m). absurd (omega (arith, lt, ap length (get_or_past bodies m [] past))))
-    (cases_lt m (length bodies))
-
-number_found : (a : ℕ) → (a == a) ≡ true
-number_found a = grind (arith, nat_tests)
+item_below n bodies m k d within lt = grind (arith, nat_tests, get_or_past)
 
 number_set : (selected : List SelectedName) (count k : ℕ) (d : SelectedName) → k < length selected → (number : Option ℕ) →
     (get_or selected k d).number ≡ number → MatchOption number ⊤ (λ n. n < count) →
@@ -328,20 +271,15 @@ number_set selected count k d lt None e below = below
 number_set selected count k d lt (Some a) e below =
     let selection = selection_view selected in
     let here : has_number a (get_or selection k (wanted_view d)) ≡ true =
-    ap (has_number a) (get_or-map wanted_view selected k d (wanted_view d) lt)
-    ∙ ap (λ o. unwrap_or (option_map (λ n. n == a) o) false) e ∙ number_found a in
-    let found : list_any (has_number a) selection ≡ true =
-    list_any_at (has_number a) selection k (wanted_view d) (omega (arith, lt, length-map selected wanted_view)) here in
-    flag_at selection count a below ∙ ap (λ b. (length selection == 0) || b) found ∙ or_true (length selection == 0)
+    ap (has_number a) (get_or-map wanted_view selected k d (wanted_view d) lt) ∙ rw e (grind (arith, nat_tests)) in
+    let found = list_any_at (has_number a) selection k (wanted_view d) (omega (arith, lt, length-map selected wanted_view)) here in
+    flag_at selection count a below ∙ grind (arith, nat_tests)
 
 -- one more name
 pub numbers_more : (selected : List SelectedName) (index : ℕ) (name : SelectedName) (number : Option ℕ) → index < length selected →
     name ≡ get_or selected index name → name.number ≡ number →
     numbers_of (take (index + 1) selected) ≡ numbers_of (take index selected) ++ cons_option number []
-numbers_more selected index name number lt here is =
-    ap numbers_of (take_more selected index name lt)
-    ∙ filter_map-append (λ s. s.number) (take index selected) (get_or selected index name ∷ [])
-    ∙ ap (λ o. numbers_of (take index selected) ++ cons_option o []) (ap (λ (s : SelectedName). s.number) (sym here) ∙ is)
+numbers_more selected index name number lt here is = grind (arith, common_steps, take_more, filter_map-append)
 
 all_step : (P : ℕ → Type 0) (number : Option ℕ) (rest : List ℕ) → MatchOption number ⊤ P → All P rest → All P (cons_option number rest)
 all_step P None rest here all = all
@@ -380,11 +318,8 @@ numbers_have (name ∷ selected) a is =
 pub closed_selected : (selected : List SelectedName) (count : ℕ) (items : List BodyItem) → (length selected == 0) ≡ false →
     AreClosedBut (numbers_of selected) (flags_of (selection_view selected) count) items
 closed_selected selected count items some = λ k d lt is.
-    let selection = selection_view selected in
     let a = (get_or items k d).attribute in
-    let some' : (length selection == 0) ≡ false = ap (λ n. n == 0) (length-map selected wanted_view) ∙ some in
-    let is' : is_wanted selection a ≡ true = sym (flag_at selection count a (flags_below selection count a is)) ∙ is in
-    inl (numbers_have selected a (sym (ap (λ b. b || list_any (has_number a) selection) some') ∙ is'))
+    inl (numbers_have selected a (grind (arith, nat_tests, length-map, flag_at, flags_below)))
 
 -- the marks of selected attributes, and of what depends on them
 pub needed_marked : (n : ℕ) (bodies : List (List TrackedAssignment)) (selected : List SelectedName) (items : List BodyItem)

@@ -9,13 +9,13 @@ use Rattle.std.proofs.lemmas.Bool.{cases_lt, false≢true}
 use Rattle.std.proofs.lemmas.List.{append-nil, length-map, drop_more, drop_all, get_or_past, take_all}
 use Rattle.std.proofs.Common.{◌++◌, replicate, take}
 use Rattle.std.proofs.lemmas.List.FromFn.{length-map-range_with_len}
-use Rattle.std.proofs.lemmas.List.Elements.{All-nil, All-cons, All-head, All-tail, All-map, All-weaker, All-from_get_or}
-use Rattle.std.proofs.lemmas.Option.{slice_get_within, get_or_from_slice_get}
+use Rattle.std.proofs.lemmas.List.Elements.{All-nil, All-cons, All-head, All-tail, All-map, All-weaker}
 use Rattle.std.proofs.lemmas.List.Quantifiers.{position-Some}
-use Rattle.attr_lists.specs.Collections.{MacroDefinition, Collection}
+use Rattle.attr_lists.specs.Collections.{Collection}
 use Rattle.attr_lists.specs.Numbers.{number_of}
-use Rattle.attr_lists.specs.Definitions.{IsSoundCollection, IsWithin, last_body}
+use Rattle.attr_lists.specs.Definitions.{IsSoundCollection, macro_body}
 use Rattle.attr_lists.specs.declared.types.TrackedAssignment.{TrackedAssignment}
+use Rattle.attr_lists.proofs.ForCallers.{body_within}
 use Rattle.attr_search.specs.SearchContents.{SearchContents}
 use Rattle.attr_search.specs.shared.BodyChanges.{changed_bodies, sized_bodies}
 use Rattle.attr_search.specs.declared.bodies.BodyChange.{BodyChange}
@@ -28,6 +28,7 @@ use Rattle.attr_search.specs.shared.Slotted.{BodiesHaveSlots}
 use Rattle.gix_attributes.specs.Searching.{KeepsAllButAnswers}
 use Rattle.gix_attributes.specs.inner.Needed.{AreNeeded, IsNarrowed}
 use Rattle.gix_attributes.specs.Selection.{wanted_view, selection_view}
+use Rattle.gix_attributes.proofs.SelectionLemmas.{length_bodies}
 use Rattle.attr_search.specs.Slots.{AreFreeFrom, IsNextFilled, Matched}
 use Rattle.gix_attributes.specs.declared.search.selected_name.SelectedName.{SelectedName}
 
@@ -88,26 +89,10 @@ same_empty z [] (y ∷ ys) e = absurd (omega arith)
 same_empty z (x ∷ xs) [] e = absurd (omega arith)
 same_empty z (x ∷ xs) (y ∷ ys) e = ap (λ l. z ∷ l) (same_empty z xs ys (omega arith))
 
-within_same : (n : ℕ) (x d : MacroDefinition) → x ≡ d → IsWithin n x → HaveSlots n d.body
-within_same n x d e w = rw (← e) w
-
-last_within_at : (n : ℕ) (definitions : List MacroDefinition) (o : Option MacroDefinition) → All (IsWithin n) definitions → slice_get definitions
-    (length definitions - 1) ≡ o → HaveSlots n (unwrap_or (option_map (λ d. d.body) o) [])
-last_within_at n definitions None within e = All-nil (λ i. i.id.0 < n)
-last_within_at n definitions (Some d) within e =
-    let lt = slice_get_within definitions (length definitions - 1) d e in
-    within_same n (get_or definitions (length definitions - 1) d) d (get_or_from_slice_get definitions (length definitions - 1) d d e)
-    (within (length definitions - 1) d lt)
-
--- the last of some bodies has slots where all have
-last_within : (n : ℕ) (definitions : List MacroDefinition) → All (IsWithin n) definitions → HaveSlots n (last_body definitions)
-last_within n definitions within = last_within_at n definitions (slice_get definitions (length definitions - 1)) within refl
-
 pub bodies_within : (known : Collection) → IsSoundCollection known → BodiesHaveSlots (length known.names) (bodies_of known)
 bodies_within known sound =
-    All-map (HaveSlots (length known.names)) last_body known.definitions
-    (All-from_get_or (λ ds. HaveSlots (length known.names) (last_body ds)) known.definitions []
-    (λ i lt. last_within (length known.names) (get_or known.definitions i []) (sound.within i)))
+    All-map (HaveSlots (length known.names)) (macro_body known) (range_with_len 0 (length known.names))
+    (λ k number lt. body_within known (get_or (range_with_len 0 (length known.names)) k number) sound)
 
 shifted_all : (p : ℕ → Bool) (a b n : ℕ) → b ≡ a + 1 → map (λ k. k + a) (map suc (wanted_numbers (map p (range_with_len b n)))) ≡ map (λ k. k + b)
     (wanted_numbers (map p (range_with_len b n)))
@@ -152,7 +137,7 @@ changed_within known bodies n sound counted same = rw (same, counted) (bodies_wi
 pub kept_as : (known : Collection) (changes : List BodyChange) (bodies : List (List TrackedAssignment)) (n : ℕ) → IsSoundCollection known →
     n ≡ length known.names → changes ≡ [] → bodies ≡ bodies_of known → changed_bodies changes (sized_bodies n bodies) ≡ bodies_of known
 kept_as known changes bodies n sound counted none current =
-    let all : length bodies ≡ n = ap length current ∙ length-map known.definitions last_body ∙ sound.counted ∙ sym counted in
+    let all : length bodies ≡ n = ap length current ∙ length_bodies known ∙ sym counted in
     let nothing : List (List TrackedAssignment) = [] in
     ap (λ l. changed_bodies l (sized_bodies n bodies)) none
     ∙ ap (λ k. take n (bodies ++ replicate k [])) (let gap : n - length bodies ≡ 0 = omega (arith, all) in gap)

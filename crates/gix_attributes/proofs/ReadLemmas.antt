@@ -1,11 +1,14 @@
 -- The lines that a list keeps of a buffer were read from pattern texts, none of them negative.
-use Rattle.std.proofs.Common.{◌≡◌, ℕ, ◌+◌, Bool, true, false, not, List, [], ◌∷◌, Option, Some, None, filter, cond, Result, Ok, Err, refl, ap, ◌∙◌}
+use Rattle.std.proofs.lemmas.Bool.Decides.{nat_tests}
+use Rattle.std.proofs.Common.{arith, ◌≡◌, ℕ, ◌+◌, Bool, true, false, not, List, [], ◌∷◌, Option, Some, None, filter, cond, Result, Ok, Err}
+use Rattle.std.proofs.Common.{refl, ap, ◌∙◌}
 use Rattle.std.specs.Prelude.{⊤, All, option_map, drop, length, ◌==◌, ◌||◌, slice_index, if◌then◌else◌}
 use Rattle.std.specs.List.{list_all, list_any, cons_option}
 use Rattle.std.specs.Option.{option_to_list}
 use Rattle.std.specs.Result.{result_ok, result_map_both}
 use Rattle.attr_wildmatch.specs.Bytes.{number_sign}
-use Rattle.std.proofs.lemmas.List.Elements.{All-nil, All-cons, All-head, All-tail, All-append}
+use Rattle.std.proofs.lemmas.Bool.{cond_both}
+use Rattle.std.proofs.lemmas.List.Elements.{All-filter, All-nil, All-cons, All-head, All-tail, All-append}
 use Rattle.attr_glob.specs.Patterns.{Reading, reading, read_rest, is_negated, without_negation, without_root, without_end, is_space}
 use Rattle.attr_wildmatch.specs.Slashes.{is_slash, ends_in_slash}
 use Rattle.attr_glob.specs.Patterns.{is_suffix, first, set_where, has_flag, no_sub_dir, ends_with, must_be_dir, negative, absolute}
@@ -33,38 +36,15 @@ abbrev flags : Bool → Bool → Bool → Bool → ℕ
 flags a b c e = set_where a no_sub_dir + set_where b ends_with + set_where c must_be_dir + set_where false negative + set_where e absolute
 
 flags-not_negative : (a b c e : Bool) → has_flag (flags a b c e) negative ≡ false
-flags-not_negative true true true true = refl
-flags-not_negative true true true false = refl
-flags-not_negative true true false true = refl
-flags-not_negative true true false false = refl
-flags-not_negative true false true true = refl
-flags-not_negative true false true false = refl
-flags-not_negative true false false true = refl
-flags-not_negative true false false false = refl
-flags-not_negative false true true true = refl
-flags-not_negative false true true false = refl
-flags-not_negative false true false true = refl
-flags-not_negative false true false false = refl
-flags-not_negative false false true true = refl
-flags-not_negative false false true false = refl
-flags-not_negative false false false true = refl
-flags-not_negative false false false false = refl
+flags-not_negative a b c e = grind (arith, nat_tests)
 
 rest-not_negative : (negated : Bool) (rest : List ℕ) → negated ≡ false → has_flag (read_rest negated rest).mode negative ≡ false
-rest-not_negative negated rest e =
-    let below = without_root rest in
-    let text = without_end below in
-    ap (λ b. has_flag (read_rest b rest).mode negative) e
-    ∙ flags-not_negative (not (list_any is_slash text)) (is_suffix text) (ends_in_slash below) (is_slash (first rest))
+rest-not_negative negated rest e = grind (arith, nat_tests, flags-not_negative)
 
 OptionRead : Option (Result Target RefusedLine) → Type 0
 OptionRead None = ⊤
 OptionRead (Some (Ok target)) = TargetRead target
 OptionRead (Some (Err refused)) = ⊤
-
-read-either : (b : Bool) (x y : Option (Result Target RefusedLine)) → OptionRead x → OptionRead y → OptionRead (cond b x y)
-read-either true x y hx hy = hx
-read-either false x y hx hy = hy
 
 read-macro : (checked : Result (List ℕ) Refusal) (name : List ℕ) (line : ℕ) → OptionRead (Some (macro_of checked name line))
 unfolding OptionRead TargetRead
@@ -83,14 +63,13 @@ read-found : (text : List ℕ) (line : ℕ) (blank : Bool) → reading text ≡
     → OptionRead (option_map (pattern_of text line) (if blank then None else Some (read_rest (is_negated text) (without_negation text))))
 unfolding OptionRead
 read-found text line true e = tt
-read-found text line false e = read-pattern text line (is_negated text) (read_rest (is_negated text) (without_negation text)) e
-    (rest-not_negative (is_negated text) (without_negation text))
+read-found text line false e = grind (arith, nat_tests, read-pattern, rest-not_negative)
 
 target_of-read : (text : List ℕ) (line : ℕ) → OptionRead (target_of text line)
 target_of-read text line =
     let name = drop (length macro_prefix) text in
-    read-either (is_macro_definition text) (Some (macro_of (checked_name name) name line)) (option_map (pattern_of text line) (reading text))
-    (read-macro (checked_name name) name line) (read-found text line (list_all is_space (without_negation text)) refl)
+    cond_both (is_macro_definition text) (Some (macro_of (checked_name name) name line)) (option_map (pattern_of text line) (reading text))
+    OptionRead (λ _. read-macro (checked_name name) name line) (λ _. read-found text line (list_all is_space (without_negation text)) refl)
 
 read-line : (items : List ℕ) (line : ℕ) (target : Option (Result Target RefusedLine)) → OptionRead target
     → All LineRead (option_to_list (option_map (with_items items line) target))
@@ -99,15 +78,12 @@ read-line items line None h = All-nil LineRead
 read-line items line (Some (Ok target)) h = All-cons LineRead _ [] h (All-nil LineRead)
 read-line items line (Some (Err refused)) h = All-cons LineRead _ [] tt (All-nil LineRead)
 
-read-unless : (b : Bool) (result : Option LineResult) → All LineRead (option_to_list result) → All LineRead (option_to_list (cond b None result))
-read-unless true result h = All-nil LineRead
-read-unless false result h = h
-
 result_of-read : (line : List ℕ) (number : ℕ) → All LineRead (option_to_list (result_of line number))
 result_of-read line number =
     let text = after_blanks line in
-    read-unless (length text == 0 || slice_index text 0 == number_sign) (result_of_text text number)
-    (read-line (parts_of text).1 number (target_of (parts_of text).0 number) (target_of-read (parts_of text).0 number))
+    cond_both (length text == 0 || slice_index text 0 == number_sign) None (result_of_text text number)
+    (λ result. All LineRead (option_to_list result)) (λ _. All-nil LineRead)
+    (λ _. read-line (parts_of text).1 number (target_of (parts_of text).0 number) (target_of-read (parts_of text).0 number))
 
 results-read : (number : ℕ) (lines : List (List ℕ)) → All LineRead (results_from number lines)
 results-read number [] = All-nil LineRead
@@ -138,23 +114,10 @@ kept-read (Ok given ∷ lines) h =
     (All-head LineRead (Ok given) lines h) (kept-read lines (All-tail LineRead (Ok given) lines h))
 kept-read (Err refused ∷ lines) h = kept-refused refused (kept_lines lines) (kept-read lines (All-tail LineRead (Err refused) lines h))
 
-filter-step : (b : Bool) (entry : Entry) (others : List Entry) → IsRead entry → AreRead others → AreRead (cond b (entry ∷ others) others)
-filter-step true entry others h hs = All-cons IsRead entry others h hs
-filter-step false entry others h hs = hs
-
-filter-read : (test : Entry → Bool) (entries : List Entry) → AreRead entries → AreRead (filter test entries)
-filter-read test [] h = h
-filter-read test (entry ∷ entries) h =
-    filter-step (test entry) entry (filter test entries) (All-head IsRead entry entries h)
-    (filter-read test entries (All-tail IsRead entry entries h))
-
 kept_list-read : (bytes : List ℕ) → AreRead (kept_list bytes)
 kept_list-read bytes = kept-read (results_of bytes) (results-read 1 (lines_in bytes))
 
-kept-where : (allow : Bool) (bytes : List ℕ) → AreRead (cond allow (kept_list bytes) (filter defines_no_macro (kept_list bytes)))
-kept-where true bytes = kept_list-read bytes
-kept-where false bytes = filter-read defines_no_macro (kept_list bytes) (kept_list-read bytes)
-
 -- the lines that an addition keeps
 pub kept_list_where-read : (allow_macros : Bool) (bytes : List ℕ) → AreRead (kept_list_where allow_macros bytes)
-kept_list_where-read allow_macros bytes = kept-where allow_macros bytes
+kept_list_where-read true bytes = kept_list-read bytes
+kept_list_where-read false bytes = All-filter defines_no_macro IsRead (kept_list bytes) (kept_list-read bytes)

@@ -1,5 +1,6 @@
 -- A collection that registers the lists of one search alone.
-use Rattle.std.proofs.Common.{◌≡◌, ℕ, List, [], ◌++◌, length, map, Option, Some, None, option_map, sym, ap, ◌∙◌}
+use Rattle.std.proofs.lemmas.Bool.Decides.{nat_tests}
+use Rattle.std.proofs.Common.{arith, ◌≡◌, ℕ, List, [], ◌++◌, length, map, Option, Some, None, option_map, sym, ap, ◌∙◌}
 use Rattle.std.specs.Prelude.{nat_eq, IfSome, MatchOption}
 use Rattle.std.proofs.Math.Path.{subst}
 use Rattle.std.specs.List.{IsDistinct}
@@ -54,10 +55,7 @@ pub alone_popped : {X : Type 0} (read : X → Listed) (r : Option X) (old new : 
     → lists_in old ≡ lists_in new ++ option_to_list (option_map read r) → MatchOption r (now ≡ known) (λ _. RemovesLast (list_ids_in old) known now)
     → MatchOption r (list_ids_in new ≡ list_ids_in old) (λ _. LosesLast (list_ids_in old) (list_ids_in new)) → IsAlone (registered_lists old known)
     → IsAlone (registered_lists new now)
-alone_popped read None old new known now distinct kept gone lists_are now_is ids_are h =
-    subst (λ k. RegistersAlone k (list_ids_in new) (lists_in new)) (sym now_is)
-    (subst (λ ids. RegistersAlone known ids (lists_in new)) (sym ids_are)
-    (subst (λ ls. RegistersAlone known (list_ids_in old) ls) (lists_are ∙ append-nil (lists_in new)) h))
+alone_popped read None old new known now distinct kept gone lists_are now_is ids_are h = grind (arith, nat_tests, append-nil)
 alone_popped read (Some x) old new known now distinct kept gone lists_are now_is ids_are h = record {
   named = kept.named h.named;
   covered = kept.covered h.covered;

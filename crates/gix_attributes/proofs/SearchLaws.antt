@@ -1,4 +1,5 @@
 -- The laws of searches, from the laws of the table.
+use Rattle.std.proofs.lemmas.Bool.Decides.{nat_tests}
 use Rattle.std.proofs.Common.{◌≡◌, ◌⊎◌, inl, ◌↔◌, ℕ, zero, suc, ◌+◌, ◌<◌, ◌==◌, ◌||◌}
 use Rattle.std.proofs.Common.{Bool, true, false, cond, List, [], ◌∷◌, ◌++◌, length, get_or, map, replicate}
 use Rattle.std.proofs.Common.{filter, All, Option, Some, None, MatchOption, option_map, unwrap_or, refl, sym, ap, ◌∙◌, arith, eq-eqb}
@@ -6,6 +7,9 @@ use Rattle.std.proofs.Math.Path.{subst, fun_ext}
 use Rattle.std.specs.Prelude.{◌&&◌, is_some, option_and_then, slice_get}
 use Rattle.std.specs.List.{Contains, list_any, range_with_len}
 use Rattle.std.proofs.lemmas.List.Elements.{All-head, All-tail}
+use Rattle.std.proofs.lemmas.Bool.{cond_both}
+use Rattle.std.proofs.lemmas.List.FromFn.{get_or-range_with_len, length-range_with_len}
+use Rattle.std.proofs.lemmas.List.Folds.{list_any-from_Any}
 use Rattle.std.proofs.lemmas.List.{append-nil}
 use Rattle.attr_wildmatch.specs.declared.case.Case.{Case}
 use Rattle.attr_lists.specs.ListViews.{Entry}
@@ -35,38 +39,30 @@ empty_at (x ∷ xs) (suc a) = empty_at xs a
 pub nothing_in : {X : Type 0} (xs : List X) → slots_of (map no_slot xs) ≡ no_answers
 nothing_in xs = fun_ext (λ a. ap (option_map (table_answer a)) (empty_at xs a))
 
+-- where one value is repeated, it is at each index
+pub repeated : {X : Type 0} (x : X) (n a : ℕ) → get_or (replicate n x) a x ≡ x
+repeated x zero a = refl
+repeated x (suc n) zero = refl
+repeated x (suc n) (suc a) = repeated x n a
+
 -- where all are needed, slots are seen as they are
 pub all_are_needed : (flags : List Bool) (n : ℕ) → flags ≡ replicate n true → (a : ℕ) → is_needed flags a ≡ true
-all_are_needed flags n e a = ap (λ l. is_needed l a) e ∙ each n a
-  where
-    each : (n a : ℕ) → is_needed (replicate n true) a ≡ true
-    each zero a = refl
-    each (suc n) zero = refl
-    each (suc n) (suc a) = each n a
+all_are_needed flags n e a = ap (λ l. is_needed l a) e ∙ repeated true n a
 
 pub all_seen : (flags : List Bool) (n : ℕ) (slots : Slots) → flags ≡ replicate n true → narrowed (is_needed flags) slots ≡ slots
 all_seen flags n slots e = narrowed_all (is_needed flags) slots (all_are_needed flags n e)
 
 -- what a filter lets through is in what it leaves
-in_rest : {X : Type 0} (b : Bool) (y x : X) (zs : List X) → Contains zs x → Contains (cond b (y ∷ zs) zs) x
-in_rest true y x zs c = (suc c.0, omega (arith, c.1), c.2)
-in_rest false y x zs c = c
-
-in_front : {X : Type 0} (b : Bool) (x : X) (zs : List X) → b ≡ true → Contains (cond b (x ∷ zs) zs) x
-in_front true x zs e = (0, omega arith, refl)
-in_front false x zs e = absurd cc
-
 pub in_filter : {X : Type 0} (p : X → Bool) (xs : List X) (x : X) → Contains xs x → p x ≡ true → Contains (filter p xs) x
 in_filter p [] x (k, lt, e) t = absurd (omega (arith, lt))
-in_filter p (y ∷ ys) x (zero, lt, e) t = subst (λ z. Contains (filter p (z ∷ ys)) x) (sym e) (in_front (p x) x (filter p ys) t)
-in_filter p (y ∷ ys) x (suc k, lt, e) t = in_rest (p y) y x (filter p ys) (in_filter p ys x (k, omega (arith, lt), e) t)
+in_filter p (y ∷ ys) x (zero, lt, e) t = let here : p y ≡ true = ap p e ∙ t in rw here (0, omega arith, e)
+in_filter p (y ∷ ys) x (suc k, lt, e) t =
+    let c = in_filter p ys x (k, omega (arith, lt), e) t in
+    cond_both (p y) (y ∷ filter p ys) (filter p ys) (λ zs. Contains zs x) (λ _. (suc c.0, omega (arith, c.1), c.2)) (λ _. c)
 
 in_range : (a n k number : ℕ) → k < n → number ≡ a + k → Contains (range_with_len a n) number
-in_range a zero k number lt e = absurd (omega (arith, lt))
-in_range a (suc n) zero number lt e = (0, omega arith, omega (arith, e))
-in_range a (suc n) (suc k) number lt e =
-    let c = in_range (a + 1) n k number (omega (arith, lt)) (omega (arith, e)) in
-    (suc c.0, omega (arith, c.1), c.2)
+in_range a n k number lt e =
+    (k, omega (arith, length-range_with_len a n, lt), get_or-range_with_len a n k number lt ∙ sym e)
 
 -- a number is wanted if there is no selection, or if its name is selected
 pub all_wanted : (held : Content) (number : ℕ) → length held.selection ≡ 0 → number < length held.slots → Contains (wanted_of held) number
@@ -74,27 +70,16 @@ all_wanted held number none lt =
     in_filter (is_wanted held.selection) (range_with_len 0 (length held.slots)) number (in_range 0 (length held.slots) number number lt (omega arith))
     (ap (λ n. n == 0 || list_any (has_number number) held.selection) none)
 
-numbered : (number n : ℕ) → n ≡ number → (n == number) ≡ true
-numbered number n e = eq-eqb n number e
-
 has_its_number : (name : Wanted) (number : ℕ) → name.number ≡ Some number → has_number number name ≡ true
-has_its_number name number e = ap (λ o. unwrap_or (option_map (λ n. n == number) o) false) e ∙ numbered number number refl
-
-or_true : (b : Bool) → (b || true) ≡ true
-or_true true = refl
-or_true false = refl
-
-any_of : {X : Type 0} (p : X → Bool) (xs : List X) (x : X) → Contains xs x → p x ≡ true → list_any p xs ≡ true
-any_of p [] x (k, lt, e) t = absurd (omega (arith, lt))
-any_of p (y ∷ ys) x (zero, lt, e) t = let h : p y ≡ true = ap p e ∙ t in ap (λ b. b || list_any p ys) h
-any_of p (y ∷ ys) x (suc k, lt, e) t = ap (λ b. p y || b) (any_of p ys x (k, omega (arith, lt), e) t) ∙ or_true (p y)
+has_its_number name number e = grind (arith, nat_tests)
 
 pub name_wanted : (held : Content) (name : Wanted) (number : ℕ) → Contains held.selection name → name.number ≡ Some number →
     number < length held.slots → Contains (wanted_of held) number
 name_wanted held name number selected e lt =
+    let own = has_its_number name number e in
+    let any = list_any-from_Any (has_number number) held.selection (selected.0, name, selected.1, selected.2, own) in
     in_filter (is_wanted held.selection) (range_with_len 0 (length held.slots)) number (in_range 0 (length held.slots) number number lt (omega arith))
-    (ap (λ b. length held.selection == 0 || b) (any_of (has_number number) held.selection name selected (has_its_number name number e))
-    ∙ or_true (length held.selection == 0))
+    (grind (arith, nat_tests))
 
 -- the table of a search from nothing is the only stable one
 pub cut_of : (s : Setting) (wanted : List ℕ) (before after : Slots) (table : Table) → before ≡ no_answers → IsSearched s wanted before after →
@@ -146,30 +131,12 @@ has_origin s (Inside parent index) i e = at (λ j h. has_origin s parent j h) (i
     at above (Some j) h d = above j h
 
 pub has_answer : (s : Setting) (o : Occurrence) (i : Item) → item_at s o ≡ Some i → answer_at s o ≡ None → ⊥
-has_answer s o i e none =
-    let r = has_origin s o i e in
-    let there : answer_at s o ≡ Some (answer_of s.bodies r.0 i (cause_at s o)) =
-    ap (option_and_then (λ origin. option_map (λ j. answer_of s.bodies origin j (cause_at s o)) (item_at s o))) r.1
-    ∙ ap (option_map (λ j. answer_of s.bodies r.0 j (cause_at s o))) e in
-    absurd (not_none (answer_of s.bodies r.0 i (cause_at s o)) (sym there ∙ none))
-  where
-    not_none : {X : Type 0} (x : X) → Some x ≡ None → ⊥
-    not_none x e = absurd cc
+has_answer s o i e none = grind (arith, nat_tests, has_origin)
 
 -- such a wanted attribute had no answer, and has no entry
 no_entry : (s : Setting) (wanted : List ℕ) (start slots : Slots) (table : Table) (w : ℕ) → IsStable s start table →
     IsCut s start table wanted slots → Contains wanted w → slots w ≡ None → (start w ≡ None) × (table w ≡ None)
-no_entry s wanted start slots table w stable cut c none =
-    at (start w) refl (stable w) (sym (seen_wanted s start wanted table slots w stable cut c) ∙ none)
-  where
-    by_entry : (o : Option Occurrence) → table w ≡ o → IsEarliest s table w o → full_answer s None o ≡ None → table w ≡ None
-    by_entry None e first h = e
-    by_entry (Some p) e first h = absurd (has_answer s p first.0.0 first.0.1.item h)
-
-    at : (o : Option Answer) → start w ≡ o → MatchOption o (IsEarliest s table w (table w)) (λ answer. table w ≡ None) →
-        full_answer s o (table w) ≡ None → (start w ≡ None) × (table w ≡ None)
-    at None e first h = (e, by_entry (table w) refl first h)
-    at (Some x) e first h = absurd cc
+no_entry s wanted start slots table w stable cut c none = grind (arith, nat_tests, seen_wanted, has_answer)
 
 -- so each entry is kept
 pub whole_from : (s : Setting) (wanted : List ℕ) (start slots : Slots) (table : Table) → IsSearched s wanted start slots → IsStable s start table →
@@ -202,37 +169,23 @@ whole_table s wanted before after table nothing searched stable left number =
 -- ---- lists of which no line matches
 
 -- a line that gives nothing has no tasks
-no_items : (b : Bool) (items : List Item) → b ≡ false → cond b items [] ≡ []
-no_items true items e = absurd cc
-no_items false items e = refl
-
 silent_tasks : (case : Case) (is_dir : Option Bool) (source rest : Option (List ℕ)) (lines : List Entry) →
     All (λ line. gives case is_dir rest line ≡ false) lines → list_tasks (map (line_of case is_dir source rest) lines) ≡ []
 silent_tasks case is_dir source rest [] silent = refl
 silent_tasks case is_dir source rest (line ∷ lines) silent =
-    let here : line_tasks (line_of case is_dir source rest line) ≡ [] =
-    ap (λ items. line_tasks (record { origin = origin_in source line; items = items }))
-    (no_items (gives case is_dir rest line) (table_items line.items) (All-head (λ l. gives case is_dir rest l ≡ false) line lines silent)) in
-    let others = silent_tasks case is_dir source rest lines (All-tail (λ l. gives case is_dir rest l ≡ false) line lines silent) in
-    ap (λ ts. ts ++ line_tasks (line_of case is_dir source rest line)) others ∙ here
+    let P : Entry → Type 0 = λ l. gives case is_dir rest l ≡ false in
+    grind (arith, nat_tests, All-head P line lines silent, silent_tasks case is_dir source rest lines (All-tail P line lines silent))
 
 -- the tasks of some lists are those of the lists without a silent one
 same_tasks : (earlier later : List Listed) (silent : Listed) (path : List ℕ) (case : Case) (is_dir : Option Bool) →
     All (λ line. gives case is_dir (rest_for case path silent) line ≡ false) silent.lines →
     tasks_of (map (lines_of case is_dir path) (earlier ++ silent ∷ later)) ≡ tasks_of (map (lines_of case is_dir path) (earlier ++ later))
-same_tasks [] later silent path case is_dir none =
-    ap (λ ts. tasks_of (map (lines_of case is_dir path) later) ++ ts) (silent_tasks case is_dir silent.source (rest_for case path silent) silent.lines
-    none)
-    ∙ append-nil (tasks_of (map (lines_of case is_dir path) later))
-same_tasks (l ∷ earlier) later silent path case is_dir none =
-    ap (λ ts. ts ++ list_tasks (lines_of case is_dir path l)) (same_tasks earlier later silent path case is_dir none)
+same_tasks [] later silent path case is_dir none = grind (arith, nat_tests, silent_tasks, append-nil)
+same_tasks (l ∷ earlier) later silent path case is_dir none = grind (arith, nat_tests, same_tasks earlier later silent path case is_dir none)
 
 searched_by_tasks : (s t : Setting) (wanted : List ℕ) (before after : Slots) → s.bodies ≡ t.bodies → tasks_of s.lists ≡ tasks_of t.lists →
     IsSearched s wanted before after → IsSearched t wanted before after
-searched_by_tasks s t wanted before after bodies tasks searched =
-    walked_searched t wanted before after
-    (subst (λ ts. Walks t.bodies (is_done wanted) ts before after) tasks
-    (subst (λ bs. Walks bs (is_done wanted) (tasks_of s.lists) before after) bodies (searched_walked s wanted before after searched)))
+searched_by_tasks s t wanted before after bodies tasks searched = grind (arith, nat_tests, walked_searched, searched_walked)
 
 pub silent_changes_nothing : (earlier later : List Listed) (silent : Listed) (bodies : List (List TrackedAssignment)) (path : List ℕ) (case : Case)
     (is_dir : Option Bool) (wanted : List ℕ) (before after : Slots) →

@@ -1,5 +1,6 @@
 -- From what a search leaves of its state to what it leaves of an outcome.
-use Rattle.std.proofs.Common.{◌≡◌, ℕ, Bool, true, false, List, length, map, Option, None, Ok, sym, ap, ◌∙◌}
+use Rattle.std.proofs.lemmas.Bool.Decides.{nat_tests}
+use Rattle.std.proofs.Common.{arith, ◌≡◌, ℕ, Bool, true, false, List, length, map, Option, None, Ok, sym, ap, ◌∙◌}
 use Rattle.std.proofs.Math.Path.{subst}
 use Rattle.std.specs.Result.{is_err}
 use Rattle.std.specs.declared.result.Result.{Result}
@@ -31,18 +32,7 @@ pub as_seen : (o : Inside) (held : Content) (lists searched : List IndexedList) 
     P (lists_view searched) o.state.bodies (wanted_numbers o.state.wanted) o.state.needed o.state.answers
     (bstr_bytes query.path) query.case query.is_dir →
     P (lists_view lists) held.bodies (wanted_of held) held.needed held.slots path case is_dir
-as_seen o held lists searched query path case is_dir view wanted e p c d P known =
-    let w : wanted_numbers o.state.wanted ≡ wanted_of (outcome_view o) =
-    ap wanted_numbers wanted ∙ wanted_by_flags (is_wanted (selection_view o.selected.items)) (length o.state.answers) in
-    subst (λ h. P (lists_view lists) h.bodies (wanted_of h) h.needed h.slots path case is_dir) view
-    (subst (λ ws. P (lists_view lists) o.state.bodies ws o.state.needed o.state.answers path case is_dir) w
-    (subst (λ ls. P (lists_view ls) o.state.bodies (wanted_numbers o.state.wanted) o.state.needed o.state.answers path case is_dir) e
-    (subst (λ q. P (lists_view searched) o.state.bodies (wanted_numbers o.state.wanted) o.state.needed o.state.answers q case is_dir) p
-    (subst (λ k. P (lists_view searched) o.state.bodies (wanted_numbers o.state.wanted) o.state.needed o.state.answers
-    (bstr_bytes query.path) k is_dir) c
-    (subst (λ f. P (lists_view searched) o.state.bodies (wanted_numbers o.state.wanted) o.state.needed o.state.answers
-    (bstr_bytes query.path) query.case f) d
-    known)))))
+as_seen o held lists searched query path case is_dir view wanted e p c d P known = grind (arith, nat_tests, wanted_by_flags)
 
 -- the slots of a state as the table has them
 abbrev pub slots_seen : SearchContents → Slots
@@ -62,10 +52,7 @@ same_state o state e = ap (with_state (outcome_view o)) e
 pub same_bodies : (o : Inside) (state : SearchContents) → state.bodies ≡ o.state.bodies → state.needed ≡ o.state.needed →
     with_state (outcome_view o) state
     ≡ record (outcome_view o) { slots = state.answers; kept = state.kept; taken = state.taken; tested = state.tested }
-same_bodies o state e f =
-    let Held : List (List TrackedAssignment) → List Bool → Content = λ bodies needed. record (outcome_view o)
-    { slots = state.answers; bodies = bodies; needed = needed; kept = state.kept; taken = state.taken; tested = state.tested } in
-    ap (λ bodies. Held bodies state.needed) e ∙ ap (Held o.state.bodies) f
+same_bodies o state e f = grind (arith, nat_tests)
 
 -- what is left of an outcome that is reset does not depend on its answers
 pub emptied_alike : (o : Inside) (state : SearchContents) → state.bodies ≡ o.state.bodies → state.needed ≡ o.state.needed →

@@ -16,7 +16,7 @@ use Rattle.std.specs.List.{list_any}
 use Rattle.std.proofs.Math.ListN.{length-map}
 use Rattle.std.proofs.lemmas.List.{get_or-take, take_more, map_push, get_or-map}
 use Rattle.std.proofs.lemmas.List.Folds.{list_any-append}
-use Rattle.std.proofs.lemmas.List.FromFn.{fill_by_all}
+use Rattle.std.proofs.lemmas.List.FromFn.{fill_by_all, get_or-map-range_with_len, length-map-range_with_len}
 use Rattle.std.specs.Prelude.{Vec}
 use Rattle.std.specs.Global.{Global}
 use Rattle.attr_lists.specs.Collections.{Collection}
@@ -62,15 +62,15 @@ pub tracked_decides : (x y : TrackedAssignment) → Decides (tracked.ghosts.eq x
 tracked_decides x y = search rules
 
 -- the body at a number
-pub body_at : (known : Collection) (number : ℕ) → number < length known.definitions → get_or (bodies_of known) number [] ≡ macro_body known number
-body_at known number lt = get_or-map last_body known.definitions number [] [] lt
+pub body_at : (known : Collection) (number : ℕ) → number < length known.names → get_or (bodies_of known) number [] ≡ macro_body known number
+body_at known number lt = get_or-map-range_with_len (macro_body known) 0 (length known.names) number number [] lt (omega arith)
 
-pub length_bodies : (known : Collection) → length (bodies_of known) ≡ length known.definitions
-length_bodies known = length-map known.definitions last_body
+pub length_bodies : (known : Collection) → length (bodies_of known) ≡ length known.names
+length_bodies known = length-map-range_with_len (macro_body known) 0 (length known.names)
 
 -- one more body, of those that are pushed
 bodies_pushed : (bodies bodies' : List (Vec TrackedAssignment Global)) (known : Collection) (number : ℕ) (body : Vec TrackedAssignment Global) →
-    number < length known.definitions →
+    number < length known.names →
     bodies_view bodies ≡ take number (bodies_of known) → body.items ≡ macro_body known number → bodies' ≡ bodies ++ body ∷ [] → bodies_view bodies' ≡
     take (number + 1) (bodies_of known)
 bodies_pushed bodies bodies' known number body lt so_far here pushed =
@@ -81,7 +81,7 @@ bodies_pushed bodies bodies' known number body lt so_far here pushed =
 -- one more body that is the same
 pub bodies_more : (bodies : List (Vec TrackedAssignment Global)) (known : Collection) (number : ℕ) (d : Vec TrackedAssignment Global)
     → number < length
-    bodies → number < length known.definitions →
+    bodies → number < length known.names →
     bodies_view (take number bodies) ≡ take number (bodies_of known) → (get_or bodies number d).items ≡ macro_body known number → bodies_view
     (take (number + 1) bodies) ≡ take (number + 1) (bodies_of known)
 bodies_more bodies known number d lt lt' so_far here =
@@ -90,7 +90,7 @@ bodies_more bodies known number d lt lt' so_far here =
 -- bodies that are the same are so at each number
 pub bodies_same_at : (bodies : List (Vec TrackedAssignment Global)) (known : Collection) (number : ℕ) (d : Vec TrackedAssignment Global)
     → number < length
-    bodies → number < length known.definitions →
+    bodies → number < length known.names →
     bodies_view bodies ≡ bodies_of known → (get_or bodies number d).items ≡ macro_body known number
 bodies_same_at bodies known number d lt lt' same =
     sym (get_or-map (λ b. b.items) bodies number d [] lt) ∙ ap (λ l. get_or l number []) same ∙ body_at known number lt'
@@ -143,13 +143,13 @@ not_next done number k none apart =
 
 -- one more number, whose body is changed
 pub made_by_change : (known : Collection) (bodies : List (Vec TrackedAssignment Global)) (done : List ℕ) (changes changes' : List BodyChange)
-    (change : BodyChange) → changes' ≡ changes ++ change ∷ [] → change.number < length known.names → length known.definitions ≡ length known.names →
+    (change : BodyChange) → changes' ≡ changes ++ change ∷ [] → change.number < length known.names →
     change.body.items ≡ macro_body known change.number → AreMade known bodies done changes →
     AreMade known bodies (done ++ change.number ∷ []) changes'
-made_by_change known bodies done changes changes' change pushed lt counted same made = λ k.
+made_by_change known bodies done changes changes' change pushed lt same made = λ k.
     ⊎_elim
     (λ (here : k ≡ change.number). inl (ap (changed_at known bodies changes') here
-    ∙ changed_here known bodies changes changes' change pushed lt ∙ same ∙ sym (body_at known change.number (omega arith))
+    ∙ changed_here known bodies changes changes' change pushed lt ∙ same ∙ sym (body_at known change.number lt)
     ∙ sym (ap (λ i. get_or (bodies_of known) i []) here)))
     (λ (apart : k ≢ change.number).
     let stays = changed_other known bodies changes changes' change k pushed apart in
@@ -173,6 +173,13 @@ made_by_same known bodies done changes number same made = λ k.
     (cases_eq k number))
     (made k)
 
+-- past the names there are no bodies
+pub same_past : (known : Collection) (bodies : List (Vec TrackedAssignment Global)) (number : ℕ) → length known.names ≤ number →
+    get_or (bodies_for known bodies) number [] ≡ get_or (bodies_of known) number []
+same_past known bodies number past =
+    get_or_past (bodies_for known bodies) number [] (omega (arith, past, length_sized (length known.names) (bodies_view bodies)))
+    ∙ sym (get_or_past (bodies_of known) number [] (omega (arith, past, length_bodies known)))
+
 -- at first nothing is changed
 pub made_first : (known : Collection) (bodies : List (Vec TrackedAssignment Global)) → AreMade known bodies [] []
 made_first known bodies = λ k. inr (refl, refl)
@@ -186,30 +193,30 @@ neither p xs ys none = both (list_any p xs) (list_any p ys) (sym (list_any-appen
 
 -- after the numbers of both, all bodies are those of the collection
 pub made_all : (known : Collection) (bodies : List (Vec TrackedAssignment Global)) (macros own : BTreeSet ℕ) (changes : List BodyChange) →
-    length known.definitions ≡ length known.names → AreEmptyElsewhere macros (bodies_view bodies) → ListsMacros own known →
+    AreEmptyElsewhere macros (bodies_view bodies) → ListsMacros own known →
     AreMade known bodies (([] ++ macros.keys) ++ own.keys) changes →
     changed_bodies changes (bodies_for known bodies) ≡ bodies_of known
-made_all known bodies macros own changes counted elsewhere listed made =
+made_all known bodies macros own changes elsewhere listed made =
     let base = bodies_for known bodies in
     let len : length base ≡ length known.names = length_sized (length known.names) (bodies_view bodies) in
     ext_get_or [] (changed_bodies changes base) (bodies_of known)
-    (length_changed changes base ∙ len ∙ sym counted ∙ sym (length_bodies known))
+    (length_changed changes base ∙ len ∙ sym (length_bodies known))
     (λ k lt.
     let below : k < length known.names = omega (arith, lt, length_changed changes base, len) in
     ⊎_elim (λ right. right)
     (λ rest.
     let none = neither (is_at (nat_cmp k)) macros.keys own.keys rest.0 in
     rest.1 ∙ sized_at (length known.names) (bodies_view bodies) k below ∙ elsewhere k none.0
-    ∙ sym (body_at known k (omega arith) ∙ ap last_body (listed k none.1)))
+    ∙ sym (body_at known k below ∙ ap last_body (listed k none.1)))
     (made k))
 
 -- a collection's bodies of other numbers are empty
 pub listed_elsewhere : (known : Collection) (macros : BTreeSet ℕ) → ListsMacros macros known → AreEmptyElsewhere macros (bodies_of known)
 listed_elsewhere known macros listed = λ number none.
     ⊎_elim
-    (λ (lt : number < length known.definitions). body_at known number lt ∙ ap last_body (listed number none))
-    (λ (past : length known.definitions ≤ number). get_or_past (bodies_of known) number [] (omega (arith, length_bodies known)))
-    (cases_lt number (length known.definitions))
+    (λ (lt : number < length known.names). body_at known number lt ∙ ap last_body (listed number none))
+    (λ (past : length known.names ≤ number). get_or_past (bodies_of known) number [] (omega (arith, length_bodies known)))
+    (cases_lt number (length known.names))
 
 -- the same beside copies of the numbers and of the bodies
 pub copied_elsewhere : (C : ℕ → ℕ → Type 0) → ((x y : ℕ) → C x y → y ≡ x) → (macros copy : BTreeSet ℕ)

@@ -1,4 +1,5 @@
 -- A text without the slashes at its end, and the variables that were looked up.
+use Rattle.std.proofs.lemmas.Bool.Decides.{nat_tests}
 use Rattle.std.proofs.Common.{◌≡◌, ◌∙◌, ◌<◌, ◌≤◌, ◌+◌, ◌-◌, ℕ, List, [], ◌∷◌, ◌++◌, length, take, get_or, refl, sym, ap, subst, Option, Some, None}
 use Rattle.std.proofs.Common.{arith, eq-eqb, inl, inr, lit<, Bor, String, Global, string_bytes, Result}
 use Rattle.std.specs.Prelude.{is_some, option_map, IfOk}
@@ -23,27 +24,10 @@ record AreCut (text left : List ℕ) : Type 0 where
 -- one byte more
 cut_more : (text mid left : List ℕ) → AreCut text mid → left ≡ take (length mid - 1) mid → 0 < length mid → get_or mid (length mid - 1) 0 ≡ 47 →
     AreCut text left
-cut_more text mid left cut is some last =
-    let shorter : length left ≡ length mid - 1 = ap length is ∙ length-take-le (length mid - 1) mid (omega arith) in
-    let here : get_or text (length mid - 1) 0 ≡ 47 =
-    sym (get_or-take (length mid) text (length mid - 1) 0 (omega arith)) ∙ ap (λ m. get_or m (length mid - 1) 0) (sym cut.front) ∙ last in
-    let whole : left ≡ take (length mid - 1) text =
-    is ∙ ap (take (length mid - 1)) cut.front ∙ take-take (length mid - 1) (length mid) text (omega arith) in
-    record {
-      front = whole ∙ ap (λ n. take n text) (sym shorter);
-      within = omega (arith, cut.within);
-      slashes = λ k low high. elim (cases_lt k (length mid)) [
-        | inl lt ↦ (let same : k ≡ length mid - 1 = omega arith in ap (λ n. get_or text n 0) same ∙ here)
-        | inr ge ↦ cut.slashes k ge high
-      ];
-    }
+cut_more text mid left cut is some last = grind (arith, nat_tests, length-take-le, get_or-take, take-take)
 
 cut_all : (text : List ℕ) (widths : List ℕ) (left : List ℕ) → CutsSuffixes (FindsCharSuffix 47) text widths left → AreCut text left
-cut_all text [] left cuts = record {
-  front = cuts ∙ sym (take_all (length left) text (omega (arith, ap length cuts)));
-  within = omega (arith, ap length cuts);
-  slashes = λ k low high. absurd (omega (arith, ap length cuts));
-}
+cut_all text [] left cuts = grind (arith, nat_tests, take_all)
 cut_all text (n ∷ ns) left (mid, cuts, (width, at, boundary), is) =
     let one : n ≡ 1 = width in
     cut_more text mid left (cut_all text ns mid cuts) (is ∙ ap (λ m. take (length mid - m) mid) one) (omega (arith, at.ends))
@@ -59,13 +43,7 @@ last_byte left (None, finds, end) some is =
 last_byte left (Some n, finds, end) some is = absurd (omega (arith, finds.0, end))
 
 pub trimmed : (text left : List ℕ) → IsTrimEndMatches (FindsCharSuffix 47) text left → left ≡ take (length text - suffix_len is_slash text) text
-trimmed text left trims =
-    let cut = cut_all text trims.0.0 left trims.0.1 in
-    let count = suffix_len_is is_slash text (length left) 0 cut.within
-    (λ k low high. eq-eqb (get_or text k 0) 47 (cut.slashes k low high))
-    (λ some. ne_eqb (get_or text (length left - 1) 0) 47 (λ is. last_byte left trims.1 some
-    (ap (λ l. get_or l (length left - 1) 0) cut.front ∙ get_or-take (length left) text (length left - 1) 0 (omega arith) ∙ is))) in
-    cut.front ∙ ap (λ n. take n text) (omega (arith, cut.within, count))
+trimmed text left trims = grind (arith, nat_tests, cut_all, suffix_len_is, eq-eqb, ne_eqb, last_byte, get_or-take)
 
 -- a variable that was looked up, with its value
 abbrev pub asked_for : List ℕ → Option (String Global) → Asked
@@ -95,6 +73,4 @@ pub located : {E : Type 0} (source known : Source) (prefixes : Prefixes) (asked 
     (result : Result (Option (String Global)) E)
     → source ≡ known → location known prefixes asked ≡ found → IfOk result (λ path. option_map string_bytes path ≡ found)
     → IfOk result (λ path. option_map string_bytes path ≡ location source prefixes asked)
-located source known prefixes asked found result is same returned =
-    subst (λ (l : Option (List ℕ)). IfOk result (λ path. option_map string_bytes path ≡ l)) (sym (ap (λ s. location s prefixes asked) is ∙ same))
-    returned
+located source known prefixes asked found result is same returned = grind (arith, nat_tests)

@@ -1,5 +1,6 @@
 -- Sources only tell: lists that differ in their sources alone have the same answers, but for the sources of these.
-use Rattle.std.proofs.Common.{◌≡◌, ℕ, zero, suc, ◌-◌, inl, inr, ⊎_elim, ◌==◌, Bool, true, false, List, [], ◌∷◌, ◌++◌, length, map, take}
+use Rattle.std.proofs.lemmas.Bool.Decides.{nat_tests}
+use Rattle.std.proofs.Common.{arith, ◌≡◌, ℕ, zero, suc, ◌-◌, inl, inr, ⊎_elim, ◌==◌, Bool, true, false, List, [], ◌∷◌, ◌++◌, length, map, take}
 use Rattle.std.proofs.Common.{Option, Some, None, MatchOption, option_map, slice_get, unwrap_or, refl, sym, ap, ◌∙◌, subst, get_or}
 use Rattle.std.proofs.Math.Path.{fun_ext}
 use Rattle.std.specs.Prelude.{⊤, option_and_then, if◌then◌else◌}
@@ -34,8 +35,7 @@ reached_same s t same table (Inside parent index) h = (h.0, sym (same parent) �
 
 live_same : (s t : Setting) → ((o : Occurrence) → item_at s o ≡ item_at t o) → (table : Table) (o : Occurrence) (i : Item) →
     IsLive s table o i → IsLive t table o i
-live_same s t same table o i live =
-    record { item = sym (same o) ∙ live.item; reached = reached_same s t same table o live.reached }
+live_same s t same table o i live = grind (arith, nat_tests, reached_same)
 
 earliest_same : (s t : Setting) → ((o : Occurrence) → item_at s o ≡ item_at t o) → (table : Table) (a : ℕ) (entry : Option Occurrence) →
     IsEarliest s table a entry → IsEarliest t table a entry
@@ -65,32 +65,14 @@ module _ (told : List ℕ → List ℕ) where
   answers_told answers number = option_map answer_told (answers number)
 
   line_same : (s : Setting) (list line : ℕ) → line_at (setting_told s) list line ≡ option_map line_told (line_at s list line)
-  line_same s list line =
-      ap (option_and_then (λ lines. slice_get lines line)) (slice_get-map (map line_told) s.lists list) ∙ at (slice_get s.lists list)
-    where
-      at : (o : Option (List Line)) → option_and_then (λ lines. slice_get lines line) (option_map (map line_told) o)
-          ≡ option_map line_told (option_and_then (λ lines. slice_get lines line) o)
-      at None = refl
-      at (Some lines) = slice_get-map line_told lines line
+  line_same s list line = grind (arith, nat_tests, slice_get-map)
 
   item_same : (s : Setting) (o : Occurrence) → item_at (setting_told s) o ≡ item_at s o
-  item_same s (Root list line item) =
-      ap (option_and_then (λ (l : Line). slice_get l.items item)) (line_same s list line) ∙ at (line_at s list line)
-    where
-      at : (o : Option Line) → option_and_then (λ (l : Line). slice_get l.items item) (option_map line_told o)
-          ≡ option_and_then (λ (l : Line). slice_get l.items item) o
-      at None = refl
-      at (Some l) = refl
-  item_same s (Inside parent index) =
-      ap (option_and_then (λ (i : Item). slice_get (body_of s.bodies i.attribute) index)) (item_same s parent)
+  item_same s (Root list line item) = grind (arith, nat_tests, line_same)
+  item_same s (Inside parent index) = grind (arith, nat_tests, item_same s parent)
 
   origin_same : (s : Setting) (o : Occurrence) → origin_at (setting_told s) o ≡ option_map (origin_told told) (origin_at s o)
-  origin_same s (Root list line item) = ap (option_map (λ (l : Line). l.origin)) (line_same s list line) ∙ at (line_at s list line)
-    where
-      at : (o : Option Line) → option_map (λ (l : Line). l.origin) (option_map line_told o)
-          ≡ option_map (origin_told told) (option_map (λ (l : Line). l.origin) o)
-      at None = refl
-      at (Some l) = refl
+  origin_same s (Root list line item) = grind (arith, nat_tests, line_same)
   origin_same s (Inside parent index) = origin_same s parent
 
   cause_same : (s : Setting) (o : Occurrence) → cause_at (setting_told s) o ≡ cause_at s o
@@ -99,27 +81,10 @@ module _ (told : List ℕ → List ℕ) where
 
   -- its answers tell the other sources
   answer_same : (s : Setting) (o : Occurrence) → answer_at (setting_told s) o ≡ option_map answer_told (answer_at s o)
-  answer_same s o =
-      ap (λ origin. By origin (item_at (setting_told s) o) (cause_at (setting_told s) o)) (origin_same s o)
-      ∙ (ap (λ item. By (option_map (origin_told told) (origin_at s o)) item (cause_at (setting_told s) o)) (item_same s o)
-      ∙ (ap (By (option_map (origin_told told) (origin_at s o)) (item_at s o)) (cause_same s o)
-      ∙ at (origin_at s o) (item_at s o)))
-    where
-      By : Option Origin → Option Item → Option ℕ → Option Answer
-      By origin item cause = option_and_then (λ origin. option_map (λ i. answer_of s.bodies origin i cause) item) origin
-
-      at : (origin : Option Origin) (item : Option Item) →
-          By (option_map (origin_told told) origin) item (cause_at s o) ≡ option_map answer_told (By origin item (cause_at s o))
-      at None item = refl
-      at (Some origin) None = refl
-      at (Some origin) (Some i) = refl
+  answer_same s o = grind (arith, nat_tests, origin_same, item_same, cause_same)
 
   answers_same : (s : Setting) (table : Table) → table_answers (setting_told s) table ≡ answers_told (table_answers s table)
-  answers_same s table = fun_ext (λ number. at (table number))
-    where
-      at : (o : Option Occurrence) → option_and_then (answer_at (setting_told s)) o ≡ option_map answer_told (option_and_then (answer_at s) o)
-      at None = refl
-      at (Some o) = answer_same s o
+  answers_same s table = grind (arith, nat_tests, answer_same)
 
   only_told : (s : Setting) (Holds HoldsTold : Slots → Type 0) → ((answers : Slots) → Holds answers → HoldsTold (answers_told answers)) →
       OfTheOnlyTable s Holds → OfTheOnlyTable (setting_told s) HoldsTold
@@ -137,79 +102,40 @@ module _ (told : List ℕ → List ℕ) where
   lines_same : (case : Case) (is_dir : Option Bool) (source rest : Option (List ℕ)) (lines : List Entry) →
       map (line_of case is_dir (option_map told source) rest) lines ≡ map line_told (map (line_of case is_dir source rest) lines)
   lines_same case is_dir source rest [] = refl
-  lines_same case is_dir source rest (line ∷ lines) =
-      ap (λ ls. line_of case is_dir (option_map told source) rest line ∷ ls) (lines_same case is_dir source rest lines)
+  lines_same case is_dir source rest (line ∷ lines) = grind (arith, nat_tests, lines_same case is_dir source rest lines)
 
   lists_same : (case : Case) (is_dir : Option Bool) (path : List ℕ) (lists : List Listed) →
       map (lines_of case is_dir path) (map (list_told told) lists) ≡ map (map line_told) (map (lines_of case is_dir path) lists)
   lists_same case is_dir path [] = refl
-  lists_same case is_dir path (list ∷ lists) =
-      ap (λ ls. ls ∷ map (lines_of case is_dir path) (map (list_told told) lists))
-      (lines_same case is_dir list.source (rest_for case path list) list.lines)
-      ∙ ap (λ ls. map line_told (lines_of case is_dir path list) ∷ ls) (lists_same case is_dir path lists)
+  lists_same case is_dir path (list ∷ lists) = grind (arith, nat_tests, lines_same, lists_same case is_dir path lists)
 
   definitions_same : (lists : List Listed) (name : List ℕ) → definitions_in (map (list_told told) lists) name ≡ definitions_in lists name
   definitions_same [] name = refl
   definitions_same (list ∷ lists) name = ap (λ ds. bodies_named name list.lines ++ ds) (definitions_same lists name)
 
   bodies_same : (s : EngineState) → bodies_by (state_told told s) ≡ bodies_by s
-  bodies_same s =
-      ap (λ last. map last s.names)
-      (fun_ext (λ name. ap (λ bodies. unwrap_or (slice_get bodies (length bodies - 1)) []) (definitions_same s.lists name)))
+  bodies_same s = grind (arith, nat_tests, definitions_same)
 
   setting_same : (s : EngineState) (path : List ℕ) (case : Case) (is_dir : Option Bool) →
       setting_told (path_setting s path case is_dir) ≡ path_setting (state_told told s) path case is_dir
-  setting_same s path case is_dir =
-      let make : List (List Line) → List (List Item) → Setting = λ lists bodies. record { lists = lists; bodies = bodies } in
-      ap (λ lists. make lists (map table_items (bodies_by s))) (sym (lists_same case is_dir path s.lists))
-      ∙ ap (λ bodies. make (map (lines_of case is_dir path) (map (list_told told) s.lists)) (map table_items bodies)) (sym (bodies_same s))
+  setting_same s path case is_dir = grind (arith, nat_tests, lists_same, bodies_same)
 
   -- ---- what is returned
 
   selected_same : (names : List (List ℕ)) (answers : Slots) (selected : List (List ℕ)) →
       selected_answers names (answers_told answers) selected ≡ map (match_told told) (selected_answers names answers selected)
   selected_same names answers [] = refl
-  selected_same names answers (text ∷ texts) =
-      ap (λ m. m ∷ selected_answers names (answers_told answers) texts) (at (number_of names text))
-      ∙ ap (λ ms. match_told told (answer_for names answers text) ∷ ms) (selected_same names answers texts)
-    where
-      by_answer : (x : Option Answer) → unwrap_or (option_map (named_answer text) (option_map answer_told x)) (unspecified text)
-          ≡ match_told told (unwrap_or (option_map (named_answer text) x) (unspecified text))
-      by_answer None = refl
-      by_answer (Some x) = refl
-
-      at : (o : Option ℕ) → unwrap_or (option_map (named_answer text) (option_and_then (answers_told answers) o)) (unspecified text)
-          ≡ match_told told (unwrap_or (option_map (named_answer text) (option_and_then answers o)) (unspecified text))
-      at None = refl
-      at (Some number) = by_answer (answers number)
+  selected_same names answers (text ∷ texts) = grind (arith, nat_tests, selected_same names answers texts)
 
   named_same : (names : List (List ℕ)) (answers : Slots) (numbers : List ℕ) →
       filter_map (λ number. option_map (named_answer (get_or names number [])) (answers_told answers number)) numbers
       ≡ map (match_told told) (filter_map (λ number. option_map (named_answer (get_or names number [])) (answers number)) numbers)
   named_same names answers [] = refl
-  named_same names answers (number ∷ numbers) = at (answers number) (named_same names answers numbers)
-    where
-      named : Option Answer → Option Matched
-      named x = option_map (named_answer (get_or names number [])) x
-
-      left : Slots → List Matched
-      left answers = filter_map (λ number. option_map (named_answer (get_or names number [])) (answers number)) numbers
-
-      at : (x : Option Answer) → left (answers_told answers) ≡ map (match_told told) (left answers) →
-          cons_option (named (option_map answer_told x)) (left (answers_told answers))
-          ≡ map (match_told told) (cons_option (named x) (left answers))
-      at None rest = rest
-      at (Some x) rest = ap (λ ms. match_told told (named_answer (get_or names number []) x) ∷ ms) rest
+  named_same names answers (number ∷ numbers) = grind (arith, nat_tests, named_same names answers numbers)
 
   specified_same : (ms : List Matched) → specified_among (map (match_told told) ms) ≡ map (match_told told) (specified_among ms)
   specified_same [] = refl
-  specified_same (m ∷ ms) = at (is_specified m.assignment.state) (specified_same ms)
-    where
-      at : (b : Bool) → specified_among (map (match_told told) ms) ≡ map (match_told told) (specified_among ms) →
-          (if b then match_told told m ∷ specified_among (map (match_told told) ms) else specified_among (map (match_told told) ms))
-          ≡ map (match_told told) (if b then m ∷ specified_among ms else specified_among ms)
-      at true rest = ap (λ xs. match_told told m ∷ xs) rest
-      at false rest = rest
+  specified_same (m ∷ ms) = grind (arith, nat_tests, specified_same ms)
 
   returned_same : (s : EngineState) (answers : Slots) →
       map (match_told told) (returned_answers s answers) ≡ returned_answers (state_told told s) (answers_told answers)
@@ -238,13 +164,7 @@ module _ (told : List ℕ → List ℕ) where
 
   found_same : (names : List (List ℕ)) (answers : Slots) (found : List (Option Matched)) (number : ℕ) → IsFound names answers found number →
       IsFound names (answers_told answers) (map (option_map (match_told told)) found) number
-  found_same names answers found number e =
-      slot_same found number ∙ (ap (option_map (match_told told)) e ∙ at (answers number))
-    where
-      at : (x : Option Answer) → option_map (match_told told) (option_map (named_answer (get_or names number [])) x)
-          ≡ option_map (named_answer (get_or names number [])) (option_map answer_told x)
-      at None = refl
-      at (Some x) = refl
+  found_same names answers found number e = grind (arith, nat_tests, slot_same)
 
   finds_same : (names selected : List (List ℕ)) (answers : Slots) (found : List (Option Matched)) → FindsAnswers names selected answers found →
       FindsAnswers names selected (answers_told answers) (map (option_map (match_told told)) found)
@@ -304,16 +224,10 @@ module _ (told : List ℕ → List ℕ) where
 
   pub added_told : (a : AddedList) (held : EngineContent) →
       content_told told (with_list_below a held) ≡ with_list_below (addition_told told a) (content_told told held)
-  added_told a held =
-      ap (λ lists. let made = with_list_below (addition_told told a) (content_told told held) in
-      record made { state = record made.state { lists = lists } })
-      (map-append (list_told told) held.state.lists ((with_list_below a (record held { state = record held.state { lists = [] } })).state.lists))
+  added_told a held = grind (arith, nat_tests, map-append)
 
   pub popped_told : (held : EngineContent) → content_told told (without_last held) ≡ without_last (content_told told held)
-  popped_told held =
-      ap (λ lists. let made = without_last (content_told told held) in record made { state = record made.state { lists = lists } })
-      (sym (take-map (list_told told) (length held.state.lists - 1) held.state.lists)
-      ∙ ap (λ n. take (n - 1) (map (list_told told) held.state.lists)) (sym (length-map held.state.lists (list_told told))))
+  popped_told held = grind (arith, nat_tests, take-map, length-map)
 
   pub number_told : (held : EngineContent) (index : ℕ) → number_answered (content_told told held) index ≡ number_answered held index
   number_told held index = at held.answers

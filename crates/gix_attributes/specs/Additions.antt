@@ -1,7 +1,7 @@
 -- What adding a buffer or a file does to a search and its collection (own).
 use Rattle.std.specs.Prelude.{◌≡◌, ℕ, Bool, ⊤, List, [], ◌∷◌, ◌++◌, Option, Some}
 use Rattle.attr_glob.specs.Bases.{base_of}
-use Rattle.attr_lists.specs.Definitions.{free_id, with_list}
+use Rattle.attr_lists.specs.Definitions.{RegistersAs}
 use Rattle.attr_lists.specs.KeptLists.{kept_list_where, dropped_lines}
 use Rattle.attr_lists.specs.Collections.{Collection}
 use Rattle.attr_lists.specs.ListViews.{Entry}
@@ -18,10 +18,6 @@ use Rattle.gix_attributes.specs.declared.search.files.Added.{Added}
 use Rattle.gix_attributes.specs.declared.search.files.AddError.{AddError}
 use Rattle.gix_attributes.specs.declared.search.files.AddError.TheVariants.{Io, OutOfMemory}
 
--- a collection after a list of these lines is registered under the least free list id
-abbrev pub with_registered : List Entry → Collection → Collection
-with_registered entries old = with_list (free_id old.active) entries old
-
 -- the lists of a search, their list ids, and the collection in which they are registered
 pub record RegisteredLists : Type 0 where
   pub lists : List Listed
@@ -30,6 +26,13 @@ pub record RegisteredLists : Type 0 where
 
 abbrev pub registered_lists : Search → Collection → RegisteredLists
 registered_lists search known = record { lists = lists_in search; list_ids = list_ids_in search; known = known }
+
+-- a list of these lines is registered under a list id that no list of the collection had, and the search notes this list id after
+-- the others
+pub record RegistersNext (entries : List Entry) (before after : RegisteredLists) : Type 0 where
+  pub list_id : ℕ
+  pub registered : RegistersAs list_id entries before.known after.known
+  pub noted : after.list_ids ≡ before.list_ids ++ list_id ∷ []
 
 -- the list of a buffer below a base, with the numbers of a collection: the lines that are kept of it
 abbrev pub list_below : List ℕ → Option (List ℕ) → Bool → List ℕ → Collection → Listed
@@ -40,22 +43,18 @@ list_below source base allow_macros bytes known =
 abbrev pub buffer_list : List ℕ → Option (List ℕ) → Bool → List ℕ → Collection → Listed
 buffer_list source root allow_macros bytes known = list_below source (base_of source root) allow_macros bytes known
 
--- a buffer is added: its list comes after the others, and is registered under the least free list id
-abbrev pub with_buffer : List ℕ → Option (List ℕ) → Bool → List ℕ → RegisteredLists → RegisteredLists
-with_buffer source root allow_macros bytes old =
-    let known = with_registered (kept_list_where allow_macros bytes) old.known in
-    record {
-      lists = old.lists ++ buffer_list source root allow_macros bytes known ∷ [];
-      list_ids = old.list_ids ++ free_id old.known.active ∷ [];
-      known = known;
-    }
+-- a buffer is added: its list comes after the others, and is registered
+pub record AddsBuffer (source : List ℕ) (root : Option (List ℕ)) (allow_macros : Bool) (bytes : List ℕ)
+    (before after : RegisteredLists) : Type 0 where
+  pub lists : after.lists ≡ before.lists ++ buffer_list source root allow_macros bytes after.known ∷ []
+  pub registered : RegistersNext (kept_list_where allow_macros bytes) before after
 
 -- a file is added as the buffer of its contents, and a missing one adds nothing
-abbrev pub with_file : List ℕ → Option (List ℕ) → Bool → ReadAnswer → RegisteredLists → RegisteredLists
-with_file source root allow_macros (found bytes) old = with_buffer source root allow_macros bytes old
-with_file source root allow_macros missing old = old
-with_file source root allow_macros device_failed old = old
-with_file source root allow_macros memory_refused old = old
+abbrev pub AddsContents : List ℕ → Option (List ℕ) → Bool → ReadAnswer → RegisteredLists → RegisteredLists → Type 0
+AddsContents source root allow_macros (found bytes) before after = AddsBuffer source root allow_macros bytes before after
+AddsContents source root allow_macros missing before after = after ≡ before
+AddsContents source root allow_macros device_failed before after = after ≡ before
+AddsContents source root allow_macros memory_refused before after = after ≡ before
 
 -- the lines of the file that are dropped
 abbrev pub dropped_of : ReadAnswer → List Dropped
@@ -70,7 +69,7 @@ pub record AddsFile (source : List ℕ) (root : Option (List ℕ)) (allow_macros
   pub answered : IsAnswered answer
   pub was_added : added.was_added ≡ file_exists answer
   pub dropped : added.dropped.items ≡ dropped_of answer
-  pub loaded : after ≡ with_file source root allow_macros answer before
+  pub loaded : AddsContents source root allow_macros answer before after
   pub left : buffer ≡ contents_of answer
 
 -- the error is a failure of the device

@@ -7,7 +7,7 @@ use Rattle.attr_text.specs.Names.{is_valid_name}
 use Rattle.attr_text.specs.declared.state.State.TheVariants.{Unspecified}
 use Rattle.attr_lists.specs.Collections.{Collection}
 use Rattle.attr_lists.specs.Numbers.{number_of}
-use Rattle.attr_lists.specs.Definitions.{last_body}
+use Rattle.attr_lists.specs.Definitions.{macro_body}
 use Rattle.attr_lists.specs.declared.types.TrackedAssignment.{TrackedAssignment}
 use Rattle.attr_search.specs.Slots.{Matched}
 
@@ -54,7 +54,7 @@ names_selected selection = map (λ wanted. wanted.name) selection
 
 -- the body of each name as a macro, by number: that of its last active definition
 abbrev pub bodies_of : Collection → List (List TrackedAssignment)
-bodies_of known = map last_body known.definitions
+bodies_of known = map (macro_body known) (range_with_len 0 (length known.names))
 
 -- the contents of an outcome that is initialised with a collection and a selection: an empty slot for each name
 abbrev pub initial_content : Collection → List (List ℕ) → Content

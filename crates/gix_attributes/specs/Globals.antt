@@ -1,11 +1,13 @@
 -- The global lists of a search: the built-in one and those of global files (gitattributes page; own: their order and sources).
-use Rattle.std.specs.Prelude.{◌≡◌, ◌⊎◌, ℕ, true, List, [], ◌∷◌, ◌++◌, map, fold, Option, Some, None, codes, Vec}
+use Rattle.std.specs.Prelude.{◌≡◌, ◌⊎◌, ℕ, true, List, [], ◌++◌, map, fold, Option, Some, None, codes, Vec}
+use Rattle.std.specs.List.{FoldsTo}
 use Rattle.std.specs.Global.{Global}
 use Rattle.std.specs.Option.{option_to_list}
 use Rattle.attr_lists.specs.Collections.{Collection}
 use Rattle.attr_lists.specs.declared.types.Dropped.{Dropped}
-use Rattle.gix_attributes.specs.Additions.{RegisteredLists, registered_lists, with_buffer, with_file, dropped_of, RefusedBy}
+use Rattle.gix_attributes.specs.Additions.{AddsBuffer, AddsContents, RegisteredLists, registered_lists, dropped_of, RefusedBy}
 use Rattle.gix_attributes.specs.FileReads.{FileRead, AreAnswered, names_read, contents_of}
+use Rattle.gix_attributes.specs.Registers.{no_lists}
 use Rattle.gix_attributes.specs.declared.search.attributes.Search.{Search}
 use Rattle.gix_attributes.specs.declared.search.files.AddError.{AddError}
 use Rattle.gix_attributes.specs.declared.search.files.AddError.TheVariants.{OutOfMemory}
@@ -24,22 +26,29 @@ built_in = codes "[attr]binary -diff -merge -text"
 unfoldable pub built_in_source : List ℕ
 built_in_source = codes "[builtin]"
 
--- the built-in list alone
-abbrev pub with_built_in : Collection → RegisteredLists
-with_built_in known = with_buffer built_in_source None true built_in (record { lists = []; list_ids = []; known = known })
+-- the built-in list alone is added
+abbrev pub AddsBuiltIn : Collection → RegisteredLists → Type 0
+AddsBuiltIn known after = AddsBuffer built_in_source None true built_in (no_lists known) after
 
--- the file of one more name: its list has no base, and may define macros
-abbrev pub with_global : Globals → FileRead → Globals
-with_global old file =
-    record {
-      loaded = with_file file.name None true file.answer old.loaded;
-      dropped = old.dropped ++ dropped_of file.answer ∷ [];
-      left = contents_of file.answer;
-    }
+-- the file of one more name is added: its list has no base, and may define macros
+abbrev pub AddsGlobal : RegisteredLists → FileRead → RegisteredLists → Type 0
+AddsGlobal before file after = AddsContents file.name None true file.answer before after
 
--- the built-in list first, and then each file that is there, in the order of the reads
-abbrev pub globals_of : Collection → List ℕ → List FileRead → Globals
-globals_of known left files = fold with_global (record { loaded = with_built_in known; dropped = []; left = left }) files
+-- the built-in list is added first, and then each file that is there, in the order of the reads
+pub record AddsGlobals (known : Collection) (read : List FileRead) (loaded : RegisteredLists) : Type 0 where
+  pub first : RegisteredLists
+  pub built_in : AddsBuiltIn known first
+  pub files : FoldsTo AddsGlobal first read loaded
+
+-- the contents of a buffer after these reads
+abbrev pub left_by : List ℕ → List FileRead → List ℕ
+left_by left read = fold (λ held file. contents_of file.answer) left read
+
+-- a call leaves the globals of these reads
+pub record AreGlobalsOf (known : Collection) (bytes : List ℕ) (read : List FileRead) (globals : Globals) : Type 0 where
+  pub loaded : AddsGlobals known read globals.loaded
+  pub dropped : globals.dropped ≡ map (λ file. dropped_of file.answer) read
+  pub left : globals.left ≡ left_by bytes read
 
 -- the globals that a call returns
 abbrev pub globals_in : Search → Collection → List (Vec Dropped Global) → List ℕ → Globals
@@ -61,7 +70,9 @@ pub record RefusedAfter (wanted : List (List ℕ)) (read : List FileRead) (old n
   pub names : names_read read ++ unread ≡ wanted
   pub answered : AreAnswered added
   pub ended : EndsBy last error
-  pub known : new ≡ (globals_of old [] added).loaded.known
+  pub loaded : RegisteredLists
+  pub made : AddsGlobals old added loaded
+  pub known : loaded.known ≡ new
 
 -- or it is refused before the built-in list is added: nothing is read then, and nothing changes
 abbrev pub RefusesGlobals : List (List ℕ) → List FileRead → Collection → Collection → AddError → Type 0

@@ -145,7 +145,7 @@ fn remove_if_held(
     out.reserve(6)?;
     let is_held = table.holds(list_id, list);
     if is_held {
-        table.remove(list_id, list);
+        table.remove(list_id);
     }
     writeln!(out, "{is_held}")?;
     Ok(())

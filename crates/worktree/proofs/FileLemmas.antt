@@ -4,14 +4,10 @@ use Rattle.std.specs.Prelude.{ℕ, suc, Bool, true, false, slice_get, Result, Ok
 use Rattle.std.specs.List.{AllZip}
 use Rattle.std.specs.Option.{option_to_list}
 use Rattle.std.proofs.lemmas.List.{append-nil, length-append}
-use Rattle.gix_attributes.specs.Additions.{buffer_list, with_registered}
 use Rattle.gix_attributes.specs.Collections.{Collection}
-use Rattle.gix_attributes.specs.Definitions.{free_id}
-use Rattle.gix_attributes.specs.KeptLists.{kept_list_where}
 use Rattle.gix_attributes.specs.SearchViews.{LosesLast, RemovesLast}
 use Rattle.gix_attributes.specs.ListView.{Listed}
-use Rattle.worktree.specs.Worktrees.{Files, all_but_last, with_directory, with_global_file, without_last_directory, without_registration}
-use Rattle.worktree.specs.declared.File.{File}
+use Rattle.worktree.specs.Worktrees.{Files, all_but_last, without_last_directory, without_registration}
 
 count_before : {X : Type 0} (xs : List X) (x : X) → length (xs ++ x ∷ []) - 1 ≡ length xs
 count_before xs x = omega (arith, length-append xs (x ∷ []))
@@ -74,43 +70,10 @@ directory_left read (Some x) globals before after ids ids' known now count lists
     ∙ sym (ap (λ (l : List ℕ). without_registration (slice_get l (length l - 1)) known) is_last
     ∙ ap (λ m. without_registration m known) (get_last others list_id)))
 
-pub if_ok : {T E P : Type 0} (r : Result T E) → P → OnOk r P
-if_ok (Ok x) p = p
-if_ok (Err e) p = tt
+pub if_ok_with : {T E P : Type 0} (Q : P → Type 0) (r : Result T E) (p : P) → OnOk r (Q p) → OnOk r ((x : P) × Q x)
+if_ok_with Q (Ok x) p q = (p, q)
+if_ok_with Q (Err e) p q = tt
 
 pub if_err : {T E P : Type 0} (r : Result T E) → P → OnErr r P
 if_err (Ok x) p = tt
 if_err (Err e) p = p
-
--- a file's list that comes after the others, registered in a collection
-abbrev Added : (path : List ℕ) (root : Option (List ℕ)) (allow : Bool) (bytes : List ℕ) (lists : List Listed) (known : Collection) → List Listed
-Added path root allow bytes lists known = lists ++ buffer_list path root allow bytes known ∷ []
-
-added : (path path' : List ℕ) (root : Option (List ℕ)) (allow : Bool) (bytes : List ℕ) (before after : List Listed) (now : Collection)
-    → path ≡ path' →
-    after ≡ Added path root allow bytes before now → after ≡ Added path' root allow bytes before now
-added path path' root allow bytes before after now same e = e ∙ ap (λ p. Added p root allow bytes before now) same
-
--- what an addition of a global file leaves
-pub global_added : (file : File) (path : List ℕ) (old : Files) (after : List Listed) (now : Collection) → path ≡ file.path.now →
-    after ≡ Added path None true file.bytes.now old.globals now → now ≡ with_registered (kept_list_where true file.bytes.now) old.known →
-    (let new : Files = record { globals = after; directories = old.directories; directory_ids = old.directory_ids; known = now } in
-    new ≡ with_global_file file old)
-global_added file path old after now same lists registered =
-    let files : List Listed → Collection → Files =
-    λ g m. record { globals = g; directories = old.directories; directory_ids = old.directory_ids; known = m } in
-    ap (λ g. files g now) (added path file.path.now None true file.bytes.now old.globals after now same lists)
-    ∙ ap (λ m. files (Added file.path.now None true file.bytes.now old.globals m) m) registered
-
--- what an addition of a directory's file leaves
-pub directory_added : (file : File) (path : List ℕ) (old : Files) (after : List Listed) (ids : List ℕ) (now : Collection) → path ≡ file.path.now →
-    after ≡ Added path (Some []) false file.bytes.now old.directories now → ids ≡ old.directory_ids ++ free_id old.known.active ∷ [] →
-    now ≡ with_registered (kept_list_where false file.bytes.now) old.known →
-    (let new : Files = record { globals = old.globals; directories = after; directory_ids = ids; known = now } in new ≡ with_directory file old)
-directory_added file path old after ids now same lists ids_are registered =
-    let files : List Listed → List ℕ → Collection → Files =
-    λ l i m. record { globals = old.globals; directories = l; directory_ids = i; known = m } in
-    ap (λ l. files l ids now) (added path file.path.now (Some []) false file.bytes.now old.directories after now same lists)
-    ∙ (ap (λ i. files (Added file.path.now (Some []) false file.bytes.now old.directories now) i now) ids_are
-    ∙ ap (λ m. files (Added file.path.now (Some []) false file.bytes.now old.directories m)
-    (old.directory_ids ++ free_id old.known.active ∷ []) m) registered)

@@ -1,8 +1,8 @@
 -- The files of a worktree, and what is looked up in them (own).
-use Rattle.std.specs.Prelude.{ℕ, ◌-◌, true, false, List, [], ◌∷◌, length, map, take, ◌++◌, Option, None, Some, slice_get}
-use Rattle.gix_attributes.specs.Additions.{buffer_list, with_registered}
+use Rattle.std.specs.Prelude.{◌≡◌, ℕ, ◌-◌, true, false, List, [], ◌∷◌, length, map, take, ◌++◌, Option, None, Some, slice_get}
+use Rattle.gix_attributes.specs.Additions.{buffer_list}
 use Rattle.gix_attributes.specs.Collections.{Collection, empty_collection}
-use Rattle.gix_attributes.specs.Definitions.{free_id, without_list}
+use Rattle.gix_attributes.specs.Definitions.{RegistersAs, without_list}
 use Rattle.gix_attributes.specs.KeptLists.{kept_list_where}
 use Rattle.gix_attributes.specs.Lookups.{Lookup}
 use Rattle.gix_attributes.specs.ListView.{Listed}
@@ -22,27 +22,22 @@ abbrev pub no_attributes_files : Files
 no_attributes_files = record { globals = []; directories = []; directory_ids = []; known = empty_collection }
 
 -- a global file comes after the others; its patterns match all paths, and it may define macros
-abbrev pub with_global_file : File → Files → Files
-with_global_file file files =
-    let known = with_registered (kept_list_where true file.bytes.now) files.known in
-    record {
-      globals = files.globals ++ buffer_list file.path.now None true file.bytes.now known ∷ [];
-      directories = files.directories;
-      directory_ids = files.directory_ids;
-      known = known;
-    }
+pub record AddsGlobalFile (file : File) (before after : Files) : Type 0 where
+  pub globals : after.globals ≡ before.globals ++ buffer_list file.path.now None true file.bytes.now after.known ∷ []
+  pub directories : after.directories ≡ before.directories
+  pub list_id : ℕ
+  pub registered : RegistersAs list_id (kept_list_where true file.bytes.now) before.known after.known
+  pub directory_ids : after.directory_ids ≡ before.directory_ids
 
 -- the file of a directory comes after those of the directories above; its patterns match the paths in the directory, and it may not
 -- define macros
-abbrev pub with_directory : File → Files → Files
-with_directory file files =
-    let known = with_registered (kept_list_where false file.bytes.now) files.known in
-    record {
-      globals = files.globals;
-      directories = files.directories ++ buffer_list file.path.now (Some []) false file.bytes.now known ∷ [];
-      directory_ids = files.directory_ids ++ free_id files.known.active ∷ [];
-      known = known;
-    }
+pub record EntersDirectory (file : File) (before after : Files) : Type 0 where
+  pub globals : after.globals ≡ before.globals
+  pub directories : after.directories
+      ≡ before.directories ++ buffer_list file.path.now (Some []) false file.bytes.now after.known ∷ []
+  pub list_id : ℕ
+  pub registered : RegistersAs list_id (kept_list_where false file.bytes.now) before.known after.known
+  pub directory_ids : after.directory_ids ≡ before.directory_ids ++ list_id ∷ []
 
 -- all but the last
 abbrev pub all_but_last : {X : Type 0} → List X → List X
@@ -64,8 +59,10 @@ without_last_directory files =
     }
 
 -- the file of a directory is added and removed
-abbrev pub after_visit : File → Files → Files
-after_visit file files = without_last_directory (with_directory file files)
+pub record VisitsDirectory (file : File) (before after : Files) : Type 0 where
+  pub entered : Files
+  pub enters : EntersDirectory file before entered
+  pub left : after ≡ without_last_directory entered
 
 -- the names of the question, for its path, which is no directory: the lists of directories take precedence, so they come last
 abbrev pub lookup : Question → Files → Lookup

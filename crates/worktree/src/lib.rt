@@ -4,7 +4,7 @@
 
 ghost use Rattle.std.specs.Prelude.{◌≡◌, ◌⊎◌, OnOk, OnErr};
 ghost use Rattle.gix_attributes.specs.Lookups.{OfTheOnlyTable, ReturnsAnswers, setting_in};
-ghost use Rattle.worktree.specs.Worktrees.{after_visit, lookup, no_attributes_files, with_directory, with_global_file, without_last_directory};
+ghost use Rattle.worktree.specs.Worktrees.{AddsGlobalFile, EntersDirectory, VisitsDirectory, lookup, no_attributes_files, without_last_directory};
 
 use bstr::BStr;
 use gix_attributes::Search;
@@ -70,7 +70,7 @@ impl Worktree {
     ///
     /// If memory runs out. Nothing changes then.
     pub fn add_global(&mut self, alloc: Global, file: File<'_>) -> Result<(), AllocError>
-        ensures added { OnOk result (self.new ≡ with_global_file file.entry self.old) }
+        ensures added { OnOk result (AddsGlobalFile file.entry self.old self.new) }
         ensures refused { OnErr result (self.new ≡ self.old) }
     {
         let source = String::from_str(alloc, file.path)?;
@@ -99,12 +99,11 @@ impl Worktree {
         question: Question<'_>,
         out: &mut Outcome,
     ) -> Result<(), AllocError>
-        ensures answers { OnOk result (
-            let q = lookup question.entry (with_directory file.entry self.old) in
-            OfTheOnlyTable (setting_in q) (ReturnsAnswers q out.new)) }
-        ensures left { OnOk result (self.new ≡ after_visit file.entry self.old) }
+        ensures answers { OnOk result ((visit : VisitsDirectory file.entry self.old self.new)
+            × (let q = lookup question.entry visit.entered in
+            OfTheOnlyTable (setting_in q) (ReturnsAnswers q out.new))) }
         ensures refused { OnErr result ((self.new ≡ self.old)
-            ⊎ (self.new ≡ after_visit file.entry self.old)) }
+            ⊎ VisitsDirectory file.entry self.old self.new) }
         ensures directories { self.new.directories ≡ self.old.directories }
         ensures globals { self.new.globals ≡ self.old.globals }
     {
@@ -120,7 +119,7 @@ impl Worktree {
     ///
     /// If memory runs out. Nothing changes then.
     pub fn enter(&mut self, alloc: Global, file: File<'_>) -> Result<(), AllocError>
-        ensures entered { OnOk result (self.new ≡ with_directory file.entry self.old) }
+        ensures entered { OnOk result (EntersDirectory file.entry self.old self.new) }
         ensures refused { OnErr result (self.new ≡ self.old) }
     {
         let source = String::from_str(alloc, file.path)?;

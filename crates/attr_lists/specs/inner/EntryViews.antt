@@ -1,14 +1,12 @@
 -- Views of names and of their entries (own).
-use Rattle.std.specs.Prelude.{◌≡◌, ℕ, ◌<◌, Bool, true, List, [], length, map, slice_index_or}
-use Rattle.std.specs.Prelude.{unwrap_or, option_map, All, IsTrue}
-use Rattle.std.specs.List.{list_any}
+use Rattle.std.specs.Prelude.{◌≡◌, ℕ, ◌<◌, List, [], length, map, slice_index_or, All, IsTrue}
+use Rattle.std.specs.List.Sorted.{IsNonDecreasingBy}
 use Rattle.attr_text.specs.Names.{is_valid_name}
 use Rattle.attr_glob.specs.declared.search.pattern.Mapping.{Mapping}
 use Rattle.attr_lists.specs.declared.name_table.entry.Definition.{Definition}
 use Rattle.attr_lists.specs.declared.name_table.entry.NameEntry.{NameEntry}
-use Rattle.attr_lists.specs.Definitions.{is_of_list}
 use Rattle.attr_lists.specs.ListViews.{Entry, entries_view}
-use Rattle.attr_lists.specs.Numbers.{number_of, numbered_lines}
+use Rattle.attr_lists.specs.Numbers.{numbered_lines}
 use Rattle.attr_lists.specs.declared.types.Value.{Value}
 use Rattle.attr_lists.specs.Collections.{MacroDefinition}
 
@@ -35,14 +33,13 @@ all_definitions entries = map definitions_view entries
 abbrev pub definitions_at : List NameEntry → ℕ → List MacroDefinition
 definitions_at entries number = slice_index_or (all_definitions entries) number []
 
--- the definitions of a name, none if it is not among the names
-abbrev pub definitions_by : List (List ℕ) → List NameEntry → List ℕ → List MacroDefinition
-definitions_by names entries name = unwrap_or (option_map (definitions_at entries) (number_of names name)) []
+-- the list ids of the definitions don't fall
+abbrev pub AreInListOrder : List MacroDefinition → Type 0
+AreInListOrder definitions = IsNonDecreasingBy (λ d. d.list_id) definitions
 
--- the list has a definition of the macro that the line defines
-abbrev pub is_defined_in : ℕ → List (List ℕ) → List NameEntry → Entry → Bool
-is_defined_in list_id names entries line =
-    unwrap_or (option_map (λ _. list_any (is_of_list list_id) (definitions_by names entries line.pattern.text)) line.macro) true
+-- the same for each name
+abbrev pub AreAllInOrder : List NameEntry → Type 0
+AreAllInOrder entries = (number : ℕ) → AreInListOrder (definitions_at entries number)
 
 -- each part of the entry has this number, and the name has no body without a definition
 pub record IsEntry (number : ℕ) (entry : NameEntry) : Type 0 where

@@ -1,26 +1,37 @@
--- The macros that the registered lists define, line by line (own).
-use Rattle.std.specs.Prelude.{◌≡◌, ◌≢◌, ℕ, ◌==◌, true, false, List, [], map, filter, slice_index_or, unwrap_or, option_map, Vec, All}
+-- The lists that are registered, each with the macros that its lines define (own).
+use Rattle.std.specs.Prelude.{◌≡◌, ◌<◌, ℕ, false, List, [], map, slice_get, Some, All, IfSome, unwrap_or, option_map}
+use Rattle.std.specs.List.{AllPairs}
 use Rattle.std.specs.BTreeSet.{BTreeSet, contains}
 use Rattle.std.specs.Ordering.{nat_cmp}
-use Rattle.attr_lists.specs.Collections.{Collection}
-use Rattle.attr_lists.specs.Definitions.{bodies_of_list, definitions_of, is_active}
+use Rattle.attr_lists.specs.Collections.{NumberedBody, RegisteredList}
+use Rattle.attr_lists.specs.Definitions.{bodies_named, bodies_of_number}
+use Rattle.attr_lists.specs.ListViews.{Entry}
 use Rattle.attr_lists.specs.Numbers.{number_of}
-use Rattle.attr_lists.specs.declared.name_table.entry.NameEntry.{NameEntry}
+use Rattle.attr_lists.specs.declared.name_table.registered.ListMacros.{ListMacros}
 use Rattle.attr_lists.specs.declared.types.Metadata.{Metadata}
 use Rattle.attr_lists.specs.declared.types.TrackedAssignment.{TrackedAssignment}
-use Rattle.attr_lists.specs.inner.EntryViews.{definitions_at}
-
--- the body that a line defines for the name with a number
-pub record NumberedBody : Type 0 where
-  pub number : ℕ
-  pub body : List TrackedAssignment
 
 abbrev pub numbered_body : Metadata → NumberedBody
 numbered_body m = record { number = m.id.0; body = m.macro_attributes.items }
 
--- the bodies of this number, line by line
-abbrev pub bodies_of_number : ℕ → List NumberedBody → List (List TrackedAssignment)
-bodies_of_number number list = map (λ b. b.body) (filter (λ b. b.number == number) list)
+abbrev pub registered_view : ListMacros → RegisteredList
+registered_view list = record { list_id = list.list_id; macros = map numbered_body list.macros.items }
+
+-- the lists that are registered
+abbrev pub registered_views : List ListMacros → List RegisteredList
+registered_views lists = map registered_view lists
+
+-- each list id is greater than those before it
+abbrev pub AreAscending : List RegisteredList → Type 0
+AreAscending lists = AllPairs (λ x y. x.list_id < y.list_id) lists
+
+-- this list id is greater than those of the lists
+abbrev pub IsAbove : ℕ → List RegisteredList → Type 0
+IsAbove list_id lists = All (λ l. l.list_id < list_id) lists
+
+-- the list with this list id has this index
+abbrev pub IsIndexOf : ℕ → List RegisteredList → ℕ → Type 0
+IsIndexOf list_id lists index = (list : RegisteredList) × (slice_get lists index ≡ Some list) × (list.list_id ≡ list_id)
 
 -- the list has no body of a number that isn't among these
 abbrev pub ListsBodies : BTreeSet ℕ → List NumberedBody → Type 0
@@ -30,21 +41,14 @@ ListsBodies numbers list = (number : ℕ) → contains nat_cmp numbers number �
 abbrev pub bodies_of_name : List (List ℕ) → List NumberedBody → List ℕ → List (List TrackedAssignment)
 bodies_of_name names list name = unwrap_or (option_map (λ number. bodies_of_number number list) (number_of names name)) []
 
--- the bodies of each list
-abbrev pub all_registered : {A : Type 0} → List (Vec Metadata A) → List (List NumberedBody)
-all_registered registered = map (λ list. map numbered_body list.items) registered
+-- the name has the same bodies in the list and in the lines
+abbrev pub AgreesOn : List (List ℕ) → List NumberedBody → List Entry → List ℕ → Type 0
+AgreesOn names list lines name = bodies_of_name names list name ≡ bodies_named name lines
 
--- the bodies of the list with this list id
-abbrev pub registered_at : {A : Type 0} → List (Vec Metadata A) → ℕ → List NumberedBody
-registered_at registered list_id = slice_index_or (all_registered registered) list_id []
+-- so does the name with this number, if there is one
+abbrev pub AgreesAt : List (List ℕ) → List NumberedBody → List Entry → ℕ → Type 0
+AgreesAt names list lines number = (name : List ℕ) → slice_get names number ≡ Some name → AgreesOn names list lines name
 
--- the list has no definition of another name than these
-abbrev pub ListsNames : ℕ → List NumberedBody → List NameEntry → Type 0
-ListsNames list_id list entries =
-    (number : ℕ) → All (λ b. b.number ≢ number) list → bodies_of_list list_id (definitions_at entries number) ≡ []
-
--- the definitions of each list that is registered are those that its lines had then
-abbrev pub AreRegistered : {A : Type 0} → List (Vec Metadata A) → Collection → Type 0
-AreRegistered registered table =
-    (list_id number : ℕ) → is_active table.active list_id ≡ true
-    → bodies_of_list list_id (definitions_of table number) ≡ bodies_of_number number (registered_at registered list_id)
+-- so does the macro that the line defines, if it defines one
+abbrev pub LineAgrees : List (List ℕ) → List NumberedBody → List Entry → Entry → Type 0
+LineAgrees names list lines line = IfSome line.macro (λ _. AgreesOn names list lines line.pattern.text)

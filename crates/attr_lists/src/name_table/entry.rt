@@ -1,19 +1,14 @@
 //! The entries of names: their definitions as macros.
-ghost use Rattle.std.specs.Prelude.{◌≡◌, ◌≢◌, true, ◌≤◌, ◌<◌, ◌↔◌, ◌==◌, not, filter, ◌++◌, List, [], ◌∷◌, ℕ, length, map, bytes_eq, slice_index_or, option_map, MatchOption, IfOk, OnOk, OnErr, IsTrue, IsFalse, ◌+◌};
+ghost use Rattle.std.specs.Prelude.{◌≡◌, ◌≢◌, ◌≤◌, ◌==◌, not, filter, ◌++◌, [], ◌∷◌, ℕ, length, map, IfOk, OnOk, OnErr};
 ghost use Rattle.std.specs.Bool.{OnFalse};
-ghost use Rattle.std.specs.List.{IsDistinct, list_any, list_all};
-ghost use Rattle.std.specs.Option.{option_to_list};
-ghost use Rattle.attr_lists.specs.Definitions.{bodies_named, bodies_of_list, definition_of, is_of_list, of_other_lists, last_body};
-ghost use Rattle.attr_lists.specs.inner.EntrySteps.{AddsDefinitions, KeepsOtherDefinitions, RemovesAsMany, StaysWithout, PopsOwn, HasBodies, AgreesOn};
-ghost use Rattle.attr_lists.specs.inner.EntryViews.{definition_view, definitions_view, is_defined_in, all_definitions, definitions_at, definitions_by, AreValid, IsEntry, AreEntries};
-ghost use Rattle.attr_lists.specs.inner.Registered.{numbered_body, registered_at, ListsNames};
-ghost use Rattle.attr_lists.specs.ListViews.{entry_view, entries_view};
+ghost use Rattle.std.specs.List.{remove_range};
+ghost use Rattle.std.specs.List.Sorted.{IsNonDecreasingBy};
+ghost use Rattle.attr_lists.specs.Definitions.{definition_of, of_other_lists, last_body};
+ghost use Rattle.attr_lists.specs.inner.EntrySteps.{AddsDefinitions, KeepsOtherDefinitions, RemovesListed};
+ghost use Rattle.attr_lists.specs.inner.EntryViews.{definition_view, definitions_view, all_definitions, definitions_at, AreAllInOrder, AreEntries, AreInListOrder, IsEntry};
+ghost use Rattle.attr_lists.specs.inner.Registered.{numbered_body};
 
-use crate::name_table::name_set::NameSet;
-use crate::name_table::numbers::number_of_text;
-use crate::name_table::registered::{list_at, sort_by_number};
-use crate::types::{Assignments, AttributeId, Metadata, TrackedAssignment, Value};
-use attr_glob::search::pattern::Mapping;
+use crate::types::{AttributeId, Metadata};
 use std::alloc::{AllocError, Global};
 
 /// The definitions of a name.
@@ -75,62 +70,23 @@ impl NameEntry {
         Ok(())
     }
 
-    // Removes the definitions of a list.
+    // Removes the definitions of a list. They stand next to one another, since definitions are in the order of list ids.
     fn remove(&mut self, list_id: usize)
+        requires { AreInListOrder (definitions_view self.old) }
+        ensures definitions { definitions_view self.new
+            ≡ of_other_lists list_id (definitions_view self.old) }
+        ensures entry { (number : ℕ) → IsEntry number self.old → IsEntry number self.new }
+    {
+        remove_run(&mut self.definitions, list_id);
+    }
+
+    // Removes the definitions of a list, in any order. This looks at each definition.
+    fn retain_others(&mut self, list_id: usize)
         ensures definitions { definitions_view self.new
             ≡ of_other_lists list_id (definitions_view self.old) }
         ensures entry { (number : ℕ) → IsEntry number self.old → IsEntry number self.new }
     {
         retain_others(&mut self.definitions, list_id);
-    }
-
-    // Removes the latest definition if it is the list's. Whether it was.
-    fn remove_latest(&mut self, list_id: usize) -> bool
-        ensures removed { IsTrue result →
-            length (bodies_of_list list_id (definitions_view self.new)) + 1
-            ≡ length (bodies_of_list list_id (definitions_view self.old)) }
-        ensures others { of_other_lists list_id (definitions_view self.new)
-            ≡ of_other_lists list_id (definitions_view self.old) }
-        ensures without { bodies_of_list list_id (definitions_view self.old) ≡ [] →
-            bodies_of_list list_id (definitions_view self.new) ≡ [] }
-        ensures entry { (number : ℕ) → IsEntry number self.old → IsEntry number self.new }
-    {
-        pop_of(&mut self.definitions, list_id)
-    }
-
-    // Whether the list with this list id defines the name.
-    fn is_defined_by(&self, list_id: usize) -> bool
-        ensures { result ≡ list_any (is_of_list list_id) (definitions_view self.now) }
-    {
-        is_any_of(&self.definitions, list_id)
-    }
-
-    // Whether the definitions under the list id are those of the list, if there are any.
-    fn agrees(&self, list_id: usize, name: &str, mappings: &[Mapping<Value>]) -> bool
-        ensures { IsTrue result
-            ↔ AgreesOn list_id name.now (entries_view mappings.now) (definitions_view self.now) }
-    {
-        !self.is_defined_by(list_id) || self.has_bodies(list_id, name, mappings)
-    }
-
-    // Whether the definitions under the list id are those of the list.
-    fn has_bodies(&self, list_id: usize, name: &str, mappings: &[Mapping<Value>]) -> bool
-        ensures { IsTrue result
-            ↔ HasBodies list_id name.now (entries_view mappings.now) (definitions_view self.now) }
-    {
-        let mut rest = mappings;
-        for definition in &self.definitions {
-            if definition.list_id == list_id {
-                let Some((body, others)) = first_body(name, rest) else {
-                    return false;
-                };
-                if !is_same(&definition.metadata.macro_attributes, body) {
-                    return false;
-                }
-                rest = others;
-            }
-        }
-        first_body(name, rest).is_none()
     }
 
     fn clone(&self, alloc: Global) -> Result<NameEntry, AllocError>
@@ -167,69 +123,39 @@ fn clone_definitions(
     Ok(copy)
 }
 
-fn is_any_of(definitions: &[Definition], list_id: usize) -> bool
-    ensures { result ≡ list_any (λ d. d.list_id == list_id) definitions.now }
+// Removes the definitions of a list, if list ids don't fall.
+fn remove_run(definitions: &mut Vec<Definition>, list_id: usize)
+    requires { IsNonDecreasingBy (λ d. d.list_id) definitions.old.items }
+    ensures { definitions.new.items
+        ≡ filter (λ d. not (d.list_id == list_id)) definitions.old.items }
 {
-    definitions
-        .iter()
-        .any(|definition| definition.list_id == list_id)
+    let (start, end) = run_of(definitions, list_id);
+    remove_between(definitions, start, end);
 }
 
-/// Whether the items are the same.
-pub(super) fn is_same(x: &[TrackedAssignment], y: &[TrackedAssignment]) -> bool
-    ensures { IsTrue result ↔ (x.now ≡ y.now) }
+// The indices where the definitions of a list begin and end, if list ids don't fall.
+fn run_of(definitions: &[Definition], list_id: usize) -> (usize, usize)
+    requires { IsNonDecreasingBy (λ d. d.list_id) definitions.now }
+    ensures order { result.0 ≤ result.1 }
+    ensures end { result.1 ≤ length definitions.now }
+    ensures others { remove_range definitions.now result.0 result.1
+        ≡ filter (λ d. not (d.list_id == list_id)) definitions.now }
 {
-    x == y
+    let start = definitions.partition_point(|definition| definition.list_id < list_id);
+    let end = definitions.partition_point(|definition| definition.list_id <= list_id);
+    (start, end)
 }
 
-// The body in the first line that defines the name, and the lines after it.
-fn first_body<'a>(
-    name: &str,
-    mappings: &'a [Mapping<Value>],
-) -> Option<(&'a Assignments, &'a [Mapping<Value>])>
-    ensures { MatchOption result
-        (bodies_named name.now (entries_view mappings.now) ≡ [])
-        (λ r. bodies_named name.now (entries_view mappings.now)
-        ≡ r.0.now.items ∷ bodies_named name.now (entries_view r.1.now)) }
+// Removes the definitions from an index to another one.
+fn remove_between(definitions: &mut Vec<Definition>, start: usize, end: usize)
+    requires start { start ≤ end }
+    requires end { end ≤ length definitions.old.items }
+    ensures { definitions.new.items ≡ remove_range definitions.old.items start end }
 {
-    for (index, mapping) in mappings.iter().enumerate() {
-        if let Some(body) = body_of(name, mapping) {
-            return Some((body, &mappings[index + 1..]));
-        }
-    }
-    None
-}
-
-fn body_of<'a>(name: &str, mapping: &'a Mapping<Value>) -> Option<&'a Assignments>
-    ensures { bodies_named name.now (entry_view mapping.now ∷ [])
-        ≡ option_to_list (option_map (λ body. body.now.items) result) }
-{
-    match &mapping.value {
-        Value::MacroAssignments { assignments, .. } if has_text(&mapping.pattern.text, name) => {
-            Some(assignments)
-        }
-        _ => None,
-    }
-}
-
-/// Whether the text is this name.
-pub(super) fn has_text(text: &[u8], name: &str) -> bool
-    ensures { result ≡ bytes_eq name.now text.now }
-{
-    name.as_bytes() == text
-}
-
-// Removes the last definition if it is the list's. Whether it was.
-fn pop_of(definitions: &mut Vec<Definition>, list_id: usize) -> bool
-    ensures popped { IsTrue result → PopsOwn list_id definitions.old.items definitions.new.items }
-    ensures kept { IsFalse result → definitions.new.items ≡ definitions.old.items }
-{
-    match definitions.last() {
-        Some(definition) if definition.list_id == list_id => {
-            definitions.pop();
-            true
-        }
-        _ => false,
+    if end == definitions.len() {
+        definitions.truncate(start);
+    } else {
+        definitions.drain(start..end);
     }
 }
 
@@ -299,228 +225,39 @@ fn define(
 }
 
 /// Removes all definitions of a list that is partly added. This looks at all names.
-pub(super) fn remove_definitions(entries: &mut [NameEntry], list_id: usize)
+pub(super) fn take_back(entries: &mut [NameEntry], list_id: usize)
     ensures definitions { all_definitions entries.new
         ≡ map (of_other_lists list_id) (all_definitions entries.old) }
     ensures entries { AreEntries entries.old → AreEntries entries.new }
 {
     for entry in entries.iter_mut() {
-        entry.remove(list_id);
+        entry.retain_others(list_id);
     }
 }
 
-/// Removes the definitions of a registered list. This takes a step for each line. If a list that was added later defines one of
-/// the names too, it also sorts the list's macros in `registered`, and takes a step for each definition of each of them.
-pub(super) fn remove_list(
-    names: &NameSet,
-    entries: &mut [NameEntry],
-    registered: &mut [Vec<Metadata>],
-    list_id: usize,
-    mappings: &[Mapping<Value>],
-)
-    requires valid { AreValid names.now }
-    requires distinct { IsDistinct bytes_eq names.now }
-    requires counted { length entries.old ≡ length names.now }
-    requires held { (name : List ℕ) → HasBodies list_id name (entries_view mappings.now)
-        (definitions_by names.now entries.old name) }
-    requires listed { ListsNames list_id (registered_at registered.old list_id) entries.old }
-    ensures definitions { all_definitions entries.new
-        ≡ map (of_other_lists list_id) (all_definitions entries.old) }
-    ensures entries { AreEntries entries.old → AreEntries entries.new }
-    ensures others { (other : ℕ) → other ≢ list_id →
-        registered_at registered.new other ≡ registered_at registered.old other }
-{
-    if !remove_latest(names, entries, list_id, mappings) {
-        sort_by_number(registered, list_id);
-        remove_registered(entries, list_id, list_at(registered, list_id));
-    }
-}
-
-// Removes all definitions of a list. They are of the names of `list`, the macros that are registered. A macro of the same name
-// as the one before is passed over.
-fn remove_registered(entries: &mut [NameEntry], list_id: usize, list: &[Metadata])
-    requires { ListsNames list_id (map numbered_body list.now) entries.old }
-    ensures definitions { all_definitions entries.new
-        ≡ map (of_other_lists list_id) (all_definitions entries.old) }
+/// Removes the definitions that a list has of the names of these macros. This takes a step for each macro, and moves the
+/// definitions of later lists.
+pub(super) fn remove_list(entries: &mut [NameEntry], list_id: usize, list: &[Metadata])
+    requires { AreAllInOrder entries.old }
+    ensures removed { RemovesListed list_id (map numbered_body list.now) entries.old entries.new }
     ensures entries { AreEntries entries.old → AreEntries entries.new }
 {
-    for (index, known) in list.iter().enumerate() {
-        let number = known.id.0;
-        if index == 0 || list[index - 1].id.0 != number {
-            remove_at(entries, list_id, number);
-        }
+    for known in list {
+        remove_at(entries, list_id, known.id.0);
     }
 }
 
 // Removes the definitions that a list has of the name with this number, if there is one.
 fn remove_at(entries: &mut [NameEntry], list_id: usize, number: usize)
-    ensures gone { bodies_of_list list_id (definitions_at entries.new number) ≡ [] }
-    ensures without { StaysWithout list_id entries.old entries.new }
-    ensures others { KeepsOtherDefinitions list_id entries.old entries.new }
+    requires { AreAllInOrder entries.old }
+    ensures here { definitions_at entries.new number
+        ≡ of_other_lists list_id (definitions_at entries.old number) }
+    ensures others { (other : ℕ) → other ≢ number →
+        definitions_at entries.new other ≡ definitions_at entries.old other }
     ensures entries { AreEntries entries.old → AreEntries entries.new }
 {
     if number < entries.len() {
         entries[number].remove(list_id);
-    }
-}
-
-// Removes a definition for each line that defines a macro, as long as the latest of its name is the list's. Whether all were.
-fn remove_latest(
-    names: &NameSet,
-    entries: &mut [NameEntry],
-    list_id: usize,
-    mappings: &[Mapping<Value>],
-) -> bool
-    requires { AreValid names.now }
-    ensures removed { IsTrue result → RemovesAsMany list_id names.now
-        (entries_view mappings.now) entries.old entries.new }
-    ensures others { KeepsOtherDefinitions list_id entries.old entries.new }
-    ensures without { StaysWithout list_id entries.old entries.new }
-    ensures entries { AreEntries entries.old → AreEntries entries.new }
-{
-    for mapping in mappings {
-        if !remove_line(names, entries, list_id, mapping) {
-            return false;
-        }
-    }
-    true
-}
-
-fn remove_line(
-    names: &NameSet,
-    entries: &mut [NameEntry],
-    list_id: usize,
-    mapping: &Mapping<Value>,
-) -> bool
-    requires { AreValid names.now }
-    ensures removed { IsTrue result → RemovesAsMany list_id names.now
-        (entry_view mapping.now ∷ []) entries.old entries.new }
-    ensures others { KeepsOtherDefinitions list_id entries.old entries.new }
-    ensures without { StaysWithout list_id entries.old entries.new }
-    ensures entries { AreEntries entries.old → AreEntries entries.new }
-{
-    let Value::MacroAssignments { .. } = &mapping.value else {
-        return true;
-    };
-    let Some(number) = number_of_text(names, &mapping.pattern.text) else {
-        return true;
-    };
-    if number >= entries.len() {
-        return false;
-    }
-    entries[number].remove_latest(list_id)
-}
-
-/// Whether, for each name, the definitions under the list id are those of the lines. `list` has the macros that are registered
-/// under it. For each line that defines a macro this takes a step for each definition of the macro, and for each macro of `list`
-/// one for each of its definitions and one for each line.
-pub(super) fn has_definitions(
-    names: &NameSet,
-    entries: &[NameEntry],
-    list_id: usize,
-    list: &[Metadata],
-    mappings: &[Mapping<Value>],
-) -> bool
-    requires valid { AreValid names.now }
-    requires distinct { IsDistinct bytes_eq names.now }
-    requires counted { length entries.now ≡ length names.now }
-    requires listed { ListsNames list_id (map numbered_body list.now) entries.now }
-    ensures { IsTrue result ↔ ((name : List ℕ) →
-        HasBodies list_id name (entries_view mappings.now)
-        (definitions_by names.now entries.now name)) }
-{
-    are_defined(names, entries, list_id, mappings)
-        && all_agree(names, entries, list_id, list, mappings)
-}
-
-// Whether the list has a definition of each macro that the lines define.
-fn are_defined(
-    names: &NameSet,
-    entries: &[NameEntry],
-    list_id: usize,
-    mappings: &[Mapping<Value>],
-) -> bool
-    requires { AreValid names.now }
-    ensures { result ≡ list_all
-        (λ m. is_defined_in list_id names.now entries.now (entry_view m))
-        mappings.now }
-{
-    mappings
-        .iter()
-        .all(|mapping| is_defined(names, entries, list_id, mapping))
-}
-
-fn is_defined(
-    names: &NameSet,
-    entries: &[NameEntry],
-    list_id: usize,
-    mapping: &Mapping<Value>,
-) -> bool
-    requires { AreValid names.now }
-    ensures { result
-        ≡ is_defined_in list_id names.now entries.now (entry_view mapping.now) }
-{
-    match &mapping.value {
-        Value::MacroAssignments { .. } => {
-            has_definition(names, entries, list_id, &mapping.pattern.text)
-        }
-        Value::Assignments(_) => true,
-    }
-}
-
-// Whether the list has a definition of the name.
-fn has_definition(names: &NameSet, entries: &[NameEntry], list_id: usize, name: &[u8]) -> bool
-    requires { AreValid names.now }
-    ensures { result ≡ list_any (is_of_list list_id)
-        (definitions_by names.now entries.now name.now) }
-{
-    match number_of_text(names, name) {
-        Some(number) => number < entries.len() && entries[number].is_defined_by(list_id),
-        None => false,
-    }
-}
-
-// Whether each name that the list defines has the definitions of the lines. The names are those of `list`, the macros that are
-// registered. A macro of the same name as the one before is passed over.
-fn all_agree(
-    names: &NameSet,
-    entries: &[NameEntry],
-    list_id: usize,
-    list: &[Metadata],
-    mappings: &[Mapping<Value>],
-) -> bool
-    requires counted { length entries.now ≡ length names.now }
-    requires listed { ListsNames list_id (map numbered_body list.now) entries.now }
-    ensures { IsTrue result ↔ ((number : ℕ) → number < length entries.now →
-        AgreesOn list_id (slice_index_or names.now number [])
-        (entries_view mappings.now) (definitions_at entries.now number)) }
-{
-    for (index, known) in list.iter().enumerate() {
-        let number = known.id.0;
-        let is_new = index == 0 || list[index - 1].id.0 != number;
-        if is_new && !agrees_at(names, entries, list_id, number, mappings) {
-            return false;
-        }
-    }
-    true
-}
-
-// Whether the name with this number has the definitions of the lines, if there is one that the list defines.
-fn agrees_at(
-    names: &NameSet,
-    entries: &[NameEntry],
-    list_id: usize,
-    number: usize,
-    mappings: &[Mapping<Value>],
-) -> bool
-    requires { length entries.now ≡ length names.now }
-    ensures { IsTrue result ↔ (number < length entries.now →
-        AgreesOn list_id (slice_index_or names.now number [])
-        (entries_view mappings.now) (definitions_at entries.now number)) }
-{
-    match names.name(number) {
-        Some(name) => entries[number].agrees(list_id, name, mappings),
-        None => true,
     }
 }
 

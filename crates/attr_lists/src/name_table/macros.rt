@@ -2,15 +2,12 @@
 
 ghost use Rattle.std.specs.Prelude.{◌≡◌, [], OnOk, map};
 ghost use Rattle.std.specs.Bool.{OnFalse};
-ghost use Rattle.attr_lists.specs.inner.EntryViews.{definitions_at, AreValid};
+ghost use Rattle.attr_lists.specs.inner.EntryViews.{definitions_at};
 ghost use Rattle.attr_lists.specs.inner.Registered.{ListsBodies, numbered_body};
 ghost use Rattle.attr_lists.specs.shared.MacroNumbers.{KeepsNumbers, RemovesUndefined};
 
 use crate::name_table::entry::NameEntry;
-use crate::name_table::name_set::NameSet;
-use crate::name_table::numbers::number_of_text;
-use crate::types::{Metadata, Value};
-use attr_glob::search::pattern::Mapping;
+use crate::types::Metadata;
 use std::alloc::AllocError;
 use std::collections::BTreeSet;
 
@@ -32,36 +29,18 @@ pub(super) fn insert_macros(
     Ok(())
 }
 
-/// Removes the numbers of the macros that lines define, if no definition is left.
-pub(super) fn remove_macros(
-    names: &NameSet,
-    entries: &[NameEntry],
-    macros: &mut BTreeSet<usize>,
-    mappings: &[Mapping<Value>],
-)
-    requires { AreValid names.now }
+/// Removes the numbers of the macros of a list, if no definition is left.
+pub(super) fn remove_macros(entries: &[NameEntry], macros: &mut BTreeSet<usize>, list: &[Metadata])
     ensures { RemovesUndefined entries.now macros.old macros.new }
 {
-    for mapping in mappings {
-        remove_macro(names, entries, macros, mapping);
+    for known in list {
+        remove_macro(entries, macros, known.id.0);
     }
 }
 
-fn remove_macro(
-    names: &NameSet,
-    entries: &[NameEntry],
-    macros: &mut BTreeSet<usize>,
-    mapping: &Mapping<Value>,
-)
-    requires { AreValid names.now }
+fn remove_macro(entries: &[NameEntry], macros: &mut BTreeSet<usize>, number: usize)
     ensures { RemovesUndefined entries.now macros.old macros.new }
 {
-    let Value::MacroAssignments { .. } = &mapping.value else {
-        return;
-    };
-    let Some(number) = number_of_text(names, &mapping.pattern.text) else {
-        return;
-    };
     if !is_defined(entries, number) {
         macros.remove(&number);
     }

@@ -1,19 +1,68 @@
-//! The macros that each list defines, line by line, as it was registered.
-ghost use Rattle.std.specs.Prelude.{◌≡◌, ◌≢◌, true, [], ◌∷◌, ◌++◌, ◌<◌, ℕ, List, length, map, slice_get, Some, OnOk, IfOk, IsTrue, bytes_eq};
+//! The lists that are registered, each with the macros that it defines, line by line.
+ghost use Rattle.std.specs.Prelude.{◌≡◌, [], ◌≢◌, ◌↔◌, true, ◌∷◌, ◌++◌, ℕ, List, map, slice_get, Some, All, MatchOption, OnOk, IfOk, IfSome, IsTrue, bytes_eq, option_map};
 ghost use Rattle.std.specs.List.{IsDistinct};
-ghost use Rattle.std.specs.List.Sorted.{IsPermutation};
-ghost use Rattle.attr_lists.specs.Definitions.{bodies_defined, bodies_named};
+ghost use Rattle.std.specs.Option.{option_to_list};
+ghost use Rattle.attr_lists.specs.Definitions.{bodies_named, bodies_of_number, macro_defined, macros_defined};
+ghost use Rattle.attr_lists.specs.Numbers.{numbered};
 ghost use Rattle.attr_lists.specs.KeptLists.{macro_valid, macros_valid};
 ghost use Rattle.attr_lists.specs.ListViews.{entry_view, entries_view};
-ghost use Rattle.attr_lists.specs.inner.EntryViews.{numbered_view};
-ghost use Rattle.attr_lists.specs.inner.Registered.{bodies_of_name, bodies_of_number, numbered_body, registered_at};
+ghost use Rattle.attr_lists.specs.inner.EntryViews.{AreValid, numbered_view};
+ghost use Rattle.attr_lists.specs.inner.Registered.{AgreesAt, AgreesOn, AreAscending, IsAbove, IsIndexOf, LineAgrees, numbered_body, registered_views, registered_view};
 
-use crate::name_table::entry::{has_text, is_same};
 use crate::name_table::name_set::NameSet;
-use crate::name_table::numbers::{id_of, macro_name, numbered_copy};
-use crate::types::{Metadata, TrackedAssignment, Value};
+use crate::name_table::numbers::{id_of, macro_name, number_of_text, numbered_copy};
+use crate::types::{Assignments, Metadata, TrackedAssignment, Value};
 use attr_glob::search::pattern::Mapping;
 use std::alloc::{AllocError, Global};
+
+/// A list that is registered.
+#[derive(Debug, Drop)]
+pub(super) struct ListMacros {
+    /// The id under which it is registered.
+    pub(super) list_id: usize,
+    /// The macros that its lines define, line by line, with the numbers of their names.
+    pub(super) macros: Vec<Metadata>,
+}
+
+impl ListMacros {
+    fn clone(&self, alloc: Global) -> Result<ListMacros, AllocError>
+        ensures { IfOk result (λ copy. registered_view copy ≡ registered_view self.now) }
+    {
+        Ok(ListMacros {
+            list_id: self.list_id,
+            macros: clone_macros(alloc, &self.macros)?,
+        })
+    }
+}
+
+/// The index of the list that is registered under the list id, if there is one.
+pub(super) fn index_of(lists: &[ListMacros], list_id: usize) -> Option<usize>
+    requires { AreAscending (registered_views lists.now) }
+    ensures { MatchOption result
+        (All (λ list. list.list_id ≢ list_id) (registered_views lists.now))
+        (IsIndexOf list_id (registered_views lists.now)) }
+{
+    let at = lists.partition_point(|list| list.list_id < list_id);
+    let Some(list) = lists.get(at) else {
+        return None;
+    };
+    if list.list_id == list_id {
+        Some(at)
+    } else {
+        None
+    }
+}
+
+/// A list id above those of all lists, which ascend. None if the last one is `usize::MAX`.
+pub(super) fn next_id(lists: &[ListMacros]) -> Option<usize>
+    requires { AreAscending (registered_views lists.now) }
+    ensures { IfSome result (λ list_id. IsAbove list_id (registered_views lists.now)) }
+{
+    match lists.last() {
+        Some(list) => list.list_id.checked_add(1),
+        None => Some(0),
+    }
+}
 
 /// The macros that lines define, with the numbers of their names.
 ///
@@ -26,9 +75,8 @@ pub(super) fn numbered_macros(
     mappings: &[Mapping<Value>],
 ) -> Result<Vec<Metadata>, AllocError>
     requires { macros_valid (entries_view mappings.now) ≡ true }
-    ensures { IfOk result (λ list. (number : ℕ) →
-        bodies_of_number number (map numbered_body list.items)
-        ≡ bodies_defined number (numbered_view names.now mappings.now)) }
+    ensures { IfOk result (λ list. map numbered_body list.items
+        ≡ macros_defined (numbered_view names.now mappings.now)) }
 {
     let mut list = Vec::new(alloc);
     for mapping in mappings {
@@ -44,10 +92,9 @@ fn push_macro(
     mapping: &Mapping<Value>,
 ) -> Result<(), AllocError>
     requires { macro_valid (entry_view mapping.now) ≡ true }
-    ensures { OnOk result ((number : ℕ) →
-        bodies_of_number number (map numbered_body list.new.items)
-        ≡ bodies_of_number number (map numbered_body list.old.items)
-        ++ bodies_defined number (numbered_view names.now (mapping.now ∷ []))) }
+    ensures { OnOk result (map numbered_body list.new.items
+        ≡ map numbered_body list.old.items
+        ++ macro_defined (numbered names.now (entry_view mapping.now))) }
 {
     if let Value::MacroAssignments { assignments, .. } = &mapping.value {
         list.push(Metadata {
@@ -58,72 +105,23 @@ fn push_macro(
     Ok(())
 }
 
-/// Puts the macros of a list under its list id.
-///
-/// # Errors
-///
-/// If memory runs out.
-pub(super) fn register(
-    alloc: Global,
-    registered: &mut Vec<Vec<Metadata>>,
-    list_id: usize,
-    list: Vec<Metadata>,
-) -> Result<(), AllocError>
-    ensures own { OnOk result
-        (registered_at registered.new.items list_id ≡ map numbered_body list.items) }
-    ensures others { (other : ℕ) → other ≢ list_id →
-        registered_at registered.new.items other ≡ registered_at registered.old.items other }
+/// Whether, for each name, the macros are those that the lines define, in their order. Lines that are as registered take a step each.
+/// Others take, for each macro and each line that defines one, a step for each macro and each line.
+pub(super) fn has_lines(names: &NameSet, list: &[Metadata], mappings: &[Mapping<Value>]) -> bool
+    requires valid { AreValid names.now }
+    requires distinct { IsDistinct bytes_eq names.now }
+    ensures { IsTrue result ↔ ((name : List ℕ) →
+        AgreesOn names.now (map numbered_body list.now) (entries_view mappings.now) name) }
 {
-    make_room(alloc, registered, list_id)?;
-    registered[list_id] = list;
-    Ok(())
+    are_lines_of(names, list, mappings)
+        || (macros_agree(names, list, mappings) && lines_agree(names, list, mappings))
 }
 
-// Makes room for the macros of the list with this list id.
-fn make_room(
-    alloc: Global,
-    registered: &mut Vec<Vec<Metadata>>,
-    list_id: usize,
-) -> Result<(), AllocError>
-    ensures room { OnOk result (list_id < length registered.new.items) }
-    ensures same { (other : ℕ) →
-        registered_at registered.new.items other ≡ registered_at registered.old.items other }
-{
-    while registered.len() <= list_id {
-        registered.push(Vec::new(alloc))?;
-    }
-    Ok(())
-}
-
-/// The macros that are registered under the list id.
-pub(super) fn list_at(registered: &[Vec<Metadata>], list_id: usize) -> &[Metadata]
-    ensures { map numbered_body result.now ≡ registered_at registered.now list_id }
-{
-    match registered.get(list_id) {
-        Some(list) => list,
-        None => &[],
-    }
-}
-
-/// Sorts the macros that are registered under the list id by their numbers. They are not line by line then, so this is for a
-/// list that is removed.
-pub(super) fn sort_by_number(registered: &mut [Vec<Metadata>], list_id: usize)
-    ensures own { IsPermutation (registered_at registered.old list_id)
-        (registered_at registered.new list_id) }
-    ensures others { (other : ℕ) → other ≢ list_id →
-        registered_at registered.new other ≡ registered_at registered.old other }
-{
-    if list_id < registered.len() {
-        registered[list_id].sort_unstable_by_key(|known| known.id.0);
-    }
-}
-
-/// Whether the lines define these macros, in their order and with their bodies. This takes a step for each line.
-pub(super) fn are_lines_of(names: &NameSet, list: &[Metadata], mappings: &[Mapping<Value>]) -> bool
+// Whether the lines define these macros, in their order and with their bodies. This takes a step for each line.
+fn are_lines_of(names: &NameSet, list: &[Metadata], mappings: &[Mapping<Value>]) -> bool
     requires distinct { IsDistinct bytes_eq names.now }
     ensures { IsTrue result → (name : List ℕ) →
-        bodies_of_name names.now (map numbered_body list.now) name
-        ≡ bodies_named name (entries_view mappings.now) }
+        AgreesOn names.now (map numbered_body list.now) (entries_view mappings.now) name }
 {
     let mut rest = list;
     for mapping in mappings {
@@ -157,31 +155,157 @@ fn has_name(names: &NameSet, number: usize, text: &[u8]) -> bool
     ensures { IsTrue result → slice_get names.now number ≡ Some text.now }
 {
     match names.name(number) {
-        Some(name) => has_text(text, name),
+        Some(name) => name.as_bytes() == text,
         None => false,
     }
 }
 
-/// A copy of the macros of each list.
+// Whether each macro's name has the same bodies in the list and in the lines.
+fn macros_agree(names: &NameSet, list: &[Metadata], mappings: &[Mapping<Value>]) -> bool
+    requires distinct { IsDistinct bytes_eq names.now }
+    ensures { IsTrue result ↔ All (λ known. AgreesAt names.now (map numbered_body list.now)
+        (entries_view mappings.now) known.id.0) list.now }
+{
+    for known in list {
+        if !agrees_at(names, list, known.id.0, mappings) {
+            return false;
+        }
+    }
+    true
+}
+
+// Whether the name with this number, if there is one, has the same bodies in the list and in the lines.
+fn agrees_at(names: &NameSet, list: &[Metadata], number: usize, mappings: &[Mapping<Value>]) -> bool
+    requires distinct { IsDistinct bytes_eq names.now }
+    ensures { IsTrue result ↔ AgreesAt names.now (map numbered_body list.now)
+        (entries_view mappings.now) number }
+{
+    match names.name(number) {
+        Some(name) => has_bodies(list, number, name.as_bytes(), mappings),
+        None => true,
+    }
+}
+
+// Whether the name of each macro that the lines define has the same bodies in the list and in the lines.
+fn lines_agree(names: &NameSet, list: &[Metadata], mappings: &[Mapping<Value>]) -> bool
+    requires valid { AreValid names.now }
+    ensures { IsTrue result ↔ All (λ m. LineAgrees names.now (map numbered_body list.now)
+        (entries_view mappings.now) (entry_view m)) mappings.now }
+{
+    for mapping in mappings {
+        if !line_agrees(names, list, mapping, mappings) {
+            return false;
+        }
+    }
+    true
+}
+
+// Whether the name of the macro that the line defines, if it defines one, has the same bodies in the list and in the lines.
+fn line_agrees(
+    names: &NameSet,
+    list: &[Metadata],
+    line: &Mapping<Value>,
+    mappings: &[Mapping<Value>],
+) -> bool
+    requires valid { AreValid names.now }
+    ensures { IsTrue result ↔ LineAgrees names.now (map numbered_body list.now)
+        (entries_view mappings.now) (entry_view line.now) }
+{
+    match &line.value {
+        Value::MacroAssignments { .. } => text_agrees(names, list, &line.pattern.text, mappings),
+        Value::Assignments(_) => true,
+    }
+}
+
+// Whether the text, which the lines define as a macro, has the same bodies in the list and in the lines.
+fn text_agrees(names: &NameSet, list: &[Metadata], text: &[u8], mappings: &[Mapping<Value>]) -> bool
+    requires valid { AreValid names.now }
+    ensures { IsTrue result ↔ AgreesOn names.now (map numbered_body list.now)
+        (entries_view mappings.now) text.now }
+{
+    match number_of_text(names, text) {
+        Some(number) => has_bodies(list, number, text, mappings),
+        None => first_body(text, mappings).is_none(),
+    }
+}
+
+// Whether the bodies of the number in the list are those of the name in the lines.
+fn has_bodies(list: &[Metadata], number: usize, name: &[u8], mappings: &[Mapping<Value>]) -> bool
+    ensures { IsTrue result ↔ (bodies_of_number number (map numbered_body list.now)
+        ≡ bodies_named name.now (entries_view mappings.now)) }
+{
+    let mut rest = mappings;
+    for known in list {
+        if known.id.0 == number {
+            let Some((body, others)) = first_body(name, rest) else {
+                return false;
+            };
+            if !is_same(&known.macro_attributes, body) {
+                return false;
+            }
+            rest = others;
+        }
+    }
+    first_body(name, rest).is_none()
+}
+
+// The body in the first line that defines the name, and the lines after it.
+fn first_body<'a>(
+    name: &[u8],
+    mappings: &'a [Mapping<Value>],
+) -> Option<(&'a Assignments, &'a [Mapping<Value>])>
+    ensures { MatchOption result
+        (bodies_named name.now (entries_view mappings.now) ≡ [])
+        (λ r. bodies_named name.now (entries_view mappings.now)
+        ≡ r.0.now.items ∷ bodies_named name.now (entries_view r.1.now)) }
+{
+    for (index, mapping) in mappings.iter().enumerate() {
+        if let Some(body) = body_of(name, mapping) {
+            return Some((body, &mappings[index + 1..]));
+        }
+    }
+    None
+}
+
+fn body_of<'a>(name: &[u8], mapping: &'a Mapping<Value>) -> Option<&'a Assignments>
+    ensures { bodies_named name.now (entry_view mapping.now ∷ [])
+        ≡ option_to_list (option_map (λ body. body.now.items) result) }
+{
+    match &mapping.value {
+        Value::MacroAssignments { assignments, .. } if mapping.pattern.text.as_slice() == name => {
+            Some(assignments)
+        }
+        _ => None,
+    }
+}
+
+// Whether the items are the same.
+fn is_same(x: &[TrackedAssignment], y: &[TrackedAssignment]) -> bool
+    ensures { IsTrue result ↔ (x.now ≡ y.now) }
+{
+    x == y
+}
+
+/// A copy of the lists.
 ///
 /// # Errors
 ///
 /// If memory runs out.
-pub(super) fn clone_registered(
+pub(super) fn clone_lists(
     alloc: Global,
-    registered: &[Vec<Metadata>],
-) -> Result<Vec<Vec<Metadata>>, AllocError>
-    ensures { IfOk result (λ copy. (list_id : ℕ) →
-        registered_at copy.items list_id ≡ registered_at registered.now list_id) }
+    lists: &[ListMacros],
+) -> Result<Vec<ListMacros>, AllocError>
+    ensures { IfOk result (λ copy. registered_views copy.items
+        ≡ registered_views lists.now) }
 {
     let mut copy = Vec::new(alloc);
-    for list in registered {
-        copy.push(clone_list(alloc, list)?)?;
+    for list in lists {
+        copy.push(list.clone(alloc)?)?;
     }
     Ok(copy)
 }
 
-fn clone_list(alloc: Global, list: &[Metadata]) -> Result<Vec<Metadata>, AllocError>
+fn clone_macros(alloc: Global, list: &[Metadata]) -> Result<Vec<Metadata>, AllocError>
     ensures { IfOk result (λ copy. map numbered_body copy.items ≡ map numbered_body list.now) }
 {
     let mut copy = Vec::new(alloc);

@@ -54,11 +54,11 @@ item_task line bodies w = task_of (line_origin line) line.items.now bodies w
 abbrev pub filler_slots : SlotFiller → Slots
 filler_slots filler = open_slots filler.slots
 
--- some tasks were gone through
-abbrev pub Fills : List Task → SlotFiller → SlotFiller → Type 0
-Fills tasks before after =
-    Searches (table_bodies before.slots.bodies) (wanted_numbers before.slots.wanted) tasks
-    (filler_slots before) (filler_slots after) before.taken after.taken
+-- some tasks of a line with these items were gone through
+pub record Fills (items : List TrackedAssignment) (tasks : List Task) (before after : SlotFiller) : Type 0 where
+  pub named : FillsNamed items before after
+  pub searches : Searches (table_bodies before.slots.bodies) (wanted_numbers before.slots.wanted) tasks
+      (filler_slots before) (filler_slots after) before.taken after.taken
 
 -- how many items may still be taken
 abbrev pub most_left : SlotFiller → ℕ

@@ -1,10 +1,10 @@
 -- The lines that functions search (own). Nothing here has to be believed.
-use Rattle.std.specs.Prelude.{ℕ, List, map, Bool, Option, Some}
+use Rattle.std.specs.Prelude.{ℕ, List, ◌∷◌, [], map, Bool, Option, Some}
 use Rattle.bstr.specs.BStr.{bstr_bytes}
 use Rattle.attr_wildmatch.specs.declared.case.Case.{Case}
 use Rattle.attr_lists.specs.ListViews.{Entry}
 use Rattle.attr_table.specs.Setting.{Line}
-use Rattle.attr_table.specs.shared.Walk.{Task, line_tasks}
+use Rattle.attr_table.specs.shared.Walk.{Task, backwards, line_tasks}
 use Rattle.attr_search.specs.declared.path_query.PathQuery.{PathQuery}
 use Rattle.attr_search.specs.ListView.{Listed}
 use Rattle.attr_search.specs.inner.EntryAt.{entry_at}
@@ -25,3 +25,10 @@ query_lines query listed = lines_of query.case query.is_dir (bstr_bytes query.pa
 
 abbrev pub all_lines : PathQuery → List Listed → List (List Line)
 all_lines query lists = map (query_lines query) lists
+
+-- the tasks of each line of a list, and of lists, in the order of a search
+abbrev pub list_rounds : List Line → List (List Task)
+list_rounds lines = backwards (λ line. line_tasks line ∷ []) lines
+
+abbrev pub rounds_of : List (List Line) → List (List Task)
+rounds_of lists = backwards list_rounds lists

@@ -1,6 +1,6 @@
 -- The answers in slots and the bodies, that the indexes they refer to are in use, and that the numbers of filled slots are listed (own).
 use Rattle.std.specs.Prelude.{◌≡◌, ⊤, ℕ, ◌<◌, ◌≤◌, ◌+◌, ◌&&◌, Bool, true, false, List, length, All, Option, None, is_none, MatchOption, option_map}
-use Rattle.std.specs.Prelude.{slice_index_or}
+use Rattle.std.specs.Prelude.{◌-◌, ◌++◌, OnErr, OnOk, Result, replicate, slice_index_or}
 use Rattle.std.specs.List.Sorted.{IsNonDecreasing}
 use Rattle.attr_search.specs.Slots.{filled_in}
 use Rattle.attr_search.specs.shared.SlotContents.{AreFlagsAmong, AreListed, SlotContents, count_remaining}
@@ -17,6 +17,11 @@ slots_view b =
       bodies = b.parts.bodies;
       kept = length b.parts.lines + length b.parts.assignments;
     }
+
+-- a list is as long as a count, by more of one value if it was shorter; where memory ran out it is as it was
+pub record GrowsTo {T E X : Type 0} (result : Result T E) (count : ℕ) (value : X) (before after : List X) : Type 0 where
+  pub grown : OnOk result (after ≡ before ++ replicate (count - length before) value)
+  pub refused : OnErr result (after ≡ before)
 
 -- each of some numbers is needed
 abbrev pub AllAreNeeded : List Bool → List ℕ → Type 0

@@ -3,7 +3,6 @@
 ghost use Rattle.std.specs.Prelude.{◌≡◌, ◌≤◌, IsTrue, Ok, true, false, [], MatchOption, IfNone, IfSome, option_map, ◌∷◌, ◌++◌, IfOk, OnOk, OnErr, Some, length, filter, string_bytes, if◌then◌else◌};
 ghost use Rattle.std.specs.Option.{option_copied, option_to_list};
 ghost use Rattle.attr_glob.specs.Views.{base_bytes};
-ghost use Rattle.attr_lists.specs.Definitions.{free_id};
 ghost use Rattle.attr_lists.specs.KeptLists.{defines_no_macro, kept_list_where, dropped_lines, macros_valid};
 ghost use Rattle.attr_lists.specs.ListViews.{entries_view};
 ghost use Rattle.attr_search.specs.ListView.{list_view};
@@ -20,7 +19,7 @@ ghost use Rattle.attr_search.specs.Settings.{candidate_lines, is_found};
 ghost use Rattle.attr_lists.specs.Collections.{Collection};
 ghost use Rattle.attr_lists.specs.shared.MacroNumbers.{defines_macros};
 ghost use Rattle.gix_attributes.specs.inner.SoundEngines.{last_lines};
-ghost use Rattle.gix_attributes.specs.Additions.{buffer_list, list_below, registered_lists, with_registered};
+ghost use Rattle.gix_attributes.specs.Additions.{RegistersNext, buffer_list, list_below, registered_lists};
 ghost use Rattle.gix_attributes.specs.Keeping.{Adds, Keeps, Removes};
 ghost use Rattle.gix_attributes.specs.SearchViews.{lists_in, list_ids_in, Holds, LosesLast, RemovesLast};
 
@@ -85,10 +84,9 @@ impl Search {
         ensures list { OnOk result (lists_in self.new ≡ lists_in self.old
             ++ buffer_list (string_bytes source) (option_copied root.entry) allow_macros bytes.now
             collection.new ∷ []) }
-        ensures collection { OnOk result (collection.new
-            ≡ with_registered (kept_list_where allow_macros bytes.now) collection.old) }
-        ensures list_ids { OnOk result (list_ids_in self.new
-            ≡ list_ids_in self.old ++ free_id collection.old.active ∷ []) }
+        ensures registered { OnOk result (RegistersNext (kept_list_where allow_macros bytes.now)
+            (registered_lists self.old collection.old)
+            (registered_lists self.new collection.new)) }
         ensures dropped { IfOk result (λ dropped. dropped.items ≡ dropped_lines bytes.now) }
         ensures held { Holds collection.old self.old → Holds collection.new self.new }
         ensures kept { OnOk result (Keeps (registered_lists self.old collection.old)
@@ -123,10 +121,9 @@ impl Search {
         ensures list { OnOk result (lists_in self.new ≡ lists_in self.old
             ++ list_below (string_bytes source) (base_bytes base) allow_macros bytes.now
             collection.new ∷ []) }
-        ensures collection { OnOk result (collection.new
-            ≡ with_registered (kept_list_where allow_macros bytes.now) collection.old) }
-        ensures list_ids { OnOk result (list_ids_in self.new
-            ≡ list_ids_in self.old ++ free_id collection.old.active ∷ []) }
+        ensures registered { OnOk result (RegistersNext (kept_list_where allow_macros bytes.now)
+            (registered_lists self.old collection.old)
+            (registered_lists self.new collection.new)) }
         ensures dropped { IfOk result (λ dropped. dropped.items ≡ dropped_lines bytes.now) }
         ensures held { Holds collection.old self.old → Holds collection.new self.new }
         ensures kept { OnOk result (Keeps (registered_lists self.old collection.old)
@@ -173,7 +170,7 @@ impl Search {
             (registered_lists self.new collection.new)) }
     {
         let last = self.patterns.pop()?;
-        collection.remove(last.list_id, &last.list.patterns);
+        collection.remove(last.list_id);
         Some(last.list)
     }
 

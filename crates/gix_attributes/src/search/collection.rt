@@ -1,9 +1,9 @@
 //! The collection of attributes: their names by number, and the definitions of macros of the registered lists.
 
-ghost use Rattle.std.specs.Prelude.{◌≡◌, ◌↔◌, ◌<◌, [], length, true, false, IfOk, OnOk, OnErr, IsTrue, nat_eq, ◌==◌, slice_get, option_copied};
+ghost use Rattle.std.specs.Prelude.{◌≡◌, ◌↔◌, ◌<◌, ℕ, [], length, true, false, IfOk, OnOk, OnErr, IsTrue, nat_eq, ◌==◌, slice_get, option_copied};
 ghost use Rattle.attr_lists.specs.Collections.{empty_collection};
 ghost use Rattle.attr_lists.specs.Numbers.{AppendsNames, number_of, numbered_lines};
-ghost use Rattle.attr_lists.specs.Definitions.{IsSoundCollection, free_id, macro_body, without_list, HoldsList};
+ghost use Rattle.attr_lists.specs.Definitions.{IsSoundCollection, RegistersAs, macro_body, without_list};
 ghost use Rattle.attr_lists.specs.KeptLists.{macros_valid, IsReadAs};
 ghost use Rattle.attr_lists.specs.ListViews.{entries_view};
 ghost use Rattle.attr_lists.specs.NameViews.{names_from, names_left};
@@ -11,7 +11,6 @@ ghost use Rattle.std.specs.List.{IsDistinct, list_any};
 ghost use Rattle.gix_attributes.specs.SearchViews.{Holds};
 ghost use Rattle.attr_search.specs.IndexedLists.{list_ids_of};
 ghost use Rattle.attr_search.specs.shared.ReadLines.{AreRead};
-ghost use Rattle.gix_attributes.specs.Additions.{with_registered};
 ghost use Rattle.attr_search.specs.ListView.{list_view};
 ghost use Rattle.attr_search.specs.Settings.{LinesAreNamed};
 ghost use Rattle.gix_attributes.specs.Keeping.{KeepsSearches, RegistersLast};
@@ -106,9 +105,9 @@ impl MetadataCollection {
         self.numbering.macros()
     }
 
-    /// Registers a list that no search has: its names and items are numbered, and its definitions of macros stay
-    /// active for good. Each macro of the list has to have a valid name, as [`MetadataCollection::macros_valid`]
-    /// tests it.
+    /// Registers a list that no search has, under a list id that no registered list has: its names and items are
+    /// numbered, and its definitions of macros stay active for good. Each macro of the list has to have a valid name,
+    /// as [`MetadataCollection::macros_valid`] tests it.
     ///
     /// # Errors
     ///
@@ -119,14 +118,12 @@ impl MetadataCollection {
         list: &mut List<Attributes>,
     ) -> Result<(), AllocError>
         requires { macros_valid (entries_view list.old.patterns.items) ≡ true }
-        ensures added { OnOk result (self.new
-            ≡ with_registered (entries_view list.old.patterns.items) self.old) }
         ensures numbered { OnOk result (entries_view list.new.patterns.items
             ≡ numbered_lines self.new.names (entries_view list.old.patterns.items)) }
-        ensures registered { OnOk result (RegistersLast self.old (record {
-          list_id = free_id self.old.active;
-          list = list_view list.new;
-        }) self.new) }
+        ensures registered { OnOk result ((list_id : ℕ)
+            × RegistersAs list_id (entries_view list.old.patterns.items) self.old self.new
+            × RegistersLast self.old (record { list_id = list_id; list = list_view list.new })
+            self.new) }
         ensures held { OnOk result (KeepsSearches self.old self.new) }
         ensures named { OnOk result
             (LinesAreNamed self.new.names (entries_view list.new.patterns.items)) }
@@ -162,7 +159,7 @@ impl MetadataCollection {
         read_buffer(alloc, &mut self.known, bytes)
     }
 
-    // Registers a list under the least free list id, until it is removed.
+    // Registers a list under a list id that no registered list has, until it is removed.
     pub(crate) fn register(
         &mut self,
         alloc: Global,
@@ -177,14 +174,13 @@ impl MetadataCollection {
         Ok(indexed)
     }
 
-    // Removes the list that is registered under the list id, with its definitions.
-    pub(crate) fn remove(&mut self, list_id: usize, mappings: &[Mapping<Value>])
-        requires { HoldsList self.old list_id (entries_view mappings.now) }
+    // Removes the list that is registered under the list id, if there is one, with its definitions.
+    pub(crate) fn remove(&mut self, list_id: usize)
         ensures removed { self.new ≡ without_list list_id self.old }
         ensures others { OthersStayRegistered list_id self.old self.new }
         ensures sound { IsSoundCollection self.new }
     {
-        self.numbering.remove(list_id, mappings);
+        self.numbering.remove(list_id);
     }
 
     /// The name with this number, such as that of the macro that [`MatchKind`](crate::search::MatchKind) reports, or none if

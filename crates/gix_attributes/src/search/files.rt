@@ -6,7 +6,7 @@ ghost use Rattle.gix_attributes.specs.Additions.{AddsFile, IsIo, RefusedBy, regi
 ghost use Rattle.gix_attributes.specs.Answers.{ReadAnswer};
 ghost use Rattle.gix_attributes.specs.Failures.{Fails};
 ghost use Rattle.gix_attributes.specs.FileReads.{AreAnswered, FileRead, ReadInOrder, names_read};
-ghost use Rattle.gix_attributes.specs.Globals.{RefusesGlobals, globals_in, globals_of, with_built_in};
+ghost use Rattle.gix_attributes.specs.Globals.{AddsBuiltIn, AreGlobalsOf, RefusesGlobals, globals_in};
 ghost use Rattle.gix_attributes.specs.Keeping.{Adds, AddsBeforeRefusal, Keeps};
 ghost use Rattle.gix_attributes.specs.Registers.{no_lists};
 ghost use Rattle.gix_attributes.specs.SearchViews.{Holds, lists_in, list_ids_in};
@@ -170,8 +170,8 @@ impl Search {
         ensures globals { IfOk result (λ globals. (read : List FileRead)
             × ReadInOrder F.reads files.old read files.new
             × (names_read read ≡ map string_bytes names.now) × AreAnswered read
-            × (globals_in globals.0 collection.new globals.1.items buf.new.items
-            ≡ globals_of collection.old buf.old.items read)) }
+            × AreGlobalsOf collection.old buf.old.items read
+            (globals_in globals.0 collection.new globals.1.items buf.new.items)) }
         ensures held { IfOk result (λ globals. Holds collection.new globals.0) }
         ensures kept { IfOk result (λ globals. Keeps (no_lists collection.old)
             (registered_lists globals.0 collection.new)) }
@@ -212,8 +212,8 @@ impl Search {
     ) -> Result<(Search, Vec<Vec<Dropped>>), AddError>
         ensures globals { IfOk result (λ globals. (read : List FileRead)
             × (names_read read ≡ map string_bytes names.now) × AreAnswered read
-            × (globals_in globals.0 collection.new globals.1.items buf.new.items
-            ≡ globals_of collection.old buf.old.items read)) }
+            × AreGlobalsOf collection.old buf.old.items read
+            (globals_in globals.0 collection.new globals.1.items buf.new.items)) }
         ensures held { IfOk result (λ globals. Holds collection.new globals.0) }
         ensures kept { IfOk result (λ globals. Keeps (no_lists collection.old)
             (registered_lists globals.0 collection.new)) }
@@ -237,7 +237,7 @@ impl Search {
         collection: &mut MetadataCollection,
     ) -> Result<Search, AllocError>
         ensures loaded { IfOk result (λ search.
-            registered_lists search collection.new ≡ with_built_in collection.old) }
+            AddsBuiltIn collection.old (registered_lists search collection.new)) }
         ensures held { IfOk result (λ search. Holds collection.new search) }
         ensures kept { IfOk result (λ search. Keeps (no_lists collection.old)
             (registered_lists search collection.new)) }

@@ -104,8 +104,7 @@ pub(crate) fn body_changes(
     macros: &BTreeSet<usize>,
     collection: &MetadataCollection,
 ) -> Result<Vec<BodyChange>, AllocError>
-    requires counted { length collection.now.definitions ≡ length collection.now.names }
-    requires macros { AreEmptyElsewhere macros.now (bodies_view bodies.now) }
+    requires { AreEmptyElsewhere macros.now (bodies_view bodies.now) }
     ensures numbers { IfOk result (λ changes.
         All (λ change. change.number < length collection.now.names) changes.items) }
     ensures made { IfOk result (λ changes. changed_bodies changes.items
@@ -179,8 +178,7 @@ pub(crate) fn are_bodies_of(
     bodies: &[Vec<TrackedAssignment>],
     collection: &MetadataCollection,
 ) -> bool
-    requires counted { length collection.now.definitions ≡ length collection.now.names }
-    requires len { length bodies.now ≡ length collection.now.names }
+    requires { length bodies.now ≡ length collection.now.names }
     ensures { IsTrue result ↔ (bodies_view bodies.now ≡ bodies_of collection.now) }
 {
     for (number, body) in bodies.iter().enumerate() {

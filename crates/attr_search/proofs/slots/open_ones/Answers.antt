@@ -1,6 +1,5 @@
-use Rattle.std.proofs.Common.{arith}
+use Rattle.std.proofs.Common.{arith, ◌&&◌, None, ap, get_or, is_none, ◌∙◌}
 use Rattle.attr_search.proofs.OpenLemmas.{open_pushed, open_whole}
-use Rattle.std.proofs.Common.{◌&&◌, None, ap, get_or, is_none, ◌∙◌}
 use Rattle.attr_search.proofs.slots.open_ones.Goals as goal
 
 pub loop-number-preserved : goal.loop-number-preserved

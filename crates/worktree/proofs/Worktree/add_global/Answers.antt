@@ -1,8 +1,7 @@
-use Rattle.std.proofs.Common.{refl, sym, ap, subst, ◌∙◌}
+use Rattle.std.proofs.Common.{refl, sym, ap, subst, ◌∙◌, ◌++◌, ◌∷◌, [], None, Some, true, false}
+use Rattle.gix_attributes.specs.Additions.{buffer_list}
 use Rattle.gix_attributes.specs.SearchViews.{Holds, list_ids_in, lists_in}
-use Rattle.worktree.specs.Worktrees.{with_directory, with_global_file}
-use Rattle.worktree.specs.WorktreeView.{files_of}
-use Rattle.worktree.proofs.FileLemmas.{global_added}
+use Rattle.worktree.specs.Worktrees.{AddsGlobalFile, Files}
 use Rattle.worktree.proofs.KeptLemmas.{NamesStay, kept_globally, kept_same}
 use Rattle.worktree.proofs.Worktree.add_global.Goals as goal
 
@@ -26,6 +25,19 @@ invariant_of-self-2 c =
 pub returns-clause-added : goal.returns-clause-added
 returns-clause-added c =
     let w = c.self.inside in
+    let now = c.add_patterns_buffer.new.collection in
     let added = c.in_ok-add_patterns_buffer.ensures in
-    global_added c.args.file _ (files_of w) (lists_in c.add_patterns_buffer.new.self) c.add_patterns_buffer.new.collection
-    c.in_ok-source.ensures.ok added.list added.collection ∙ ap (with_global_file c.args.file) c.self.view_is
+    let after : Files = record {
+      globals = lists_in c.add_patterns_buffer.new.self;
+      directories = lists_in w.directories;
+      directory_ids = list_ids_in w.directories;
+      known = now;
+    } in
+    subst (λ before. AddsGlobalFile c.args.file before after) c.self.view_is (record {
+      globals = added.list
+          ∙ ap (λ path. lists_in w.globals ++ buffer_list path None true c.args.file.bytes.now now ∷ []) c.in_ok-source.ensures.ok;
+      directories = refl;
+      list_id = added.registered.list_id;
+      registered = added.registered.registered;
+      directory_ids = refl;
+    })

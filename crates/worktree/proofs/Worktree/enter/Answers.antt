@@ -1,8 +1,7 @@
-use Rattle.std.proofs.Common.{refl, sym, ap, subst, ◌∙◌}
+use Rattle.std.proofs.Common.{refl, sym, ap, subst, ◌∙◌, ◌++◌, ◌∷◌, [], None, Some, true, false}
+use Rattle.gix_attributes.specs.Additions.{buffer_list}
 use Rattle.gix_attributes.specs.SearchViews.{Holds, list_ids_in, lists_in}
-use Rattle.worktree.specs.Worktrees.{with_directory, with_global_file}
-use Rattle.worktree.specs.WorktreeView.{files_of}
-use Rattle.worktree.proofs.FileLemmas.{directory_added}
+use Rattle.worktree.specs.Worktrees.{EntersDirectory, Files}
 use Rattle.worktree.proofs.KeptLemmas.{NamesStay, kept_entering, kept_same}
 use Rattle.worktree.proofs.Worktree.enter.Goals as goal
 
@@ -26,7 +25,19 @@ invariant_of-self-2 c =
 pub returns-clause-entered : goal.returns-clause-entered
 returns-clause-entered c =
     let w = c.self.inside in
+    let now = c.add_patterns_buffer.new.collection in
     let added = c.in_ok-add_patterns_buffer.ensures in
-    directory_added c.args.file _ (files_of w) (lists_in c.add_patterns_buffer.new.self) (list_ids_in c.add_patterns_buffer.new.self)
-    c.add_patterns_buffer.new.collection
-    c.in_ok-source.ensures.ok added.list added.list_ids added.collection ∙ ap (with_directory c.args.file) c.self.view_is
+    let after : Files = record {
+      globals = lists_in w.globals;
+      directories = lists_in c.add_patterns_buffer.new.self;
+      directory_ids = list_ids_in c.add_patterns_buffer.new.self;
+      known = now;
+    } in
+    subst (λ before. EntersDirectory c.args.file before after) c.self.view_is (record {
+      globals = refl;
+      directories = added.list
+          ∙ ap (λ path. lists_in w.directories ++ buffer_list path (Some []) false c.args.file.bytes.now now ∷ []) c.in_ok-source.ensures.ok;
+      list_id = added.registered.list_id;
+      registered = added.registered.registered;
+      directory_ids = added.registered.noted;
+    })

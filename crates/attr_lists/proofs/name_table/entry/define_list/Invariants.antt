@@ -1,7 +1,7 @@
 use Rattle.std.proofs.Common.{◌≡◌, ◌<◌, ◌++◌, ℕ, length, map, drop}
-use Rattle.attr_lists.specs.Definitions.{definition_of, of_other_lists}
+use Rattle.attr_lists.specs.Definitions.{bodies_of_number, definition_of, of_other_lists}
 use Rattle.attr_lists.specs.inner.EntryViews.{definitions_at, AreEntries}
-use Rattle.attr_lists.specs.inner.Registered.{bodies_of_number, numbered_body}
+use Rattle.attr_lists.specs.inner.Registered.{numbered_body}
 use Rattle.attr_lists.proofs.name_table.entry.define_list.Given as goal
 
 abbrev pub invariant-loop-known : goal.invariant-loop-known

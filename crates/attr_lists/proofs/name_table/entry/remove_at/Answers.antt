@@ -1,18 +1,14 @@
-use Rattle.attr_lists.proofs.EntryLemmas.{gone_here, gone_others, gone_own, stays_without}
+use Rattle.attr_lists.proofs.EntryLemmas.{definitions_at-other, order_at, removed_here}
 use Rattle.attr_lists.proofs.name_table.entry.remove_at.Goals as goal
 
-pub returns-then-number-entries-clause-gone : goal.returns-then-number-entries-clause-gone
-returns-then-number-entries-clause-gone c =
-    gone_here c.args.list_id c.args.number c.args.entries.now c.index-entries-number.result c.remove.new.self c.if-number-entries.true
-    c.remove.ensures.definitions
+pub remove-requires : goal.remove-requires
+remove-requires c = order_at c.args.entries.now c.args.number c.index-entries-number.result c.if-number-entries.true c.requires
 
-pub returns-then-number-entries-clause-without : goal.returns-then-number-entries-clause-without
-returns-then-number-entries-clause-without c =
-    stays_without c.args.list_id c.args.number c.args.entries.now c.index-entries-number.result c.remove.new.self c.if-number-entries.true
-    (λ none. gone_own c.args.list_id c.args.number c.args.entries.now c.index-entries-number.result c.remove.new.self c.if-number-entries.true
-    c.remove.ensures.definitions)
+pub returns-then-number-entries-clause-here : goal.returns-then-number-entries-clause-here
+returns-then-number-entries-clause-here c =
+    removed_here c.args.list_id c.args.number c.args.entries.now c.index-entries-number.result c.remove.new.self c.if-number-entries.true
+    c.remove.ensures.definitions
 
 pub returns-then-number-entries-clause-others : goal.returns-then-number-entries-clause-others
-returns-then-number-entries-clause-others c =
-    gone_others c.args.list_id c.args.number c.args.entries.now c.index-entries-number.result c.remove.new.self c.if-number-entries.true
-    c.remove.ensures.definitions
+returns-then-number-entries-clause-others c = λ other apart.
+    definitions_at-other c.args.entries.now c.args.number other c.remove.new.self apart

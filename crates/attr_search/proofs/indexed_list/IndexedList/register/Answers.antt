@@ -1,4 +1,4 @@
-use Rattle.std.proofs.Common.{◌≡◌, ◌∙◌, sym, ap, subst, length, option_map, string_bytes, true≢false}
+use Rattle.std.proofs.Common.{◌∙◌, sym, ap, subst, length, option_map, string_bytes, true≢false}
 use Rattle.std.specs.List.{list_all}
 use Rattle.attr_glob.specs.Candidates.{has_macro_mode}
 use Rattle.attr_glob.specs.Views.{patterns_of}
@@ -38,11 +38,12 @@ invariant_of-result-clause-read c =
     (numbered_length names before after numbered) in
     ∣ subst AreRead (sym (ap entries_view whole ∙ numbered)) (numbered_read names (entries_view before) c.requires.read) ∣₁
 
-pub returns-clause-added : goal.returns-clause-added
-returns-clause-added c =
-    subst (λ list_id. c.add.new.self ≡ with_list list_id (entries_view c.args.list.patterns.items) c.args.names.now)
-    c.in_ok-list_id.ensures.list_id
-    (c.in_ok-list_id.ensures.added ∙ ap (λ ms. with_list c.in_ok-list_id.list_id (entries_view ms) c.args.names.now) c.deref_mut.ensures.value)
+pub returns-clause-registered : goal.returns-clause-registered
+returns-clause-registered c = record {
+  fresh = c.in_ok-list_id.ensures.fresh;
+  added = c.in_ok-list_id.ensures.added
+      ∙ ap (λ ms. with_list c.in_ok-list_id.list_id (entries_view ms) c.args.names.now) c.deref_mut.ensures.value;
+}
 
 pub returns-clause-holds : goal.returns-clause-holds
 returns-clause-holds c =

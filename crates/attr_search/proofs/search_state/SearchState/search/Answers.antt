@@ -1,12 +1,10 @@
-use Rattle.std.proofs.Common.{◌+◌, ◌≤◌, sym, length, arith}
+use Rattle.std.proofs.Common.{◌+◌, ◌≤◌, sym, length, refl, arith}
 use Rattle.attr_table.specs.shared.Walk.{stops}
-use Rattle.attr_table.proofs.ForCallers.{taken_most, taken_least}
-use Rattle.attr_table.proofs.ForCallers.{walked_searched}
-use Rattle.attr_table.proofs.ForCallers.{OneTable-of}
+use Rattle.attr_table.proofs.ForCallers.{taken_most, taken_least, walked_searched, OneTable-of}
 use Rattle.attr_search.specs.IndexedLists.{lists_view}
 use Rattle.attr_search.specs.inner.Searched.{query_candidates, query_setting, state_bodies, state_slots, state_wanted}
 use Rattle.attr_search.proofs.TaggedLines.{roots_most}
-use Rattle.attr_search.proofs.FoundAnswers.{found_is, nothing_found, extends}
+use Rattle.attr_search.proofs.FoundAnswers.{counted_from, found_is, nothing_found, extends, searched_as}
 use Rattle.attr_search.proofs.SearchedLemmas.{state_kept}
 use Rattle.attr_search.proofs.search_state.SearchState.search.Goals as goal
 
@@ -37,18 +35,14 @@ pub search_lists-requires : goal.search_lists-requires
 search_lists-requires c = record { in_lists = rw c.begin_counts.ensures c.requires.in_lists }
 
 pub returns-in_err-search_lists-clause-kept : goal.returns-in_err-search_lists-clause-kept
-returns-in_err-search_lists-clause-kept c =
-    let kept = rw c.begin_counts.ensures at c.search_lists.ensures.kept in
-    record { wanted = kept.wanted; needed = kept.needed; bodies = kept.bodies; len = kept.len; skipped = kept.skipped }
+returns-in_err-search_lists-clause-kept c = counted_from c.args.self.now _ 0 0 (rw c.begin_counts.ensures at c.search_lists.ensures).kept
 
 pub returns-in_err-search_lists-clause-one : goal.returns-in_err-search_lists-clause-one
 returns-in_err-search_lists-clause-one c =
     OneTable-of (query_setting c.args.self.now (lists_view c.args.lists.now.lists.items) c.args.query) (state_slots c.args.self.now)
 
 pub returns-clause-kept : goal.returns-clause-kept
-returns-clause-kept c =
-    let kept = rw c.begin_counts.ensures at c.search_lists.ensures.kept in
-    record { wanted = kept.wanted; needed = kept.needed; bodies = kept.bodies; len = kept.len; skipped = kept.skipped }
+returns-clause-kept c = counted_from c.args.self.now _ 0 0 (rw c.begin_counts.ensures at c.search_lists.ensures).kept
 
 pub returns-clause-one : goal.returns-clause-one
 returns-clause-one c =
@@ -56,54 +50,53 @@ returns-clause-one c =
 
 pub returns-clause-searched : goal.returns-clause-searched
 returns-clause-searched c =
-    let p = rw c.begin_counts.ensures at c.in_ok-search_lists.ensures.searched in
+    let p = (rw c.begin_counts.ensures at c.in_ok-search_lists.ensures).done in
     walked_searched (query_setting c.args.self.now (lists_view c.args.lists.now.lists.items) c.args.query) (state_wanted c.args.self.now)
-    (state_slots c.args.self.now) (state_slots c.search_lists.new.self) p.searches.walks
+    (state_slots c.args.self.now) (state_slots c.search_lists.new.self) (searched_as c.args.query (lists_view c.args.lists.now.lists.items) p).walks
 
 pub returns-clause-joined : goal.returns-clause-joined
 returns-clause-joined c =
-    let p = rw c.begin_counts.ensures at c.in_ok-search_lists.ensures.searched in
+    let p = (rw c.begin_counts.ensures at c.in_ok-search_lists.ensures).done in
     let s = query_setting c.args.self.now (lists_view c.args.lists.now.lists.items) c.args.query in
     extends s (state_wanted c.args.self.now) (state_slots c.args.self.now) (state_slots c.search_lists.new.self)
-    (walked_searched s (state_wanted c.args.self.now) (state_slots c.args.self.now) (state_slots c.search_lists.new.self) p.searches.walks)
+    (walked_searched s (state_wanted c.args.self.now) (state_slots c.args.self.now) (state_slots c.search_lists.new.self)
+    (searched_as c.args.query (lists_view c.args.lists.now.lists.items) p).walks)
 
 pub returns-clause-found : goal.returns-clause-found
 returns-clause-found c =
-    let p = rw c.begin_counts.ensures at c.in_ok-search_lists.ensures.searched in
-    let kept = rw c.begin_counts.ensures at c.search_lists.ensures.kept in
+    let part = rw c.begin_counts.ensures at c.in_ok-search_lists.ensures in
     let before = c.args.self.now in
     let after = c.search_lists.new.self in
     found_is (state_bodies before) (state_wanted before) _ before after c.remaining-remaining.result c.remaining.result 0 after.taken
-    c.remaining-remaining.ensures.among p.searches
-    (record { wanted = kept.wanted; needed = kept.needed; bodies = kept.bodies; len = kept.len; skipped = kept.skipped })
-    c.remaining-remaining.ensures.count c.remaining.ensures.count
+    c.remaining-remaining.ensures.among (searched_as c.args.query (lists_view c.args.lists.now.lists.items) part.done)
+    (counted_from before after 0 0 part.kept) c.remaining-remaining.ensures.count c.remaining.ensures.count
 
 pub returns-clause-named : goal.returns-clause-named
-returns-clause-named c = rw c.begin_counts.ensures at c.in_ok-search_lists.ensures.named
+returns-clause-named c = (rw c.begin_counts.ensures at c.in_ok-search_lists.ensures).done.named
 
 pub returns-clause-most : goal.returns-clause-most
 returns-clause-most c = λ undone.
-    let p = rw c.begin_counts.ensures at c.in_ok-search_lists.ensures.searched in
+    let p = (rw c.begin_counts.ensures at c.in_ok-search_lists.ensures).done in
     taken_most (query_setting c.args.self.now (lists_view c.args.lists.now.lists.items) c.args.query) (state_wanted c.args.self.now)
-    (state_slots c.args.self.now) (state_slots c.search_lists.new.self) c.search_lists.new.self.taken p.searches
+    (state_slots c.args.self.now) (state_slots c.search_lists.new.self) c.search_lists.new.self.taken
+    (searched_as c.args.query (lists_view c.args.lists.now.lists.items) p)
 
 pub returns-clause-least : goal.returns-clause-least
 returns-clause-least c = λ undone.
-    let p = rw c.begin_counts.ensures at c.in_ok-search_lists.ensures.searched in
-    let kept = rw c.begin_counts.ensures at c.search_lists.ensures.kept in
-    let long = kept.len in
+    let part = rw c.begin_counts.ensures at c.in_ok-search_lists.ensures in
+    let long = part.kept.len in
     taken_least (query_setting c.args.self.now (lists_view c.args.lists.now.lists.items) c.args.query) (state_wanted c.args.self.now)
     (state_slots c.args.self.now) (state_slots c.search_lists.new.self) c.search_lists.new.self.taken (length c.search_lists.new.self.answers)
-    (omega (arith, long, c.len.ensures)) p.searches
+    (omega (arith, long, c.len.ensures)) (searched_as c.args.query (lists_view c.args.lists.now.lists.items) part.done)
 
 pub returns-clause-tested : goal.returns-clause-tested
 returns-clause-tested c = λ undone.
     let most : c.search_lists.new.self.tested ≤ 0 + query_candidates (lists_view c.args.lists.now.lists.items) c.args.query =
-    rw c.begin_counts.ensures at c.in_ok-search_lists.ensures.tested in
+    (rw c.begin_counts.ensures at c.in_ok-search_lists.ensures).done.tested in
     omega (arith, most)
 
 pub returns-clause-roots : goal.returns-clause-roots
 returns-clause-roots c = λ undone table stable.
-    let p = rw c.begin_counts.ensures at c.in_ok-search_lists.ensures.searched in
+    let p = (rw c.begin_counts.ensures at c.in_ok-search_lists.ensures).done in
     roots_most (query_setting c.args.self.now (lists_view c.args.lists.now.lists.items) c.args.query) (state_wanted c.args.self.now)
-    (state_slots c.args.self.now) (state_slots c.search_lists.new.self) c.search_lists.new.self.tested table stable p.rounds
+    (record c.args.self.now { taken = 0; tested = 0 }) c.search_lists.new.self table stable refl p.rounds

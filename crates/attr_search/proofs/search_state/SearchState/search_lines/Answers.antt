@@ -1,32 +1,25 @@
-use Rattle.std.proofs.Common.{sym, arith}
+use Rattle.std.proofs.Common.{sym}
 use Rattle.std.proofs.lemmas.List.{get_or_default}
 use Rattle.attr_search.specs.IndexedLists.{listed_view}
-use Rattle.attr_search.proofs.SearchedLemmas.{indexes_done, more_indexes, no_indexes, state_kept, then_kept}
+use Rattle.attr_search.proofs.SearchedLemmas.{indexes_done, more_indexes, nothing_searched, state_kept, then_kept}
 use Rattle.attr_search.proofs.search_state.SearchState.search_lines.Goals as goal
 
 pub loop-line-init : goal.loop-line-init
-loop-line-init c = record {
-  kept = state_kept c.args.self.now;
-  named = λ names lines bodies held. held;
-  tested = omega arith;
-  searched = no_indexes c.args.rest (listed_view c.args.list.now) c.args.self.now;
-}
+loop-line-init c = record { kept = state_kept c.args.self.now; searched = nothing_searched 0 c.args.self.now }
 
-pub returns-then-is_done-clause-searched : goal.returns-then-is_done-clause-searched
-returns-then-is_done-clause-searched c =
-    indexes_done c.args.rest (listed_view c.args.list.now) c.args.indexes.now c.loop-line.line-index c.args.self.now c.loop-line.self
-    c.loop-line.invariant.kept (sym c.if-is_done.ensures) c.loop-line.invariant.searched
+pub returns-then-is_done : goal.returns-then-is_done
+returns-then-is_done c = record {
+  kept = c.loop-line.invariant.kept;
+  done = indexes_done c.args.rest (listed_view c.args.list.now) c.args.indexes.now c.loop-line.line-index c.args.self.now c.loop-line.self
+      c.loop-line.invariant.kept (sym c.if-is_done.ensures) c.loop-line.invariant.searched;
+}
 
 pub loop-line-preserved : goal.loop-line-preserved
 loop-line-preserved c = record {
   kept = then_kept c.args.self.now c.loop-line.self c.search_line.new.self c.loop-line.invariant.kept c.search_line.ensures.kept;
-  named = λ names lines bodies held.
-      c.in_ok-search_line.ensures.named names lines (rw c.loop-line.invariant.kept.bodies bodies)
-      (c.loop-line.invariant.named names lines bodies held);
-  tested = let a = c.search_line.ensures.tested in let b = c.loop-line.invariant.tested in omega arith;
   searched =
       more_indexes c.args.rest (listed_view c.args.list.now) c.args.indexes.now c.loop-line.line-index _
       c.args.self.now c.loop-line.self c.search_line.new.self c.loop-line.invariant.kept c.loop-line-test.true
       (get_or_default c.args.indexes.now c.loop-line.line-index 0 _ c.loop-line-test.true)
-      c.loop-line.invariant.searched c.in_ok-search_line.ensures.searched;
+      c.loop-line.invariant.searched c.in_ok-search_line.ensures.done;
 }

@@ -1,12 +1,10 @@
-use Rattle.std.proofs.Common.{◌+◌, ◌≤◌, take}
+use Rattle.std.proofs.Common.{take}
 use Rattle.attr_search.specs.IndexedLists.{listed_view}
-use Rattle.attr_search.specs.inner.Searched.{KeepsState, ListKeepsNamed, SearchedLines}
+use Rattle.attr_search.specs.inner.Searched.{KeepsState, SearchedLines}
 use Rattle.attr_search.proofs.search_state.SearchState.search_lines.Given as goal
 
 abbrev pub invariant-loop-line : goal.invariant-loop-line
 invariant-loop-line l = record {
   kept : KeepsState l.initial.self l.self;
-  named : ListKeepsNamed (listed_view l.list) l.initial.self l.self;
-  tested : l.self.tested ≤ l.initial.self.tested + l.line-index;
   searched : SearchedLines l.rest (listed_view l.list) (take l.line-index l.indexes) l.initial.self l.self;
 }

@@ -46,20 +46,17 @@ returns-clause-kept c = record {
       ∙ ap (λ s. get_or s.answers a None) c.begin_line.ensures;
 }
 
-pub returns-clause-named : goal.returns-clause-named
-returns-clause-named c =
-    on_ok_weaker c.run_stack.result
-    (λ filled names line bodies held. filled names line (rw c.begin_line.ensures bodies) (rw c.begin_line.ensures held))
-    c.run_stack.ensures.named
-
 pub returns-clause-filled : goal.returns-clause-filled
 returns-clause-filled c =
     let line = c.args.line in
     let before = c.args.self.now in
     on_ok_weaker c.run_stack.result
-    (λ filled. line_walked before.slots.bodies (line_origin line) line.items.now before.slots c.begin_line.new.self
-    (filler_slots c.run_stack.new.self) c.clear.new.self.items c.push_free.new.stack.items before.taken c.run_stack.new.self.taken
-    c.begin_line.ensures c.clear.ensures.items
-    (c.in_ok-push_free.ensures.pushed (line_origin line) line.items.now before.slots.bodies refl)
-    (rw (ap (λ s. s.bodies) c.begin_line.ensures) at filled))
+    (λ filled. record {
+      named = λ names line bodies held. filled.named names line (rw c.begin_line.ensures bodies) (rw c.begin_line.ensures held);
+      searches = line_walked before.slots.bodies (line_origin line) line.items.now before.slots c.begin_line.new.self
+          (filler_slots c.run_stack.new.self) c.clear.new.self.items c.push_free.new.stack.items before.taken c.run_stack.new.self.taken
+          c.begin_line.ensures c.clear.ensures.items
+          (c.in_ok-push_free.ensures.pushed (line_origin line) line.items.now before.slots.bodies refl)
+          (rw (ap (λ s. s.bodies) c.begin_line.ensures) at filled.searches);
+    })
     c.run_stack.ensures.filled

@@ -21,8 +21,11 @@ returns-in_default-clause-filled c =
     let x = c.in_default.ensures.cases in
     let none = pending_tasks-none (line_origin c.args.line) c.args.line.items.now now.slots.bodies
     now.stack.items (omega arith) in
-    c.loop-alloc.invariant.filled (filler_slots now) now.taken
-    (rw none (nothing_taken (table_bodies now.slots.bodies) (wanted_numbers now.slots.wanted) (filler_slots now) now.taken))
+    record {
+      named = c.loop-alloc.invariant.named;
+      searches = c.loop-alloc.invariant.filled (filler_slots now) now.taken
+          (rw none (nothing_taken (table_bodies now.slots.bodies) (wanted_numbers now.slots.wanted) (filler_slots now) now.taken));
+    }
 
 pub loop-alloc-preserved : goal.loop-alloc-preserved
 loop-alloc-preserved c = record {
@@ -50,6 +53,9 @@ loop-alloc-preserved c = record {
 pub returns-clause-filled : goal.returns-clause-filled
 returns-clause-filled c =
     let now = c.loop-alloc.self in
-    c.loop-alloc.invariant.filled (filler_slots now) now.taken
-    (done_taken (table_bodies now.slots.bodies) (wanted_numbers now.slots.wanted)
-    (stack_tasks c.args.line now.slots.bodies now.stack.items) (filler_slots now) now.taken (sym c.loop-alloc-test.ensures))
+    record {
+      named = c.loop-alloc.invariant.named;
+      searches = c.loop-alloc.invariant.filled (filler_slots now) now.taken
+          (done_taken (table_bodies now.slots.bodies) (wanted_numbers now.slots.wanted)
+          (stack_tasks c.args.line now.slots.bodies now.stack.items) (filler_slots now) now.taken (sym c.loop-alloc-test.ensures));
+    }

@@ -2,7 +2,6 @@ use Rattle.std.proofs.Common.{◌≡◌, length, option_map, subst, sym, ap, ◌
 use Rattle.std.proofs.lemmas.List.{length-map}
 use Rattle.attr_search.specs.inner.AnswerRefs.{match_by_ref}
 use Rattle.attr_search.specs.shared.SlotContents.{AreFlagsAmong, count_remaining}
-use Rattle.attr_search.proofs.SlotLemmas.{listed_same, refs_same}
 use Rattle.attr_search.proofs.OpenLemmas.{needed_among}
 use Rattle.std.specs.List.Sorted.{IsNonDecreasing}
 use Rattle.attr_search.proofs.slots.AnswerSlots.copy.Goals as goal
@@ -25,10 +24,10 @@ invariant_of-result c =
       filled_needed = rw same_numbers (needed_among b.needed c.args.needed b.filled.items more c.self.invariant.filled_needed);
       same_length = c.requires.wanted ∙ sym (ap (λ v. length v.answers) c.self.view_is)
           ∙ length-map b.slots.items (λ slot. option_map (match_by_ref b.parts) slot) ∙ sym (ap length same);
-      within = refs_same parts b.parts copy b.slots.items c.in_ok-parts.ensures same c.self.invariant.within;
+      within = rw (c.in_ok-parts.ensures, same) c.self.invariant.within;
       line = rw c.in_ok-parts.ensures c.self.invariant.line;
       counted = c.count_remaining-remaining.ensures ∙ ap (count_remaining c.args.wanted) c.deref-4.ensures.value;
-      listed = listed_same copy b.slots.items numbers b.filled.items same same_numbers c.self.invariant.listed;
+      listed = rw (same, same_numbers) c.self.invariant.listed;
       ordered = λ t. subst IsNonDecreasing (sym same_numbers) (c.self.invariant.ordered t);
       few_lines = rw (c.in_ok-parts.ensures, same) c.self.invariant.few_lines;
       few_assignments = rw (c.in_ok-parts.ensures, same) c.self.invariant.few_assignments;

@@ -1,15 +1,16 @@
-use Rattle.std.proofs.Common.{◌≡◌, ◌<◌, ◌++◌, [], ◌∷◌, length, false, true, get_or, option_map, is_some, None, Some, refl, set, sym, ap, ◌∙◌, arith}
+use Rattle.std.proofs.Common.{◌≡◌, ◌<◌, ◌++◌, [], ◌∷◌, length, false, true, get_or, option_map, is_some, None, Some, sym, ap, ◌∙◌, arith}
 use Rattle.std.proofs.Math.ListN.{length-set, length-map}
 use Rattle.std.specs.Prelude.{slice_index_or}
 use Rattle.attr_search.specs.inner.Pending.{pending_item}
 use Rattle.attr_search.specs.inner.AnswerRefs.{match_by_ref, matches_by_ref}
 use Rattle.std.proofs.lemmas.List.{get_or_default}
+use Rattle.std.proofs.lemmas.Option.{IfSome_then, slice_get_within}
 use Rattle.std.proofs.lemmas.List.Elements.{All-push}
 use Rattle.attr_search.specs.Slots.{is_needed, slots_of}
 use Rattle.attr_search.specs.inner.SlotsView.{slots_view}
 use Rattle.attr_search.specs.shared.SlotContents.{open_slots}
 use Rattle.attr_search.proofs.OpenLemmas.{open_filled, open_free, open_needed}
-use Rattle.attr_search.proofs.SlotLemmas.{filled_set, listed_filled, listed_more, fill_counts, line_kept, line_seen, slots_filled, matches_filled}
+use Rattle.attr_search.proofs.SlotLemmas.{filled_set, listed_filled, listed_more, fill_counts, line_seen, slots_filled, matches_filled}
 use Rattle.attr_search.proofs.SlotLemmas.{match_made, seen_filled}
 use Rattle.std.proofs.lemmas.Bool.{false≢true}
 use Rattle.attr_search.proofs.slots.AnswerSlots.fill.Goals as goal
@@ -74,7 +75,7 @@ invariant_of-self-2 c =
       filled_needed = rw pushed (All-push (λ n. get_or b.needed n false ≡ true) b.filled.items number c.self.invariant.filled_needed own);
       within = slots_filled b.parts stored b.slots.items number c.in_ok-found.found c.in_ok-found.ensures.kept.extends c.self.invariant.within
           c.in_ok-found.ensures.kept.within;
-      line = line_kept stored _ c.keep.new.self.line c.in_ok-found.ensures.kept.at_hand;
+      line = IfSome_then stored.line c.in_ok-found.ensures.kept.at_hand (λ l kept. slice_get_within stored.lines l _ kept);
       counted = (fill_counts b.wanted b.slots.items number c.in_ok-found.found c.index.result.now b.remaining c.from.result
           c.self.invariant.same_length within free c.self.invariant.counted read c.from.ensures).1;
       listed = rw pushed (listed_filled b.slots.items b.filled.items number (Some c.in_ok-found.found)

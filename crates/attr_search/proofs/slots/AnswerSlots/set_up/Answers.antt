@@ -21,7 +21,7 @@ write-requires-clause-len c =
     let b = c.self.inside in
     let cut = flags_cut b.needed b.slots.items c.grow.new.slots.items b.is_open.items c.grow.new.is_open.items c.empty.new.is_open.items
     c.truncate-3.new.self.items b.filled.items c.len-count.result c.self.invariant.needed_length c.self.invariant.opened
-    c.self.invariant.filled_needed c.in_ok-grow.ensures.slots c.in_ok-grow.ensures.opened
+    c.self.invariant.filled_needed c.in_ok-grow.ensures.slots.grown c.in_ok-grow.ensures.opened.grown
     (rw c.deref.ensures.value at c.empty.ensures.opened) c.truncate-3.ensures.items in
     length_cut b.needed (length b.slots.items) c.truncate-3.new.self.items c.len-count.result c.self.invariant.needed_length cut
     ∙ c.len-count.ensures ∙ sym c.requires.needed
@@ -31,7 +31,7 @@ write-requires-clause-before c = λ number lt within.
     let b = c.self.inside in
     let cut = flags_cut b.needed b.slots.items c.grow.new.slots.items b.is_open.items c.grow.new.is_open.items c.empty.new.is_open.items
     c.truncate-3.new.self.items b.filled.items c.len-count.result c.self.invariant.needed_length c.self.invariant.opened
-    c.self.invariant.filled_needed c.in_ok-grow.ensures.slots c.in_ok-grow.ensures.opened
+    c.self.invariant.filled_needed c.in_ok-grow.ensures.slots.grown c.in_ok-grow.ensures.opened.grown
     (rw c.deref.ensures.value at c.empty.ensures.opened) c.truncate-3.ensures.items in
     flag_cut b.needed (c.len-count.result - length b.slots.items) c.truncate-3.new.self.items c.len-count.result number cut
     (omega (arith, lt, c.requires.needed, c.len-count.ensures))
@@ -42,7 +42,7 @@ invariant_of-self-2 c =
     let wanted = c.args.wanted in
     let made = told_ok c.set_up.result c.is_err.result c.is_err.ensures.value c.if-is_err.false c.set_up.ensures.ok in
     let cut = empty_cut c.self.inside.slots.items c.grow.new.slots.items c.empty.new.slots.items slots c.len-count.result wanted c.len-count.ensures
-    c.in_ok-grow.ensures.slots c.empty.ensures.items c.truncate-2.ensures.items in
+    c.in_ok-grow.ensures.slots.grown c.empty.ensures.items c.truncate-2.ensures.items in
     record {
       same_length = sym (ap length cut ∙ length-map wanted (λ flag. None));
       needed_length = c.requires.needed ∙ sym (ap length cut ∙ length-map wanted (λ flag. None));
@@ -72,7 +72,7 @@ returns-clause-ok c =
     ∙ ap (λ n. changed_bodies c.args.changes.items (sized_bodies n c.self.inside.parts.bodies)) c.len-count.ensures
     ∙ ap (λ v. changed_bodies c.args.changes.items (sized_bodies (length wanted) v.bodies)) c.self.view_is in
     let cut = empty_cut c.self.inside.slots.items c.grow.new.slots.items c.empty.new.slots.items slots c.len-count.result wanted c.len-count.ensures
-    c.in_ok-grow.ensures.slots c.empty.ensures.items c.truncate-2.ensures.items in
+    c.in_ok-grow.ensures.slots.grown c.empty.ensures.items c.truncate-2.ensures.items in
     let kept : length parts.lines + length parts.assignments ≡ 0 = ap (λ (p : PartsContent). length p.lines + length p.assignments) made in
     let View : List (Option Matched) → Option Origin → List (List TrackedAssignment) → ℕ → SlotContents = λ answers line bodies kept. record
     { answers = answers; wanted = wanted; needed = c.args.needed; line = line; bodies = bodies; kept = kept } in

@@ -1,4 +1,4 @@
-use Rattle.std.proofs.Common.{◌∙◌, [], ap, cond, sym}
+use Rattle.std.proofs.Common.{◌∙◌, ap, cond, sym}
 use Rattle.attr_search.specs.shared.SlotContents.{count_wanted}
 use Rattle.attr_search.specs.declared.wanted.WantedFlags.TheInside.{Inside}
 use Rattle.attr_search.proofs.WantedLemmas.{count_replicate, flags_same}

@@ -14,6 +14,6 @@ pub returns-clause-made : goal.returns-clause-made
 returns-clause-made c =
     let known = c.args.collection.now in
     let first = subst (AreMade known c.args.bodies.now []) (sym c.new-changes.ensures.items) (made_first known c.args.bodies.now) in
-    made_all known c.args.bodies.now c.args.macros.now c.macros.result.now c.push_changes-2.new.changes.items c.requires.counted
-    c.requires.macros c.macros.ensures
+    made_all known c.args.bodies.now c.args.macros.now c.macros.result.now c.push_changes-2.new.changes.items c.requires
+    c.macros.ensures
     (c.in_ok-push_changes-2.ensures.made _ (c.in_ok-push_changes.ensures.made [] first))

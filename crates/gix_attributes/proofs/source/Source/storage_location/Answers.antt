@@ -1,4 +1,5 @@
-use Rattle.std.proofs.Common.{◌≡◌, ◌∙◌, ◌∷◌, [], None, true, false, refl, sym, ap, subst, codes, string_bytes, if◌then◌else◌}
+use Rattle.std.proofs.lemmas.Bool.Decides.{nat_tests}
+use Rattle.std.proofs.Common.{arith, ◌≡◌, ◌∙◌, ◌∷◌, [], None, true, false, refl, sym, ap, subst, codes, string_bytes, if◌then◌else◌}
 use Rattle.std.specs.Prelude.{option_map, is_some}
 use Rattle.gix_attributes.specs.Sources.{IsAsked, no_system, config_home, home, below, location, is_unset_or_empty}
 use Rattle.gix_attributes.specs.declared.source.Source.TheVariants.{GitInstallation, System, Git}
@@ -6,12 +7,7 @@ use Rattle.gix_attributes.proofs.SourceLemmas.{asked_for, asks_one, asks_two, is
 use Rattle.gix_attributes.proofs.source.Source.storage_location.Goals as goal
 
 pub returns-in-GitInstallation : goal.returns-in-GitInstallation
-returns-in-GitInstallation g c = (
-  [],
-  (c.args.env_var, refl),
-  subst (λ s. IsAsked s []) (sym c.in-GitInstallation.is) refl,
-  located c.args.self GitInstallation c.args.prefixes.now [] _ c.join_known.result c.in-GitInstallation.is refl c.join_known.ensures,
-)
+returns-in-GitInstallation g c = grind (arith, nat_tests, located)
 
 pub returns-then-is_some : goal.returns-then-is_some
 returns-then-is_some g c =

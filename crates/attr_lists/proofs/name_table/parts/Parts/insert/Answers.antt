@@ -1,14 +1,15 @@
-use Rattle.std.proofs.Common.{◌≡◌, ◌++◌, ℕ, length, map, ap, refl, ◌∙◌, arith}
-use Rattle.std.proofs.lemmas.List.{with_items_is}
-use Rattle.attr_lists.specs.Definitions.{bodies_defined, definition_of, of_other_lists}
-use Rattle.attr_lists.specs.inner.EntryViews.{all_definitions, definitions_at}
-use Rattle.attr_lists.specs.inner.Registered.{bodies_of_number, numbered_body}
+use Rattle.std.proofs.Common.{◌≡◌, ◌∷◌, ◌++◌, ◌∙◌, ℕ, [], ap, arith, length, map, refl, subst, sym}
+use Rattle.std.specs.Vec.{with_items}
+use Rattle.std.proofs.lemmas.List.{map-append, with_items_is}
+use Rattle.attr_lists.specs.Definitions.{bodies_of_number, definition_of, macros_defined, of_other_lists}
+use Rattle.attr_lists.specs.declared.name_table.parts.Parts.{Parts}
+use Rattle.attr_lists.specs.inner.EntryViews.{AreEntries, definitions_at}
+use Rattle.attr_lists.specs.inner.Registered.{ListsBodies, numbered_body, registered_views, registered_view}
 use Rattle.attr_lists.specs.ListViews.{entries_view}
-use Rattle.attr_lists.specs.Numbers.{names_in, with_names, numbered_lines}
+use Rattle.attr_lists.specs.Numbers.{names_in, numbered_lines}
 use Rattle.attr_lists.proofs.ListLemmas.{on_err}
-use Rattle.attr_lists.proofs.NameLemmas.{with_names-extends}
 use Rattle.attr_lists.proofs.NameTableLaws.{count_more}
-use Rattle.attr_lists.proofs.NameTableSteps.{all_defined, partly_added, partly_defined}
+use Rattle.attr_lists.proofs.NameTableSteps.{added_whole, others_kept_on, partly_added}
 use Rattle.attr_lists.proofs.name_table.parts.Parts.insert.Goals as goal
 
 pub extend-requires : goal.extend-requires
@@ -17,95 +18,97 @@ extend-requires c =
       arith,
       c.len.ensures,
       ap length c.in_ok-insert_names.ensures.ok,
-      count_more
-          c.args.self.now.names (names_in (entries_view c.args.mappings.now)),
-      c.requires.counted,
+      count_more c.args.self.now.names (names_in (entries_view c.args.mappings.now)),
+      c.requires.whole.counted,
     )
 
 pub returns-in_err-extend-clause-err : goal.returns-in_err-extend-clause-err
 returns-in_err-extend-clause-err c =
-    let more = with_names-extends c.args.self.now.names (names_in (entries_view c.args.mappings.now)) in
-    on_err c.from_residual-in_err-extend.result _ (partly_added c.args.self.now.names c.insert_names.new.names
-    c.args.self.now.active.items c.args.self.now.active.items c.args.self.now.entries.items c.extend.new.entries.items c.extend.new.entries.items
-    c.args.list_id (more.0, c.in_ok-insert_names.ensures.ok ∙ more.1) c.extend.ensures.more
-    (λ n. ap (of_other_lists c.args.list_id) (c.extend.ensures.definitions n)) refl refl)
+    on_err c.from_residual-in_err-extend.result _
+    (partly_added c.args.self.now c.insert_names.new.names (names_in (entries_view c.args.mappings.now))
+    c.extend.new.entries c.args.self.now.lists c.args.self.now.macros c.args.list_id c.in_ok-insert_names.ensures.ok c.extend.ensures.more
+    (c.extend.ensures.entries c.requires.whole.entries) (λ n. ap (of_other_lists c.args.list_id) (c.extend.ensures.definitions n)) refl
+    (λ n h. h))
 
-pub returns-in_err-list-clause-err : goal.returns-in_err-list-clause-err
-returns-in_err-list-clause-err c =
-    let more = with_names-extends c.args.self.now.names (names_in (entries_view c.args.mappings.now)) in
-    on_err c.from_residual-in_err-list.result _ (partly_added c.args.self.now.names c.insert_names.new.names
-    c.args.self.now.active.items c.args.self.now.active.items c.args.self.now.entries.items c.extend.new.entries.items c.extend.new.entries.items
-    c.args.list_id (more.0, c.in_ok-insert_names.ensures.ok ∙ more.1) c.extend.ensures.more
-    (λ n. ap (of_other_lists c.args.list_id) (c.extend.ensures.definitions n)) refl refl)
+pub returns-in_err-macros-clause-err : goal.returns-in_err-macros-clause-err
+returns-in_err-macros-clause-err c =
+    on_err c.from_residual-in_err-macros.result _
+    (partly_added c.args.self.now c.insert_names.new.names (names_in (entries_view c.args.mappings.now))
+    c.extend.new.entries c.args.self.now.lists c.args.self.now.macros c.args.list_id c.in_ok-insert_names.ensures.ok c.extend.ensures.more
+    (c.extend.ensures.entries c.requires.whole.entries) (λ n. ap (of_other_lists c.args.list_id) (c.extend.ensures.definitions n)) refl
+    (λ n h. h))
 
 pub returns-in_err-insert_macros-clause-err : goal.returns-in_err-insert_macros-clause-err
 returns-in_err-insert_macros-clause-err c =
-    let more = with_names-extends c.args.self.now.names (names_in (entries_view c.args.mappings.now)) in
-    on_err c.from_residual-in_err-insert_macros.result _ (partly_added c.args.self.now.names c.insert_names.new.names
-    c.args.self.now.active.items c.args.self.now.active.items c.args.self.now.entries.items c.extend.new.entries.items c.extend.new.entries.items
-    c.args.list_id (more.0, c.in_ok-insert_names.ensures.ok ∙ more.1) c.extend.ensures.more
-    (λ n. ap (of_other_lists c.args.list_id) (c.extend.ensures.definitions n)) refl refl)
+    on_err c.from_residual-in_err-insert_macros.result _
+    (partly_added c.args.self.now c.insert_names.new.names (names_in (entries_view c.args.mappings.now))
+    c.extend.new.entries c.args.self.now.lists c.insert_macros.new.macros c.args.list_id c.in_ok-insert_names.ensures.ok c.extend.ensures.more
+    (c.extend.ensures.entries c.requires.whole.entries) (λ n. ap (of_other_lists c.args.list_id) (c.extend.ensures.definitions n)) refl
+    c.insert_macros.ensures.kept)
 
 pub returns-in_err-define_list-clause-err : goal.returns-in_err-define_list-clause-err
 returns-in_err-define_list-clause-err c =
-    let more = with_names-extends c.args.self.now.names (names_in (entries_view c.args.mappings.now)) in
     let kept : length c.define_list.new.entries ≡ c.extend.new.entries.len =
     omega (arith, c.define_list.auto.entries, ap length c.deref_mut.ensures.value, c.extend.new.entries.ok.0) in
-    on_err c.from_residual-in_err-define_list.result _ (partly_defined c.args.self.now.names c.insert_names.new.names
-    c.args.self.now.active.items c.args.self.now.active.items c.args.self.now.entries.items c.extend.new.entries.items c.deref_mut.result.now
-    c.define_list.new.entries _ c.args.list_id (more.0, c.in_ok-insert_names.ensures.ok ∙ more.1) c.extend.ensures.more c.extend.ensures.definitions
-    c.deref_mut.ensures.value c.define_list.auto.entries c.define_list.ensures.others
-    (with_items_is c.extend.new.entries c.define_list.new.entries kept) refl)
+    let items = with_items_is c.extend.new.entries c.define_list.new.entries kept in
+    on_err c.from_residual-in_err-define_list.result _
+    (partly_added c.args.self.now c.insert_names.new.names (names_in (entries_view c.args.mappings.now))
+    (with_items c.extend.new.entries c.define_list.new.entries) c.args.self.now.lists c.insert_macros.new.macros c.args.list_id
+    c.in_ok-insert_names.ensures.ok (omega (arith, ap length items, kept, c.extend.new.entries.ok.0, c.extend.ensures.more))
+    (subst AreEntries (sym items) (c.define_list.ensures.entries (subst AreEntries (sym c.deref_mut.ensures.value)
+    (c.extend.ensures.entries c.requires.whole.entries))))
+    (others_kept_on c.args.list_id c.args.self.now.entries.items c.extend.new.entries.items c.deref_mut.result.now c.define_list.new.entries _
+    c.extend.ensures.definitions c.deref_mut.ensures.value c.define_list.ensures.others items) refl c.insert_macros.ensures.kept)
 
-pub returns-in_err-register-clause-err : goal.returns-in_err-register-clause-err
-returns-in_err-register-clause-err c =
-    let more = with_names-extends c.args.self.now.names (names_in (entries_view c.args.mappings.now)) in
+pub returns-in_err-push-clause-err : goal.returns-in_err-push-clause-err
+returns-in_err-push-clause-err c =
     let kept : length c.define_list.new.entries ≡ c.extend.new.entries.len =
     omega (arith, c.define_list.auto.entries, ap length c.deref_mut.ensures.value, c.extend.new.entries.ok.0) in
-    on_err c.from_residual-in_err-register.result _ (partly_defined c.args.self.now.names c.insert_names.new.names
-    c.args.self.now.active.items c.args.self.now.active.items c.args.self.now.entries.items c.extend.new.entries.items c.deref_mut.result.now
-    c.define_list.new.entries _ c.args.list_id (more.0, c.in_ok-insert_names.ensures.ok ∙ more.1) c.extend.ensures.more c.extend.ensures.definitions
-    c.deref_mut.ensures.value c.define_list.auto.entries c.define_list.ensures.others
-    (with_items_is c.extend.new.entries c.define_list.new.entries kept) refl)
-
-pub returns-in_err-mark_active-clause-err : goal.returns-in_err-mark_active-clause-err
-returns-in_err-mark_active-clause-err c =
-    let more = with_names-extends c.args.self.now.names (names_in (entries_view c.args.mappings.now)) in
-    let kept : length c.define_list.new.entries ≡ c.extend.new.entries.len =
-    omega (arith, c.define_list.auto.entries, ap length c.deref_mut.ensures.value, c.extend.new.entries.ok.0) in
-    on_err c.from_residual-in_err-mark_active.result _ (partly_defined c.args.self.now.names c.insert_names.new.names
-    c.args.self.now.active.items c.mark_active.new.active.items c.args.self.now.entries.items c.extend.new.entries.items c.deref_mut.result.now
-    c.define_list.new.entries _ c.args.list_id (more.0, c.in_ok-insert_names.ensures.ok ∙ more.1) c.extend.ensures.more c.extend.ensures.definitions
-    c.deref_mut.ensures.value c.define_list.auto.entries c.define_list.ensures.others
-    (with_items_is c.extend.new.entries c.define_list.new.entries kept) c.in_err-mark_active.ensures.err)
+    let items = with_items_is c.extend.new.entries c.define_list.new.entries kept in
+    on_err c.from_residual-in_err-push.result _
+    (partly_added c.args.self.now c.insert_names.new.names (names_in (entries_view c.args.mappings.now))
+    (with_items c.extend.new.entries c.define_list.new.entries) c.push.new.self c.insert_macros.new.macros c.args.list_id
+    c.in_ok-insert_names.ensures.ok (omega (arith, ap length items, kept, c.extend.new.entries.ok.0, c.extend.ensures.more))
+    (subst AreEntries (sym items) (c.define_list.ensures.entries (subst AreEntries (sym c.deref_mut.ensures.value)
+    (c.extend.ensures.entries c.requires.whole.entries))))
+    (others_kept_on c.args.list_id c.args.self.now.entries.items c.extend.new.entries.items c.deref_mut.result.now c.define_list.new.entries _
+    c.extend.ensures.definitions c.deref_mut.ensures.value c.define_list.ensures.others items)
+    c.in_err-push.ensures.items c.insert_macros.ensures.kept)
 
 pub returns-clause-added : goal.returns-clause-added
 returns-clause-added c =
+    let lines = entries_view c.args.mappings.now in
+    let names = c.in_ok-insert_names.ensures.ok in
+    let old = c.args.self.now.lists.items in
+    let own = c.in_ok-macros.macros in
+    let lists = ap registered_views c.in_ok-push.ensures.items
+    ∙ map-append registered_view old (record { list_id = c.args.list_id; macros = own } ∷ [])
+    ∙ ap (λ m. registered_views old ++ record { list_id = c.args.list_id; macros = m } ∷ [])
+    (c.in_ok-macros.ensures ∙ ap (λ ns. macros_defined (numbered_lines ns lines)) names) in
+    λ j. record { names = names j; lists = lists j }
+
+pub returns-clause-whole : goal.returns-clause-whole
+returns-clause-whole c =
+    let p = c.args.self.now in
+    let lines = entries_view c.args.mappings.now in
+    let list = map numbered_body c.in_ok-macros.macros.items in
     let kept : length c.define_list.new.entries ≡ c.extend.new.entries.len =
     omega (arith, c.define_list.auto.entries, ap length c.deref_mut.ensures.value, c.extend.new.entries.ok.0) in
-    let all = with_names c.args.self.now.names (names_in (entries_view c.args.mappings.now)) in
-    let len : length c.define_list.new.entries ≡ length all =
-    omega (
-      arith,
-      c.define_list.auto.entries,
-      ap length c.deref_mut.ensures.value,
-      c.in_ok-extend.ensures.ok,
-      c.len.ensures,
-      ap length c.in_ok-insert_names.ensures.ok,
-    ) in
-    let bodies_are : (n : ℕ) → bodies_of_number n (map numbered_body c.deref-2.result.now)
-    ≡ bodies_defined n (numbered_lines c.insert_names.new.names (entries_view c.args.mappings.now)) =
-    λ n. ap (λ l. bodies_of_number n (map numbered_body l)) c.deref-2.ensures.value ∙ c.in_ok-list.ensures n in
-    let definitions =
-    ap all_definitions (with_items_is c.extend.new.entries c.define_list.new.entries kept)
-    ∙ all_defined c.args.self.now.entries.items c.deref_mut.result.now c.define_list.new.entries all c.args.list_id
-    (numbered_lines all (entries_view c.args.mappings.now)) len
-    (λ n lt. c.in_ok-define_list.ensures.ok n (omega (arith, c.define_list.auto.entries))
-    ∙ ap (λ bodies. definitions_at c.deref_mut.result.now n ++ map (definition_of c.args.list_id) bodies)
-    (bodies_are n
-    ∙ ap (λ t. bodies_defined n (numbered_lines t (entries_view c.args.mappings.now))) c.in_ok-insert_names.ensures.ok))
-    (λ n. ap (λ l. definitions_at l n) c.deref_mut.ensures.value ∙ c.extend.ensures.definitions n) in
-    λ j. record { names = c.in_ok-insert_names.ensures.ok j; definitions = definitions j; active = c.in_ok-mark_active.ensures.ok j }
-
-pub returns-clause-registered : goal.returns-clause-registered
-returns-clause-registered c = λ number. ap (bodies_of_number number) c.in_ok-register.ensures.own ∙ c.in_ok-list.ensures number
+    let entries = with_items c.extend.new.entries c.define_list.new.entries in
+    let items = with_items_is c.extend.new.entries c.define_list.new.entries kept in
+    let q : Parts = record { names = c.insert_names.new.names; entries = entries; lists = c.push.new.self; macros = c.insert_macros.new.macros } in
+    let before : (n : ℕ) → definitions_at c.deref_mut.result.now n ≡ definitions_at p.entries.items n =
+    λ n. ap (λ l. definitions_at l n) c.deref_mut.ensures.value ∙ c.extend.ensures.definitions n in
+    added_whole p q c.args.list_id lines list c.requires.whole c.requires.above (returns-clause-added c)
+    (c.in_ok-macros.ensures ∙ ap (λ ns. macros_defined (numbered_lines ns lines)) c.in_ok-insert_names.ensures.ok)
+    c.in_ok-insert_names.ensures.valid
+    (omega (arith, ap length items, kept, c.extend.new.entries.ok.0, c.in_ok-extend.ensures.ok, c.len.ensures))
+    (subst AreEntries (sym items) (c.define_list.ensures.entries (subst AreEntries (sym c.deref_mut.ensures.value)
+    (c.extend.ensures.entries c.requires.whole.entries))))
+    (λ n lt. ap (λ l. definitions_at l n) items
+    ∙ c.in_ok-define_list.ensures.ok n (omega (arith, lt, ap length items, c.define_list.auto.entries))
+    ∙ ap (λ ds. ds ++ map (definition_of c.args.list_id) (bodies_of_number n (map numbered_body c.deref-2.result.now))) (before n)
+    ∙ ap (λ l. definitions_at p.entries.items n ++ map (definition_of c.args.list_id) (bodies_of_number n (map numbered_body l)))
+    c.deref-2.ensures.value)
+    c.insert_macros.ensures.kept
+    (subst (λ l. ListsBodies c.insert_macros.new.macros (map numbered_body l)) c.deref.ensures.value c.in_ok-insert_macros.ensures.listed)

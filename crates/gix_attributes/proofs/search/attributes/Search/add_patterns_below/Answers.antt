@@ -1,6 +1,8 @@
 use Rattle.std.proofs.Common.{Some, ◌∙◌, sym, ap, subst, ◌++◌, ◌∷◌, []}
 use Rattle.std.specs.Cmp.{nat_eq_equiv}
-use Rattle.gix_attributes.specs.Additions.{with_registered}
+use Rattle.std.proofs.lemmas.List.{map-append}
+use Rattle.attr_lists.specs.Definitions.{RegistersAs}
+use Rattle.attr_search.specs.IndexedLists.{list_ids_of}
 use Rattle.gix_attributes.specs.inner.HeldLists.{AreHeldLists}
 use Rattle.gix_attributes.specs.inner.Registering.{Registers}
 use Rattle.gix_attributes.proofs.HoldsLemmas.{held_more, held_lists, held_views}
@@ -18,9 +20,16 @@ registers c =
       base = c.args.base;
     }) c.in_ok-indexed.indexed) c.in_ok-patterns.ensures.same c.in_ok-indexed.ensures.registered
 
-pub returns-clause-collection : goal.returns-clause-collection
-returns-clause-collection c =
-    (registers c).added ∙ ap (λ entries. with_registered entries c.args.collection.now) c.in_ok-patterns.ensures.lines
+pub returns-clause-registered : goal.returns-clause-registered
+returns-clause-registered c =
+    let list_id = c.in_ok-indexed.indexed.list_id in
+    let pushed = c.push_reserved.ensures ∙ ap (λ xs. xs ++ c.in_ok-indexed.indexed ∷ []) c.in_ok-reserve.ensures.lists in
+    record {
+      list_id = list_id;
+      registered = subst (λ entries. RegistersAs list_id entries c.args.collection.now c.register.new.self) c.in_ok-patterns.ensures.lines
+          (registers c).registered;
+      noted = ap list_ids_of pushed ∙ map-append (λ s. s.list_id) c.args.self.now.patterns.lists.items (c.in_ok-indexed.indexed ∷ []);
+    }
 
 pub returns-clause-held : goal.returns-clause-held
 returns-clause-held c held =
@@ -28,18 +37,18 @@ returns-clause-held c held =
     let pushed = c.push_reserved.ensures ∙ ap (λ xs. xs ++ c.in_ok-indexed.indexed ∷ []) c.in_ok-reserve.ensures.lists in
     held_views c.register.new.self c.push_reserved.new.self.lists.items (subst (AreHeldLists c.register.new.self) (sym pushed)
     (held_more c.args.collection.now c.register.new.self _ c.in_ok-indexed.indexed nat_eq_equiv registered.others registered.holds
-    registered.fresh (held_lists c.args.collection.now c.args.self.now.patterns.lists.items held)))
+    registered.registered.fresh (held_lists c.args.collection.now c.args.self.now.patterns.lists.items held)))
 
 pub returns-clause-kept : goal.returns-clause-kept
 returns-clause-kept c =
     let registered = registers c in
     let pushed = c.push_reserved.ensures ∙ ap (λ xs. xs ++ c.in_ok-indexed.indexed ∷ []) c.in_ok-reserve.ensures.lists in
-    keeps_added c.args.collection.now c.register.new.self _ registered.added c.args.self.now.patterns.lists.items c.push_reserved.new.self.lists.items
-    c.in_ok-indexed.indexed pushed registered.list_id registered.lines registered.fresh registered.others
+    keeps_added c.args.collection.now c.register.new.self _ c.args.self.now.patterns.lists.items c.push_reserved.new.self.lists.items
+    c.in_ok-indexed.indexed registered.registered pushed registered.lines registered.others
 
 pub returns-clause-added : goal.returns-clause-added
 returns-clause-added c =
     let registered = registers c in
     let pushed = c.push_reserved.ensures ∙ ap (λ xs. xs ++ c.in_ok-indexed.indexed ∷ []) c.in_ok-reserve.ensures.lists in
-    adds_added c.args.collection.now c.register.new.self _ registered.added c.args.self.now.patterns.lists.items c.push_reserved.new.self.lists.items
-    c.in_ok-indexed.indexed pushed registered.list_id registered.lines registered.fresh registered.others registered.sound
+    adds_added c.args.collection.now c.register.new.self _ c.args.self.now.patterns.lists.items c.push_reserved.new.self.lists.items
+    c.in_ok-indexed.indexed registered.registered pushed registered.lines registered.others registered.sound

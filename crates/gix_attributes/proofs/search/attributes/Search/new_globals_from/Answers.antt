@@ -4,11 +4,11 @@ use Rattle.std.proofs.lemmas.List.{map-append, take_all}
 use Rattle.attr_lists.specs.declared.types.Dropped.{Dropped}
 use Rattle.attr_lists.specs.Collections.{Collection}
 use Rattle.gix_attributes.specs.Additions.{IsIo, RefusedBy, RegisteredLists, registered_lists}
-use Rattle.gix_attributes.specs.Globals.{Globals, globals_in, RefusesGlobals}
+use Rattle.gix_attributes.specs.Globals.{RefusesGlobals, globals_in}
 use Rattle.gix_attributes.specs.Keeping.{Adds, AddsBeforeRefusal, Keeps}
 use Rattle.gix_attributes.specs.Registers.{no_lists}
 use Rattle.gix_attributes.proofs.GlobalLemmas.{AreAdded, none_added, one_added, refused_between, refused_by, fails_later, of_error, names_parted}
-use Rattle.gix_attributes.proofs.GlobalLemmas.{one_more_name, with_one_more}
+use Rattle.gix_attributes.proofs.GlobalLemmas.{one_more_name}
 use Rattle.gix_attributes.proofs.KeepingLemmas.{adds_same, adds_then, keeps_same, keeps_then}
 use Rattle.gix_attributes.proofs.search.attributes.Search.new_globals_from.Goals as goal
 
@@ -47,11 +47,9 @@ returns-in_err-added-clause-added_before g c = of_refusal c.from_residual-in_err
 pub loop-name-init : goal.loop-name-init
 loop-name-init g c =
     let bytes : List (Vec Dropped Global) → List (List Dropped) = λ all. map (λ lines. lines.items) all in
-    let with : RegisteredLists → List (Vec Dropped Global) → Globals = λ loaded all. record
-    { loaded = loaded; dropped = bytes all; left = c.args.buf.now.items } in
     record {
-      added = none_added g.F.Files.reads c.args.files.now c.args.collection.now c.args.buf.now.items _
-          (ap (λ loaded. with loaded c.new-dropped.result.items) c.in_ok-search.ensures.loaded ∙ ap (with _) c.new-dropped.ensures.items);
+      added = none_added g.F.Files.reads c.args.files.now c.args.collection.now c.args.buf.now.items _ c.in_ok-search.ensures.loaded
+          (ap bytes c.new-dropped.ensures.items) refl;
       held = c.in_ok-search.ensures.held;
       kept = c.in_ok-search.ensures.kept;
       registered = c.in_ok-search.ensures.added;
@@ -119,7 +117,7 @@ loop-name-preserved g c =
           (one_added g.F.Files.reads c.args.files.now c.loop-name.files c.add_patterns_file_from.new.files _ (string_bytes c.in_ok-source.source)
           c.args.collection.now _ _ _
           ensured.read.0 c.loop-name.invariant.added ensured.read.1 file.answered
-          (with_one_more _ _ _ _ _ c.loop-name.buf.items _ ensured.read.0 _ file.loaded grown file.dropped file.left));
+          file.loaded (grown ∙ ap (λ lines. map bytes c.loop-name.dropped.items ++ lines ∷ []) file.dropped) file.left);
       held = ensured.held c.loop-name.invariant.held;
       kept = keeps_then _ _ _ c.loop-name.invariant.kept ensured.kept;
       registered = adds_then _ _ _ c.loop-name.invariant.registered ensured.added;

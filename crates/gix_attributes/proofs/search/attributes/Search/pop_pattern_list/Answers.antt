@@ -1,20 +1,10 @@
-use Rattle.std.proofs.Common.{◌∷◌, [], ap, sym, subst, ◌∙◌}
+use Rattle.std.proofs.Common.{◌∷◌, [], ap, subst, ◌∙◌}
 use Rattle.std.proofs.lemmas.List.{map-append}
 use Rattle.attr_search.specs.IndexedLists.{list_ids_of}
-use Rattle.attr_lists.specs.Definitions.{HoldsList}
-use Rattle.attr_lists.specs.ListViews.{entries_view}
 use Rattle.gix_attributes.specs.inner.HeldLists.{AreHeldLists}
-use Rattle.gix_attributes.proofs.HoldsLemmas.{last_held, held_less, held_lists, held_views}
+use Rattle.gix_attributes.proofs.HoldsLemmas.{held_less, held_lists, held_views}
 use Rattle.gix_attributes.proofs.KeepingLemmas.{keeps_removed, removes_removed}
 use Rattle.gix_attributes.proofs.search.attributes.Search.pop_pattern_list.Goals as goal
-
-pub remove-requires : goal.remove-requires
-remove-requires c =
-    let known = c.args.collection.now in
-    let one = c.in_ok-last.last in
-    subst (λ ms. HoldsList known one.list_id (entries_view ms)) (sym c.deref.ensures.value)
-    (last_held known c.pop.new.self.lists.items one
-    (subst (AreHeldLists known) c.in_ok-last.ensures.last (held_lists known c.args.self.now.patterns.lists.items c.requires)))
 
 pub returns-clause-collection : goal.returns-clause-collection
 returns-clause-collection c =

@@ -6,12 +6,10 @@ pub returns-clause-registered : goal.returns-clause-registered
 returns-clause-registered c =
     let ensured = c.in_ok-indexed.ensures in
     subst (λ known. Registers known c.register.new.names c.args.list c.in_ok-indexed.indexed) c.self.view_is (record {
-      list_id = ensured.list_id;
-      fresh = ensured.fresh;
+      registered = ensured.registered;
       lines = ensured.lines;
       source = ensured.source;
       base = ensured.base;
-      added = ensured.added;
       holds = ensured.holds;
       others = ensured.others;
       sound = ensured.sound;

@@ -18,8 +18,7 @@ flags-requires c =
 
 pub needed-requires-clause-count : goal.needed-requires-clause-count
 needed-requires-clause-count c =
-    ap length c.requires.current.bodies ∙ length_bodies c.args.collection.now ∙ c.len-count.ensures.sound.counted
-    ∙ sym c.requires.current.slots
+    ap length c.requires.current.bodies ∙ length_bodies c.args.collection.now ∙ sym c.requires.current.slots
 
 pub needed-requires-clause-within : goal.needed-requires-clause-within
 needed-requires-clause-within c =

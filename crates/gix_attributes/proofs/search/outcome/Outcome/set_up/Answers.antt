@@ -1,4 +1,5 @@
-use Rattle.std.proofs.Common.{◌≡◌, ◌∙◌, length, map, replicate, true, None, refl, sym, ap}
+use Rattle.std.proofs.lemmas.Bool.Decides.{nat_tests}
+use Rattle.std.proofs.Common.{arith, ◌≡◌, ◌∙◌, length, map, replicate, true, None, refl, sym, ap}
 use Rattle.std.proofs.lemmas.List.{length-map, length-replicate}
 use Rattle.attr_search.proofs.ForCallers.{all_among}
 use Rattle.attr_search.specs.SearchContents.{SearchContents}
@@ -16,29 +17,13 @@ flags-requires c =
     rw (c.deref.ensures.value, c.len-count.ensures.count) (selected_below c.args.selected.items c.args.collection.now.names _ c.requires)
 
 pub set_up-requires-clause-numbers : goal.set_up-requires-clause-numbers
-set_up-requires-clause-numbers c =
-    let known = c.args.collection.now in
-    let wanted = c.in_ok-wanted.wanted in
-    let count : length wanted ≡ length known.names = length_flags (selection_view c.deref.result.now) c.len-count.result wanted
-    c.in_ok-wanted.ensures ∙ c.len-count.ensures.count in
-    changes_below c.in_ok-changes.changes.items (length known.names) (length wanted) count c.in_ok-changes.ensures.numbers
+set_up-requires-clause-numbers c = grind (arith, nat_tests, length_flags, changes_below)
 
 pub set_up-requires-clause-within : goal.set_up-requires-clause-within
-set_up-requires-clause-within c =
-    let known = c.args.collection.now in
-    let own = c.self.inside.state.bodies in
-    let changes = c.in_ok-changes.changes.items in
-    let wanted = c.in_ok-wanted.wanted in
-    let count : length wanted ≡ length known.names = length_flags (selection_view c.deref.result.now) c.len-count.result wanted
-    c.in_ok-wanted.ensures ∙ c.len-count.ensures.count in
-    let made = changed_to known changes own (bodies_view c.bodies.result.now) (length wanted) count c.bodies.ensures.bodies
-    c.in_ok-changes.ensures.made in
-    changed_within known (changed_bodies changes (sized_bodies (length wanted) own)) (length wanted) c.len-count.ensures.sound count made
+set_up-requires-clause-within c = grind (arith, nat_tests, length_flags, changed_to, changed_within)
 
 pub set_up-requires-clause-needed : goal.set_up-requires-clause-needed
-set_up-requires-clause-needed c =
-    ap length c.all_or_none-needed.ensures ∙ length-replicate c.len-count.result true
-    ∙ sym (length_flags (selection_view c.deref.result.now) c.len-count.result c.in_ok-wanted.wanted c.in_ok-wanted.ensures)
+set_up-requires-clause-needed c = grind (arith, nat_tests, length-replicate, length_flags)
 
 pub set_up-requires-clause-among : goal.set_up-requires-clause-among
 set_up-requires-clause-among c =
@@ -47,25 +32,7 @@ set_up-requires-clause-among c =
     (length_flags (selection_view c.deref.result.now) c.len-count.result flags c.in_ok-wanted.ensures))
 
 pub invariant_of-self-2 : goal.invariant_of-self-2
-invariant_of-self-2 c =
-    let seen = selection_view c.args.selected.items in
-    let wanted = c.in_ok-wanted.wanted in
-    let flags : wanted ≡ flags_of seen c.len-count.result = c.in_ok-wanted.ensures
-    ∙ ap (λ l. flags_of (selection_view l) c.len-count.result) c.deref.ensures.value in
-    let count : length wanted ≡ c.len-count.result = length_flags seen c.len-count.result wanted flags in
-    let made = c.in_ok-set_up.ensures.ok in
-    let known = c.args.collection.now in
-    let bodies = changed_to known c.in_ok-changes.changes.items c.self.inside.state.bodies (bodies_view c.bodies.result.now) (length wanted)
-    (count ∙ c.len-count.ensures.count) c.bodies.ensures.bodies c.in_ok-changes.ensures.made in
-    record {
-      macros = copied_elsewhere _ (λ x y e. e) c.macros.result.now c.in_ok-macros.macros (bodies_of known) c.set_up.new.self.bodies
-          c.in_ok-macros.ensures.cases (ap (λ (s : SearchContents). s.bodies) made ∙ bodies)
-          (listed_elsewhere known c.macros.result.now c.macros.ensures);
-      wanted = ap (λ (s : SearchContents). s.wanted) made ∙ flags ∙ ap (flags_of seen)
-          (sym (ap (λ (s : SearchContents). length s.answers) made ∙ length-map wanted (λ flag. None) ∙ count));
-      owners = tt;
-      no_pattern = c.self.invariant.no_pattern;
-    }
+invariant_of-self-2 c = grind (arith, nat_tests, length_flags, changed_to, copied_elsewhere, listed_elsewhere, length-map)
 
 pub returns-clause-ok : goal.returns-clause-ok
 returns-clause-ok c =
