@@ -10,13 +10,12 @@ use Rattle.std.proofs.lemmas.List.Kept.{IsNonDecreasingBy-filter}
 use Rattle.attr_lists.specs.declared.name_table.entry.Definition.{Definition}
 use Rattle.attr_lists.specs.declared.name_table.entry.NameEntry.{NameEntry}
 use Rattle.attr_lists.specs.declared.types.TrackedAssignment.{TrackedAssignment}
-use Rattle.attr_lists.specs.declared.types.Metadata.{Metadata}
 use Rattle.attr_lists.specs.Collections.{MacroDefinition, NumberedBody}
 use Rattle.attr_lists.specs.Definitions.{bodies_of_number, definition_of, is_of_list, of_other_lists}
 use Rattle.attr_lists.specs.inner.EntrySteps.{RemovesListed}
 use Rattle.attr_lists.specs.inner.EntryViews.{definition_view, definitions_view, all_definitions, definitions_at, AreAllInOrder, AreInListOrder}
 use Rattle.attr_lists.specs.inner.EntryViews.{IsEntry, AreEntries}
-use Rattle.attr_lists.specs.inner.Registered.{numbered_body}
+use Rattle.attr_lists.specs.inner.Registered.{SharedMacro, numbered_body}
 use Rattle.attr_lists.proofs.DefinitionLemmas.{of_other_lists-again, of_other_lists-more}
 use Rattle.attr_lists.proofs.ListLemmas.{front, front-more, get_or-map}
 use Rattle.attr_lists.proofs.NameTableLaws.{bodies_of_number-append}
@@ -36,10 +35,10 @@ pub others_kept : (list_id : ℕ) (old new : List Definition) → new ≡ filter
 others_kept list_id old new e = ap (map definition_view) e ∙ filter-map (λ d. not (is_of_list list_id d)) definition_view old
 
 pub ids_kept : (list_id number : ℕ) (old new : List Definition) → new ≡ filter (λ d. not (eqb d.list_id list_id)) old → All
-    (λ d. d.metadata.id.0 ≡ number) old → All (λ d. d.metadata.id.0 ≡ number) new
+    (λ d. d.metadata.value.id.0 ≡ number) old → All (λ d. d.metadata.value.id.0 ≡ number) new
 ids_kept list_id number old new e h =
-    subst (All (λ (d : Definition). d.metadata.id.0 ≡ number)) (sym e)
-    (All-filter (λ d. not (eqb d.list_id list_id)) (λ (d : Definition). d.metadata.id.0 ≡ number) old h)
+    subst (All (λ (d : Definition). d.metadata.value.id.0 ≡ number)) (sym e)
+    (All-filter (λ d. not (eqb d.list_id list_id)) (λ (d : Definition). d.metadata.value.id.0 ≡ number) old h)
 
 push_nothing : {X : Type 0} (xs : List (List X)) (n : ℕ) → get_or (xs ++ [] ∷ []) n [] ≡ get_or xs n []
 push_nothing [] zero = refl
@@ -109,7 +108,7 @@ remove_all_step list_id start entries i d x lt e is =
     (is ∙ ap (of_other_lists list_id) (sym (get_or-map definitions_view entries i d))) e
 
 -- the definitions of a name after those of one more macro are added
-pub define_list_step : (list_id number : ℕ) (start entries now : List NameEntry) (list : List Metadata) (i : ℕ) (known : Metadata)
+pub define_list_step : (list_id number : ℕ) (start entries now : List NameEntry) (list : List SharedMacro) (i : ℕ) (known : SharedMacro)
     → i < length list → known ≡ get_or list i known
     → definitions_at entries number ++ map (definition_of list_id) (bodies_of_number number (map numbered_body (drop i list)))
     ≡ definitions_at start number ++ map (definition_of list_id) (bodies_of_number number (map numbered_body list))
@@ -117,7 +116,7 @@ pub define_list_step : (list_id number : ℕ) (start entries now : List NameEntr
     → definitions_at now number ++ map (definition_of list_id) (bodies_of_number number (map numbered_body (drop (i + 1) list)))
     ≡ definitions_at start number ++ map (definition_of list_id) (bodies_of_number number (map numbered_body list))
 define_list_step list_id number start entries now list i known lt at before here =
-    let bodies = λ (l : List Metadata). map (definition_of list_id) (bodies_of_number number (map numbered_body l)) in
+    let bodies = λ (l : List SharedMacro). map (definition_of list_id) (bodies_of_number number (map numbered_body l)) in
     let first = get_or list i known in
     let rest = drop (i + 1) list in
     ap (λ l. l ++ bodies rest) (here ∙ ap (λ k. definitions_at entries number ++ bodies (k ∷ [])) at)
@@ -175,8 +174,8 @@ module _ (list_id at : ℕ) (old new : List NameEntry) (here : definitions_at ne
       (λ apart. subst AreInListOrder (sym (others n apart)) (all n))
       (cases_eq n at)
 
-  pub removed_step : (start : List NameEntry) (list : List Metadata) (i : ℕ) (known : Metadata) → i < length list → known ≡ get_or list i known
-      → at ≡ known.id.0 → RemovesListed list_id (map numbered_body (take i list)) start old
+  pub removed_step : (start : List NameEntry) (list : List SharedMacro) (i : ℕ) (known : SharedMacro) → i < length list → known ≡ get_or list i known
+      → at ≡ known.value.id.0 → RemovesListed list_id (map numbered_body (take i list)) start old
       → RemovesListed list_id (map numbered_body (take (i + 1) list)) start new
   removed_step start list i known lt is at_is before n =
       ⊎_elim
@@ -191,7 +190,7 @@ module _ (list_id at : ℕ) (old new : List NameEntry) (here : definitions_at ne
         subst (All (λ (b : NumberedBody). b.number ≢ n)) (sym (ap (map numbered_body) (take_more list i known lt)
             ∙ map-append numbered_body (take i list) (get_or list i known ∷ [])))
             (All-push (λ (b : NumberedBody). b.number ≢ n) (map numbered_body (take i list)) (numbered_body (get_or list i known)) e.0
-            (λ same. apart (sym same ∙ ap (λ (m : Metadata). m.id.0) (sym is) ∙ sym at_is))),
+            (λ same. apart (sym same ∙ ap (λ (m : SharedMacro). m.value.id.0) (sym is) ∙ sym at_is))),
         others n apart ∙ e.1,
       ))
       (before n))
@@ -230,11 +229,11 @@ all_of_map : {X Y : Type 0} (P : Y → Type 0) (f : X → Y) (xs : List X) → A
 all_of_map P f [] h = All-nil (λ x. P (f x))
 all_of_map P f (x ∷ xs) h = All-cons (λ y. P (f y)) x xs (All-head P (f x) (map f xs) h) (all_of_map P f xs (All-tail P (f x) (map f xs) h))
 
-pub ids_copied : (number : ℕ) (old new : List Definition) → map (λ (d : Definition). d.metadata.id.0) new ≡ map (λ (d : Definition). d.metadata.id.0)
-    old → All (λ d. d.metadata.id.0 ≡ number) old → All (λ d. d.metadata.id.0 ≡ number) new
+pub ids_copied : (number : ℕ) (old new : List Definition)
+    → map (λ (d : Definition). d.metadata.value.id.0) new ≡ map (λ (d : Definition). d.metadata.value.id.0) old → All (λ d. d.metadata.value.id.0 ≡ number) old → All (λ d. d.metadata.value.id.0 ≡ number) new
 ids_copied number old new e h =
-    all_of_map (λ id. id ≡ number) (λ (d : Definition). d.metadata.id.0) new
-    (subst (All (λ id. id ≡ number)) (sym e) (All-map (λ id. id ≡ number) (λ (d : Definition). d.metadata.id.0) old h))
+    all_of_map (λ id. id ≡ number) (λ (d : Definition). d.metadata.value.id.0) new
+    (subst (All (λ id. id ≡ number)) (sym e) (All-map (λ id. id ≡ number) (λ (d : Definition). d.metadata.value.id.0) old h))
 
 -- one more name is copied
 pub copied_step : (entries copy now : List NameEntry) (i : ℕ) (item x : NameEntry) → i < length entries → item ≡ get_or entries i item → now ≡ copy ++

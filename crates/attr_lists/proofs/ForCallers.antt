@@ -13,7 +13,8 @@ pub use Rattle.attr_lists.proofs.RegistersLemmas.{body_named, body_within, defin
 pub use Rattle.attr_lists.proofs.NameLemmas.{with_names-extends}
 pub use Rattle.attr_lists.proofs.NameTableLaws.{count_more, list_numbered}
 pub use Rattle.attr_lists.proofs.NamedDefinitions.{number_at}
--- Lists. `kept_macros_valid_where`: the macros that a list keeps of a buffer have valid names.
+-- Lists. `kept_macros_valid_where`: the macros that a list keeps of a buffer have valid names. `copied_lines`: a copy has the lines.
+pub use Rattle.attr_lists.proofs.CopiedLines.{copied_lines}
 pub use Rattle.attr_lists.proofs.KeptLaws.{kept_macros_valid_where}
 -- Reasoning on lists and results. `get_or-map`: an element of a mapped list. `on_ok`: a weaker fact about a result.
 pub use Rattle.attr_lists.proofs.ListLemmas.{get_or-map, on_ok}

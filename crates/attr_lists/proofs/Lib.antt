@@ -1,3 +1,4 @@
+pub mod CopiedLines
 pub mod DefinitionLemmas
 pub mod EntryLemmas
 pub mod KeptLaws

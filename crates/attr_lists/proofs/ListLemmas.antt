@@ -2,7 +2,7 @@
 use Rattle.std.proofs.Common.{◌≡◌, ℕ, ◌+◌, ◌<◌, Bool, true, ◌&&◌, List, [], ◌∷◌, ◌++◌, length, get_or, map}
 use Rattle.std.proofs.Common.{slice_get, take}
 use Rattle.std.proofs.Common.{drop, set, Some, Result, Ok, Err, OnOk, OnErr, refl, sym, ap, ◌∙◌, arith, zero, suc, add-one}
-use Rattle.std.specs.List.{list_all}
+use Rattle.std.specs.List.{list_all, refill}
 use Rattle.std.proofs.lemmas.Bool.{and_parts}
 
 pub list_all-map : {X Y : Type 0} (p : Y → Bool) (f : X → Y) (xs : List X) → list_all p (map f xs) ≡ list_all (λ x. p (f x)) xs
@@ -42,9 +42,20 @@ front-more f i start now x d h is e =
     ap (set now i) (is ∙ ap (λ l. f (get_or l i d)) e ∙ ap f (front-at f i start d))
     ∙ ap (λ l. set l i (f (get_or start i d))) e ∙ front-set f i start d h ∙ ap (λ n. front f n start) (sym (add-one i))
 
+-- a slice that was written over the whole of a list
+pub refill_whole : {X : Type 0} (xs ws : List X) → length ws ≡ length xs → refill (length xs) xs ws ≡ ws
+refill_whole [] [] e = refl
+refill_whole [] (w ∷ ws) e = absurd (omega (arith, e))
+refill_whole (x ∷ xs) [] e = absurd (omega (arith, e))
+refill_whole (x ∷ xs) (w ∷ ws) e = ap (λ l. w ∷ l) (refill_whole xs ws (omega (arith, e)))
+
 pub on_ok : {T E : Type 0} (r : Result T E) (P Q : Type 0) → (P → Q) → OnOk r P → OnOk r Q
 on_ok (Ok x) P Q f h = f h
 on_ok (Err e) P Q f h = h
+
+pub on_ok_both : {T E : Type 0} (r : Result T E) (P Q R : Type 0) → (P → Q → R) → OnOk r P → OnOk r Q → OnOk r R
+on_ok_both (Ok x) P Q R f h k = f h k
+on_ok_both (Err e) P Q R f h k = h
 
 pub on_err : {T E : Type 0} (r : Result T E) (P : Type 0) → P → OnErr r P
 on_err (Ok x) P h = tt

@@ -5,7 +5,7 @@ use Rattle.std.proofs.Common.{refl, sym, ap, subst, ◌∙◌, ⊎_elim, arith}
 use Rattle.std.specs.List.{list_any, range_with_len, IsDistinct}
 use Rattle.std.specs.Cmp.Lexicographic.{nat_list_eq_equiv}
 use Rattle.std.proofs.lemmas.Bool.{cases_Bool, cond-true, cond-false, lt-ltb}
-use Rattle.std.proofs.lemmas.List.{append-nil, append_assoc, at_drop_more, length-map, length-append, get_or_at, get_or_default}
+use Rattle.std.proofs.lemmas.List.{append-nil, append_assoc, at_drop_more, length-append, get_or_at, get_or_default}
 use Rattle.std.proofs.lemmas.List.{get_or_append_left}
 use Rattle.std.proofs.lemmas.List.Elements.{All-push}
 use Rattle.std.proofs.lemmas.List.Folds.{list_any_none}
@@ -15,11 +15,9 @@ use Rattle.attr_text.specs.Names.{is_valid_name}
 use Rattle.attr_glob.specs.declared.search.pattern.Mapping.{Mapping}
 use Rattle.attr_lists.specs.declared.types.TrackedAssignment.{TrackedAssignment}
 use Rattle.attr_lists.specs.declared.types.Value.{Value}
-use Rattle.attr_lists.specs.KeptLists.{macro_valid, macros_valid}
 use Rattle.attr_lists.specs.inner.EntryViews.{AreValid}
 use Rattle.attr_lists.specs.ListViews.{entry_view, entries_view}
 use Rattle.attr_lists.specs.Numbers.{names_of, names_in, with_name, with_names}
-use Rattle.attr_lists.proofs.ListLemmas.{get_or-map, list_all-within}
 
 -- a name that is there is not inserted again
 pub with_name-known : (known : List (List ℕ)) (name : List ℕ) → list_any (bytes_eq name) known ≡ true → with_name known name ≡ known
@@ -95,13 +93,6 @@ lines_step names now lines i line all lt at entered h =
     ap (λ n. with_names n behind) (entered ∙ ap (λ l. with_names names (names_of (entry_view l))) at)
     ∙ sym (fold-append with_name names (names_of (entry_view (get_or lines i line))) behind)
     ∙ sym (at_drop_more rest lines i line lt) ∙ h
-
--- a line of a list whose macros have valid names
-pub macro_valid_at : (lines : List (Mapping Value)) (i : ℕ) (line : Mapping Value) → i < length lines → line ≡ get_or lines i line → macros_valid
-    (entries_view lines) ≡ true → macro_valid (entry_view line) ≡ true
-macro_valid_at lines i line lt at valid =
-    ap macro_valid (ap entry_view at ∙ sym (get_or-map entry_view lines i line)) ∙ list_all-within macro_valid (entries_view lines) i
-    (entry_view line) (omega (arith, length-map lines entry_view)) valid
 
 -- the first of the numbers up to n, and the others
 pub range_first : {X : Type 0} (f : ℕ → X) (i n : ℕ) (x : X) → i < n → Some x ≡ cond (ltb i n) (Some (f i)) None

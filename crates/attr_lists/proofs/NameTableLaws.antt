@@ -28,7 +28,7 @@ use Rattle.attr_lists.specs.inner.EntryViews.{AreValid}
 use Rattle.attr_lists.specs.ListViews.{Entry}
 use Rattle.attr_lists.specs.Collections.{MacroDefinition, NumberedBody, RegisteredList, Collection, empty_collection}
 use Rattle.attr_lists.specs.Numbers.{macro_names, names_of, names_in, with_name, with_names, number_of, id_of, numbered_item, numbered}
-use Rattle.attr_lists.specs.Numbers.{numbered_lines, AreNamed, IsNumberOf}
+use Rattle.attr_lists.specs.Numbers.{no_number, numbered_lines, AreNamed, IsNumberOf}
 use Rattle.attr_lists.proofs.DefinitionLemmas.{bodies_defined-cons, bodies_defined-none, bodies_of_list-append}
 use Rattle.attr_lists.proofs.DefinitionLemmas.{of_other_lists-append, of_other_lists-own}
 use Rattle.attr_lists.proofs.ListLemmas.{slice_get-within}
@@ -39,11 +39,11 @@ use Rattle.attr_lists.proofs.NameLemmas.{with_name-known, with_name-new, with_na
 has_kept : (names more : List (List ℕ)) (name : List ℕ) → Has names name → Has (names ++ more) name
 has_kept names more name h = list_any-append (bytes_eq name) names more ∙ or_left (list_any (bytes_eq name) names) (list_any (bytes_eq name) more) h
 
-has_still : (known names : List (List ℕ)) (name : List ℕ) → Has known name → Has (with_names known names) name
+pub has_still : (known names : List (List ℕ)) (name : List ℕ) → Has known name → Has (with_names known names) name
 has_still known names name h =
     let more = with_names-extends known names in subst (λ l. Has l name) (sym more.1) (has_kept known more.0 name h)
 
-has_own : (known : List (List ℕ)) (name : List ℕ) → Has (with_name known name) name
+pub has_own : (known : List (List ℕ)) (name : List ℕ) → Has (with_name known name) name
 has_own known name =
     ⊎_elim (λ e. subst (λ l. Has l name) (sym (with_name-known known name e)) e)
     (λ e. subst (λ l. Has l name) (sym (with_name-new known name e))
@@ -51,7 +51,7 @@ has_own known name =
     (or_left (bytes_eq name name) false (itself name))))
     (cases_Bool (list_any (bytes_eq name) known))
 
-has_all : (known names : List (List ℕ)) → All (Has (with_names known names)) names
+pub has_all : (known names : List (List ℕ)) → All (Has (with_names known names)) names
 has_all known [] = All-nil (Has known)
 has_all known (name ∷ names) =
     All-cons (Has (with_names (with_name known name) names)) name names (has_still (with_name known name) names name (has_own known name))
@@ -141,6 +141,44 @@ pub number_stays : (known names : List (List ℕ)) (name : List ℕ) (number : �
     (with_names known names) name ≡ Some number
 number_stays known names name number h =
     let more = with_names-extends known names in subst (λ l. number_of l name ≡ Some number) (sym more.1) (number_kept known more.0 name number h)
+
+-- so its id stays, whatever names are taken after it
+pub id_stays : (names more : List (List ℕ)) (name : List ℕ) → Has names name → id_of names name ≡ id_of (with_names names more) name
+id_stays names more name has =
+    let index = position_or_len (bytes_eq name) names in
+    let here : number_of names name ≡ Some index = cond-true (ltb index (length names)) (Some index) None
+    (lt-ltb index (length names) (index_of names name has)) in
+    ap (λ (o : Option ℕ). record { 0 = unwrap_or o no_number }) (here ∙ sym (number_stays names more name index here))
+
+pub items_stay : (names more : List (List ℕ)) (items : List TrackedAssignment) → All (λ item. Has names item.inner.name) items
+    → map (numbered_item names) items ≡ map (numbered_item (with_names names more)) items
+items_stay names more [] has = refl
+items_stay names more (item ∷ items) has =
+    let own = λ (i : TrackedAssignment). Has names i.inner.name in
+    ap (λ (id : AttributeId). record { id = id; inner = item.inner } ∷ map (numbered_item names) items)
+    (id_stays names more item.inner.name (All-head own item items has))
+    ∙ ap (λ l. numbered_item (with_names names more) item ∷ l) (items_stay names more items (All-tail own item items has))
+
+-- the numbers of a line stay
+pub line_stays : (known more : List (List ℕ)) (entry : Entry) → numbered (with_names known (names_of entry)) entry ≡ numbered
+    (with_names (with_names known (names_of entry)) more) entry
+line_stays known more entry =
+    let names = with_names known (names_of entry) in
+    let own = map (λ (i : TrackedAssignment). i.inner.name) entry.items in
+    let has = has_all known (names_of entry) in
+    let items = items_stay names more entry.items
+    (all_of_map (Has names) (λ (i : TrackedAssignment). i.inner.name) entry.items (all_right (Has names) (macro_names entry) own has)) in
+    let macro = macro_stays entry.macro (all_left (Has names) (macro_names entry) own has) in
+    λ j. record { pattern = entry.pattern; macro = macro j; items = items j; line = entry.line }
+  where
+    macro_stays : (m : Option AttributeId)
+        → All (Has (with_names known (names_of entry))) (unwrap_or (option_map (λ _. entry.pattern.text ∷ []) m) [])
+        → option_map (λ _. id_of (with_names known (names_of entry)) entry.pattern.text) m
+        ≡ option_map (λ _. id_of (with_names (with_names known (names_of entry)) more) entry.pattern.text) m
+    macro_stays None has = refl
+    macro_stays (Some id) has =
+        ap Some (id_stays (with_names known (names_of entry)) more entry.pattern.text
+        (All-head (Has (with_names known (names_of entry))) entry.pattern.text [] has))
 
 pub count_more : (known names : List (List ℕ)) → length known ≤ length (with_names known names)
 count_more known names = let more = with_names-extends known names in omega (arith, ap length more.1, length-append known more.0)

@@ -18,10 +18,9 @@ use Rattle.attr_lists.specs.Collections.{NumberedBody}
 use Rattle.attr_lists.specs.ListViews.{Entry, entry_view, entries_view}
 use Rattle.attr_lists.specs.Numbers.{number_of}
 use Rattle.attr_lists.specs.inner.Registered.{numbered_body, registered_view, registered_views, bodies_of_name, AgreesAt, AgreesOn, AreAscending}
-use Rattle.attr_lists.specs.inner.Registered.{IsAbove, LineAgrees}
+use Rattle.attr_lists.specs.inner.Registered.{IsAbove, LineAgrees, SharedMacro}
 use Rattle.attr_lists.specs.declared.name_table.registered.ListMacros.{ListMacros}
 use Rattle.attr_lists.specs.declared.types.AttributeId.{AttributeId}
-use Rattle.attr_lists.specs.declared.types.Metadata.{Metadata}
 use Rattle.attr_lists.specs.declared.types.TrackedAssignment.{TrackedAssignment}
 use Rattle.attr_lists.specs.declared.types.Value.{Value}
 use Rattle.attr_lists.proofs.DefinitionLemmas.{bodies_named-cons, bodies_named-none, bodies_named-one}
@@ -70,16 +69,16 @@ lines_from lines i line name lt at =
     ∙ sym (at_drop_more (λ (l : List (Mapping Value)). bodies_named name (entries_view l)) lines i line lt)
 
 -- what is so at each number of the list is so at this one, or the list lacks it
-pub listed_or_none : (Q : ℕ → Type 0) (number : ℕ) (list : List Metadata) → All (λ known. Q known.id.0) list
+pub listed_or_none : (Q : ℕ → Type 0) (number : ℕ) (list : List SharedMacro) → All (λ known. Q known.value.id.0) list
     → All (λ b. b.number ≢ number) (map numbered_body list) ⊎ Q number
 listed_or_none Q number [] h = inl (All-nil (λ (b : NumberedBody). b.number ≢ number))
 listed_or_none Q number (known ∷ list) h =
     ⊎_elim
-    (λ (same : known.id.0 ≡ number). inr (subst Q same (All-head (λ (m : Metadata). Q m.id.0) known list h)))
-    (λ (apart : known.id.0 ≢ number).
+    (λ (same : known.value.id.0 ≡ number). inr (subst Q same (All-head (λ (m : SharedMacro). Q m.value.id.0) known list h)))
+    (λ (apart : known.value.id.0 ≢ number).
     ⊎_elim (λ none. inl (All-cons (λ (b : NumberedBody). b.number ≢ number) (numbered_body known) (map numbered_body list) apart none))
-    (λ here. inr here) (listed_or_none Q number list (All-tail (λ (m : Metadata). Q m.id.0) known list h)))
-    (cases_eq known.id.0 number)
+    (λ here. inr here) (listed_or_none Q number list (All-tail (λ (m : SharedMacro). Q m.value.id.0) known list h)))
+    (cases_eq known.value.id.0 number)
 
 -- the list has no body of a number that it lacks
 pub bodies_none : (number : ℕ) (list : List NumberedBody) → All (λ b. b.number ≢ number) list → bodies_of_number number list ≡ []
@@ -137,11 +136,11 @@ module _ (names : List (List ℕ)) (list : List NumberedBody) (lines : List Entr
       (cases_Bool (defines_name name (entry_view line)))
 
 -- a list holds lines if each macro and each line agrees
-module _ (names : List (List ℕ)) (list : List Metadata) (lines : List (Mapping Value)) where
+module _ (names : List (List ℕ)) (list : List SharedMacro) (lines : List (Mapping Value)) where
   abbrev Holds : Type 0
   Holds = (name : List ℕ) → AgreesOn names (map numbered_body list) (entries_view lines) name
 
-  pub all_agree : All (λ known. AgreesAt names (map numbered_body list) (entries_view lines) known.id.0) list
+  pub all_agree : All (λ known. AgreesAt names (map numbered_body list) (entries_view lines) known.value.id.0) list
       → All (λ m. LineAgrees names (map numbered_body list) (entries_view lines) (entry_view m)) lines → Holds
   all_agree macros agreed name =
       ⊎_elim (λ none. by_number none (number_of names name) refl) (λ here. here)
@@ -157,7 +156,7 @@ module _ (names : List (List ℕ)) (list : List Metadata) (lines : List (Mapping
           (λ agrees. agrees name (slice_get-within names n [] here.0 ∙ ap Some here.1))
           (listed_or_none (AgreesAt names (map numbered_body list) (entries_view lines)) n list macros)
 
-  pub agree_all : Holds → All (λ known. AgreesAt names (map numbered_body list) (entries_view lines) known.id.0) list
+  pub agree_all : Holds → All (λ known. AgreesAt names (map numbered_body list) (entries_view lines) known.value.id.0) list
       × All (λ m. LineAgrees names (map numbered_body list) (entries_view lines) (entry_view m)) lines
   agree_all h = (
     λ k d lt name at. h name,

@@ -24,7 +24,6 @@ mod registered;
 
 use crate::name_table::name_set::NameSet;
 use crate::name_table::parts::Parts;
-use crate::name_table::recent_numbers::RecentNumbers;
 use crate::types::{Metadata, Value};
 use attr_glob::search::pattern::Mapping;
 use std::alloc::{AllocError, Global};
@@ -132,7 +131,7 @@ impl NameTable {
     ///
     /// # Errors
     ///
-    /// If memory runs out. The table and the list are then as they were.
+    /// If memory runs out. The table is then as it was, and some lines may have been numbered.
     pub fn add(
         &mut self,
         alloc: Global,
@@ -152,18 +151,13 @@ impl NameTable {
         ensures others { OnOk result (StayRegistered self.old self.new) }
         ensures sound { IsSoundCollection self.new }
         ensures err { OnErr result (self.new ≡ self.old) }
-        ensures err_list { OnErr result (mappings.new ≡ mappings.old) }
     {
         let Some(list_id) = registered::next_id(&self.parts.lists) else {
             return Err(AllocError);
         };
         let count = self.parts.entries.len();
-        let mut recent = RecentNumbers::new();
-        match self.parts.insert(alloc, &mut recent, list_id, mappings) {
-            Ok(()) => {
-                numbers::number_list(&self.parts.names, &mut recent, mappings);
-                Ok(list_id)
-            }
+        match self.parts.insert(alloc, list_id, mappings) {
+            Ok(()) => Ok(list_id),
             Err(error) => {
                 self.parts.roll_back(count, list_id);
                 Err(error)

@@ -226,8 +226,12 @@ impl Clone for Value {
     }
 }
 
-// The clone of a short list, whose contract here is about its items.
-fn cloned(assignments: &Assignments) -> Result<Assignments, AllocError>
+/// The clone of a short list, whose contract here is about its items.
+///
+/// # Errors
+///
+/// If memory runs out.
+pub(crate) fn cloned(assignments: &Assignments) -> Result<Assignments, AllocError>
     ensures { IfOk result (λ copy. copy.items ≡ assignments.now.items) }
 {
     assignments.clone()

@@ -1,6 +1,6 @@
 -- How bodies grow and change.
 use Rattle.std.proofs.lemmas.Bool.Decides.{nat_tests}
-use Rattle.std.proofs.Common.{◌≡◌, ℕ, ◌+◌, ◌-◌, ◌<◌, ◌≤◌, List, [], ◌∷◌, ◌++◌, length, length-take, set, take, replicate, All, Vec, append_assoc}
+use Rattle.std.proofs.Common.{◌≡◌, ℕ, ◌+◌, ◌-◌, ◌<◌, List, [], ◌∷◌, ◌++◌, length, length-take, set, take, replicate, All, Vec, append_assoc}
 use Rattle.std.proofs.Common.{Bool, false, Result, Ok, Err, is_err, length-append, refl, sym, ap, ◌∙◌, arith}
 use Rattle.std.specs.Global.{Global}
 use Rattle.std.specs.Result.{OnOk}

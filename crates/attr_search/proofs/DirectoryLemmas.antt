@@ -30,7 +30,7 @@ use Rattle.attr_search.proofs.KeyedLemmas.{below_or, get_front, get_seam}
 use Rattle.attr_search.specs.inner.Counting.{CountUp}
 use Rattle.attr_search.specs.inner.FoundLists.{AreListsFor}
 use Rattle.attr_wildmatch.specs.Slashes.{ends_in_slash}
-use Rattle.attr_search.specs.inner.DirectoryKeys.{GathersDirectories, HasNumbersOf, Includes, base_text, keys_of, short_key, text_key}
+use Rattle.attr_search.specs.inner.DirectoryKeys.{GathersDirectories, HasNumbersOf, Includes, base_text, keys_of, text_key}
 use Rattle.attr_search.specs.declared.directory_keys.BaseKeys.{BaseKeys}
 
 -- what lists have, after one more and after one less

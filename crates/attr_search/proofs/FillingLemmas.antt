@@ -9,16 +9,15 @@ use Rattle.std.proofs.lemmas.Bool.{false≢true, cases_eq, eq-eqb, ne_eqb, cases
 use Rattle.std.proofs.lemmas.List.{map-append, take_more, append-nil, length-append, get_or_past, get_or-set_same, get_or-set_other, length-set}
 use Rattle.std.proofs.lemmas.List.{get_or_default}
 use Rattle.std.proofs.lemmas.List.Elements.{All-push}
-use mathlib.Core.Path.{fun_ext}
 use Rattle.attr_lists.specs.declared.types.TrackedAssignment.{TrackedAssignment}
-use Rattle.attr_table.specs.Setting.{Item, Origin, body_of}
+use Rattle.attr_table.specs.Setting.{Origin, body_of}
 use Rattle.attr_table.specs.Table.{Slots}
 use Rattle.attr_table.specs.Cut.{is_filled}
 use Rattle.attr_table.specs.shared.Walk.{Task, expands, tasks_in, free_items, fill, Searches}
 use Rattle.attr_table.proofs.ForCallers.{backwards-append, length-tasks_in, top, length-free, row_searched, taken_skip, taken_closed, taken_open}
 use Rattle.attr_table.proofs.ForCallers.{left_in-less, left_in-open, tasks_push, tasks_pass}
 use Rattle.attr_search.specs.declared.pending_item.PendingItem.{PendingItem}
-use Rattle.attr_search.specs.Slots.{Matched, is_needed, table_item, table_items, table_state, slots_of}
+use Rattle.attr_search.specs.Slots.{is_needed, table_item, table_items, table_state, slots_of}
 use Rattle.attr_search.specs.shared.SlotContents.{SlotContents, open_slots, wanted_numbers}
 use Rattle.attr_search.proofs.OpenLemmas.{open_needed}
 use Rattle.attr_search.specs.Settings.{HaveSlots}

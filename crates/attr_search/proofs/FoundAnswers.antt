@@ -18,7 +18,7 @@ use Rattle.attr_search.specs.inner.Lines.{all_lines}
 use Rattle.attr_search.specs.inner.Searched.{KeepsState, SearchedLists, state_bodies, state_slots, state_wanted}
 use Rattle.attr_search.proofs.RoundLemmas.{rounds_walked}
 use Rattle.attr_search.specs.shared.SlotContents.{AreFlagsAmong, wanted_numbers, remaining_at, count_remaining}
-use Rattle.attr_search.specs.Slots.{is_needed, table_answer, slots_of}
+use Rattle.attr_search.specs.Slots.{table_answer, slots_of}
 use Rattle.attr_search.specs.Settings.{is_found}
 use Rattle.attr_search.proofs.OpenLemmas.{flag_needed, narrowed_needed}
 use Rattle.attr_search.proofs.SlotLemmas.{is_some_map}

@@ -7,19 +7,19 @@ use Rattle.std.proofs.lemmas.List.{length-map, get_or-map}
 use Rattle.std.proofs.lemmas.List.Elements.{All-nil, All-cons, All-head, All-tail}
 use Rattle.attr_glob.specs.declared.search.pattern.Mapping.{Mapping}
 use Rattle.attr_glob.specs.declared.search.pattern.List.{List as PatternList}
-use Rattle.attr_glob.specs.Clones.{AreMappingClones, IsMappingClone}
+use Rattle.attr_glob.specs.Clones.{AreMappingClones}
 use Rattle.attr_glob.specs.Patterns.{Reading}
 use Rattle.attr_glob.specs.Views.{base_bytes, pattern_view, patterns_of}
 use Rattle.attr_lists.specs.declared.parser.Attributes.{Attributes}
 use Rattle.attr_lists.specs.declared.types.Dropped.{Dropped}
 use Rattle.attr_lists.specs.declared.types.Value.{Value}
-use Rattle.attr_lists.specs.declared.types.Value.TheVariants.{MacroAssignments, Assignments}
-use Rattle.attr_lists.specs.ListViews.{Entry, SameValue, entry_view, entries_view, items_in, macro_id}
+use Rattle.attr_lists.specs.ListViews.{Entry, SameValue, entry_view, entries_view}
 use Rattle.attr_lists.specs.Numbers.{numbered, numbered_lines}
 use Rattle.attr_search.specs.ListView.{list_view}
 use Rattle.attr_glob.specs.declared.search.pattern.indexed_line.IndexedLine.{IndexedLine}
 use Rattle.attr_glob.specs.Indexed.{NumberedPattern, indexed_line, indexed_lines, listed_lines}
 use Rattle.attr_glob.proofs.ForCallers.{lines_length}
+use Rattle.attr_lists.proofs.ForCallers.{copied_lines}
 use Rattle.attr_search.proofs.EntryAtLemmas.{lines_patterns}
 use Rattle.attr_search.specs.inner.EntryAt.{entry_at, no_entry}
 use Rattle.attr_search.specs.shared.ReadLines.{IsRead, AreRead}
@@ -84,21 +84,6 @@ pub numbered_length : (names : List (List ℕ)) (before after : List (Mapping Va
 numbered_length names before after e = grind (arith, nat_tests, length-map)
 
 -- a copy of a list has its lines, its source and its base
-copied_value : (v w : Value) → SameValue v w → (macro_id w ≡ macro_id v) × (items_in w ≡ items_in v)
-copied_value (MacroAssignments i v) (MacroAssignments j w) same = (ap Some same.0, same.1)
-copied_value (MacroAssignments i v) (Assignments w) same = absurd same
-copied_value (Assignments v) (MacroAssignments j w) same = absurd same
-copied_value (Assignments v) (Assignments w) same = (refl, same)
-
-copied_line : (m copy : Mapping Value) → IsMappingClone SameValue m copy → entry_view copy ≡ entry_view m
-copied_line m copy same = grind (arith, nat_tests, copied_value)
-
-pub copied_lines : (ms copies : List (Mapping Value)) → AreMappingClones SameValue ms copies → entries_view copies ≡ entries_view ms
-copied_lines [] [] same = refl
-copied_lines [] (c ∷ copies) same = absurd same
-copied_lines (m ∷ ms) [] same = absurd same
-copied_lines (m ∷ ms) (c ∷ copies) same = grind (arith, nat_tests, copied_line, copied_lines ms copies)
-
 pub copied_list : (list copy : PatternList Attributes Value Dropped) → AreMappingClones SameValue list.patterns.items copy.patterns.items →
     option_map string_bytes copy.source ≡ option_map string_bytes list.source → base_bytes copy.base ≡ base_bytes list.base →
     list_view copy ≡ list_view list

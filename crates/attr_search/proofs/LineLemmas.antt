@@ -1,7 +1,7 @@
 -- The lines of a list, of which a search goes through the candidates alone.
 use Rattle.std.proofs.lemmas.Bool.Decides.{nat_tests}
 use Rattle.std.proofs.Common.{◌≡◌, ℕ, ◌+◌, ◌<◌, ◌≤◌, Bool, true, false, ◌&&◌, List, [], ◌∷◌, length, get_or, Option, Some, None}
-use Rattle.std.proofs.Common.{refl, sym, ap, map, ◌∙◌, arith, inl}
+use Rattle.std.proofs.Common.{refl, sym, map, arith, inl}
 use Rattle.std.specs.Prelude.{is_none, option_map, string_bytes}
 use Rattle.std.specs.List.{list_any}
 use Rattle.std.proofs.lemmas.Bool.{or_parts}
@@ -30,10 +30,10 @@ use Rattle.attr_search.specs.ListView.{Listed}
 use Rattle.attr_search.specs.SearchContents.{SearchContents}
 use Rattle.attr_search.specs.Settings.{HaveSlots, LinesAreNamed, gives, origin_in}
 use Rattle.attr_search.specs.Slots.{table_items}
-use Rattle.attr_search.specs.inner.EntryAt.{no_entry, entry_at}
+use Rattle.attr_search.specs.inner.EntryAt.{entry_at}
 use Rattle.attr_search.specs.inner.Lines.{listed_tasks}
 use Rattle.attr_search.specs.inner.Searched.{SearchedLine, over, round, state_bodies, state_slots, state_wanted}
-use Rattle.attr_search.specs.shared.Slotted.{LinesHaveSlots, indexed_origin, no_origin, index_origin, origin_of}
+use Rattle.attr_search.specs.shared.Slotted.{LinesHaveSlots, indexed_origin, index_origin, origin_of}
 use Rattle.attr_search.proofs.EntryAtLemmas.{entry_is}
 
 -- a line that fills no slot, tested or not

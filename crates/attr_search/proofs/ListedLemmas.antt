@@ -1,7 +1,7 @@
 -- The first filled slot from a number on, by numbers in their order.
 use Rattle.attr_search.proofs.SlotLemmas.{is_some_map}
 use Rattle.std.proofs.Common.{◌≡◌, ◌≢◌, ℕ, ◌+◌, ◌<◌, ◌≤◌, true, false, List, length, get_or, Option, None, refl, sym, ap, ◌∙◌, arith}
-use Rattle.std.proofs.Common.{MatchOption, subst, ⊎_elim, nat_eq, is_some, zero, suc, [], ◌∷◌, map, option_map, Some}
+use Rattle.std.proofs.Common.{MatchOption, subst, nat_eq, is_some, zero, suc, [], ◌∷◌, map, option_map, Some}
 use Rattle.std.specs.List.Sorted.{IsNonDecreasing, IsPermutation}
 use Rattle.std.proofs.lemmas.List.Sorted.{All-permutation, list_any-IsPermutation}
 use Rattle.std.proofs.lemmas.Bool.{cases_eq, cases_lt}

@@ -10,11 +10,9 @@ use Rattle.std.proofs.lemmas.List.{length-map, map-append, take_more, take-appen
 use Rattle.std.proofs.lemmas.List.Elements.{All-head, All-tail}
 use Rattle.std.proofs.lemmas.List.Sums.{sum_by-cons}
 use Rattle.bstr.specs.BStr.{bstr_bytes}
-use Rattle.attr_wildmatch.proofs.ForCallers.{by_test}
 use Rattle.attr_glob.specs.Bases.{rest_below}
 use Rattle.attr_glob.specs.Candidates.{has_macro_mode}
 use Rattle.attr_glob.specs.Views.{patterns_of}
-use Rattle.attr_lists.specs.declared.types.TrackedAssignment.{TrackedAssignment}
 use Rattle.attr_table.specs.Cut.{is_done}
 use Rattle.attr_table.specs.shared.Walk.{Task}
 use Rattle.attr_search.specs.declared.indexed_list.IndexedList.{IndexedList}
@@ -23,8 +21,6 @@ use Rattle.attr_search.specs.IndexedLists.{listed_view, lists_view}
 use Rattle.attr_search.specs.ListView.{Listed}
 use Rattle.attr_search.specs.SearchContents.{SearchContents}
 use Rattle.attr_search.specs.Settings.{LinesAreNamed, candidates_in}
-use Rattle.attr_search.specs.Slots.{is_needed, table_items}
-use Rattle.attr_search.specs.shared.SlotContents.{wanted_numbers}
 use Rattle.attr_search.specs.shared.Slotted.{LinesHaveSlots, ListsHaveSlots}
 use Rattle.attr_search.specs.inner.FoundLists.{AreListsFor}
 use Rattle.attr_search.specs.inner.Lines.{listed_tasks}

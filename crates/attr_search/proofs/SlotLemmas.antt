@@ -20,7 +20,7 @@ use Rattle.attr_search.specs.Matches.{cause_of, is_macro_kind}
 use Rattle.attr_search.specs.inner.AnswerRefs.{HasAssignment, KeepsAnswer, RefersTo, IsMatchRef, AreMatchRefs, assignment_at, line_by_ref}
 use Rattle.attr_search.specs.inner.AnswerRefs.{match_by_ref, matches_by_ref}
 use Rattle.attr_search.specs.Slots.{Matched, filled_in, slots_of, table_answer}
-use Rattle.attr_search.specs.inner.PartsContents.{PartsContent, KeepsOneMore, KeepsParts, no_assignment}
+use Rattle.attr_search.specs.inner.PartsContents.{PartsContent, KeepsOneMore, KeepsParts}
 use Rattle.attr_lists.specs.declared.types.TrackedAssignment.{TrackedAssignment}
 use Rattle.attr_text.specs.declared.assignment.Assignment.{Assignment}
 use Rattle.attr_lists.specs.declared.types.MatchKind.{MatchKind}

@@ -1,6 +1,6 @@
 -- A search whose lines are told apart by tags in place of their origins.
 use Rattle.std.proofs.lemmas.Bool.Decides.{nat_tests}
-use Rattle.std.proofs.Common.{◌≡◌, ℕ, zero, suc, ◌+◌, ◌-◌, ◌^◌, ◌≤◌, ⊎_elim, min, true, false, ◌&&◌, List, [], ◌∷◌, ◌++◌, length, map}
+use Rattle.std.proofs.Common.{◌≡◌, ℕ, zero, suc, ◌+◌, ◌-◌, ◌^◌, ◌≤◌, ⊎_elim, min, true, false, List, [], ◌∷◌, ◌++◌, length, map}
 use Rattle.std.proofs.Common.{Option, Some, None, refl, sym, ap, subst, ◌∙◌, arith, ◌==◌}
 use Rattle.std.specs.Prelude.{is_some, MatchOption, ⊤, Contains, slice_get, option_map, option_and_then}
 use Rattle.std.specs.List.{flat_map}
@@ -8,10 +8,10 @@ use Rattle.std.proofs.lemmas.Bool.{cases_eq, eq-eqb}
 use Rattle.std.proofs.lemmas.List.{map-append, append-nil}
 use Rattle.std.proofs.lemmas.Grind.{flat_map-append}
 use Rattle.attr_wildmatch.proofs.ForCallers.{by_test}
-use Rattle.attr_table.specs.Setting.{Item, Origin, Line, Setting, Answer, body_of}
+use Rattle.attr_table.specs.Setting.{Item, Origin, Line, Setting}
 use Rattle.attr_table.specs.Table.{Occurrence, Root, Inside, Table, Slots, line_at, item_at, IsReached, IsLive, IsEarliest, IsStable}
 use Rattle.attr_table.specs.Cut.{is_done, origin_at, answer_at, IsCut, IsCutAt}
-use Rattle.attr_table.specs.shared.Walk.{Task, Walks, ends, stops, skips, fills, tasks_in, line_tasks, list_tasks, tasks_of, expands, opened, fill}
+use Rattle.attr_table.specs.shared.Walk.{Task, Walks, ends, stops, skips, fills, tasks_in, line_tasks, list_tasks, tasks_of, opened, fill}
 use Rattle.attr_table.proofs.ForCallers.{some_or_none, entry_is, none_value, fill_other, then_walks, walked_searched, OneTable-of}
 use Rattle.attr_search.specs.SearchContents.{SearchContents}
 use Rattle.attr_search.specs.inner.Lines.{list_rounds, rounds_of}

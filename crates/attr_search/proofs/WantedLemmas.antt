@@ -1,7 +1,7 @@
 -- How many flags are set.
 use Rattle.std.proofs.lemmas.Bool.Decides.{nat_tests}
 use Rattle.std.proofs.Common.{◌≡◌, ℕ, zero, suc, ◌+◌, ◌<◌, ◌≤◌, Bool, true, false, not, cond, List, [], ◌∷◌, length, get_or, set, map, replicate}
-use Rattle.std.proofs.Common.{None, refl, sym, ap, ◌∙◌, arith, ◌++◌, ◌⊎◌, ◌≢◌, ◌||◌, ⊎_elim, Less, Greater, Equal}
+use Rattle.std.proofs.Common.{None, refl, sym, ap, ◌∙◌, arith, ◌++◌, ◌⊎◌, ◌≢◌, ◌||◌, ⊎_elim, Equal}
 use mathlib.Core.Bool.{beq}
 use mir.Val.{bool_byte}
 use Rattle.std.proofs.Math.Bool.{or-false, or-true}

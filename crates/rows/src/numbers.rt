@@ -43,15 +43,10 @@ impl Numbering {
         let (mut list, _) = Attributes.bytes_to_patterns(alloc, bytes, "")?;
         self.added.reserve(1)?;
         out.reserve(8)?;
-        match self.table.add(alloc, &mut list) {
-            Ok(list_id) => {
-                self.added.push((list_id, list))?;
-                writeln!(out, "{list_id}")?;
-                Ok(())
-            }
-            Err(_) if are_without_numbers(&list) => Err(Fault::OutOfMemory),
-            Err(_) => Err(Fault::Changed),
-        }
+        let list_id = self.table.add(alloc, &mut list)?;
+        self.added.push((list_id, list))?;
+        writeln!(out, "{list_id}")?;
+        Ok(())
     }
 
     fn remove(&mut self, index: usize, out: &mut String) -> Result<(), Fault> {
@@ -159,8 +154,8 @@ fn are_bodies_copied(alloc: Global, table: &NameTable) -> Result<bool, AllocErro
     Ok(all)
 }
 
-// Whether no line of a list and no item has a number.
-fn are_without_numbers(list: &[Mapping<Value>]) -> bool {
+/// Whether no line of a list and no item has a number.
+pub(crate) fn are_without_numbers(list: &[Mapping<Value>]) -> bool {
     let none = AttributeId::default();
     list.iter().all(|mapping| {
         let is_without = match &mapping.value {

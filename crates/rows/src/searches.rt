@@ -2,6 +2,7 @@
 
 use crate::engines::addition;
 use crate::fault::Fault;
+use crate::numbers::are_without_numbers;
 use crate::row::Row;
 use crate::scenes::Stage;
 use bstr::BStr;
@@ -418,6 +419,9 @@ fn push_numbered(
         return Err(Fault::NotARow);
     }
     if collection.update_from_list(alloc, list).is_err() {
+        if !are_without_numbers(&list.patterns) {
+            return Err(Fault::Changed);
+        }
         push_known(collection, out)?;
         collection.update_from_list(alloc, list)?;
     }

@@ -19,7 +19,7 @@ abbrev pub numbered_view : List (List ℕ) → List (Mapping Value) → List Ent
 numbered_view names mappings = numbered_lines names (entries_view mappings)
 
 abbrev pub definition_view : Definition → MacroDefinition
-definition_view d = record { list_id = d.list_id; body = d.metadata.macro_attributes.items }
+definition_view d = record { list_id = d.list_id; body = d.metadata.value.macro_attributes.items }
 
 -- the definitions of a name
 abbrev pub definitions_view : NameEntry → List MacroDefinition
@@ -45,7 +45,7 @@ AreAllInOrder entries = (number : ℕ) → AreInListOrder (definitions_at entrie
 pub record IsEntry (number : ℕ) (entry : NameEntry) : Type 0 where
   pub id : entry.undefined.id.0 ≡ number
   pub empty : entry.undefined.macro_attributes.items ≡ []
-  pub ids : All (λ d. d.metadata.id.0 ≡ number) entry.definitions.items
+  pub ids : All (λ d. d.metadata.value.id.0 ≡ number) entry.definitions.items
 
 -- each entry has its own index as its number
 abbrev pub AreEntries : List NameEntry → Type 0

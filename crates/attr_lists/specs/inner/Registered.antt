@@ -2,7 +2,9 @@
 use Rattle.std.specs.Prelude.{◌≡◌, ◌<◌, ℕ, false, List, [], map, slice_get, Some, All, IfSome, unwrap_or, option_map}
 use Rattle.std.specs.List.{AllPairs}
 use Rattle.std.specs.BTreeSet.{BTreeSet, contains}
+use Rattle.std.specs.Global.{Global}
 use Rattle.std.specs.Ordering.{nat_cmp}
+use Rattle.std.specs.declared.rc.Rc.{Rc}
 use Rattle.attr_lists.specs.Collections.{NumberedBody, RegisteredList}
 use Rattle.attr_lists.specs.Definitions.{bodies_named, bodies_of_number}
 use Rattle.attr_lists.specs.ListViews.{Entry}
@@ -11,8 +13,12 @@ use Rattle.attr_lists.specs.declared.name_table.registered.ListMacros.{ListMacro
 use Rattle.attr_lists.specs.declared.types.Metadata.{Metadata}
 use Rattle.attr_lists.specs.declared.types.TrackedAssignment.{TrackedAssignment}
 
-abbrev pub numbered_body : Metadata → NumberedBody
-numbered_body m = record { number = m.id.0; body = m.macro_attributes.items }
+-- a macro with its body, shared by counting
+abbrev pub SharedMacro : Type 0
+SharedMacro = Rc Metadata Global
+
+abbrev pub numbered_body : SharedMacro → NumberedBody
+numbered_body m = record { number = m.value.id.0; body = m.value.macro_attributes.items }
 
 abbrev pub registered_view : ListMacros → RegisteredList
 registered_view list = record { list_id = list.list_id; macros = map numbered_body list.macros.items }

@@ -10,6 +10,7 @@ ghost use Rattle.attr_lists.specs.inner.Registered.{numbered_body};
 
 use crate::types::{AttributeId, Metadata};
 use std::alloc::{AllocError, Global};
+use std::rc::Rc;
 
 /// The definitions of a name.
 #[derive(Debug, Drop)]
@@ -25,7 +26,8 @@ pub(super) struct NameEntry {
 struct Definition {
     // The list id of its list.
     list_id: usize,
-    metadata: Metadata,
+    // The macro, which is shared with the list.
+    metadata: Rc<Metadata>,
 }
 
 impl NameEntry {
@@ -46,7 +48,7 @@ impl NameEntry {
             result.now.macro_attributes.items ≡ last_body (definitions_view self.now) }
     {
         match self.definitions.last() {
-            Some(definition) => &definition.metadata,
+            Some(definition) => definition.metadata.as_ref(),
             None => &self.undefined,
         }
     }
@@ -59,12 +61,13 @@ impl NameEntry {
     }
 
     // Adds a definition.
-    fn define(&mut self, list_id: usize, metadata: Metadata) -> Result<(), AllocError>
+    fn define(&mut self, list_id: usize, metadata: Rc<Metadata>) -> Result<(), AllocError>
         ensures ok { OnOk result (definitions_view self.new
             ≡ definitions_view self.old
-            ++ definition_of list_id metadata.macro_attributes.items ∷ []) }
+            ++ definition_of list_id metadata.value.macro_attributes.items ∷ []) }
         ensures err { OnErr result (definitions_view self.new ≡ definitions_view self.old) }
-        ensures entry { IsEntry metadata.id.0 self.old → IsEntry metadata.id.0 self.new }
+        ensures entry { IsEntry metadata.value.id.0 self.old →
+            IsEntry metadata.value.id.0 self.new }
     {
         self.definitions.push(Definition { list_id, metadata })?;
         Ok(())
@@ -110,14 +113,14 @@ fn clone_definitions(
 ) -> Result<Vec<Definition>, AllocError>
     ensures definitions { IfOk result (λ copy. map definition_view copy.items
         ≡ map definition_view definitions.now) }
-    ensures ids { IfOk result (λ copy. map (λ d. d.metadata.id.0) copy.items
-        ≡ map (λ d. d.metadata.id.0) definitions.now) }
+    ensures ids { IfOk result (λ copy. map (λ d. d.metadata.value.id.0) copy.items
+        ≡ map (λ d. d.metadata.value.id.0) definitions.now) }
 {
     let mut copy = Vec::new(alloc);
     for definition in definitions {
         copy.push(Definition {
             list_id: definition.list_id,
-            metadata: definition.metadata.clone(alloc)?,
+            metadata: definition.metadata.clone()?,
         })?;
     }
     Ok(copy)
@@ -188,10 +191,9 @@ pub(super) fn extend(
 
 /// Adds the macros of a list to the definitions of their names.
 pub(super) fn define_list(
-    alloc: Global,
     entries: &mut [NameEntry],
     list_id: usize,
-    list: &[Metadata],
+    list: &[Rc<Metadata>],
 ) -> Result<(), AllocError>
     ensures ok { OnOk result (AddsDefinitions list_id
         (map numbered_body list.now) entries.old entries.new) }
@@ -199,17 +201,12 @@ pub(super) fn define_list(
     ensures entries { AreEntries entries.old → AreEntries entries.new }
 {
     for known in list {
-        define(alloc, entries, list_id, known)?;
+        define(entries, list_id, known)?;
     }
     Ok(())
 }
 
-fn define(
-    alloc: Global,
-    entries: &mut [NameEntry],
-    list_id: usize,
-    known: &Metadata,
-) -> Result<(), AllocError>
+fn define(entries: &mut [NameEntry], list_id: usize, known: &Rc<Metadata>) -> Result<(), AllocError>
     ensures ok { OnOk result (AddsDefinitions list_id
         (numbered_body known.now ∷ []) entries.old entries.new) }
     ensures others { KeepsOtherDefinitions list_id entries.old entries.new }
@@ -219,7 +216,7 @@ fn define(
     if own >= entries.len() {
         return Ok(());
     }
-    let metadata = known.clone(alloc)?;
+    let metadata = known.clone()?;
     entries[own].define(list_id, metadata)?;
     Ok(())
 }
@@ -237,7 +234,7 @@ pub(super) fn take_back(entries: &mut [NameEntry], list_id: usize)
 
 /// Removes the definitions that a list has of the names of these macros. This takes a step for each macro, and moves the
 /// definitions of later lists.
-pub(super) fn remove_list(entries: &mut [NameEntry], list_id: usize, list: &[Metadata])
+pub(super) fn remove_list(entries: &mut [NameEntry], list_id: usize, list: &[Rc<Metadata>])
     requires { AreAllInOrder entries.old }
     ensures removed { RemovesListed list_id (map numbered_body list.now) entries.old entries.new }
     ensures entries { AreEntries entries.old → AreEntries entries.new }

@@ -10,6 +10,7 @@ use crate::name_table::entry::NameEntry;
 use crate::types::Metadata;
 use std::alloc::AllocError;
 use std::collections::BTreeSet;
+use std::rc::Rc;
 
 /// Inserts the numbers of the macros of a list.
 ///
@@ -18,7 +19,7 @@ use std::collections::BTreeSet;
 /// If memory runs out. Some of the numbers may have been inserted then.
 pub(super) fn insert_macros(
     macros: &mut BTreeSet<usize>,
-    list: &[Metadata],
+    list: &[Rc<Metadata>],
 ) -> Result<(), AllocError>
     ensures kept { KeepsNumbers macros.old macros.new }
     ensures listed { OnOk result (ListsBodies macros.new (map numbered_body list.now)) }
@@ -30,7 +31,11 @@ pub(super) fn insert_macros(
 }
 
 /// Removes the numbers of the macros of a list, if no definition is left.
-pub(super) fn remove_macros(entries: &[NameEntry], macros: &mut BTreeSet<usize>, list: &[Metadata])
+pub(super) fn remove_macros(
+    entries: &[NameEntry],
+    macros: &mut BTreeSet<usize>,
+    list: &[Rc<Metadata>],
+)
     ensures { RemovesUndefined entries.now macros.old macros.new }
 {
     for known in list {

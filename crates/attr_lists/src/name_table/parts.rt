@@ -3,6 +3,7 @@ ghost use Rattle.std.specs.Prelude.{◌≡◌, ◌↔◌, true, length, OnOk, On
 ghost use Rattle.attr_lists.specs.Definitions.{with_list, without_list, HoldsList};
 ghost use Rattle.attr_lists.specs.KeptLists.{macros_valid};
 ghost use Rattle.attr_lists.specs.ListViews.{entries_view};
+ghost use Rattle.attr_lists.specs.Numbers.{numbered_lines};
 ghost use Rattle.attr_lists.specs.inner.Registered.{IsAbove, registered_views};
 ghost use Rattle.attr_lists.specs.inner.NameTableView.{parts_view, AreWhole, IsPartlyAdded};
 ghost use Rattle.attr_lists.specs.declared.name_table.parts.Parts.{Parts};
@@ -10,7 +11,7 @@ ghost use Rattle.attr_lists.specs.declared.name_table.parts.Parts.{Parts};
 use crate::name_table::entry::NameEntry;
 use crate::name_table::name_set::NameSet;
 use crate::name_table::recent_numbers::RecentNumbers;
-use crate::name_table::registered::{ListMacros, has_lines, index_of, numbered_macros};
+use crate::name_table::registered::{ListMacros, has_lines, index_of, macros_of};
 use crate::name_table::{entry, macros, numbers};
 use crate::types::Value;
 use attr_glob::search::pattern::Mapping;
@@ -43,31 +44,34 @@ impl Drop for Parts {
 }
 
 impl Parts {
-    /// Adds the names and the definitions of a list under a fresh list id. `recent` has the numbers of its names then.
+    /// Numbers a list, and adds its names and its definitions under a fresh list id.
     ///
     /// # Errors
     ///
-    /// If memory runs out. Some names and definitions may have been added then, which `roll_back` removes.
+    /// If memory runs out. Some names and definitions may have been added then, which `roll_back` removes, and some lines
+    /// numbered.
     pub(super) fn insert(
         &mut self,
         alloc: Global,
-        recent: &mut RecentNumbers,
         list_id: usize,
-        mappings: &[Mapping<Value>],
+        mappings: &mut [Mapping<Value>],
     ) -> Result<(), AllocError>
-        requires valid { macros_valid (entries_view mappings.now) ≡ true }
+        requires valid { macros_valid (entries_view mappings.old) ≡ true }
         requires whole { AreWhole self.old }
         requires above { IsAbove list_id (registered_views self.old.lists.items) }
         ensures added { OnOk result (parts_view self.new
-            ≡ with_list list_id (entries_view mappings.now) (parts_view self.old)) }
+            ≡ with_list list_id (entries_view mappings.old) (parts_view self.old)) }
+        ensures numbered { OnOk result (entries_view mappings.new
+            ≡ numbered_lines self.new.names (entries_view mappings.old)) }
         ensures whole { OnOk result (AreWhole self.new) }
         ensures err { OnErr result (IsPartlyAdded list_id self.old self.new) }
     {
-        numbers::insert_names(alloc, &mut self.names, recent, mappings)?;
+        let mut recent = RecentNumbers::new();
+        numbers::number_list(alloc, &mut self.names, &mut recent, mappings)?;
         entry::extend(alloc, &mut self.entries, self.names.len())?;
-        let macros = numbered_macros(alloc, &self.names, mappings)?;
+        let macros = macros_of(alloc, mappings)?;
         macros::insert_macros(&mut self.macros, &macros)?;
-        entry::define_list(alloc, &mut self.entries, list_id, &macros)?;
+        entry::define_list(&mut self.entries, list_id, &macros)?;
         self.lists.push(ListMacros { list_id, macros })?;
         Ok(())
     }

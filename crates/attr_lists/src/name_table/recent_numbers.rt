@@ -1,11 +1,10 @@
 //! Numbers of names that were found of late, with which a look-up begins.
 
 ghost use Rattle.std.specs.Prelude.{◌≡◌, IsTrue, Some};
-ghost use Rattle.attr_lists.specs.Numbers.{id_of, number_of};
+ghost use Rattle.attr_lists.specs.Numbers.{number_of};
 
 use crate::name_table::name_set::NameSet;
 use crate::text_bucket::{BUCKETS, text_bucket};
-use crate::types::AttributeId;
 
 /// For each bucket of texts, the number that was found there last, and 0 before. A look-up compares the name that has this
 /// number, and only if it is another one the names are searched.
@@ -19,16 +18,6 @@ impl RecentNumbers {
     pub(super) fn new() -> RecentNumbers {
         RecentNumbers {
             numbers: [0; BUCKETS],
-        }
-    }
-
-    /// The id of a name, which is `AttributeId::default()` if the name is not among them.
-    pub(super) fn id_of(&mut self, names: &NameSet, name: &str) -> AttributeId
-        ensures { result ≡ id_of names.now name.now }
-    {
-        match self.number_of(names, name) {
-            Some(number) => AttributeId(number),
-            None => AttributeId::default(),
         }
     }
 

@@ -10,18 +10,19 @@ ghost use Rattle.attr_lists.specs.inner.EntryViews.{AreValid, numbered_view};
 ghost use Rattle.attr_lists.specs.inner.Registered.{AgreesAt, AgreesOn, AreAscending, IsAbove, IsIndexOf, LineAgrees, numbered_body, registered_views, registered_view};
 
 use crate::name_table::name_set::NameSet;
-use crate::name_table::numbers::{id_of, macro_name, number_of_text, numbered_copy};
-use crate::types::{Assignments, Metadata, TrackedAssignment, Value};
+use crate::name_table::numbers::number_of_text;
+use crate::types::{Assignments, Metadata, TrackedAssignment, Value, cloned};
 use attr_glob::search::pattern::Mapping;
 use std::alloc::{AllocError, Global};
+use std::rc::Rc;
 
 /// A list that is registered.
 #[derive(Debug, Drop)]
 pub(super) struct ListMacros {
     /// The id under which it is registered.
     pub(super) list_id: usize,
-    /// The macros that its lines define, line by line, with the numbers of their names.
-    pub(super) macros: Vec<Metadata>,
+    /// The macros that its lines define, line by line, which are shared with the definitions of their names.
+    pub(super) macros: Vec<Rc<Metadata>>,
 }
 
 impl ListMacros {
@@ -64,50 +65,34 @@ pub(super) fn next_id(lists: &[ListMacros]) -> Option<usize>
     }
 }
 
-/// The macros that lines define, with the numbers of their names.
+/// The macros that numbered lines define, with copies of their bodies.
 ///
 /// # Errors
 ///
 /// If memory runs out.
-pub(super) fn numbered_macros(
+pub(super) fn macros_of(
     alloc: Global,
-    names: &NameSet,
     mappings: &[Mapping<Value>],
-) -> Result<Vec<Metadata>, AllocError>
-    requires { macros_valid (entries_view mappings.now) ≡ true }
+) -> Result<Vec<Rc<Metadata>>, AllocError>
     ensures { IfOk result (λ list. map numbered_body list.items
-        ≡ macros_defined (numbered_view names.now mappings.now)) }
+        ≡ macros_defined (entries_view mappings.now)) }
 {
     let mut list = Vec::new(alloc);
     for mapping in mappings {
-        push_macro(alloc, names, &mut list, mapping)?;
+        if let Value::MacroAssignments { id, assignments } = &mapping.value {
+            let metadata = Metadata {
+                id: *id,
+                macro_attributes: cloned(assignments)?,
+            };
+            list.push(Rc::new(alloc, metadata)?)?;
+        }
     }
     Ok(list)
 }
 
-fn push_macro(
-    alloc: Global,
-    names: &NameSet,
-    list: &mut Vec<Metadata>,
-    mapping: &Mapping<Value>,
-) -> Result<(), AllocError>
-    requires { macro_valid (entry_view mapping.now) ≡ true }
-    ensures { OnOk result (map numbered_body list.new.items
-        ≡ map numbered_body list.old.items
-        ++ macro_defined (numbered names.now (entry_view mapping.now))) }
-{
-    if let Value::MacroAssignments { assignments, .. } = &mapping.value {
-        list.push(Metadata {
-            id: id_of(names, macro_name(&mapping.pattern)),
-            macro_attributes: numbered_copy(alloc, names, assignments)?,
-        })?;
-    }
-    Ok(())
-}
-
 /// Whether, for each name, the macros are those that the lines define, in their order. Lines that are as registered take a step each.
 /// Others take, for each macro and each line that defines one, a step for each macro and each line.
-pub(super) fn has_lines(names: &NameSet, list: &[Metadata], mappings: &[Mapping<Value>]) -> bool
+pub(super) fn has_lines(names: &NameSet, list: &[Rc<Metadata>], mappings: &[Mapping<Value>]) -> bool
     requires valid { AreValid names.now }
     requires distinct { IsDistinct bytes_eq names.now }
     ensures { IsTrue result ↔ ((name : List ℕ) →
@@ -118,7 +103,7 @@ pub(super) fn has_lines(names: &NameSet, list: &[Metadata], mappings: &[Mapping<
 }
 
 // Whether the lines define these macros, in their order and with their bodies. This takes a step for each line.
-fn are_lines_of(names: &NameSet, list: &[Metadata], mappings: &[Mapping<Value>]) -> bool
+fn are_lines_of(names: &NameSet, list: &[Rc<Metadata>], mappings: &[Mapping<Value>]) -> bool
     requires distinct { IsDistinct bytes_eq names.now }
     ensures { IsTrue result → (name : List ℕ) →
         AgreesOn names.now (map numbered_body list.now) (entries_view mappings.now) name }
@@ -142,10 +127,15 @@ fn are_lines_of(names: &NameSet, list: &[Metadata], mappings: &[Mapping<Value>])
 }
 
 // Whether the macro has this name and this body.
-fn is_definition(names: &NameSet, known: &Metadata, name: &[u8], body: &[TrackedAssignment]) -> bool
+fn is_definition(
+    names: &NameSet,
+    known: &Rc<Metadata>,
+    name: &[u8],
+    body: &[TrackedAssignment],
+) -> bool
     ensures { IsTrue result →
-        (slice_get names.now known.now.id.0 ≡ Some name.now)
-        × (known.now.macro_attributes.items ≡ body.now) }
+        (slice_get names.now known.now.value.id.0 ≡ Some name.now)
+        × (known.now.value.macro_attributes.items ≡ body.now) }
 {
     has_name(names, known.id.0, name) && is_same(&known.macro_attributes, body)
 }
@@ -161,10 +151,10 @@ fn has_name(names: &NameSet, number: usize, text: &[u8]) -> bool
 }
 
 // Whether each macro's name has the same bodies in the list and in the lines.
-fn macros_agree(names: &NameSet, list: &[Metadata], mappings: &[Mapping<Value>]) -> bool
+fn macros_agree(names: &NameSet, list: &[Rc<Metadata>], mappings: &[Mapping<Value>]) -> bool
     requires distinct { IsDistinct bytes_eq names.now }
     ensures { IsTrue result ↔ All (λ known. AgreesAt names.now (map numbered_body list.now)
-        (entries_view mappings.now) known.id.0) list.now }
+        (entries_view mappings.now) known.value.id.0) list.now }
 {
     for known in list {
         if !agrees_at(names, list, known.id.0, mappings) {
@@ -175,7 +165,12 @@ fn macros_agree(names: &NameSet, list: &[Metadata], mappings: &[Mapping<Value>])
 }
 
 // Whether the name with this number, if there is one, has the same bodies in the list and in the lines.
-fn agrees_at(names: &NameSet, list: &[Metadata], number: usize, mappings: &[Mapping<Value>]) -> bool
+fn agrees_at(
+    names: &NameSet,
+    list: &[Rc<Metadata>],
+    number: usize,
+    mappings: &[Mapping<Value>],
+) -> bool
     requires distinct { IsDistinct bytes_eq names.now }
     ensures { IsTrue result ↔ AgreesAt names.now (map numbered_body list.now)
         (entries_view mappings.now) number }
@@ -187,7 +182,7 @@ fn agrees_at(names: &NameSet, list: &[Metadata], number: usize, mappings: &[Mapp
 }
 
 // Whether the name of each macro that the lines define has the same bodies in the list and in the lines.
-fn lines_agree(names: &NameSet, list: &[Metadata], mappings: &[Mapping<Value>]) -> bool
+fn lines_agree(names: &NameSet, list: &[Rc<Metadata>], mappings: &[Mapping<Value>]) -> bool
     requires valid { AreValid names.now }
     ensures { IsTrue result ↔ All (λ m. LineAgrees names.now (map numbered_body list.now)
         (entries_view mappings.now) (entry_view m)) mappings.now }
@@ -203,7 +198,7 @@ fn lines_agree(names: &NameSet, list: &[Metadata], mappings: &[Mapping<Value>]) 
 // Whether the name of the macro that the line defines, if it defines one, has the same bodies in the list and in the lines.
 fn line_agrees(
     names: &NameSet,
-    list: &[Metadata],
+    list: &[Rc<Metadata>],
     line: &Mapping<Value>,
     mappings: &[Mapping<Value>],
 ) -> bool
@@ -218,7 +213,12 @@ fn line_agrees(
 }
 
 // Whether the text, which the lines define as a macro, has the same bodies in the list and in the lines.
-fn text_agrees(names: &NameSet, list: &[Metadata], text: &[u8], mappings: &[Mapping<Value>]) -> bool
+fn text_agrees(
+    names: &NameSet,
+    list: &[Rc<Metadata>],
+    text: &[u8],
+    mappings: &[Mapping<Value>],
+) -> bool
     requires valid { AreValid names.now }
     ensures { IsTrue result ↔ AgreesOn names.now (map numbered_body list.now)
         (entries_view mappings.now) text.now }
@@ -230,7 +230,12 @@ fn text_agrees(names: &NameSet, list: &[Metadata], text: &[u8], mappings: &[Mapp
 }
 
 // Whether the bodies of the number in the list are those of the name in the lines.
-fn has_bodies(list: &[Metadata], number: usize, name: &[u8], mappings: &[Mapping<Value>]) -> bool
+fn has_bodies(
+    list: &[Rc<Metadata>],
+    number: usize,
+    name: &[u8],
+    mappings: &[Mapping<Value>],
+) -> bool
     ensures { IsTrue result ↔ (bodies_of_number number (map numbered_body list.now)
         ≡ bodies_named name.now (entries_view mappings.now)) }
 {
@@ -305,12 +310,12 @@ pub(super) fn clone_lists(
     Ok(copy)
 }
 
-fn clone_macros(alloc: Global, list: &[Metadata]) -> Result<Vec<Metadata>, AllocError>
+fn clone_macros(alloc: Global, list: &[Rc<Metadata>]) -> Result<Vec<Rc<Metadata>>, AllocError>
     ensures { IfOk result (λ copy. map numbered_body copy.items ≡ map numbered_body list.now) }
 {
     let mut copy = Vec::new(alloc);
     for known in list {
-        copy.push(known.clone(alloc)?)?;
+        copy.push(known.clone()?)?;
     }
     Ok(copy)
 }

@@ -31,6 +31,7 @@ use attr_search::indexed_lists::IndexedLists;
 use std::alloc::{AllocError, Global};
 use std::collections::BTreeSet;
 use std::marker::Model;
+use std::mem;
 
 /// The attributes of the lists of searches: each name with its number, and the definitions of macros.
 ///
@@ -135,7 +136,11 @@ impl MetadataCollection {
         ensures source { list.new.source ≡ list.old.source }
         ensures base { list.new.base ≡ list.old.base }
     {
-        self.numbering.add(alloc, &mut list.patterns)?;
+        // A collection is sound.
+        prove!(self.len() <= usize::MAX);
+        let mut numbered = list.clone(alloc)?;
+        self.numbering.add(alloc, &mut numbered.patterns)?;
+        mem::swap(&mut list.patterns, &mut numbered.patterns);
         Ok(())
     }
 

@@ -15,12 +15,10 @@ with_number names item n name same is =
 
 pub of-requires : goal.of-requires
 of-requires c =
-    let text = named_at c.args.names.now c.args.item.now.inner.name c.in-Some.number _ (sym c.requires.number ∙ c.in-Some.is)
-    c.in-Some-shared_text.ensures in
+    let text = named_at c.args.names.now c.args.item.now.inner.name c.args.number _ c.requires.number c.in-Some.ensures in
     subst (λ t. IsTrue (is_valid_name t)) (sym text) c.requires.valid
 
-pub returns-in-Some-shared_text : goal.returns-in-Some-shared_text
-returns-in-Some-shared_text c =
-    let number = sym c.requires.number ∙ c.in-Some.is in
-    let text = named_at c.args.names.now c.args.item.now.inner.name c.in-Some.number _ number c.in-Some-shared_text.ensures in
-    with_number c.args.names.now c.args.item.now c.in-Some.number c.of.result (c.of.ensures ∙ text) number
+pub returns-in-Some : goal.returns-in-Some
+returns-in-Some c =
+    let text = named_at c.args.names.now c.args.item.now.inner.name c.args.number _ c.requires.number c.in-Some.ensures in
+    with_number c.args.names.now c.args.item.now c.args.number c.of.result (c.of.ensures ∙ text) c.requires.number

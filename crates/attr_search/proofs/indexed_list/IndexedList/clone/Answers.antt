@@ -7,7 +7,8 @@ use Rattle.attr_glob.specs.declared.search.pattern.index.Index.{Index}
 use Rattle.attr_search.specs.inner.DirectoryKeys.{base_text, keys_of}
 use Rattle.attr_glob.specs.Indexed.{indexed_lines}
 use Rattle.attr_search.specs.shared.ReadLines.{AreRead}
-use Rattle.attr_search.proofs.IndexedListLemmas.{copied_lines, copied_list, same_lines, same_patterns}
+use Rattle.attr_lists.proofs.ForCallers.{copied_lines}
+use Rattle.attr_search.proofs.IndexedListLemmas.{copied_list, same_lines, same_patterns}
 use Rattle.attr_search.proofs.indexed_list.IndexedList.clone.Goals as goal
 
 pub invariant_of-result : goal.invariant_of-result

@@ -7,5 +7,5 @@ returns-clause-entry c = λ number is. record {
   id = ap (λ i. i.0) c.in_ok-undefined.ensures.id ∙ is.id;
   empty = c.in_ok-undefined.ensures.body ∙ is.empty;
   ids = ids_copied number c.args.self.now.definitions.items c.in_ok-definitions.definitions.items
-      (c.in_ok-definitions.ensures.ids ∙ ap (map (λ d. d.metadata.id.0)) c.deref.ensures.value) is.ids;
+      (c.in_ok-definitions.ensures.ids ∙ ap (map (λ d. d.metadata.value.id.0)) c.deref.ensures.value) is.ids;
 }

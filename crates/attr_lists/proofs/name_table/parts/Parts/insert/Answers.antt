@@ -17,7 +17,7 @@ extend-requires c =
     omega (
       arith,
       c.len.ensures,
-      ap length c.in_ok-insert_names.ensures.ok,
+      ap length c.in_ok-number_list.ensures.inserted,
       count_more c.args.self.now.names (names_in (entries_view c.args.mappings.now)),
       c.requires.whole.counted,
     )
@@ -25,24 +25,24 @@ extend-requires c =
 pub returns-in_err-extend-clause-err : goal.returns-in_err-extend-clause-err
 returns-in_err-extend-clause-err c =
     on_err c.from_residual-in_err-extend.result _
-    (partly_added c.args.self.now c.insert_names.new.names (names_in (entries_view c.args.mappings.now))
-    c.extend.new.entries c.args.self.now.lists c.args.self.now.macros c.args.list_id c.in_ok-insert_names.ensures.ok c.extend.ensures.more
+    (partly_added c.args.self.now c.number_list.new.names (names_in (entries_view c.args.mappings.now))
+    c.extend.new.entries c.args.self.now.lists c.args.self.now.macros c.args.list_id c.in_ok-number_list.ensures.inserted c.extend.ensures.more
     (c.extend.ensures.entries c.requires.whole.entries) (λ n. ap (of_other_lists c.args.list_id) (c.extend.ensures.definitions n)) refl
     (λ n h. h))
 
 pub returns-in_err-macros-clause-err : goal.returns-in_err-macros-clause-err
 returns-in_err-macros-clause-err c =
     on_err c.from_residual-in_err-macros.result _
-    (partly_added c.args.self.now c.insert_names.new.names (names_in (entries_view c.args.mappings.now))
-    c.extend.new.entries c.args.self.now.lists c.args.self.now.macros c.args.list_id c.in_ok-insert_names.ensures.ok c.extend.ensures.more
+    (partly_added c.args.self.now c.number_list.new.names (names_in (entries_view c.args.mappings.now))
+    c.extend.new.entries c.args.self.now.lists c.args.self.now.macros c.args.list_id c.in_ok-number_list.ensures.inserted c.extend.ensures.more
     (c.extend.ensures.entries c.requires.whole.entries) (λ n. ap (of_other_lists c.args.list_id) (c.extend.ensures.definitions n)) refl
     (λ n h. h))
 
 pub returns-in_err-insert_macros-clause-err : goal.returns-in_err-insert_macros-clause-err
 returns-in_err-insert_macros-clause-err c =
     on_err c.from_residual-in_err-insert_macros.result _
-    (partly_added c.args.self.now c.insert_names.new.names (names_in (entries_view c.args.mappings.now))
-    c.extend.new.entries c.args.self.now.lists c.insert_macros.new.macros c.args.list_id c.in_ok-insert_names.ensures.ok c.extend.ensures.more
+    (partly_added c.args.self.now c.number_list.new.names (names_in (entries_view c.args.mappings.now))
+    c.extend.new.entries c.args.self.now.lists c.insert_macros.new.macros c.args.list_id c.in_ok-number_list.ensures.inserted c.extend.ensures.more
     (c.extend.ensures.entries c.requires.whole.entries) (λ n. ap (of_other_lists c.args.list_id) (c.extend.ensures.definitions n)) refl
     c.insert_macros.ensures.kept)
 
@@ -52,9 +52,9 @@ returns-in_err-define_list-clause-err c =
     omega (arith, c.define_list.auto.entries, ap length c.deref_mut.ensures.value, c.extend.new.entries.ok.0) in
     let items = with_items_is c.extend.new.entries c.define_list.new.entries kept in
     on_err c.from_residual-in_err-define_list.result _
-    (partly_added c.args.self.now c.insert_names.new.names (names_in (entries_view c.args.mappings.now))
+    (partly_added c.args.self.now c.number_list.new.names (names_in (entries_view c.args.mappings.now))
     (with_items c.extend.new.entries c.define_list.new.entries) c.args.self.now.lists c.insert_macros.new.macros c.args.list_id
-    c.in_ok-insert_names.ensures.ok (omega (arith, ap length items, kept, c.extend.new.entries.ok.0, c.extend.ensures.more))
+    c.in_ok-number_list.ensures.inserted (omega (arith, ap length items, kept, c.extend.new.entries.ok.0, c.extend.ensures.more))
     (subst AreEntries (sym items) (c.define_list.ensures.entries (subst AreEntries (sym c.deref_mut.ensures.value)
     (c.extend.ensures.entries c.requires.whole.entries))))
     (others_kept_on c.args.list_id c.args.self.now.entries.items c.extend.new.entries.items c.deref_mut.result.now c.define_list.new.entries _
@@ -66,9 +66,9 @@ returns-in_err-push-clause-err c =
     omega (arith, c.define_list.auto.entries, ap length c.deref_mut.ensures.value, c.extend.new.entries.ok.0) in
     let items = with_items_is c.extend.new.entries c.define_list.new.entries kept in
     on_err c.from_residual-in_err-push.result _
-    (partly_added c.args.self.now c.insert_names.new.names (names_in (entries_view c.args.mappings.now))
+    (partly_added c.args.self.now c.number_list.new.names (names_in (entries_view c.args.mappings.now))
     (with_items c.extend.new.entries c.define_list.new.entries) c.push.new.self c.insert_macros.new.macros c.args.list_id
-    c.in_ok-insert_names.ensures.ok (omega (arith, ap length items, kept, c.extend.new.entries.ok.0, c.extend.ensures.more))
+    c.in_ok-number_list.ensures.inserted (omega (arith, ap length items, kept, c.extend.new.entries.ok.0, c.extend.ensures.more))
     (subst AreEntries (sym items) (c.define_list.ensures.entries (subst AreEntries (sym c.deref_mut.ensures.value)
     (c.extend.ensures.entries c.requires.whole.entries))))
     (others_kept_on c.args.list_id c.args.self.now.entries.items c.extend.new.entries.items c.deref_mut.result.now c.define_list.new.entries _
@@ -78,13 +78,13 @@ returns-in_err-push-clause-err c =
 pub returns-clause-added : goal.returns-clause-added
 returns-clause-added c =
     let lines = entries_view c.args.mappings.now in
-    let names = c.in_ok-insert_names.ensures.ok in
+    let names = c.in_ok-number_list.ensures.inserted in
     let old = c.args.self.now.lists.items in
     let own = c.in_ok-macros.macros in
     let lists = ap registered_views c.in_ok-push.ensures.items
     ∙ map-append registered_view old (record { list_id = c.args.list_id; macros = own } ∷ [])
     ∙ ap (λ m. registered_views old ++ record { list_id = c.args.list_id; macros = m } ∷ [])
-    (c.in_ok-macros.ensures ∙ ap (λ ns. macros_defined (numbered_lines ns lines)) names) in
+    (c.in_ok-macros.ensures ∙ ap macros_defined c.in_ok-number_list.ensures.numbered ∙ ap (λ ns. macros_defined (numbered_lines ns lines)) names) in
     λ j. record { names = names j; lists = lists j }
 
 pub returns-clause-whole : goal.returns-clause-whole
@@ -96,12 +96,13 @@ returns-clause-whole c =
     omega (arith, c.define_list.auto.entries, ap length c.deref_mut.ensures.value, c.extend.new.entries.ok.0) in
     let entries = with_items c.extend.new.entries c.define_list.new.entries in
     let items = with_items_is c.extend.new.entries c.define_list.new.entries kept in
-    let q : Parts = record { names = c.insert_names.new.names; entries = entries; lists = c.push.new.self; macros = c.insert_macros.new.macros } in
+    let q : Parts = record { names = c.number_list.new.names; entries = entries; lists = c.push.new.self; macros = c.insert_macros.new.macros } in
     let before : (n : ℕ) → definitions_at c.deref_mut.result.now n ≡ definitions_at p.entries.items n =
     λ n. ap (λ l. definitions_at l n) c.deref_mut.ensures.value ∙ c.extend.ensures.definitions n in
     added_whole p q c.args.list_id lines list c.requires.whole c.requires.above (returns-clause-added c)
-    (c.in_ok-macros.ensures ∙ ap (λ ns. macros_defined (numbered_lines ns lines)) c.in_ok-insert_names.ensures.ok)
-    c.in_ok-insert_names.ensures.valid
+    (c.in_ok-macros.ensures ∙ ap macros_defined c.in_ok-number_list.ensures.numbered
+    ∙ ap (λ ns. macros_defined (numbered_lines ns lines)) c.in_ok-number_list.ensures.inserted)
+    c.in_ok-number_list.ensures.valid
     (omega (arith, ap length items, kept, c.extend.new.entries.ok.0, c.in_ok-extend.ensures.ok, c.len.ensures))
     (subst AreEntries (sym items) (c.define_list.ensures.entries (subst AreEntries (sym c.deref_mut.ensures.value)
     (c.extend.ensures.entries c.requires.whole.entries))))
