@@ -5,10 +5,12 @@ mod pieces;
 mod refusals;
 mod std_devices;
 
-use crate::devices::Source;
-use check_attr::{Fault, Push, globals, lines, run};
+use crate::devices::Sink;
+use check_attr::{Fault, Push, Reader, Writer, globals, lines, run};
 use gix_attributes::files::Memory;
 use std::alloc::{AllocError, Global};
+use std::io;
+use std::io::{ErrorKind, Read, Write};
 
 // An attributes file, and the report on its lines.
 const INPUT: &[u8] = b"!a b\n* a =x b=\n";
@@ -22,19 +24,44 @@ const SCRIPT: &[u8] =
 const ANSWERS: &[u8] = b"script.sh: text: set\nscript.sh: eol: lf\n";
 
 fn report<W: Push>(alloc: Global, input: &[u8], writer: &mut W) -> Result<(), Fault> {
-    lines(alloc, &mut Source::new(input), writer)
+    lines(alloc, &mut Reader::new(input), writer)
 }
 
 // Runs a script over the built-in list alone: there are no global files.
 fn run_script<W: Push>(alloc: Global, script: &[u8], writer: &mut W) -> Result<(), Fault> {
     match globals(alloc, &mut Memory::new(alloc), &[]) {
-        Ok(lists) => run(alloc, &mut Source::new(script), writer, lists),
+        Ok(lists) => run(alloc, &mut Reader::new(script), writer, lists),
         Err(_) => Err(Fault::OutOfMemory),
     }
 }
 
 fn is_failed_write(ended: Result<(), Fault>) -> bool {
     matches!(&ended, Err(Fault::Write))
+}
+
+// A writer that takes no byte, and never fails.
+fn stuck(alloc: Global) -> Writer<Sink> {
+    Writer::new(Sink::new(Vec::new(alloc), 0))
+}
+
+// A reader and a writer of which each call fails.
+#[derive(Drop)]
+struct Interrupted;
+
+impl Read for Interrupted {
+    fn read(&mut self, _buf: &mut [u8]) -> io::Result<usize> {
+        Err(io::Error::from(ErrorKind::Interrupted))
+    }
+}
+
+impl Write for Interrupted {
+    fn write(&mut self, _bytes: &[u8]) -> io::Result<usize> {
+        Err(io::Error::from(ErrorKind::Interrupted))
+    }
+
+    fn flush(&mut self) -> io::Result<()> {
+        Err(io::Error::from(ErrorKind::Interrupted))
+    }
 }
 
 // The arguments of a call that has one.

@@ -2,7 +2,8 @@
 
 use crate::fault::Fault;
 use std::alloc::Global;
-use std::fmt::Write;
+use std::fmt::Display;
+use std::io::Write;
 
 /// The fields of an answer, each with a bar behind it.
 #[derive(Drop)]
@@ -26,19 +27,6 @@ impl Answer {
         self.fields.as_slice()
     }
 
-    /// Removes all fields.
-    pub(crate) fn clear(&mut self) {
-        self.fields.clear();
-    }
-
-    /// Adds fields of these bytes.
-    pub(crate) fn push_all(&mut self, fields: &[Vec<u8>]) -> Result<(), Fault> {
-        for field in fields {
-            self.bytes(field)?;
-        }
-        Ok(())
-    }
-
     /// Adds a field of these bytes.
     pub(crate) fn bytes(&mut self, bytes: &[u8]) -> Result<(), Fault> {
         self.fields.extend_from_slice(bytes)?;
@@ -50,26 +38,26 @@ impl Answer {
         self.bytes(text.as_bytes())
     }
 
-    /// Adds a field with a number.
-    pub(crate) fn number(&mut self, number: usize) -> Result<(), Fault> {
-        self.numbers(&[number])
+    /// Adds a field with a value as it is printed.
+    pub(crate) fn shown<T: Display + Drop>(&mut self, value: T) -> Result<(), Fault> {
+        Ok(write!(self.fields, "{value}|")?)
     }
 
     /// Adds a field with an index, or a hyphen.
     pub(crate) fn index(&mut self, index: Option<usize>) -> Result<(), Fault> {
         match index {
-            Some(index) => self.number(index),
+            Some(index) => self.shown(index),
             None => self.text("-"),
         }
     }
 
     /// Adds a field with numbers, between which are blanks.
     pub(crate) fn numbers(&mut self, numbers: &[usize]) -> Result<(), Fault> {
-        let mut text = String::new(self.alloc);
+        let mut text = Vec::new(self.alloc);
         for number in numbers {
             write!(text, "{number} ")?;
         }
-        self.text(text.trim_ascii())
+        self.bytes(text.trim_ascii())
     }
 
     /// Adds a field with `yes` or `no`.

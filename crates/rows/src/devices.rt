@@ -6,7 +6,7 @@ use crate::fault::Fault;
 use crate::row::{Row, words_of};
 use crate::scripts::{built_in, engine};
 use attr_vectors::devices::{Sink, Source};
-use check_attr::{Pull, Push, lines, play, program, run};
+use check_attr::{Pull, Push, Reader, Writer, lines, play, program, run};
 use gix_attributes::files::{Files, Memory};
 use std::alloc::{AllocError, Global};
 
@@ -14,62 +14,64 @@ use std::alloc::{AllocError, Global};
 /// that is written, how often it is flushed, whether all of it is, and how many reads and writes failed. The program is a
 /// report, a script over the built-in list alone, or one that is in memory and played over the list `*.c b c=d`.
 pub(crate) fn left(row: &Row, answer: &mut Answer) -> Result<(), Fault> {
-    let (mut source, mut sink) = (source_of(row)?, sink_of(answer.alloc, row)?);
-    let ended = end_of(answer.alloc, row.text(0), &mut source, &mut sink)?;
+    let alloc = answer.alloc;
+    let mut source = Reader::new(source_of(row)?);
+    let mut sink = sink_of(alloc, row)?;
+    let mut writer = Writer::new(&mut sink);
+    let ended = match row.text(0) {
+        "lines" => lines(alloc, &mut source, &mut writer),
+        "script" => run(alloc, &mut source, &mut writer, built_in(alloc)?),
+        "play" => play(alloc, row.bytes(1), engine(alloc)?, &mut writer),
+        _ => return Err(Fault::NotARow),
+    };
     match ended {
         Ok(()) => answer.text("whole")?,
-        Err(fault) => answer.text(&format!(in answer.alloc; "{fault}")?)?,
+        Err(fault) => answer.shown(fault)?,
     }
-    push_devices(&source, &sink, answer)
+    let (is_flushed, failures) = (writer.is_flushed(), [source.failures(), writer.failures()]);
+    push_left(&sink, is_flushed, failures, answer)
 }
 
-fn end_of(
-    alloc: Global,
-    what: &str,
-    source: &mut Source<'_>,
-    sink: &mut Sink,
-) -> Result<Result<(), check_attr::Fault>, Fault> {
-    match what {
-        "lines" => Ok(lines(alloc, source, sink)),
-        "script" => Ok(run(alloc, source, sink, built_in(alloc)?)),
-        "play" => Ok(play(alloc, source.rest(), engine(alloc)?, sink)),
+fn source_of(row: &Row) -> Result<Source<'_>, Fault> {
+    Ok(Source {
+        rest: row.bytes(1),
+        most: most_of(row, 2)?,
+        failing: row.number(3)? as u64,
+    })
+}
+
+// How many bytes a call moves at most.
+fn most_of(row: &Row, index: usize) -> Result<usize, Fault> {
+    match row.text(index) {
+        "all" => Ok(usize::MAX),
+        "one" => Ok(1),
         _ => Err(Fault::NotARow),
     }
 }
 
-fn source_of(row: &Row) -> Result<Source<'_>, Fault> {
-    let mut source = match row.text(2) {
-        "all" => Source::new(row.bytes(1)),
-        "one" => Source::one_by_one(row.bytes(1)),
-        _ => return Err(Fault::NotARow),
-    };
-    source.fail_read(row.number(3)? as u64);
-    Ok(source)
-}
-
 fn sink_of(alloc: Global, row: &Row) -> Result<Sink, Fault> {
-    let mut sink = errors_of(alloc, row);
+    let mut sink = Sink::new(Vec::new(alloc), most_of(row, 4)?);
     match row.text(5) {
-        "flush" => sink.fail_flush(),
-        _ => sink.fail_write(row.number(5)? as u64),
+        "flush" => sink.fails_flush = true,
+        _ => sink.failing = row.number(5)? as u64,
     }
     Ok(sink)
 }
 
-// Standard error moves as many bytes a call as standard output.
-fn errors_of(alloc: Global, row: &Row) -> Sink {
-    match row.text(4) {
-        "one" => Sink::one_by_one(alloc),
-        _ => Sink::new(alloc),
+// What the devices have, with the failures of reads and those of writes.
+fn push_left(
+    sink: &Sink,
+    is_flushed: bool,
+    failures: [u64; 2],
+    answer: &mut Answer,
+) -> Result<(), Fault> {
+    answer.bytes(&sink.bytes)?;
+    answer.shown(sink.flushes)?;
+    answer.flag(is_flushed)?;
+    for count in failures {
+        answer.shown(count)?;
     }
-}
-
-fn push_devices(source: &Source<'_>, sink: &Sink, answer: &mut Answer) -> Result<(), Fault> {
-    answer.bytes(sink.bytes())?;
-    answer.number(sink.flushes() as usize)?;
-    answer.flag(sink.is_flushed())?;
-    answer.number(source.failures() as usize)?;
-    answer.number(sink.failures() as usize)
+    Ok(())
 }
 
 // The files `g1` and `g3`. One of the reads fails, or none at 0.
@@ -83,24 +85,26 @@ fn files_of(alloc: Global, failing: usize) -> Result<Memory, AllocError> {
 
 /// Of the arguments of the program, its input, its devices, and the read of a file in memory that fails: its status, what `left`
 /// answers behind the end, what standard error has and how often it is flushed, how many bytes are left of the input, and how
-/// many reads of files failed.
+/// many reads of files failed. Standard error moves as many bytes a call as standard output.
 pub(crate) fn left_by_call(row: &Row, answer: &mut Answer) -> Result<(), Fault> {
     let (alloc, words) = (answer.alloc, words_of(answer.alloc, row.text(0))?);
     let mut files = files_of(alloc, row.number(6)?)?;
     let (mut source, mut sink) = (source_of(row)?, sink_of(alloc, row)?);
-    let mut errors = errors_of(alloc, row);
+    let mut errors = Sink::new(Vec::new(alloc), sink.most);
+    let (mut reader, mut writer) = (Reader::new(&mut source), Writer::new(&mut sink));
     let status = program(
         alloc,
         &mut files,
         &words,
-        &mut source,
-        &mut sink,
-        &mut errors,
+        &mut reader,
+        &mut writer,
+        &mut Writer::new(&mut errors),
     );
-    answer.number(status as usize)?;
-    push_devices(&source, &sink, answer)?;
-    answer.bytes(errors.bytes())?;
-    answer.number(errors.flushes() as usize)?;
-    answer.number(source.rest().len())?;
-    answer.number(files.failures() as usize)
+    let (is_flushed, failures) = (writer.is_flushed(), [reader.failures(), writer.failures()]);
+    answer.shown(status)?;
+    push_left(&sink, is_flushed, failures, answer)?;
+    answer.bytes(&errors.bytes)?;
+    answer.shown(errors.flushes)?;
+    answer.shown(source.rest.len())?;
+    answer.shown(files.failures())
 }

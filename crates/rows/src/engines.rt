@@ -10,11 +10,6 @@ use gix_attributes::search::{AttributeId, Match};
 use std::alloc::{AllocError, Global};
 use std::fmt::Write;
 
-/// An engine in a box: a proof drops a box by one call.
-pub(crate) fn new_engine(alloc: Global) -> Result<Box<Engine>, AllocError> {
-    Ok(Box::new(alloc, Engine::new(alloc)?)?)
-}
-
 impl Stage for Engine {
     fn take(&mut self, alloc: Global, step: &Row, out: &mut String) -> Result<(), Fault> {
         match step.text(0) {
@@ -26,7 +21,10 @@ impl Stage for Engine {
             "add_below" => self.add_below(alloc, list_below(step, true))?,
             "add_below_without_macros" => self.add_below(alloc, list_below(step, false))?,
             // Removes the last list, and reports whether there was one.
-            "pop" => pop(self, out)?,
+            "pop" => {
+                out.reserve(6)?;
+                writeln!(out, "{}", self.pop())?;
+            }
             // `select | NAME | ..` selects these names, and all if there are none.
             "select" => self.select(alloc, &step.texts(alloc, 1)?)?,
             // `ask | PATH | CASE` reports the number of answers for a path that is no directory.
@@ -51,11 +49,17 @@ fn report(engine: &Engine, step: &Row, out: &mut String) -> Result<(), Fault> {
         // `found | NUMBER`: what is found for the attribute with that number.
         "found" => push_found(engine, engine.found(AttributeId(step.number(1)?)), out)?,
         // `number | INDEX`: the number of the attribute of that answer.
-        "number" => push_number_of(engine, step.number(1)?, out)?,
+        "number" => match engine.number_of(step.number(1)?) {
+            Some(id) => writeln!(out, "{}", id.0)?,
+            None => out.push_str("none\n")?,
+        },
         // How many names there are.
         "names" => writeln!(out, "{}", engine.num_names())?,
         // `name | NUMBER`
-        "name" => push_name(engine, step.number(1)?, out)?,
+        "name" => {
+            let id = AttributeId(step.number(1)?);
+            writeln!(out, "{}", engine.name_of(id).unwrap_or("none"))?;
+        }
         // The lines that were dropped of the last list.
         "dropped" => push_dropped(engine, out)?,
         _ => return Err(Fault::NotARow),
@@ -94,11 +98,6 @@ fn question(step: &Row, case: Case, is_dir: bool) -> Question<'_> {
     }
 }
 
-fn pop(engine: &mut Engine, out: &mut String) -> Result<(), AllocError> {
-    out.reserve(6)?;
-    writeln!(out, "{}", engine.pop())
-}
-
 fn ask(
     engine: &mut Engine,
     alloc: Global,
@@ -127,28 +126,13 @@ fn push_found(
     let Some(found) = found else {
         return out.push_str("none\n");
     };
-    let (item, source) = (found.assignment, found.location.source.unwrap_or("-"));
+    let (item, line) = (found.assignment, found.location.sequence_number);
+    let source = found.location.source.unwrap_or("-");
     let macro_name = match found.kind.source_id() {
         Some(id) => engine.name_of(id).unwrap_or("?"),
         None => "-",
     };
-    writeln!(
-        out,
-        "{item} {source}:{} {macro_name}",
-        found.location.sequence_number
-    )
-}
-
-fn push_number_of(engine: &Engine, index: usize, out: &mut String) -> Result<(), AllocError> {
-    match engine.number_of(index) {
-        Some(id) => writeln!(out, "{}", id.0),
-        None => out.push_str("none\n"),
-    }
-}
-
-fn push_name(engine: &Engine, number: usize, out: &mut String) -> Result<(), AllocError> {
-    let name = engine.name_of(AttributeId(number)).unwrap_or("none");
-    writeln!(out, "{name}")
+    writeln!(out, "{item} {source}:{line} {macro_name}")
 }
 
 fn push_dropped(engine: &Engine, out: &mut String) -> Result<(), AllocError> {

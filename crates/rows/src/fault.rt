@@ -1,5 +1,6 @@
 //! Why a comparison ends early, and why a row has no answer.
 
+use gix_attributes::search::AddError;
 use std::alloc::{AllocError, AllocFailed};
 use std::io;
 use std::io::ErrorKind;
@@ -23,6 +24,12 @@ pub enum Fault {
     /// A step that found no memory changed what it was taken on, or found none again.
     #[error("a refused step changed it")]
     Changed,
+    /// A copy of a value is not equal to it.
+    #[error("another copy")]
+    AnotherCopy,
+    /// The tokens that are kept of a pattern answer otherwise than its text.
+    #[error("other tokens")]
+    OtherTokens,
     /// The call that a row is about found no memory.
     #[error("takes memory")]
     CallOutOfMemory,
@@ -40,6 +47,15 @@ impl From<io::Error> for Fault {
     }
 }
 
+impl From<AddError> for Fault {
+    fn from(error: AddError) -> Fault {
+        match error {
+            AddError::Io(error) => Fault::from(error),
+            AddError::OutOfMemory => Fault::OutOfMemory,
+        }
+    }
+}
+
 impl From<AllocError> for Fault {
     fn from(_error: AllocError) -> Fault {
         Fault::OutOfMemory
@@ -49,5 +65,17 @@ impl From<AllocError> for Fault {
 impl<T: Drop> From<AllocFailed<T>> for Fault {
     fn from(_error: AllocFailed<T>) -> Fault {
         Fault::OutOfMemory
+    }
+}
+
+/// A copy has to be equal to what it is made of.
+///
+/// # Errors
+/// [`Fault::AnotherCopy`] if it isn't.
+pub(crate) fn expect_equal<T: PartialEq>(copy: &T, value: &T) -> Result<(), Fault> {
+    if copy == value {
+        Ok(())
+    } else {
+        Err(Fault::AnotherCopy)
     }
 }

@@ -113,7 +113,7 @@ fn compare_row(
     let is_refused = answered == Err(Fault::OutOfMemory)
         || answered == Err(Fault::CallOutOfMemory) && !file.is_plain();
     if is_refused {
-        answer.clear();
+        answer = Answer::new(rt.alloc());
         answered = is_answered(rt, file, text, &mut answer);
     }
     match answered {
@@ -140,7 +140,9 @@ fn is_answered(
         Some(asked) => {
             let row = Row::read(rt.alloc(), text)?;
             push_answer(rt, file.about, &row, answer)?;
-            wanted.push_all(row.rest(asked))?;
+            for field in row.rest(asked) {
+                wanted.bytes(field)?;
+            }
         }
         None => scenes::push_both(file.about, text, file.is_of_memory(), answer, &mut wanted)?,
     }

@@ -9,19 +9,11 @@ use attr_keys::line_key::Shape;
 use std::alloc::{AllocError, Global};
 use std::fmt::Write;
 
-/// A line: its text, the offset of its first wildcard, and what it is.
+/// A line: its text, and what else is known of it.
 #[derive(Drop)]
 struct Line {
     text: Vec<u8>,
-    wildcard: Option<usize>,
-    kind: Kind,
-}
-
-#[derive(Clone, Copy)]
-struct Kind {
-    is_macro: bool,
-    asks_name: bool,
-    is_end: bool,
+    rest: Shape<'static>,
 }
 
 /// The lines that were added.
@@ -38,10 +30,7 @@ impl Keys {
     }
 
     fn push_found(&self, alloc: Global, step: &Row, out: &mut String) -> Result<(), Fault> {
-        let mut shapes = Vec::new(alloc);
-        for line in self.lines.iter() {
-            shapes.push(shape_of(line))?;
-        }
+        let shapes: Vec<Shape<'_>> = self.lines.iter().map(shape_of).collect(alloc)?;
         let texts = Texts {
             name: step.bytes(1),
             path: step.bytes(2),
@@ -78,7 +67,7 @@ impl Stage for Keys {
 }
 
 fn line_of(alloc: Global, step: &Row) -> Result<Line, Fault> {
-    let wildcard = step.index(3)?;
+    let text = Vec::from_slice(alloc, step.bytes(2))?;
     let (is_macro, asks_name, is_end) = match step.text(1) {
         "name" => (false, true, false),
         "path" => (false, false, false),
@@ -86,23 +75,19 @@ fn line_of(alloc: Global, step: &Row) -> Result<Line, Fault> {
         "macro" => (true, true, true),
         _ => return Err(Fault::NotARow),
     };
-    Ok(Line {
-        text: Vec::from_slice(alloc, step.bytes(2))?,
-        wildcard,
-        kind: Kind {
-            is_macro,
-            asks_name,
-            is_end,
-        },
-    })
+    let rest = Shape {
+        text: b"",
+        wildcard: step.index(3)?,
+        is_macro,
+        asks_name,
+        is_end,
+    };
+    Ok(Line { text, rest })
 }
 
 fn shape_of(line: &Line) -> Shape<'_> {
     Shape {
         text: line.text.as_slice(),
-        wildcard: line.wildcard,
-        is_macro: line.kind.is_macro,
-        asks_name: line.kind.asks_name,
-        is_end: line.kind.is_end,
+        ..line.rest
     }
 }

@@ -1,7 +1,7 @@
 //! The answers of rows about names, and about the items and lines of attributes files.
 
 use crate::answer::Answer;
-use crate::fault::Fault;
+use crate::fault::{Fault, expect_equal};
 use crate::row::Row;
 use attr_glob::search::Pattern;
 use attr_glob::search::pattern::Mapping;
@@ -13,22 +13,26 @@ use bstr::BStr;
 use std::alloc::{AllocError, Global};
 use std::fmt::Write;
 
-/// Whether an owned copy of a borrowed value, and a copy of that, are equal to it.
-macro_rules! is_copied {
+/// An owned copy of a borrowed value, and a copy of that, have to be equal to it.
+macro_rules! expect_copied {
     ($alloc:expr, $borrowed:expr) => {{
         let owned = $borrowed.to_owned($alloc)?;
-        let copy = owned.clone($alloc)?;
-        (owned.as_ref() == $borrowed) & (copy == owned)
+        expect_equal(&owned.as_ref(), &$borrowed)?;
+        expect_equal(&owned.clone($alloc)?, &owned)?;
     }};
 }
 
 /// Whether a text is a valid name, and of one that is not what is refused.
 pub(crate) fn name(row: &Row, answer: &mut Answer) -> Result<(), Fault> {
     match NameRef::try_from(BStr::new(row.bytes(0))) {
-        Ok(name) if name.as_str() == row.text(0) && is_copied!(answer.alloc, name) => {
-            answer.text("valid")
+        Ok(name) => {
+            expect_copied!(answer.alloc, name);
+            answer.text(if name.as_str() == row.text(0) {
+                "valid"
+            } else {
+                "another name"
+            })
         }
-        Ok(_) => answer.text("another name"),
         Err(name::Error::InvalidName(input)) => {
             answer.text("refused")?;
             answer.bytes(input.as_bytes())
@@ -44,32 +48,25 @@ pub(crate) fn items(row: &Row, answer: &mut Answer) -> Result<(), Fault> {
     answer.text(&out)
 }
 
-fn push_items(items: Iter<'_>, out: &mut String) -> Result<(), AllocError> {
+fn push_items(items: Iter<'_>, out: &mut String) -> Result<(), Fault> {
     for item in items {
-        push_item(item, out)?;
+        match item {
+            Ok(item) => push_item(item, out)?,
+            Err(error) => write!(out, "[{error}]")?,
+        }
     }
     Ok(())
 }
 
-fn push_item(
-    item: Result<AssignmentRef<'_>, AttrError<'_>>,
-    out: &mut String,
-) -> Result<(), AllocError> {
-    match item {
-        Ok(item) if is_item_copied(*out.allocator(), item)? => write!(out, "[{item}]"),
-        Ok(_) => out.push_str("[another copy]"),
-        Err(error) => write!(out, "[{error}]"),
-    }
-}
-
-fn is_item_copied(alloc: Global, item: AssignmentRef<'_>) -> Result<bool, AllocError> {
-    let mut is_same = is_copied!(alloc, item);
-    is_same &= is_copied!(alloc, item.name);
-    is_same &= is_copied!(alloc, item.state);
+fn push_item(item: AssignmentRef<'_>, out: &mut String) -> Result<(), Fault> {
+    let alloc = *out.allocator();
+    expect_copied!(alloc, item);
+    expect_copied!(alloc, item.name);
+    expect_copied!(alloc, item.state);
     if let StateRef::Value(value) = item.state {
-        is_same &= is_copied!(alloc, value);
+        expect_copied!(alloc, value);
     }
-    Ok(is_same)
+    Ok(write!(out, "[{item}]")?)
 }
 
 /// Of each item of a text its name, whether it is set, unset and unspecified, and its value.
@@ -105,34 +102,25 @@ pub(crate) fn lines(row: &Row, answer: &mut Answer) -> Result<(), Fault> {
     answer.text(&out)
 }
 
-fn push_line(
-    line: Result<(Kind, Iter<'_>, usize), Error>,
-    out: &mut String,
-) -> Result<(), AllocError> {
+fn push_line(line: Result<(Kind, Iter<'_>, usize), Error>, out: &mut String) -> Result<(), Fault> {
     match line {
         Ok((kind, items, number)) => {
-            push_kind(&kind, number, out)?;
+            write!(out, "{number} ")?;
+            push_kind(&kind, out)?;
             push_items(items, out)?;
-            out.push(';')
+            Ok(out.push(';')?)
         }
-        Err(error) => push_refused(&error, out),
+        Err(error) => Ok(push_refused(&error, out)?),
     }
 }
 
-fn push_kind(kind: &Kind, number: usize, out: &mut String) -> Result<(), AllocError> {
-    if kind.clone(*out.allocator())? != *kind {
-        return out.push_str("another copy");
-    }
+fn push_kind(kind: &Kind, out: &mut String) -> Result<(), Fault> {
+    expect_equal(&kind.clone(*out.allocator())?, kind)?;
     match kind {
-        Kind::Pattern(pattern) => {
-            write!(
-                out,
-                "{number} pattern {} ",
-                BStr::new(pattern.text.as_slice())
-            )
-        }
-        Kind::Macro(name) => write!(out, "{number} macro {} ", name.as_str()),
+        Kind::Pattern(pattern) => write!(out, "pattern {} ", BStr::new(&pattern.text))?,
+        Kind::Macro(name) => write!(out, "macro {} ", name.as_str())?,
     }
+    Ok(())
 }
 
 fn push_refused(error: &Error, out: &mut String) -> Result<(), AllocError> {
@@ -147,35 +135,28 @@ fn push_refused(error: &Error, out: &mut String) -> Result<(), AllocError> {
 /// The lines of a file that its list keeps, and those that it drops. A copy of each line is made, which has to be equal.
 pub(crate) fn kept(row: &Row, answer: &mut Answer) -> Result<(), Fault> {
     let (mappings, dropped) = Attributes.bytes_to_patterns(answer.alloc, row.bytes(0), "")?;
-    if !are_copied(answer.alloc, &mappings)? {
-        answer.text("another copy")?;
+    expect_copies(answer.alloc, &mappings)?;
+    let mut out = String::new(answer.alloc);
+    for mapping in mappings.iter() {
+        push_mapping(mapping, &mut out)?;
     }
-    push_mappings(&mappings, answer)?;
+    answer.text(&out)?;
     push_dropped(&dropped, answer)
 }
 
-/// Whether copies of the lines of a list are equal to them.
-pub(crate) fn are_copied(alloc: Global, mappings: &[Mapping<Value>]) -> Result<bool, AllocError> {
-    let mut all = true;
+/// Copies of the lines of a list have to be equal to them.
+pub(crate) fn expect_copies(alloc: Global, mappings: &[Mapping<Value>]) -> Result<(), Fault> {
     for mapping in mappings {
-        all &= mapping.value.clone(alloc)? == mapping.value;
+        expect_equal(&mapping.value.clone(alloc)?, &mapping.value)?;
     }
-    Ok(all)
+    Ok(())
 }
 
 /// How many lines of a file its list keeps, and how many it drops.
 pub(crate) fn kept_counts(row: &Row, answer: &mut Answer) -> Result<(), Fault> {
     let (mappings, dropped) = Attributes.bytes_to_patterns(answer.alloc, row.bytes(0), "")?;
-    answer.number(mappings.len())?;
-    answer.number(dropped.len())
-}
-
-fn push_mappings(mappings: &[Mapping<Value>], answer: &mut Answer) -> Result<(), Fault> {
-    let mut out = String::new(answer.alloc);
-    for mapping in mappings {
-        push_mapping(mapping, &mut out)?;
-    }
-    answer.text(&out)
+    answer.shown(mappings.len())?;
+    answer.shown(dropped.len())
 }
 
 /// The items of a line, in its order.
@@ -190,12 +171,9 @@ pub(crate) fn items_of(line: &Value) -> &[TrackedAssignment] {
 // have no number.
 fn push_mapping(mapping: &Mapping<Value>, out: &mut String) -> Result<(), AllocError> {
     let (number, pattern) = (mapping.sequence_number, &mapping.pattern);
-    let (text, mode) = (BStr::new(pattern.text.as_slice()), pattern.mode.bits());
-    write!(
-        out,
-        "{number} {text} {mode} {:?}",
-        pattern.first_wildcard_pos
-    )?;
+    let (text, mode) = (BStr::new(&pattern.text), pattern.mode.bits());
+    let wildcard = pattern.first_wildcard_pos;
+    write!(out, "{number} {text} {mode} {wildcard:?}")?;
     for item in items_of(&mapping.value) {
         if item.id == AttributeId::default() {
             write!(out, " {}", item.inner.as_ref())?;

@@ -1,7 +1,7 @@
 //! Steps of a table of names: lists are added and removed, and the numbers and bodies of names are reported.
 
-use crate::fault::Fault;
-use crate::lines::{are_copied, items_of};
+use crate::fault::{Fault, expect_equal};
+use crate::lines::{expect_copies, items_of};
 use crate::row::Row;
 use crate::scenes::Stage;
 use attr_glob::search::Pattern;
@@ -23,19 +23,14 @@ pub(crate) struct Numbering {
 impl Numbering {
     /// A table without names.
     pub(crate) fn new(alloc: Global) -> Result<Box<Numbering>, AllocError> {
-        let (table, other) = (
-            Box::new(alloc, NameTable::new(alloc))?,
-            Box::new(alloc, NameTable::new(alloc))?,
-        );
-        let added = Vec::new(alloc);
-        Ok(Box::new(
-            alloc,
-            Numbering {
-                table,
-                other,
-                added,
-            },
-        )?)
+        let table = Box::new(alloc, NameTable::new(alloc))?;
+        let other = Box::new(alloc, NameTable::new(alloc))?;
+        let numbering = Numbering {
+            table,
+            other,
+            added: Vec::new(alloc),
+        };
+        Ok(Box::new(alloc, numbering)?)
     }
 
     // Its report gets its memory first, so that only the addition can be refused.
@@ -50,31 +45,26 @@ impl Numbering {
     }
 
     fn remove(&mut self, index: usize, out: &mut String) -> Result<(), Fault> {
-        let Some((list_id, list)) = self.added.get(index) else {
-            return Err(Fault::NotARow);
-        };
+        let (list_id, list) = self.added.get(index).ok_or(Fault::NotARow)?;
         remove_if_held(&mut self.table, *list_id, list, out)
     }
 
     fn copy(&mut self, alloc: Global) -> Result<(), Fault> {
-        self.other = copied(alloc, &self.table)?;
+        self.other = Box::new(alloc, self.table.clone(alloc)?)?;
         mem::swap(&mut self.table, &mut self.other);
         Ok(())
     }
 
     // Whether the list of a file is held, with the numbers that the table has for its names.
     fn holds(&self, alloc: Global, list_id: usize, bytes: &[u8]) -> Result<bool, AllocError> {
-        let mut copy = copied(alloc, &self.table)?;
+        let mut copy = Box::new(alloc, self.table.clone(alloc)?)?;
         let (mut list, _) = Attributes.bytes_to_patterns(alloc, bytes, "")?;
         copy.add(alloc, &mut list)?;
         Ok(self.table.holds(list_id, &list))
     }
 
     fn last(&self) -> &[Mapping<Value>] {
-        match self.added.last() {
-            Some((_, list)) => list.as_slice(),
-            None => &[],
-        }
+        self.added.last().map_or(&[], |(_, list)| list.as_slice())
     }
 }
 
@@ -91,11 +81,10 @@ impl Stage for Numbering {
             "copy" => self.copy(alloc)?,
             "turn" => mem::swap(&mut self.table, &mut self.other),
             // `holds | ID | FILE`: whether the list of a file is held under an id.
-            "holds" => writeln!(
-                out,
-                "{}",
-                self.holds(alloc, step.number(1)?, step.bytes(2))?
-            )?,
+            "holds" => {
+                let is_held = self.holds(alloc, step.number(1)?, step.bytes(2))?;
+                writeln!(out, "{is_held}")?;
+            }
             // The numbers of the last list's items, line by line.
             "numbers" => push_list(self.last(), out)?,
             // The names, each with the numbers of its body.
@@ -107,11 +96,11 @@ impl Stage for Numbering {
             // `first | NAME`: the number of the first item in the body of a name.
             "first" => writeln!(out, "{:?}", first_number(&self.table, step.text(1)))?,
             "show" => writeln!(out, "{:?}", *self.table)?,
-            // Whether copies of the last list's lines, with their numbers, and of the bodies are equal to them.
+            // Copies of the last list's lines, with their numbers, and of the bodies have to be equal to them.
             "copies" => {
-                let are_lines_copied = are_copied(alloc, self.last())?;
-                let are_bodies_copied = are_bodies_copied(alloc, &self.table)?;
-                writeln!(out, "{}", are_lines_copied && are_bodies_copied)?;
+                expect_copies(alloc, self.last())?;
+                expect_bodies_copied(alloc, &self.table)?;
+                out.push_str("true\n")?;
             }
             _ => return Err(Fault::NotARow),
         }
@@ -123,11 +112,6 @@ impl Stage for Numbering {
         push_names(&self.table, out)?;
         push_names(&self.other, out)
     }
-}
-
-fn copied(alloc: Global, table: &NameTable) -> Result<Box<NameTable>, AllocError> {
-    let copy = table.clone(alloc)?;
-    Ok(Box::new(alloc, copy)?)
 }
 
 fn remove_if_held(
@@ -146,12 +130,11 @@ fn remove_if_held(
     Ok(())
 }
 
-fn are_bodies_copied(alloc: Global, table: &NameTable) -> Result<bool, AllocError> {
-    let mut all = true;
+fn expect_bodies_copied(alloc: Global, table: &NameTable) -> Result<(), Fault> {
     for (_, metadata) in table.iter() {
-        all &= metadata.clone(alloc)? == *metadata;
+        expect_equal(&metadata.clone(alloc)?, metadata)?;
     }
-    Ok(all)
+    Ok(())
 }
 
 /// Whether no line of a list and no item has a number.

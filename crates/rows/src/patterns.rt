@@ -1,7 +1,7 @@
 //! The answers of rows about patterns: their parts, quotes, and the bases of lists.
 
 use crate::answer::Answer;
-use crate::fault::Fault;
+use crate::fault::{Fault, expect_equal};
 use crate::row::Row;
 use attr_glob::Pattern;
 use attr_glob::pattern::{base_name, base_name_offset};
@@ -20,19 +20,12 @@ pub(crate) fn pattern(row: &Row, answer: &mut Answer) -> Result<(), Fault> {
         return answer.text("none");
     };
     answer.bytes(&pattern.text)?;
-    answer.number(pattern.mode.bits() as usize)?;
+    answer.shown(pattern.mode.bits())?;
     answer.index(pattern.first_wildcard_pos)?;
     answer.flag(pattern.is_negative())?;
-    push_written(&pattern, answer)
-}
-
-fn push_written(pattern: &Pattern, answer: &mut Answer) -> Result<(), Fault> {
     let copy = pattern.clone(answer.alloc)?;
-    if copy != *pattern {
-        return answer.text("another copy");
-    }
-    let written = copy.write_text(answer.alloc)?;
-    answer.bytes(&written)
+    answer.bytes(&copy.write_text(answer.alloc)?)?;
+    expect_equal(&copy, &pattern)
 }
 
 /// Of a path: the offset of its base name, and that name.
@@ -47,19 +40,15 @@ pub(crate) fn base_name_of(row: &Row, answer: &mut Answer) -> Result<(), Fault> 
 /// without a backslash takes no memory.
 pub(crate) fn quote(row: &Row, answer: &mut Answer) -> Result<(), Fault> {
     match undo(answer.alloc, BStr::new(row.bytes(0))) {
-        Ok((plain, taken)) => push_plain(&plain, taken, answer),
+        Ok((plain, taken)) => {
+            let is_lent = matches!(&plain, CowSlice::Borrowed(_));
+            answer.text(if is_lent { "lent" } else { "owned" })?;
+            answer.bytes(plain.as_slice())?;
+            answer.shown(taken)
+        }
         Err(UndoError::OutOfMemory) => Err(Fault::CallOutOfMemory),
-        Err(refused) => answer.text(&format!(in answer.alloc; "{refused}")?),
+        Err(refused) => answer.shown(refused),
     }
-}
-
-fn push_plain(plain: &CowSlice<'_, u8>, taken: usize, answer: &mut Answer) -> Result<(), Fault> {
-    answer.text(match plain {
-        CowSlice::Borrowed(_) => "lent",
-        CowSlice::Owned(_) => "owned",
-    })?;
-    answer.bytes(plain.as_slice())?;
-    answer.number(taken)
 }
 
 /// The list of a source below a root, in a box: a proof drops a box by one call.
@@ -74,19 +63,13 @@ pub(crate) fn list_of(
     Ok(Box::new(alloc, list)?)
 }
 
-fn is_copied(alloc: Global, list: &List<Attributes>) -> Result<bool, AllocError> {
-    let copy = Box::new(alloc, list.clone(alloc)?)?;
-    Ok(*copy == *list)
-}
-
 const LINES: &[u8] = b"x\n\ny";
 
 /// Of a source and its root: the source and the base of the list. A copy is made, which has to be equal.
 pub(crate) fn base(row: &Row, answer: &mut Answer) -> Result<(), Fault> {
     let list = list_of(answer.alloc, LINES, row.text(0), row.optional(1))?;
-    if !is_copied(answer.alloc, &list)? {
-        answer.text("another copy")?;
-    }
+    let copy = Box::new(answer.alloc, list.clone(answer.alloc)?)?;
+    expect_equal(&*copy, &*list)?;
     answer.text(list.source.as_deref().unwrap_or("-"))?;
     answer.bytes(list.base.as_deref().unwrap_or(b"-"))
 }

@@ -22,11 +22,11 @@ pub(crate) fn search(row: &Row, answer: &mut Answer) -> Result<(), Fault> {
     let mut lines = Vec::new(alloc);
     push_lines(alloc, 0, row.text(1), &mut lines)?;
     push_lines(alloc, 1, row.text(2), &mut lines)?;
-    let wanted = numbers_of(alloc, row.text(3))?;
-    let bodies = bodies_of(alloc, &lines, row.number(0)?)?;
-    let lists = lists_of(alloc, &lines)?;
-    let slices = slices_of(alloc, &lists)?;
-    push_found(&slices, &bodies, &wanted, answer)
+    let wanted: Vec<usize> = row.text(3).split(' ').map(number_of).try_collect(alloc)?;
+    let names = 0..row.number(0)?;
+    let bodies: Vec<&[Item<'_>]> = names.map(|name| body_of(&lines, name)).collect(alloc)?;
+    let (first, second) = (rows_of(alloc, &lines, 0)?, rows_of(alloc, &lines, 1)?);
+    push_found(&[&first, &second], &bodies, &wanted, answer)
 }
 
 fn push_lines<'a>(
@@ -37,27 +37,14 @@ fn push_lines<'a>(
 ) -> Result<(), Fault> {
     for line in text.split('\n') {
         if let Some((pattern, words)) = line.split_once(' ') {
-            let defines = match pattern.strip_prefix("[attr]") {
-                Some(name) => Some(number_of(name)?),
-                None => None,
-            };
-            let items = items_of(alloc, words)?;
             lines.push(Line {
                 list,
-                defines,
-                items,
+                defines: pattern.strip_prefix("[attr]").map(number_of).transpose()?,
+                items: words.split(' ').map(item_of).try_collect(alloc)?,
             })?;
         }
     }
     Ok(())
-}
-
-fn items_of<'a>(alloc: Global, words: &'a str) -> Result<Vec<Item<'a>>, Fault> {
-    let mut items = Vec::new(alloc);
-    for word in words.split(' ') {
-        items.push(item_of(word)?)?;
-    }
-    Ok(items)
 }
 
 fn item_of(word: &str) -> Result<Item<'_>, Fault> {
@@ -70,35 +57,10 @@ fn item_of(word: &str) -> Result<Item<'_>, Fault> {
     Ok(Item { attribute, state })
 }
 
-fn numbers_of(alloc: Global, words: &str) -> Result<Vec<usize>, Fault> {
-    let mut numbers = Vec::new(alloc);
-    for word in words.split(' ') {
-        numbers.push(number_of(word)?)?;
-    }
-    Ok(numbers)
-}
-
-// The body of each name: that of the last line that defines it.
-fn bodies_of<'l, 'a>(
-    alloc: Global,
-    lines: &'l [Line<'a>],
-    count: usize,
-) -> Result<Vec<&'l [Item<'a>]>, AllocError> {
-    let mut bodies = Vec::new(alloc);
-    for name in 0..count {
-        bodies.push(body_of(lines, name))?;
-    }
-    Ok(bodies)
-}
-
+// The body of a name: that of the last line that defines it.
 fn body_of<'l, 'a>(lines: &'l [Line<'a>], name: usize) -> &'l [Item<'a>] {
-    let mut body: &'l [Item<'a>] = &[];
-    for line in lines {
-        if line.defines == Some(name) {
-            body = line.items.as_slice();
-        }
-    }
-    body
+    let definition = lines.iter().rfind(|line| line.defines == Some(name));
+    definition.map_or(&[], |line| line.items.as_slice())
 }
 
 fn origin_of(line: usize) -> Origin<'static> {
@@ -109,28 +71,6 @@ fn origin_of(line: usize) -> Origin<'static> {
         source: Some(b".gitattributes"),
         line,
     }
-}
-
-fn lists_of<'l, 'a>(
-    alloc: Global,
-    lines: &'l [Line<'a>],
-) -> Result<Vec<Vec<plain::Row<'l, 'a>>>, AllocError> {
-    let mut lists = Vec::new(alloc);
-    for list in 0..2 {
-        lists.push(rows_of(alloc, lines, list)?)?;
-    }
-    Ok(lists)
-}
-
-fn slices_of<'s, 'l, 'a>(
-    alloc: Global,
-    lists: &'s [Vec<plain::Row<'l, 'a>>],
-) -> Result<Vec<&'s [plain::Row<'l, 'a>]>, AllocError> {
-    let mut slices = Vec::new(alloc);
-    for list in lists {
-        slices.push(list.as_slice())?;
-    }
-    Ok(slices)
 }
 
 // The lines of a list. They are counted from 1 through both lists.
@@ -167,7 +107,7 @@ fn push_found<'a>(
     for slot in slots.as_slice() {
         push_slot(slot, answer)?;
     }
-    answer.text(&format!(in alloc; "{taken}")?)
+    answer.shown(taken)
 }
 
 // `-1 3 macro 0`: the item, the line, whether its name is a macro, and the macro that it comes from.
@@ -178,18 +118,18 @@ fn push_slot(slot: &Option<plain::Answer<'_>>, answer: &mut Answer) -> Result<()
     if found.origin != origin_of(found.origin.line) {
         return answer.text("another origin");
     }
-    answer.text(&item_text(answer.alloc, found.assignment)?)?;
-    answer.number(found.origin.line)?;
+    push_item(found.assignment, answer)?;
+    answer.shown(found.origin.line)?;
     answer.text(if found.is_macro { "macro" } else { "plain" })?;
     answer.index(found.cause)
 }
 
-fn item_text(alloc: Global, item: Item<'_>) -> Result<String, AllocError> {
+fn push_item(item: Item<'_>, answer: &mut Answer) -> Result<(), Fault> {
     let name = item.attribute;
     match item.state {
-        State::Set => format!(in alloc; "{name}"),
-        State::Unset => format!(in alloc; "-{name}"),
-        State::Value(value) => format!(in alloc; "{name}={}", BStr::new(value)),
-        State::Unspecified => format!(in alloc; "!{name}"),
+        State::Set => answer.shown(name),
+        State::Unset => answer.shown(format_args!("-{name}")),
+        State::Value(value) => answer.shown(format_args!("{name}={}", BStr::new(value))),
+        State::Unspecified => answer.shown(format_args!("!{name}")),
     }
 }

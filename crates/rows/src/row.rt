@@ -7,6 +7,7 @@
 use crate::fault::Fault;
 use attr_glob::pattern::Case;
 use std::alloc::{AllocError, Global};
+use std::io::Write;
 
 /// The fields of a line.
 #[derive(Drop)]
@@ -18,18 +19,17 @@ impl Row {
     /// Reads a line.
     pub(crate) fn read(alloc: Global, line: &str) -> Result<Row, Fault> {
         let mut fields = Vec::new(alloc);
-        for field in line.split('|') {
-            push_field(alloc, field.trim_ascii(), &mut fields)?;
+        for text in line.split('|') {
+            let mut field = Vec::new(alloc);
+            push_decoded(text.trim_ascii(), &mut field)?;
+            fields.push(field)?;
         }
         Ok(Row { fields })
     }
 
     /// The bytes of a field, none if there is no such field.
     pub(crate) fn bytes(&self, index: usize) -> &[u8] {
-        match self.fields.get(index) {
-            Some(field) => field.as_slice(),
-            None => b"",
-        }
+        self.fields.get(index).map_or(b"", |field| field.as_slice())
     }
 
     /// The text of a field, empty if it is no UTF-8.
@@ -52,10 +52,7 @@ impl Row {
 
     /// The number in a field, nothing if there is a hyphen.
     pub(crate) fn index(&self, index: usize) -> Result<Option<usize>, Fault> {
-        match self.optional(index) {
-            Some(text) => Ok(Some(number_of(text)?)),
-            None => Ok(None),
-        }
+        self.optional(index).map(number_of).transpose()
     }
 
     /// The number in a field, or 0 if there is no such field.
@@ -77,11 +74,10 @@ impl Row {
 
     /// The texts of the fields behind the first ones.
     pub(crate) fn texts(&self, alloc: Global, count: usize) -> Result<Vec<&str>, AllocError> {
-        let mut texts = Vec::new(alloc);
-        for field in self.rest(count) {
-            texts.push(str::from_utf8(field).unwrap_or(""))?;
-        }
-        Ok(texts)
+        let texts = self.rest(count).iter();
+        texts
+            .map(|text| str::from_utf8(text).unwrap_or(""))
+            .collect(alloc)
     }
 
     /// The fields behind the first ones.
@@ -92,120 +88,77 @@ impl Row {
 
 /// The number that a text is.
 pub(crate) fn number_of(text: &str) -> Result<usize, Fault> {
-    match text.parse::<usize>() {
-        Ok(number) => Ok(number),
-        Err(_) => Err(Fault::NotARow),
-    }
+    text.parse().or(Err(Fault::NotARow))
 }
 
 /// The words of a text, between which are blanks. `''` is the empty one.
 pub(crate) fn words_of(alloc: Global, text: &str) -> Result<Vec<String>, AllocError> {
-    let mut words = Vec::new(alloc);
-    for word in text.split(' ') {
-        if !word.is_empty() {
-            words.push(String::from_str(alloc, if word == "''" { "" } else { word })?)?;
-        }
-    }
-    Ok(words)
-}
-
-fn push_field(alloc: Global, text: &str, fields: &mut Vec<Vec<u8>>) -> Result<(), Fault> {
-    let mut field = Vec::new(alloc);
-    push_decoded(alloc, text, &mut field)?;
-    fields.push(field)?;
-    Ok(())
+    text.split(' ')
+        .filter(|word| !word.is_empty())
+        .map(|word| String::from_str(alloc, if word == "''" { "" } else { word }))
+        .try_collect(alloc)
 }
 
 /// Pushes the bytes that a text stands for.
-pub(crate) fn push_decoded(alloc: Global, text: &str, out: &mut Vec<u8>) -> Result<(), Fault> {
+pub(crate) fn push_decoded(text: &str, out: &mut Vec<u8>) -> Result<(), Fault> {
     for piece in text.split('}') {
         match piece.split_once('{') {
             Some((once, repeated)) => {
-                push_escaped(alloc, once, 0, out)?;
-                push_repeated(alloc, repeated, out)?;
+                push_escaped(once, 0, out)?;
+                push_repeated(repeated, out)?;
             }
-            None => push_escaped(alloc, piece, 0, out)?,
+            None => push_escaped(piece, 0, out)?,
         }
     }
     Ok(())
 }
 
 // What stands between braces: how often, and what.
-fn push_repeated(alloc: Global, text: &str, out: &mut Vec<u8>) -> Result<(), Fault> {
-    let Some((times, part)) = text.split_once(' ') else {
-        return Err(Fault::NotARow);
-    };
-    let times = number_of(times)?;
-    if part.contains("\\#") || part.contains("\\4") || part.contains("\\+") {
-        for number in 0..times {
-            push_escaped(alloc, part, number, out)?;
+fn push_repeated(text: &str, out: &mut Vec<u8>) -> Result<(), Fault> {
+    let (times, part) = text.split_once(' ').ok_or(Fault::NotARow)?;
+    for number in 0..number_of(times)? {
+        push_escaped(part, number, out)?;
+    }
+    Ok(())
+}
+
+// What is behind two backslashes is plain, as what is before the first.
+fn push_escaped(text: &str, number: usize, out: &mut Vec<u8>) -> Result<(), Fault> {
+    let mut is_plain = true;
+    for piece in text.split('\\') {
+        if is_plain {
+            out.extend_from_slice(piece.as_bytes())?;
+        } else {
+            push_escape(piece.as_bytes(), number, out)?;
         }
-        return Ok(());
+        is_plain = !is_plain && piece.is_empty();
     }
-    let mut once = Vec::new(alloc);
-    push_escaped(alloc, part, 0, &mut once)?;
-    push_times(&once, times, out)?;
-    Ok(())
-}
-
-fn push_times(once: &[u8], times: usize, out: &mut Vec<u8>) -> Result<(), AllocError> {
-    for _ in 0..times {
-        out.extend_from_slice(once)?;
-    }
-    Ok(())
-}
-
-fn push_escaped(alloc: Global, text: &str, number: usize, out: &mut Vec<u8>) -> Result<(), Fault> {
-    let mut read = Read::Plain;
-    for byte in text.bytes() {
-        read = match read {
-            Read::Plain if byte == b'\\' => Read::Backslash,
-            Read::Plain => push_byte(byte, out)?,
-            Read::Backslash => push_escape(alloc, byte, number, out)?,
-            Read::Hex => Read::Digit(digit(byte)?),
-            Read::Digit(high) => {
-                push_byte(high.wrapping_mul(16).wrapping_add(digit(byte)?), out)?
-            }
-        };
-    }
-    match read {
-        Read::Plain => Ok(()),
-        Read::Backslash | Read::Hex | Read::Digit(_) => Err(Fault::NotARow),
+    if is_plain {
+        Err(Fault::NotARow)
+    } else {
+        Ok(())
     }
 }
 
-// What was read last: no part of an escape, its backslash, `\x`, or that and a digit.
-#[derive(Clone, Copy)]
-enum Read {
-    Plain,
-    Backslash,
-    Hex,
-    Digit(u8),
-}
-
-fn push_byte(byte: u8, out: &mut Vec<u8>) -> Result<Read, Fault> {
-    out.push(byte)?;
-    Ok(Read::Plain)
-}
-
-// What stands for a backslash and this byte.
-fn push_escape(alloc: Global, byte: u8, number: usize, out: &mut Vec<u8>) -> Result<Read, Fault> {
-    match byte {
-        b'x' => Ok(Read::Hex),
-        b'n' => push_byte(b'\n', out),
-        b't' => push_byte(b'\t', out),
-        b'r' => push_byte(b'\r', out),
-        b'\\' => push_byte(b'\\', out),
-        b'#' => push_text(&format!(in alloc; "{number}")?, out),
-        b'+' => push_text(&format!(in alloc; "{}", number.saturating_add(1))?, out),
-        b'4' => push_text(&format!(in alloc; "{number:04}")?, out),
-        _ => Err(Fault::NotARow),
+// What stands for a backslash and these bytes, of which the first is an escape's. Without any it is a backslash.
+fn push_escape(text: &[u8], number: usize, out: &mut Vec<u8>) -> Result<(), Fault> {
+    if let [b'x', high, low, rest @ ..] = text {
+        out.push(digit(*high)?.wrapping_mul(16).wrapping_add(digit(*low)?))?;
+        return Ok(out.extend_from_slice(rest)?);
     }
-}
-
-fn push_text(text: &str, out: &mut Vec<u8>) -> Result<Read, Fault> {
-    out.extend_from_slice(text.as_bytes())?;
-    Ok(Read::Plain)
+    let Some((escape, rest)) = text.split_first() else {
+        return Ok(out.push(b'\\')?);
+    };
+    match escape {
+        b'n' => out.push(b'\n')?,
+        b't' => out.push(b'\t')?,
+        b'r' => out.push(b'\r')?,
+        b'#' => write!(out, "{number}")?,
+        b'+' => write!(out, "{}", number.saturating_add(1))?,
+        b'4' => write!(out, "{number:04}")?,
+        _ => return Err(Fault::NotARow),
+    }
+    Ok(out.extend_from_slice(rest)?)
 }
 
 fn digit(byte: u8) -> Result<u8, Fault> {

@@ -2,12 +2,12 @@
 //! report. A line that begins with `#` is a comment; the first one names the row.
 
 use crate::answer::Answer;
-use crate::engines::new_engine;
 use crate::fault::Fault;
 use crate::keys::Keys;
 use crate::numbers::Numbering;
 use crate::row::{Row, push_decoded};
 use crate::searches::Scene;
+use gix_attributes::engine::Engine;
 use std::alloc::{AllocError, Global};
 
 /// What the steps of a scene are taken on.
@@ -34,7 +34,10 @@ pub(crate) fn push_both(
     let mut out = String::new(alloc);
     match about {
         "searches" => take_all(&mut *Scene::new(alloc)?, scene, twice, &mut out)?,
-        "engines" => take_all(&mut *new_engine(alloc)?, scene, twice, &mut out)?,
+        "engines" => {
+            let mut engine = Box::new(alloc, Engine::new(alloc)?)?;
+            take_all(&mut *engine, scene, twice, &mut out)?;
+        }
         "numbers" => take_all(&mut *Numbering::new(alloc)?, scene, twice, &mut out)?,
         "keys" => take_all(&mut Keys::new(alloc), scene, twice, &mut out)?,
         _ => return Err(Fault::NotARow),
@@ -67,7 +70,7 @@ fn push_wanted(scene: &str, wanted: &mut Answer) -> Result<(), Fault> {
     let mut text = Vec::new(wanted.alloc);
     for line in scene.split('\n') {
         if let Some(line) = line.strip_prefix('=') {
-            push_decoded(wanted.alloc, line.trim_ascii(), &mut text)?;
+            push_decoded(line.trim_ascii(), &mut text)?;
             text.push(b'\n')?;
         }
     }

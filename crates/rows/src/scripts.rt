@@ -4,12 +4,11 @@ use crate::answer::Answer;
 use crate::fault::Fault;
 use crate::files::read_bytes;
 use crate::row::{Row, words_of};
+use attr_vectors::devices::Source;
 use check_attr::{Globals, Pull, Reader, Writer, globals, play, program, run};
 use gix_attributes::engine::{Addition, Engine};
 use gix_attributes::files::{Disk, Memory};
 use std::alloc::{AllocError, Global};
-use std::io;
-use std::io::Read;
 
 /// What a row's input is.
 #[derive(Clone, Copy)]
@@ -18,26 +17,6 @@ pub(crate) enum Input {
     Script,
     /// An attributes file, of which the lines are reported.
     Lines,
-}
-
-/// A reader that moves one byte a call.
-#[derive(Drop)]
-struct OneByOne<'a> {
-    rest: &'a [u8],
-}
-
-impl Read for OneByOne<'_> {
-    fn read(&mut self, buf: &mut [u8]) -> io::Result<usize> {
-        let Some((first, rest)) = self.rest.split_first() else {
-            return Ok(0);
-        };
-        match buf.first_mut() {
-            Some(byte) => *byte = *first,
-            None => return Ok(0),
-        }
-        self.rest = rest;
-        Ok(1)
-    }
 }
 
 // The bytes of the longest input that is read byte by byte, too.
@@ -52,7 +31,11 @@ pub(crate) fn run_twice(input: Input, row: &Row, answer: &mut Answer) -> Result<
     answer.bytes(&written)?;
     answer.index(record)?;
     if bytes.len() <= SHORT {
-        let mut slow = Reader::new(OneByOne { rest: bytes });
+        let mut slow = Reader::new(Source {
+            rest: bytes,
+            most: 1,
+            failing: 0,
+        });
         let slow_record = run_once(alloc, input, &mut slow, &mut slowly)?;
         if slowly != written || slow_record != record {
             answer.bytes(&slowly)?;
@@ -77,10 +60,7 @@ fn run_once<R: Pull>(
 
 /// The built-in list alone: there are no global files.
 pub(crate) fn built_in(alloc: Global) -> Result<Globals, Fault> {
-    match globals(alloc, &mut Memory::new(alloc), &[]) {
-        Ok(lists) => Ok(lists),
-        Err(_) => Err(Fault::OutOfMemory),
-    }
+    Ok(globals(alloc, &mut Memory::new(alloc), &[])?)
 }
 
 fn record_of(ended: Result<(), check_attr::Fault>) -> Result<Option<usize>, Fault> {
@@ -114,7 +94,7 @@ pub(crate) fn call(rt: &HostRuntime, row: &Row, answer: &mut Answer) -> Result<(
         &mut Writer::new(&mut written),
         &mut Writer::new(&mut errors),
     );
-    answer.number(status as usize)?;
+    answer.shown(status)?;
     answer.bytes(&written)?;
     answer.bytes(&errors)
 }

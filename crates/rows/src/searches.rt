@@ -17,46 +17,16 @@ use std::alloc::{AllocError, Global};
 use std::fmt::Write;
 use std::mem;
 
-/// Two collections, two searches and two outcomes, of which steps use one each. They are in boxes: a proof drops a box by one
-/// call, and what is in none field by field, wherever it may be dropped.
+/// Two collections, two searches and two outcomes, of which steps use one each, and may change to the other. They are in boxes: a
+/// proof drops a box by one call, and what is in none field by field, wherever it may be dropped.
 #[derive(Drop)]
 pub(crate) struct Scene {
     collection: Box<MetadataCollection>,
+    other_collection: Box<MetadataCollection>,
     search: Box<Search>,
+    other_search: Box<Search>,
     outcome: Box<Outcome>,
-    others: Others,
-}
-
-/// Those that steps may change to.
-#[derive(Drop)]
-struct Others {
-    collection: Box<MetadataCollection>,
-    search: Box<Search>,
-    outcome: Box<Outcome>,
-}
-
-/// A collection in a box.
-pub(crate) fn new_collection(alloc: Global) -> Result<Box<MetadataCollection>, AllocError> {
-    Ok(Box::new(alloc, MetadataCollection::new(alloc))?)
-}
-
-/// A search in a box.
-pub(crate) fn new_search(alloc: Global) -> Result<Box<Search>, AllocError> {
-    Ok(Box::new(alloc, Search::new(alloc))?)
-}
-
-fn new_outcome(alloc: Global) -> Result<Box<Outcome>, AllocError> {
-    Ok(Box::new(alloc, Outcome::new(alloc))?)
-}
-
-impl Others {
-    fn new(alloc: Global) -> Result<Others, AllocError> {
-        Ok(Others {
-            collection: new_collection(alloc)?,
-            search: new_search(alloc)?,
-            outcome: new_outcome(alloc)?,
-        })
-    }
+    other_outcome: Box<Outcome>,
 }
 
 impl Stage for Scene {
@@ -83,8 +53,8 @@ impl Stage for Scene {
             // Changes to clones of the collection and of the search.
             "clone_lists" => self.clone_lists(alloc, out)?,
             // Changes to the other collection, or to the other search over the same collection.
-            "turn_collections" => mem::swap(&mut self.collection, &mut self.others.collection),
-            "turn" => mem::swap(&mut self.search, &mut self.others.search),
+            "turn_collections" => mem::swap(&mut self.collection, &mut self.other_collection),
+            "turn" => mem::swap(&mut self.search, &mut self.other_search),
             // Changes to a new collection, with new searches. The outcomes stay.
             "renew" => self.renew(alloc)?,
             _ => return self.take_of_outcomes(alloc, step, out),
@@ -95,13 +65,13 @@ impl Stage for Scene {
     // The lists, the names with the bodies of macros, and the answers. But a search leaves an outcome that is reset, and a
     // copy for names may have initialised the other outcome.
     fn push_state(&self, step: &Row, out: &mut String) -> Result<(), AllocError> {
-        writeln!(out, "{:?}\n{:?}", *self.search, *self.others.search)?;
+        writeln!(out, "{:?}\n{:?}", *self.search, *self.other_search)?;
         push_known(&self.collection, out)?;
         if step.text(0) != "find" {
             push_answers(&self.outcome, out)?;
         }
         if step.text(0) != "copy_for" {
-            push_answers(&self.others.outcome, out)?;
+            push_answers(&self.other_outcome, out)?;
         }
         Ok(())
     }
@@ -111,10 +81,12 @@ impl Scene {
     /// Collections, searches and outcomes without lists.
     pub(crate) fn new(alloc: Global) -> Result<Box<Scene>, AllocError> {
         let scene = Scene {
-            collection: new_collection(alloc)?,
-            search: new_search(alloc)?,
-            outcome: new_outcome(alloc)?,
-            others: Others::new(alloc)?,
+            collection: Box::new(alloc, MetadataCollection::new(alloc))?,
+            other_collection: Box::new(alloc, MetadataCollection::new(alloc))?,
+            search: Box::new(alloc, Search::new(alloc))?,
+            other_search: Box::new(alloc, Search::new(alloc))?,
+            outcome: Box::new(alloc, Outcome::new(alloc))?,
+            other_outcome: Box::new(alloc, Outcome::new(alloc))?,
         };
         Ok(Box::new(alloc, scene)?)
     }
@@ -133,11 +105,11 @@ impl Scene {
             "reset" => self.outcome.reset(),
             // Copies the answers to the other outcome, which `copy_for` initialises for its names, and changes to that.
             "copy_for" => {
-                select(alloc, &mut self.others.outcome, &self.collection, step)?;
+                select(alloc, &mut self.other_outcome, &self.collection, step)?;
                 self.copy(alloc)?;
             }
             "copy" => self.copy(alloc)?,
-            "turn_outcomes" => mem::swap(&mut self.outcome, &mut self.others.outcome),
+            "turn_outcomes" => mem::swap(&mut self.outcome, &mut self.other_outcome),
             // Changes to a clone of the outcome, and resets the outcome itself.
             "clone" => self.clone_outcome(alloc)?,
             // `find | PATH | CASE` searches for a path that is no directory, and reports whether a name was found.
@@ -152,15 +124,14 @@ impl Scene {
             // Whether the collection holds the search.
             "held" => writeln!(out, "{}", self.collection.holds(&self.search))?,
             // How the search compares with the other one.
-            "compare" => writeln!(out, "{:?}", self.search.cmp(&self.others.search))?,
+            "compare" => writeln!(out, "{:?}", self.search.cmp(&self.other_search))?,
             // The names by number, each with its body.
             "names" => push_known(&self.collection, out)?,
             // `name | NUMBER`
-            "name" => writeln!(
-                out,
-                "{:?}",
-                self.collection.name_of(AttributeId(step.number(1)?))
-            )?,
+            "name" => {
+                let id = AttributeId(step.number(1)?);
+                writeln!(out, "{:?}", self.collection.name_of(id))?;
+            }
             // The number of lists.
             "lists" => writeln!(out, "{}", self.search.num_pattern_lists())?,
             // The outcome as `Debug` prints it.
@@ -182,27 +153,18 @@ impl Scene {
 
     fn add(&mut self, alloc: Global, list: Addition<'_>) -> Result<Vec<Dropped>, AllocError> {
         let source = String::from_str(alloc, list.source)?;
-        let (bytes, collection) = (list.buffer, &mut self.collection);
-        self.search.add_patterns_buffer(
-            alloc,
-            bytes,
-            source,
-            list.root,
-            collection,
-            list.allow_macros,
-        )
+        let (bytes, root, collection) = (list.buffer, list.root, &mut self.collection);
+        let allow_macros = list.allow_macros;
+        self.search
+            .add_patterns_buffer(alloc, bytes, source, root, collection, allow_macros)
     }
 
     fn read_globals(&mut self, alloc: Global) -> Result<(), Fault> {
         let (mut files, mut buf) = (Memory::new(alloc), Vec::new(alloc));
         let collection = &mut self.collection;
-        match Search::new_globals_from(alloc, &mut files, &[], &mut buf, collection) {
-            Ok((search, _)) => {
-                *self.search = search;
-                Ok(())
-            }
-            Err(_) => Err(Fault::OutOfMemory),
-        }
+        let (search, _) = Search::new_globals_from(alloc, &mut files, &[], &mut buf, collection)?;
+        *self.search = search;
+        Ok(())
     }
 
     fn pop(&mut self, out: &mut String) -> Result<(), Fault> {
@@ -235,7 +197,7 @@ impl Scene {
 
     // The report gets its memory before the list is removed.
     fn push_moved(&mut self, alloc: Global, out: &mut String) -> Result<(), Fault> {
-        let mut collection = new_collection(alloc)?;
+        let mut collection = Box::new(alloc, MetadataCollection::new(alloc))?;
         out.reserve(64)?;
         match self.removed()? {
             Some(mut list) => push_numbered(alloc, &mut list, &mut collection, out),
@@ -255,9 +217,9 @@ impl Scene {
     }
 
     fn renew(&mut self, alloc: Global) -> Result<(), AllocError> {
-        self.collection = new_collection(alloc)?;
-        self.search = new_search(alloc)?;
-        self.others.search = new_search(alloc)?;
+        self.collection = Box::new(alloc, MetadataCollection::new(alloc))?;
+        self.search = Box::new(alloc, Search::new(alloc))?;
+        self.other_search = Box::new(alloc, Search::new(alloc))?;
         Ok(())
     }
 
@@ -265,16 +227,16 @@ impl Scene {
         if !self.outcome.is_initialized() || !self.outcome.is_current(&self.collection) {
             return Err(Fault::NotARow);
         }
-        let copy = &mut self.others.outcome;
+        let copy = &mut self.other_outcome;
         self.outcome.copy_into(alloc, &self.collection, copy)?;
-        mem::swap(&mut self.outcome, &mut self.others.outcome);
+        mem::swap(&mut self.outcome, &mut self.other_outcome);
         Ok(())
     }
 
     fn clone_outcome(&mut self, alloc: Global) -> Result<(), AllocError> {
-        self.others.outcome = Box::new(alloc, self.outcome.clone(alloc)?)?;
+        self.other_outcome = Box::new(alloc, self.outcome.clone(alloc)?)?;
         self.outcome.reset();
-        mem::swap(&mut self.outcome, &mut self.others.outcome);
+        mem::swap(&mut self.outcome, &mut self.other_outcome);
         Ok(())
     }
 
@@ -305,24 +267,20 @@ impl Scene {
         if !self.outcome.is_initialized() {
             return Err(Fault::NotARow);
         }
-        let state = if self.outcome.is_done() {
+        let (taken, least) = (self.outcome.taken(), step.number_or_zero(1)? as u128);
+        out.push_str(if self.outcome.is_done() {
             "done"
         } else {
             "open"
-        };
-        let (taken, tested) = (self.outcome.taken(), self.outcome.tested());
-        let least = step.number_or_zero(1)? as u128;
-        writeln!(out, "{state} {taken} {}", tested.max(least))?;
+        })?;
+        writeln!(out, " {taken} {}", self.outcome.tested().max(least))?;
         Ok(())
     }
 
     fn fit(&self, out: &mut String) -> Result<(), AllocError> {
         let covers = self.outcome.covers(&self.search);
-        writeln!(
-            out,
-            "{covers} {}",
-            self.outcome.is_current(&self.collection)
-        )
+        let is_current = self.outcome.is_current(&self.collection);
+        writeln!(out, "{covers} {is_current}")
     }
 }
 
@@ -346,13 +304,8 @@ fn select(
 }
 
 fn push_rows(outcome: &Outcome, first: usize, out: &mut String) -> Result<(), AllocError> {
-    let mut skipped = 0usize;
-    for found in outcome.iter() {
-        if skipped < first {
-            skipped = skipped.saturating_add(1);
-        } else {
-            push_row(out, found)?;
-        }
+    for found in outcome.iter().skip(first) {
+        push_row(out, found)?;
     }
     Ok(())
 }
@@ -379,12 +332,9 @@ fn push_origins(outcome: &Outcome, out: &mut String) -> Result<(), AllocError> {
 }
 
 fn push_origin(out: &mut String, found: Match<'_>) -> Result<(), AllocError> {
-    let (source, line) = (
-        found.location.source.unwrap_or("-"),
-        found.location.sequence_number,
-    );
+    let (source, line) = (found.location.source, found.location.sequence_number);
     let text = found.pattern.write_text(*out.allocator())?;
-    writeln!(out, "{source}:{line}:{}", BStr::new(text.as_slice()))
+    writeln!(out, "{}:{line}:{}", source.unwrap_or("-"), BStr::new(&text))
 }
 
 fn push_answered(outcome: &Outcome, out: &mut String) -> Result<(), AllocError> {
@@ -398,8 +348,7 @@ fn push_answered(outcome: &Outcome, out: &mut String) -> Result<(), AllocError> 
 
 fn push_known(collection: &MetadataCollection, out: &mut String) -> Result<(), AllocError> {
     for (name, metadata) in collection.iter() {
-        out.push_str(name)?;
-        out.push(':')?;
+        write!(out, "{name}:")?;
         for item in metadata.macro_attributes.iter() {
             write!(out, " {}", item.inner.as_ref())?;
         }

@@ -4,7 +4,6 @@ use crate::answer::Answer;
 use crate::fault::Fault;
 use crate::lines::push_dropped;
 use crate::row::{Row, words_of};
-use crate::searches::{new_collection, new_search};
 use gix_attributes::files::Disk;
 use gix_attributes::search::{AddError, Added, Dropped, MetadataCollection};
 use gix_attributes::{Prefixes, Search, Source};
@@ -61,21 +60,19 @@ fn looked_up_value(
     looked_up: &mut String,
 ) -> Result<Option<String>, AllocError> {
     write!(looked_up, "{name} ")?;
-    for variable in variables.split(' ') {
-        if let Some((known, value)) = variable.split_once('=') {
-            if known == name {
-                return owned(alloc, Some(value));
-            }
-        }
-    }
-    Ok(None)
+    let mut known = variables
+        .split(' ')
+        .filter_map(|variable| variable.split_once('='));
+    owned(
+        alloc,
+        known
+            .find(|(known, _)| *known == name)
+            .map(|(_, value)| value),
+    )
 }
 
 fn owned(alloc: Global, text: Option<&str>) -> Result<Option<String>, AllocError> {
-    match text {
-        Some(text) => Ok(Some(String::from_str(alloc, text)?)),
-        None => Ok(None),
-    }
+    text.map(|text| String::from_str(alloc, text)).transpose()
 }
 
 /// A search, the collection that holds its lists, and the buffer for files.
@@ -87,8 +84,8 @@ struct Lists {
 }
 
 fn no_lists(alloc: Global) -> Result<Lists, AllocError> {
-    let search = new_search(alloc)?;
-    let collection = new_collection(alloc)?;
+    let search = Box::new(alloc, Search::new(alloc))?;
+    let collection = Box::new(alloc, MetadataCollection::new(alloc))?;
     Ok(Lists {
         search,
         collection,
@@ -99,36 +96,12 @@ fn no_lists(alloc: Global) -> Result<Lists, AllocError> {
 /// Of names of files: the number of global lists, whether the collection holds them, and the lines that are dropped of each
 /// file, or the error; then the names that are known.
 pub(crate) fn globals(rt: &HostRuntime, row: &Row, answer: &mut Answer) -> Result<(), Fault> {
-    let mut lists = no_lists(answer.alloc)?;
-    push_globals(rt, Reads::Device, row.text(0), &mut lists, answer)?;
-    push_names(&lists.collection, answer)
-}
-
-/// Who reads files.
-#[derive(Clone, Copy)]
-enum Reads {
-    /// A device that is passed to the calls.
-    Device,
-    /// The calls themselves.
-    Calls,
-}
-
-fn push_globals(
-    rt: &HostRuntime,
-    reads: Reads,
-    names: &str,
-    lists: &mut Lists,
-    answer: &mut Answer,
-) -> Result<(), Fault> {
-    let (alloc, buf, collection) = (answer.alloc, &mut lists.buf, &mut lists.collection);
-    let names = words_of(alloc, names)?;
-    let read = match reads {
-        Reads::Calls => Search::new_globals(rt, alloc, &names, buf, collection),
-        Reads::Device => {
-            Search::new_globals_from(alloc, &mut Disk::new(rt), &names, buf, collection)
-        }
-    };
-    push_search(&read, collection, answer)
+    let (alloc, mut lists) = (answer.alloc, no_lists(answer.alloc)?);
+    let (buf, collection) = (&mut lists.buf, &mut lists.collection);
+    let names = words_of(alloc, row.text(0))?;
+    let read = Search::new_globals_from(alloc, &mut Disk::new(rt), &names, buf, collection);
+    push_search(&read, collection, answer)?;
+    push_names(collection, answer)
 }
 
 fn push_search(
@@ -153,13 +126,13 @@ fn push_lists(
     collection: &MetadataCollection,
     answer: &mut Answer,
 ) -> Result<(), Fault> {
-    answer.number(search.num_pattern_lists())?;
+    answer.shown(search.num_pattern_lists())?;
     answer.flag(collection.holds(search))
 }
 
 fn push_error(error: &AddError, answer: &mut Answer) -> Result<(), Fault> {
     match error {
-        AddError::Io(_) => answer.text(&format!(in answer.alloc; "{error}")?),
+        AddError::Io(_) => answer.shown(error),
         AddError::OutOfMemory => Err(Fault::OutOfMemory),
     }
 }
@@ -173,36 +146,22 @@ fn push_names(collection: &MetadataCollection, answer: &mut Answer) -> Result<()
     answer.text(text.trim_ascii())
 }
 
-/// Of each of some files that are added: whether it is there, and the lines that are dropped; then the number of lists,
-/// whether the collection holds them, the names that are known, and what is left in the buffer.
+/// Of each of some files that are added, which may define no macros and have the top as their root: whether it is there, and the
+/// lines that are dropped; then the number of lists, whether the collection holds them, the names that are known, and what is left
+/// in the buffer.
 pub(crate) fn additions(rt: &HostRuntime, row: &Row, answer: &mut Answer) -> Result<(), Fault> {
-    let mut lists = no_lists(answer.alloc)?;
+    let (alloc, mut lists) = (answer.alloc, no_lists(answer.alloc)?);
     for name in row.text(0).split(' ') {
-        push_added(rt, Reads::Device, name, &mut lists, answer)?;
+        let (source, files, root) = (String::from_str(alloc, name)?, &mut Disk::new(rt), Some(""));
+        let (search, buf, collection) = (&mut lists.search, &mut lists.buf, &mut lists.collection);
+        let added = search.add_patterns_file_from(
+            alloc, files, source, root, buf, collection, false,
+        );
+        push_addition(&added, answer)?;
     }
     push_lists(&lists.search, &lists.collection, answer)?;
     push_names(&lists.collection, answer)?;
     answer.bytes(&lists.buf)
-}
-
-// A file that a device reads may define no macros, and has the top as its root.
-fn push_added(
-    rt: &HostRuntime,
-    reads: Reads,
-    name: &str,
-    lists: &mut Lists,
-    answer: &mut Answer,
-) -> Result<(), Fault> {
-    let (alloc, buf, collection) = (answer.alloc, &mut lists.buf, &mut lists.collection);
-    let (source, search) = (String::from_str(alloc, name)?, &mut lists.search);
-    let added = match reads {
-        Reads::Calls => search.add_patterns_file(rt, alloc, source, None, buf, collection, true),
-        Reads::Device => {
-            let (files, root) = (&mut Disk::new(rt), Some(""));
-            search.add_patterns_file_from(alloc, files, source, root, buf, collection, false)
-        }
-    };
-    push_addition(&added, answer)
 }
 
 fn push_addition(added: &Result<Added, AddError>, answer: &mut Answer) -> Result<(), Fault> {
@@ -217,9 +176,14 @@ fn push_addition(added: &Result<Added, AddError>, answer: &mut Answer) -> Result
 
 /// Of the name of a file that the calls read from the disk themselves, as global lists and then as one that is added: the same.
 pub(crate) fn of_disk(rt: &HostRuntime, row: &Row, answer: &mut Answer) -> Result<(), Fault> {
-    let mut lists = no_lists(answer.alloc)?;
-    push_globals(rt, Reads::Calls, row.text(0), &mut lists, answer)?;
-    lists.buf.clear();
-    push_added(rt, Reads::Calls, row.text(0), &mut lists, answer)?;
-    push_names(&lists.collection, answer)
+    let (alloc, mut lists) = (answer.alloc, no_lists(answer.alloc)?);
+    let (search, buf, collection) = (&mut lists.search, &mut lists.buf, &mut lists.collection);
+    let names = words_of(alloc, row.text(0))?;
+    let read = Search::new_globals(rt, alloc, &names, buf, collection);
+    push_search(&read, collection, answer)?;
+    buf.clear();
+    let source = String::from_str(alloc, row.text(0))?;
+    let added = search.add_patterns_file(rt, alloc, source, None, buf, collection, true);
+    push_addition(&added, answer)?;
+    push_names(collection, answer)
 }

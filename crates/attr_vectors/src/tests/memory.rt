@@ -1,14 +1,14 @@
 //! Runs that pass whichever request for memory is refused.
 use super::{ANSWERS, INPUT, SCRIPT, TEXT, argument, report};
-use crate::devices::{Sink, Source};
-use check_attr::{Fault, Globals, globals, program, run};
+use crate::devices::Sink;
+use check_attr::{Fault, Globals, Reader, Writer, globals, program, run};
 use gix_attributes::files::Memory;
 use gix_attributes::search::AddError;
 use std::alloc::{AllocError, Global};
 
 // A sink that takes no memory until it has more than 64 bytes.
 fn with_room(alloc: Global) -> Result<Sink, AllocError> {
-    Ok(Sink::over(Vec::with_capacity(alloc, 64)?, usize::MAX))
+    Ok(Sink::new(Vec::with_capacity(alloc, 64)?, usize::MAX))
 }
 
 // Whether a run wrote its text, or a beginning of it for want of memory. No device failed.
@@ -26,8 +26,8 @@ fn without_memory_a_beginning_is_written(rt: HostRuntime) {
     let Ok(mut sink) = with_room(rt.alloc()) else {
         return;
     };
-    let ended = report(rt.alloc(), INPUT, &mut sink);
-    assert!(rt; wrote_what_it_could(ended, sink.bytes(), TEXT));
+    let ended = report(rt.alloc(), INPUT, &mut Writer::new(&mut sink));
+    assert!(rt; wrote_what_it_could(ended, &sink.bytes, TEXT));
 }
 
 // The lists of a global file, of which one line is dropped.
@@ -61,8 +61,9 @@ fn without_memory_a_beginning_of_the_answers_is_written(rt: HostRuntime) {
     let (Ok(mut sink), Ok(lists)) = (with_room(rt.alloc()), lists_of_a_file(rt.alloc())) else {
         return;
     };
-    let ended = run(rt.alloc(), &mut Source::new(SCRIPT), &mut sink, lists);
-    assert!(rt; wrote_what_it_could(ended, sink.bytes(), ANSWERS));
+    let (mut reader, mut writer) = (Reader::new(SCRIPT), Writer::new(&mut sink));
+    let ended = run(rt.alloc(), &mut reader, &mut writer, lists);
+    assert!(rt; wrote_what_it_could(ended, &sink.bytes, ANSWERS));
 }
 
 // Whether the program printed its text, or a beginning of it and the words for want of memory.
@@ -84,15 +85,14 @@ fn without_memory_the_program_prints_it(rt: HostRuntime) {
     let (Ok(mut writer), Ok(mut errors)) = (with_room(alloc), with_room(alloc)) else {
         return;
     };
-    let (mut files, mut source) = (Memory::new(alloc), Source::new(INPUT));
     let status = program(
         alloc,
-        &mut files,
+        &mut Memory::new(alloc),
         &args,
-        &mut source,
-        &mut writer,
-        &mut errors,
+        &mut Reader::new(INPUT),
+        &mut Writer::new(&mut writer),
+        &mut Writer::new(&mut errors),
     );
-    let is_right = printed_what_it_could(status, writer.bytes(), errors.bytes());
+    let is_right = printed_what_it_could(status, &writer.bytes, &errors.bytes);
     assert!(rt; is_right, "status {status}");
 }

@@ -1,13 +1,12 @@
 //! Writers that take no byte, or refuse each call.
-use super::{INPUT, SCRIPT, argument, is_failed_write, report, run_script};
-use crate::devices::{Broken, Sink, Source, Stuck};
-use check_attr::{Push, program};
+use super::{INPUT, Interrupted, SCRIPT, argument, is_failed_write, report, run_script, stuck};
+use check_attr::{Pull, Push, Reader, Writer, program};
 use gix_attributes::files::Memory;
 use std::alloc::{AllocError, Global};
 
 #[test]
 fn a_writer_that_takes_no_byte_is_a_failed_one(rt: HostRuntime) {
-    let (alloc, mut stuck) = (rt.alloc(), Stuck::new());
+    let (alloc, mut stuck) = (rt.alloc(), stuck(rt.alloc()));
     assert!(rt; is_failed_write(report(alloc, INPUT, &mut stuck)));
     assert_eq!(rt; (stuck.failures(), stuck.stalls()), (0, 1));
     assert!(rt; report(alloc, b"", &mut stuck).is_ok());
@@ -16,33 +15,36 @@ fn a_writer_that_takes_no_byte_is_a_failed_one(rt: HostRuntime) {
 
 #[test]
 fn a_stuck_writer_ends_the_run(rt: HostRuntime) {
-    assert!(rt; is_failed_write(run_script(rt.alloc(), SCRIPT, &mut Stuck::new())));
+    assert!(rt; is_failed_write(run_script(rt.alloc(), SCRIPT, &mut stuck(rt.alloc()))));
 }
 
 #[test]
 fn a_broken_writer_fails_even_the_empty_text(rt: HostRuntime) {
     for input in [INPUT, b"".as_slice()] {
-        let mut broken = Broken::new();
+        let mut broken = Writer::new(Interrupted);
         assert!(rt; is_failed_write(report(rt.alloc(), input, &mut broken)));
         assert_eq!(rt; broken.failures(), 1);
     }
 }
 
 // The status of a report over these devices.
-fn status_of<W: Push, E: Push>(
+fn status_of<R: Pull, W: Push, E: Push>(
     alloc: Global,
-    source: &mut Source<'_>,
+    reader: &mut R,
     writer: &mut W,
     errors: &mut E,
 ) -> Result<u8, AllocError> {
     let (args, mut files) = (argument(alloc, "--lines")?, Memory::new(alloc));
-    Ok(program(alloc, &mut files, &args, source, writer, errors))
+    Ok(program(alloc, &mut files, &args, reader, writer, errors))
 }
 
 fn status_of_byte(alloc: Global, byte: u8) -> Result<u8, AllocError> {
-    let input = [byte];
-    let (mut source, mut sink) = (Source::new(&input), Sink::new(alloc));
-    status_of(alloc, &mut source, &mut sink, &mut Broken::new())
+    let (input, mut writer) = ([byte], Writer::new(Vec::new(alloc)));
+    let (reader, errors) = (
+        &mut Reader::new(input.as_slice()),
+        &mut Writer::new(Interrupted),
+    );
+    status_of(alloc, reader, &mut writer, errors)
 }
 
 #[test]
@@ -54,24 +56,29 @@ fn each_byte_alone_succeeds(rt: HostRuntime) {
 
 #[test]
 fn a_stuck_writer_is_printed(rt: HostRuntime) {
-    let (mut source, mut errors) = (Source::new(INPUT), Sink::new(rt.alloc()));
-    let status = status_of(rt.alloc(), &mut source, &mut Stuck::new(), &mut errors);
+    let (alloc, mut errors) = (rt.alloc(), Vec::new(rt.alloc()));
+    let (reader, writer) = (&mut Reader::new(INPUT), &mut stuck(alloc));
+    let status = status_of(alloc, reader, writer, &mut Writer::new(&mut errors));
     let line = b"check_attr: writing failed\n".as_slice();
-    assert_eq!(rt; (status, errors.bytes()), (Ok(1), line));
+    assert_eq!(rt; (status, errors.as_slice()), (Ok(1), line));
 }
 
 // A failure of standard error is ignored, and the call is not tried again.
 #[test]
 fn refused_errors_keep_the_status(rt: HostRuntime) {
-    let (mut source, mut errors) = (Source::new(INPUT), Broken::new());
-    let status = status_of(rt.alloc(), &mut source, &mut Broken::new(), &mut errors);
+    let (mut writer, mut errors) = (Writer::new(Interrupted), Writer::new(Interrupted));
+    let status = status_of(
+        rt.alloc(),
+        &mut Reader::new(INPUT),
+        &mut writer,
+        &mut errors,
+    );
     assert_eq!(rt; (status, errors.failures()), (Ok(1), 1));
 }
 
 #[test]
 fn a_stuck_standard_error_keeps_the_status(rt: HostRuntime) {
-    let (mut source, mut writer) = (Source::new(INPUT), Sink::new(rt.alloc()));
-    source.fail_read(1);
-    let status = status_of(rt.alloc(), &mut source, &mut writer, &mut Stuck::new());
+    let (mut reader, mut writer) = (Reader::new(Interrupted), Writer::new(Vec::new(rt.alloc())));
+    let status = status_of(rt.alloc(), &mut reader, &mut writer, &mut stuck(rt.alloc()));
     assert_eq!(rt; status, Ok(1));
 }

@@ -1,29 +1,10 @@
 //! Readers and writers of std, and the texts of faults.
-use super::is_failed_write;
+use super::{Interrupted, is_failed_write, stuck};
 use check_attr::{Fault, Pull, Push, Reader, Writer, lines};
 use std::alloc::Global;
 use std::io;
-use std::io::{ErrorKind, Read, Write};
+use std::io::Write;
 use std::test::Fail;
-
-#[derive(Drop)]
-struct Interrupted;
-
-impl Read for Interrupted {
-    fn read(&mut self, _buf: &mut [u8]) -> io::Result<usize> {
-        Err(io::Error::from(ErrorKind::Interrupted))
-    }
-}
-
-impl Write for Interrupted {
-    fn write(&mut self, _bytes: &[u8]) -> io::Result<usize> {
-        Err(io::Error::from(ErrorKind::Interrupted))
-    }
-
-    fn flush(&mut self) -> io::Result<()> {
-        Err(io::Error::from(ErrorKind::Interrupted))
-    }
-}
 
 // The count of a call, if it did not fail. An error of std is dropped here and in `is_done` alone.
 fn count_of(outcome: io::Result<usize>) -> Option<usize> {
@@ -57,19 +38,6 @@ fn prints_between_readers_and_writers_of_std(rt: HostRuntime) {
     let failures = (reader.failures(), writer.failures());
     let text = b"1: text\n".as_slice();
     assert_eq!(rt; (is_whole, failures, out.as_slice()), (true, (0, 0), text));
-}
-
-#[derive(Drop)]
-struct Full;
-
-impl Write for Full {
-    fn write(&mut self, _bytes: &[u8]) -> io::Result<usize> {
-        Ok(0)
-    }
-
-    fn flush(&mut self) -> io::Result<()> {
-        Ok(())
-    }
 }
 
 // How many bytes a write takes, and whether the writer is flushed behind it and behind a flush. Neither call fails.
@@ -109,7 +77,7 @@ fn fails<W: Write>(alloc: Global, writer: &mut Writer<W>) -> bool {
 // A write that has no byte to take stalls nothing, and a stall before a run is none of that run.
 #[test]
 fn counts_each_write_that_took_no_byte_of_some(rt: HostRuntime) {
-    let mut full = Writer::new(Full);
+    let mut full = stuck(rt.alloc());
     let count = count_of(Push::write(&mut full, b""));
     assert_eq!(rt; (count, full.stalls()), (Some(0), 0));
     for stalls in 1..4 {
