@@ -2,14 +2,11 @@
 
 use crate::fault::Fault;
 use crate::lists::Lists;
-use crate::plain_search::{PlainSearch, Slots, rows_of};
+use crate::parts::{COUNT, Items, SELECTIONS, STARTS, files, short_lists};
 use crate::real_search::RealSearch;
-use crate::settings::{
-    COUNT, Items, SELECTIONS, STARTS, files, push_macros, push_rows, short_lists,
-};
+use crate::setting::{Setting, Slots};
 use attr_table::plain::Row;
-use std::alloc::{AllocError, Global};
-use std::fmt::Write;
+use std::alloc::Global;
 
 /// Compares the searches in each small setting, and reports how many settings there are.
 ///
@@ -17,121 +14,70 @@ use std::fmt::Write;
 /// The first setting in which they differ; memory is refused.
 pub(crate) fn compare_all(alloc: Global) -> Result<u64, Fault> {
     let bodies = short_lists(alloc)?;
-    let files = files(alloc)?;
-    let mut rows = Vec::new(alloc);
-    for lines in files.iter() {
-        rows.push(rows_of(alloc, lines)?)?;
-    }
-    let mut lists = Vec::new(alloc);
-    for rows in rows.iter() {
-        lists.push(rows.as_slice())?;
-    }
-    compare_lists(alloc, &bodies, &lists)
-}
-
-// Takes each pair of bodies.
-fn compare_lists(
-    alloc: Global,
-    bodies: &[Items],
-    lists: &[&[Row<'_, 'static>]],
-) -> Result<u64, Fault> {
+    let files = files(alloc, &bodies)?;
     let mut compared = 0u64;
-    for first in bodies {
-        for second in bodies {
-            let plain = PlainSearch::new(first, second);
-            compared = compared.saturating_add(compare_bodies(alloc, plain, lists)?);
+    for first in bodies.iter() {
+        for second in bodies.iter() {
+            compared = compared.saturating_add(compare_bodies(alloc, first, second, &files)?);
         }
     }
     Ok(compared)
 }
 
+// The third attribute has no body.
 fn compare_bodies(
     alloc: Global,
-    plain: PlainSearch<'_>,
-    lists: &[&[Row<'_, 'static>]],
+    first: &Items,
+    second: &Items,
+    files: &[Vec<Row<'_, 'static>>],
 ) -> Result<u64, Fault> {
-    let searches = Lists::new(alloc, &plain.bodies(), lists)?;
-    let real = RealSearch::new(alloc, &searches)?;
-    let mut comparison = Comparison { alloc, plain, real };
-    comparison.compare(lists)
-}
-
-/// What is looked for, the slot that is filled before, and which list is searched.
-#[derive(Clone, Copy)]
-struct Setting {
-    wanted: &'static [usize],
-    start: Option<usize>,
-    list: usize,
-}
-
-/// Both searches, with one pair of bodies.
-#[derive(Drop)]
-struct Comparison<'b, 'l> {
-    alloc: Global,
-    plain: PlainSearch<'b>,
-    real: RealSearch<'l>,
-}
-
-impl<'b, 'l> Comparison<'b, 'l> {
-    fn compare(&mut self, lists: &[&[Row<'_, 'static>]]) -> Result<u64, Fault> {
-        let mut compared = 0u64;
-        for (wanted, names) in SELECTIONS {
-            self.real.select(names)?;
-            for start in STARTS {
-                for (list, rows) in lists.chunks(1).enumerate() {
-                    let setting = Setting {
-                        wanted,
-                        start,
-                        list,
-                    };
-                    if !self.agrees(setting, rows)? {
-                        return Err(Fault::Differs(self.description(setting, rows)?));
-                    }
-                    compared = compared.saturating_add(1);
+    let bodies = [first.as_slice(), second.as_slice(), &[]];
+    let lists = Lists::new(alloc, &bodies, files)?;
+    let mut real = RealSearch::new(alloc, &lists)?;
+    let mut compared = 0u64;
+    for (wanted, names) in SELECTIONS {
+        real.select(names)?;
+        for start in STARTS {
+            for (file, rows) in files.iter().enumerate() {
+                let setting = Setting {
+                    bodies,
+                    rows,
+                    wanted,
+                    start,
+                };
+                if !agrees(alloc, setting, file, &mut real)? {
+                    return Err(Fault::Differs(setting.text(alloc)?));
                 }
+                compared = compared.saturating_add(1);
             }
         }
-        Ok(compared)
     }
+    Ok(compared)
+}
 
-    /// Runs both searches, and reports whether they agree and keep their bounds.
-    fn agrees(&mut self, setting: Setting, lists: &[&[Row<'_, 'static>]]) -> Result<bool, Fault> {
-        let wanted = setting.wanted;
-        let before = self.plain.begin(setting.start);
-        let mut after = before;
-        let taken = self.plain.search(self.alloc, lists, wanted, &mut after)?;
-        self.real.begin(setting.start)?;
-        let found = self.real.search(setting.list)?;
-        if !self.real.has(&after) {
-            return Ok(false);
-        }
-        let change = Change {
-            before,
-            after,
-            most: self.plain.work(lists),
-        };
-        Ok(
-            found == change.is_found(wanted)
-                && change.allows(taken)
-                && (change.was_complete(wanted) || change.allows(self.real.taken())),
-        )
-    }
-
-    /// A setting as attributes files, with the numbers of what is looked for and of what is filled before.
-    fn description(
-        &self,
-        setting: Setting,
-        lists: &[&[Row<'_, 'static>]],
-    ) -> Result<String, AllocError> {
-        let mut text = String::new(self.alloc);
-        push_macros(&mut text, &self.plain.bodies())?;
-        for rows in lists {
-            push_rows(&mut text, rows)?;
-        }
-        let (wanted, start) = (setting.wanted, setting.start);
-        write!(text, "looked for: {wanted:?}\nfilled before: {start:?}")?;
-        Ok(text)
-    }
+// Runs both searches, and reports whether they agree and keep their bounds. The real one goes through the list of a file.
+fn agrees(
+    alloc: Global,
+    setting: Setting<'_>,
+    file: usize,
+    real: &mut RealSearch<'_>,
+) -> Result<bool, Fault> {
+    let (before, mut after) = (setting.begin(), setting.begin());
+    let taken = setting.search(alloc, &mut after)?;
+    real.begin(setting.start)?;
+    let found = real.search(file)?;
+    let (wanted, most) = (setting.wanted, setting.work());
+    let change = Change {
+        before,
+        after,
+        most,
+    };
+    Ok(
+        real.has(&after)
+            && found == change.is_found(wanted)
+            && change.allows(taken)
+            && (change.was_complete(wanted) || change.allows(real.taken())),
+    )
 }
 
 /// The slots before a search and after it, and how many items there are.
@@ -150,11 +96,8 @@ impl Change {
     /// Whether a search may have taken so many items: no fewer than there are newly filled slots,
     /// and no more than there are items.
     fn allows(&self, taken: u128) -> bool {
-        let mut least = 0u128;
-        for attribute in 0..COUNT {
-            least = least.saturating_add(self.is_newly_filled(attribute) as u128);
-        }
-        least <= taken && taken <= self.most
+        let filled = (0..COUNT).filter(|attribute| self.is_newly_filled(*attribute));
+        filled.count() as u128 <= taken && taken <= self.most
     }
 
     fn is_found(&self, wanted: &[usize]) -> bool {

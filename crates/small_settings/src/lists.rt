@@ -1,6 +1,6 @@
 //! The lists that the search of `gix_attributes` goes through, for one pair of bodies.
 
-use crate::settings::{COUNT, SOURCE, START, START_SOURCE, push_items, push_macros, push_rows};
+use crate::parts::{COUNT, SOURCE, START, START_SOURCE, push_items, push_macros, push_rows};
 use attr_table::plain::{Item, Row, State};
 use gix_attributes::Search;
 use gix_attributes::search::MetadataCollection;
@@ -21,7 +21,7 @@ impl Lists {
     pub(crate) fn new(
         alloc: Global,
         bodies: &[&[Item<'static>]],
-        files: &[&[Row<'_, 'static>]],
+        files: &[Vec<Row<'_, 'static>>],
     ) -> Result<Lists, AllocError> {
         let mut lists = Lists {
             collection: MetadataCollection::new(alloc),

@@ -11,9 +11,9 @@
 mod comparison;
 mod fault;
 mod lists;
-mod plain_search;
+mod parts;
 mod real_search;
-mod settings;
+mod setting;
 
 use crate::comparison::compare_all;
 use crate::fault::Fault;

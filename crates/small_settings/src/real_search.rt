@@ -2,8 +2,8 @@
 
 use crate::fault::Fault;
 use crate::lists::Lists;
-use crate::plain_search::Slots;
-use crate::settings::{COUNT, NAMES, PATH};
+use crate::parts::{COUNT, NAMES, PATH};
+use crate::setting::Slots;
 use attr_table::plain::{Answer, Item, Origin, State};
 use bitflags::Flags;
 use bstr::BStr;
@@ -55,11 +55,10 @@ impl<'l> RealSearch<'l> {
         if self.outcome.is_done() {
             self.complete.reset();
             search_into(self.alloc, search, &mut self.complete)?;
-            self.copy()
-        } else {
-            search_into(self.alloc, search, &mut self.outcome)?;
-            Ok(())
+            return self.copy();
         }
+        search_into(self.alloc, search, &mut self.outcome)?;
+        Ok(())
     }
 
     // A search for nothing fills no slot, but a copy has those of the outcome that it is made from.
@@ -86,12 +85,7 @@ impl<'l> RealSearch<'l> {
 
     /// Whether the slots have these answers, by number.
     pub(crate) fn has(&self, slots: &Slots) -> bool {
-        for number in 0..COUNT {
-            if !is_same(self.slot(number), slots[number]) {
-                return false;
-            }
-        }
-        true
+        (0..COUNT).all(|number| is_same(self.slot(number), slots[number]))
     }
 
     fn slot(&self, number: usize) -> Option<Answer<'_>> {
@@ -104,15 +98,8 @@ fn search_into(alloc: Global, search: &Search, outcome: &mut Outcome) -> Result<
     if !outcome.is_initialized() || !outcome.covers(search) {
         return Err(Fault::NotReady);
     }
-    let path = BStr::new(PATH.as_bytes());
-    let found = search.pattern_matching_relative_path(
-        alloc,
-        path,
-        Case::Sensitive,
-        Some(false),
-        outcome,
-    )?;
-    Ok(found)
+    let (path, case, is_dir) = (BStr::from(PATH), Case::Sensitive, Some(false));
+    Ok(search.pattern_matching_relative_path(alloc, path, case, is_dir, outcome)?)
 }
 
 fn is_same<'a>(one: Option<Answer<'a>>, other: Option<Answer<'a>>) -> bool {
@@ -139,10 +126,8 @@ fn answer_of(found: Match<'_>) -> Answer<'_> {
 
 // A name that is none of the three has a number that no slot has.
 fn number_of(name: &str) -> usize {
-    NAMES
-        .iter()
-        .position(|known| *known == name)
-        .unwrap_or(COUNT)
+    let found = NAMES.iter().position(|known| *known == name);
+    found.unwrap_or(COUNT)
 }
 
 fn state_of(state: StateRef<'_>) -> State<'_> {

@@ -28,9 +28,6 @@ const ABSOLUTE: u32 = 16;
 /// A few items, in their order.
 pub type Items = Vec<Item<'static>>;
 
-/// The items of each line of a file, in its order.
-pub type Lines = Vec<Items>;
-
 /// Each selection of some of the attributes: their numbers, and names that select them. A name that no list has selects nothing,
 /// and no names select all.
 pub static SELECTIONS: [(&[usize], &[&str]); 8] = [
@@ -79,7 +76,7 @@ const SECOND: Head = Head {
 };
 
 /// The heads of lines, in their order.
-pub static HEADS: [Head; 2] = [FIRST, SECOND];
+static HEADS: [Head; 2] = [FIRST, SECOND];
 
 /// The head of the line that fills a slot before the search.
 pub const START: Head = Head {
@@ -118,30 +115,29 @@ pub(crate) fn short_lists(alloc: Global) -> Result<Vec<Items>, AllocError> {
     Ok(lists)
 }
 
-/// The files of one line of at most two items, and those of two lines of one item each: 79 files.
-pub(crate) fn files(alloc: Global) -> Result<Vec<Lines>, AllocError> {
+/// The files of one line with one of these lists, and those of two lines of one item each. Of the short lists that is 79 files.
+pub(crate) fn files(
+    alloc: Global,
+    lists: &[Items],
+) -> Result<Vec<Vec<Row<'_, 'static>>>, AllocError> {
     let mut files = Vec::new(alloc);
-    for line in short_lists(alloc)?.iter() {
-        files.push(vec![in alloc; line.clone()?]?)?;
-    }
-    let items = items(alloc)?;
-    for first in items.iter() {
-        for second in items.iter() {
-            files.push(two_lines(alloc, *first, *second)?)?;
+    for first in lists {
+        files.push(vec![in alloc; row_of(FIRST, first)]?)?;
+        for second in lists {
+            if first.len() == 1 && second.len() == 1 {
+                files.push(vec![in alloc; row_of(FIRST, first), row_of(SECOND, second)]?)?;
+            }
         }
     }
     Ok(files)
 }
 
-fn two_lines(
-    alloc: Global,
-    first: Item<'static>,
-    second: Item<'static>,
-) -> Result<Lines, AllocError> {
-    let mut lines = Vec::new(alloc);
-    lines.push(vec![in alloc; first]?)?;
-    lines.push(vec![in alloc; second]?)?;
-    Ok(lines)
+fn row_of(head: Head, items: &Items) -> Row<'_, 'static> {
+    Row {
+        origin: head.origin,
+        items: items.as_slice(),
+        is_match: true,
+    }
 }
 
 /// Appends items as an attributes file spells them, each after a blank, and ends the line.
