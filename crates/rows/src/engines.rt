@@ -7,11 +7,12 @@ use bstr::BStr;
 use gix_attributes::engine::{Addition, Below, Engine, Question};
 use gix_attributes::glob::pattern::Case;
 use gix_attributes::search::{AttributeId, Match};
-use std::alloc::{AllocError, Global};
+use std::alloc::AllocError;
 use std::fmt::Write;
 
 impl Stage for Engine {
-    fn take(&mut self, alloc: Global, step: &Row, out: &mut String) -> Result<(), Fault> {
+    fn take(&mut self, step: &Row, out: &mut String) -> Result<(), Fault> {
+        let alloc = *out.allocator();
         match step.text(0) {
             // `add | SOURCE | FILE` adds the lines of a file, which is seen from the top directory.
             "add" => self.add(alloc, addition(step, Some(""), true))?,
@@ -28,8 +29,8 @@ impl Stage for Engine {
             // `select | NAME | ..` selects these names, and all if there are none.
             "select" => self.select(alloc, &step.texts(alloc, 1)?)?,
             // `ask | PATH | CASE` reports the number of answers for a path that is no directory.
-            "ask" => ask(self, alloc, question(step, step.case(2)?, false), out)?,
-            "ask_directory" => ask(self, alloc, question(step, Case::Sensitive, true), out)?,
+            "ask" => ask(self, question(step, step.case(2)?, false), out)?,
+            "ask_directory" => ask(self, question(step, Case::Sensitive, true), out)?,
             _ => return report(self, step, out),
         }
         Ok(())
@@ -98,15 +99,10 @@ fn question(step: &Row, case: Case, is_dir: bool) -> Question<'_> {
     }
 }
 
-fn ask(
-    engine: &mut Engine,
-    alloc: Global,
-    question: Question<'_>,
-    out: &mut String,
-) -> Result<(), AllocError> {
+fn ask(engine: &mut Engine, question: Question<'_>, out: &mut String) -> Result<(), AllocError> {
     // The report gets its memory first, so that only the question can be refused.
     out.reserve(8)?;
-    let count = engine.ask(alloc, question)?;
+    let count = engine.ask(*out.allocator(), question)?;
     writeln!(out, "{count}")
 }
 

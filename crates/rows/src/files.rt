@@ -42,6 +42,67 @@ impl<'a> File<'a> {
     fn is_plain(self) -> bool {
         self.name.starts_with("memory/plain_")
     }
+
+    fn compare(self, rt: &HostRuntime, differences: &mut String) -> Result<(), Fault> {
+        let name = self.name;
+        match self.compare_rows(rt, differences) {
+            Ok(compared) => println!(rt; "{name}: {compared} rows")?,
+            Err(Fault::OutOfMemory) => return Err(Fault::OutOfMemory),
+            Err(fault) => writeln!(differences, "{name}: {fault}")?,
+        }
+        Ok(())
+    }
+
+    // Compares each row, describes those that differ, and reports how many there are.
+    fn compare_rows(self, rt: &HostRuntime, differences: &mut String) -> Result<u64, Fault> {
+        let contents = read(rt, self.name)?;
+        let mut compared = 0u64;
+        let is_table = self.asked.is_some();
+        for text in contents.split(if is_table { "\n" } else { "\n\n" }) {
+            if !is_table || is_row(text) {
+                compared = compared.saturating_add(1);
+                self.compare_row(rt, text, differences)?;
+            }
+        }
+        Ok(compared)
+    }
+
+    // A row that finds no memory is asked again, so that `tests/refused_memory.sh` can refuse each request. But a call that takes
+    // none is not made again.
+    fn compare_row(self, rt: &HostRuntime, text: &str, out: &mut String) -> Result<(), Fault> {
+        let mut answer = Answer::new(rt.alloc());
+        let mut answered = self.answers(rt, text, &mut answer);
+        let is_refused = answered == Err(Fault::OutOfMemory)
+            || answered == Err(Fault::CallOutOfMemory) && !self.is_plain();
+        if is_refused {
+            answer = Answer::new(rt.alloc());
+            answered = self.answers(rt, text, &mut answer);
+        }
+        let (name, answer) = (self.name, BStr::new(answer.as_slice()));
+        match answered {
+            Ok(true) => {}
+            Ok(false) => writeln!(out, "{name}: {text}\nanswers {answer}")?,
+            Err(Fault::OutOfMemory) => return Err(Fault::OutOfMemory),
+            Err(fault) => writeln!(out, "{name}: {text}\n{fault}")?,
+        }
+        Ok(())
+    }
+
+    // Whether a row has the answer that it has to have.
+    fn answers(self, rt: &HostRuntime, text: &str, answer: &mut Answer) -> Result<bool, Fault> {
+        let mut wanted = Answer::new(rt.alloc());
+        if let Some(asked) = self.asked {
+            let row = Row::read(rt.alloc(), text)?;
+            push_answer(rt, self.about, &row, answer)?;
+            for field in row.rest(asked) {
+                wanted.bytes(field)?;
+            }
+        } else {
+            scenes::push_report(self.about, text, self.is_of_memory(), answer)?;
+            scenes::push_wanted(text, &mut wanted)?;
+        }
+        Ok(answer.as_slice() == wanted.as_slice())
+    }
 }
 
 /// Compares each chosen file, prints how many rows it has, and describes those that differ.
@@ -57,7 +118,10 @@ pub(crate) fn compare_files(
     for line in files.split('\n') {
         if is_row(line) {
             let row = Row::read(rt.alloc(), line)?;
-            compare_if_chosen(rt, File::of(&row)?, chosen, differences)?;
+            let file = File::of(&row)?;
+            if file.is_chosen(chosen) {
+                file.compare(rt, differences)?;
+            }
         }
     }
     Ok(())
@@ -66,87 +130,6 @@ pub(crate) fn compare_files(
 // Empty lines and lines that begin with `#` are no rows.
 fn is_row(line: &str) -> bool {
     !line.is_empty() && !line.starts_with('#')
-}
-
-fn compare_if_chosen(
-    rt: &HostRuntime,
-    file: File<'_>,
-    chosen: &[String],
-    differences: &mut String,
-) -> Result<(), Fault> {
-    let name = file.name;
-    if !file.is_chosen(chosen) {
-        return Ok(());
-    }
-    match compare_file(rt, file, differences) {
-        Ok(compared) => println!(rt; "{name}: {compared} rows")?,
-        Err(Fault::OutOfMemory) => return Err(Fault::OutOfMemory),
-        Err(fault) => writeln!(differences, "{name}: {fault}")?,
-    }
-    Ok(())
-}
-
-// Compares each row of a file, describes those that differ, and reports how many there are.
-fn compare_file(rt: &HostRuntime, file: File<'_>, differences: &mut String) -> Result<u64, Fault> {
-    let contents = read(rt, file.name)?;
-    let mut compared = 0u64;
-    let is_table = file.asked.is_some();
-    for text in contents.split(if is_table { "\n" } else { "\n\n" }) {
-        if !is_table || is_row(text) {
-            compared = compared.saturating_add(1);
-            compare_row(rt, file, text, differences)?;
-        }
-    }
-    Ok(compared)
-}
-
-// A row that finds no memory is asked again, so that `tests/refused_memory.sh` can refuse each request. But a call that takes
-// none is not made again.
-fn compare_row(
-    rt: &HostRuntime,
-    file: File<'_>,
-    text: &str,
-    differences: &mut String,
-) -> Result<(), Fault> {
-    let mut answer = Answer::new(rt.alloc());
-    let mut answered = is_answered(rt, file, text, &mut answer);
-    let is_refused = answered == Err(Fault::OutOfMemory)
-        || answered == Err(Fault::CallOutOfMemory) && !file.is_plain();
-    if is_refused {
-        answer = Answer::new(rt.alloc());
-        answered = is_answered(rt, file, text, &mut answer);
-    }
-    match answered {
-        Ok(true) => return Ok(()),
-        Ok(false) => {
-            let answer = BStr::new(answer.as_slice());
-            writeln!(differences, "{}: {text}\nanswers {answer}", file.name)?;
-        }
-        Err(Fault::OutOfMemory) => return Err(Fault::OutOfMemory),
-        Err(fault) => writeln!(differences, "{}: {text}\n{fault}", file.name)?,
-    }
-    Ok(())
-}
-
-// Whether a row has the answer that it has to have.
-fn is_answered(
-    rt: &HostRuntime,
-    file: File<'_>,
-    text: &str,
-    answer: &mut Answer,
-) -> Result<bool, Fault> {
-    let mut wanted = Answer::new(rt.alloc());
-    match file.asked {
-        Some(asked) => {
-            let row = Row::read(rt.alloc(), text)?;
-            push_answer(rt, file.about, &row, answer)?;
-            for field in row.rest(asked) {
-                wanted.bytes(field)?;
-            }
-        }
-        None => scenes::push_both(file.about, text, file.is_of_memory(), answer, &mut wanted)?,
-    }
-    Ok(answer.as_slice() == wanted.as_slice())
 }
 
 fn push_answer(rt: &HostRuntime, about: &str, row: &Row, answer: &mut Answer) -> Result<(), Fault> {

@@ -29,34 +29,28 @@ impl Keys {
         Keys { lines }
     }
 
-    fn push_found(&self, alloc: Global, step: &Row, out: &mut String) -> Result<(), Fault> {
+    fn push_found(&self, step: &Row, out: &mut String) -> Result<(), Fault> {
+        let alloc = *out.allocator();
         let shapes: Vec<Shape<'_>> = self.lines.iter().map(shape_of).collect(alloc)?;
         let texts = Texts {
             name: step.bytes(1),
             path: step.bytes(2),
             fold: step.case(3)? == Case::Fold,
         };
-        let found = found(alloc, &shapes, texts)?;
-        writeln!(out, "{:?}", found.as_slice())?;
-        Ok(())
+        let keys = Box::new(alloc, KeyIndex::of(alloc, &shapes)?)?;
+        let (mut buffer, mut found) = (Vec::new(alloc), Vec::new(alloc));
+        keys.find(&shapes, texts, &mut buffer, &mut found)?;
+        Ok(writeln!(out, "{found:?}")?)
     }
 }
 
-// The lines that are found.
-fn found(alloc: Global, lines: &[Shape<'_>], texts: Texts<'_>) -> Result<Vec<usize>, AllocError> {
-    let keys = Box::new(alloc, KeyIndex::of(alloc, lines)?)?;
-    let (mut buffer, mut found) = (Vec::new(alloc), Vec::new(alloc));
-    keys.find(lines, texts, &mut buffer, &mut found)?;
-    Ok(found)
-}
-
 impl Stage for Keys {
-    fn take(&mut self, alloc: Global, step: &Row, out: &mut String) -> Result<(), Fault> {
+    fn take(&mut self, step: &Row, out: &mut String) -> Result<(), Fault> {
         match step.text(0) {
             // `line | KIND | TEXT | WILDCARD` adds a line, whose first wildcard is at this offset or nowhere.
-            "line" => Ok(self.lines.push(line_of(alloc, step)?)?),
+            "line" => Ok(self.lines.push(line_of(*out.allocator(), step)?)?),
             // `find | NAME | PATH | CASE` reports the lines that are found, last to first.
-            "find" => self.push_found(alloc, step, out),
+            "find" => self.push_found(step, out),
             _ => Err(Fault::NotARow),
         }
     }

@@ -34,7 +34,8 @@ impl Numbering {
     }
 
     // Its report gets its memory first, so that only the addition can be refused.
-    fn add(&mut self, alloc: Global, bytes: &[u8], out: &mut String) -> Result<(), Fault> {
+    fn add(&mut self, bytes: &[u8], out: &mut String) -> Result<(), Fault> {
+        let alloc = *out.allocator();
         let (mut list, _) = Attributes.bytes_to_patterns(alloc, bytes, "")?;
         self.added.reserve(1)?;
         out.reserve(8)?;
@@ -69,10 +70,11 @@ impl Numbering {
 }
 
 impl Stage for Numbering {
-    fn take(&mut self, alloc: Global, step: &Row, out: &mut String) -> Result<(), Fault> {
+    fn take(&mut self, step: &Row, out: &mut String) -> Result<(), Fault> {
+        let alloc = *out.allocator();
         match step.text(0) {
             // `add | FILE` adds a list, and reports its id.
-            "add" => self.add(alloc, step.bytes(1), out)?,
+            "add" => self.add(step.bytes(1), out)?,
             // `remove | INDEX` removes the list that was added as this one, from 0, and reports whether it was there.
             "remove" => self.remove(step.number(1)?, out)?,
             // `remove_empty | ID` removes a list that defines nothing.

@@ -16,19 +16,18 @@ pub(crate) trait Stage {
     ///
     /// # Errors
     /// [`Fault::NotARow`] if there is no such step, or a call's requirement isn't met; memory is refused.
-    fn take(&mut self, alloc: Global, step: &Row, out: &mut String) -> Result<(), Fault>;
+    fn take(&mut self, step: &Row, out: &mut String) -> Result<(), Fault>;
 
     /// Pushes what a step that finds no memory has to leave as it was.
     fn push_state(&self, step: &Row, out: &mut String) -> Result<(), AllocError>;
 }
 
-/// Pushes what the steps of a scene report, and what they have to. Each may be taken twice, if it finds no memory.
-pub(crate) fn push_both(
+/// Adds a field with what the steps of a scene report. Each may be taken twice, if it finds no memory.
+pub(crate) fn push_report(
     about: &str,
     scene: &str,
     twice: bool,
     answer: &mut Answer,
-    wanted: &mut Answer,
 ) -> Result<(), Fault> {
     let alloc = answer.alloc;
     let mut out = String::new(alloc);
@@ -42,8 +41,7 @@ pub(crate) fn push_both(
         "keys" => take_all(&mut Keys::new(alloc), scene, twice, &mut out)?,
         _ => return Err(Fault::NotARow),
     }
-    answer.text(&out)?;
-    push_wanted(scene, wanted)
+    answer.text(&out)
 }
 
 fn take_all<S: Stage>(
@@ -57,16 +55,17 @@ fn take_all<S: Stage>(
         if !line.is_empty() && !line.starts_with('#') && !line.starts_with('=') {
             let step = Row::read(alloc, line)?;
             if twice {
-                take_again(alloc, stage, &step, out)?;
+                take_again(stage, &step, out)?;
             } else {
-                stage.take(alloc, &step, out)?;
+                stage.take(&step, out)?;
             }
         }
     }
     Ok(())
 }
 
-fn push_wanted(scene: &str, wanted: &mut Answer) -> Result<(), Fault> {
+/// Adds a field with what the steps of a scene have to report.
+pub(crate) fn push_wanted(scene: &str, wanted: &mut Answer) -> Result<(), Fault> {
     let mut text = Vec::new(wanted.alloc);
     for line in scene.split('\n') {
         if let Some(line) = line.strip_prefix('=') {
@@ -82,15 +81,11 @@ const NO_ANSWERS: &str = "0\n";
 
 // A step that finds no memory leaves what it is taken on as it was, and is taken again. But a question to an engine may leave no
 // answers.
-fn take_again<S: Stage>(
-    alloc: Global,
-    stage: &mut S,
-    step: &Row,
-    out: &mut String,
-) -> Result<(), Fault> {
+fn take_again<S: Stage>(stage: &mut S, step: &Row, out: &mut String) -> Result<(), Fault> {
+    let alloc = *out.allocator();
     let (mut before, mut report) = (String::new(alloc), String::new(alloc));
     stage.push_state(step, &mut before)?;
-    let taken = stage.take(alloc, step, &mut report);
+    let taken = stage.take(step, &mut report);
     if taken != Err(Fault::OutOfMemory) {
         out.push_str(&report)?;
         return taken;
@@ -100,7 +95,7 @@ fn take_again<S: Stage>(
     if report != before && report.as_str() != NO_ANSWERS {
         return Err(Fault::Changed);
     }
-    match stage.take(alloc, step, out) {
+    match stage.take(step, out) {
         Err(Fault::OutOfMemory) => Err(Fault::Changed),
         taken => taken,
     }

@@ -30,7 +30,8 @@ pub(crate) struct Scene {
 }
 
 impl Stage for Scene {
-    fn take(&mut self, alloc: Global, step: &Row, out: &mut String) -> Result<(), Fault> {
+    fn take(&mut self, step: &Row, out: &mut String) -> Result<(), Fault> {
+        let alloc = *out.allocator();
         match step.text(0) {
             // `add | SOURCE | FILE` adds the lines of a file.
             "add" => drop(self.add(alloc, addition(step, Some(""), true))?),
@@ -49,7 +50,7 @@ impl Stage for Scene {
             // `again | COUNT | FILE` adds and removes the list of a file so often.
             "again" => self.add_and_remove(alloc, step)?,
             // Removes the last list, and reports the names of a new collection with that list alone.
-            "move" => self.push_moved(alloc, out)?,
+            "move" => self.push_moved(out)?,
             // Changes to clones of the collection and of the search.
             "clone_lists" => self.clone_lists(alloc, out)?,
             // Changes to the other collection, or to the other search over the same collection.
@@ -57,7 +58,7 @@ impl Stage for Scene {
             "turn" => mem::swap(&mut self.search, &mut self.other_search),
             // Changes to a new collection, with new searches. The outcomes stay.
             "renew" => self.renew(alloc)?,
-            _ => return self.take_of_outcomes(alloc, step, out),
+            _ => return self.take_of_outcomes(step, out),
         }
         Ok(())
     }
@@ -91,12 +92,8 @@ impl Scene {
         Ok(Box::new(alloc, scene)?)
     }
 
-    fn take_of_outcomes(
-        &mut self,
-        alloc: Global,
-        step: &Row,
-        out: &mut String,
-    ) -> Result<(), Fault> {
+    fn take_of_outcomes(&mut self, step: &Row, out: &mut String) -> Result<(), Fault> {
+        let alloc = *out.allocator();
         match step.text(0) {
             // `select | NAME | ..` initialises the outcome for these names, and for all if there are none.
             "select" => select(alloc, &mut self.outcome, &self.collection, step)?,
@@ -113,7 +110,7 @@ impl Scene {
             // Changes to a clone of the outcome, and resets the outcome itself.
             "clone" => self.clone_outcome(alloc)?,
             // `find | PATH | CASE` searches for a path that is no directory, and reports whether a name was found.
-            "find" => self.find(alloc, step, out)?,
+            "find" => self.find(step, out)?,
             _ => return self.report(step, out),
         }
         Ok(())
@@ -196,11 +193,12 @@ impl Scene {
     }
 
     // The report gets its memory before the list is removed.
-    fn push_moved(&mut self, alloc: Global, out: &mut String) -> Result<(), Fault> {
+    fn push_moved(&mut self, out: &mut String) -> Result<(), Fault> {
+        let alloc = *out.allocator();
         let mut collection = Box::new(alloc, MetadataCollection::new(alloc))?;
         out.reserve(64)?;
         match self.removed()? {
-            Some(mut list) => push_numbered(alloc, &mut list, &mut collection, out),
+            Some(mut list) => push_numbered(&mut list, &mut collection, out),
             None => Err(Fault::NotARow),
         }
     }
@@ -240,16 +238,17 @@ impl Scene {
         Ok(())
     }
 
-    fn find(&mut self, alloc: Global, step: &Row, out: &mut String) -> Result<(), Fault> {
+    fn find(&mut self, step: &Row, out: &mut String) -> Result<(), Fault> {
         let (path, case) = (BStr::new(step.bytes(1)), step.case(2)?);
         if !self.outcome.is_initialized() || !self.outcome.covers(&self.search) {
             return Err(Fault::NotARow);
         }
         // The report of a search gets its memory first, so that only the search can be refused.
         out.reserve(6)?;
+        let (alloc, is_dir) = (*out.allocator(), Some(false));
         let searched = self
             .search
-            .pattern_matching_relative_path(alloc, path, case, Some(false), &mut self.outcome);
+            .pattern_matching_relative_path(alloc, path, case, is_dir, &mut self.outcome);
         match searched {
             Ok(is_found) => writeln!(out, "{is_found}")?,
             Err(_) if self.is_reset() => return Err(Fault::OutOfMemory),
@@ -359,11 +358,11 @@ fn push_known(collection: &MetadataCollection, out: &mut String) -> Result<(), A
 
 // A call that finds no memory is made again, and the names before that are reported, too: there are none.
 fn push_numbered(
-    alloc: Global,
     list: &mut List<Attributes>,
     collection: &mut MetadataCollection,
     out: &mut String,
 ) -> Result<(), Fault> {
+    let alloc = *out.allocator();
     if !MetadataCollection::macros_valid(list) {
         return Err(Fault::NotARow);
     }
