@@ -3,7 +3,7 @@
 
 use crate::answer::Answer;
 use crate::fault::Fault;
-use crate::row::{Row, words_of};
+use crate::row::{Row, number_of, words_of};
 use crate::scripts::{built_in, engine};
 use attr_vectors::devices::{Sink, Source};
 use check_attr::{Pull, Push, Reader, Writer, lines, play, program, run};
@@ -11,12 +11,12 @@ use gix_attributes::files::{Files, Memory};
 use std::alloc::{AllocError, Global};
 
 /// Of a program, its input, how its reader and its writer move bytes and which call of each fails: how the run ends, the text
-/// that is written, how often it is flushed, whether all of it is, and how many reads and writes failed. The program is a
-/// report, a script over the built-in list alone, or one that is in memory and played over the list `*.c b c=d`.
+/// that is written, how often it is flushed, whether all of it is, how many reads and writes failed, and how many writes took no
+/// byte, if any did. The program is a report, a script over the built-in list alone, or one that is in memory and played over the list `*.c b c=d`.
 pub(crate) fn left(row: &Row, answer: &mut Answer) -> Result<(), Fault> {
     let alloc = answer.alloc;
     let mut source = Reader::new(source_of(row)?);
-    let mut sink = sink_of(alloc, row)?;
+    let mut sink = sink_of(alloc, row.text(4), row.text(5))?;
     let mut writer = Writer::new(&mut sink);
     let ended = match row.text(0) {
         "lines" => lines(alloc, &mut source, &mut writer),
@@ -28,48 +28,52 @@ pub(crate) fn left(row: &Row, answer: &mut Answer) -> Result<(), Fault> {
         Ok(()) => answer.text("whole")?,
         Err(fault) => answer.shown(fault)?,
     }
-    let (is_flushed, failures) = (writer.is_flushed(), [source.failures(), writer.failures()]);
-    push_left(&sink, is_flushed, failures, answer)
+    let counts = [source.failures(), writer.failures(), writer.stalls()];
+    let is_flushed = writer.is_flushed();
+    push_left(&sink, is_flushed, counts, answer)
 }
 
 fn source_of(row: &Row) -> Result<Source<'_>, Fault> {
     Ok(Source {
         rest: row.bytes(1),
-        most: most_of(row, 2)?,
+        most: most_of(row.text(2))?,
         failing: row.number(3)? as u64,
     })
 }
 
 // How many bytes a call moves at most.
-fn most_of(row: &Row, index: usize) -> Result<usize, Fault> {
-    match row.text(index) {
+fn most_of(text: &str) -> Result<usize, Fault> {
+    match text {
         "all" => Ok(usize::MAX),
         "one" => Ok(1),
+        "none" => Ok(0),
         _ => Err(Fault::NotARow),
     }
 }
 
-fn sink_of(alloc: Global, row: &Row) -> Result<Sink, Fault> {
-    let mut sink = Sink::new(Vec::new(alloc), most_of(row, 4)?);
-    match row.text(5) {
+fn sink_of(alloc: Global, most: &str, failing: &str) -> Result<Sink, Fault> {
+    let mut sink = Sink::new(Vec::new(alloc), most_of(most)?);
+    match failing {
         "flush" => sink.fails_flush = true,
-        _ => sink.failing = row.number(5)? as u64,
+        write => sink.failing = number_of(write)? as u64,
     }
     Ok(sink)
 }
 
-// What the devices have, with the failures of reads and those of writes.
+// What the devices have. The counts are of failed reads, failed writes and stalls.
 fn push_left(
     sink: &Sink,
     is_flushed: bool,
-    failures: [u64; 2],
+    [reads, writes, stalls]: [u64; 3],
     answer: &mut Answer,
 ) -> Result<(), Fault> {
     answer.bytes(&sink.bytes)?;
     answer.shown(sink.flushes)?;
     answer.flag(is_flushed)?;
-    for count in failures {
-        answer.shown(count)?;
+    answer.shown(reads)?;
+    answer.shown(writes)?;
+    if stalls > 0 {
+        answer.shown(stalls)?;
     }
     Ok(())
 }
@@ -85,12 +89,16 @@ fn files_of(alloc: Global, failing: usize) -> Result<Memory, AllocError> {
 
 /// Of the arguments of the program, its input, its devices, and the read of a file in memory that fails: its status, what `left`
 /// answers behind the end, what standard error has and how often it is flushed, how many bytes are left of the input, and how
-/// many reads of files failed. Standard error moves as many bytes a call as standard output.
+/// many reads of files failed. What a field of the devices says behind a blank is of standard error. If nothing is, that moves as
+/// many bytes a call as standard output, and does not fail.
 pub(crate) fn left_by_call(row: &Row, answer: &mut Answer) -> Result<(), Fault> {
     let (alloc, words) = (answer.alloc, words_of(answer.alloc, row.text(0))?);
     let mut files = files_of(alloc, row.number(6)?)?;
-    let (mut source, mut sink) = (source_of(row)?, sink_of(alloc, row)?);
-    let mut errors = Sink::new(Vec::new(alloc), sink.most);
+    let (most, failing) = (row.text(4), row.text(5));
+    let (most, errors_most) = most.split_once(' ').unwrap_or((most, most));
+    let (failing, errors_failing) = failing.split_once(' ').unwrap_or((failing, "0"));
+    let (mut source, mut sink) = (source_of(row)?, sink_of(alloc, most, failing)?);
+    let mut errors = sink_of(alloc, errors_most, errors_failing)?;
     let (mut reader, mut writer) = (Reader::new(&mut source), Writer::new(&mut sink));
     let status = program(
         alloc,
@@ -100,9 +108,10 @@ pub(crate) fn left_by_call(row: &Row, answer: &mut Answer) -> Result<(), Fault> 
         &mut writer,
         &mut Writer::new(&mut errors),
     );
-    let (is_flushed, failures) = (writer.is_flushed(), [reader.failures(), writer.failures()]);
+    let counts = [reader.failures(), writer.failures(), writer.stalls()];
+    let is_flushed = writer.is_flushed();
     answer.shown(status)?;
-    push_left(&sink, is_flushed, failures, answer)?;
+    push_left(&sink, is_flushed, counts, answer)?;
     answer.bytes(&errors.bytes)?;
     answer.shown(errors.flushes)?;
     answer.shown(source.rest.len())?;

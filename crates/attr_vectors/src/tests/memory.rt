@@ -1,10 +1,21 @@
 //! Runs that pass whichever request for memory is refused.
-use super::{ANSWERS, INPUT, SCRIPT, TEXT, argument, report};
+use super::argument;
 use crate::devices::Sink;
-use check_attr::{Fault, Globals, Reader, Writer, globals, program, run};
+use check_attr::{Fault, Globals, Reader, Writer, globals, lines, program, run};
 use gix_attributes::files::Memory;
 use gix_attributes::search::AddError;
 use std::alloc::{AllocError, Global};
+
+// An attributes file, and the report on its lines.
+const INPUT: &[u8] = b"!a b\n* a =x b=\n";
+
+const TEXT: &[u8] = b"1! negative\n2: a ? b=\n";
+
+// A script, and the text that it writes.
+const SCRIPT: &[u8] =
+    b"add m 14 0 16\n.gitattributes*.sh text eol=lf\nnames 2\ntext\neol\nask l s f 9\nscript.sh\n";
+
+const ANSWERS: &[u8] = b"script.sh: text: set\nscript.sh: eol: lf\n";
 
 // A sink that takes no memory until it has more than 64 bytes.
 fn with_room(alloc: Global) -> Result<Sink, AllocError> {
@@ -26,7 +37,8 @@ fn without_memory_a_beginning_is_written(rt: HostRuntime) {
     let Ok(mut sink) = with_room(rt.alloc()) else {
         return;
     };
-    let ended = report(rt.alloc(), INPUT, &mut Writer::new(&mut sink));
+    let (mut reader, mut writer) = (Reader::new(INPUT), Writer::new(&mut sink));
+    let ended = lines(rt.alloc(), &mut reader, &mut writer);
     assert!(rt; wrote_what_it_could(ended, &sink.bytes, TEXT));
 }
 

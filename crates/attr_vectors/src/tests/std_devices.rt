@@ -1,7 +1,7 @@
 //! Readers and writers of std, and the texts of faults.
-use super::{Interrupted, is_failed_write, stuck};
+use super::Interrupted;
+use crate::devices::Sink;
 use check_attr::{Fault, Pull, Push, Reader, Writer, lines};
-use std::alloc::Global;
 use std::io;
 use std::io::Write;
 use std::test::Fail;
@@ -29,17 +29,6 @@ fn counts_each_error_of_std(rt: HostRuntime) {
     assert_eq!(rt; (outcomes, failures), ((None, None, None, false), (2, 2)));
 }
 
-#[test]
-fn prints_between_readers_and_writers_of_std(rt: HostRuntime) {
-    let mut out = Vec::new(rt.alloc());
-    let mut reader = Reader::new(b"* text\n".as_slice());
-    let mut writer = Writer::new(&mut out);
-    let is_whole = lines(rt.alloc(), &mut reader, &mut writer).is_ok();
-    let failures = (reader.failures(), writer.failures());
-    let text = b"1: text\n".as_slice();
-    assert_eq!(rt; (is_whole, failures, out.as_slice()), (true, (0, 0), text));
-}
-
 // How many bytes a write takes, and whether the writer is flushed behind it and behind a flush. Neither call fails.
 fn write_and_flush<W: Write>(writer: &mut Writer<W>, text: &[u8]) -> Option<(usize, bool, bool)> {
     let count = count_of(Push::write(writer, text))?;
@@ -62,22 +51,10 @@ fn flags_follow_the_calls(rt: HostRuntime) {
     assert_eq!(rt; (flags, counts), (wanted, (0, 0)));
 }
 
-#[test]
-fn a_failed_flush_sets_no_flag(rt: HostRuntime) {
-    let mut interrupted = Writer::new(Interrupted);
-    let is_done = is_done(Push::flush(&mut interrupted));
-    assert_eq!(rt; (is_done, interrupted.is_flushed()), (false, false));
-}
-
-// Whether the report on a line ends since a write failed.
-fn fails<W: Write>(alloc: Global, writer: &mut Writer<W>) -> bool {
-    is_failed_write(lines(alloc, &mut Reader::new(b"* a\n".as_slice()), writer))
-}
-
 // A write that has no byte to take stalls nothing, and a stall before a run is none of that run.
 #[test]
 fn counts_each_write_that_took_no_byte_of_some(rt: HostRuntime) {
-    let mut full = stuck(rt.alloc());
+    let mut full = Writer::new(Sink::new(Vec::new(rt.alloc()), 0));
     let count = count_of(Push::write(&mut full, b""));
     assert_eq!(rt; (count, full.stalls()), (Some(0), 0));
     for stalls in 1..4 {
@@ -87,17 +64,11 @@ fn counts_each_write_that_took_no_byte_of_some(rt: HostRuntime) {
             (Some(0), stalls, 0)
         );
     }
-    let (is_flushed, fails) = (full.is_flushed(), fails(rt.alloc(), &mut full));
+    let is_flushed = full.is_flushed();
+    let ended = lines(rt.alloc(), &mut Reader::new(b"* a\n".as_slice()), &mut full);
     let counts = (full.stalls(), full.failures());
-    assert_eq!(rt; (is_flushed, fails, counts), (false, true, (4, 0)));
-}
-
-#[test]
-fn a_failed_write_is_no_stall(rt: HostRuntime) {
-    let mut interrupted = Writer::new(Interrupted);
-    let fails = fails(rt.alloc(), &mut interrupted);
-    let counts = (interrupted.stalls(), interrupted.failures());
-    assert_eq!(rt; (fails, counts), (true, (0, 1)));
+    assert!(rt; matches!(&ended, Err(Fault::Write)));
+    assert_eq!(rt; (is_flushed, counts), (false, (4, 0)));
 }
 
 #[test]
