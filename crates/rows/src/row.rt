@@ -74,10 +74,8 @@ impl Row {
 
     /// The texts of the fields behind the first ones.
     pub(crate) fn texts(&self, alloc: Global, count: usize) -> Result<Vec<&str>, AllocError> {
-        let texts = self.rest(count).iter();
-        texts
-            .map(|text| str::from_utf8(text).unwrap_or(""))
-            .collect(alloc)
+        let indexes = count..self.fields.len();
+        indexes.map(|index| self.text(index)).collect(alloc)
     }
 
     /// The fields behind the first ones.

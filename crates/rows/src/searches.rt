@@ -267,12 +267,9 @@ impl Scene {
             return Err(Fault::NotARow);
         }
         let (taken, least) = (self.outcome.taken(), step.number_or_zero(1)? as u128);
-        out.push_str(if self.outcome.is_done() {
-            "done"
-        } else {
-            "open"
-        })?;
-        writeln!(out, " {taken} {}", self.outcome.tested().max(least))?;
+        let (is_done, tested) = (self.outcome.is_done(), self.outcome.tested().max(least));
+        let state = if is_done { "done" } else { "open" };
+        writeln!(out, "{state} {taken} {tested}")?;
         Ok(())
     }
 

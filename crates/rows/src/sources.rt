@@ -38,13 +38,9 @@ fn located(
     };
     let (variables, mut is_refused) = (row.text(2), false);
     let path = source.storage_location(alloc, &prefixes, |name: &str| {
-        match looked_up_value(alloc, variables, name, looked_up) {
-            Ok(value) => value,
-            Err(_) => {
-                is_refused = true;
-                None
-            }
-        }
+        let value = looked_up_value(alloc, variables, name, looked_up);
+        is_refused |= value.is_err();
+        value.unwrap_or(None)
     })?;
     if is_refused {
         return Err(Fault::OutOfMemory);
@@ -60,15 +56,9 @@ fn looked_up_value(
     looked_up: &mut String,
 ) -> Result<Option<String>, AllocError> {
     write!(looked_up, "{name} ")?;
-    let mut known = variables
-        .split(' ')
-        .filter_map(|variable| variable.split_once('='));
-    owned(
-        alloc,
-        known
-            .find(|(known, _)| *known == name)
-            .map(|(_, value)| value),
-    )
+    let mut variables = variables.split(' ');
+    let value = variables.find_map(|variable| variable.strip_prefix(name)?.strip_prefix('='));
+    owned(alloc, value)
 }
 
 fn owned(alloc: Global, text: Option<&str>) -> Result<Option<String>, AllocError> {

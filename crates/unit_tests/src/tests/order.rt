@@ -14,7 +14,6 @@ use attr_text::{AssignmentRef, State, StateRef};
 use gix_attributes::Source;
 use smallvec::SmallVec;
 use std::alloc::{AllocError, Global};
-use std::process::Abort;
 use std::test::Fail;
 
 /// Whether of two borrowed values and of owned copies the first is less.
@@ -62,17 +61,21 @@ fn named(alloc: Global, text: &[u8]) -> Result<Pattern, AllocError> {
     pattern(alloc, text, Mode::NO_SUB_DIR, None)
 }
 
-fn are_patterns_ordered(alloc: Global) -> Result<bool, AllocError> {
-    let first = pattern(alloc, b"a", Mode::NO_SUB_DIR, Some(0))?;
-    let second = pattern(alloc, b"a", Mode::ENDS_WITH, None)?;
-    let third = named(alloc, b"b")?;
-    Ok((first < second) & (second < third))
+#[test]
+fn patterns_are_ordered(rt: HostRuntime) -> Result<(), AllocError> {
+    let first = pattern(rt.alloc(), b"a", Mode::NO_SUB_DIR, Some(0))?;
+    let second = pattern(rt.alloc(), b"a", Mode::ENDS_WITH, None)?;
+    let third = named(rt.alloc(), b"b")?;
+    assert!(rt; (first < second) & (second < third));
+    Ok(())
 }
 
-fn are_kinds_ordered(alloc: Global) -> Result<bool, Fail> {
-    let first = Kind::Pattern(named(alloc, b"b")?);
-    let second = Kind::Macro(name_of("a")?.to_owned(alloc)?);
-    Ok(first < second)
+#[test]
+fn kinds_are_ordered(rt: HostRuntime) -> Result<(), Fail> {
+    let first = Kind::Pattern(named(rt.alloc(), b"b")?);
+    let second = Kind::Macro(name_of("a")?.to_owned(rt.alloc())?);
+    assert!(rt; first < second);
+    Ok(())
 }
 
 fn mapping<V: Drop>(pattern: Pattern, value: V, sequence_number: usize) -> Mapping<V> {
@@ -83,22 +86,18 @@ fn mapping<V: Drop>(pattern: Pattern, value: V, sequence_number: usize) -> Mappi
     }
 }
 
-fn are_mappings_ordered(alloc: Global) -> Result<bool, AllocError> {
-    let first = mapping(named(alloc, b"a")?, 1u8, 2);
-    let second = mapping(named(alloc, b"a")?, 2u8, 1);
-    let third = mapping(named(alloc, b"b")?, 0u8, 0);
-    Ok((first < second) & (second < third))
-}
-
 #[test]
-fn lines_are_ordered(rt: HostRuntime) -> Result<(), Fail> {
-    let alloc = rt.alloc();
-    assert!(rt; are_patterns_ordered(alloc)? & are_kinds_ordered(alloc)?);
-    assert!(rt; are_mappings_ordered(alloc)?);
+fn lines_are_ordered(rt: HostRuntime) -> Result<(), AllocError> {
+    let first = mapping(named(rt.alloc(), b"a")?, 1u8, 2);
+    let second = mapping(named(rt.alloc(), b"a")?, 2u8, 1);
+    let third = mapping(named(rt.alloc(), b"b")?, 0u8, 0);
+    assert!(rt; (first < second) & (second < third));
     Ok(())
 }
 
-fn are_lists_ordered(alloc: Global) -> Result<bool, AllocError> {
+#[test]
+fn lists_are_ordered(rt: HostRuntime) -> Result<(), AllocError> {
+    let alloc = rt.alloc();
     let mut first = no_lines(alloc);
     first.base = Some(Vec::from_slice(alloc, b"a/")?);
     let mut second = no_lines(alloc);
@@ -106,7 +105,8 @@ fn are_lists_ordered(alloc: Global) -> Result<bool, AllocError> {
     let mut third = no_lines(alloc);
     let value = Value::Assignments(SmallVec::new(alloc));
     third.patterns.push(mapping(named(alloc, b"")?, value, 0))?;
-    Ok((first < second) & (second < third))
+    assert!(rt; (first < second) & (second < third));
+    Ok(())
 }
 
 fn no_lines(alloc: Global) -> List<Attributes> {
@@ -115,12 +115,6 @@ fn no_lines(alloc: Global) -> List<Attributes> {
         source: None,
         base: None,
     }
-}
-
-#[test]
-fn lists_are_ordered(rt: HostRuntime) -> Result<(), AllocError> {
-    assert!(rt; are_lists_ordered(rt.alloc())?);
-    Ok(())
 }
 
 fn tracked(
@@ -133,18 +127,11 @@ fn tracked(
 }
 
 // By number first.
-fn are_items_ordered(
-    alloc: Global,
-    item: AssignmentRef<'_>,
-    later: AssignmentRef<'_>,
-) -> Result<bool, AllocError> {
-    let item = tracked(alloc, 1, item)?;
-    Ok(item < tracked(alloc, 2, later)?)
-}
-
 #[test]
 fn items_are_ordered(rt: HostRuntime) -> Result<(), Fail> {
-    assert!(rt; are_items_ordered(rt.alloc(), set("b")?, set("a")?)?);
+    let item = tracked(rt.alloc(), 1, set("b")?)?;
+    let later = tracked(rt.alloc(), 2, set("a")?)?;
+    assert!(rt; item < later);
     Ok(())
 }
 
@@ -153,26 +140,26 @@ fn macro_line(id: usize, assignments: SmallVec<TrackedAssignment, 3>) -> Value {
     Value::MacroAssignments { id, assignments }
 }
 
-fn are_values_ordered(alloc: Global, item: TrackedAssignment) -> Result<bool, AllocError> {
+#[test]
+fn values_are_ordered(rt: HostRuntime) -> Result<(), Fail> {
+    let alloc = rt.alloc();
     let mut items = SmallVec::new(alloc);
-    items.push(item)?;
+    items.push(tracked(alloc, 1, set("a")?)?)?;
     let first = macro_line(1, items);
     let second = macro_line(2, SmallVec::new(alloc));
     let third = Value::Assignments(SmallVec::new(alloc));
-    Ok((first < second) & (second < third))
-}
-
-fn is_metadata_ordered(alloc: Global, item: TrackedAssignment) -> Result<bool, AllocError> {
-    let mut first = Metadata::of(alloc, AttributeId(1));
-    first.macro_attributes.push(item)?;
-    Ok(first < Metadata::of(alloc, AttributeId(2)))
+    assert!(rt; (first < second) & (second < third));
+    Ok(())
 }
 
 #[test]
 fn macros_are_ordered(rt: HostRuntime) -> Result<(), Fail> {
-    let alloc = rt.alloc();
-    assert!(rt; are_values_ordered(alloc, tracked(alloc, 1, set("a")?)?)?);
-    assert!(rt; is_metadata_ordered(alloc, tracked(alloc, 1, set("a")?)?)?);
+    let mut first = Metadata::of(rt.alloc(), AttributeId(1));
+    let second = Metadata::of(rt.alloc(), AttributeId(2));
+    first
+        .macro_attributes
+        .push(tracked(rt.alloc(), 1, set("a")?)?)?;
+    assert!(rt; first < second);
     Ok(())
 }
 
@@ -194,37 +181,21 @@ const LINE_OF_A_FILE: MatchLocation<'static> = MatchLocation {
     sequence_number: 1,
 };
 
-// Matches of these two patterns.
-fn expect_matches_ordered(rt: &impl Abort, a: &Pattern, b: &Pattern) -> Result<(), Fail> {
+#[test]
+fn matches_are_ordered(rt: HostRuntime) -> Result<(), Fail> {
+    let (a, b) = (named(rt.alloc(), b"a")?, named(rt.alloc(), b"b")?);
     let least = Match {
-        pattern: a,
+        pattern: &a,
         assignment: set("a")?,
         kind: ATTRIBUTE,
         location: LINE_OF_NO_FILE,
     };
-    let at = Match {
-        location: LINE_OF_A_FILE,
-        ..least
-    };
-    let kind = Match {
-        kind: MACRO,
-        ..least
-    };
-    let item = Match {
-        assignment: set("b")?,
-        ..least
-    };
-    let pattern = Match {
-        pattern: b,
-        ..least
-    };
+    let (mut at, mut kind, mut item, mut pattern) = (least, least, least, least);
+    at.location = LINE_OF_A_FILE;
+    kind.kind = MACRO;
+    item.assignment = set("b")?;
+    pattern.pattern = &b;
     assert!(rt; (ATTRIBUTE < MACRO) & (LINE_OF_NO_FILE < LINE_OF_A_FILE));
     assert!(rt; (at < kind) & (kind < item) & (item < pattern));
     Ok(())
-}
-
-#[test]
-fn matches_are_ordered(rt: HostRuntime) -> Result<(), Fail> {
-    let alloc = rt.alloc();
-    expect_matches_ordered(&rt, &named(alloc, b"a")?, &named(alloc, b"b")?)
 }

@@ -20,18 +20,9 @@ fn metadata_begins_without_body(rt: HostRuntime) {
 fn kinds_have_their_source(rt: HostRuntime) {
     let id = Some(AttributeId(5));
     let attribute = MatchKind::Attribute { macro_id: id };
-    let definition = MatchKind::Macro {
-        parent_macro_id: id,
-    };
-    let first = MatchKind::Macro {
-        parent_macro_id: None,
-    };
-    assert_eq!(rt;
-        (
-            attribute.source_id(),
-            definition.source_id(),
-            first.source_id()
-        ),
-        (id, id, None)
-    );
+    for parent_macro_id in [None, id] {
+        let definition = MatchKind::Macro { parent_macro_id };
+        assert_eq!(rt; definition.source_id(), parent_macro_id);
+    }
+    assert_eq!(rt; attribute.source_id(), id);
 }
