@@ -170,11 +170,7 @@ fn push_answer(rt: &HostRuntime, about: &str, row: &Row, answer: &mut Answer) ->
 
 /// The text of a file.
 fn read(rt: &HostRuntime, path: &str) -> Result<String, Fault> {
-    let contents = read_bytes(rt, path)?;
-    match str::from_utf8(&contents) {
-        Ok(text) => Ok(String::from_str(rt.alloc(), text)?),
-        Err(_) => Err(Fault::Unread),
-    }
+    String::from_utf8(read_bytes(rt, path)?).or(Err(Fault::Unread))
 }
 
 /// The bytes of a file.

@@ -7,10 +7,9 @@ use attr_table::plain::{self, Item, Origin, State, is_in_range};
 use bstr::BStr;
 use std::alloc::{AllocError, Global};
 
-/// A line of the first list or of the second one. It matches, or it defines a macro.
+/// A line, which matches, or defines a macro.
 #[derive(Drop)]
 struct Line<'a> {
-    list: usize,
     defines: Option<usize>,
     items: Vec<Item<'a>>,
 }
@@ -20,25 +19,22 @@ struct Line<'a> {
 pub(crate) fn search(row: &Row, answer: &mut Answer) -> Result<(), Fault> {
     let alloc = answer.alloc;
     let mut lines = Vec::new(alloc);
-    push_lines(alloc, 0, row.text(1), &mut lines)?;
-    push_lines(alloc, 1, row.text(2), &mut lines)?;
+    push_lines(row.text(1), &mut lines)?;
+    let count = lines.len();
+    push_lines(row.text(2), &mut lines)?;
     let wanted: Vec<usize> = row.text(3).split(' ').map(number_of).try_collect(alloc)?;
     let names = 0..row.number(0)?;
     let bodies: Vec<&[Item<'_>]> = names.map(|name| body_of(&lines, name)).collect(alloc)?;
-    let (first, second) = (rows_of(alloc, &lines, 0)?, rows_of(alloc, &lines, 1)?);
-    push_found(&[&first, &second], &bodies, &wanted, answer)
+    let rows = rows_of(alloc, &lines)?;
+    let (first, second) = rows.split_at_checked(count).ok_or(Fault::NotARow)?;
+    push_found(&[first, second], &bodies, &wanted, answer)
 }
 
-fn push_lines<'a>(
-    alloc: Global,
-    list: usize,
-    text: &'a str,
-    lines: &mut Vec<Line<'a>>,
-) -> Result<(), Fault> {
+fn push_lines<'a>(text: &'a str, lines: &mut Vec<Line<'a>>) -> Result<(), Fault> {
+    let alloc = *lines.allocator();
     for line in text.split('\n') {
         if let Some((pattern, words)) = line.split_once(' ') {
             lines.push(Line {
-                list,
                 defines: pattern.strip_prefix("[attr]").map(number_of).transpose()?,
                 items: words.split(' ').map(item_of).try_collect(alloc)?,
             })?;
@@ -73,23 +69,18 @@ fn origin_of(line: usize) -> Origin<'static> {
     }
 }
 
-// The lines of a list. They are counted from 1 through both lists.
+// The lines of both lists, through which they are counted from 1.
 fn rows_of<'l, 'a>(
     alloc: Global,
     lines: &'l [Line<'a>],
-    list: usize,
 ) -> Result<Vec<plain::Row<'l, 'a>>, AllocError> {
-    let mut rows = Vec::new(alloc);
-    for (index, line) in lines.iter().enumerate() {
-        if line.list == list {
-            rows.push(plain::Row {
-                origin: origin_of(index.saturating_add(1)),
-                items: line.items.as_slice(),
-                is_match: line.defines.is_none(),
-            })?;
-        }
-    }
-    Ok(rows)
+    let numbered = (1..usize::MAX).zip(lines);
+    let rows = numbered.map(|(number, line)| plain::Row {
+        origin: origin_of(number),
+        items: line.items.as_slice(),
+        is_match: line.defines.is_none(),
+    });
+    rows.collect(alloc)
 }
 
 fn push_found<'a>(

@@ -38,11 +38,8 @@ impl Stage for Scene {
             // `add_without_macros | SOURCE | FILE` adds lines among which macros are not allowed.
             "add_without_macros" => drop(self.add(alloc, addition(step, Some(""), false))?),
             // `dropped | FILE` adds lines without a base, and reports those that are dropped.
-            "dropped" => push_lines(&self.add(alloc, without_base(step, true))?, out)?,
-            "dropped_without_macros" => push_lines(
-                &self.add(alloc, without_base(step, false))?,
-                out,
-            )?,
+            "dropped" => self.push_dropped(step, true, out)?,
+            "dropped_without_macros" => self.push_dropped(step, false, out)?,
             // Changes to a search of the global lists, without files.
             "globals" => self.read_globals(alloc)?,
             // Removes the last list, and reports whether there was one.
@@ -154,6 +151,19 @@ impl Scene {
         let allow_macros = list.allow_macros;
         self.search
             .add_patterns_buffer(alloc, bytes, source, root, collection, allow_macros)
+    }
+
+    fn push_dropped(&mut self, step: &Row, macros: bool, out: &mut String) -> Result<(), Fault> {
+        let list = Addition {
+            allow_macros: macros,
+            source: "s",
+            root: None,
+            buffer: step.bytes(1),
+        };
+        for dropped in self.add(*out.allocator(), list)?.iter() {
+            writeln!(out, "{}:{:?}", dropped.line, dropped.reason)?;
+        }
+        Ok(())
     }
 
     fn read_globals(&mut self, alloc: Global) -> Result<(), Fault> {
@@ -280,15 +290,6 @@ impl Scene {
     }
 }
 
-fn without_base(step: &Row, allow_macros: bool) -> Addition<'_> {
-    Addition {
-        allow_macros,
-        source: "s",
-        root: None,
-        buffer: step.bytes(1),
-    }
-}
-
 fn select(
     alloc: Global,
     outcome: &mut Outcome,
@@ -376,11 +377,4 @@ fn push_numbered(
 
 fn push_answers(outcome: &Outcome, out: &mut String) -> Result<(), AllocError> {
     writeln!(out, "{outcome:?} {} {}", outcome.taken(), outcome.tested())
-}
-
-fn push_lines(dropped: &[Dropped], out: &mut String) -> Result<(), AllocError> {
-    for line in dropped {
-        writeln!(out, "{}:{:?}", line.line, line.reason)?;
-    }
-    Ok(())
 }
