@@ -29,9 +29,7 @@ use std::env;
 use std::process::ExitCode;
 
 fn run(rt: &HostRuntime) -> Result<(), Fault> {
-    let mut arguments = env::args(rt)?;
-    let _ = arguments.next();
-    let chosen: Vec<String> = arguments.collect(rt.alloc())?;
+    let chosen: Vec<String> = env::args(rt)?.skip(1).collect(rt.alloc())?;
     let mut differences = String::new(rt.alloc());
     compare_files(rt, &chosen, &mut differences)?;
     if differences.is_empty() {

@@ -101,29 +101,15 @@ fn push_search(
 ) -> Result<(), Fault> {
     match read {
         Ok((search, dropped)) => {
-            push_lists(search, collection, answer)?;
+            answer.shown(search.num_pattern_lists())?;
+            answer.flag(collection.holds(search))?;
             for lines in dropped {
                 push_dropped(lines, answer)?;
             }
             Ok(())
         }
-        Err(error) => push_error(error, answer),
-    }
-}
-
-fn push_lists(
-    search: &Search,
-    collection: &MetadataCollection,
-    answer: &mut Answer,
-) -> Result<(), Fault> {
-    answer.shown(search.num_pattern_lists())?;
-    answer.flag(collection.holds(search))
-}
-
-fn push_error(error: &AddError, answer: &mut Answer) -> Result<(), Fault> {
-    match error {
-        AddError::Io(_) => answer.shown(error),
-        AddError::OutOfMemory => Err(Fault::OutOfMemory),
+        Err(AddError::OutOfMemory) => Err(Fault::OutOfMemory),
+        Err(error) => answer.shown(error),
     }
 }
 
@@ -149,7 +135,8 @@ pub(crate) fn additions(rt: &HostRuntime, row: &Row, answer: &mut Answer) -> Res
         );
         push_addition(&added, answer)?;
     }
-    push_lists(&lists.search, &lists.collection, answer)?;
+    answer.shown(lists.search.num_pattern_lists())?;
+    answer.flag(lists.collection.holds(&lists.search))?;
     push_names(&lists.collection, answer)?;
     answer.bytes(&lists.buf)
 }
@@ -160,7 +147,8 @@ fn push_addition(added: &Result<Added, AddError>, answer: &mut Answer) -> Result
             answer.text(if added.was_added { "added" } else { "missing" })?;
             push_dropped(&added.dropped, answer)
         }
-        Err(error) => push_error(error, answer),
+        Err(AddError::OutOfMemory) => Err(Fault::OutOfMemory),
+        Err(error) => answer.shown(error),
     }
 }
 

@@ -1,6 +1,8 @@
 //! The lists that the search of `gix_attributes` goes through, for one pair of bodies.
 
-use crate::parts::{COUNT, SOURCE, START, START_SOURCE, push_items, push_macros, push_rows};
+use crate::parts::{
+    COUNT, SOURCE, START_SOURCE, START_SPELLING, push_items, push_macros, push_rows,
+};
 use attr_table::plain::{Item, Row, State};
 use gix_attributes::Search;
 use gix_attributes::search::MetadataCollection;
@@ -48,7 +50,7 @@ impl Lists {
 
     fn add_start(&mut self, alloc: Global, attribute: usize) -> Result<(), AllocError> {
         let state = State::Unset;
-        let mut text = String::from_str(alloc, START.spelling)?;
+        let mut text = String::from_str(alloc, START_SPELLING)?;
         push_items(&mut text, &[Item { attribute, state }])?;
         let search = self.search_of(alloc, START_SOURCE, text.as_str())?;
         self.starts.push(search)?;

@@ -1,7 +1,9 @@
 //! The parts of small settings, as numbers and as texts of attributes files.
 
 use attr_table::plain::{Item, Origin, Row, State};
+use bstr::BStr;
 use std::alloc::{AllocError, Global};
+use std::fmt::Write;
 
 /// How many attributes there are.
 pub const COUNT: usize = 3;
@@ -44,51 +46,35 @@ pub static SELECTIONS: [(&[usize], &[&str]); 8] = [
 /// The attributes whose slot is filled before the search: none, or one.
 pub const STARTS: [Option<usize>; 4] = [None, Some(0), Some(1), Some(2)];
 
-/// The head of a line: its pattern, as a file spells it, and its origin.
-#[derive(Clone, Copy)]
-pub struct Head {
-    pub spelling: &'static str,
-    pub origin: Origin<'static>,
-}
-
-/// The head of a first line.
-const FIRST: Head = Head {
-    spelling: "*",
-    origin: Origin {
-        text: b"*",
-        mode: NO_SUB_DIR | ENDS_WITH,
-        wildcard: Some(0),
-        source: Some(b".gitattributes"),
-        line: 1,
-    },
+/// Where a first line comes from. Its pattern is spelled as it is kept, and so is that of a second line.
+const FIRST: Origin<'static> = Origin {
+    text: b"*",
+    mode: NO_SUB_DIR | ENDS_WITH,
+    wildcard: Some(0),
+    source: Some(b".gitattributes"),
+    line: 1,
 };
 
-/// The head of a second line.
-const SECOND: Head = Head {
-    spelling: "f",
-    origin: Origin {
-        text: b"f",
-        mode: NO_SUB_DIR,
-        wildcard: None,
-        source: Some(b".gitattributes"),
-        line: 2,
-    },
+/// Where a second line comes from.
+const SECOND: Origin<'static> = Origin {
+    text: b"f",
+    mode: NO_SUB_DIR,
+    wildcard: None,
+    source: Some(b".gitattributes"),
+    line: 2,
 };
 
-/// The heads of lines, in their order.
-static HEADS: [Head; 2] = [FIRST, SECOND];
-
-/// The head of the line that fills a slot before the search.
-pub const START: Head = Head {
-    spelling: "/f",
-    origin: Origin {
-        text: b"f",
-        mode: NO_SUB_DIR | ABSOLUTE,
-        wildcard: None,
-        source: Some(b"info/attributes"),
-        line: 1,
-    },
+/// Where the line comes from that fills a slot before the search.
+pub const START: Origin<'static> = Origin {
+    text: b"f",
+    mode: NO_SUB_DIR | ABSOLUTE,
+    wildcard: None,
+    source: Some(b"info/attributes"),
+    line: 1,
 };
+
+/// The pattern of that line, as its file spells it.
+pub const START_SPELLING: &str = "/f";
 
 /// Each attribute, set and unset: 6 items.
 fn items(alloc: Global) -> Result<Items, AllocError> {
@@ -132,9 +118,9 @@ pub(crate) fn files(
     Ok(files)
 }
 
-fn row_of(head: Head, items: &Items) -> Row<'_, 'static> {
+fn row_of<'r>(origin: Origin<'static>, items: &'r Items) -> Row<'r, 'static> {
     Row {
-        origin: head.origin,
+        origin,
         items: items.as_slice(),
         is_match: true,
     }
@@ -168,8 +154,8 @@ pub(crate) fn push_macros(
 
 /// Appends the lines of a list.
 pub(crate) fn push_rows(text: &mut String, rows: &[Row<'_, 'static>]) -> Result<(), AllocError> {
-    for (head, row) in HEADS.iter().zip(rows.iter()) {
-        text.push_str(head.spelling)?;
+    for row in rows {
+        write!(text, "{}", BStr::new(row.origin.text))?;
         push_items(text, row.items)?;
     }
     Ok(())

@@ -85,12 +85,10 @@ impl<'l> RealSearch<'l> {
 
     /// Whether the slots have these answers, by number.
     pub(crate) fn has(&self, slots: &Slots) -> bool {
-        (0..COUNT).all(|number| is_same(self.slot(number), slots[number]))
-    }
-
-    fn slot(&self, number: usize) -> Option<Answer<'_>> {
-        let found = self.outcome.match_by_id(AttributeId(number))?;
-        Some(answer_of(found))
+        slots.iter().enumerate().all(|(number, slot)| {
+            let found = self.outcome.match_by_id(AttributeId(number));
+            found.map(answer_of) == *slot
+        })
     }
 }
 
@@ -100,10 +98,6 @@ fn search_into(alloc: Global, search: &Search, outcome: &mut Outcome) -> Result<
     }
     let (path, case, is_dir) = (BStr::from(PATH), Case::Sensitive, Some(false));
     Ok(search.pattern_matching_relative_path(alloc, path, case, is_dir, outcome)?)
-}
-
-fn is_same<'a>(one: Option<Answer<'a>>, other: Option<Answer<'a>>) -> bool {
-    one == other
 }
 
 fn answer_of(found: Match<'_>) -> Answer<'_> {

@@ -28,7 +28,7 @@ impl Setting<'_> {
         {
             let state = State::Unset;
             slots[attribute] = Some(Answer {
-                origin: START.origin,
+                origin: START,
                 assignment: Item { attribute, state },
                 is_macro: !self.bodies[attribute].is_empty(),
                 cause: None,

@@ -5,7 +5,7 @@
 use attr_text::state::{Value, ValueRef};
 use attr_text::{AssignmentRef, Name, NameRef, StateRef};
 use bstr::BStr;
-use std::alloc::{AllocError, Global};
+use std::alloc::AllocError;
 use std::rc::RcStr;
 use std::test::Fail;
 
@@ -20,14 +20,11 @@ pub(super) fn set(name: &str) -> Result<AssignmentRef<'_>, Fail> {
     Ok(AssignmentRef { name, state })
 }
 
-fn printed(alloc: Global, borrowed: NameRef<'_>) -> Result<String, AllocError> {
-    let owned = borrowed.to_owned(alloc)?;
-    format!(in alloc; "{borrowed:?} {owned:?} {}", owned.as_str())
-}
-
 #[test]
 fn names_are_printed(rt: HostRuntime) -> Result<(), Fail> {
-    let text = printed(rt.alloc(), name_of("diff")?)?;
+    let borrowed = name_of("diff")?;
+    let owned = borrowed.to_owned(rt.alloc())?;
+    let text = format!(in rt.alloc(); "{borrowed:?} {owned:?} {}", owned.as_str())?;
     assert_eq!(rt; text.as_str(), "NameRef(\"diff\") Name(\"diff\") diff");
     Ok(())
 }

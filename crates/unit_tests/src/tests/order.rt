@@ -10,7 +10,7 @@ use attr_lists::types::{
     AttributeId, Attributes, Match, MatchKind, MatchLocation, Metadata, TrackedAssignment, Value,
 };
 use attr_text::state::ValueRef;
-use attr_text::{AssignmentRef, State, StateRef};
+use attr_text::{State, StateRef};
 use gix_attributes::Source;
 use smallvec::SmallVec;
 use std::alloc::{AllocError, Global};
@@ -117,20 +117,17 @@ fn no_lines(alloc: Global) -> List<Attributes> {
     }
 }
 
-fn tracked(
-    alloc: Global,
-    id: usize,
-    item: AssignmentRef<'_>,
-) -> Result<TrackedAssignment, AllocError> {
-    let (id, inner) = (AttributeId(id), item.to_owned(alloc)?);
+// An item that sets the attribute with this name and number.
+fn tracked(alloc: Global, id: usize, name: &str) -> Result<TrackedAssignment, Fail> {
+    let (id, inner) = (AttributeId(id), set(name)?.to_owned(alloc)?);
     Ok(TrackedAssignment { id, inner })
 }
 
 // By number first.
 #[test]
 fn items_are_ordered(rt: HostRuntime) -> Result<(), Fail> {
-    let item = tracked(rt.alloc(), 1, set("b")?)?;
-    let later = tracked(rt.alloc(), 2, set("a")?)?;
+    let item = tracked(rt.alloc(), 1, "b")?;
+    let later = tracked(rt.alloc(), 2, "a")?;
     assert!(rt; item < later);
     Ok(())
 }
@@ -144,7 +141,7 @@ fn macro_line(id: usize, assignments: SmallVec<TrackedAssignment, 3>) -> Value {
 fn values_are_ordered(rt: HostRuntime) -> Result<(), Fail> {
     let alloc = rt.alloc();
     let mut items = SmallVec::new(alloc);
-    items.push(tracked(alloc, 1, set("a")?)?)?;
+    items.push(tracked(alloc, 1, "a")?)?;
     let first = macro_line(1, items);
     let second = macro_line(2, SmallVec::new(alloc));
     let third = Value::Assignments(SmallVec::new(alloc));
@@ -156,46 +153,35 @@ fn values_are_ordered(rt: HostRuntime) -> Result<(), Fail> {
 fn macros_are_ordered(rt: HostRuntime) -> Result<(), Fail> {
     let mut first = Metadata::of(rt.alloc(), AttributeId(1));
     let second = Metadata::of(rt.alloc(), AttributeId(2));
-    first
-        .macro_attributes
-        .push(tracked(rt.alloc(), 1, set("a")?)?)?;
+    first.macro_attributes.push(tracked(rt.alloc(), 1, "a")?)?;
     assert!(rt; first < second);
     Ok(())
 }
 
-const ATTRIBUTE: MatchKind = MatchKind::Attribute {
-    macro_id: Some(AttributeId(1)),
-};
-
-const MACRO: MatchKind = MatchKind::Macro {
-    parent_macro_id: None,
-};
-
-const LINE_OF_NO_FILE: MatchLocation<'static> = MatchLocation {
-    source: None,
-    sequence_number: 2,
-};
-
-const LINE_OF_A_FILE: MatchLocation<'static> = MatchLocation {
-    source: Some("a"),
-    sequence_number: 1,
-};
-
 #[test]
 fn matches_are_ordered(rt: HostRuntime) -> Result<(), Fail> {
     let (a, b) = (named(rt.alloc(), b"a")?, named(rt.alloc(), b"b")?);
+    let id = Some(AttributeId(1));
     let least = Match {
         pattern: &a,
         assignment: set("a")?,
-        kind: ATTRIBUTE,
-        location: LINE_OF_NO_FILE,
+        kind: MatchKind::Attribute { macro_id: id },
+        location: MatchLocation {
+            source: None,
+            sequence_number: 2,
+        },
     };
     let (mut at, mut kind, mut item, mut pattern) = (least, least, least, least);
-    at.location = LINE_OF_A_FILE;
-    kind.kind = MACRO;
+    at.location = MatchLocation {
+        source: Some("a"),
+        sequence_number: 1,
+    };
+    kind.kind = MatchKind::Macro {
+        parent_macro_id: None,
+    };
     item.assignment = set("b")?;
     pattern.pattern = &b;
-    assert!(rt; (ATTRIBUTE < MACRO) & (LINE_OF_NO_FILE < LINE_OF_A_FILE));
+    assert!(rt; (least.kind < kind.kind) & (least.location < at.location));
     assert!(rt; (at < kind) & (kind < item) & (item < pattern));
     Ok(())
 }

@@ -1,9 +1,7 @@
 //! Patterns that are read from no text, and lists that are rid of their macros.
 use attr_glob::pattern::{Case, Mode, base_name_offset};
-use attr_glob::search::pattern::Mapping;
 use attr_glob::{Pattern, search};
 use attr_lists::parser::{Attributes, macros_valid, without_macros};
-use attr_lists::types::Value;
 use bitflags::Flags;
 use bstr::BStr;
 use search::Pattern as _;
@@ -47,18 +45,13 @@ fn patterns_built_by_hand_return(rt: HostRuntime) -> Result<(), AllocError> {
     Ok(())
 }
 
-fn spoil_patterns(mappings: &mut [Mapping<Value>]) -> Result<(), AllocError> {
-    for mapping in mappings {
-        mapping.pattern.text.push(b'=')?;
-    }
-    Ok(())
-}
-
 #[test]
 fn macros_are_left_out(rt: HostRuntime) -> Result<(), AllocError> {
     let (mut mappings, _) = Attributes.bytes_to_patterns(rt.alloc(), b"[attr]m x\n* m", "")?;
     let were_valid = macros_valid(&mappings);
-    spoil_patterns(&mut mappings)?;
+    for mapping in mappings.iter_mut() {
+        mapping.pattern.text.push(b'=')?;
+    }
     let are_valid = macros_valid(&mappings);
     let left = without_macros(mappings);
     assert_eq!(rt;
