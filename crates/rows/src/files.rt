@@ -33,11 +33,6 @@ impl<'a> File<'a> {
         chosen.is_empty() || chosen.iter().any(|name| name.as_str() == self.name)
     }
 
-    // Whether the rows are right whichever request for memory is refused.
-    fn is_of_memory(self) -> bool {
-        self.name.starts_with("memory/")
-    }
-
     // Whether the calls that the rows are about take no memory.
     fn is_plain(self) -> bool {
         self.name.starts_with("memory/plain_")
@@ -98,7 +93,7 @@ impl<'a> File<'a> {
                 wanted.bytes(field)?;
             }
         } else {
-            scenes::push_report(self.about, text, self.is_of_memory(), answer)?;
+            scenes::push_report(self.about, text, answer)?;
             scenes::push_wanted(text, &mut wanted)?;
         }
         Ok(answer.as_slice() == wanted.as_slice())

@@ -25,13 +25,10 @@ macro_rules! expect_copied {
 /// Whether a text is a valid name, and of one that is not what is refused.
 pub(crate) fn name(row: &Row, answer: &mut Answer) -> Result<(), Fault> {
     match NameRef::try_from(BStr::new(row.bytes(0))) {
+        Ok(name) if name.as_str() != row.text(0) => answer.text("another name"),
         Ok(name) => {
             expect_copied!(answer.alloc, name);
-            answer.text(if name.as_str() == row.text(0) {
-                "valid"
-            } else {
-                "another name"
-            })
+            answer.text("valid")
         }
         Err(name::Error::InvalidName(input)) => {
             answer.text("refused")?;
@@ -72,9 +69,7 @@ fn push_item(item: AssignmentRef<'_>, out: &mut String) -> Result<(), Fault> {
 /// Of each item of a text its name, whether it is set, unset and unspecified, and its value.
 pub(crate) fn states(row: &Row, answer: &mut Answer) -> Result<(), Fault> {
     for item in Iter::new(BStr::new(row.bytes(0))) {
-        let Ok(item) = item else {
-            return Err(Fault::NotARow);
-        };
+        let item = item.or(Err(Fault::NotARow))?;
         answer.text(item.name.as_str())?;
         answer.flag(item.state.is_set())?;
         answer.flag(item.state.is_unset())?;

@@ -22,43 +22,29 @@ pub(crate) trait Stage {
     fn push_state(&self, step: &Row, out: &mut String) -> Result<(), AllocError>;
 }
 
-/// Adds a field with what the steps of a scene report. Each may be taken twice, if it finds no memory.
-pub(crate) fn push_report(
-    about: &str,
-    scene: &str,
-    twice: bool,
-    answer: &mut Answer,
-) -> Result<(), Fault> {
+/// Adds a field with what the steps of a scene report.
+pub(crate) fn push_report(about: &str, scene: &str, answer: &mut Answer) -> Result<(), Fault> {
     let alloc = answer.alloc;
     let mut out = String::new(alloc);
     match about {
-        "searches" => take_all(&mut *Scene::new(alloc)?, scene, twice, &mut out)?,
+        "searches" => take_all(&mut *Scene::new(alloc)?, scene, &mut out)?,
         "engines" => {
             let mut engine = Box::new(alloc, Engine::new(alloc)?)?;
-            take_all(&mut *engine, scene, twice, &mut out)?;
+            take_all(&mut *engine, scene, &mut out)?;
         }
-        "numbers" => take_all(&mut *Numbering::new(alloc)?, scene, twice, &mut out)?,
-        "keys" => take_all(&mut Keys::new(alloc), scene, twice, &mut out)?,
+        "numbers" => take_all(&mut *Numbering::new(alloc)?, scene, &mut out)?,
+        "keys" => take_all(&mut Keys::new(alloc), scene, &mut out)?,
         _ => return Err(Fault::NotARow),
     }
     answer.text(&out)
 }
 
-fn take_all<S: Stage>(
-    stage: &mut S,
-    scene: &str,
-    twice: bool,
-    out: &mut String,
-) -> Result<(), Fault> {
+fn take_all<S: Stage>(stage: &mut S, scene: &str, out: &mut String) -> Result<(), Fault> {
     let alloc = *out.allocator();
     for line in scene.split('\n') {
         if !line.is_empty() && !line.starts_with('#') && !line.starts_with('=') {
             let step = Row::read(alloc, line)?;
-            if twice {
-                take_again(stage, &step, out)?;
-            } else {
-                stage.take(&step, out)?;
-            }
+            take_twice(stage, &step, out)?;
         }
     }
     Ok(())
@@ -81,7 +67,7 @@ const NO_ANSWERS: &str = "0\n";
 
 // A step that finds no memory leaves what it is taken on as it was, and is taken again. But a question to an engine may leave no
 // answers.
-fn take_again<S: Stage>(stage: &mut S, step: &Row, out: &mut String) -> Result<(), Fault> {
+fn take_twice<S: Stage>(stage: &mut S, step: &Row, out: &mut String) -> Result<(), Fault> {
     let alloc = *out.allocator();
     let (mut before, mut report) = (String::new(alloc), String::new(alloc));
     stage.push_state(step, &mut before)?;
