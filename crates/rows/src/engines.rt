@@ -44,7 +44,11 @@ impl Stage for Engine {
 fn report(engine: &Engine, step: &Row, out: &mut String) -> Result<(), Fault> {
     match step.text(0) {
         // Each answer with its line and the macro that it comes from.
-        "rows" => push_rows(engine, out)?,
+        "rows" => {
+            for found in engine.answers() {
+                push_found(engine, Some(found), out)?;
+            }
+        }
         // `row | INDEX`: that answer.
         "row" => push_found(engine, engine.answer(step.number(1)?), out)?,
         // `found | NUMBER`: what is found for the attribute with that number.
@@ -62,7 +66,11 @@ fn report(engine: &Engine, step: &Row, out: &mut String) -> Result<(), Fault> {
             writeln!(out, "{}", engine.name_of(id).unwrap_or("none"))?;
         }
         // The lines that were dropped of the last list.
-        "dropped" => push_dropped(engine, out)?,
+        "dropped" => {
+            for dropped in engine.dropped() {
+                writeln!(out, "{} {:?}", dropped.line, dropped.reason)?;
+            }
+        }
         _ => return Err(Fault::NotARow),
     }
     Ok(())
@@ -106,13 +114,6 @@ fn ask(engine: &mut Engine, question: Question<'_>, out: &mut String) -> Result<
     writeln!(out, "{count}")
 }
 
-fn push_rows(engine: &Engine, out: &mut String) -> Result<(), AllocError> {
-    for found in engine.answers() {
-        push_found(engine, Some(found), out)?;
-    }
-    Ok(())
-}
-
 // `-diff .gitattributes:2 binary`: the assignment, the source and the line, and the macro that it comes from.
 fn push_found(
     engine: &Engine,
@@ -129,11 +130,4 @@ fn push_found(
         None => "-",
     };
     writeln!(out, "{item} {source}:{line} {macro_name}")
-}
-
-fn push_dropped(engine: &Engine, out: &mut String) -> Result<(), AllocError> {
-    for dropped in engine.dropped() {
-        writeln!(out, "{} {:?}", dropped.line, dropped.reason)?;
-    }
-    Ok(())
 }

@@ -35,32 +35,21 @@ impl<'a> Pair<'a> {
     /// Whether the text matches a value, and the number of pairs that are visited. The tokens have to answer the same.
     fn count(&mut self, value: &[u8], case: Case) -> Result<(bool, u128), Fault> {
         let counted = count(self.alloc, self.text, value, case)?;
-        let kept = match &self.tokens {
-            Some(tokens) => count_in(tokens, &mut self.buffers, value, case)?,
-            None => (false, 0),
-        };
+        let (mut kept, buffers) = ((false, 0), &mut self.buffers);
+        if let Some(tokens) = &self.tokens {
+            buffers.reserve(tokens.row_len())?;
+            kept = tokens.count(value, case, buffers);
+            // Once there is room for the tokens, nothing takes memory.
+            let is_refused = buffers.reserve(tokens.row_len()).is_err();
+            if is_refused || tokens.matches(value, case, buffers) != kept.0 {
+                return Err(Fault::Changed);
+            }
+        }
         if kept != counted {
             return Err(Fault::OtherTokens);
         }
         Ok(counted)
     }
-}
-
-// Once there is room for the tokens, nothing takes memory.
-fn count_in(
-    tokens: &Tokens,
-    buffers: &mut MatchBuffers,
-    value: &[u8],
-    case: Case,
-) -> Result<(bool, u128), Fault> {
-    buffers.reserve(tokens.row_len())?;
-    let (matched, pairs) = tokens.count(value, case, buffers);
-    if buffers.reserve(tokens.row_len()).is_err()
-        || tokens.matches(value, case, buffers) != matched
-    {
-        return Err(Fault::Changed);
-    }
-    Ok((matched, pairs))
 }
 
 /// Whether a pattern's text matches a value.
