@@ -115,13 +115,9 @@ fn ask(engine: &mut Engine, question: Question<'_>, out: &mut String) -> Result<
 }
 
 // `-diff .gitattributes:2 binary`: the assignment, the source and the line, and the macro that it comes from.
-fn push_found(
-    engine: &Engine,
-    found: Option<Match<'_>>,
-    out: &mut String,
-) -> Result<(), AllocError> {
+fn push_found(engine: &Engine, found: Option<Match<'_>>, out: &mut String) -> Result<(), Fault> {
     let Some(found) = found else {
-        return out.push_str("none\n");
+        return Ok(out.push_str("none\n")?);
     };
     let (item, line) = (found.assignment, found.location.sequence_number);
     let source = found.location.source.unwrap_or("-");
@@ -129,5 +125,5 @@ fn push_found(
         Some(id) => engine.name_of(id).unwrap_or("?"),
         None => "-",
     };
-    writeln!(out, "{item} {source}:{line} {macro_name}")
+    Ok(writeln!(out, "{item} {source}:{line} {macro_name}")?)
 }

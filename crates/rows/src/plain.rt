@@ -27,7 +27,8 @@ pub(crate) fn search(row: &Row, answer: &mut Answer) -> Result<(), Fault> {
     let bodies: Vec<&[Item<'_>]> = names.map(|name| body_of(&lines, name)).collect(alloc)?;
     let rows = rows_of(alloc, &lines)?;
     let (first, second) = rows.split_at_checked(count).ok_or(Fault::NotARow)?;
-    push_found(&[first, second], &bodies, &wanted, answer)
+    let lists = [first, second];
+    push_found(&lists, &bodies, &wanted, answer)
 }
 
 fn push_lines<'a>(text: &'a str, lines: &mut Vec<Line<'a>>) -> Result<(), Fault> {
@@ -55,8 +56,13 @@ fn item_of(word: &str) -> Result<Item<'_>, Fault> {
 
 // The body of a name: that of the last line that defines it.
 fn body_of<'l, 'a>(lines: &'l [Line<'a>], name: usize) -> &'l [Item<'a>] {
-    let definition = lines.iter().rfind(|line| line.defines == Some(name));
-    definition.map_or(&[], |line| line.items.as_slice())
+    let mut body: &'l [Item<'a>] = &[];
+    for line in lines {
+        if line.defines == Some(name) {
+            body = line.items.as_slice();
+        }
+    }
+    body
 }
 
 fn origin_of(line: usize) -> Origin<'static> {

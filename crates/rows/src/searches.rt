@@ -93,13 +93,17 @@ impl Scene {
         let alloc = *out.allocator();
         match step.text(0) {
             // `select | NAME | ..` initialises the outcome for these names, and for all if there are none.
-            "select" => select(alloc, &mut self.outcome, &self.collection, step)?,
+            "select" => {
+                let (names, outcome) = (step.texts(alloc, 1)?, &mut self.outcome);
+                outcome.initialize_with_selection(alloc, &self.collection, &names)?;
+            }
             // Initialises the outcome again, for the same names.
             "begin" => self.outcome.initialize(alloc, &self.collection)?,
             "reset" => self.outcome.reset(),
             // Copies the answers to the other outcome, which `copy_for` initialises for its names, and changes to that.
             "copy_for" => {
-                select(alloc, &mut self.other_outcome, &self.collection, step)?;
+                let (names, outcome) = (step.texts(alloc, 1)?, &mut self.other_outcome);
+                outcome.initialize_with_selection(alloc, &self.collection, &names)?;
                 self.copy(alloc)?;
             }
             "copy" => self.copy(alloc)?,
@@ -288,16 +292,6 @@ impl Scene {
         let is_current = self.outcome.is_current(&self.collection);
         writeln!(out, "{covers} {is_current}")
     }
-}
-
-fn select(
-    alloc: Global,
-    outcome: &mut Outcome,
-    collection: &MetadataCollection,
-    step: &Row,
-) -> Result<(), AllocError> {
-    let names = step.texts(alloc, 1)?;
-    outcome.initialize_with_selection(alloc, collection, &names)
 }
 
 fn push_rows(outcome: &Outcome, first: usize, out: &mut String) -> Result<(), AllocError> {

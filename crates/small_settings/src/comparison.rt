@@ -4,7 +4,7 @@ use crate::fault::Fault;
 use crate::lists::Lists;
 use crate::parts::{COUNT, Items, SELECTIONS, STARTS, files, short_lists};
 use crate::real_search::RealSearch;
-use crate::setting::{Setting, Slots};
+use crate::setting::{Bodies, Setting, Slots};
 use attr_table::plain::Row;
 use std::alloc::Global;
 
@@ -25,13 +25,13 @@ pub(crate) fn compare_all(alloc: Global) -> Result<u64, Fault> {
 }
 
 // The third attribute has no body.
-fn compare_bodies(
+fn compare_bodies<'s>(
     alloc: Global,
-    first: &Items,
-    second: &Items,
-    files: &[Vec<Row<'_, 'static>>],
+    first: &'s Items,
+    second: &'s Items,
+    files: &'s [Vec<Row<'_, 'static>>],
 ) -> Result<u64, Fault> {
-    let bodies = [first.as_slice(), second.as_slice(), &[]];
+    let bodies: Bodies<'s> = [first.as_slice(), second.as_slice(), &[]];
     let lists = Lists::new(alloc, &bodies, files)?;
     let mut real = RealSearch::new(alloc, &lists)?;
     let mut compared = 0u64;
@@ -58,7 +58,7 @@ fn compare_bodies(
 // Runs both searches, and reports whether they agree and keep their bounds. The real one goes through the list of a file.
 fn agrees(
     alloc: Global,
-    setting: Setting<'_>,
+    setting: Setting<'_, '_>,
     file: usize,
     real: &mut RealSearch<'_>,
 ) -> Result<bool, Fault> {

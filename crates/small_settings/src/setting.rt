@@ -9,17 +9,19 @@ use std::fmt::Write;
 /// The slots of all attributes, by number.
 pub type Slots = [Option<Answer<'static>>; COUNT];
 
-/// The bodies of all attributes, by number, the lines of a file, each of which matches, what is looked for, and the slot that is
-/// filled before.
+/// The bodies of all attributes, by number.
+pub type Bodies<'s> = [&'s [Item<'static>]; COUNT];
+
+/// The bodies of attributes, the lines of a file, each of which matches, what is looked for, and the slot that is filled before.
 #[derive(Clone, Copy)]
-pub struct Setting<'s> {
-    pub bodies: [&'s [Item<'static>]; COUNT],
-    pub rows: &'s [Row<'s, 'static>],
+pub struct Setting<'s, 'r> {
+    pub bodies: Bodies<'s>,
+    pub rows: &'s [Row<'r, 'static>],
     pub wanted: &'static [usize],
     pub start: Option<usize>,
 }
 
-impl Setting<'_> {
+impl Setting<'_, '_> {
     /// The slots before the search.
     pub(crate) fn begin(&self) -> Slots {
         let mut slots: Slots = [None; COUNT];
