@@ -27,8 +27,7 @@ pub(crate) fn search(row: &Row, answer: &mut Answer) -> Result<(), Fault> {
     let bodies: Vec<&[Item<'_>]> = names.map(|name| body_of(&lines, name)).collect(alloc)?;
     let rows = rows_of(alloc, &lines)?;
     let (first, second) = rows.split_at_checked(count).ok_or(Fault::NotARow)?;
-    let lists = [first, second];
-    push_found(&lists, &bodies, &wanted, answer)
+    push_found(&lists_of(first, second), &bodies, &wanted, answer)
 }
 
 fn push_lines<'a>(text: &'a str, lines: &mut Vec<Line<'a>>) -> Result<(), Fault> {
@@ -87,6 +86,13 @@ fn rows_of<'l, 'a>(
         is_match: line.defines.is_none(),
     });
     rows.collect(alloc)
+}
+
+fn lists_of<'s, 'r, 'a>(
+    first: &'s [plain::Row<'r, 'a>],
+    second: &'s [plain::Row<'r, 'a>],
+) -> [&'s [plain::Row<'r, 'a>]; 2] {
+    [first, second]
 }
 
 fn push_found<'a>(

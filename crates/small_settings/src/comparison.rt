@@ -2,10 +2,10 @@
 
 use crate::fault::Fault;
 use crate::lists::Lists;
-use crate::parts::{COUNT, Items, SELECTIONS, STARTS, files, short_lists};
+use crate::parts::{COUNT, SELECTIONS, STARTS, files, short_lists};
 use crate::real_search::RealSearch;
-use crate::setting::{Bodies, Setting, Slots};
-use attr_table::plain::Row;
+use crate::setting::{Setting, Slots, bodies_of};
+use attr_table::plain::{Item, Row};
 use std::alloc::Global;
 
 /// Compares the searches in each small setting, and reports how many settings there are.
@@ -24,23 +24,23 @@ pub(crate) fn compare_all(alloc: Global) -> Result<u64, Fault> {
     Ok(compared)
 }
 
-// The third attribute has no body.
-fn compare_bodies<'s>(
+fn compare_bodies<'s, 'r>(
     alloc: Global,
-    first: &'s Items,
-    second: &'s Items,
-    files: &'s [Vec<Row<'_, 'static>>],
+    first: &'s [Item<'static>],
+    second: &'s [Item<'static>],
+    files: &'s [Vec<Row<'r, 'static>>],
 ) -> Result<u64, Fault> {
-    let bodies: Bodies<'s> = [first.as_slice(), second.as_slice(), &[]];
-    let lists = Lists::new(alloc, &bodies, files)?;
+    let lists = Lists::new(alloc, &bodies_of(first, second), files)?;
     let mut real = RealSearch::new(alloc, &lists)?;
     let mut compared = 0u64;
     for (wanted, names) in SELECTIONS {
         real.select(names)?;
         for start in STARTS {
-            for (file, rows) in files.iter().enumerate() {
+            for (file, lines) in files.iter().enumerate() {
+                let rows: &'s [Row<'r, 'static>] = lines.as_slice();
                 let setting = Setting {
-                    bodies,
+                    first,
+                    second,
                     rows,
                     wanted,
                     start,

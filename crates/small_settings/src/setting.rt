@@ -9,22 +9,31 @@ use std::fmt::Write;
 /// The slots of all attributes, by number.
 pub type Slots = [Option<Answer<'static>>; COUNT];
 
-/// The bodies of all attributes, by number.
-pub type Bodies<'s> = [&'s [Item<'static>]; COUNT];
-
-/// The bodies of attributes, the lines of a file, each of which matches, what is looked for, and the slot that is filled before.
+/// The bodies of the first two attributes, the lines of a file, each of which matches, what is looked for, and the slot that is
+/// filled before.
 #[derive(Clone, Copy)]
 pub struct Setting<'s, 'r> {
-    pub bodies: Bodies<'s>,
+    pub first: &'s [Item<'static>],
+    pub second: &'s [Item<'static>],
     pub rows: &'s [Row<'r, 'static>],
     pub wanted: &'static [usize],
     pub start: Option<usize>,
+}
+
+/// The bodies of all attributes, by number. The third has none.
+pub(crate) fn bodies_of<'s>(
+    first: &'s [Item<'static>],
+    second: &'s [Item<'static>],
+) -> [&'s [Item<'static>]; COUNT] {
+    let third: &'s [Item<'static>] = &[];
+    [first, second, third]
 }
 
 impl Setting<'_, '_> {
     /// The slots before the search.
     pub(crate) fn begin(&self) -> Slots {
         let mut slots: Slots = [None; COUNT];
+        let bodies = bodies_of(self.first, self.second);
         if let Some(attribute) = self.start
             && attribute < COUNT
         {
@@ -32,7 +41,7 @@ impl Setting<'_, '_> {
             slots[attribute] = Some(Answer {
                 origin: START,
                 assignment: Item { attribute, state },
-                is_macro: !self.bodies[attribute].is_empty(),
+                is_macro: !bodies[attribute].is_empty(),
                 cause: None,
             });
         }
@@ -41,7 +50,7 @@ impl Setting<'_, '_> {
 
     /// Searches the lines, and reports how many items were taken.
     pub(crate) fn search(&self, alloc: Global, slots: &mut Slots) -> Result<u128, Fault> {
-        let (lists, bodies) = ([self.rows], self.bodies);
+        let (lists, bodies) = ([self.rows], bodies_of(self.first, self.second));
         if !plain::is_in_range(&lists, &bodies, self.wanted, COUNT) {
             return Err(Fault::NotReady);
         }
@@ -51,8 +60,11 @@ impl Setting<'_, '_> {
     /// How many items the lines and the bodies have.
     pub(crate) fn work(&self) -> u128 {
         let mut work = 0u128;
-        for items in self.rows.iter().map(|row| row.items).chain(self.bodies) {
-            work = work.saturating_add(items.len() as u128);
+        for row in self.rows {
+            work = work.saturating_add(row.items.len() as u128);
+        }
+        for body in [self.first, self.second] {
+            work = work.saturating_add(body.len() as u128);
         }
         work
     }
@@ -60,7 +72,7 @@ impl Setting<'_, '_> {
     /// The setting as attributes files, with the numbers of what is looked for and of what is filled before.
     pub(crate) fn text(&self, alloc: Global) -> Result<String, AllocError> {
         let mut text = String::new(alloc);
-        push_macros(&mut text, &self.bodies)?;
+        push_macros(&mut text, &bodies_of(self.first, self.second))?;
         push_rows(&mut text, self.rows)?;
         let (wanted, start) = (self.wanted, self.start);
         write!(text, "looked for: {wanted:?}\nfilled before: {start:?}")?;
