@@ -230,7 +230,8 @@ all_of_map P f [] h = All-nil (λ x. P (f x))
 all_of_map P f (x ∷ xs) h = All-cons (λ y. P (f y)) x xs (All-head P (f x) (map f xs) h) (all_of_map P f xs (All-tail P (f x) (map f xs) h))
 
 pub ids_copied : (number : ℕ) (old new : List Definition)
-    → map (λ (d : Definition). d.metadata.value.id.0) new ≡ map (λ (d : Definition). d.metadata.value.id.0) old → All (λ d. d.metadata.value.id.0 ≡ number) old → All (λ d. d.metadata.value.id.0 ≡ number) new
+    → map (λ (d : Definition). d.metadata.value.id.0) new ≡ map (λ (d : Definition). d.metadata.value.id.0) old
+    → All (λ d. d.metadata.value.id.0 ≡ number) old → All (λ d. d.metadata.value.id.0 ≡ number) new
 ids_copied number old new e h =
     all_of_map (λ id. id ≡ number) (λ (d : Definition). d.metadata.value.id.0) new
     (subst (All (λ id. id ≡ number)) (sym e) (All-map (λ id. id ≡ number) (λ (d : Definition). d.metadata.value.id.0) old h))
