@@ -1,6 +1,6 @@
 -- Cases on a test, and a fact of each element by recursion.
 use Rattle.std.proofs.Common.{◌≡◌, ◌≢◌, ℕ, Bool, true, false, not, ◌==◌, List, [], ◌∷◌, ◌++◌, reverse, All, Option, Some, None, refl, sym, ap, subst}
-use Rattle.std.proofs.Common.{◌∙◌, arith, ne_eqb}
+use Rattle.std.proofs.Common.{◌∙◌, arith}
 use Rattle.std.proofs.lemmas.List.{reverse-append}
 use Rattle.std.proofs.lemmas.List.Elements.{All-nil, All-cons, All-head, All-tail}
 
@@ -31,9 +31,6 @@ true_false v t f = let e : true ≡ false = sym t ∙ f in cc
 
 pub differs : (a b : ℕ) → not (a == b) ≡ true → a ≢ b
 differs a b h = grind arith
-
-pub differs_so : (a b : ℕ) → a ≢ b → not (a == b) ≡ true
-differs_so a b h = rw (ne_eqb a b h)
 
 pub reverse-cons : {A : Type 0} (x : A) (xs : List A) → reverse (x ∷ xs) ≡ reverse xs ++ x ∷ []
 reverse-cons x xs = reverse-append (x ∷ []) xs

@@ -1,23 +1,17 @@
 -- A byte that is put into a set, and the bytes that the members of a bracket put in.
-use Rattle.std.proofs.Common.{◌≡◌, ℕ, ◌+◌, ◌*◌, ◌/◌, ◌%◌, ◌^◌, ◌<◌, Bool, true, false, ◌||◌, ◌==◌, nat_lt, ◌&&◌, [], ◌∷◌, ◌++◌, take, bit_or, List}
-use Rattle.std.proofs.Common.{length, get_or, set, refl, sym, ◌∙◌, ap, inl, inr, arith, get_or-set_same, get_or-set_other, eq-eqb, ne_eqb, w64}
+use Rattle.std.proofs.Common.{◌≡◌, ℕ, ◌*◌, ◌/◌, ◌%◌, ◌^◌, ◌<◌, Bool, true, false, ◌||◌, ◌==◌, ◌&&◌, bit_or, List}
+use Rattle.std.proofs.Common.{length, get_or, set, sym, ◌∙◌, ap, inl, inr, arith, get_or-set_same, get_or-set_other, eq-eqb, ne_eqb, w64}
 use Rattle.std.proofs.lemmas.Bool.{cases_eq}
 use Rattle.std.proofs.lemmas.Bool.Decides.{nat_tests}
-use Rattle.std.proofs.lemmas.List.{take_more}
-use Rattle.std.specs.List.{list_any}
 use Rattle.std.proofs.lemmas.Nat.Bits.{bit_at_set_same, bit_at_set_other}
 use Rattle.std.specs.Int.{bit_at}
-use Rattle.attr_wildmatch.specs.declared.bracket.Member.{Member}
-use Rattle.attr_wildmatch.specs.Brackets.{member_holds, members_hold}
 use Rattle.attr_wildmatch.specs.inner.ByteSets.{is_marked}
 
 or_true : (a b : Bool) → b ≡ true → true ≡ (a || b)
-or_true true b h = refl
-or_true false b h = sym h
+or_true a b h = grind (arith, nat_tests)
 
 or_false : (a b : Bool) → b ≡ false → a ≡ (a || b)
-or_false true b h = refl
-or_false false b h = sym h
+or_false a b h = grind (arith, nat_tests)
 
 -- the words with bit i of the word at this index set
 abbrev pub with_word : List ℕ → ℕ → ℕ → List ℕ
@@ -54,31 +48,5 @@ marked words n k within =
 
 -- Of a member's bytes below n, one more is put in, or the member doesn't have it.
 
-and_false : (a : Bool) → (a && false) ≡ false
-and_false true = refl
-and_false false = refl
-
 pub one_held : (old : Bool) (held : ℕ → Bool) (b n : ℕ) → held n ≡ true → (old || b == n) ≡ (old || (held b && b == n))
-one_held true held b n h = refl
-one_held false held b n h = grind (arith, nat_tests, cases_eq, and_false)
-
-pub none_held : (old : Bool) (held : ℕ → Bool) (b n : ℕ) → held n ≡ false → old ≡ (old || (held b && b == n))
-none_held true held b n h = refl
-none_held false held b n h = grind (arith, nat_tests, cases_eq, and_false)
-
-pub all_below : (held : Bool) (b n : ℕ) → (held ≡ true → b < n) → (held && nat_lt b n) ≡ held
-all_below true b n h = let l : b < n = h refl in grind (arith, nat_tests)
-all_below false b n h = refl
-
-or_nil : (a : Bool) → (a || false) ≡ (false || a)
-or_nil true = refl
-or_nil false = refl
-
-list_any_push : {A : Type 0} (p : A → Bool) (xs : List A) (x : A) → list_any p (xs ++ x ∷ []) ≡ (list_any p xs || p x)
-list_any_push p [] x = or_nil (p x)
-list_any_push p (y ∷ xs) x = grind (arith, nat_tests, list_any_push p xs x)
-
--- one member more holds what it holds itself and what those before it hold
-pub held_more : (ms : List Member) (i : ℕ) (d : Member) (b : ℕ) → i < length ms →
-    members_hold (take (i + 1) ms) b ≡ (members_hold (take i ms) b || member_holds (get_or ms i d) b)
-held_more ms i d b inside = ap (λ xs. members_hold xs b) (take_more ms i d inside) ∙ list_any_push (λ m. member_holds m b) (take i ms) (get_or ms i d)
+one_held old held b n h = grind (arith, nat_tests, cases_eq)

@@ -1,14 +1,12 @@
 -- How many bytes there are from the first `]` on.
-use Rattle.std.proofs.Common.{◌≡◌, ◌≢◌, ◌≤◌, ◌<◌, ℕ, suc, ◌+◌, ◌-◌, ◌==◌, ◌&&◌, List, [], ◌∷◌, length, drop, Option, Some, None, option_map, refl}
+use Rattle.std.proofs.Common.{◌≡◌, ◌≢◌, ◌≤◌, ◌<◌, ℕ, suc, ◌+◌, ◌-◌, ◌==◌, ◌&&◌, List, [], ◌∷◌, length, drop, Option, Some, None, refl}
 use Rattle.std.proofs.Common.{sym, ap, ◌∙◌, arith}
 use Rattle.std.specs.List.{position, position_from}
 use Rattle.std.proofs.lemmas.Bool.Decides.{nat_tests}
 use Rattle.std.proofs.lemmas.Iterator.Adapters.{position_from-zero}
-use Rattle.attr_wildmatch.specs.declared.bracket.Class.{Class}
 use Rattle.attr_wildmatch.specs.declared.bracket.Member.{Member}
-use Rattle.attr_wildmatch.specs.declared.bracket.Member.TheVariants.{Named}
 use Rattle.attr_wildmatch.specs.Bytes.{backslash, close_bracket, colon, hyphen, open_bracket}
-use Rattle.attr_wildmatch.specs.Brackets.{begins, class_member, class_named, from_escape, from_single, member_at, name_in, ranged, span_end}
+use Rattle.attr_wildmatch.specs.Brackets.{begins, class_member, from_escape, from_single, member_at, name_in, ranged, span_end}
 use Rattle.attr_wildmatch.specs.inner.Closing.{from_close}
 use Rattle.attr_wildmatch.proofs.Basics.{by_test}
 use Rattle.attr_wildmatch.proofs.Names.{closes}
@@ -19,16 +17,12 @@ from_close-few (b ∷ bs) = grind (arith, nat_tests, from_close-few bs)
 
 from_close-none : (i : ℕ) (bs : List ℕ) → position_from closes i bs ≡ None → from_close bs ≡ 0
 from_close-none i [] h = refl
-from_close-none i (b ∷ bs) h =
-    by_test (b == close_bracket) (λ t. absurd (let e = rw t at h in cc)) (λ t. rw t (from_close-none (i + 1) bs (rw t at h)))
+from_close-none i (b ∷ bs) h = grind (arith, nat_tests, by_test, from_close-none (i + 1) bs)
 
 from_close-some : (i : ℕ) (bs : List ℕ) (j : ℕ) → position_from closes i bs ≡ Some j →
     (from_close bs + j ≡ length bs + i) × (0 < from_close bs)
 from_close-some i [] j h = cc
-from_close-some i (b ∷ bs) j h =
-    by_test (b == close_bracket)
-    (λ t. let e = rw t at h in let same : i ≡ j = cc in rw t (omega (arith, same), omega arith))
-    (λ t. let r = from_close-some (i + 1) bs j (rw t at h) in rw t (omega (arith, r.0), r.1))
+from_close-some i (b ∷ bs) j h = grind (arith, nat_tests, by_test, from_close-some (i + 1) bs j)
 
 pub position-none : (bs : List ℕ) → position closes bs ≡ None → from_close bs ≡ 0
 position-none bs h = from_close-none 0 bs (sym (position_from-zero closes bs) ∙ h)
@@ -88,14 +82,9 @@ escape-rest : (bs : List ℕ) (m : Member) (rest : List ℕ) → from_escape bs 
 escape-rest [] m rest h = cc
 escape-rest (c ∷ bs) m rest h = let r = some_single c bs m rest h in (suc r.0, r.1)
 
-named-rest : (bs : List ℕ) (n : ℕ) (o : Option Class) (m : Member) (rest : List ℕ) →
-    option_map {U = Member × List ℕ} (λ class. (Named class, drop n bs)) o ≡ Some (m, rest) → IsEnd bs rest
-named-rest bs n None m rest h = cc
-named-rest bs n (Some class) m rest h = (n, sym (ap rest_of h))
-
 class-rest : (bs : List ℕ) (o : Option (List ℕ)) (m : Member) (rest : List ℕ) → class_member bs o ≡ Some (m, rest) → IsEnd bs rest
 class-rest bs None m rest h = some_single open_bracket bs m rest h
-class-rest bs (Some name) m rest h = named-rest bs (length name + 3) (class_named name) m rest h
+class-rest bs (Some name) m rest h = grind (arith, nat_tests)
 
 pub member-rest : (b : ℕ) (bs : List ℕ) (m : Member) (rest : List ℕ) → member_at b bs ≡ Some (m, rest) → IsEnd bs rest
 member-rest b bs m rest h =

@@ -1,5 +1,5 @@
 -- The test of matching says what the relation says.
-use Rattle.std.proofs.Common.{arith, ◌≡◌, ℕ, Bool, true, inl, inr, List, [], ◌∷◌, ◌++◌, Option, Some, None, refl, ap, ◌∙◌}
+use Rattle.std.proofs.Common.{arith, ◌≡◌, ℕ, Bool, true, List, [], ◌∷◌, Option, Some, ap, ◌∙◌}
 use Rattle.std.proofs.lemmas.Bool.Decides.{nat_tests}
 use Rattle.std.proofs.lemmas.Bool.{or_cases, or_left, or_right}
 use Rattle.attr_wildmatch.specs.declared.case.Case.{Case}
@@ -8,7 +8,7 @@ use Rattle.attr_wildmatch.specs.Matching.{Takes, Match, TextMatches}
 use Rattle.attr_wildmatch.specs.Deciding.{takes_byte, byte_then, slash_then, token_then, is_nil, matches, some_match, text_matches}
 use Rattle.attr_wildmatch.proofs.Basics.{each_of_all, all_of_each}
 use Rattle.attr_wildmatch.proofs.SpellTokens.{spelled, read_back}
-use Rattle.attr_wildmatch.proofs.Splits.{NoSlash, Split, byte_split, byte_joined, star_split, star_joined, rest_split, rest_joined, slash_split}
+use Rattle.attr_wildmatch.proofs.Splits.{Split, byte_split, star_split, star_joined, rest_split, rest_joined, slash_split}
 use Rattle.attr_wildmatch.proofs.Splits.{slash_joined, single_takes, single_taken}
 
 single_split : (case : Case) (t : Token) (f : List ℕ → Bool) (v : List ℕ) → byte_then (takes_byte case t) f v ≡ true → Split (Takes case t) f v
@@ -22,42 +22,21 @@ token_split case (lit c) f v h = single_split case (lit c) f v h
 token_split case one f v h = single_split case one f v h
 token_split case (set negated ms) f v h = single_split case (set negated ms) f v h
 token_split case star f v h = grind (arith, nat_tests, star_split, all_of_each)
-token_split case dirs f v h = elim (or_cases (f v) (slash_then f v) h) [
-  | inl t ↦ record { part = []; others = v; whole = refl; holds = inl refl; taken = t }
-  | inr t ↦ let s = slash_split f v t in record { part = s.part; others = s.others; whole = s.whole; holds = inr s.holds; taken = s.taken }
-]
+token_split case dirs f v h = grind (arith, nat_tests, or_cases (f v) (slash_then f v) h, slash_split f v)
 token_split case rest f v h = let s = rest_split f v h in record { part = s.part; others = s.others; whole = s.whole; holds = tt; taken = s.taken }
 
-single_joined : (case : Case) (t : Token) (f : List ℕ → Bool) (others : List ℕ) → f others ≡ true →
-    (part : List ℕ) → ((b : ℕ) × (part ≡ b ∷ []) × (takes_byte case t b ≡ true)) → byte_then (takes_byte case t) f (part ++ others) ≡ true
-single_joined case t f others k part h = grind (arith, nat_tests, byte_joined)
-
-pub token_joined : (case : Case) (t : Token) (f : List ℕ → Bool) (part others : List ℕ) → Takes case t part → f others ≡ true →
-    token_then case t f (part ++ others) ≡ true
-token_joined case (lit c) f part others h k = single_joined case (lit c) f others k part (single_taken case (lit c) part refl h)
-token_joined case one f part others h k = single_joined case one f others k part (single_taken case one part refl h)
-token_joined case (set negated ms) f part others h k = grind (arith, nat_tests, single_joined, single_taken)
-token_joined case star f part others h k = star_joined f part others (each_of_all NoSlash part h) k
-token_joined case dirs f part others (inl h) k = grind (arith, nat_tests, or_left)
-token_joined case dirs f part others (inr h) k = grind (arith, nat_tests, or_right, slash_joined)
-token_joined case rest f part others h k = rest_joined f part others k
-
-nil_of : (v : List ℕ) → is_nil v ≡ true → v ≡ []
-nil_of [] h = refl
-nil_of (b ∷ v) h = cc
-
 pub match_of_test : (case : Case) (ts : List Token) (v : List ℕ) → matches case ts v ≡ true → Match case ts v
-match_of_test case [] v h = nil_of v h
+match_of_test case [] v h = grind (arith, nat_tests)
 match_of_test case (t ∷ ts) v h = grind (arith, nat_tests, token_split, match_of_test case ts)
 
 pub test_of_match : (case : Case) (ts : List Token) (v : List ℕ) → Match case ts v → matches case ts v ≡ true
 test_of_match case [] v h = ap is_nil h
-test_of_match case (t ∷ ts) v h = grind (arith, nat_tests, token_joined, test_of_match case ts)
+test_of_match case (t ∷ ts) v h =
+    grind (arith, nat_tests, single_taken, star_joined, each_of_all, or_left, or_right, slash_joined, rest_joined, test_of_match case ts)
 
 some_split : (case : Case) (text value : List ℕ) (o : Option (List Token)) → some_match case o value ≡ true → (ts : List Token) × (o ≡ Some ts) ×
     Match case ts value
-some_split case text value None h = cc
-some_split case text value (Some ts) h = (ts, refl, match_of_test case ts value h)
+some_split case text value o h = grind (arith, nat_tests, match_of_test)
 
 pub text_match_of_test : (case : Case) (text value : List ℕ) → text_matches case text value ≡ true → TextMatches case text value
 text_match_of_test case text value h = let s = some_split case text value (tokens text) h in (s.0, spelled text s.0 s.1, s.2)

@@ -1,6 +1,6 @@
 -- What a token that stands alone takes, and how a directory star goes on from directory to directory.
-use Rattle.std.proofs.Common.{◌≡◌, ◌≢◌, ℕ, zero, suc, ◌+◌, ◌<◌, Bool, true, false, not, ◌&&◌, ◌||◌, ◌==◌, List, [], ◌∷◌, length, drop, get_or, Some}
-use Rattle.std.proofs.Common.{None, refl, sym, ap, ◌∙◌, arith, add-one}
+use Rattle.std.proofs.Common.{◌≡◌, ◌≢◌, ℕ, suc, ◌+◌, ◌<◌, Bool, true, false, not, ◌&&◌, ◌||◌, ◌==◌, List, [], ◌∷◌, length, drop, get_or, Some}
+use Rattle.std.proofs.Common.{None, refl, sym, ◌∙◌, arith, add-one}
 use Rattle.std.specs.List.{list_any, position, position_from}
 use Rattle.std.proofs.lemmas.Bool.Decides.{nat_tests}
 use Rattle.std.proofs.lemmas.List.Quantifiers.{position-Some}
@@ -12,39 +12,26 @@ use Rattle.attr_wildmatch.specs.Tokens.{star, dirs, rest}
 use Rattle.attr_wildmatch.specs.Deciding.{slash_then, matches}
 use Rattle.attr_wildmatch.proofs.Basics.{by_test}
 
-not_both : (a b : Bool) → (not a && not b) ≡ not (a || b)
-not_both true b = refl
-not_both false b = refl
-
 -- a star alone takes what has no slash
 pub star_alone : (case : Case) (v : List ℕ) → matches case (star ∷ []) v ≡ not (list_any is_slash v)
 star_alone case [] = refl
-star_alone case (b ∷ bs) = ap (λ x. not (b == slash) && x) (star_alone case bs) ∙ not_both (b == slash) (list_any is_slash bs)
+star_alone case (b ∷ bs) = grind (arith, nat_tests, star_alone case bs)
 
 -- the end of a pattern alone takes all
 pub rest_alone : (case : Case) (v : List ℕ) → matches case (rest ∷ []) v ≡ true
 rest_alone case [] = refl
 rest_alone case (b ∷ bs) = rest_alone case bs
 
-only : (a : Bool) → ((a && true) || false) ≡ a
-only true = refl
-only false = refl
-
-neither : (a b : Bool) → ((a && false) || b) ≡ b
-neither true b = refl
-neither false b = refl
-
 ends_behind : (b c : ℕ) (bs : List ℕ) → ends_in_slash (c ∷ bs) ≡ ends_in_slash (b ∷ c ∷ bs)
 ends_behind b c bs = grind (arith, nat_tests)
 
 last_slash : (case : Case) (b : ℕ) (bs : List ℕ) → slash_then (matches case []) (b ∷ bs) ≡ ends_in_slash (b ∷ bs)
-last_slash case b [] = only (b == slash)
-last_slash case b (c ∷ bs) = grind (arith, nat_tests, neither, ends_behind, last_slash case c bs)
+last_slash case b [] = grind (arith, nat_tests)
+last_slash case b (c ∷ bs) = grind (arith, nat_tests, ends_behind, last_slash case c bs)
 
 -- or what ends in a slash
 pub dirs_alone : (case : Case) (v : List ℕ) → length v ≢ 0 → matches case (dirs ∷ []) v ≡ ends_in_slash v
-dirs_alone case [] h = absurd (h refl)
-dirs_alone case (b ∷ bs) h = last_slash case b bs
+dirs_alone case v h = grind (arith, nat_tests, last_slash case)
 
 -- What a directory star goes on to.
 
@@ -53,9 +40,7 @@ passed b x y h = rw h refl
 
 pub slash_then-unfound : (f : List ℕ → Bool) (i : ℕ) (v : List ℕ) → position_from is_slash i v ≡ None → slash_then f v ≡ false
 slash_then-unfound f i [] h = refl
-slash_then-unfound f i (b ∷ bs) h =
-    by_test (b == slash) (λ t. absurd (let e = rw t at h in cc))
-    (λ t. passed (b == slash) (f bs) (slash_then f bs) t ∙ slash_then-unfound f (i + 1) bs (rw t at h))
+slash_then-unfound f i (b ∷ bs) h = grind (arith, nat_tests, by_test, passed, slash_then-unfound f (i + 1) bs)
 
 -- with no slash there is no next directory
 pub no_next_directory : (f : List ℕ → Bool) (v : List ℕ) → position is_slash v ≡ None → slash_then f v ≡ false
@@ -63,11 +48,10 @@ no_next_directory f v h = slash_then-unfound f 0 v (sym (position_from-zero is_s
 
 slash_then-found : (f : List ℕ → Bool) (v : List ℕ) (k : ℕ) → k < length v → is_slash (get_or v k 0) ≡ true →
     ((i : ℕ) → i < k → is_slash (get_or v i 0) ≡ false) → slash_then f v ≡ (f (drop (suc k) v) || slash_then f (drop (suc k) v))
-slash_then-found f [] k inside here before = absurd (omega arith)
-slash_then-found f (b ∷ bs) zero inside here before = ap (λ x. (x && f bs) || slash_then f bs) here
 slash_then-found f (b ∷ bs) (suc k) inside here before =
     passed (b == slash) (f bs) (slash_then f bs) (before 0 (omega arith))
     ∙ slash_then-found f bs k (omega arith) here (λ i l. before (suc i) (omega arith))
+slash_then-found f v k inside here before = grind (arith, nat_tests)
 
 -- after the first slash the next directory begins
 pub next_directory : (f : List ℕ → Bool) (v : List ℕ) (k : ℕ) → position is_slash v ≡ Some k →

@@ -1,5 +1,6 @@
 -- Tokens that take one byte each, taken off at either end with their bytes, and the tokens that then take any rest.
-use Rattle.std.proofs.Common.{◌≡◌, ℕ, Bool, true, false, ◌&&◌, List, [], ◌∷◌, ◌++◌, length, refl, sym, ap, ◌∙◌, arith}
+use Rattle.std.proofs.lemmas.Grind.{common_steps}
+use Rattle.std.proofs.Common.{◌≡◌, ℕ, Bool, true, false, ◌&&◌, List, [], ◌∷◌, ◌++◌, length, refl, ap, ◌∙◌, arith}
 use Rattle.std.proofs.lemmas.Bool.Decides.{nat_tests}
 use Rattle.std.proofs.lemmas.Bool.{and_from, and_parts}
 use Rattle.attr_wildmatch.specs.declared.case.Case.{Case}
@@ -14,27 +15,13 @@ use Rattle.attr_wildmatch.proofs.Reached.{match-last, match-unlast}
 use Rattle.attr_wildmatch.proofs.Splits.{is_single, single_takes, single_taken}
 
 pub same_answer : (a b : Bool) → (a ≡ true → b ≡ true) → (b ≡ true → a ≡ true) → a ≡ b
-same_answer true b h k = sym (h refl)
-same_answer false true h k = k refl
-same_answer false false h k = refl
+same_answer a b h k = grind (arith, nat_tests)
 
 single_of : (t : Token) → may_be_nothing t ≡ false → is_single t ≡ true
-single_of (lit c) h = refl
-single_of one h = refl
-single_of (set negated ms) h = refl
-single_of t h = cc
-
--- the first token takes the first byte, and the others the rest
-pub matches-cons : (case : Case) (t : Token) (ts : List Token) (b : ℕ) (bs : List ℕ) → may_be_nothing t ≡ false →
-    matches case (t ∷ ts) (b ∷ bs) ≡ (takes_byte case t b && matches case ts bs)
-matches-cons case (lit c) ts b bs h = refl
-matches-cons case one ts b bs h = refl
-matches-cons case (set negated ms) ts b bs h = refl
-matches-cons case t ts b bs h = cc
+single_of t h = grind (arith, nat_tests)
 
 not_snoc : (xs : List ℕ) (x : ℕ) → [] ≡ xs ++ x ∷ [] → ⊥
-not_snoc [] x h = cc
-not_snoc (y ∷ xs) x h = cc
+not_snoc xs x h = grind (arith, common_steps, nat_tests)
 
 -- equal lists have equal last elements, and are equal before them
 snoc_parts : (xs ys : List ℕ) (x y : ℕ) → xs ++ x ∷ [] ≡ ys ++ y ∷ [] → (xs ≡ ys) × (x ≡ y)
@@ -42,17 +29,6 @@ snoc_parts [] [] x y h = let e : x ≡ y = cc in (refl, e)
 snoc_parts [] (b ∷ ys) x y h = let e : [] ≡ ys ++ y ∷ [] = cc in absurd (not_snoc ys y e)
 snoc_parts (a ∷ xs) [] x y h = let e : [] ≡ xs ++ x ∷ [] = cc in absurd (not_snoc xs x e)
 snoc_parts (a ∷ xs) (b ∷ ys) x y h = grind (arith, nat_tests, snoc_parts xs ys x y)
-
--- the last token takes the last byte, and those before it the bytes before it
-pub matches-snoc : (case : Case) (ts : List Token) (t : Token) (v : List ℕ) (b : ℕ) → may_be_nothing t ≡ false →
-    matches case (ts ++ t ∷ []) (v ++ b ∷ []) ≡ (takes_byte case t b && matches case ts v)
-matches-snoc case ts t v b h = same_answer (matches case (ts ++ t ∷ []) (v ++ b ∷ [])) (takes_byte case t b && matches case ts v) split joined
-  where
-    split : matches case (ts ++ t ∷ []) (v ++ b ∷ []) ≡ true → (takes_byte case t b && matches case ts v) ≡ true
-    split m = grind (arith, nat_tests, match-unlast, match_of_test, single_taken, single_of, snoc_parts, and_from, test_of_match)
-
-    joined : (takes_byte case t b && matches case ts v) ≡ true → matches case (ts ++ t ∷ []) (v ++ b ∷ []) ≡ true
-    joined m = grind (arith, nat_tests, and_parts, test_of_match, match-last, match_of_test, single_takes)
 
 pub matches-snoc_nil : (case : Case) (ts : List Token) (t : Token) → may_be_nothing t ≡ false → matches case (ts ++ t ∷ []) [] ≡ false
 matches-snoc_nil case ts t h = by_test (matches case (ts ++ t ∷ []) []) (λ m. absurd (clash m)) (λ f. f)
@@ -65,17 +41,11 @@ matches-snoc_nil case ts t h = by_test (matches case (ts ++ t ∷ []) []) (λ m.
 
 bordered_start : (border : Bool) (ts : List Token) → is_bordered border ts ≡ true → is_bordered true ts ≡ true
 bordered_start border [] h = refl
-bordered_start border (dirs ∷ ts) h = let w = and_parts border (is_bordered true ts) h in w.1
-bordered_start border ts h = h
+bordered_start border ts h = grind (arith, nat_tests, and_parts)
 
 -- without its first token a list is bordered as well
 pub bordered-tail : (t : Token) (ts : List Token) → is_bordered true (t ∷ ts) ≡ true → is_bordered true ts ≡ true
-bordered-tail (lit c) ts h = bordered_start (token_ends_in_slash (lit c)) ts h
-bordered-tail one ts h = bordered_start (token_ends_in_slash one) ts h
-bordered-tail (set negated ms) ts h = bordered_start (token_ends_in_slash (set negated ms)) ts h
-bordered-tail star ts h = bordered_start (token_ends_in_slash star) ts h
-bordered-tail dirs ts h = h
-bordered-tail rest ts h = bordered_start (token_ends_in_slash rest) ts h
+bordered-tail t ts h = grind (arith, nat_tests, bordered_start)
 
 -- without its last token a list is bordered as well
 pub bordered-init : (border : Bool) (ts : List Token) (t : Token) → is_bordered border (ts ++ t ∷ []) ≡ true → is_bordered border ts ≡ true
@@ -87,26 +57,16 @@ bordered-init border (star ∷ ts) t h = bordered-init (token_ends_in_slash star
 bordered-init border (dirs ∷ ts) t h = grind (arith, nat_tests, and_parts, and_from, bordered-init true ts t)
 bordered-init border (rest ∷ ts) t h = bordered-init (token_ends_in_slash rest) ts t h
 
--- one step at the front: the token takes the byte
-pub front_step : (case : Case) (ts left tail : List Token) (v bytes others : List ℕ) (t : Token) (b : ℕ) → may_be_nothing t ≡ false →
-    left ≡ t ∷ tail → bytes ≡ b ∷ others → takes_byte case t b ≡ true → matches case ts v ≡ matches case left bytes →
-    matches case ts v ≡ matches case tail others
-front_step case ts left tail v bytes others t b single l r h before = grind (arith, nat_tests, matches-cons)
-
 -- one step at the end: the test of the token decides, and what is before it
 pub end_step : (case : Case) (ts left before : List Token) (v bytes others : List ℕ) (t : Token) (b : ℕ) → may_be_nothing t ≡ false →
     left ≡ before ++ t ∷ [] → bytes ≡ others ++ b ∷ [] → matches case ts v ≡ matches case left bytes →
     matches case ts v ≡ (takes_byte case t b && matches case before others)
-end_step case ts left before v bytes others t b single l r e = grind (arith, nat_tests, matches-snoc)
+end_step case ts left before v bytes others t b single l r e =
+    grind (arith, nat_tests, same_answer, match-unlast, match_of_test, single_taken, single_of, snoc_parts, test_of_match, match-last, single_takes)
 
 pub end_none : (case : Case) (ts left before : List Token) (v bytes : List ℕ) (t : Token) → may_be_nothing t ≡ false →
     left ≡ before ++ t ∷ [] → length bytes ≡ 0 → matches case ts v ≡ matches case left bytes → matches case ts v ≡ false
-end_none case ts left before v [] t single l r e = e ∙ (ap (λ x. matches case x []) l ∙ matches-snoc_nil case before t single)
-end_none case ts left before v (b ∷ bs) t single l r e = absurd (omega arith)
-
--- tokens whose test fails match nothing
-pub no_match : (case : Case) (ts : List Token) (v : List ℕ) → matches case ts v ≡ false → Match case ts v → ⊥
-no_match case ts v f m = let e : true ≡ false = sym (test_of_match case ts v m) ∙ f in cc
+end_none case ts left before v bytes t single l r e = grind (arith, common_steps, nat_tests, matches-snoc_nil)
 
 -- an answer by the relation is the one by the test
 pub exact_answer : (case : Case) (ts : List Token) (v : List ℕ) (answer : Bool) → (answer ≡ true → Match case ts v) →

@@ -1,7 +1,7 @@
 -- Which indexes are reached: the first tokens against the first bytes, by recursion on both reversed, so
 -- that one more byte and one more token each stand in front.
 use Rattle.std.proofs.Common.{arith, ◌≡◌, ℕ, Bool, true, cond, ◌||◌, ◌==◌, inl, inr, List, [], ◌∷◌, ◌++◌, take, reverse, slice_get, refl, sym, ap}
-use Rattle.std.proofs.Common.{subst, ◌∙◌, append_assoc, append-nil}
+use Rattle.std.proofs.Common.{◌∙◌, append_assoc, append-nil}
 use Rattle.std.proofs.lemmas.Bool.Decides.{nat_tests}
 use Rattle.std.proofs.lemmas.List.{reverse-append}
 use Rattle.std.proofs.lemmas.Bool.{eqb-true, or_cases, or_left, or_right}
@@ -12,8 +12,7 @@ use Rattle.attr_wildmatch.specs.Matching.{Takes, Match}
 use Rattle.attr_wildmatch.specs.Deciding.{takes_byte, byte_then, star_then, rest_then, is_nil}
 use Rattle.attr_wildmatch.specs.inner.RowIndexes.{is_dirs_at}
 use Rattle.attr_wildmatch.proofs.Basics.{each_of_all, all_of_each, Each-reverse, reverse-cons}
-use Rattle.attr_wildmatch.proofs.Splits.{NoSlash, Split, byte_split, byte_joined, star_split, star_joined, rest_split, rest_joined, single_takes}
-use Rattle.attr_wildmatch.proofs.Splits.{single_taken}
+use Rattle.attr_wildmatch.proofs.Splits.{NoSlash, Split, byte_split, star_split, star_joined, rest_split, rest_joined, single_takes, single_taken}
 
 -- what the token takes at the end, and before that what f takes; all reversed
 abbrev pub back_then : Case → Token → (List ℕ → Bool) → List ℕ → Bool
@@ -42,8 +41,7 @@ alive case ts v k = cond (is_dirs_at (slice_get ts k)) (rest_then (reached case 
 pub match-last : (case : Case) (ts : List Token) (t : Token) (front part : List ℕ) → Match case ts front → Takes case t part →
     Match case (ts ++ t ∷ []) (front ++ part)
 match-last case [] t front part m h = (part, [], ap (λ x. x ++ part) m ∙ sym (append-nil part), h, refl)
-match-last case (u ∷ ts) t front part m h =
-    (m.0, m.1 ++ part, ap (λ x. x ++ part) m.2 ∙ append_assoc m.0 m.1 part, m.3, match-last case ts t m.1 part m.4 h)
+match-last case (u ∷ ts) t front part m h = grind (arith, nat_tests, append_assoc, match-last case ts t m.1 part m.4 h)
 
 pub record Last (case : Case) (ts : List Token) (t : Token) (v : List ℕ) : Type 0 where
   pub front : List ℕ
@@ -53,14 +51,7 @@ pub record Last (case : Case) (ts : List Token) (t : Token) (v : List ℕ) : Typ
   pub takes : Takes case t part
 
 pub match-unlast : (case : Case) (ts : List Token) (t : Token) (v : List ℕ) → Match case (ts ++ t ∷ []) v → Last case ts t v
-match-unlast case [] t v m = record {
-  front = [];
-  part = v;
-  whole = refl;
-  before = refl;
-  takes = subst (Takes case t)
-      (sym (m.2 ∙ (ap (λ x. m.0 ++ x) m.4 ∙ append-nil m.0))) m.3;
-}
+match-unlast case [] t v m = grind (arith, nat_tests, append-nil)
 match-unlast case (u ∷ ts) t v m =
     let r = match-unlast case ts t m.1 m.4 in
     record {
@@ -108,35 +99,20 @@ back_split case dirs f v h = elim (or_cases (f v) (byte_then (λ b. b == slash) 
 ]
 back_split case rest f v h = let s = rest_split f v h in record { part = s.part; others = s.others; whole = s.whole; holds = tt; taken = s.taken }
 
-single_back_joined : (case : Case) (t : Token) (f : List ℕ → Bool) (others part : List ℕ) → f others ≡ true →
-    ((b : ℕ) × (part ≡ b ∷ []) × (takes_byte case t b ≡ true)) → byte_then (takes_byte case t) f (reverse part ++ others) ≡ true
-single_back_joined case t f others part k h = grind (arith, nat_tests, byte_joined)
-
 back_joined : (case : Case) (t : Token) (f : List ℕ → Bool) (part others : List ℕ) → Takes case t part → f others ≡ true →
     back_then case t f (reverse part ++ others) ≡ true
-back_joined case (lit c) f part others h k = single_back_joined case (lit c) f others part k (single_taken case (lit c) part refl h)
-back_joined case one f part others h k = single_back_joined case one f others part k (single_taken case one part refl h)
-back_joined case (set negated ms) f part others h k = grind (arith, nat_tests, single_back_joined, part, single_taken)
+back_joined case (lit c) f part others h k = grind (arith, nat_tests, single_taken)
+back_joined case one f part others h k = grind (arith, nat_tests, single_taken)
+back_joined case (set negated ms) f part others h k = grind (arith, nat_tests, part, single_taken)
 back_joined case star f part others h k = star_joined f (reverse part) others (Each-reverse NoSlash part (each_of_all NoSlash part h)) k
-back_joined case dirs f part others (inl h) k = grind (arith, nat_tests, or_left)
-back_joined case dirs f part others (inr h) k = grind (arith, nat_tests, part, reverse-append, or_right, rest_joined)
-back_joined case rest f part others h k = rest_joined f (reverse part) others k
-
-nil_of : (v : List ℕ) → is_nil v ≡ true → v ≡ []
-nil_of [] h = refl
-nil_of (b ∷ v) h = cc
+back_joined case t f part others h k = grind (arith, nat_tests, or_left, reverse-append, or_right, rest_joined)
 
 pub match_of_reached : (case : Case) (ts : List Token) (v : List ℕ) → reached case ts v ≡ true → Match case (reverse ts) (reverse v)
-match_of_reached case [] v h = ap reverse (nil_of v h)
+match_of_reached case [] v h = grind (arith, nat_tests)
 match_of_reached case (t ∷ ts) v h =
-    let s = back_split case t (reached case ts) v h in
-    let m = match-last case (reverse ts) t (reverse s.others) (reverse s.part) (match_of_reached case ts s.others s.taken) s.holds in
-    subst (λ x. Match case x (reverse v)) (sym (reverse-cons t ts))
-    (subst (Match case (reverse ts ++ t ∷ [])) (sym (ap reverse s.whole ∙ reverse-append s.part s.others)) m)
+    grind (arith, nat_tests, back_split case t, match-last case (reverse ts) t, reverse-cons t ts, reverse-append, match_of_reached case ts)
 
 pub reached_of_match : (case : Case) (ts : List Token) (v : List ℕ) → Match case (reverse ts) v → reached case ts (reverse v) ≡ true
 reached_of_match case [] v h = ap (λ x. is_nil (reverse x)) h
 reached_of_match case (t ∷ ts) v h =
-    let l = match-unlast case (reverse ts) t v (subst (λ x. Match case x v) (reverse-cons t ts) h) in
-    subst (λ x. back_then case t (reached case ts) x ≡ true) (sym (ap reverse l.whole ∙ reverse-append l.front l.part))
-    (back_joined case t (reached case ts) l.part (reverse l.front) l.takes (reached_of_match case ts l.front l.before))
+    grind (arith, nat_tests, match-unlast case (reverse ts) t v, reverse-cons t ts, back_joined case t, reverse-append, reached_of_match case ts)

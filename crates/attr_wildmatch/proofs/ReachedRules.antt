@@ -1,13 +1,12 @@
 -- The rules of a step hold for the indexes that are reached.
-use Rattle.std.proofs.Common.{◌≡◌, ◌<◌, ◌+◌, ℕ, zero, suc, Bool, true, false, cond, not, ◌&&◌, ◌==◌, ◌⊎◌, inl, inr, List, [], ◌∷◌, length, slice_get}
+use Rattle.std.proofs.Common.{◌≡◌, ◌<◌, ◌+◌, ℕ, zero, suc, Bool, true, false, cond, ◌⊎◌, inl, inr, List, [], ◌∷◌, length, slice_get}
 use Rattle.std.proofs.Common.{Option, Some, None, refl, sym, ap, subst, ◌∙◌, arith, add-one}
 use Rattle.std.proofs.lemmas.Bool.Decides.{nat_tests}
 use Rattle.std.proofs.lemmas.Bool.{and_from, and_parts, or_cases, or_right}
 use Rattle.attr_wildmatch.specs.declared.case.Case.{Case}
-use Rattle.attr_wildmatch.specs.Bytes.{slash}
-use Rattle.attr_wildmatch.specs.Tokens.{Token, lit, one, set, star, dirs, rest, token_ends_in_slash}
+use Rattle.attr_wildmatch.specs.Tokens.{Token, star, rest}
 use Rattle.attr_wildmatch.specs.inner.Bordered.{is_bordered}
-use Rattle.attr_wildmatch.specs.Deciding.{takes_byte, star_then, rest_then}
+use Rattle.attr_wildmatch.specs.Deciding.{rest_then}
 use Rattle.attr_wildmatch.specs.inner.RowIndexes.{may_be_nothing, is_dirs, continues_with, ends_at, may_skip, is_dirs_at, stays_on, advances_on}
 use Rattle.attr_wildmatch.specs.inner.RowIndexes.{token_before, IsStep}
 use Rattle.attr_wildmatch.proofs.Basics.{by_test}
@@ -20,31 +19,18 @@ is_wide star = true
 is_wide rest = true
 is_wide _ = false
 
-wide_end : (t : Token) → is_wide t ≡ true → token_ends_in_slash t ≡ false
-wide_end star h = refl
-wide_end rest h = refl
-wide_end t h = cc
-
 goes_wide : (t : Token) (b : ℕ) → continues_with t b ≡ true → is_wide t ≡ true
-goes_wide star b h = refl
-goes_wide rest b h = refl
-goes_wide t b h = cc
+goes_wide t b h = grind (arith, nat_tests)
 
 -- over a byte a star or a rest keeps what it had taken
 stay_back : (case : Case) (t : Token) (f : List ℕ → Bool) (b : ℕ) (w : List ℕ) → continues_with t b ≡ true → back_then case t f w ≡ true → back_then
     case t f (b ∷ w) ≡ true
-stay_back case star f b w h k = or_right (f (b ∷ w)) (not (b == slash) && star_then f w) (and_from (not (b == slash)) (star_then f w) h k)
-stay_back case rest f b w h k = or_right (f (b ∷ w)) (rest_then f w) k
-stay_back case t f b w h k = cc
+stay_back case t f b w h k = grind (arith, nat_tests, or_right, and_from)
 
 -- a byte leads on from where the token stood
 advance_back : (case : Case) (t : Token) (f : List ℕ → Bool) (b : ℕ) (w : List ℕ) → ends_at case t b ≡ true →
     cond (is_dirs t) (rest_then f w) (f w) ≡ true → back_then case t f (b ∷ w) ≡ true
-advance_back case (lit c) f b w h k = and_from (takes_byte case (lit c) b) (f w) h k
-advance_back case one f b w h k = and_from (takes_byte case one b) (f w) h k
-advance_back case (set n ms) f b w h k = and_from (takes_byte case (set n ms) b) (f w) h k
-advance_back case dirs f b w h k = or_right (f (b ∷ w)) (b == slash && rest_then f w) (and_from (b == slash) (rest_then f w) h k)
-advance_back case t f b w h k = cc
+advance_back case t f b w h k = grind (arith, nat_tests, and_from, or_right)
 
 -- how a token came to take what ends with the byte
 abbrev BackFrom : Case → Token → (List ℕ → Bool) → ℕ → List ℕ → Type 0
@@ -54,12 +40,7 @@ BackFrom case t f b w =
     ((may_be_nothing t ≡ true) × (f (b ∷ w) ≡ true)))
 
 back_from : (case : Case) (t : Token) (f : List ℕ → Bool) (b : ℕ) (w : List ℕ) → back_then case t f (b ∷ w) ≡ true → BackFrom case t f b w
-back_from case (lit c) f b w h = inr (inl (and_parts (takes_byte case (lit c) b) (f w) h))
-back_from case one f b w h = inr (inl (and_parts (takes_byte case one b) (f w) h))
-back_from case (set n ms) f b w h = inr (inl (and_parts (takes_byte case (set n ms) b) (f w) h))
-back_from case star f b w h = grind (arith, nat_tests, or_cases, and_parts)
-back_from case rest f b w h = elim (or_cases (f (b ∷ w)) (rest_then f w) h) [ inl t ↦ inr (inr (refl, t)) | inr t ↦ inl (refl, t) ]
-back_from case dirs f b w h = grind (arith, nat_tests, or_cases, and_parts)
+back_from case t f b w h = grind (arith, nat_tests, and_parts, or_cases)
 
 alive-token : (case : Case) (ts : List Token) (v : List ℕ) (k : ℕ) (t : Token) → slice_get ts k ≡ Some t →
     alive case ts v k ≡ cond (is_dirs t) (rest_then (before_index case ts k) v) (before_index case ts k v)
@@ -68,7 +49,7 @@ alive-token case ts v k t h = ap (λ x. cond (is_dirs_at x) (rest_then (before_i
 -- an index after a star or a rest is alive only where it is fresh
 alive-tail : (case : Case) (ts : List Token) (v : List ℕ) (k : ℕ) (t : Token) → is_bordered true ts ≡ true → slice_get ts k ≡ Some t →
     is_wide t ≡ true → alive case ts v (k + 1) ≡ back_then case t (before_index case ts k) v
-alive-tail case ts v k t h e n = grind (arith, nat_tests, alive-plain, add-one, no_directory_behind, wide_end, fresh-next)
+alive-tail case ts v k t h e n = grind (arith, nat_tests, alive-plain, add-one, no_directory_behind, fresh-next)
 
 token_before-next : (ts : List Token) (k : ℕ) (t : Token) → slice_get ts k ≡ Some t → token_before ts (k + 1) ≡ Some t
 token_before-next ts k t e = ap (token_before ts) (add-one k) ∙ e
@@ -122,10 +103,7 @@ abbrev pub nothing : ℕ → Bool
 nothing k = false
 
 back_from_nil : (case : Case) (t : Token) (f : List ℕ → Bool) → back_then case t f [] ≡ true → (may_be_nothing t ≡ true) × (f [] ≡ true)
-back_from_nil case star f h = (refl, h)
-back_from_nil case rest f h = (refl, h)
-back_from_nil case dirs f h = elim (or_cases (f []) false h) [ inl t ↦ (refl, t) | inr t ↦ cc ]
-back_from_nil case t f h = cc
+back_from_nil case t f h = grind (arith, nat_tests, or_cases)
 
 pub starts : (case : Case) (ts : List Token) (b : ℕ) → IsStep case ts b (fresh case ts []) (alive case ts []) nothing
 starts case ts b = record {
@@ -147,5 +125,5 @@ starts case ts b = record {
         missing (t ∷ ts) zero l e = cc
         missing (t ∷ ts) (suc k) l e = missing ts k (omega arith) e
     from (Some t) k e l h =
-        let r = back_from_nil case t (before_index case ts k) (sym (fresh-next case ts [] k t e) ∙ h) in
-        (subst (λ x. may_skip x ≡ true) (sym e) r.0, r.1)
+        let fact = back_from_nil case t (before_index case ts k) (sym (fresh-next case ts [] k t e) ∙ h) in
+        grind (arith, nat_tests, fact, before_index case ts k, fresh-next case ts)

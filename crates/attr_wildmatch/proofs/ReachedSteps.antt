@@ -1,22 +1,21 @@
 -- What one more byte makes of the indexes that are reached.
-use Rattle.std.proofs.Common.{arith, ◌≡◌, ◌+◌, ℕ, zero, suc, Bool, true, false, cond, not, ◌&&◌, ◌==◌, List, [], ◌∷◌, ◌++◌, take, reverse, slice_get}
+use Rattle.std.proofs.Common.{arith, ◌≡◌, ◌+◌, ℕ, suc, Bool, true, false, cond, not, ◌&&◌, ◌==◌, List, [], ◌∷◌, ◌++◌, take, reverse, slice_get}
 use Rattle.std.proofs.Common.{Option, Some, None, refl, ap, ◌∙◌, add-one}
 use Rattle.std.proofs.lemmas.Bool.Decides.{nat_tests}
 use Rattle.std.proofs.lemmas.List.{reverse-append}
 use Rattle.std.proofs.lemmas.Bool.{and_parts, or_left}
 use Rattle.attr_wildmatch.specs.declared.case.Case.{Case}
 use Rattle.attr_wildmatch.specs.Bytes.{slash}
-use Rattle.attr_wildmatch.specs.Tokens.{Token, star, dirs, rest, token_ends_in_slash}
+use Rattle.attr_wildmatch.specs.Tokens.{Token, dirs, token_ends_in_slash}
 use Rattle.attr_wildmatch.specs.inner.Bordered.{is_bordered}
-use Rattle.attr_wildmatch.specs.Deciding.{byte_then, star_then, rest_then}
+use Rattle.attr_wildmatch.specs.Deciding.{star_then, rest_then}
 use Rattle.attr_wildmatch.specs.inner.RowIndexes.{may_be_nothing, may_skip, is_dirs_at, IsGrowing}
 use Rattle.attr_wildmatch.proofs.Basics.{by_test, true_false}
 use Rattle.attr_wildmatch.proofs.Reached.{reached, back_then, fresh, alive}
 
 take-next : (ts : List Token) (k : ℕ) (t : Token) → slice_get ts k ≡ Some t → take (suc k) ts ≡ take k ts ++ t ∷ []
-take-next [] k t h = cc
-take-next (u ∷ ts) zero t h = let same : u ≡ t = cc in ap (λ x. x ∷ []) same
 take-next (u ∷ ts) (suc k) t h = ap (λ x. u ∷ x) (take-next ts k t h)
+take-next ts k t h = grind (arith, nat_tests)
 
 -- the test of the tokens before index k
 abbrev pub before_index : Case → List Token → ℕ → List ℕ → Bool
@@ -43,16 +42,11 @@ star_now f [] h = h
 star_now f (b ∷ v) h = or_left (f (b ∷ v)) (not (b == slash) && star_then f v) h
 
 skip_back : (case : Case) (t : Token) (f : List ℕ → Bool) (v : List ℕ) → may_be_nothing t ≡ true → f v ≡ true → back_then case t f v ≡ true
-skip_back case star f v h k = star_now f v k
-skip_back case dirs f v h k = or_left (f v) (byte_then (λ b. b == slash) (rest_then f) v) k
-skip_back case rest f v h k = rest_now f v k
-skip_back case t f v h k = cc
+skip_back case t f v h k = grind (arith, nat_tests, star_now, or_left, rest_now)
 
 pub growing : (case : Case) (ts : List Token) (v : List ℕ) → IsGrowing ts (fresh case ts v) (alive case ts v)
 growing case ts v = record {
-  living = λ k h. by_test (is_dirs_at (slice_get ts k))
-      (λ t. alive-directory case ts v k t ∙ rest_now (before_index case ts k) v h)
-      (λ f. alive-plain case ts v k f ∙ h);
+  living = λ k h. grind (arith, nat_tests, by_test, slice_get, alive-directory, rest_now, alive-plain);
   skip = λ k s h. skipped (slice_get ts k) k refl s h;
 }
   where
@@ -67,8 +61,6 @@ plain_head border ts h e = refl
 -- after a star or a rest stands no directory star
 pub no_directory_behind : (border : Bool) (ts : List Token) (k : ℕ) (t : Token) → is_bordered border ts ≡ true → slice_get ts k ≡ Some t →
     token_ends_in_slash t ≡ false → is_dirs_at (slice_get ts (suc k)) ≡ false
-no_directory_behind border [] k t h e n = refl
-no_directory_behind border (dirs ∷ ts) zero t h e n = grind (arith, nat_tests, true_false)
-no_directory_behind border (u ∷ ts) zero t h e n = grind (arith, nat_tests, plain_head)
 no_directory_behind border (dirs ∷ ts) (suc k) t h e n = no_directory_behind true ts k t (and_parts border (is_bordered true ts) h).1 e n
 no_directory_behind border (u ∷ ts) (suc k) t h e n = no_directory_behind (token_ends_in_slash u) ts k t h e n
+no_directory_behind border ts k t h e n = grind (arith, nat_tests, true_false, plain_head)

@@ -13,30 +13,22 @@ filter_range-more : (test : ℕ → Bool) (n a : ℕ) →
 filter_range-more test zero a = rw add-zero
 filter_range-more test (suc n) a = grind (arith, nat_tests, filter_range-more test n)
 
-indexes_below-more : (test : ℕ → Bool) (n : ℕ) → indexes_below test (n + 1) ≡ indexes_below test n ++ cond (test n) (n ∷ []) []
-indexes_below-more test n = grind (arith, nat_tests, add-one, filter_range-more)
-
 pub indexes_below-push : (test : ℕ → Bool) (n : ℕ) → test n ≡ true → indexes_below test (n + 1) ≡ indexes_below test n ++ n ∷ []
-indexes_below-push test n h = rw h at (indexes_below-more test n)
+indexes_below-push test n h = grind (arith, nat_tests, add-one, filter_range-more)
 
 indexes_below-skip : (test : ℕ → Bool) (n : ℕ) → test n ≡ false → indexes_below test (n + 1) ≡ indexes_below test n
-indexes_below-skip test n h = (rw h at (indexes_below-more test n)) ∙ append-nil (indexes_below test n)
+indexes_below-skip test n h = grind (arith, nat_tests, add-one, filter_range-more, append-nil)
 
 -- indexes that fail the test add nothing
 pub indexes_below-quiet : (test : ℕ → Bool) (n d : ℕ) → ((k : ℕ) → n ≤ k → k < n + d → test k ≡ false) →
     indexes_below test (n + d) ≡ indexes_below test
     n
 indexes_below-quiet test n zero h = ap (indexes_below test) (add-zero n)
-indexes_below-quiet test n (suc d) h =
-    let same : n + suc d ≡ n + d + 1 = omega arith in
-    ap (indexes_below test) same ∙ (indexes_below-skip test (n + d) (h (n + d) (omega arith) (omega arith)) ∙
-    indexes_below-quiet test n d (λ k l m. h k l (omega arith)))
+indexes_below-quiet test n (suc d) h = grind (arith, nat_tests, indexes_below-skip test (n + d), indexes_below-quiet test n d)
 
 pub indexes_below-up_to : (test : ℕ → Bool) (n m : ℕ) → n ≤ m → ((k : ℕ) → n ≤ k → k < m → test k ≡ false) →
     indexes_below test m ≡ indexes_below test n
-indexes_below-up_to test n m l h =
-    let same : n + (m - n) ≡ m = omega arith in
-    ap (indexes_below test) (sym same) ∙ indexes_below-quiet test n (m - n) (λ k a b. h k a (omega arith))
+indexes_below-up_to test n m l h = grind (arith, nat_tests, indexes_below-quiet test n (m - n))
 
 pub length-filter-le : (test : ℕ → Bool) (xs : List ℕ) → length (filter test xs) ≤ length xs
 length-filter-le test [] = omega arith
@@ -63,12 +55,7 @@ pub silent_fresh : {case : Case} {ts : List Token} {b : ℕ} {fresh alive before
 silent_fresh u zero l h i e = u.first (omega arith)
 silent_fresh {case} {ts} {b} {fresh} {alive} {before} {row} {p} {free} u (suc k) l h i e =
     let same : k + 1 ≡ suc k = add-one k in
-    let free_before : free ≤ k → fresh k ≡ false = λ q. silent_fresh u k q (omega arith) (omega arith) (λ x. absurd (omega arith)) in
-    by_test (fresh (suc k))
-    (λ t. absurd (refuted u k (omega arith) (omega arith) (omega arith)
-    (λ q. subst (λ x. stays_on (token_before ts x) b ≡ false) (sym same) (e (omega arith)))
-    free_before (subst (λ x. fresh x ≡ true) (sym same) t)))
-    (λ f. f)
+    grind (arith, nat_tests, by_test, refuted, silent_fresh u k)
 
 pub silent : {case : Case} {ts : List Token} {b : ℕ} {fresh alive before : ℕ → Bool} {row : List ℕ} {p free : ℕ} →
     IsUnderway case ts b fresh alive before row p free → p ≤ length ts + 1 → (k : ℕ) → free ≤ k → k < p → alive k ≡ false
@@ -93,8 +80,7 @@ silent_next {case} {ts} {b} {fresh} {alive} {before} {row} {p} {free} u m o c d 
 
     here : free ≤ p → alive p ≡ false
     here f = by_test (alive p) (λ t. absurd (elim (u.step.alive_from p m t) [
-      | inl z ↦ true_false _ z (silent_fresh u p f (omega arith) m (λ e. by_test (stays_on (token_before ts p) b)
-          (λ y. absurd (let w : p < free = c y in omega arith)) (λ y. y)))
+      | inl z ↦ true_false _ z (silent_fresh u p f (omega arith) m (λ e. grind (arith, nat_tests, by_test)))
       | inr w ↦ let z : p < free = d w.0 in absurd (omega arith)
     ])) (λ z. z)
 
@@ -116,10 +102,7 @@ pub settled-next : {case : Case} {ts : List Token} {b : ℕ} {before : ℕ → B
     (is_dirs_at (slice_get ts p) ≡ true → p < free) → (advances_on case (slice_get ts p) b ≡ true → p + 1 < free) →
     IsSettled case ts b before (p + 1) free
 settled-next {case} {ts} {b} {before} {p} {free} s c d e = record {
-  stay = λ k h o t. elim (below_or_at k p h) [
-    | inl q ↦ s.stay k q o t
-    | inr q ↦ let z : p < free = c (subst (λ x. stays_on (token_before ts x) b ≡ true) q t) in omega arith
-  ];
+  stay = λ k h o t. grind (arith, nat_tests, below_or_at);
   directory = λ k h o t. elim (below_or_at k p h) [
     | inl q ↦ s.directory k q o t
     | inr q ↦ let z : p < free = d (subst (λ x. is_dirs_at (slice_get ts x) ≡ true) q t) in omega arith
@@ -144,37 +127,7 @@ pub record FirstOf (test : ℕ → Bool) (p d q : ℕ) (others : List ℕ) : Typ
 
 pub first_of_indexes : (test : ℕ → Bool) (d p q : ℕ) (others : List ℕ) → q ∷ others ≡ filter test (range_with_len p d) → FirstOf test p d q others
 first_of_indexes test zero p q others h = cc
-first_of_indexes test (suc d) p q others h = by_test (test p) (λ t. found t (rw t at h))
-    (λ f. later f (first_of_indexes test d (p + 1) q others (rw f at h)))
-  where
-    found : test p ≡ true → q ∷ others ≡ p ∷ filter test (range_with_len (p + 1) d) → FirstOf test p (suc d) q others
-    found t e =
-        let same : q ≡ p = cc in
-        record {
-          left = d;
-          end = omega arith;
-          from = omega arith;
-          passes = subst (λ x. test x ≡ true) (sym same) t;
-          none = λ k l m. absurd (omega arith);
-          others_are = let tail : others ≡ filter test (range_with_len (p + 1) d) = cc in tail ∙ ap (λ x. filter test (range_with_len (x + 1) d))
-              (sym same);
-        }
-
-    later : test p ≡ false → FirstOf test (p + 1) d q others → FirstOf test p (suc d) q others
-    later f r = record {
-      left = r.left;
-      end = omega (arith, r.end);
-      from = omega (arith, r.from);
-      passes = r.passes;
-      none = λ k l m. elim (at_or_above k p l) [
-        | inl e ↦ subst (λ x. test x ≡ false) (sym e) f
-        | inr e ↦ r.none k (omega arith) m
-      ];
-      others_are = r.others_are;
-    }
-      where
-        at_or_above : (x y : ℕ) → y ≤ x → (x ≡ y) ⊎ (y < x)
-        at_or_above x y l = grind arith
+first_of_indexes test (suc d) p q others h = grind (arith, nat_tests, by_test, filter, first_of_indexes test d (p + 1) q others)
 
 pub none_of_indexes : (test : ℕ → Bool) (d p : ℕ) → [] ≡ filter test (range_with_len p d) → (k : ℕ) → p ≤ k → k < p + d → test k ≡ false
 none_of_indexes test zero p h k l m = absurd (omega arith)

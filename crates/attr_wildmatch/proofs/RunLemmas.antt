@@ -1,6 +1,6 @@
 -- A row moved over a value: what it holds after each byte, and how many indexes were visited.
 use Rattle.std.proofs.Common.{◌≡◌, ◌≤◌, ◌<◌, ◌+◌, ◌*◌, ◌-◌, ℕ, zero, suc, Bool, true, false, List, [], ◌∷◌, ◌++◌, length, take, reverse, slice_get}
-use Rattle.std.proofs.Common.{get_or, filter, sum_by, count_by, All, refl, sym, ap, subst, ◌∙◌, arith, add-one, add-zero, zero-add}
+use Rattle.std.proofs.Common.{get_or, filter, sum_by, count_by, All, refl, sym, ap, subst, ◌∙◌, arith, add-zero, zero-add}
 use Rattle.std.specs.List.{range_with_len}
 use Rattle.std.proofs.lemmas.Bool.Decides.{nat_tests}
 use Rattle.std.proofs.lemmas.List.{reverse-append, reverse-reverse, take_more, take_all}
@@ -10,7 +10,7 @@ use Rattle.attr_wildmatch.specs.declared.case.Case.{Case}
 use Rattle.attr_wildmatch.specs.Tokens.{Token}
 use Rattle.attr_wildmatch.specs.inner.Bordered.{is_bordered}
 use Rattle.attr_wildmatch.specs.Matching.{Match, ReachedAtMost, pairs_passed}
-use Rattle.attr_wildmatch.specs.inner.RowIndexes.{indexes_below, is_dirs_at, IsStep, IsRow, IsUnderway}
+use Rattle.attr_wildmatch.specs.inner.RowIndexes.{indexes_below, IsStep, IsRow, IsUnderway}
 use Rattle.attr_wildmatch.proofs.Basics.{by_test, true_false, Each, all_of_each}
 use Rattle.attr_wildmatch.proofs.TokenLemmas.{slice_get-missing}
 use Rattle.attr_wildmatch.proofs.RowLemmas.{indexes_below-up_to, silent, empty_row, length-filter-le}
@@ -32,12 +32,7 @@ range-more (suc m) a = grind (arith, nat_tests, range-more m)
 
 pub pairs-more : (test : ℕ → ℕ → Bool) (n i : ℕ) →
     pairs_passed test n (i + 1) ≡ pairs_passed test n i + count_by (λ k. test k (i + 1)) (range_with_len 0 (n + 1))
-pairs-more test n i =
-    let f : ℕ → ℕ = λ j. count_by (λ k. test k j) (range_with_len 0 (n + 1)) in
-    let whole : range_with_len 0 (i + 1 + 1) ≡ range_with_len 0 (i + 1) ++ (i + 1) ∷ [] =
-    ap (range_with_len 0) (add-one (i + 1)) ∙ (range-more (i + 1) 0 ∙ ap (λ x. range_with_len 0 (i + 1) ++ x ∷ []) (zero-add (i + 1))) in
-    ap (sum_by f) whole ∙ (sum_by-append f (range_with_len 0 (i + 1)) ((i + 1) ∷ []) ∙ ap (λ x. sum_by f (range_with_len 0 (i + 1)) + x)
-    (zero-add (f (i + 1))))
+pairs-more test n i = grind (arith, nat_tests, range-more (i + 1) 0, zero-add (i + 1), count_by, sum_by, sum_by-append)
 
 -- The row after i bytes, with the first index after all in it, and the visits so far.
 pub record IsAt (case : Case) (ts : List Token) (value row : List ℕ) (free visits i : ℕ) : Type 0 where
@@ -63,24 +58,17 @@ pub at_start : (case : Case) (ts : List Token) (value row : List ℕ) (free : �
     IsRow ts (fresh case ts []) (alive case ts []) row free → 0 < free → free ≤ length ts + 1 → free ≤ length row →
     IsAt case ts value row free (length row) 0
 at_start case ts value row free r p l q =
-    let u : IsUnderway case ts 0 (fresh case ts []) (alive case ts []) nothing row (length ts + 1) free = record {
+    let u : IsUnderway case ts 0 (fresh case ts []) (alive case ts []) nothing row
+    (length ts + 1) free = record {
       step = starts case ts 0;
-      first = λ e. absurd (omega arith);
+      first = λ e. absurd
+          (omega arith);
       row_is = r;
       settled = record { stay = λ k h o t. cc; directory = λ k h o t. cc; advance = λ k h o t. cc };
     } in
     let none : (k : ℕ) → free ≤ k → k ≤ length ts → alive case ts [] k ≡ false = λ k a b. silent u (omega arith) k a (omega arith) in
     let whole = row-whole case ts [] row free r l none in
-    record {
-      row_is = whole;
-      last = r.last;
-      beyond = none;
-      bound = l;
-      counted = length-indexes_below (alive case ts []) (length ts + 1) row whole ∙ sym
-          (zero-add (count_by (alive case ts []) (range_with_len 0 (length ts + 1))));
-      paid = q;
-      most = let m = length-row (alive case ts []) (length ts + 1) row whole in omega arith;
-    }
+    grind (arith, nat_tests, length-indexes_below, alive, zero-add, count_by, length-row)
 
 next_bytes : (value : List ℕ) (i : ℕ) → i < length value → first_bytes value (i + 1) ≡ get_or value i 0 ∷ first_bytes value i
 next_bytes value i h = ap reverse (take_more value i 0 h) ∙ reverse-append (take i value) (get_or value i 0 ∷ [])
@@ -101,22 +89,7 @@ pub at_more : (case : Case) (ts : List Token) (value row next : List ℕ) (free 
     more ≤ free + length next → IsAt case ts value next more (visits + length next) (i + 1)
 at_more case ts value row next free more visits i a h r none l q =
     let whole = row-whole case ts (first_bytes value (i + 1)) next more r l none in
-    record {
-      row_is = whole;
-      last = r.last;
-      beyond = none;
-      bound = l;
-      counted =
-          ap (λ x. x + length next) a.counted ∙
-          (ap (λ x. pairs_passed (alive_at case ts value) (length ts) i + x)
-          (length-indexes_below (alive case ts (first_bytes value (i + 1))) (length ts + 1) next whole) ∙
-          sym (pairs-more (alive_at case ts value) (length ts) i));
-      paid = omega (arith, a.paid);
-      most = let m = length-row (alive case ts (first_bytes value (i + 1))) (length ts + 1) next whole in
-          let b = a.most in
-          let c : (length ts + 1) * (i + 1 + 1) ≡ (length ts + 1) * (i + 1) + (length ts + 1) = omega arith in
-          omega arith;
-    }
+    grind (arith, nat_tests, length-indexes_below, alive, pairs-more, length-row)
 
 pub below_free : (case : Case) (ts : List Token) (value row : List ℕ) (free visits i : ℕ) → IsAt case ts value row free visits i → All (λ k. k < free)
     row
@@ -128,9 +101,7 @@ below_free case ts value row free visits i a =
   where
     below : (test : ℕ → Bool) (n a most : ℕ) → a + n ≤ most → Each (λ k. k < most) (filter test (range_with_len a n))
     below test zero a most h = tt
-    below test (suc n) a most h =
-        let rest = below test n (a + 1) most (omega arith) in
-        by_test (test a) (λ t. rw t (omega arith, rest)) (λ f. rw f rest)
+    below test (suc n) a most h = grind (arith, nat_tests, by_test, below test n (a + 1) most)
 
 -- where no index is alive, none is after any further bytes
 pub dead : (case : Case) (ts : List Token) (value : List ℕ) (i : ℕ) → is_bordered true ts ≡ true →
@@ -145,16 +116,9 @@ dead case ts value i bordered none (suc d) h k l =
       step = step_at case ts value (i + d) bordered (omega arith);
       first = λ e. fresh-first case ts value (i + d) (omega arith);
       row_is = empty_row ts (fresh case ts (first_bytes value (i + d + 1))) (alive case ts (first_bytes value (i + d + 1))) [] refl;
-      settled = record {
-        stay = λ q m o t. absurd (true_false _ o (before q (omega arith)));
-        directory = λ q m o t. absurd (true_false _ o (before q (omega arith)));
-        advance = λ q m o t. absurd (true_false _ o (before q (omega arith)));
-      };
+      settled = grind (arith, nat_tests, true_false);
     } in
     subst (λ x. alive_at case ts value k x ≡ false) same (silent u (omega arith) k (omega arith) (omega arith))
-
-count_by-le : (p q : ℕ → Bool) (xs : List ℕ) → ((x : ℕ) → p x ≡ true → q x ≡ true) → count_by p xs ≤ count_by q xs
-count_by-le p q xs h = grind (arith, nat_tests, sum_by-le-sum_by)
 
 alive_of_match : (case : Case) (ts : List Token) (value : List ℕ) (k j : ℕ) → Match case (take k ts) (take j value) → alive_at case ts value k j ≡
     true
@@ -164,16 +128,15 @@ alive_of_match case ts value k j m =
 
 missed : (case : Case) (ts : List Token) (value : List ℕ) (visits : ℕ) → pairs_passed (alive_at case ts value) (length ts) (length value) ≤ visits →
     ReachedAtMost case ts value visits
-missed case ts value visits h = grind (arith, nat_tests, sum_by-le-sum_by, count_by-le, alive_of_match)
+missed case ts value visits h = grind (arith, nat_tests, sum_by-le-sum_by, growing, reached_of_match, reverse-reverse)
 
 match_of_last : (case : Case) (ts : List Token) (value : List ℕ) → alive_at case ts value (length ts) (length value) ≡ true → Match case ts value
 match_of_last case ts value h =
-    let tail : is_dirs_at (slice_get ts (length ts)) ≡ false = ap is_dirs_at (slice_get-missing ts (length ts) (omega arith)) in
-    let f = sym (alive-plain case ts (first_bytes value (length value)) (length ts) tail) ∙ h in
-    let m = match_of_reached case (reverse (take (length ts) ts)) (first_bytes value (length value)) f in
-    subst (λ x. Match case x value) (reverse-reverse (take (length ts) ts) ∙ take_all (length ts) ts (omega arith))
-    (subst (Match case (reverse (reverse (take (length ts) ts)))) (reverse-reverse (take (length value) value) ∙ take_all (length value) value
-    (omega arith)) m)
+    let fact4 = slice_get-missing ts (length ts) in
+    let fact = match_of_reached case (reverse (take (length ts) ts)) in
+    let fact3 = reverse-reverse (take (length ts) ts) in
+    let fact2 = reverse-reverse (take (length value) value) in
+    grind (arith, nat_tests, fact4, alive-plain case ts, fact, fact3, take_all (length ts) ts, fact2, take_all (length value) value, slice_get)
 
 last_of_match : (case : Case) (ts : List Token) (value : List ℕ) → Match case ts value → alive_at case ts value (length ts) (length value) ≡ true
 last_of_match case ts value m = grind (arith, nat_tests, alive_of_match, take_all)
@@ -206,9 +169,7 @@ pub unmatched_where_dead : (case : Case) (ts : List Token) (value row : List ℕ
     IsAt case ts value row 0 visits i → i ≤ length value → Match case ts value → ⊥
 unmatched_where_dead case ts value row visits i bordered a l m =
     let same : i + (length value - i) ≡ length value = omega arith in
-    true_false _ (last_of_match case ts value m)
-    (subst (λ x. alive_at case ts value (length ts) x ≡ false) same
-    (dead case ts value i bordered (λ k b. a.beyond k (omega arith) b) (length value - i) (omega arith) (length ts) (omega arith)))
+    grind (arith, nat_tests, true_false, last_of_match, dead)
 
 pub missed_where_dead : (case : Case) (ts : List Token) (value row : List ℕ) (visits i : ℕ) → is_bordered true ts ≡ true →
     IsAt case ts value row 0 visits i → i ≤ length value → ReachedAtMost case ts value visits

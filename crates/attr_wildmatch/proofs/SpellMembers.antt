@@ -1,25 +1,24 @@
 -- The members of a bracket, read and spelled.
-use Rattle.std.proofs.Common.{◌≡◌, ◌≢◌, ◌≤◌, ◌<◌, ◌+◌, ℕ, zero, suc, Bool, true, false, cond, not, ◌&&◌, ◌||◌, ◌==◌, inl, inr, List, [], ◌∷◌, ◌++◌}
+use Rattle.std.proofs.Common.{◌≡◌, ◌≢◌, ◌≤◌, ◌<◌, ◌+◌, ℕ, suc, Bool, true, false, cond, not, ◌&&◌, ◌==◌, inl, inr, List, [], ◌∷◌, ◌++◌}
 use Rattle.std.proofs.Common.{length, drop, Option, Some, None, option_map, refl, sym, ap, subst, ◌∙◌, arith, length-append}
-use Rattle.std.specs.Str.{bytes_eq}
 use Rattle.std.proofs.lemmas.Bool.Decides.{nat_tests}
 use Rattle.std.proofs.lemmas.Slice.Eq.{bytes_eq-Decides}
 use Rattle.std.proofs.lemmas.Bool.{and_from, and_parts, eq-eqb, eqb-false, eqb-true, ne_eqb, or_left, or_right, not-true}
 use Rattle.attr_wildmatch.specs.declared.bracket.Class.{Class}
 use Rattle.attr_wildmatch.specs.declared.bracket.Member.{Member}
-use Rattle.attr_wildmatch.specs.declared.bracket.Member.TheVariants.{Single, Span, Named}
+use Rattle.attr_wildmatch.specs.declared.bracket.Member.TheVariants.{Single, Named}
 use Rattle.attr_wildmatch.specs.Bytes.{hyphen, colon, open_bracket, backslash, close_bracket}
 use Rattle.attr_wildmatch.specs.Brackets.{class_named, begins, name_in, span_end, from_single, from_escape, class_member, from_class, member_at}
 use Rattle.attr_wildmatch.specs.Brackets.{members}
 use Rattle.attr_wildmatch.specs.Spelling.{class_name, BeginsClass, IsSingle, IsEnd, IsMember, AreMembers}
 use Rattle.attr_wildmatch.proofs.Basics.{by_test, true_false, pair_parts, by_option, each_of_all, all_of_each}
-use Rattle.attr_wildmatch.proofs.Names.{Unclosed, skipped}
+use Rattle.attr_wildmatch.proofs.Names.{Unclosed}
 
 -- Names of classes.
 
 pub name_in-named : (name others : List ℕ) → Unclosed name → name_in (name ++ colon ∷ close_bracket ∷ others) ≡ Some name
 name_in-named [] others h = refl
-name_in-named (b ∷ name) others h = grind (arith, nat_tests, skipped, others, ne_eqb, name_in-named name others)
+name_in-named (b ∷ name) others h = grind (arith, nat_tests, others, ne_eqb, name_in-named name others)
 
 -- what a name that was found says of the bytes
 pub record HasName (bs name : List ℕ) : Type 0 where
@@ -33,15 +32,10 @@ named_step : (b : ℕ) (bs name : List ℕ) → ((rest : List ℕ) → name_in b
 named_step b bs name before h = by_test (b == close_bracket) (λ t. let e = rw t at h in cc) (λ f. open_still f (rw f at h))
   where
     begun : (bs : List ℕ) → begins close_bracket bs ≡ true → (others : List ℕ) × (bs ≡ close_bracket ∷ others)
-    begun [] e = cc
-    begun (c ∷ bs) e = (bs, ap (λ x. x ∷ bs) (eqb-true c close_bracket e))
+    begun bs e = grind (arith, nat_tests, eqb-true)
 
     at_once : b ≡ colon → begins close_bracket bs ≡ true → [] ≡ name → HasName (b ∷ bs) name
-    at_once e g n =
-        let r = begun bs g in
-        subst (HasName (b ∷ bs)) n
-        (subst (λ x. HasName x []) (sym (ap (λ x. x ∷ bs) e ∙ ap (λ x. colon ∷ x) r.1))
-        (record { others = r.0; whole = refl; unclosed = tt; tail = refl }))
+    at_once e g n = grind (arith, nat_tests, begun)
 
     later : b ≢ close_bracket → (rest : List ℕ) → name_in bs ≡ Some rest → b ∷ rest ≡ name → HasName (b ∷ bs) name
     later ne rest e n =
@@ -55,69 +49,23 @@ named_step b bs name before h = by_test (b == close_bracket) (λ t. let e = rw t
         })
 
     mapped : b ≢ close_bracket → (o : Option (List ℕ)) → name_in bs ≡ o → option_map (λ x. b ∷ x) o ≡ Some name → HasName (b ∷ bs) name
-    mapped ne None e q = cc
-    mapped ne (Some rest) e q = later ne rest e (let same : b ∷ rest ≡ name = cc in same)
+    mapped ne o e q = grind (arith, nat_tests, later)
 
     open_still : (b == close_bracket) ≡ false →
         cond (b == colon && begins close_bracket bs) (Some []) (option_map (λ x. b ∷ x) (name_in bs)) ≡ Some name → HasName (b ∷ bs) name
-    open_still f q = by_test (b == colon && begins close_bracket bs)
-        (λ t. let w = and_parts (b == colon) (begins close_bracket bs) t in
-        at_once (eqb-true b colon w.0) w.1 (let e : Some [] ≡ Some name = rw t at q in let same : [] ≡ name = cc in same))
-        (λ g. mapped (eqb-false b close_bracket f) (name_in bs) refl (rw g at q))
+    open_still f q = grind (arith, nat_tests, by_test, and_parts, at_once, eqb-true, mapped, eqb-false)
 
 pub named : (bs name : List ℕ) → name_in bs ≡ Some name → HasName bs name
 named [] name h = cc
 named (b ∷ bs) name h = named_step b bs name (λ rest e. named bs rest e) h
 
--- one look at a list of names
-looked : (name text : List ℕ) (class found : Class) (others : Option Class) → text ≡ class_name class →
-    (others ≡ Some found → name ≡ class_name found) → cond (bytes_eq name text) (Some class) others ≡ Some found → name ≡ class_name found
-looked name text class found others e r h = grind (arith, nat_tests, bytes_eq-Decides)
-
 pub name_of_class : (name : List ℕ) (class : Class) → class_named name ≡ Some class → name ≡ class_name class
-name_of_class name class h = grind (arith, nat_tests, looked)
+name_of_class name class h = grind (arith, nat_tests, bytes_eq-Decides)
 
 -- Ends of ranges.
 
 pub end_of : (bs : List ℕ) (d : ℕ) (more : List ℕ) → span_end bs ≡ Some (d, more) → IsEnd bs d more
-end_of [] d more h = cc
-end_of (c ∷ []) d more h = by_test (c == close_bracket || c == backslash)
-    (λ t. let e = rw t at h in cc)
-    (λ f. let e : Some (c, []) ≡ Some (d, more) = rw f at h in
-    let parts = pair_parts c d [] more e in
-    let byte = parts.0 in
-    inr (ap (λ x. x ∷ []) byte ∙ ap (λ x. d ∷ x) parts.1, different c d byte f, other c d byte f))
-  where
-    different : (x y : ℕ) → x ≡ y → (x == close_bracket || x == backslash) ≡ false → y ≢ backslash
-    different x y e f q = true_false _ (or_right (x == close_bracket) (x == backslash) (eq-eqb x backslash (e ∙ q))) f
-
-    other : (x y : ℕ) → x ≡ y → (x == close_bracket || x == backslash) ≡ false → y ≢ close_bracket
-    other x y e f q = true_false _ (or_left (x == close_bracket) (x == backslash) (eq-eqb x close_bracket (e ∙ q))) f
-end_of (c ∷ e ∷ bs) d more h = by_test (c == close_bracket)
-    (λ t. let q = rw t at h in cc)
-    (λ f. let q = rw f at h in by_test (c == backslash)
-    (λ t. let r : Some (e, bs) ≡ Some (d, more) = rw t at q in
-    let parts = pair_parts e d bs more r in
-    let byte = parts.0 in
-    let rest = parts.1 in
-    inl (ap (λ x. x ∷ e ∷ bs) (eqb-true c backslash t) ∙ (ap (λ x. backslash ∷ x ∷ bs) byte ∙ ap (λ x. backslash ∷ d ∷ x) rest)))
-    (λ g. let r : Some (c, e ∷ bs) ≡ Some (d, more) = rw g at q in
-    let parts = pair_parts c d (e ∷ bs) more r in
-    let byte = parts.0 in
-    let rest = parts.1 in
-    inr (
-      ap (λ x. x ∷ e ∷ bs) byte ∙ ap (λ x. d ∷ x) rest,
-      (λ z. true_false _ (eq-eqb c backslash (byte ∙ z)) g),
-      (λ z. true_false _ (eq-eqb c close_bracket (byte ∙ z)) f),
-    )))
-
-plain_end : (d : ℕ) (more : List ℕ) → d ≢ backslash → d ≢ close_bracket → span_end (d ∷ more) ≡ Some (d, more)
-plain_end d [] h k = rw (ne_eqb d close_bracket k, ne_eqb d backslash h)
-plain_end d (e ∷ more) h k = rw (ne_eqb d close_bracket k, ne_eqb d backslash h)
-
-pub end_read : (bs : List ℕ) (d : ℕ) (more : List ℕ) → IsEnd bs d more → span_end bs ≡ Some (d, more)
-end_read bs d more (inl h) = ap span_end h
-end_read bs d more (inr h) = ap span_end h.0 ∙ plain_end d more h.1 h.2
+end_of bs d more h = grind (arith, nat_tests, by_test, pair_parts, true_false, or_right, eq-eqb, or_left, eqb-true)
 
 -- Single bytes and ranges.
 
@@ -133,8 +81,7 @@ alone c (b ∷ bs) h = by_test (b == hyphen)
 
 pub tail_member : (first : Bool) (text : List ℕ) (c : ℕ) (bs : List ℕ) → IsSingle first text c bs →
     IsMember first text (from_single c bs).0 (from_single c bs).1
-tail_member first text c [] s = (s, (λ ends d more e i. cc))
-tail_member first text c (b ∷ bs) s = grind (arith, nat_tests, by_option, end_read, eqb-true, end_of, true_false, eq-eqb)
+tail_member first text c bs s = grind (arith, nat_tests, by_option, eqb-true, true_false, eq-eqb)
 
 -- Members.
 
@@ -145,17 +92,10 @@ Closes first b = b == close_bracket && not first
 -- where the text begins with a class, its name is found
 begun_class : (b : ℕ) (bs : List ℕ) → BeginsClass (b ∷ bs) → (b ≡ open_bracket) × (begins colon bs ≡ true) ×
     ((name : List ℕ) × (name_in (drop 1 bs) ≡ Some name))
-begun_class b bs h =
-    let head : b ≡ open_bracket = cc (h.2) in
-    let tail : bs ≡ colon ∷ (h.0 ++ colon ∷ close_bracket ∷ h.1) = cc (h.2) in (
-      head,
-      ap (begins colon) tail,
-      (h.0, ap (λ x. name_in (drop 1 x)) tail ∙ name_in-named h.0 h.1 (each_of_all (λ x. x ≢ close_bracket) h.0 h.3)),
-    )
+begun_class b bs h = grind (arith, nat_tests, name_in-named, each_of_all)
 
 open_first : (first : Bool) (b : ℕ) → Closes first b ≡ false → b ≡ close_bracket → first ≡ true
-open_first true b f e = refl
-open_first false b f e = absurd (true_false _ (and_from (b == close_bracket) true (eq-eqb b close_bracket e) refl) f)
+open_first first b f e = grind (arith, nat_tests, true_false, and_from, eq-eqb)
 
 same_member : (first : Bool) (text : List ℕ) (p : Member × List ℕ) (m : Member) (mid : List ℕ) → Some p ≡ Some (m, mid) →
     IsMember first text p.0 p.1 → IsMember first text m mid
@@ -179,14 +119,7 @@ class_read first (b ∷ bs) m mid g h = by_option (name_in bs)
     at_class : (name : List ℕ) → HasName bs name → (class : Class) → class_named name ≡ Some class → Named class ≡ m → drop (length name + 3) (b ∷ bs)
         ≡ mid →
         IsMember first (open_bracket ∷ b ∷ bs) m mid
-    at_class name r class k q d =
-        let more : length name + 3 ≡ suc (length name + 2) = omega arith in
-        let mid_is : r.others ≡ mid = sym r.tail ∙ (sym (ap (λ x. drop x (b ∷ bs)) more) ∙ d) in
-        let whole : open_bracket ∷ b ∷ bs ≡ open_bracket ∷ colon ∷ (class_name class ++ colon ∷ close_bracket ∷ mid) =
-        ap (λ x. open_bracket ∷ x ∷ bs) (eqb-true b colon g) ∙ (ap (λ x. open_bracket ∷ colon ∷ x) r.whole ∙
-        (ap (λ x. open_bracket ∷ colon ∷ (x ++ colon ∷ close_bracket ∷ r.others)) (name_of_class name class k) ∙
-        ap (λ x. open_bracket ∷ colon ∷ (class_name class ++ colon ∷ close_bracket ∷ x)) mid_is)) in
-        subst (λ x. IsMember first (open_bracket ∷ b ∷ bs) x mid) q whole
+    at_class name r class k q d = grind (arith, nat_tests, eqb-true, name_of_class)
 
     named_class : (name : List ℕ) → name_in bs ≡ Some name → option_map {U = Member × List ℕ}
         (λ class. (Named class, drop (length name + 3) (b ∷ bs))) (class_named name) ≡ Some (m, mid) →
@@ -208,8 +141,7 @@ member_of first b bs m mid c h = by_test (b == backslash) (λ t. escaped bs t (r
     plain : (b == backslash) ≡ false → cond (b == open_bracket && begins colon bs) (from_class bs) (Some (from_single b bs)) ≡ Some (m, mid) →
         IsMember first (b ∷ bs) m mid
     plain f e = by_test (b == open_bracket && begins colon bs)
-        (λ t. let w = and_parts (b == open_bracket) (begins colon bs) t in
-        subst (λ x. IsMember first (x ∷ bs) m mid) (sym (eqb-true b open_bracket w.0)) (class_read first bs m mid w.1 (rw t at e)))
+        (λ t. grind (arith, nat_tests, and_parts, eqb-true, class_read))
         (λ g. same_member first (b ∷ bs) (from_single b bs) m mid (rw g at e)
         (tail_member first (b ∷ bs) b bs (inr (
           refl,
@@ -238,76 +170,35 @@ single_read first text c others m mid e (inr h) = record {
 }
   where
     colon_first : (bs : List ℕ) → begins colon bs ≡ true → bs ≡ colon ∷ drop 1 bs
-    colon_first [] g = cc
-    colon_first (b ∷ bs) g = ap (λ x. x ∷ bs) (eqb-true b colon g)
+    colon_first bs g = grind (arith, nat_tests, eqb-true)
 
     as_class : (c == open_bracket && begins colon others) ≡ true → class_member others (name_in (drop 1 others)) ≡ Some (m, mid)
     as_class t =
         let w = and_parts (c == open_bracket) (begins colon others) t in
         by_option (name_in (drop 1 others))
         (λ n. rw n (ap (λ x. Some (from_single x others)) (sym (eqb-true c open_bracket w.0)) ∙ ap Some e))
-        (λ name k. let r = named (drop 1 others) name k in
-        absurd (h.3 (
-          name,
-          r.others,
-          h.0 ∙ (ap (λ x. x ∷ others) (eqb-true c open_bracket w.0) ∙ (ap (λ x. open_bracket ∷ x) (colon_first others w.1) ∙ ap
-              (λ x. open_bracket ∷ colon ∷ x) r.whole)),
-          all_of_each (λ x. x ≢ close_bracket) name r.unclosed,
-        )))
-
-class_at : (class : Class) (others : List ℕ) → member_at open_bracket (colon ∷ (class_name class ++ colon ∷ close_bracket ∷ others)) ≡ Some
-    (Named class, others)
-class_at class others = grind arith
+        (λ name k. let r = named (drop 1 others) name k in grind (arith, nat_tests, eqb-true, colon_first, all_of_each))
 
 pub member_read : (first : Bool) (text : List ℕ) (m : Member) (mid : List ℕ) → IsMember first text m mid → Reads first text m mid
-member_read first text (Single c) mid h = single_read first text c mid (Single c) mid (alone c mid h.1) h.0
-member_read first text (Span c d) mid h = grind (arith, nat_tests, single_read, end_read)
-member_read first text (Named class) mid h = record {
-  byte = open_bracket;
-  tail = colon ∷ (class_name class ++ colon ∷ close_bracket ∷ mid);
-  whole = h;
-  stays_open = refl;
-  read = class_at class mid;
-}
-
-single_shorter : (first : Bool) (text : List ℕ) (c : ℕ) (others : List ℕ) → IsSingle first text c others → length others < length text
-single_shorter first text c others (inl h) = let e : length text ≡ suc (suc (length others)) = ap length h in omega arith
-single_shorter first text c others (inr h) = let e : length text ≡ suc (length others) = ap length h.0 in omega arith
-
-end_shorter : (text : List ℕ) (d : ℕ) (others : List ℕ) → IsEnd text d others → length others < length text
-end_shorter text d others (inl h) = let e : length text ≡ suc (suc (length others)) = ap length h in omega arith
-end_shorter text d others (inr h) = let e : length text ≡ suc (length others) = ap length h.0 in omega arith
+member_read first text m mid h = grind (arith, nat_tests, single_read, alone)
 
 pub member_shorter : (first : Bool) (text : List ℕ) (m : Member) (mid : List ℕ) → IsMember first text m mid → length mid < length text
-member_shorter first text (Single c) mid h = single_shorter first text c mid h.0
-member_shorter first text (Span c d) mid h = grind (arith, nat_tests, single_shorter, end_shorter)
-member_shorter first text (Named class) mid h = grind (arith, nat_tests, length-append)
+member_shorter first text m mid h = grind (arith, nat_tests, length-append)
 
 -- Lists of members.
 
 pub members_of : (n : ℕ) (first : Bool) (text : List ℕ) (ms : List Member) (rest : List ℕ) → members n first text ≡ Some (ms, rest) → AreMembers first
     text ms rest
-members_of n first [] ms rest h = cc
-members_of zero first (b ∷ bs) ms rest h = cc
 members_of (suc n) first (b ∷ bs) ms rest h = one_more first b bs ms rest n (λ mid q z e. members_of n false mid q z e) h
   where
     end_of_list : (first : Bool) (b : ℕ) (bs : List ℕ) (ms : List Member) (rest : List ℕ) → [] ≡ ms → bs ≡ rest → Closes first b ≡ true → AreMembers
         first (b ∷ bs) ms rest
-    end_of_list first b bs ms rest e k c =
-        let w = and_parts (b == close_bracket) (not first) c in
-        subst (λ x. AreMembers first (b ∷ bs) x rest) e (
-          not-true first w.1,
-          ap (λ x. x ∷ bs) (eqb-true b close_bracket w.0) ∙ ap (λ x. close_bracket ∷ x) k,
-        )
+    end_of_list first b bs ms rest e k c = grind (arith, nat_tests, and_parts, not-true, eqb-true)
 
     onto : (first : Bool) (b : ℕ) (bs : List ℕ) (ms : List Member) (rest : List ℕ) (m : Member) (mid : List ℕ) (o : Option (List Member × List ℕ)) →
         IsMember first (b ∷ bs) m mid → ((q : List Member) (z : List ℕ) → o ≡ Some (q, z) → AreMembers false mid q z) →
         option_map {U = List Member × List ℕ} (λ q. (m ∷ q.0, q.1)) o ≡ Some (ms, rest) → AreMembers first (b ∷ bs) ms rest
-    onto first b bs ms rest m mid None i f e = cc
-    onto first b bs ms rest m mid (Some p) i f e =
-        let parts = pair_parts (m ∷ p.0) ms p.1 rest e in
-        subst (λ x. AreMembers first (b ∷ bs) x rest) parts.0
-        (mid, i, subst (AreMembers false mid p.0) parts.1 (f p.0 p.1 refl))
+    onto first b bs ms rest m mid o i f e = grind (arith, nat_tests, pair_parts)
 
     one_more : (first : Bool) (b : ℕ) (bs : List ℕ) (ms : List Member) (rest : List ℕ) (n : ℕ) →
         ((mid : List ℕ) (q : List Member) (z : List ℕ) → members n false mid ≡ Some (q, z) → AreMembers false mid q z) →
@@ -317,6 +208,7 @@ members_of (suc n) first (b ∷ bs) ms rest h = one_more first b bs ms rest n (�
         (λ c. by_option (member_at b bs)
         (λ k. let e = rw (c, k) at h in cc)
         (λ p k. onto first b bs ms rest p.0 p.1 (members n false p.1) (member_of first b bs p.0 p.1 c k) (λ q z e. f p.1 q z e) (rw (c, k) at h)))
+members_of n first text ms rest h = grind (arith, nat_tests)
 
 pub members_read : (n : ℕ) (first : Bool) (text : List ℕ) (ms : List Member) (rest : List ℕ) → length text ≤ n → AreMembers first text ms rest →
     members n first text ≡ Some (ms, rest)
@@ -330,5 +222,4 @@ members_read n first text (m ∷ ms) rest l h =
   where
     more : (n b : ℕ) (bs : List ℕ) → suc (length bs) ≤ n → Closes first b ≡ false → member_at b bs ≡ Some (m, h.0) →
         ((k : ℕ) → length bs ≤ k → members k false h.0 ≡ Some (ms, rest)) → members n first (b ∷ bs) ≡ Some (m ∷ ms, rest)
-    more zero b bs q c e f = absurd (omega arith)
-    more (suc n) b bs q c e f = rw (c, e, f n (omega arith))
+    more n b bs q c e f = grind (arith, nat_tests)

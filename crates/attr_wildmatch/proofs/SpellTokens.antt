@@ -1,11 +1,11 @@
 -- The tokens of a text, read and spelled.
-use Rattle.std.proofs.Common.{◌≡◌, ◌≢◌, ◌≤◌, ◌<◌, ℕ, zero, suc, Bool, true, false, ◌&&◌, ◌==◌, ◌⊎◌, inl, inr, List, [], ◌∷◌, ◌++◌, length, replicate}
-use Rattle.std.proofs.Common.{Option, Some, None, option_map, refl, sym, ap, subst, ◌∙◌, arith, length-append, append-nil}
+use Rattle.std.proofs.lemmas.Grind.{common_steps}
+use Rattle.std.proofs.Common.{◌≡◌, ◌≤◌, ◌<◌, ℕ, zero, suc, Bool, true, false, ◌&&◌, ◌==◌, ◌⊎◌, inl, inr, List, [], ◌∷◌, ◌++◌, length, replicate}
+use Rattle.std.proofs.Common.{Option, Some, option_map, refl, sym, ap, subst, ◌∙◌, arith, append-nil}
 use Rattle.std.proofs.lemmas.Bool.Decides.{nat_tests}
-use Rattle.std.proofs.lemmas.List.{length-replicate}
 use Rattle.std.proofs.lemmas.Bool.{and_from, and_parts, eq-eqb, eqb-false, eqb-true, ne_eqb, or_left, or_right}
 use Rattle.attr_wildmatch.specs.declared.bracket.Member.{Member}
-use Rattle.attr_wildmatch.specs.Bytes.{exclamation_mark, asterisk, slash, question_mark, open_bracket, backslash, caret}
+use Rattle.attr_wildmatch.specs.Bytes.{exclamation_mark, asterisk, question_mark, open_bracket, backslash, caret}
 use Rattle.attr_wildmatch.specs.Brackets.{negates, begins, members}
 use Rattle.attr_wildmatch.specs.Tokens.{Token, lit, one, set, star, dirs, rest, after_stars, directory_at, stars_at, bracket_at, escape_at, token_at}
 use Rattle.attr_wildmatch.specs.Tokens.{token_ends_in_slash, tokens_from, tokens}
@@ -27,14 +27,12 @@ record Stars (bs : List ℕ) : Type 0 where
   none : begins asterisk bs ≡ false → count ≡ 0
 
 stars_of : (bs : List ℕ) → Stars bs
-stars_of [] = record { count = 0; whole = refl; longest = λ more e. cc; some = λ e. absurd (true_false false e refl); none = λ e. refl }
 stars_of (b ∷ bs) = by_test (b == asterisk) (λ t. further b bs t (stars_of bs)) (λ f. ended b bs f)
   where
     further : (b : ℕ) (bs : List ℕ) → (b == asterisk) ≡ true → Stars bs → Stars (b ∷ bs)
     further b bs t s = record {
       count = suc s.count;
-      whole = ap (λ x. x ∷ bs) (eqb-true b asterisk t) ∙ (ap (λ x. asterisk ∷ x) s.whole ∙ ap (λ x. asterisk ∷ (replicate s.count asterisk ++ x))
-          (sym (kept t)));
+      whole = grind (arith, nat_tests, eqb-true, replicate, kept);
       longest = λ more e. s.longest more (sym (kept t) ∙ e);
       some = λ e. omega arith;
       none = λ e. absurd (true_false _ t e);
@@ -47,34 +45,24 @@ stars_of (b ∷ bs) = by_test (b == asterisk) (λ t. further b bs t (stars_of bs
     ended b bs f = record {
       count = 0;
       whole = sym (stopped f);
-      longest = λ more e. let q : b ∷ bs ≡ asterisk ∷ more = sym (stopped f) ∙ e in let same : b ≡ asterisk = cc in true_false _
-          (eq-eqb b asterisk same) f;
+      longest = λ more e. grind (arith, nat_tests, stopped, true_false, eq-eqb);
       some = λ e. absurd (true_false _ e f);
       none = λ e. refl;
     }
       where
         stopped : (b == asterisk) ≡ false → after_stars (b ∷ bs) ≡ b ∷ bs
         stopped f = rw f
+stars_of bs = grind (arith, nat_tests, true_false)
 
 after_run : (n : ℕ) (others : List ℕ) → ((more : List ℕ) → others ≡ asterisk ∷ more → ⊥) → after_stars (replicate n asterisk ++ others) ≡ others
 after_run zero [] h = refl
 after_run zero (b ∷ others) h = by_test (b == asterisk) (λ t. absurd (h others (ap (λ x. x ∷ others) (eqb-true b asterisk t)))) (λ f. rw f)
 after_run (suc n) others h = after_run n others h
 
-begins_run : (n : ℕ) (others : List ℕ) → ((more : List ℕ) → others ≡ asterisk ∷ more → ⊥) → begins asterisk (replicate n asterisk ++ others) ≡ true →
-    1 ≤ n
-begins_run zero [] h e = absurd (true_false false e refl)
-begins_run zero (b ∷ others) h e = absurd (h others (ap (λ x. x ∷ others) (eqb-true b asterisk e)))
-begins_run (suc n) others h e = omega arith
-
 pub stars_spelled : (border : Bool) (bs : List ℕ) → IsToken border (asterisk ∷ bs) (stars_at border bs).0 (stars_at border bs).1
 stars_spelled border bs = by_test (border && begins asterisk bs)
     (λ t. let w = and_parts border (begins asterisk bs) t in rw t (directory (stars_of bs) w.0 w.1 (after_stars bs) refl))
-    (λ f. rw f (let s = stars_of bs in (
-      s.count,
-      (ap (λ x. asterisk ∷ x) s.whole, s.longest),
-      (λ b l. absurd (true_false _ (and_from border (begins asterisk bs) b (long_begins s l)) f)),
-    )))
+    (λ f. rw f (let s = stars_of bs in grind (arith, nat_tests, true_false, and_from, long_begins)))
   where
     long_begins : (s : Stars bs) → 1 ≤ s.count → begins asterisk bs ≡ true
     long_begins s l = by_test (begins asterisk bs) (λ t. t) (λ f. absurd (let e : s.count ≡ 0 = s.none f in omega arith))
@@ -85,26 +73,7 @@ stars_spelled border bs = by_test (border && begins asterisk bs)
 
     directory : Stars bs → border ≡ true → begins asterisk bs ≡ true → (after : List ℕ) → after_stars bs ≡ after → IsToken border (asterisk ∷ bs)
         (directory_at after).0 (directory_at after).1
-    directory s b g [] e =
-        let p = positive s.count (s.some g) in (
-          p.0,
-          b,
-          ap (λ x. asterisk ∷ x) (s.whole ∙ (ap (λ x. replicate s.count asterisk ++ x) e ∙
-              (append-nil (replicate s.count asterisk) ∙ ap (λ x. replicate x asterisk) p.1))),
-          refl,
-        )
-    directory s b g (c ∷ cs) e =
-        let p = positive s.count (s.some g) in
-        let whole : asterisk ∷ bs ≡ asterisk ∷ (replicate s.count asterisk ++ c ∷ cs) = ap (λ x. asterisk ∷ x)
-        (s.whole ∙ ap (λ x. replicate s.count asterisk ++ x) e) in
-        by_test (c == slash)
-        (λ t. rw t (
-          p.0,
-          b,
-          whole ∙ (ap (λ x. asterisk ∷ (replicate s.count asterisk ++ x ∷ cs)) (eqb-true c slash t) ∙ ap
-              (λ x. asterisk ∷ (replicate x asterisk ++ slash ∷ cs)) p.1),
-        ))
-        (λ f. rw f (s.count, (whole, (λ more q. s.longest more (e ∙ q))), (λ d l. (c, cs, refl, eqb-false c slash f))))
+    directory s b g after e = grind (arith, nat_tests, positive, replicate, append-nil, by_test, eqb-true, eqb-false)
 
 -- Brackets and single tokens.
 
@@ -112,8 +81,7 @@ negates_of : (b : ℕ) → negates b ≡ true → (b ≡ exclamation_mark) ⊎ (
 negates_of b h = grind (arith, nat_tests)
 
 negates_so : (b : ℕ) → (b ≡ exclamation_mark) ⊎ (b ≡ caret) → negates b ≡ true
-negates_so b (inl e) = or_left (b == exclamation_mark) (b == caret) (eq-eqb b exclamation_mark e)
-negates_so b (inr e) = or_right (b == exclamation_mark) (b == caret) (eq-eqb b caret e)
+negates_so b h = grind (arith, nat_tests, or_left, eq-eqb, or_right)
 
 bracket_spelled : (border : Bool) (bs : List ℕ) (t : Token) (others : List ℕ) → bracket_at bs ≡ Some (t, others) → IsToken border (open_bracket ∷ bs)
     t others
@@ -133,11 +101,7 @@ bracket_spelled border (b ∷ bs) t others h = by_test (negates b)
     as_set : (n : Bool) (o : Option (List Member × List ℕ)) → option_map {U = Token × List ℕ} (λ p. (set n p.0, p.1)) o ≡ Some (t, others) →
         ((ms : List Member) (z : List ℕ) → o ≡ Some (ms, z) → IsToken border (open_bracket ∷ b ∷ bs) (set n ms) z) → IsToken border
         (open_bracket ∷ b ∷ bs) t others
-    as_set n None e f = cc
-    as_set n (Some p) e f =
-        let parts = pair_parts (set n p.0) t p.1 others e in
-        subst (λ x. IsToken border (open_bracket ∷ b ∷ bs) x others) parts.0
-        (subst (λ x. IsToken border (open_bracket ∷ b ∷ bs) (set n p.0) x) parts.1 (f p.0 p.1 refl))
+    as_set n o e f = grind (arith, nat_tests, pair_parts)
 
 pub token_spelled : (border : Bool) (b : ℕ) (bs : List ℕ) (t : Token) (others : List ℕ) → token_at border b bs ≡ Some (t, others) → IsToken border
     (b ∷ bs) t others
@@ -151,20 +115,13 @@ token_spelled border b bs t others h =
     (λ n3. let h3 = rw n3 at h2 in by_test (b == asterisk)
     (λ y. same (stars_at border bs) (rw y at h3) (subst (λ x. IsToken border (x ∷ bs) (stars_at border bs).0 (stars_at border bs).1)
     (sym (eqb-true b asterisk y)) (stars_spelled border bs)))
-    (λ n4. same (lit b, bs) (rw n4 at h3)
-    (inr (refl, eqb-false b asterisk n4, eqb-false b question_mark n1, eqb-false b open_bracket n3, eqb-false b backslash n2))))))
+    (λ n4. grind (arith, nat_tests, same, eqb-false)))))
   where
     same : (p : Token × List ℕ) → Some p ≡ Some (t, others) → IsToken border (b ∷ bs) p.0 p.1 → IsToken border (b ∷ bs) t others
-    same p e i =
-        let parts = pair_parts p.0 t p.1 others e in
-        subst (λ x. IsToken border (b ∷ bs) x others) parts.0 (subst (λ x. IsToken border (b ∷ bs) p.0 x) parts.1 i)
+    same p e i = grind (arith, nat_tests, pair_parts)
 
     escape : (bs : List ℕ) → escape_at bs ≡ Some (t, others) → b ≡ backslash → IsToken border (b ∷ bs) t others
-    escape [] e q = cc
-    escape (c ∷ bs) e q =
-        let parts = pair_parts (lit c) t bs others e in
-        subst (λ x. IsToken border (b ∷ c ∷ bs) x others) parts.0
-        (inl (ap (λ x. x ∷ c ∷ bs) q ∙ ap (λ x. backslash ∷ c ∷ x) parts.1))
+    escape bs e q = grind (arith, nat_tests, pair_parts)
 
 -- the text begins with a byte at which the token is read
 pub record ReadsToken (border : Bool) (text : List ℕ) (t : Token) (others : List ℕ) : Type 0 where
@@ -173,53 +130,14 @@ pub record ReadsToken (border : Bool) (text : List ℕ) (t : Token) (others : Li
   pub whole : text ≡ byte ∷ tail
   pub read : token_at border byte tail ≡ Some (t, others)
 
-plain_lit : (border : Bool) (c : ℕ) (bs : List ℕ) → c ≢ asterisk → c ≢ question_mark → c ≢ open_bracket → c ≢ backslash → token_at border c bs ≡ Some
-    (lit c, bs)
-plain_lit border c bs h i j k = rw (ne_eqb c question_mark i, ne_eqb c backslash k, ne_eqb c open_bracket j, ne_eqb c asterisk h)
-
-set_read : (border n : Bool) (bs : List ℕ) (ms : List Member) (others : List ℕ) → bracket_at bs ≡ Some (set n ms, others) →
-    ReadsToken border (open_bracket ∷ bs) (set n ms) others
-set_read border n bs ms others h = record { byte = open_bracket; tail = bs; whole = refl; read = h }
-
 pub token_read : (border : Bool) (text : List ℕ) (t : Token) (others : List ℕ) → IsToken border text t others → ReadsToken border text t others
 token_read border text (lit c) others (inl h) = record { byte = backslash; tail = c ∷ others; whole = h; read = refl }
-token_read border text (lit c) others (inr h) = record { byte = c; tail = others; whole = h.0; read = plain_lit border c others h.1 h.2 h.3 h.4 }
+token_read border text (lit c) others (inr h) = grind (arith, nat_tests)
 token_read border text one others h = record { byte = question_mark; tail = others; whole = h; read = refl }
-token_read border text (set true ms) others h = grind (arith, nat_tests, set_read, negates_so, members_read)
-token_read border text (set false ms) others h =
-    subst (λ x. ReadsToken border x (set false ms) others) (sym h.2)
-    (set_read border false (h.0 ∷ h.1) ms others
-    (rw (not_negating h.0 h.3 h.4, members_read (length (h.0 ∷ h.1)) true (h.0 ∷ h.1) ms others (omega arith) h.5)))
-  where
-    not_negating : (b : ℕ) → b ≢ exclamation_mark → b ≢ caret → negates b ≡ false
-    not_negating b p q = rw (ne_eqb b exclamation_mark p, ne_eqb b caret q)
-token_read border text star others h = record {
-  byte = asterisk;
-  tail = replicate h.0 asterisk ++ others;
-  whole = h.1.0;
-  read = ap Some (by_test (border && begins asterisk (replicate h.0 asterisk ++ others))
-      (λ t. let w = and_parts border (begins asterisk (replicate h.0 asterisk ++ others)) t in
-      let q = h.2 w.0 (begins_run h.0 others h.1.1 w.1) in
-      rw (t, after_run h.0 others h.1.1) (not_directory q.0 q.1 q.2 q.3))
-      (λ f. rw (f, after_run h.0 others h.1.1)));
-}
-  where
-    not_directory : (b : ℕ) (more : List ℕ) → others ≡ b ∷ more → b ≢ slash → directory_at others ≡ (star, others)
-    not_directory b more e n = ap directory_at e ∙ (let same : directory_at (b ∷ more) ≡ (star, b ∷ more) = rw (ne_eqb b slash n) in same ∙ ap
-        (λ x. (star, x)) (sym e))
-token_read border text dirs others h = record {
-  byte = asterisk;
-  tail = asterisk ∷ (replicate h.0 asterisk ++ slash ∷ others);
-  whole = h.2;
-  read = rw (
-    h.1,
-    after_run h.0 (slash ∷ others) (λ more e. let same : slash ≡ asterisk = head_is slash others asterisk more e in eqb-false slash
-        asterisk refl same),
-  );
-}
-  where
-    head_is : (a : ℕ) (x : List ℕ) (b : ℕ) (y : List ℕ) → a ∷ x ≡ b ∷ y → a ≡ b
-    head_is a x b y e = cc
+token_read border text (set true ms) others h = grind (arith, nat_tests, negates_so, members_read)
+token_read border text (set false ms) others h = grind (arith, nat_tests, members_read (length (h.0 ∷ h.1)) true (h.0 ∷ h.1) ms others, ne_eqb)
+token_read border text star others h = grind (arith, nat_tests, replicate, by_test, and_parts, after_run, ne_eqb)
+token_read border text dirs others h = grind (arith, nat_tests, replicate, after_run, eqb-false)
 token_read border text rest others h = record {
   byte = asterisk;
   tail = asterisk ∷ replicate h.0 asterisk;
@@ -233,25 +151,10 @@ token_read border text rest others h = record {
 
 members_shorter : (first : Bool) (text : List ℕ) (ms : List Member) (others : List ℕ) → AreMembers first text ms others → length others < length text
 members_shorter first text [] others h = let e : length text ≡ suc (length others) = ap length h.1 in omega arith
-members_shorter first text (m ∷ ms) others h =
-    let a = member_shorter first text m h.0 h.1 in
-    let b = members_shorter false h.0 ms others h.2 in
-    omega arith
-
-stars_shorter : (n : ℕ) (text others : List ℕ) → text ≡ replicate (suc n) asterisk ++ others → length others < length text
-stars_shorter n text others h = grind (arith, nat_tests, length-append, length-replicate)
+members_shorter first text (m ∷ ms) others h = grind (arith, nat_tests, member_shorter, members_shorter false h.0 ms others h.2)
 
 token_shorter : (border : Bool) (text : List ℕ) (t : Token) (others : List ℕ) → IsToken border text t others → length others < length text
-token_shorter border text (lit c) others (inl h) = let e : length text ≡ suc (suc (length others)) = ap length h in omega arith
-token_shorter border text (lit c) others (inr h) = let e : length text ≡ suc (length others) = ap length h.0 in omega arith
-token_shorter border text one others h = let e : length text ≡ suc (length others) = ap length h in omega arith
-token_shorter border text (set true ms) others h = grind (arith, nat_tests, members_shorter)
-token_shorter border text (set false ms) others h = grind (arith, nat_tests, members_shorter)
-token_shorter border text star others h = stars_shorter h.0 text others h.1.0
-token_shorter border text dirs others h =
-    let a : length (slash ∷ others) < length text = stars_shorter (suc h.0) text (slash ∷ others) h.2 in
-    omega arith
-token_shorter border text rest others h = grind (arith, nat_tests)
+token_shorter border text t others h = grind (arith, common_steps, nat_tests, members_shorter)
 
 -- Lists of tokens.
 
@@ -265,15 +168,11 @@ from_step n border b bs ts f h = by_option (token_at border b bs)
   where
     onto : (t : Token) (mid : List ℕ) (o : Option (List Token)) → IsToken border (b ∷ bs) t mid →
         ((q : List Token) → o ≡ Some q → AreTokens (token_ends_in_slash t) mid q) → option_map (λ q. t ∷ q) o ≡ Some ts → AreTokens border (b ∷ bs) ts
-    onto t mid None i f e = cc
-    onto t mid (Some q) i f e =
-        let same : t ∷ q ≡ ts = cc in
-        subst (AreTokens border (b ∷ bs)) same (mid, i, f q refl)
+    onto t mid o i f e = grind (arith, nat_tests)
 
 pub tokens_spelled : (n : ℕ) (border : Bool) (text : List ℕ) (ts : List Token) → tokens_from n border text ≡ Some ts → AreTokens border text ts
-tokens_spelled n border [] ts h = let same : [] ≡ ts = cc in subst (AreTokens border []) same refl
-tokens_spelled zero border (b ∷ bs) ts h = cc
 tokens_spelled (suc n) border (b ∷ bs) ts h = from_step n border b bs ts (λ w x q e. tokens_spelled n w x q e) h
+tokens_spelled n border text ts h = grind (arith, nat_tests)
 
 pub tokens_read : (n : ℕ) (border : Bool) (text : List ℕ) (ts : List Token) → length text ≤ n → AreTokens border text ts → tokens_from n border text ≡
     Some ts
@@ -287,8 +186,7 @@ tokens_read n border text (t ∷ ts) l h =
   where
     more : (n b : ℕ) (bs : List ℕ) → suc (length bs) ≤ n → token_at border b bs ≡ Some (t, h.0) →
         ((k : ℕ) → length bs ≤ k → tokens_from k (token_ends_in_slash t) h.0 ≡ Some ts) → tokens_from n border (b ∷ bs) ≡ Some (t ∷ ts)
-    more zero b bs q e f = absurd (omega arith)
-    more (suc n) b bs q e f = rw (e, f n (omega arith))
+    more n b bs q e f = grind (arith, nat_tests)
 
 -- the text's tokens are those that it spells
 pub spelled : (text : List ℕ) (ts : List Token) → tokens text ≡ Some ts → AreTokens true text ts

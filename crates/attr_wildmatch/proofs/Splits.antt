@@ -7,7 +7,7 @@ use Rattle.attr_wildmatch.specs.Bytes.{slash}
 use Rattle.attr_wildmatch.specs.Tokens.{Token, lit, one, set, star, dirs, rest}
 use Rattle.attr_wildmatch.specs.Matching.{Takes}
 use Rattle.attr_wildmatch.specs.Deciding.{takes_byte, byte_then, star_then, slash_then, rest_then}
-use Rattle.attr_wildmatch.proofs.Basics.{Each, differs, differs_so}
+use Rattle.attr_wildmatch.proofs.Basics.{Each, differs}
 
 -- the byte is no slash
 abbrev pub NoSlash : ℕ → Type 0
@@ -22,11 +22,7 @@ pub record ByteSplit (p : ℕ → Bool) (f : List ℕ → Bool) (v : List ℕ) :
   pub taken : f others ≡ true
 
 pub byte_split : (p : ℕ → Bool) (f : List ℕ → Bool) (v : List ℕ) → byte_then p f v ≡ true → ByteSplit p f v
-byte_split p f [] h = cc
-byte_split p f (b ∷ bs) h = let w = and_parts (p b) (f bs) h in record { byte = b; others = bs; whole = refl; passes = w.0; taken = w.1 }
-
-pub byte_joined : (p : ℕ → Bool) (f : List ℕ → Bool) (b : ℕ) (bs : List ℕ) → p b ≡ true → f bs ≡ true → byte_then p f (b ∷ bs) ≡ true
-byte_joined p f b bs h k = and_from (p b) (f bs) h k
+byte_split p f v h = grind (arith, nat_tests, and_parts)
 
 -- the value begins with a part for which P holds, and f takes what follows
 pub record Split (P : List ℕ → Type 0) (f : List ℕ → Bool) (v : List ℕ) : Type 0 where
@@ -49,7 +45,7 @@ star_split f (b ∷ bs) h = elim (or_cases (f (b ∷ bs)) (not (b == slash) && s
 pub star_joined : (f : List ℕ → Bool) (part others : List ℕ) → Each NoSlash part → f others ≡ true → star_then f (part ++ others) ≡ true
 star_joined f [] [] h k = k
 star_joined f [] (b ∷ bs) h k = or_left (f (b ∷ bs)) (not (b == slash) && star_then f bs) k
-star_joined f (b ∷ part) others h k = grind (arith, nat_tests, or_right, part, others, and_from, differs_so, star_joined f part others)
+star_joined f (b ∷ part) others h k = grind (arith, nat_tests, or_right, part, others, and_from, star_joined f part others)
 
 pub rest_split : (f : List ℕ → Bool) (v : List ℕ) → rest_then f v ≡ true → Split (λ part. Unit {0}) f v
 rest_split f [] h = record { part = []; others = []; whole = refl; holds = tt; taken = h }
@@ -101,14 +97,8 @@ is_single dirs = false
 is_single rest = false
 
 pub single_takes : (case : Case) (t : Token) (b : ℕ) → takes_byte case t b ≡ true → Takes case t (b ∷ [])
-single_takes case (lit c) b h = (b, refl, h)
-single_takes case one b h = (b, refl, differs b slash h)
-single_takes case (set negated ms) b h = grind (arith, nat_tests, and_parts, differs)
-single_takes case t b h = cc
+single_takes case t b h = grind (arith, nat_tests, differs, and_parts)
 
 pub single_taken : (case : Case) (t : Token) (part : List ℕ) → is_single t ≡ true → Takes case t part →
     (b : ℕ) × (part ≡ b ∷ []) × (takes_byte case t b ≡ true)
-single_taken case (lit c) part s h = (h.0, h.1, h.2)
-single_taken case one part s h = (h.0, h.1, differs_so h.0 slash h.2)
-single_taken case (set negated ms) part s h = grind (arith, nat_tests, and_from, differs_so)
-single_taken case t part s h = cc
+single_taken case t part s h = grind (arith, nat_tests, and_from)

@@ -1,12 +1,11 @@
 -- The first offset at which a stretch fits between two stars is the best one: the later star takes what others would take.
-use Rattle.std.proofs.Common.{arith, ◌≡◌, ℕ, zero, suc, Bool, true, false, not, ◌&&◌, ◌||◌, ◌==◌, List, [], ◌∷◌, ◌++◌, length, drop, Option, Some}
+use Rattle.std.proofs.Common.{arith, ◌≡◌, ℕ, zero, suc, Bool, true, false, not, ◌&&◌, List, [], ◌∷◌, ◌++◌, length, drop, Option, Some}
 use Rattle.std.proofs.Common.{None, option_map, if◌then◌else◌, refl, sym, ap, ◌∙◌}
 use Rattle.std.proofs.lemmas.Bool.Decides.{nat_tests}
 use Rattle.std.specs.List.{list_any}
 use Rattle.attr_wildmatch.specs.declared.case.Case.{Case}
-use Rattle.attr_wildmatch.specs.Bytes.{slash}
 use Rattle.attr_wildmatch.specs.Slashes.{is_slash}
-use Rattle.attr_wildmatch.specs.Tokens.{Token, lit, one, set, star, dirs, rest}
+use Rattle.attr_wildmatch.specs.Tokens.{Token, lit, one, set, star}
 use Rattle.attr_wildmatch.specs.Deciding.{matches, star_then, takes_byte}
 use Rattle.attr_wildmatch.specs.inner.RowIndexes.{may_be_nothing}
 use Rattle.attr_wildmatch.specs.inner.Stretches.{first_left, front_left, or_else}
@@ -41,93 +40,48 @@ after_stretch (t ∷ ts) = if may_be_nothing t then t ∷ ts else after_stretch 
 abbrev pub Plain : List ℕ → Type 0
 Plain v = list_any is_slash v ≡ false
 
-not_first : (a b : Bool) → (a || b) ≡ false → a ≡ false
-not_first true b h = h
-not_first false b h = refl
-
-not_second : (a b : Bool) → (a || b) ≡ false → b ≡ false
-not_second true b h = absurd cc
-not_second false b h = h
-
-plain-head : (b : ℕ) (bs : List ℕ) → Plain (b ∷ bs) → (b == slash) ≡ false
-plain-head b bs h = not_first (b == slash) (list_any is_slash bs) h
-
 pub plain-tail : (b : ℕ) (bs : List ℕ) → Plain (b ∷ bs) → Plain bs
-plain-tail b bs h = not_second (b == slash) (list_any is_slash bs) h
+plain-tail b bs h = grind (arith, nat_tests)
 
 pub plain-drop : (n : ℕ) (v : List ℕ) → Plain v → Plain (drop n v)
 plain-drop (suc n) (b ∷ bs) h = plain-drop n bs (plain-tail b bs h)
 plain-drop n v h = h
 
--- a star goes on over a byte that is no slash
-star-step : (f : List ℕ → Bool) (b : ℕ) (bs : List ℕ) → Plain (b ∷ bs) → star_then f (b ∷ bs) ≡ (f (b ∷ bs) || star_then f bs)
-star-step f b bs h = ap (λ x. f (b ∷ bs) || (not x && star_then f bs)) (plain-head b bs h)
-
-or_second : (a b : Bool) → b ≡ true → (a || b) ≡ true
-or_second true b h = refl
-or_second false b h = h
-
 star-absorbs : (f : List ℕ → Bool) (k b : ℕ) (bs : List ℕ) → Plain (b ∷ bs) → star_then f (drop k bs) ≡ true →
     star_then f (drop k (b ∷ bs)) ≡ true
-star-absorbs f zero b bs h e = star-step f b bs h ∙ or_second (f (b ∷ bs)) (star_then f bs) e
+star-absorbs f zero b bs h e = grind (arith, nat_tests)
 star-absorbs f (suc k) b (c ∷ cs) h e = star-absorbs f k c cs (plain-tail b (c ∷ cs) h) e
 star-absorbs f (suc zero) b [] h e = e
 star-absorbs f (suc (suc k)) b [] h e = e
 
-and-assoc : (a b c : Bool) → (a && (b && c)) ≡ ((a && b) && c)
-and-assoc true b c = refl
-and-assoc false b c = refl
-
-one-more : (case : Case) (p ts : List Token) (t : Token) (b : ℕ) (bs : List ℕ) →
-    matches case (p ++ ts) bs ≡ (fits case p bs && matches case ts (drop (length p) bs)) →
-    (takes_byte case t b && matches case (p ++ ts) bs) ≡ ((takes_byte case t b && fits case p bs) && matches case ts (drop (length p) bs))
-one-more case p ts t b bs e = grind (arith, nat_tests, and-assoc)
-
 -- a stretch, and then the tokens after it
 pub stretch_then : (case : Case) (p ts : List Token) (v : List ℕ) → is_stretch p ≡ true →
     matches case (p ++ ts) v ≡ (fits case p v && matches case ts (drop (length p) v))
-stretch_then case (lit c ∷ p) ts (b ∷ bs) s = one-more case p ts (lit c) b bs (stretch_then case p ts bs s)
-stretch_then case (one ∷ p) ts (b ∷ bs) s = one-more case p ts one b bs (stretch_then case p ts bs s)
-stretch_then case (set negated ms ∷ p) ts (b ∷ bs) s = one-more case p ts (set negated ms) b bs (stretch_then case p ts bs s)
-stretch_then case (star ∷ p) ts v s = absurd cc
-stretch_then case (dirs ∷ p) ts v s = absurd cc
-stretch_then case (rest ∷ p) ts v s = absurd cc
-stretch_then case p ts v t = refl
-
-and_second : (a b : Bool) → (a && b) ≡ true → b ≡ true
-and_second true b h = h
-and_second false b h = absurd cc
+stretch_then case (lit c ∷ p) ts (b ∷ bs) s = grind (arith, nat_tests, stretch_then case p ts bs s)
+stretch_then case (one ∷ p) ts (b ∷ bs) s = grind (arith, nat_tests, stretch_then case p ts bs s)
+stretch_then case (set negated ms ∷ p) ts (b ∷ bs) s = grind (arith, nat_tests, stretch_then case p ts bs s)
+stretch_then case p ts v s = grind (arith, nat_tests)
 
 -- wherever the stretch is found, the star after it takes what lies between
 found_later : (case : Case) (p ts : List Token) (v : List ℕ) → is_stretch p ≡ true → Plain v →
     star_then (matches case (p ++ star ∷ ts)) v ≡ true → matches case (star ∷ ts) (drop (length p) v) ≡ true
-found_later case p ts [] s h e = grind (arith, nat_tests, and_second, stretch_then)
-found_later case p ts (b ∷ bs) s h e =
-    grind (arith, nat_tests, and_second, stretch_then, star-step, star-absorbs, plain-tail, found_later case p ts bs s)
-
-or_absorbed : (a b : Bool) → (b ≡ true → a ≡ true) → (a || b) ≡ a
-or_absorbed false true h = sym (h refl)
-or_absorbed a b h = refl
+found_later case p ts [] s h e = grind (arith, nat_tests, stretch_then)
+found_later case p ts (b ∷ bs) s h e = grind (arith, nat_tests, stretch_then, star-absorbs, plain-tail, found_later case p ts bs s)
 
 drop-nil : (n : ℕ) → drop {A = ℕ} n [] ≡ []
-drop-nil zero = refl
-drop-nil (suc n) = refl
+drop-nil n = grind (arith, nat_tests)
 
 pub first_fit : (case : Case) (p ts : List Token) (v after : List ℕ) → is_stretch p ≡ true → Plain v → after_first case p v ≡ Some after →
     matches case (star ∷ p ++ star ∷ ts) v ≡ matches case (star ∷ ts) after
 first_fit case p ts [] after s h e = grind (arith, nat_tests, stretch_then, drop-nil)
 first_fit case p ts (b ∷ bs) after s h e =
-    grind (arith, nat_tests, stretch_then, star-step, or_absorbed, star-absorbs, found_later, plain-tail, first_fit case p ts bs after s)
-
-and_none : (a : Bool) → (a && false) ≡ false
-and_none true = refl
-and_none false = refl
+    grind (arith, nat_tests, stretch_then, star-absorbs, found_later, plain-tail, first_fit case p ts bs after s)
 
 -- what begins with a stretch that is found nowhere matches nowhere
 pub no_fit : (case : Case) (p ts : List Token) (v : List ℕ) → is_stretch p ≡ true → after_first case p v ≡ None →
     star_then (matches case (p ++ ts)) v ≡ false
 no_fit case p ts [] s e = grind (arith, nat_tests, stretch_then)
-no_fit case p ts (b ∷ bs) s e = grind (arith, nat_tests, stretch_then, and_none, no_fit case p ts bs s)
+no_fit case p ts (b ∷ bs) s e = grind (arith, nat_tests, stretch_then, no_fit case p ts bs s)
 
 -- what follows the first fit has no slash either
 pub plain-after : (case : Case) (p : List Token) (v after : List ℕ) → Plain v → after_first case p v ≡ Some after → Plain after
@@ -146,9 +100,8 @@ stretch_single (t ∷ ts) = by_test (may_be_nothing t) (λ m. rw m refl) (λ m. 
 
 front_by_fit : (case : Case) (ts : List Token) (v : List ℕ) → front_left case ts v
     ≡ (if fits case (stretch_of ts) v then Some (after_stretch ts, drop (length (stretch_of ts)) v) else None)
-front_by_fit case [] v = refl
-front_by_fit case (t ∷ ts) [] = by_test (may_be_nothing t) (λ m. rw m refl) (λ m. rw m refl)
 front_by_fit case (t ∷ ts) (b ∷ bs) = grind (arith, nat_tests, front_by_fit case ts bs)
+front_by_fit case ts v = grind (arith, nat_tests, by_test)
 
 first_by_fit : (case : Case) (ts : List Token) (v : List ℕ) →
     first_left case ts v ≡ option_map {U = List Token × List ℕ} (λ w. (after_stretch ts, w)) (after_first case (stretch_of ts) v)
@@ -156,13 +109,7 @@ first_by_fit case ts [] = grind (arith, nat_tests, front_by_fit, drop-nil)
 first_by_fit case ts (b ∷ bs) = grind (arith, nat_tests, front_by_fit, first_by_fit case ts bs)
 
 map_none : (x : List Token) (o : Option (List ℕ)) → option_map {U = List Token × List ℕ} (λ w. (x, w)) o ≡ None → o ≡ None
-map_none x None h = refl
-map_none x (Some w) h = absurd cc
-
-map_some : (x next : List Token) (o : Option (List ℕ)) (after : List ℕ) →
-    option_map {U = List Token × List ℕ} (λ w. (x, w)) o ≡ Some (next, after) → (x ≡ next) × (o ≡ Some after)
-map_some x next None after h = absurd cc
-map_some x next (Some w) after h = grind (arith, nat_tests)
+map_none x o h = grind (arith, nat_tests)
 
 -- a star takes no bytes up to where the tokens after it match, if those of one byte take none
 pub star_missed : (case : Case) (ts : List Token) (v : List ℕ) → first_left case ts v ≡ None → matches case (star ∷ ts) v ≡ false
@@ -174,19 +121,10 @@ star_missed case ts v e =
 pub star_found : (case : Case) (ts next us : List Token) (v after : List ℕ) → Plain v → first_left case ts v ≡ Some (next, after) →
     next ≡ star ∷ us → (matches case (star ∷ ts) v ≡ matches case next after) × Plain after
 star_found case ts next us v after plain e second =
-    let both = map_some (after_stretch ts) next _ after (sym (first_by_fit case ts v) ∙ e) in
-    let parts : ts ≡ stretch_of ts ++ star ∷ us = stretch_parts ts ∙ ap (λ l. stretch_of ts ++ l) (both.0 ∙ second) in (
-      ap (λ l. matches case (star ∷ l) v) parts
-          ∙ (first_fit case (stretch_of ts) us v after (stretch_single ts) plain both.1 ∙ ap (λ l. matches case l after) (sym second)),
-      plain-after case (stretch_of ts) v after plain both.1,
-    )
+    grind (arith, nat_tests, first_by_fit case ts v, stretch_parts ts, first_fit case, stretch_single ts, plain-after case)
 
 -- what the tokens at the front take at once is the first that they take
 pub first_here : (case : Case) (ts : List Token) (v : List ℕ) (left : List Token × List ℕ) → Some left ≡ front_left case ts v →
     first_left case ts v ≡ Some left
 first_here case ts [] left h = sym h
 first_here case ts (b ∷ bs) left h = ap (λ l. or_else l (first_left case ts bs)) (sym h)
-
-pub front_more : (case : Case) (t : Token) (ts : List Token) (b : ℕ) (bs : List ℕ) → may_be_nothing t ≡ false →
-    takes_byte case t b ≡ true → front_left case (t ∷ ts) (b ∷ bs) ≡ front_left case ts bs
-front_more case t ts b bs m y = rw (m, y) refl

@@ -1,11 +1,10 @@
 -- The tokens of a text, one after the other.
 use Rattle.std.proofs.Common.{◌≡◌, ◌≤◌, ◌<◌, ℕ, zero, suc, Bool, true, false, List, [], ◌∷◌, ◌++◌, length, slice_get, get_or, nat_lt, is_some}
-use Rattle.std.proofs.Common.{IfSome, Bor, Option, None, Some, option_map, refl, sym, ap, ◌∙◌, append_assoc, arith}
+use Rattle.std.proofs.Common.{IfSome, Bor, Option, None, Some, option_map, refl, ap, append_assoc, arith}
 use Rattle.std.proofs.lemmas.Bool.Decides.{nat_tests}
-use borrow.Author.Tests.{ltb-false}
 use Rattle.attr_wildmatch.specs.declared.token.Token as written
 use Rattle.attr_wildmatch.specs.declared.bracket.Member.{Member}
-use Rattle.attr_wildmatch.specs.Tokens.{Token, set, dirs, tokens_from, token_at, bracket_at, escape_at, token_ends_in_slash}
+use Rattle.attr_wildmatch.specs.Tokens.{Token, set, dirs, tokens_from, token_at, bracket_at, token_ends_in_slash}
 use Rattle.attr_wildmatch.specs.Brackets.{members, negates}
 use Rattle.attr_wildmatch.specs.TokenList.{token_of, tokens_of}
 use Rattle.attr_wildmatch.specs.inner.Bordered.{is_bordered}
@@ -17,13 +16,11 @@ after list None = None
 after list (Some ts) = Some (list ++ ts)
 
 pub after-nil : (o : Option (List Token)) → o ≡ after [] o
-after-nil None = refl
-after-nil (Some p) = refl
+after-nil o = grind (arith, nat_tests)
 
 after-cons : (list : List Token) (t : Token) (o : Option (List Token)) →
     after list (option_map (λ ts. t ∷ ts) o) ≡ after (list ++ t ∷ []) o
-after-cons list t None = refl
-after-cons list t (Some ts) = ap Some (sym (append_assoc list (t ∷ []) ts))
+after-cons list t o = grind (arith, nat_tests, append_assoc)
 
 pub tokens_more : (list : List Token) (n : ℕ) (border : Bool) (b : ℕ) (bs : List ℕ) (t : Token) (tail : List ℕ) →
     token_at border b bs ≡ Some (t, tail) → suc (length bs) ≤ n → length tail ≤ length bs →
@@ -46,20 +43,17 @@ slice_get_tokens_of ts k = refl
 
 slice_get-found : (ts : List written.Token) (k : ℕ) (t : written.Token) → k < length ts → t ≡ get_or ts k t →
     slice_get ts k ≡ Some t
-slice_get-found [] k t h e = absurd (omega arith)
-slice_get-found (u ∷ ts) zero t h e = ap Some (sym e)
 slice_get-found (u ∷ ts) (suc k) t h e = slice_get-found ts k t (omega arith) e
+slice_get-found ts k t h e = grind (arith, nat_tests)
 
 pub slice_get-missing : {A : Type 0} (ts : List A) (k : ℕ) → length ts ≤ k → slice_get ts k ≡ None
-slice_get-missing [] k h = refl
-slice_get-missing (u ∷ ts) zero h = absurd (omega arith)
 slice_get-missing (u ∷ ts) (suc k) h = slice_get-missing ts k (omega arith)
+slice_get-missing ts k h = grind (arith, nat_tests)
 
 -- what `get` gives
 pub looked_up : (ts : List written.Token) (k : ℕ) (o : Option (Bor written.Token)) → is_some o ≡ nat_lt k (length ts) →
     IfSome o (λ x. x.now ≡ get_or ts k x.now) → option_map (λ t. token_of t.now) o ≡ slice_get (tokens_of ts) k
-looked_up ts k None h e = sym (slice_get_tokens_of ts k ∙ ap (option_map token_of) (slice_get-missing ts k (ltb-false k (length ts) (sym h))))
-looked_up ts k (Some x) h e = grind (arith, nat_tests, slice_get_tokens_of, slice_get-found)
+looked_up ts k o h e = grind (arith, nat_tests, slice_get_tokens_of, slice_get-missing, slice_get-found)
 
 -- what follows tokens that end so: a directory star only where the last one ends in a slash
 abbrev pub border_after : Bool → List Token → Bool
@@ -89,8 +83,7 @@ fits_read None = true
 fits_read (Some p) = fits_border false p.0
 
 set_fits : (n : Bool) (o : Option (List Member × List ℕ)) → fits_read (option_map (λ p. (set n p.0, p.1)) o) ≡ true
-set_fits n None = refl
-set_fits n (Some p) = refl
+set_fits n o = grind (arith, nat_tests)
 
 bracket_fits : (bs : List ℕ) → fits_read (bracket_at bs) ≡ true
 bracket_fits [] = refl
@@ -98,14 +91,9 @@ bracket_fits (c ∷ bs) =
     by_test (negates c) (λ t. rw t (set_fits true (members (length bs) true bs)))
     (λ f. rw f (set_fits false (members (length (c ∷ bs)) true (c ∷ bs))))
 
-escape_fits : (bs : List ℕ) → fits_read (escape_at bs) ≡ true
-escape_fits [] = refl
-escape_fits (c ∷ bs) = refl
-
 token_fits : (b : ℕ) (bs : List ℕ) → fits_read (token_at false b bs) ≡ true
-token_fits b bs = grind (arith, nat_tests, escape_fits, bracket_fits)
+token_fits b bs = grind (arith, nat_tests, bracket_fits)
 
 pub token_at-fits : (border : Bool) (b : ℕ) (bs : List ℕ) (t : Token) (tail : List ℕ) →
     token_at border b bs ≡ Some (t, tail) → fits_border border t ≡ true
-token_at-fits true b bs t tail h = grind (arith, nat_tests)
-token_at-fits false b bs t tail h = sym (ap fits_read h) ∙ token_fits b bs
+token_at-fits border b bs t tail h = grind (arith, nat_tests, token_fits b bs)

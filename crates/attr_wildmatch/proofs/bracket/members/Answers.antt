@@ -1,7 +1,7 @@
-use Rattle.std.proofs.Common.{◌≡◌, ◌≤◌, ◌&&◌, not, suc, ◌==◌, ℕ, List, length, drop, Some, false, ◌∷◌, arith, ap, sym, ◌∙◌}
+use Rattle.std.proofs.Common.{◌≡◌, ◌≤◌, ◌&&◌, not, suc, ◌==◌, ℕ, List, length, drop, Some, false, ◌∷◌, arith, ap, sym}
 use Rattle.std.proofs.lemmas.Bool.Decides.{nat_tests}
 use Rattle.attr_wildmatch.specs.Bytes.{close_bracket}
-use Rattle.attr_wildmatch.specs.Brackets.{member_at, members as members_at}
+use Rattle.attr_wildmatch.specs.Brackets.{member_at}
 use Rattle.attr_wildmatch.specs.inner.Closing.{from_close}
 use Rattle.attr_wildmatch.proofs.ClosingLemmas.{close-drop, close-tail, member-rest}
 use Rattle.attr_wildmatch.proofs.MembersLemmas.{after, after-nil, members_more}
@@ -33,7 +33,6 @@ loop-byte-preserved c =
       omega arith,
       next.0,
       next.1,
-      before.3 ∙ (ap (λ s. after list (members_at before.1 c.loop-byte.first s)) split ∙
-          (next.2 ∙ ap (λ x. after x (members_at next.0 false rest)) (sym c.in_ok-push-in-Some-read_member.ensures.items))),
+      grind (arith, nat_tests, after, c.in_ok-push-in-Some-read_member.ensures.items),
       ends c.next_close-close.result left.0 bs rest left.1 (λ le. c.next_close-close.ensures),
     )

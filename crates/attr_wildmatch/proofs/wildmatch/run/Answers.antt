@@ -1,4 +1,5 @@
-use Rattle.std.proofs.Common.{◌≡◌, ◌≤◌, ◌<◌, ◌+◌, ◌*◌, ℕ, [], length, vec_capacity, All, arith, refl, ap, sym, subst, ◌∙◌}
+use Rattle.std.proofs.lemmas.Grind.{common_steps}
+use Rattle.std.proofs.Common.{◌≡◌, ◌≤◌, ◌<◌, ◌+◌, [], length, vec_capacity, All, arith, refl, ap, sym, subst, ◌∙◌}
 use Rattle.std.proofs.Math.Nat.{mul-le-mul}
 use Rattle.std.proofs.lemmas.Bool.Decides.{nat_tests}
 use Rattle.std.proofs.lemmas.Bool.{eq-eqb, eqb-true}
@@ -11,10 +12,6 @@ use Rattle.attr_wildmatch.proofs.ReachedSteps.{growing}
 use Rattle.attr_wildmatch.proofs.RunLemmas.{IsAt, first_bytes, at_start, at_more, step_at, fresh-first, below_free, matched_at_end, missed_at_end}
 use Rattle.attr_wildmatch.proofs.RunLemmas.{unmatched_where_dead, missed_where_dead}
 use Rattle.attr_wildmatch.proofs.wildmatch.run.Goals as goal
-
--- a bound at one byte is one at any later byte
-fits_all : (m n i t visits : ℕ) → m ≡ n → visits ≤ (m + 1) * (i + 1) → i ≤ t → visits ≤ (n + 1) * (t + 1)
-fits_all m n i t visits e h l = grind (arith, nat_tests, mul-le-mul)
 
 pub loop-byte-init : goal.loop-byte-init
 loop-byte-init c =
@@ -46,10 +43,7 @@ returns-then-free-eq0-clause-matched c =
     )
 
 pub returns-then-free-eq0-clause-at_most : goal.returns-then-free-eq0-clause-at_most
-returns-then-free-eq0-clause-at_most c =
-    let same = length-tokens_of c.args.tokens.now in
-    fits_all (length (tokens_of c.args.tokens.now)) (length c.args.tokens.now) c.loop-byte.byte-index (length c.args.value.now) c.loop-byte.visits
-    same c.loop-byte.invariant.0.most (omega arith)
+returns-then-free-eq0-clause-at_most c = grind (arith, common_steps, nat_tests, length-tokens_of, c.loop-byte.invariant.0.most)
 
 pub returns-then-free-eq0-clause-missed : goal.returns-then-free-eq0-clause-missed
 returns-then-free-eq0-clause-missed c =
@@ -61,9 +55,7 @@ returns-then-free-eq0-clause-missed c =
     (omega arith)
 
 pub next_row-free-requires-clause-capacity : goal.next_row-free-requires-clause-capacity
-next_row-free-requires-clause-capacity c =
-    let room = (c.loop-byte.invariant.1 (length c.args.tokens.now + 1) (omega arith) (omega arith)).1 in
-    omega arith
+next_row-free-requires-clause-capacity c = grind (arith, nat_tests, c.loop-byte.invariant.1)
 
 next_at : (c : goal.After-len) →
     IsAt c.args.case (tokens_of c.args.tokens.now) c.args.value.now c.next_row-free.new.next.items c.next_row-free.result
@@ -88,25 +80,13 @@ next_at c =
     (c.next_row-free.ensures.reached c.loop-byte.free below)
 
 pub overflow_add-visits : goal.overflow_add-visits
-overflow_add-visits c = grind (arith, nat_tests, length-tokens_of, fits_all, next_at, mul-le-mul)
+overflow_add-visits c = grind (arith, nat_tests, length-tokens_of, next_at, mul-le-mul)
 
 pub loop-byte-preserved : goal.loop-byte-preserved
 loop-byte-preserved c =
-    let ts = tokens_of c.args.tokens.now in
-    let room = c.loop-byte.invariant.1 in
-    let items : c.next_row-free.new.next.items ≡ c.swap.new.x.items = sym (ap (λ x. x.items) c.swap.ensures.x_after) in
-    let length_is : length c.swap.new.x.items ≡ length c.next_row-free.new.next.items = ap (λ x. length x.items) c.swap.ensures.x_after in
-    let counted : length c.next_row-free.new.next.items ≡ c.len.result = omega (arith, c.len.ensures, c.swap.new.x.ok) in
-    let at = next_at c in
-    let i = c.loop-byte.byte-index + 1 in
-    let capacity : vec_capacity c.swap.new.x ≡ vec_capacity c.next_row-free.new.next = ap (λ x. vec_capacity x) c.swap.ensures.x_after in
-    let capacity_next : vec_capacity c.swap.new.y ≡ vec_capacity c.loop-byte.row = ap (λ x. vec_capacity x) c.swap.ensures.y_after in (
-      subst (λ x. IsAt c.args.case ts c.args.value.now x c.next_row-free.result (c.loop-byte.visits + c.len.result) i) items
-          (subst (λ x. IsAt c.args.case ts c.args.value.now c.next_row-free.new.next.items c.next_row-free.result (c.loop-byte.visits + x) i)
-          counted at),
-      (λ n h k. let before = room n h k in
-          (omega (arith, before.1, c.next_row-free.ensures.capacity), omega (arith, before.0))),
-    )
+    let fact2 = c.loop-byte.invariant.1 in
+    let fact = c.next_row-free.ensures.capacity in
+    grind (arith, nat_tests, next_at c, vec_capacity, fact2, c.swap.ensures.x_after, c.len.ensures, c.swap.new.x.ok, c.swap.ensures.y_after, fact)
 
 ended : (c : goal.After-loop-byte) → IsAt c.args.case (tokens_of c.args.tokens.now) c.args.value.now c.loop-byte.row.items c.loop-byte.free
     c.loop-byte.visits (length c.args.value.now)
@@ -114,16 +94,12 @@ ended c = grind (arith, nat_tests)
 
 pub returns-clause-matched : goal.returns-clause-matched
 returns-clause-matched c =
-    let same = length-tokens_of c.args.tokens.now in
     let m = matched_at_end c.args.case (tokens_of c.args.tokens.now) c.args.value.now c.loop-byte.row.items c.loop-byte.free c.loop-byte.visits
-    (ended c) in (
-      (λ t. m.0 (let e : c.loop-byte.free ≡ length c.args.tokens.now + 1 = eqb-true _ _ t in omega arith)),
-      (λ x. let e : c.loop-byte.free ≡ length (tokens_of c.args.tokens.now) + 1 = m.1 x in eq-eqb c.loop-byte.free (length c.args.tokens.now + 1)
-          (omega arith)),
-    )
+    (ended c) in
+    grind (arith, nat_tests, length-tokens_of, eqb-true, eq-eqb)
 
 pub returns-clause-at_most : goal.returns-clause-at_most
-returns-clause-at_most c = grind (arith, nat_tests, fits_all, length-tokens_of, ended)
+returns-clause-at_most c = grind (arith, nat_tests, length-tokens_of, ended)
 
 pub returns-clause-missed : goal.returns-clause-missed
 returns-clause-missed c =

@@ -1,3 +1,4 @@
+use Rattle.std.proofs.lemmas.Bool.Decides.{nat_tests}
 use Rattle.std.proofs.Common.{◌≡◌, ◌+◌, ◌≤◌, suc, length, true, Some, [], ◌∷◌, ◌++◌, arith, ap, sym, ◌∙◌, refl}
 use Rattle.std.proofs.lemmas.List.{length_push}
 use Rattle.attr_wildmatch.specs.Tokens.{tokens_from, token_at, token_ends_in_slash}
@@ -36,9 +37,7 @@ loop-byte-preserved c =
       omega (arith, before.0),
       next.0,
       next.1,
-      before.3 ∙ (ap (λ s. after (tokens_of list) (tokens_from before.1 c.loop-byte.border s)) split ∙
-          (next.2 ∙ (ap (λ x. after x (tokens_from next.0 (token_ends_in_slash t) rest)) (sym meant) ∙
-          ap (λ x. after (tokens_of c.push.new.self.items) (tokens_from next.0 x rest)) (sym slash)))),
+      grind (arith, nat_tests, after),
       ap (is_bordered true) meant ∙
           bordered-push true (tokens_of list) t before.4 (ap (λ x. fits_border x t) before.5 ∙ token_at-fits c.loop-byte.border b bs t rest read),
       ap (border_after true) meant ∙ (border_after-push true (tokens_of list) t ∙ sym slash),

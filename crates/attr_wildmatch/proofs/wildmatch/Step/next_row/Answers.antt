@@ -1,3 +1,4 @@
+use Rattle.std.proofs.lemmas.Bool.Decides.{nat_tests}
 use Rattle.std.proofs.Common.{◌≡◌, ◌≤◌, ◌<◌, ◌+◌, ℕ, false, [], ◌∷◌, length, get_or, drop, arith, ap, sym, ◌∙◌, add-one, drop-cons}
 use Rattle.std.proofs.lemmas.List.{drop_all}
 use Rattle.attr_wildmatch.specs.TokenList.{tokens_of}
@@ -16,14 +17,7 @@ loop-reached-init c =
       omega arith,
       omega (arith, c.clear.ensures.capacity),
       (λ most a. omega arith),
-      (λ fresh alive before steps first e. (
-        0,
-        length step.tokens.now + 1,
-        omega arith,
-        e,
-        empty_row (tokens_of step.tokens.now) fresh alive c.clear.new.self.items cleared,
-        settled-none step.case (tokens_of step.tokens.now) step.byte before 0,
-      )),
+      (λ fresh alive before steps first e. grind (arith, nat_tests, empty_row, settled-none)),
     )
 
 pub loop-reached-preserved : goal.loop-reached-preserved
@@ -47,8 +41,7 @@ loop-reached-preserved c =
           advanced.reached most (omega arith) (stayed.reached most (omega arith) (inv.3 most a))),
       (λ fresh alive before steps first e.
           let known = inv.4 fresh alive before steps first e in
-          let f : FirstOf before known.0 known.1 q (drop (i + 1) row) = first_of_indexes before known.1 known.0 q (drop (i + 1) row)
-          (sym split ∙ known.3) in
+          let f : FirstOf before known.0 known.1 q (drop (i + 1) row) = grind (arith, nat_tests, first_of_indexes) in
           let settled : IsSettled step.case ts step.byte before q c.loop-reached.free = settled-skip q known.5 f.none in
           let kept_row = c.stay-kept.ensures.row fresh alive before
           (record { step = steps; first = λ x. first; row_is = known.4; settled = settled }) f.passes (omega (arith, f.end, known.2)) in

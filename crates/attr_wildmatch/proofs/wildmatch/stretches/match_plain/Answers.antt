@@ -1,4 +1,4 @@
-use Rattle.std.proofs.Common.{◌≡◌, [], ◌∷◌, ℕ, List, length, arith, true, Some, not, sym, ap, ◌∙◌}
+use Rattle.std.proofs.Common.{◌≡◌, [], ◌∷◌, ℕ, List, length, arith, true, Some}
 use Rattle.std.proofs.lemmas.Bool.Decides.{nat_tests}
 use Rattle.std.proofs.lemmas.Bool.{eqb-true}
 use Rattle.attr_wildmatch.specs.declared.case.Case.{Case}
@@ -15,15 +15,11 @@ found : (case : Case) (all left others next ts : List Token) (value v after : Li
     matches case all value ≡ matches case left v → Plain v → left ≡ star ∷ others → next ≡ star ∷ ts →
     first_left case others v ≡ Some (next, after) → (matches case all value ≡ matches case next after) × Plain after
 found case all left others next ts value v after before plain first second e =
-    let more = star_found case others next ts v after plain e second in (
-      before ∙ (ap (λ l. matches case l v) first ∙ more.0),
-      more.1,
-    )
+    grind (arith, nat_tests, star_found case others next ts v after plain e second)
 
 last : (case : Case) (all left : List Token) (others : List written.Token) (value v : List ℕ) →
     matches case all value ≡ matches case left v → Plain v → left ≡ star ∷ tokens_of others → length others ≡ 0 → true ≡ matches case all value
-last case all left [] value v before plain first empty =
-    sym (before ∙ (ap (λ l. matches case l v) first ∙ (star_alone case v ∙ ap not plain)))
+last case all left [] value v before plain first empty = grind (arith, nat_tests, star_alone case v)
 last case all left (t ∷ ts) value v before plain first empty = absurd (omega (arith, empty))
 
 pub returns-then-is_empty : goal.returns-then-is_empty

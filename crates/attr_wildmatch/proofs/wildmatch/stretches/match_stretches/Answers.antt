@@ -1,7 +1,5 @@
-use Rattle.std.proofs.Common.{arith, sym, ap, ◌∙◌}
+use Rattle.std.proofs.Common.{arith, sym, ◌∙◌}
 use Rattle.std.proofs.lemmas.Bool.Decides.{nat_tests}
-use Rattle.std.proofs.lemmas.Option.{IfSome_then}
-use Rattle.attr_wildmatch.specs.Deciding.{matches}
 use Rattle.attr_wildmatch.specs.TokenList.{tokens_of}
 use Rattle.attr_wildmatch.proofs.StretchLemmas.{star_found, star_missed}
 use Rattle.attr_wildmatch.proofs.wildmatch.stretches.match_stretches.Goals as goal
@@ -17,7 +15,6 @@ match_plain-requires c =
 pub returns : goal.returns
 returns c =
     let more = star_found c.args.case (tokens_of c.in_ok-others.others.now) (tokens_of c.in-Some.next.now)
-    (tokens_of c.in_ok-after_star.field-0.now) c.args.value.now c.in-Some.after.now (sym c.has_slash.ensures ∙ c.if-has_slash.false)
-    c.in-Some.ensures.left c.in_ok-after_star.ensures.star in
-    IfSome_then c.match_plain.result c.match_plain.ensures
-    (λ answer is. is ∙ sym (ap (λ l. matches c.args.case l c.args.value.now) c.in_ok-others.ensures.star ∙ more.0))
+    (tokens_of c.in_ok-after_star.field-0.now) c.args.value.now c.in-Some.after.now (sym c.has_slash.ensures
+    ∙ c.if-has_slash.false) c.in-Some.ensures.left c.in_ok-after_star.ensures.star in
+    grind (arith, nat_tests, c.match_plain.ensures, c.in_ok-others.ensures.star)
