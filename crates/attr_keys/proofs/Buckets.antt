@@ -1,14 +1,13 @@
 -- Where the buckets of hashes start.
-use Rattle.std.proofs.Common.{◌≡◌, ℕ, inl, inr, zero, suc, ◌+◌, ◌-◌, ◌/◌, ◌^◌, ◌<◌, ◌≤◌, Bool, false, List, [], ◌∷◌, ◌++◌, length, take, drop}
-use Rattle.std.proofs.Common.{get_or, refl, sym, ap, subst, ◌∙◌, arith, eqb, le_trans, length-append}
+use Rattle.std.proofs.Common.{◌≡◌, ℕ, inl, inr, zero, suc, ◌+◌, ◌-◌, ◌/◌, ◌^◌, ◌<◌, ◌≤◌, Bool, false, List, ◌∷◌, length, take, drop}
+use Rattle.std.proofs.Common.{get_or, sym, ap, ◌∙◌, arith, eqb, le_trans}
 use Rattle.std.specs.List.{filter, AllWithin}
 use Rattle.std.specs.List.Sorted.{IsNonDecreasingBy}
 use Rattle.std.proofs.Math.Nat.{div-mul-le_self}
 use Rattle.std.proofs.lemmas.Nat.{le-div}
 use Rattle.std.proofs.lemmas.Bool.Decides.{nat_tests}
-use Rattle.std.proofs.Math.ListN.{get_or-append}
-use Rattle.std.proofs.lemmas.Bool.{eqb-true, cases_lt}
-use Rattle.std.proofs.lemmas.List.{length-drop, get_or-drop, get_or_default, get_or_push}
+use Rattle.std.proofs.lemmas.Bool.{cases_lt}
+use Rattle.std.proofs.lemmas.List.{length-drop, get_or-drop, get_or_default}
 use Rattle.attr_keys.specs.declared.hashed.HashedRow.{HashedRow}
 use Rattle.attr_keys.specs.inner.Hashes.{AreStarts, IsBucketStart}
 use Rattle.attr_keys.proofs.Narrowing.{filter_drop}
@@ -20,13 +19,12 @@ div_rises x y w some le = let below = div-mul-le_self x w in le-div (x / w) y w 
 -- what is passed from an index on is not taken
 filter_front : {X : Type 0} (p : X → Bool) (d : X) (j : ℕ) (xs : List X) → ((k : ℕ) → j ≤ k → k < length xs → p (get_or xs k d) ≡ false) →
     filter p xs ≡ filter p (take j xs)
-filter_front p d zero [] out = refl
-filter_front p d (suc j) [] out = refl
 filter_front p d zero (x ∷ xs) out =
     rw (out 0 (omega arith) (omega arith)) (filter_front p d zero xs (λ k le within. out (suc k) (omega arith) (omega arith)))
 filter_front p d (suc j) (x ∷ xs) out =
     let rest = filter_front p d j xs (λ k le within. out (suc k) (omega arith) (omega arith)) in
     by_test (p x) (λ t. rw t (ap (λ l. x ∷ l) rest)) (λ f. rw f rest)
+filter_front p d j xs out = grind (arith, nat_tests)
 
 -- a bucket ends where the next one starts
 starts_rise : (width bucket start end : ℕ) (rows : List HashedRow) → IsBucketStart width rows bucket start →
@@ -50,10 +48,7 @@ in_bucket width hash start end rows first second =
     let len = length-drop start rows in
     sym (filter_drop (λ h. eqb h.hash hash) d start rows (λ k lt within. before (get_or rows k d).hash (first.point.0 k d (omega arith) lt))
     ∙ filter_front (λ h. eqb h.hash hash) d (end - start) (drop start rows)
-    (λ k le within.
-    let e = get_or-drop start rows k d in
-    rw e (after (get_or rows (start + k) d).hash
-    (second.point.1 (start + k) d (omega arith) (omega (arith, first.bound))))))
+    (λ k le within. grind (arith, nat_tests, get_or-drop, after)))
   where
     before : (h : ℕ) → h / width < hash / width → eqb h hash ≡ false
     before h lt = grind (arith, nat_tests)
@@ -65,24 +60,7 @@ in_bucket width hash start end rows first second =
 pub start_here : (width bucket start : ℕ) (rows : List HashedRow) → 0 < width → IsNonDecreasingBy (λ h. h.hash) rows → start ≤ length rows →
     AllWithin (λ (h : HashedRow). h.hash / width < bucket) rows 0 start →
     (e : HashedRow) → start < length rows → bucket ≤ (get_or rows start e).hash / width → IsBucketStart width rows bucket start
-start_here width bucket start rows some order bound before e inside here =
-    record {
-      bound = bound;
-      point = (
-        before,
-        λ k d le within.
-            le_trans here
-            (div_rises (get_or rows start e).hash (get_or rows k d).hash width some
-            (rw (get_or_default rows start d e inside) at (order start k d le within))),
-      );
-    }
-
--- one more start
-pub starts_more : (width index start : ℕ) (rows : List HashedRow) (starts starts' : List ℕ) → starts' ≡ starts ++ start ∷ [] → length starts ≡ index →
-    ((bucket : ℕ) → bucket < length starts → IsBucketStart width rows bucket (get_or starts bucket 0)) → IsBucketStart width rows index start →
-    (bucket : ℕ) → bucket < length starts' → IsBucketStart width rows bucket (get_or starts' bucket 0)
-starts_more width index start rows starts starts' is count known more bucket lt =
-    grind (arith, nat_tests, length-append, eqb-true, get_or_push, get_or-append)
+start_here width bucket start rows some order bound before e inside here = grind (arith, nat_tests, le_trans, div_rises, get_or_default, order start)
 
 -- each hash has a bucket
 pub bucket_within : (width : ℕ) (rows : List HashedRow) (starts : List ℕ) → 2 ≤ width → AreStarts width rows starts →
@@ -95,15 +73,5 @@ pub between_starts : (width : ℕ) (rows : List HashedRow) (starts : List ℕ) �
     end ≡ get_or starts (index + 1) end → (start ≤ end) × (end ≤ length rows)
     × (filter (λ h. eqb h.hash hash) (take (end - start) (drop start rows)) ≡ filter (λ h. eqb h.hash hash) rows)
 between_starts width rows starts wide are hash index start end fits is from to =
-    let inside = bucket_within width rows starts wide are hash index fits is in
-    let first = start_of index start (omega arith) from in
-    let second = start_of (index + 1) end inside to in (
-      starts_rise width index start end rows first second,
-      second.bound,
-      in_bucket width hash start end rows
-          (subst (λ n. IsBucketStart width rows n start) is first)
-          (subst (λ n. IsBucketStart width rows (n + 1) end) is second),
-    )
-  where
-    start_of : (p n : ℕ) → p < length starts → n ≡ get_or starts p n → IsBucketStart width rows p n
-    start_of p n lt at = grind (arith, nat_tests, get_or_default)
+    let fact = bucket_within width rows starts wide are hash index fits is in
+    grind (arith, nat_tests, fact, starts_rise width index start end rows, in_bucket width hash start end rows, get_or_default)

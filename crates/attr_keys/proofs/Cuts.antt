@@ -1,7 +1,6 @@
 -- Parts of texts that are cut from them, and texts that begin with others.
 use Rattle.std.proofs.Common.{◌≡◌, ◌≢◌, ℕ, zero, suc, ◌+◌, ◌<◌, ◌≤◌, ◌⊎◌, Bool, true, false, List, [], ◌∷◌, length, take, drop, refl, sym, ap, ◌∙◌}
 use Rattle.std.proofs.Common.{arith, nat_eq, get_or}
-use Rattle.std.specs.Char.{to_ascii_lowercase}
 use Rattle.std.specs.Cmp.Lexicographic.{pointwise, bytes_decides, slice_cmp}
 use Rattle.std.specs.List.{starts_with}
 use Rattle.std.specs.Ordering.{nat_cmp}
@@ -11,13 +10,11 @@ use Rattle.attr_keys.specs.inner.Cases.{in_case}
 use Rattle.attr_keys.specs.shared.Codes.{codes_of}
 use Rattle.attr_keys.specs.shared.Meeting.{directed}
 use Rattle.attr_keys.specs.shared.Rows.{IsCommon}
-use Rattle.attr_keys.proofs.Parts.{no_end, shifted}
 use Rattle.attr_keys.proofs.RowLemmas.{by_test}
 use Rattle.attr_keys.proofs.SeenTexts.{codes_in_case, directed_in_case, directed_twice, length-seen}
 
 take_in_case : (fold : Bool) (n : ℕ) (text : List ℕ) → take n (in_case fold text) ≡ in_case fold (take n text)
-take_in_case false n text = refl
-take_in_case true n text = take-map to_ascii_lowercase n text
+take_in_case fold n text = grind (arith, nat_tests, take-map)
 
 directed_same : (from_end : Bool) (x y : List ℕ) → directed from_end x ≡ directed from_end y → x ≡ y
 directed_same from_end x y e = sym (directed_twice from_end x) ∙ (ap (directed from_end) e ∙ directed_twice from_end y)
@@ -54,9 +51,9 @@ begins_if_cut fold from_end text part own cut b so back =
 -- codes that begin with others are those of texts that begin with others
 pub begin_below : (x y : List ℕ) (w v : Bool) → starts_with nat_eq (codes_of false x w) (codes_of false y v) ≡ true → starts_with nat_eq x y ≡ true
 begin_below x [] w v h = refl
-begin_below [] (c ∷ cs) true v h = let no : false ≡ true = rw (no_end c) at h in absurd cc
+begin_below [] (c ∷ cs) true v h = grind (arith, nat_tests)
 begin_below [] (c ∷ cs) false v h = absurd cc
-begin_below (b ∷ bs) (c ∷ cs) w v h = grind (arith, nat_tests, shifted, begin_below bs cs w v)
+begin_below (b ∷ bs) (c ∷ cs) w v h = grind (arith, nat_tests, begin_below bs cs w v)
 
 -- codes don't begin with others if the texts don't
 pub none_begins : (fold from_end : Bool) (text part : List ℕ) (w v : Bool) (cs ds : List ℕ) → codes_of fold (directed from_end text) w ≡ cs →
@@ -84,8 +81,7 @@ ends_order (suc n) (a ∷ xs) (b ∷ ys) le le' end = grind (arith, nat_tests, e
 pub first_is : (fold : Bool) (text : List ℕ) (w : Bool) → 0 < length text →
     get_or (in_case fold text) 0 0 + 2 ≡ get_or (codes_of fold text w) 0 0
 first_is fold [] w some = absurd (omega arith)
-first_is false (b ∷ bs) w some = refl
-first_is true (b ∷ bs) w some = refl
+first_is fold text w some = grind (arith, nat_tests)
 
 -- a text and a key of which it doesn't have, after what they have in common
 common_codes : (text part : List ℕ) (w : Bool) (n : ℕ) → n ≤ length text → n ≤ length part → take n text ≡ take n part →
@@ -111,18 +107,5 @@ pub common_is : (fold from_end : Bool) (text part own : List ℕ) (w : Bool) (co
     directed from_end own ≡ take n (directed from_end text) →
     IsCommon (in_case fold (directed from_end text)) codes (in_case fold (directed from_end own))
 common_is fold from_end text part own w codes n is le le' same apart lacks cut =
-    let text' = in_case fold (directed from_end text) in
-    let long = length-seen fold from_end text in
-    let long' = length-seen fold from_end part in
-    let own' : in_case fold (directed from_end own) ≡ take n text' = ap (in_case fold) cut ∙ sym (take_in_case fold n (directed from_end text)) in
-    let len : length (in_case fold (directed from_end own)) ≡ n = ap length own' ∙ length-take-le n text' (omega (arith, le, long)) in
     let plain = codes_in_case fold (directed from_end part) w ∙ is in
-    record {
-      bound = omega (arith, len, le, long);
-      begins = own' ∙ ap (λ m. take m text') (sym len);
-      apart = λ e. common_codes text' (in_case fold (directed from_end part)) w n (omega (arith, le, long)) (omega (arith, le', long')) same
-          (λ a b. apart (omega (arith, a, long)) (omega (arith, b, long')))
-          (ap (starts_with nat_eq (codes_of false text' true)) plain ∙ lacks)
-          (ap (λ m. get_or (codes_of false text' true) m 0) (sym len)
-          ∙ (e ∙ (ap (λ m. get_or codes m 0) len ∙ ap (λ l. get_or l n 0) (sym plain))));
-    }
+    grind (arith, nat_tests, length-seen, take_in_case, length-take-le, common_codes, nat_eq)

@@ -3,7 +3,6 @@ use Rattle.std.proofs.Common.{◌≡◌, ℕ, zero, suc, ◌<◌, ◌≤◌, ◌
 use Rattle.std.proofs.Common.{reverse, Some, None, refl, sym, ap, ◌∙◌, arith, eqb, nat_eq, option_map}
 use Rattle.std.specs.List.{list_any, starts_with}
 use Rattle.std.proofs.Math.Seq.{drop-cons}
-use Rattle.std.specs.Char.{to_ascii_lowercase}
 use Rattle.std.proofs.lemmas.Grind.{common_steps}
 use Rattle.std.proofs.lemmas.Bool.{eqb-true}
 use Rattle.std.proofs.lemmas.Bool.Decides.{nat_tests}
@@ -24,14 +23,7 @@ extension_of_rest (b ∷ bs) rest (suc n) e = ap (λ o. or_from_dot o b bs) (ext
 -- a dot after which there is none
 extension_from_dot : (name : List ℕ) (offset : ℕ) → offset < length name → eqb (get_or name offset 0) dot_byte ≡ true →
     extension (drop (suc offset) name) ≡ None → extension name ≡ Some (drop offset name)
-extension_from_dot name offset lt is none =
-    extension_of_rest name (drop offset name) offset
-    (ap extension (drop-cons name offset 0 lt)
-    ∙ (ap (λ o. or_from_dot o (get_or name offset 0) (drop (suc offset) name)) none
-    ∙ (from_dot (get_or name offset 0) (drop (suc offset) name) is ∙ ap Some (sym (drop-cons name offset 0 lt)))))
-  where
-    from_dot : (b : ℕ) (bs : List ℕ) → eqb b dot_byte ≡ true → or_from_dot None b bs ≡ Some (b ∷ bs)
-    from_dot b bs t = rw t refl
+extension_from_dot name offset lt is none = grind (arith, nat_tests, extension_of_rest name (drop offset name) offset, drop-cons name offset 0 lt)
 
 -- one byte more, at the end
 extension_snoc : (b : ℕ) → eqb b dot_byte ≡ false → (name : List ℕ) → extension (name ++ b ∷ []) ≡ option_map (λ e. e ++ b ∷ []) (extension name)
@@ -48,10 +40,9 @@ reversed_snoc b bs = reverse-append (b ∷ []) bs
 -- a text that, from its last byte on, begins with an extension has it
 reversed_extension : (key text : List ℕ) → is_reversed_extension key ≡ true → starts_with nat_eq text key ≡ true →
     extension (reverse text) ≡ Some (reverse key)
-reversed_extension [] text is has = absurd cc
-reversed_extension (k ∷ ks) [] is has = absurd cc
 reversed_extension (k ∷ ks) (b ∷ bs) is has =
     grind (arith, common_steps, eqb-true, reversed_snoc, extension_snoc_dot, extension_snoc, nat_tests, reversed_extension ks bs)
+reversed_extension key text is has = grind (arith, nat_tests)
 
 -- the text that a text from its last byte on begins with, if this is an extension
 pub extension_of_begun : (text key : List ℕ) → is_reversed_extension key ≡ true → starts_with nat_eq (reverse text) key ≡ true →
@@ -78,8 +69,7 @@ pub extension_from_dot_at : (name : List ℕ) (offset : ℕ) → 0 < offset → 
     extension (drop offset name) ≡ None → extension name ≡ Some (take (length name - (offset - 1)) (drop (offset - 1) name))
 extension_from_dot_at name offset some le is none =
     let m : offset ≡ suc (offset - 1) = omega arith in
-    extension_from_dot name (offset - 1) (omega arith) (equal (get_or name (offset - 1) 0) is) (ap (λ n. extension (drop n name)) (sym m) ∙ none)
-    ∙ ap Some (sym (rest_is name (offset - 1) (omega arith)))
+    grind (arith, nat_tests, extension_from_dot, rest_is)
   where
     equal : (b : ℕ) → b ≡ dot_byte → eqb b dot_byte ≡ true
     equal b e = grind (arith, nat_tests)
@@ -87,24 +77,16 @@ extension_from_dot_at name offset some le is none =
 -- an extension that does not begin at an offset, or after it, is longer than what follows the offset
 extension_before : (name text : List ℕ) (offset : ℕ) → offset ≤ length name → extension (drop offset name) ≡ None →
     extension name ≡ Some text → length name - offset < length text
-extension_before name text zero le none is = let no : None ≡ Some text = sym none ∙ is in absurd cc
-extension_before [] text (suc n) le none is = absurd (omega (arith, le))
 extension_before (b ∷ bs) text (suc n) le none is = grind (arith, nat_tests, extension_before bs text n)
+extension_before name text offset le none is = grind (arith, nat_tests)
 
 -- an extension that none of the last bytes begins is longer than these
 pub longer_extension : (name text : List ℕ) (offset longest : ℕ) → offset ≤ length name → offset ≤ length name - longest →
     extension (drop offset name) ≡ None → extension name ≡ Some text → longest < length text
-longer_extension name text zero longest le first none is = let no : None ≡ Some text = sym none ∙ is in absurd cc
-longer_extension name text (suc n) longest le first none is = omega (arith, extension_before name text (suc n) le none is, first)
-
--- a dot is one in lower case, too
-pub dot_in_case : (b : ℕ) → eqb (to_ascii_lowercase b) dot_byte ≡ eqb b dot_byte
-dot_in_case b = grind (arith, nat_tests)
+longer_extension name text offset longest le first none is = grind (arith, nat_tests, extension_before name text)
 
 -- the part of a text that is hashed, in lower case
 pub part_in_case : (from_end fold : Bool) (text : List ℕ) →
     hashed_part from_end (in_case fold text) ≡ option_map (in_case fold) (hashed_part from_end text)
-part_in_case false fold text = refl
-part_in_case true false text = grind (arith, nat_tests)
-part_in_case true true [] = refl
-part_in_case true true (b ∷ bs) = grind (arith, nat_tests, dot_in_case, part_in_case true true bs)
+part_in_case true true (b ∷ bs) = grind (arith, nat_tests, part_in_case true true bs)
+part_in_case from_end fold text = grind (arith, nat_tests)

@@ -1,5 +1,5 @@
 -- The rows of each subject, and the keys that the texts of a path have.
-use Rattle.std.proofs.Common.{◌≡◌, ℕ, zero, suc, Bool, true, false, ◌&&◌, ◌||◌, List, [], ◌∷◌, map, refl, sym, ap, arith, ◌∙◌, Option}
+use Rattle.std.proofs.Common.{◌≡◌, ℕ, zero, suc, Bool, true, false, ◌&&◌, ◌||◌, List, [], ◌∷◌, map, arith, Option}
 use Rattle.std.specs.Prelude.{slice_get}
 use Rattle.std.proofs.lemmas.Grind.{common_steps}
 use Rattle.std.proofs.lemmas.Bool.Decides.{nat_tests}
@@ -18,24 +18,19 @@ use Rattle.attr_keys.specs.inner.Kinds.{is_of}
 use Rattle.attr_keys.specs.shared.Meeting.{directed, is_about, is_end, same_subject, text_has}
 use Rattle.attr_keys.specs.inner.Orders.{AreFindable, AreSorted, AreSubjectRows, has_subject_row}
 use Rattle.attr_keys.specs.shared.Rows.{has_row}
-use Rattle.attr_keys.proofs.ExtensionTexts.{dot_in_case}
 use Rattle.attr_keys.proofs.SeenTexts.{directed_in_case, directed_twice, seen_lower}
-
-same_end : (subject other : Subject) → same_subject subject other ≡ true → is_end other ≡ is_end subject
-same_end subject other h = grind arith
 
 -- a key of a subject, as it is read for that subject
 seen_same : (subject : Subject) (fold : Bool) (key : KeyContent) → same_subject subject key.subject ≡ true →
     seen fold (is_end subject) key ≡ content_in_case fold key
-seen_same subject fold key same = grind (arith, nat_tests, same_end, directed_twice)
+seen_same subject fold key same = grind (arith, nat_tests, directed_twice)
 
 -- a test of a subject's keys, as they are read for it
 about_seen : (subject : Subject) (fold : Bool) (test : Option KeyContent → Bool) (keys : List KeyContent) (row : ℕ) →
     is_about subject (slice_get keys row) && test (slice_get (seen_keys fold (is_end subject) keys) row)
     ≡ is_about subject (slice_get (map (content_in_case fold) keys) row) && test (slice_get (map (content_in_case fold) keys) row)
-about_seen subject fold test [] row = refl
 about_seen subject fold test (key ∷ keys) (suc row) = about_seen subject fold test keys row
-about_seen subject fold test (key ∷ keys) zero = grind (arith, nat_tests, seen_same)
+about_seen subject fold test keys row = grind (arith, nat_tests, seen_same)
 
 -- the keys of lines, as they are read
 pub seen_by : {K : Type 0} (content : K → KeyContent) (keys : Keys K) (lines : List K) (fold from_end : Bool) → keys.lines.now ≡ lines →
@@ -60,12 +55,8 @@ pub subject_rows_met : (subject : Subject) (fold : Bool) (keys seen : List KeyCo
     ≡ is_about subject (slice_get (map (content_in_case fold) keys) row)
     && text_has (directed (is_end subject) (in_case fold text)) (slice_get (map (content_in_case fold) keys) row)
 subject_rows_met subject fold keys seen rows view text folds ends is are row =
-    let e = is_end subject in
-    let as_read = ap (λ f. in_case f (directed view.from_end text)) folds
-    ∙ (ap (λ d. in_case fold (directed d text)) ends ∙ sym (directed_in_case e fold text)) in
-    ap (λ l. has_subject_row rows row && text_has (seen_text view text) (slice_get l row)) is
-    ∙ (ap (λ l. has_subject_row rows row && text_has l (slice_get (seen_keys fold e keys) row)) as_read
-    ∙ subject_rows_pass subject fold keys rows (text_has (directed e (in_case fold text))) are row)
+    let fact = subject_rows_pass subject fold keys rows (text_has (directed (is_end subject) (in_case fold text))) are row in
+    grind (arith, nat_tests, directed_in_case (is_end subject) fold text, fact)
 
 -- keys without a capital letter are the same in lower case
 pub sorted_for : (fold : Bool) (keys : List KeyContent) (rows : KeyRows) → map (content_in_case true) keys ≡ keys → AreSorted false keys rows →
@@ -87,22 +78,19 @@ pub others_are : (key : Option KeyContent) → is_of kind.Anything key ≡ is_ab
 others_are key = grind arith
 
 extension_in_case : (fold : Bool) (text : List ℕ) → is_reversed_extension (in_case fold text) ≡ is_reversed_extension text
-extension_in_case false text = refl
-extension_in_case true [] = refl
-extension_in_case true (b ∷ bs) = grind (arith, nat_tests, dot_in_case, length-map, extension_in_case true bs)
+extension_in_case true (b ∷ bs) = grind (arith, nat_tests, length-map, extension_in_case true bs)
+extension_in_case fold text = grind (arith, nat_tests)
 
 -- a whole name is found by its hash
 pub name_hashed : (fold : Bool) (keys : List KeyContent) (row : ℕ) → is_of kind.Name (slice_get keys row) ≡ true →
     is_hashed false (slice_get (seen_keys fold false keys) row) ≡ true
-name_hashed fold [] row is = is
 name_hashed fold (key ∷ keys) (suc row) is = name_hashed fold keys row is
-name_hashed fold (key ∷ keys) zero is = grind (arith, nat_tests)
+name_hashed fold keys row is = grind (arith, nat_tests)
 
 pub path_hashed : (fold : Bool) (keys : List KeyContent) (row : ℕ) → is_of kind.Path (slice_get keys row) ≡ true →
     is_hashed false (slice_get (seen_keys fold false keys) row) ≡ true
-path_hashed fold [] row is = is
 path_hashed fold (key ∷ keys) (suc row) is = path_hashed fold keys row is
-path_hashed fold (key ∷ keys) zero is = grind (arith, nat_tests)
+path_hashed fold keys row is = grind (arith, nat_tests)
 
 pub extension_hashed : (fold : Bool) (keys : List KeyContent) (row : ℕ) → is_of kind.Extension (slice_get keys row) ≡ true →
     is_hashed true (slice_get (seen_keys fold true keys) row) ≡ true
@@ -110,16 +98,7 @@ extension_hashed fold [] row is = is
 extension_hashed fold (key ∷ keys) (suc row) is = extension_hashed fold keys row is
 extension_hashed fold (key ∷ keys) zero is = grind (arith, common_steps, directed_twice, extension_in_case, nat_tests)
 
-pub hashed_by : (from_end from_end' : Bool) (seen seen' : List KeyContent) (row : ℕ) → from_end ≡ from_end' → seen ≡ seen' →
-    is_hashed from_end' (slice_get seen' row) ≡ true → is_hashed from_end (slice_get seen row) ≡ true
-hashed_by from_end from_end' seen seen' row ends is hashed = grind (arith, nat_tests)
-
 -- the rows of two kinds
 pub either_kind : (p p' h h' : List ℕ) (row : ℕ) (P H A : Bool) → p ≡ p' → h ≡ h' → has_row p' row ≡ P → has_row h' row ≡ H → P || H ≡ A →
     has_row p row || has_row h row ≡ A
 either_kind p p' h h' row P H A same same' are are' both = grind (arith, nat_tests)
-
--- rows that were found twice, one after the other
-pub found_both : (old first first' second second' mid new : Bool) → new ≡ mid || second → mid ≡ old || first → first ≡ first' → second ≡ second' →
-    new ≡ old || (first' || second')
-found_both old first first' second second' mid new more some same same' = grind (arith, nat_tests)

@@ -1,5 +1,5 @@
 -- Whole keys and extensions, by the hashes of their texts.
-use Rattle.std.proofs.Common.{◌≡◌, ℕ, zero, suc, ◌<◌, ◌≤◌, Bool, true, false, not, ◌&&◌, ◌||◌, List, [], ◌∷◌, ◌++◌, length, get_or, reverse, Option}
+use Rattle.std.proofs.Common.{◌≡◌, ℕ, suc, ◌<◌, ◌≤◌, Bool, true, false, not, ◌&&◌, ◌||◌, List, [], ◌∷◌, ◌++◌, length, get_or, reverse, Option}
 use Rattle.std.proofs.Common.{None, Some, option_map, refl, sym, ap, subst, ◌∙◌, arith, eqb, nat_eq}
 use Rattle.std.specs.Prelude.{All, filter, slice_get, unwrap_or}
 use Rattle.std.specs.List.{starts_with}
@@ -20,17 +20,16 @@ use Rattle.attr_keys.specs.inner.Hashes.{rows_of_hash, text_of_row}
 use Rattle.attr_keys.specs.shared.Rows.{has_row}
 use Rattle.attr_keys.proofs.Cuts.{begin_below}
 use Rattle.attr_keys.proofs.ExtensionTexts.{extension_of_begun, part_in_case}
-use Rattle.attr_keys.proofs.Parts.{no_byte, no_end, shifted}
-use Rattle.attr_keys.proofs.RowLemmas.{and_none, by_test, or_true}
+use Rattle.attr_keys.proofs.RowLemmas.{and_none, by_test}
 use Rattle.attr_keys.proofs.SeenTexts.{directed_in_case, length-in_case}
 use Rattle.attr_keys.specs.inner.Cases.{in_case}
 
 -- a text that has a whole key is the key
 whole_same : (text key : List ℕ) → starts_with nat_eq (codes_of false text true) (codes_of false key true) ≡ true → key ≡ text
 whole_same [] [] h = refl
-whole_same (b ∷ bs) [] h = let no : false ≡ true = rw (no_byte b) at h in absurd cc
-whole_same [] (k ∷ ks) h = let no : false ≡ true = rw (no_end k) at h in absurd cc
-whole_same (b ∷ bs) (k ∷ ks) h = grind (arith, nat_tests, eqb-true, shifted, whole_same bs ks)
+whole_same (b ∷ bs) [] h = grind (arith, nat_tests)
+whole_same [] (k ∷ ks) h = grind (arith, nat_tests)
+whole_same (b ∷ bs) (k ∷ ks) h = grind (arith, nat_tests, eqb-true, whole_same bs ks)
 
 -- a text that has a key has the key's text where it is hashed
 part_found : (from_end : Bool) (keys : List KeyContent) (h : HashedRow) (key : Option KeyContent) → slice_get keys h.row ≡ key →
@@ -45,17 +44,15 @@ part_found false keys h (Some key) at is text has =
 part_found true keys h (Some key) at is text has =
     let parts = both key.is_whole (is_reversed_extension key.text) is in
     let same : row_codes keys h.row ≡ codes_of false key.text false = ap key_codes at ∙ ap (codes_of false key.text) parts.0 in
-    let begins = begin_below (reverse text) key.text true false
-    (sym (ap (starts_with nat_eq (codes_of false (reverse text) true)) same) ∙ has) in
-    extension_of_begun text key.text parts.1 begins
+    let begins = begin_below (reverse text) key.text true false (sym (ap (starts_with nat_eq (codes_of false (reverse text) true)) same) ∙ has) in
+    grind (arith, nat_tests, extension_of_begun)
   where
     both : (w e : Bool) → not w && e ≡ true → (w ≡ false) × (e ≡ true)
     both w e h = grind arith
 
 has_own : (hashed : List HashedRow) (k : ℕ) (d : HashedRow) → k < length hashed → has_row (hashed_rows hashed) (get_or hashed k d).row ≡ true
-has_own [] k d lt = absurd (omega arith)
-has_own (h ∷ hs) zero d lt = ap (λ b. b || has_row (hashed_rows hs) h.row) (eq-eqb h.row h.row refl)
-has_own (h ∷ hs) (suc k) d lt = ap (λ b. eqb h.row (get_or hs k d).row || b) (has_own hs k d (omega arith)) ∙ or_true (eqb h.row (get_or hs k d).row)
+has_own (h ∷ hs) (suc k) d lt = grind (arith, nat_tests, has_own hs k d)
+has_own hashed k d lt = grind (arith, nat_tests, eq-eqb)
 
 -- the hashes of keys that are found by them
 pub all_find : (from_end : Bool) (keys : List KeyContent) (rows : List ℕ) (hashed : List HashedRow) → hashed_rows hashed ≡ rows →
@@ -114,12 +111,10 @@ pub found_in_case : (fold from_end : Bool) (text : List ℕ) (keys : List KeyCon
     starts_with nat_eq (codes_of false (in_case fold (directed from_end text)) true) (row_codes keys h.row) ≡ true →
     option_map (in_case fold) (hashed_part from_end text) ≡ Some (text_of_row from_end keys h.row)
 found_in_case fold from_end text keys h is has =
-    sym (part_in_case from_end fold text) ∙ is.finds (in_case fold text)
-    (ap (λ l. starts_with nat_eq (codes_of false l true) (row_codes keys h.row)) (directed_in_case from_end fold text) ∙ has)
+    grind (arith, nat_tests, part_in_case from_end fold text, directed_in_case from_end fold text, nat_eq)
 
 pub longer_in_case : (fold : Bool) (longest : ℕ) (part : Option (List ℕ)) → IsLonger longest part → IsLonger longest (option_map (in_case fold) part)
-longer_in_case fold longest None longer text is = absurd cc
-longer_in_case fold longest (Some part) longer text is = grind (arith, nat_tests, length-in_case)
+longer_in_case fold longest part longer text is = grind (arith, nat_tests, length-in_case)
 
 -- those of some keys of another order, and of some of them
 pub no_longer_push : (from_end : Bool) (keys : List KeyContent) (most more : ℕ) (rows : List HashedRow) (row : HashedRow) →

@@ -1,46 +1,31 @@
 -- Rows in the order of their keys, of which those are sought that a text begins with.
-use Rattle.std.proofs.Common.{◌≡◌, ◌≢◌, ℕ, zero, suc, ◌+◌, ◌-◌, ◌<◌, ◌≤◌, ◌⊎◌, inl, inr, Bool, true, false, not, ◌&&◌, ◌||◌, List, [], ◌∷◌, ◌++◌}
+use Rattle.std.proofs.Common.{◌≡◌, ◌≢◌, ℕ, zero, suc, ◌+◌, ◌-◌, ◌<◌, ◌≤◌, ◌⊎◌, Bool, true, false, not, ◌&&◌, ◌||◌, List, [], ◌∷◌, ◌++◌}
 use Rattle.std.proofs.Common.{length, drop, take, get_or, refl, sym, ap, ◌∙◌, arith, eqb, leb, nat_eq}
 use Rattle.std.specs.Cmp.Lexicographic.{slice_cmp, nat_list_cmp_total}
 use Rattle.std.specs.List.{starts_with}
 use Rattle.std.specs.List.Sorted.{IsPartitionedBy}
 use Rattle.std.specs.Ordering.{nat_cmp, is_lt}
-use Rattle.std.specs.declared.cmp.Ordering.TheVariants.{Less}
-use Rattle.std.proofs.Math.ListN.{get_or-append}
 use Rattle.std.proofs.Math.Seq.{drop-cons}
 use Rattle.std.proofs.lemmas.Bool.{eqb-true, not-true}
 use Rattle.std.proofs.lemmas.Bool.Decides.{nat_tests}
-use Rattle.std.proofs.lemmas.List.{get_or-drop, get_or_push, length-append, length-drop}
+use Rattle.std.proofs.lemmas.List.{get_or-drop, length-drop}
 use Rattle.std.proofs.lemmas.List.Folds.{list_any-append}
 use Rattle.std.proofs.lemmas.List.Sorted.{ranks_by, sorted_far}
 use Rattle.attr_keys.specs.shared.KeyContents.{KeyContent}
 use Rattle.attr_keys.specs.shared.Codes.{codes_of, row_codes}
-use Rattle.attr_keys.specs.shared.Rows.{AreInOrder, AreLinks, IsCommon, IsLink, has_row, is_up_to}
+use Rattle.attr_keys.specs.shared.Rows.{AreInOrder, IsCommon, IsLink, has_row, is_up_to}
 use Rattle.attr_keys.proofs.RowLemmas.{and_none, by_test}
-
-itself : (a : ℕ) → nat_cmp a a ≡ nat_cmp 0 0
-itself a = grind (arith, nat_tests)
-
-below : (a b : ℕ) → a < b → nat_cmp a b ≡ Less
-below a b lt = grind (arith, nat_tests)
-
-sides : (a b : ℕ) → nat_eq a b ≡ false → (a < b) ⊎ (b < a)
-sides a b f = grind (arith, nat_tests)
 
 -- what a text begins with is not after it
 begun_before : (text key : List ℕ) → starts_with nat_eq text key ≡ true → is_lt (slice_cmp nat_cmp text key) ≡ false
-begun_before [] [] h = refl
-begun_before (d ∷ t) [] h = refl
-begun_before [] (c ∷ q) h = absurd cc
-begun_before (d ∷ t) (c ∷ q) h = grind (arith, nat_tests, eqb-true, itself, begun_before t q)
+begun_before (d ∷ t) (c ∷ q) h = grind (arith, nat_tests, eqb-true, begun_before t q)
+begun_before text key h = grind (arith, nat_tests)
 
 -- what stands between a text and what this begins with begins with it, too
 between_begins : (key mid text : List ℕ) → is_lt (slice_cmp nat_cmp mid key) ≡ false → is_lt (slice_cmp nat_cmp text mid) ≡ false →
     starts_with nat_eq text key ≡ true → starts_with nat_eq mid key ≡ true
-between_begins [] mid text low high h = refl
-between_begins (c ∷ q) mid [] low high h = absurd cc
-between_begins (c ∷ q) [] (d ∷ t) low high h = absurd cc
-between_begins (c ∷ q) (a ∷ m) (d ∷ t) low high h = grind (arith, nat_tests, eqb-true, itself, sides, below, between_begins q m t)
+between_begins (c ∷ q) (a ∷ m) (d ∷ t) low high h = grind (arith, nat_tests, eqb-true, between_begins q m t)
+between_begins key mid text low high h = grind (arith, nat_tests)
 
 far : (keys : List KeyContent) (rows : List ℕ) → AreInOrder keys rows → (i j : ℕ) → i ≤ j → j < length rows →
     is_lt (slice_cmp nat_cmp (row_codes keys (get_or rows j 0)) (row_codes keys (get_or rows i 0))) ≡ false
@@ -66,8 +51,7 @@ link_less keys rows index end end' order within some link other before =
       none = λ k le lt. by_test (leb end k)
           (λ t. link.none k (at_least end k t) lt)
           (λ f. by_test (eqb k (end - 1))
-          (λ t. ap (λ n. starts_with nat_eq (row_codes keys (get_or rows index 0)) (row_codes keys (get_or rows n 0))) (eqb-true k (end - 1) t)
-          ∙ other)
+          (λ t. grind (arith, nat_tests, nat_eq, eqb-true))
           (λ g.
           let less = earlier end k f g in
           none_between keys rows (row_codes keys (get_or rows index 0)) (end - 1) end' order (omega (arith, bound', some, within))
@@ -79,11 +63,6 @@ link_less keys rows index end end' order within some link other before =
 
     earlier : (a b : ℕ) → leb a b ≡ false → eqb b (a - 1) ≡ false → b < a - 1
     earlier a b f g = grind (arith, nat_tests)
-
--- one more link
-pub links_more : (keys : List KeyContent) (rows links links' : List ℕ) (end : ℕ) → links' ≡ links ++ end ∷ [] → AreLinks keys rows links →
-    IsLink keys rows (length links) end → AreLinks keys rows links'
-links_more keys rows links links' end is known more index lt = grind (arith, nat_tests, length-append, eqb-true, get_or_push, get_or-append)
 
 -- rows that pass no test
 none_in : (has : ℕ → Bool) (xs : List ℕ) (row : ℕ) → ((k : ℕ) → k < length xs → has (get_or xs k 0) ≡ false) → has_row xs row && has row ≡ false
@@ -108,17 +87,14 @@ skipped has (x ∷ xs) zero (suc to) row le none =
     by_test (eqb x row)
     (λ t.
     let fails = ap has (sym (eqb-true x row t)) ∙ none 0 (omega arith) (omega arith) in
-    ap (λ b. (eqb x row || has_row xs row) && b) fails
-    ∙ (and_none (eqb x row || has_row xs row)
-    ∙ sym (ap (λ b. has_row (drop to xs) row && b) fails ∙ and_none (has_row (drop to xs) row))))
+    grind (arith, nat_tests, and_none))
     (λ f. rw f (skipped has xs zero to row (omega arith) (λ k a b. none (suc k) (omega arith) (omega arith))))
 
 -- one more row, after those that were skipped
 last_row : (has : ℕ → Bool) (rows : List ℕ) (index end row : ℕ) → index < length rows → end ≤ index →
     ((k : ℕ) → end ≤ k → k < index → has (get_or rows k 0) ≡ false) →
     has_row (drop end rows) row && has row ≡ (eqb (get_or rows index 0) row || has_row (drop (suc index) rows) row) && has row
-last_row has rows index end row lt le none =
-    skipped has rows end index row le none ∙ ap (λ l. has_row l row && has row) (drop-cons rows index 0 lt)
+last_row has rows index end row lt le none = grind (arith, nat_tests, skipped has rows end index row le none, drop-cons rows index 0 lt)
 
 -- a row that passes the test was found
 pub linked_more : (has : ℕ → Bool) (old found rows : List ℕ) (index end row : ℕ) → index < length rows → end ≤ index →
@@ -168,11 +144,7 @@ pub none_dropped : (keys : List KeyContent) (rows : List ℕ) (text : List ℕ) 
     has_row (drop from rows) row && starts_with nat_eq text (row_codes keys row) ≡ false
 none_dropped keys rows text from after row =
     none_in (λ r. starts_with nat_eq text (row_codes keys r)) (drop from rows) row
-    (λ k lt.
-    let long = length-drop from rows in
-    let at = get_or-drop from rows k 0 in
-    ap (λ n. starts_with nat_eq text (row_codes keys n)) at
-    ∙ none_after keys (get_or rows (from + k) 0) text (after (from + k) (omega arith) (omega (arith, lt, long))))
+    (λ k lt. grind (arith, nat_tests, length-drop, get_or-drop, nat_eq, none_after))
 
 -- what two lists of codes begin with is no longer than what they have in common
 no_longer : (text key codes : List ℕ) (n : ℕ) → get_or text n 0 ≢ get_or key n 0 → starts_with nat_eq text codes ≡ true →
@@ -186,10 +158,8 @@ no_longer (t ∷ ts) (k ∷ ks) (c ∷ cs) (suc n) apart h h' = grind (arith, na
 -- what the codes of a text begin with stands in so many of its bytes
 begins_short : (text codes : List ℕ) (n : ℕ) → n ≤ length text → length codes ≤ n → starts_with nat_eq (codes_of false text true) codes ≡ true →
     starts_with nat_eq (codes_of false (take n text) false) codes ≡ true
-begins_short text [] n within le h = refl
-begins_short text (c ∷ cs) zero within le h = absurd (omega (arith, le))
-begins_short [] (c ∷ cs) (suc n) within le h = absurd (omega (arith, within))
 begins_short (b ∷ bs) (c ∷ cs) (suc n) within le h = grind (arith, nat_tests, begins_short bs cs n)
+begins_short text codes n within le h = grind (arith, nat_tests)
 
 -- no row after what a text has in common with a key has a key that the text has
 pub none_common : (keys : List KeyContent) (rows : List ℕ) (text common : List ℕ) (index end : ℕ) → AreInOrder keys rows → index < length rows →
@@ -204,5 +174,4 @@ none_common keys rows text common index end order within up is after k le lt =
 pub none_lesser : (has : ℕ → Bool) (rows : List ℕ) (index end other least : ℕ) → (least ≡ end) ⊎ (least ≡ other) →
     ((k : ℕ) → end ≤ k → k < index → has (get_or rows k 0) ≡ false) → ((k : ℕ) → other ≤ k → k < index → has (get_or rows k 0) ≡ false) →
     (k : ℕ) → least ≤ k → k < index → has (get_or rows k 0) ≡ false
-none_lesser has rows index end other least (inl e) one two k le lt = one k (omega (arith, e, le)) lt
-none_lesser has rows index end other least (inr e) one two k le lt = two k (omega (arith, e, le)) lt
+none_lesser has rows index end other least h one two k le lt = grind (arith, nat_tests)

@@ -9,24 +9,22 @@ use Rattle.std.proofs.lemmas.Bool.{eqb-false, eqb-true}
 use Rattle.std.proofs.lemmas.Bool.Decides.{nat_tests}
 use Rattle.std.proofs.lemmas.List.Folds.{list_any-append}
 use Rattle.attr_keys.specs.declared.key.Key.{Key}
-use Rattle.attr_keys.specs.declared.key.Subject.{Subject}
-use Rattle.attr_keys.specs.declared.key.Subject.TheVariants.{Name, End, Path, Anything, Nothing}
+use Rattle.attr_keys.specs.declared.key.Subject.TheVariants.{Anything}
 use Rattle.attr_keys.specs.shared.KeyContents.{KeyContent}
 use Rattle.attr_keys.specs.shared.Codes.{codes_of}
 use Rattle.attr_keys.specs.inner.Cases.{in_case, content_in_case}
 use Rattle.attr_keys.specs.declared.kinds.Kind.{Kind}
 use Rattle.attr_keys.specs.inner.Kinds.{is_of, kind_of, rows_with, same_kind}
-use Rattle.attr_keys.specs.shared.Meeting.{directed, is_end, is_about, has_content, key_content, content_met_at, content_met_by}
+use Rattle.attr_keys.specs.shared.Meeting.{directed, is_end, is_about, has_content, key_content, content_met_at}
 use Rattle.attr_keys.specs.inner.Orders.{gathered}
 use Rattle.attr_keys.specs.shared.Rows.{has_row}
 use Rattle.attr_keys.proofs.SeenTexts.{codes_in_case, directed_in_case}
-use Rattle.attr_keys.proofs.RowLemmas.{by_test, or_none, or_true}
+use Rattle.attr_keys.proofs.RowLemmas.{by_test, or_none}
 
 get_here : {K : Type 0} (content : K → KeyContent) (lines : List K) (i : ℕ) (d : K) → i < length lines →
     slice_get (map content (take (suc i) lines)) i ≡ Some (content (get_or lines i d))
-get_here content [] i d lt = absurd (omega arith)
-get_here content (l ∷ ls) zero d lt = refl
 get_here content (l ∷ ls) (suc i) d lt = get_here content ls i d (omega arith)
+get_here content lines i d lt = grind (arith, nat_tests)
 
 get_past : {K : Type 0} (content : K → KeyContent) (lines : List K) (i : ℕ) → slice_get (map content (take i lines)) i ≡ None
 get_past content [] zero = refl
@@ -49,15 +47,14 @@ about_more : {K : Type 0} (content : K → KeyContent) (test : Option KeyContent
     ((r : ℕ) → has_row rows r ≡ test (slice_get (map content (take i lines)) r)) →
     (r : ℕ) → has_row (rows ++ i ∷ []) r ≡ test (slice_get (map content (take (i + 1) lines)) r)
 about_more content test lines rows i line lt at passes known r =
-    grind (arith, nat_tests, list_any-append, eqb-true, or_true, add-one, get_here, or_none, get_other, eqb-false)
+    grind (arith, nat_tests, list_any-append, eqb-true, add-one, get_here, or_none, get_other, eqb-false)
 
 -- one more key doesn't
 about_less : {K : Type 0} (content : K → KeyContent) (test : Option KeyContent → Bool) (lines : List K) (rows : List ℕ) (i : ℕ) (line : K) →
     i < length lines → line ≡ get_or lines i line → test None ≡ false → test (Some (content line)) ≡ false →
     ((r : ℕ) → has_row rows r ≡ test (slice_get (map content (take i lines)) r)) →
     (r : ℕ) → has_row rows r ≡ test (slice_get (map content (take (i + 1) lines)) r)
-about_less content test lines rows i line lt at nothing fails known r =
-    grind (arith, nat_tests, eqb-true, get_past, add-one, get_here, get_other, eqb-false)
+about_less content test lines rows i line lt at nothing fails known r = grind (arith, nat_tests, eqb-true, get_past, get_here, get_other, eqb-false)
 
 -- one more line among those of a kind
 pub kinds_more : {K : Type 0} (content : K → KeyContent) (k : Kind) (lines : List K) (rows : List ℕ) (i : ℕ) (line : K) →
@@ -84,12 +81,6 @@ lower_content key same =
     with_text : List ℕ → KeyContent
     with_text t = record { subject = key.subject; text = t; is_whole = key.is_whole }
 
--- a key of each subject
-gathered_or_any : (name path : List ℕ) (key : Option KeyContent) → gathered name path key || is_about Anything key
-    ≡ content_met_at false name path key
-gathered_or_any name path None = refl
-gathered_or_any name path (Some key) = grind (arith, nat_tests, or_none)
-
 has_in_case : (fold : Bool) (text : List ℕ) (key : KeyContent) → has_content false (in_case fold text) (content_in_case fold key)
     ≡ has_content fold text key
 has_in_case fold text key =
@@ -101,24 +92,17 @@ met_in_case : (fold : Bool) (name path : List ℕ) (keys : List KeyContent) (row
     ≡ content_met_at fold name path (slice_get keys row)
 met_in_case fold name path [] row = refl
 met_in_case fold name path (key ∷ keys) (suc row) = met_in_case fold name path keys row
-met_in_case fold name path (key ∷ keys) zero = by_subject key.subject
-  where
-    by_subject : (subject : Subject) → content_met_by false (in_case fold name) (in_case fold path) subject (content_in_case fold key)
-        ≡ content_met_by fold name path subject key
-    by_subject Name = has_in_case fold name key
-    by_subject End = ap (λ l. has_content false l (content_in_case fold key)) (directed_in_case true fold name) ∙ has_in_case fold (reverse name) key
-    by_subject Path = has_in_case fold path key
-    by_subject Anything = refl
-    by_subject Nothing = refl
+met_in_case fold name path (key ∷ keys) zero =
+    let fact = has_in_case fold (reverse name) key in
+    grind (arith, nat_tests, has_in_case fold name key, directed_in_case true fold name, fact, has_in_case fold path key)
 
 any_in_case : (fold : Bool) (keys : List KeyContent) (row : ℕ) →
     is_about Anything (slice_get (map (content_in_case fold) keys) row) ≡ is_about Anything (slice_get keys row)
-any_in_case fold [] row = refl
-any_in_case fold (key ∷ keys) zero = refl
 any_in_case fold (key ∷ keys) (suc row) = any_in_case fold keys row
+any_in_case fold keys row = grind (arith, nat_tests)
 
 -- the keys that were gathered in their case, and those of any path
 pub met_of_gathered : (fold : Bool) (name path : List ℕ) (keys : List KeyContent) (row : ℕ) →
     gathered (in_case fold name) (in_case fold path) (slice_get (map (content_in_case fold) keys) row) || is_about Anything (slice_get keys row)
     ≡ content_met_at fold name path (slice_get keys row)
-met_of_gathered fold name path keys row = grind (arith, nat_tests, any_in_case, gathered_or_any, met_in_case)
+met_of_gathered fold name path keys row = grind (arith, nat_tests, any_in_case, met_in_case)

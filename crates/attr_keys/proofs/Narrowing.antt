@@ -1,5 +1,5 @@
 -- Halving finds the elements of one hash in a list whose hashes don't fall.
-use Rattle.std.proofs.Common.{◌≡◌, ℕ, zero, suc, ◌-◌, ◌<◌, ◌≤◌, Bool, true, false, List, [], ◌∷◌, length, take, drop, get_or, refl, sym, ap, ◌∙◌}
+use Rattle.std.proofs.Common.{◌≡◌, ℕ, zero, suc, ◌-◌, ◌<◌, ◌≤◌, Bool, true, false, List, ◌∷◌, length, take, drop, get_or, sym, ap, ◌∙◌}
 use Rattle.std.proofs.Common.{arith, eqb, leb, ltb}
 use Rattle.std.specs.List.{filter}
 use Rattle.std.specs.List.Sorted.{IsPartitionPoint}
@@ -9,16 +9,13 @@ use Rattle.std.proofs.lemmas.List.{length-drop, get_or-drop, take_all}
 -- what the first elements fail is dropped
 pub filter_drop : {X : Type 0} (p : X → Bool) (d : X) (i : ℕ) (xs : List X) → ((k : ℕ) → k < i → k < length xs → p (get_or xs k d) ≡ false) →
     filter p xs ≡ filter p (drop i xs)
-filter_drop p d zero xs out = refl
-filter_drop p d (suc i) [] out = refl
 filter_drop p d (suc i) (x ∷ xs) out =
     rw (out 0 (omega arith) (omega arith)) (filter_drop p d i xs (λ k lt within. out (suc k) (omega arith) (omega arith)))
+filter_drop p d i xs out = grind (arith, nat_tests)
 
 -- what the first elements alone pass is taken
 filter_take : {X : Type 0} (p : X → Bool) (d : X) (j : ℕ) (xs : List X) → ((k : ℕ) → k < j → k < length xs → p (get_or xs k d) ≡ true) →
     ((k : ℕ) → j ≤ k → k < length xs → p (get_or xs k d) ≡ false) → filter p xs ≡ take j xs
-filter_take p d zero [] on out = refl
-filter_take p d (suc j) [] on out = refl
 filter_take p d zero (x ∷ xs) on out =
     rw (out 0 (omega arith) (omega arith)) (filter_take p d zero xs (λ k lt within. absurd (omega arith))
     (λ k le within. out (suc k) (omega arith) (omega arith)))
@@ -26,6 +23,7 @@ filter_take p d (suc j) (x ∷ xs) on out =
     rw (on 0 (omega arith) (omega arith))
     (ap (λ l. x ∷ l) (filter_take p d j xs (λ k lt within. on (suc k) (omega arith) (omega arith))
     (λ k le within. out (suc k) (omega arith) (omega arith))))
+filter_take p d j xs on out = grind (arith, nat_tests)
 
 pub rest_is : {X : Type 0} (xs : List X) (i : ℕ) → i ≤ length xs → take (length xs - i) (drop i xs) ≡ drop i xs
 rest_is xs i within = take_all (length xs - i) (drop i xs) (omega (arith, length-drop i xs))

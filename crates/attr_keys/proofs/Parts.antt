@@ -1,11 +1,8 @@
 -- The codes of a text and whether it is whole.
-use Rattle.std.proofs.Common.{◌≡◌, ◌≢◌, ◌⊎◌, ℕ, suc, ◌+◌, Bool, true, false, not, ◌&&◌, ◌||◌, List, [], ◌∷◌, length}
-use Rattle.std.proofs.Common.{refl, sym, ap, ◌∙◌, arith, eqb, nat_eq}
+use Rattle.std.proofs.Common.{◌≡◌, ◌≢◌, ◌⊎◌, ℕ, Bool, true, false, not, ◌&&◌, ◌||◌, List, [], ◌∷◌, length, refl, sym, ap, ◌∙◌, arith, eqb, nat_eq}
 use Rattle.std.specs.Cmp.Lexicographic.{slice_cmp}
 use Rattle.std.specs.List.{starts_with}
 use Rattle.std.specs.Ordering.{nat_cmp, bool_cmp, ordering_then}
-use Rattle.std.specs.declared.cmp.Ordering.{Ordering}
-use Rattle.std.specs.declared.cmp.Ordering.TheVariants.{Less, Greater}
 use Rattle.std.proofs.lemmas.Bool.Decides.{nat_tests}
 use Rattle.attr_keys.specs.declared.key.View.{View}
 use Rattle.attr_keys.specs.inner.Cases.{in_case, seen_text}
@@ -14,67 +11,27 @@ use Rattle.attr_keys.specs.shared.Meeting.{directed}
 use Rattle.attr_keys.proofs.SeenTexts.{codes_in_case, length-seen}
 use Rattle.attr_keys.proofs.RowLemmas.{and_none}
 
-end_below : (b : ℕ) → nat_cmp 1 (b + 2) ≡ Less
-end_below b = grind (arith, nat_tests)
-
-above_end : (b : ℕ) → nat_cmp (b + 2) 1 ≡ Greater
-above_end b = grind (arith, nat_tests)
-
-shifted_order : (a b : ℕ) → nat_cmp (a + 2) (b + 2) ≡ nat_cmp a b
-shifted_order a b = grind (arith, nat_tests)
-
-pub shifted : (a b : ℕ) → nat_eq (a + 2) (b + 2) ≡ nat_eq a b
-shifted a b = grind (arith, nat_tests)
-
-pub no_end : (a : ℕ) → nat_eq (a + 2) 1 ≡ false
-no_end a = grind (arith, nat_tests)
-
-pub no_byte : (a : ℕ) → nat_eq 1 (a + 2) ≡ false
-no_byte a = grind (arith, nat_tests)
-
-longer : (a : ℕ) → eqb 0 (suc a) ≡ false
-longer a = grind (arith, nat_tests)
-
-both_longer : (a b : ℕ) → eqb (suc a) (suc b) ≡ eqb a b
-both_longer a b = grind (arith, nat_tests)
-
-then_then : (o p q : Ordering) → ordering_then o (ordering_then p q) ≡ ordering_then (ordering_then o p) q
-then_then o p q = grind arith
-
-and_assoc : (a b c : Bool) → a && (b && c) ≡ (a && b) && c
-and_assoc a b c = grind arith
-
 -- codes are ordered as the texts are, and a whole text comes after one that isn't
 codes_order : (x y : List ℕ) (w v : Bool) → slice_cmp nat_cmp (codes_of false x w) (codes_of false y v)
     ≡ ordering_then (slice_cmp nat_cmp x y) (bool_cmp w v)
-codes_order [] [] true true = refl
-codes_order [] [] true false = refl
-codes_order [] [] false true = refl
-codes_order [] [] false false = refl
-codes_order [] (b ∷ bs) true v = ap (λ o. ordering_then o (slice_cmp nat_cmp [] (codes_of false bs v))) (end_below b)
-codes_order [] (b ∷ bs) false v = refl
-codes_order (a ∷ xs) [] w true = ap (λ o. ordering_then o (slice_cmp nat_cmp (codes_of false xs w) [])) (above_end a)
-codes_order (a ∷ xs) [] w false = refl
-codes_order (a ∷ xs) (b ∷ bs) w v = grind (arith, nat_tests, shifted_order, then_then, codes_order xs bs w v)
+codes_order (a ∷ xs) (b ∷ bs) w v = grind (arith, nat_tests, codes_order xs bs w v)
+codes_order x y w v = grind (arith, nat_tests)
 
 -- the same of codes as they are read
 pub order_seen : (view : View) (x y : List ℕ) (w v : Bool) (cs ds : List ℕ) → codes_of view.fold (directed view.from_end x) w ≡ cs →
     codes_of view.fold (directed view.from_end y) v ≡ ds →
     ordering_then (slice_cmp nat_cmp (seen_text view x) (seen_text view y)) (bool_cmp w v) ≡ slice_cmp nat_cmp cs ds
-order_seen view x y w v cs ds first second =
-    sym (codes_order (seen_text view x) (seen_text view y) w v)
-    ∙ (ap (λ l. slice_cmp nat_cmp l (codes_of false (seen_text view y) v)) (codes_in_case view.fold (directed view.from_end x) w ∙ first)
-    ∙ ap (slice_cmp nat_cmp cs) (codes_in_case view.fold (directed view.from_end y) v ∙ second))
+order_seen view x y w v cs ds first second = grind (arith, nat_tests, codes_order (seen_text view x) (seen_text view y) w v, codes_in_case)
 
 -- a text has a key if it begins with it, and is as long if the key is whole
 codes_begin : (text part : List ℕ) (w : Bool) → starts_with nat_eq (codes_of false text true) (codes_of false part w)
     ≡ starts_with nat_eq text part && (not w || eqb (length part) (length text))
 codes_begin text [] false = refl
 codes_begin [] [] true = refl
-codes_begin (b ∷ bs) [] true = ap (λ t. t && true) (no_byte b) ∙ sym (longer (length bs))
-codes_begin [] (c ∷ cs) true = ap (λ t. t && starts_with nat_eq [] (codes_of false cs true)) (no_end c)
-codes_begin [] (c ∷ cs) false = ap (λ t. t && starts_with nat_eq [] (codes_of false cs false)) (no_end c)
-codes_begin (b ∷ bs) (c ∷ cs) w = grind (arith, nat_tests, shifted, and_assoc, both_longer, codes_begin bs cs w)
+codes_begin (b ∷ bs) [] true = grind (arith, nat_tests)
+codes_begin [] (c ∷ cs) true = grind (arith, nat_tests, nat_eq)
+codes_begin [] (c ∷ cs) false = grind (arith, nat_tests, nat_eq)
+codes_begin (b ∷ bs) (c ∷ cs) w = grind (arith, nat_tests, codes_begin bs cs w)
 
 -- the same of a text and a part of a line as they are read
 begin_in_case : (fold from_end : Bool) (text part : List ℕ) (w : Bool) →

@@ -3,7 +3,7 @@ use Rattle.std.proofs.Common.{◌≡◌, ◌≢◌, ℕ, suc, ◌+◌, ◌-◌, 
 use Rattle.std.proofs.Common.{refl, sym, ap, ◌∙◌, eqb, arith}
 use Rattle.std.specs.Cmp.Lexicographic.{bytes_decides, slice_cmp}
 use Rattle.std.specs.List.{All, list_any}
-use Rattle.std.specs.Ordering.{is_eq, is_lt, is_ne, nat_cmp}
+use Rattle.std.specs.Ordering.{is_eq, is_ne, nat_cmp}
 use Rattle.std.specs.declared.cmp.Ordering.{Ordering}
 use Rattle.std.proofs.Math.ListN.{get_or-map}
 use Rattle.std.proofs.lemmas.Bool.Decides.{nat_tests}
@@ -50,23 +50,14 @@ same_map f c (x ∷ xs) (y ∷ ys) len has has' =
 
 in_parts : (rows : List ℕ) (start end : ℕ) → start ≤ end → rows ≡ take start rows ++ (take (end - start) (drop start rows) ++ drop end rows)
 in_parts rows start end le =
-    let rest : drop (end - start) (drop start rows) ≡ drop end rows =
-    drop-drop (end - start) start rows ∙ ap (λ n. drop n rows) {x = start + (end - start)} {y = end} (omega (arith, le)) in
-    sym (ap (λ l. take start rows ++ l)
-    (ap (λ l. take (end - start) (drop start rows) ++ l) (sym rest) ∙ take-append-drop (end - start) (drop start rows))
-    ∙ take-append-drop start rows)
+    grind (arith, nat_tests, drop-drop (end - start) start rows, take-append-drop (end - start) (drop start rows), take-append-drop start rows)
 
 -- rows with the codes of others are in their order
 ordered_by_codes : (keys : List KeyContent) (rows new : List ℕ) → map (row_codes keys) new ≡ map (row_codes keys) rows → AreInOrder keys rows →
     AreInOrder keys new
 ordered_by_codes keys rows new same order k d from below =
-    let f = row_codes keys in
-    let at : (n : ℕ) → f (get_or new n d) ≡ f (get_or rows n d) =
-    λ n. sym (get_or-map f new n d) ∙ ap (λ l. get_or l n (f d)) same ∙ get_or-map f rows n d in
-    let len : length new ≡ length rows = sym (length-map new f) ∙ ap length same ∙ length-map rows f in
-    ap (λ x. is_lt (slice_cmp nat_cmp x (f (get_or new k d)))) (at (k + 1))
-    ∙ ap (λ x. is_lt (slice_cmp nat_cmp (f (get_or rows (k + 1) d)) x)) (at k)
-    ∙ order k d from (omega (arith, below, len))
+    let fact = get_or-map (row_codes keys) rows in
+    grind (arith, nat_tests, get_or-map (row_codes keys) new, fact, length-map new (row_codes keys), length-map rows (row_codes keys))
 
 unequal : (r : Ordering) → is_ne r ≡ true → is_eq r ≡ true → ⊥
 unequal r n e = grind arith

@@ -17,19 +17,12 @@ and_none a = grind arith
 pub or_none : (a : Bool) → a || false ≡ a
 or_none a = grind arith
 
-pub or_true : (a : Bool) → a || true ≡ true
-or_true a = grind arith
-
-twice : (a b : Bool) → a || b ≡ a || (a || b)
-twice a b = grind arith
-
 has_dedup_from : (row k : ℕ) (xs : List ℕ) → has_row (dedup_from eqb k xs) row ≡ has_row (k ∷ xs) row
 has_dedup_from row k [] = refl
-has_dedup_from row k (x ∷ xs) = grind (arith, nat_tests, twice, eqb-true, has_dedup_from row k xs, has_dedup_from row x xs)
+has_dedup_from row k (x ∷ xs) = grind (arith, nat_tests, eqb-true, has_dedup_from row k xs, has_dedup_from row x xs)
 
 pub has_dedup : (row : ℕ) (xs : List ℕ) → has_row (dedup eqb xs) row ≡ has_row xs row
-has_dedup row [] = refl
-has_dedup row (x ∷ xs) = has_dedup_from row x xs
+has_dedup row xs = grind (arith, nat_tests, has_dedup_from)
 
 -- a list that rises, reversed
 pub falling_reverse : (xs : List ℕ) → IsStrictlyIncreasing xs → IsFalling (reverse xs)

@@ -1,52 +1,42 @@
 -- Keys as they are read, and texts in lower case.
-use Rattle.std.proofs.Common.{arith, ◌≡◌, ℕ, zero, suc, Bool, true, false, List, [], ◌∷◌, Option, Some, length, map, reverse, refl, sym, ap, ◌∙◌}
-use Rattle.std.specs.Char.{to_ascii_lowercase}
+use Rattle.std.proofs.Common.{arith, ◌≡◌, ℕ, suc, Bool, true, false, List, [], ◌∷◌, Option, Some, length, map, reverse, refl, sym, ap, ◌∙◌}
 use Rattle.std.specs.Prelude.{option_map, slice_get}
 use Rattle.std.proofs.lemmas.Grind.{common_steps}
 use Rattle.std.proofs.lemmas.Bool.Decides.{nat_tests}
 use Rattle.std.proofs.lemmas.List.{length-map, length-reverse, map_push, reverse-append, reverse-reverse}
 use Rattle.attr_keys.specs.declared.key.Key.{Key}
 use Rattle.attr_keys.specs.shared.KeyContents.{KeyContent}
-use Rattle.attr_keys.specs.inner.Cases.{content_in_case, in_case, natural, seen, seen_keys, text_standing}
+use Rattle.attr_keys.specs.inner.Cases.{content_in_case, in_case, seen, seen_keys, text_standing}
 use Rattle.attr_keys.specs.inner.Hashes.{text_of_row}
 use Rattle.attr_keys.specs.shared.Codes.{byte_code, codes_of, key_codes, row_codes}
-use Rattle.attr_keys.specs.shared.Meeting.{directed, is_end, is_whole_row, key_content}
+use Rattle.attr_keys.specs.shared.Meeting.{directed, is_end, key_content}
 
 pub codes_in_case : (fold : Bool) (text : List ℕ) (is_whole : Bool) → codes_of false (in_case fold text) is_whole ≡ codes_of fold text is_whole
-codes_in_case false text is_whole = refl
-codes_in_case true [] is_whole = refl
 codes_in_case true (b ∷ bs) is_whole = ap (λ l. byte_code true b ∷ l) (codes_in_case true bs is_whole)
+codes_in_case fold text is_whole = grind (arith, nat_tests)
 
 -- a text that is reversed twice is the same
 pub directed_twice : (from_end : Bool) (text : List ℕ) → directed from_end (directed from_end text) ≡ text
-directed_twice false text = refl
-directed_twice true text = reverse-reverse text
-
--- the text of a key's content, as it stands in its line
-pub natural_is : (key : Key) → natural (key_content key) ≡ key.text.now
-natural_is key = directed_twice (is_end key.subject) key.text.now
+directed_twice from_end text = grind (arith, nat_tests, reverse-reverse)
 
 -- the codes of a key that is read like this
 pub codes_seen : (fold from_end : Bool) (key : Key) → codes_of fold (directed from_end key.text.now) key.is_whole
     ≡ key_codes (Some (seen fold from_end (key_content key)))
-codes_seen fold from_end key = grind (arith, nat_tests, codes_in_case, natural_is)
+codes_seen fold from_end key = grind (arith, nat_tests, codes_in_case, directed_twice)
 
 -- the codes of the key of a line
 pub row_seen : {K : Type 0} (content : K → KeyContent) (fold from_end : Bool) (lines : List K) (row : ℕ) (line : Option K) →
     slice_get lines row ≡ line →
     key_codes (option_map (λ l. seen fold from_end (content l)) line) ≡ row_codes (seen_keys fold from_end (map content lines)) row
-row_seen content fold from_end [] row line is = ap (λ o. key_codes (option_map (λ l. seen fold from_end (content l)) o)) (sym is)
-row_seen content fold from_end (l ∷ ls) zero line is = ap (λ o. key_codes (option_map (λ k. seen fold from_end (content k)) o)) (sym is)
 row_seen content fold from_end (l ∷ ls) (suc row) line is = row_seen content fold from_end ls row line is
+row_seen content fold from_end lines row line is = grind (arith, nat_tests)
 
 map_reverse : (f : ℕ → ℕ) (x : List ℕ) → map f (reverse x) ≡ reverse (map f x)
 map_reverse f [] = refl
 map_reverse f (b ∷ bs) = grind (arith, common_steps, reverse-append, map_push, map_reverse f bs)
 
 pub directed_in_case : (from_end fold : Bool) (text : List ℕ) → directed from_end (in_case fold text) ≡ in_case fold (directed from_end text)
-directed_in_case false fold text = refl
-directed_in_case true false text = refl
-directed_in_case true true text = sym (map_reverse to_ascii_lowercase text)
+directed_in_case from_end fold text = grind (arith, nat_tests, map_reverse)
 
 -- keys in lower case, read as they are
 pub seen_lower : (from_end : Bool) (keys : List KeyContent) →
@@ -64,27 +54,14 @@ seen_lower from_end (key ∷ keys) =
 -- the text of a key that is read like this, as it stands in its line
 pub standing_seen : (fold from_end : Bool) (keys : List KeyContent) (row : ℕ) →
     in_case fold (text_standing (slice_get keys row)) ≡ text_of_row from_end (seen_keys fold from_end keys) row
-standing_seen fold from_end [] row = grind (arith, nat_tests)
-standing_seen fold from_end (key ∷ keys) zero = grind (arith, nat_tests, directed_in_case, directed_twice)
 standing_seen fold from_end (key ∷ keys) (suc row) = standing_seen fold from_end keys row
-
-pub whole_seen : (fold from_end : Bool) (keys : List KeyContent) (row : ℕ) →
-    is_whole_row (slice_get keys row) ≡ is_whole_row (slice_get (seen_keys fold from_end keys) row)
-whole_seen fold from_end [] row = refl
-whole_seen fold from_end (key ∷ keys) zero = refl
-whole_seen fold from_end (key ∷ keys) (suc row) = whole_seen fold from_end keys row
-
-pub no_codes : (fold from_end : Bool) → codes_of fold (directed from_end []) false ≡ []
-no_codes fold false = refl
-no_codes fold true = refl
+standing_seen fold from_end keys row = grind (arith, nat_tests, directed_in_case, directed_twice)
 
 pub length-directed : (from_end : Bool) (text : List ℕ) → length (directed from_end text) ≡ length text
-length-directed false text = refl
-length-directed true text = length-reverse text
+length-directed from_end text = grind (arith, nat_tests, length-reverse)
 
 pub length-in_case : (fold : Bool) (text : List ℕ) → length (in_case fold text) ≡ length text
-length-in_case false text = refl
-length-in_case true text = length-map text to_ascii_lowercase
+length-in_case fold text = grind (arith, nat_tests, length-map)
 
 pub length-seen : (fold from_end : Bool) (text : List ℕ) → length (in_case fold (directed from_end text)) ≡ length text
 length-seen fold from_end text = length-in_case fold (directed from_end text) ∙ length-directed from_end text

@@ -1,3 +1,4 @@
+use Rattle.std.proofs.lemmas.Bool.Decides.{nat_tests}
 use Rattle.std.proofs.Common.{◌≡◌, length, take, get_or, sym, ap, subst, ◌∙◌, arith}
 use Rattle.std.proofs.Math.Seq.{take-length}
 use Rattle.std.proofs.lemmas.List.{take_more}
@@ -32,5 +33,4 @@ pub returns : goal.returns
 returns g c =
     let rows = c.args.rows.now in
     let all : c.loop-row.row-index ≡ length rows = omega (arith, c.loop-row-test.false, c.loop-row.auto.row-index-end) in
-    subst (AreNoLonger c.args.keys.view.from_end (keys_seen g.K.Keyed.content c.args.keys) c.loop-row.longest)
-    (ap (λ n. take n rows) all ∙ take-length rows) c.loop-row.invariant
+    grind (arith, nat_tests, take-length, c.loop-row.invariant)

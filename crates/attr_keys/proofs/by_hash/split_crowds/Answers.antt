@@ -1,5 +1,4 @@
-use Rattle.std.proofs.Common.{◌≡◌, ◌+◌, ◌<◌, ◌≤◌, ◌||◌, ℕ, Bool, false, List, [], ◌∷◌, ◌++◌, length, get_or, take}
-use Rattle.std.proofs.Common.{refl, sym, ap, subst, ◌∙◌, arith, eqb}
+use Rattle.std.proofs.Common.{◌≡◌, ◌+◌, ◌<◌, ◌≤◌, ◌||◌, ℕ, Bool, false, List, [], ◌∷◌, ◌++◌, length, get_or, take, sym, ap, subst, ◌∙◌, arith, eqb}
 use Rattle.std.proofs.lemmas.List.{get_or_default, get_or_push, length-append, take_more}
 use Rattle.std.proofs.Math.ListN.{get_or-append}
 use Rattle.std.proofs.lemmas.Bool.{eqb-true}
@@ -34,16 +33,12 @@ among_more kept all h i lt at among k d within =
     (λ t. (
       i,
       lt,
-      ap (λ n. get_or (kept ++ h ∷ []) n d) (eqb-true k (length kept) t) ∙ get_or_push kept h d (length kept) refl
-          ∙ at ∙ get_or_default all i h d lt,
+      grind (arith, nat_tests, eqb-true, get_or_push, get_or_default),
     ))
     (λ f.
     let inside = below k (length kept) f (omega (arith, within, length-append kept (h ∷ []))) in
-    let one = among k d inside in (
-      one.0,
-      one.1,
-      get_or-append kept (h ∷ []) d k inside ∙ one.2,
-    ))
+    let one = among k d inside in
+    grind (arith, nat_tests, get_or-append))
   where
     below : (b n : ℕ) → eqb b n ≡ false → b ≤ n → b < n
     below b n f le = grind (arith, nat_tests)
@@ -65,24 +60,12 @@ loop-index-preserved c =
     elim c.if-is_crowded.branch [
       | then-is_crowded+in_ok-push w ↦
           record {
-            rows = λ r.
-                ap (λ v. has_row v.items r || has_row (hashed_rows c.if-is_crowded.kept.items) r) w.crowded-is
-                ∙ (ap (λ v. has_row w.push.new.self.items r || has_row (hashed_rows v.items) r) w.kept-is
-                ∙ (ap (λ l. has_row l r || has_row (hashed_rows kept) r) w.in_ok-push.ensures.items
-                ∙ (ap (λ b. b || has_row (hashed_rows kept) r) (has_push crowded h.row r)
-                ∙ (on_left (has_row crowded r) (has_row (hashed_rows kept) r) (has_row before r) (has_row (hashed_rows (take index rows)) r)
-                (eqb h.row r || false) (known.rows r) ∙ more r))));
+            rows = λ r. grind (arith, nat_tests, has_push, on_left, w.in_ok-push.ensures.items);
             kept = subst (λ v. AreAmong v.items rows) (sym w.kept-is) known.kept;
           }
       | else-is_crowded+in_ok-push-2 w ↦
           record {
-            rows = λ r.
-                ap (λ v. has_row v.items r || has_row (hashed_rows c.if-is_crowded.kept.items) r) w.crowded-is
-                ∙ (ap (λ v. has_row crowded r || has_row (hashed_rows v.items) r) w.kept-is
-                ∙ (ap (λ l. has_row crowded r || has_row (hashed_rows l) r) w.in_ok-push-2.ensures.items
-                ∙ (ap (λ b. has_row crowded r || b) (has_hashed_push kept h r)
-                ∙ (on_right (has_row crowded r) (has_row (hashed_rows kept) r) (has_row before r) (has_row (hashed_rows (take index rows)) r)
-                (eqb h.row r || false) (known.rows r) ∙ more r))));
+            rows = λ r. grind (arith, nat_tests, has_hashed_push, on_right, w.in_ok-push-2.ensures.items);
             kept =
                 subst (λ v. AreAmong v.items rows) (sym w.kept-is)
                 (subst (λ l. AreAmong l rows) (sym w.in_ok-push-2.ensures.items)

@@ -4,7 +4,7 @@ use Rattle.std.proofs.lemmas.Bool.Decides.{nat_tests}
 use Rattle.std.proofs.lemmas.Option.{slice_get-get_or, slice_get-map, slice_get_past}
 use Rattle.attr_keys.specs.inner.Cases.{seen}
 use Rattle.attr_keys.specs.shared.Codes.{key_codes}
-use Rattle.attr_keys.proofs.SeenTexts.{codes_seen, no_codes, row_seen}
+use Rattle.attr_keys.proofs.SeenTexts.{codes_seen, row_seen}
 use Rattle.attr_keys.proofs.key.parts.Goals as goal
 
 pub returns-in-Some-clause-codes : goal.returns-in-Some-clause-codes
@@ -18,7 +18,7 @@ returns-in-Some-clause-codes g c = λ fold from_end.
     (slice_get-get_or lines c.args.row line at.0 ∙ ap Some (sym (at.1 line))))
 
 pub returns-in-None-clause-codes : goal.returns-in-None-clause-codes
-returns-in-None-clause-codes g c = grind (arith, common_steps, no_codes, row_seen, slice_get_past)
+returns-in-None-clause-codes g c = grind (arith, nat_tests, common_steps, slice_get_past)
 
 pub returns-in-None-clause-text : goal.returns-in-None-clause-text
 returns-in-None-clause-text g c = grind (arith, nat_tests, slice_get-map, slice_get_past)

@@ -1,11 +1,10 @@
+use Rattle.std.proofs.lemmas.Bool.Decides.{nat_tests}
 use Rattle.std.proofs.Common.{arith, true, sym, ap, ◌∙◌}
 use Rattle.std.proofs.lemmas.Grind.{common_steps}
 use Rattle.std.specs.Prelude.{slice_index}
 use Rattle.attr_keys.specs.shared.Meeting.{directed}
-use Rattle.attr_keys.proofs.FirstCodes.{first_within, had_more, had_less}
 use Rattle.attr_keys.proofs.SeenTexts.{codes_in_case}
 use Rattle.attr_keys.proofs.prefixes.append_few.Goals as goal
-use Rattle.attr_keys.proofs.prefixes.append_few.Goals.{then-has_prefix+in_ok-push, else-has_prefix}
 
 pub has_prefix-requires-clause-text_first : goal.has_prefix-requires-clause-text_first
 has_prefix-requires-clause-text_first g c =
@@ -14,4 +13,4 @@ has_prefix-requires-clause-text_first g c =
     ∙ ap (λ l. slice_index l 0) (sym (codes_in_case view.fold (directed view.from_end c.args.text.now) true))
 
 pub loop-index-preserved : goal.loop-index-preserved
-loop-index-preserved g c = grind (arith, common_steps, first_within, had_more, had_less)
+loop-index-preserved g c = grind (arith, nat_tests, common_steps)

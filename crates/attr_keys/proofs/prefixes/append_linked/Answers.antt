@@ -1,5 +1,5 @@
-use Rattle.std.proofs.Common.{◌≡◌, ◌∙◌, ◌-◌, ◌<◌, ◌||◌, ◌⊎◌, inl, inr, ◌&&◌, ℕ, suc}
-use Rattle.std.proofs.Common.{Bool, false, true, drop, get_or, length, nat_eq, sym, ap, arith, rules}
+use Rattle.std.proofs.lemmas.Bool.Decides.{nat_tests}
+use Rattle.std.proofs.Common.{◌≡◌, ◌∙◌, ◌-◌, ◌<◌, ◌||◌, ◌⊎◌, ◌&&◌, ℕ, suc, Bool, false, true, drop, get_or, length, nat_eq, sym, ap, arith, rules}
 use Rattle.std.specs.List.{starts_with}
 use Rattle.std.proofs.lemmas.List.Sorted.{IsPartitionPoint-from_clause}
 use Rattle.attr_keys.specs.inner.Cases.{keys_seen, seen_text}
@@ -16,15 +16,9 @@ loop-end-init g c =
     let rows = c.args.rows.now in
     let text = codes_of false (seen_text c.args.keys.view c.args.text.now) true in
     let end = c.partition_point-end.result in
-    let old = c.args.found.now.items in
     let point = IsPartitionPoint-from_clause (λ row. is_up_to text (row_codes keys row)) rows end c.partition_point-end.ensures.partitioned
     (up_to_first keys rows text c.requires.order) (λ a r q k. search rules) in
-    record {
-      bound = c.partition_point-end.ensures.bound;
-      up_to = λ k lt. point.0 k 0 (omega arith) lt;
-      found = λ row.
-          sym (ap (λ b. has_row old row || b) (none_dropped keys rows text end (λ k le lt. point.1 k 0 le lt) row) ∙ or_none (has_row old row));
-    }
+    grind (arith, nat_tests, none_dropped, or_none, c.partition_point-end.ensures.bound)
 
 pub loop-end-preserved : goal.loop-end-preserved
 loop-end-preserved g c =
@@ -74,10 +68,7 @@ loop-end-preserved-then-end-gt0 g c =
     let least = c.min-end.ensures in
     let end = get_or c.args.links.now index 0 in
     let other = c.common_end.result in
-    let is : (c.min-end.result ≡ end) ⊎ (c.min-end.result ≡ other) = elim (cases_lt other end) [
-      | inl lt ↦ inr (omega (arith, least, lt))
-      | inr le ↦ inl (omega (arith, least, le))
-    ] in
+    let is : (c.min-end.result ≡ end) ⊎ (c.min-end.result ≡ other) = grind (arith, nat_tests, cases_lt) in
     let both = none_lesser has rows index end other c.min-end.result is none c.common_end.ensures in
     record {
       bound = omega (arith, linked, within, least);

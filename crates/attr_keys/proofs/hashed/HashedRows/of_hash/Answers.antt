@@ -28,13 +28,11 @@ between-rows-requires-clause-start c =
 
 pub between-rows-requires-clause-end : goal.between-rows-requires-clause-end
 between-rows-requires-clause-end c =
-    let within = (between_starts c.self.inside.width c.self.inside.rows.items c.self.inside.starts.items
-    (c.self.invariant.width (some c.self.inside.starts _ c.is_empty.ensures c.if-is_empty.false))
-    (c.self.invariant.starts (some c.self.inside.starts _ c.is_empty.ensures c.if-is_empty.false)) c.args.hash c.bucket-index.result
-    c.index.result.now c.index-2.result.now
-    c.ranges.hash.fits c.bucket-index.ensures c.index.ensures c.index-2.ensures).1 in
-    let same = ap length c.deref-2.ensures.value in
-    omega (arith, within, same)
+    let within = (between_starts c.self.inside.width c.self.inside.rows.items c.self.inside.starts.items (c.self.invariant.width
+    (some c.self.inside.starts _ c.is_empty.ensures c.if-is_empty.false)) (c.self.invariant.starts
+    (some c.self.inside.starts _ c.is_empty.ensures c.if-is_empty.false)) c.args.hash c.bucket-index.result c.index.result.now
+    c.index-2.result.now c.ranges.hash.fits c.bucket-index.ensures c.index.ensures c.index-2.ensures).1 in
+    grind (arith, nat_tests, c.deref-2.ensures.value)
 
 pub halved-requires : goal.halved-requires
 halved-requires c =

@@ -3,18 +3,18 @@ use Rattle.std.proofs.lemmas.Bool.Decides.{nat_tests}
 use Rattle.std.specs.Prelude.{slice_get}
 use Rattle.attr_keys.specs.declared.key.Subject.TheVariants.{Name, End, Path}
 use Rattle.attr_keys.specs.declared.kinds.Kind.TheVariants as kind
-use Rattle.attr_keys.proofs.Gathering.{are_subject_rows, either_kind, ends_are, extension_hashed, hashed_by, name_hashed, names_are, path_hashed}
+use Rattle.attr_keys.proofs.Gathering.{are_subject_rows, either_kind, ends_are, extension_hashed, name_hashed, names_are, path_hashed}
 use Rattle.attr_keys.proofs.Gathering.{paths_are, seen_by}
 use Rattle.attr_keys.proofs.key_index.KeyRows.of.Goals as goal
 
 pub of-requires : goal.of-requires
-of-requires g c = grind (arith, nat_tests, hashed_by, seen_by, name_hashed)
+of-requires g c = grind (arith, nat_tests, seen_by, name_hashed)
 
 pub of-requires-2 : goal.of-requires-2
-of-requires-2 g c = grind (arith, nat_tests, hashed_by, seen_by, extension_hashed)
+of-requires-2 g c = grind (arith, nat_tests, seen_by, extension_hashed)
 
 pub of-requires-3 : goal.of-requires-3
-of-requires-3 g c = grind (arith, nat_tests, hashed_by, seen_by, path_hashed)
+of-requires-3 g c = grind (arith, nat_tests, seen_by, path_hashed)
 
 pub returns : goal.returns
 returns g c =

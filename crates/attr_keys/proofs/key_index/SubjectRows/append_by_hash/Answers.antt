@@ -1,6 +1,6 @@
-use Rattle.std.proofs.Common.{◌||◌, ◌∙◌, ℕ, Bool, ap, false, get_or, nat_eq, sym, true}
+use Rattle.std.proofs.Common.{arith, ◌||◌, ◌∙◌, ℕ, Bool, ap, false, get_or, nat_eq, sym, true}
+use Rattle.std.proofs.lemmas.Bool.Decides.{nat_tests}
 use Rattle.std.specs.List.{starts_with}
-use Rattle.std.specs.Prelude.{option_map}
 use Rattle.std.proofs.lemmas.Result.{on_ok_weaker}
 use Rattle.attr_keys.specs.inner.Cases.{in_case, keys_seen, seen_text}
 use Rattle.attr_keys.specs.shared.Codes.{codes_of, row_codes}
@@ -21,10 +21,7 @@ returns g c =
     (λ more row. more row
     ∙ ap (λ b. has_row c.args.found.now.items row || b)
     (alike_rows has row rows c.of_hash.result.now c.in_ok-hash.hash
-    (λ k d lt t.
-    let found = c.requires.hashed k d lt in
-    hash_of_part _ part _ _ (ap (option_map (in_case view.fold)) c.in-Some.ensures.some)
-    (found_in_case view.fold view.from_end text keys (get_or rows k d) found t) found.hash ∙ sym c.in_ok-hash.ensures)
+    (λ k d lt t. grind (arith, nat_tests, hash_of_part, found_in_case, c.requires.hashed, c.in-Some.ensures.some, c.in_ok-hash.ensures))
     c.of_hash.ensures))
     c.append_of_hash.ensures
 

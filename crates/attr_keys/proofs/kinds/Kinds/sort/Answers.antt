@@ -1,6 +1,5 @@
-use Rattle.std.proofs.Common.{◌≡◌, false, true, sym, ap, subst, ◌∙◌}
-use Rattle.std.specs.Bool.{OnFalse}
-use Rattle.attr_keys.specs.inner.Cases.{content_in_case, in_case}
+use Rattle.std.proofs.Common.{arith, ◌≡◌, false, true, sym, ap, ◌∙◌}
+use Rattle.std.proofs.lemmas.Bool.Decides.{nat_tests}
 use Rattle.attr_keys.specs.inner.Kinds.{kind_of, kind_rows, rows_with}
 use Rattle.attr_keys.specs.shared.Rows.{has_row}
 use Rattle.attr_keys.proofs.Meetings.{kinds_more, lower_content, lower_more}
@@ -22,9 +21,9 @@ loop-row-preserved g c =
       lower = λ none. elim c.if-capitals.branch [
         | then-capitals w ↦ let no : true ≡ false = sym w.if-capitals.true ∙ (sym w.capitals-is ∙ none) in absurd cc
         | else-capitals w ↦
-            let small = subst (λ b. OnFalse b (in_case true key.text.now ≡ key.text.now)) (sym w.capitals-is ∙ none) w.has_capital-capitals.ensures in
-            lower_more content lines row line c.loop-row-test.true c.index-lines-row.is
-            (subst (λ k. content_in_case true k ≡ k) c.key-key.ensures (lower_content key small))
-            (c.loop-row.invariant.lower w.if-capitals.false)
+            let fact3 = c.loop-row-test.true in
+            let fact2 = c.loop-row.invariant.lower in
+            let fact = w.has_capital-capitals.ensures in
+            grind (arith, nat_tests, lower_more, lower_content, fact3, c.index-lines-row.is, c.key-key.ensures, fact2, fact, w.if-capitals.false)
       ];
     }
