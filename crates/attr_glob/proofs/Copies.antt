@@ -19,9 +19,8 @@ copies_more IsClone copies copies' xs i copy x lt at so_far made pushed = grind 
 -- clones of equal elements are equal
 pub clones_equal : {X : Type 0} (IsClone : X → X → Type 0) (eq : X → X → Bool) → ((x copy : X) → IsClone x copy → eq copy x ≡ true) →
     (xs copies : List X) → AllZip IsClone xs copies → pointwise eq copies xs ≡ true
-clones_equal IsClone eq same [] [] h = refl
 clones_equal IsClone eq same (x ∷ xs) (y ∷ ys) h = grind (arith, nat_tests, clones_equal IsClone eq same xs ys)
-clones_equal IsClone eq same copies t h = absurd h
+clones_equal IsClone eq same xs copies h = grind (arith, nat_tests)
 
 -- texts of the same bytes are equal
 pub text_equal : {A : Type 0} (x y : Option (String A)) → option_map string_bytes x ≡ option_map string_bytes y → option_eq string_eq x y ≡ true

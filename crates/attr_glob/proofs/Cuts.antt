@@ -1,4 +1,5 @@
 -- How each text is cut into spellings and what stops them.
+use Rattle.std.proofs.lemmas.Grind.{common_steps}
 use Rattle.std.proofs.Common.{◌≡◌, ℕ, zero, suc, ◌-◌, ◌≤◌, ◌⊎◌, inl, inr, List, [], ◌∷◌, ◌++◌, length, slice_index, Option, Some, None, refl, sym, ap}
 use Rattle.std.proofs.Common.{◌∙◌, append_assoc, arith}
 use Rattle.std.proofs.lemmas.Bool.{cases_eq}
@@ -17,21 +18,10 @@ record Digits (high middle low byte : ℕ) : Type 0 where
   value : octal_byte (high - 48) (middle - 48) (low - 48) ≡ byte
 
 digits_byte-three : (high middle low byte : ℕ) (more : List ℕ) → digits_byte (high ∷ middle ∷ low ∷ more) ≡ Some byte → Digits high middle low byte
-digits_byte-three high middle low byte more e = record {
-  high_least = grind (arith, nat_tests);
-  high_most = grind (arith, nat_tests);
-  middle_least = grind (arith, nat_tests);
-  middle_most = grind (arith, nat_tests);
-  low_least = grind (arith, nat_tests);
-  low_most = grind (arith, nat_tests);
-  value = grind (arith, nat_tests);
-}
+digits_byte-three high middle low byte more e = grind (arith, nat_tests)
 
 digits_byte-two : (high middle byte : ℕ) → digits_byte (high ∷ middle ∷ []) ≡ Some byte → ⊥
 digits_byte-two high middle byte e = grind (arith, nat_tests)
-
-digits_byte-one : (high byte : ℕ) → digits_byte (high ∷ []) ≡ Some byte → ⊥
-digits_byte-one high byte e = grind (arith, nat_tests)
 
 -- the bytes after a backslash begin with the rest of a spelling
 pub record EscapeCut (bytes : List ℕ) (byte : ℕ) : Type 0 where
@@ -50,10 +40,7 @@ by_three high middle low byte more d =
     record { tail = high ∷ middle ∷ low ∷ []; others = more; whole = refl; spells = rw (h, m, l, d.value) at s }
 
 cut_digits : (bytes : List ℕ) (byte : ℕ) → digits_byte bytes ≡ Some byte → EscapeCut bytes byte
-cut_digits [] byte e = elim (digits_byte-one 0 byte e) [ ]
-cut_digits (high ∷ []) byte e = absurd (digits_byte-one high byte e)
-cut_digits (high ∷ middle ∷ []) byte e = absurd (digits_byte-two high middle byte e)
-cut_digits (high ∷ middle ∷ low ∷ more) byte e = by_three high middle low byte more (digits_byte-three high middle low byte more e)
+cut_digits bytes byte e = grind (arith, common_steps, nat_tests, digits_byte-two, by_three, digits_byte-three)
 
 cut_letter : (bytes : List ℕ) (byte : ℕ) → letter_byte (slice_index bytes 0) ≡ Some byte → EscapeCut bytes byte
 cut_letter [] byte e = absurd cc
@@ -67,8 +54,7 @@ cut_by : (bytes : List ℕ) (escape : ℕ × ℕ) (letter digits : Option ℕ) �
     escaped bytes ≡ Some escape → EscapeCut bytes escape.0
 unfolding first_of
 cut_by bytes escape (Some byte) digits e _ read = grind (arith, nat_tests, first_of, cut_letter)
-cut_by bytes escape None (Some byte) e e' read = grind (arith, nat_tests, first_of, cut_digits)
-cut_by bytes escape None None e e' read = grind (arith, nat_tests)
+cut_by bytes escape letter digits e e' read = grind (arith, nat_tests, cut_digits)
 
 -- an escape that is read is the rest of a spelling
 pub cut_escape : (bytes : List ℕ) (escape : ℕ × ℕ) → escaped bytes ≡ Some escape → EscapeCut bytes escape.0
@@ -121,8 +107,7 @@ cut_first b bytes (inr no_quote) (inr no_backslash) go_on =
 cut_within : (most : ℕ) (bytes : List ℕ) → length bytes ≤ most → Cut bytes
 cut_within most [] h = cut_here [] at_end
 cut_within zero (b ∷ bytes) h = absurd (omega arith)
-cut_within (suc most) (b ∷ bytes) h =
-    cut_first b bytes (cases_eq b quote) (cases_eq b backslash) (λ rest shorter. cut_within most rest (omega arith))
+cut_within (suc most) (b ∷ bytes) h = grind (arith, nat_tests, cut_first, cases_eq, cut_within most)
 
 pub cut : (bytes : List ℕ) → Cut bytes
 cut bytes = cut_within (length bytes) bytes (omega arith)

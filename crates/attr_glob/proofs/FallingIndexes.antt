@@ -1,8 +1,7 @@
 -- Indexes that fall and are just those of the lines that pass a test.
-use Rattle.std.proofs.lemmas.List.{length_push, append_assoc, length-map, length-reverse, length-take-le, map-append, reverse-append}
-use Rattle.std.proofs.lemmas.List.{reverse-reverse, take_more}
-use Rattle.std.proofs.Common.{◌≡◌, ◌≢◌, ℕ, zero, suc, ◌+◌, ◌<◌, ◌≤◌, Bool, true, false, ◌||◌, List, [], ◌∷◌, ◌++◌, length, reverse, get_or, take}
-use Rattle.std.proofs.Common.{map, cond, Option, Some, None, refl, sym, ap, ◌∙◌, arith, eqb}
+use Rattle.std.proofs.lemmas.List.{length_push, length-reverse, reverse-reverse}
+use Rattle.std.proofs.Common.{◌≡◌, ◌≢◌, ℕ, suc, ◌+◌, ◌<◌, ◌≤◌, Bool, true, false, ◌||◌, List, [], ◌∷◌, ◌++◌, length, reverse}
+use Rattle.std.proofs.Common.{Option, Some, None, refl, sym, ap, ◌∙◌, arith, eqb}
 use Rattle.std.specs.Prelude.{slice_get}
 use Rattle.std.proofs.lemmas.Bool.{eqb-true, eqb-false, ne_eqb}
 use Rattle.std.proofs.lemmas.Bool.Decides.{nat_tests}
@@ -20,39 +19,28 @@ get_snoc_last [] x = refl
 get_snoc_last (y ∷ xs) x = get_snoc_last xs x
 
 get_snoc_other : {X : Type 0} (xs : List X) (x : X) (k : ℕ) → k ≢ length xs → slice_get (xs ++ x ∷ []) k ≡ slice_get xs k
-get_snoc_other [] x zero ne_eqb = absurd (ne_eqb refl)
 get_snoc_other (y ∷ xs) x (suc k) ne_eqb = get_snoc_other xs x k (λ e. ne_eqb (ap suc e))
-get_snoc_other xs x k ne_eqb = refl
+get_snoc_other xs x k ne_eqb = grind (arith, nat_tests, ne_eqb)
 
 get_past : {X : Type 0} (xs : List X) (k : ℕ) → length xs ≤ k → slice_get xs k ≡ None
-get_past [] k le = refl
-get_past (x ∷ xs) zero le = absurd (omega arith)
 get_past (x ∷ xs) (suc k) le = get_past xs k (omega arith)
+get_past xs k le = grind (arith, nat_tests)
 
 passes_within : {X : Type 0} (test : X → Bool) (xs : List X) (k : ℕ) → passes test (slice_get xs k) ≡ true → k < length xs
-passes_within test [] k h = absurd cc
-passes_within test (x ∷ xs) zero h = omega arith
 passes_within test (x ∷ xs) (suc k) h = let lt = passes_within test xs k h in omega arith
+passes_within test xs k h = grind (arith, nat_tests)
 
 falling_tail : (p : ℕ) (ps : List ℕ) → IsFalling (p ∷ ps) → IsFalling ps
-falling_tail p ps down k lt =
-    let e : suc k + 1 ≡ suc (k + 1) = omega arith in
-    rw e at (down (suc k) (omega arith))
+falling_tail p ps down k lt = grind (arith, nat_tests, down (suc k))
 
 below_head : (p : ℕ) (ps : List ℕ) → IsFalling (p ∷ ps) → (row : ℕ) → has_row ps row ≡ true → row < p
 below_head p [] down row h = absurd cc
 below_head p (q ∷ ps) down row h =
-    let lt : q < p = down 0 (omega arith) in
-    by_test (eqb q row)
-    (λ t. let e = eqb-true q row t in omega arith)
-    (λ f. let l = below_head q ps (falling_tail p (q ∷ ps) down) row (rw f at h) in omega arith)
+    grind (arith, nat_tests, by_test, eqb-true, falling_tail, down 0, below_head q ps (falling_tail p (q ∷ ps) down) row)
 
 nothing_there : (found : List ℕ) → ((row : ℕ) → has_row found row ≡ false) → found ≡ []
 nothing_there [] none = refl
-nothing_there (p ∷ ps) none = absurd (clash (none p))
-  where
-    clash : eqb p p || has_row ps p ≡ false → ⊥
-    clash h = let t : eqb p p ≡ true = grind (arith, nat_tests) in let e : true ≡ false = rw t at h in cc
+nothing_there (p ∷ ps) none = grind (arith, nat_tests, none p)
 
 -- the test passes at no further index
 fewer : {X : Type 0} (test : X → Bool) (ys : List X) (x : X) (found : List ℕ) →
@@ -90,42 +78,10 @@ indexes_by {X} test (x ∷ before) found down has =
         let none : has_row ps (length ys) ≡ false =
         by_test (has_row ps (length ys)) (λ t. let lt = below_head p ps d (length ys) t in absurd (omega arith)) (λ f. f) in
         let rest : (row : ℕ) → has_row ps row ≡ passes test (slice_get ys row) =
-        λ row.
-        by_test (eqb row (length ys))
-        (λ t.
-        let e = eqb-true row (length ys) t in
-        ap (has_row ps) e ∙ (none ∙ sym (ap (passes test) (get_past ys row (omega arith)))))
-        (λ f.
-        let ne = eqb-false row (length ys) f in
-        let off : eqb p row ≡ false = ne_eqb p row (λ e. ne (sym e ∙ same)) in
-        sym (ap (λ b. b || has_row ps row) off) ∙ (h row ∙ ap (passes test) (get_snoc_other ys x row ne))) in
+        λ row. grind (arith, nat_tests, by_test, eqb-true, get_past, eqb-false, ne_eqb, get_snoc_other) in
         ap (λ q. q ∷ ps) (same ∙ len) ∙ ap (λ l. length before ∷ l) (go ps (falling_tail p ps d) rest)
 
 -- indexes that fall, and that pass the test, are those of the lines that pass it
 pub falling_indexes : {X : Type 0} (test : X → Bool) (lines : List X) (found : List ℕ) → IsFalling found →
     ((row : ℕ) → has_row found row ≡ passes test (slice_get lines row)) → found ≡ indexes_where test (reverse lines)
-falling_indexes test lines found down has =
-    indexes_by test (reverse lines) found down (λ row. has row ∙ ap (λ l. passes test (slice_get l row)) (sym (reverse-reverse lines)))
-
--- the indexes that were found so far from the last line on, and those of the lines before them
-pub indexes_step : {X Y : Type 0} (test : X → Bool) (view : Y → X) (lines : List Y) (i j : ℕ) (line : Y) (found more all : List ℕ) →
-    j ≡ i + 1 → i < length lines → line ≡ get_or lines i line → more ≡ cond (test (view line)) (found ++ i ∷ []) found →
-    found ++ indexes_where test (reverse (map view (take j lines))) ≡ all → more ++ indexes_where test (reverse (map view (take i lines))) ≡ all
-indexes_step test view lines i j line found more all after lt is pushed before =
-    by_test (test (view line))
-    (λ t. let here = rw t at with_last in
-    ap (λ l. l ++ rest) (rw t at pushed) ∙ append_assoc found (i ∷ []) rest ∙ ap (λ l. found ++ l) (sym here) ∙ before)
-    (λ f. let here = rw f at with_last in ap (λ l. l ++ rest) (rw f at pushed) ∙ ap (λ l. found ++ l) (sym here) ∙ before)
-  where
-    rest : List ℕ
-    rest = indexes_where test (reverse (map view (take i lines)))
-
-    with_last : indexes_where test (reverse (map view (take j lines))) ≡ cond (test (view line)) (i ∷ rest) rest
-    with_last =
-        let before = map view (take i lines) in
-        ap (λ n. indexes_where test (reverse (map view (take n lines)))) after
-        ∙ (ap (λ l. indexes_where test (reverse (map view l))) (take_more lines i line lt ∙ ap (λ l. take i lines ++ l ∷ []) (sym is))
-        ∙ (ap (λ l. indexes_where test (reverse l)) (map-append view (take i lines) (line ∷ []))
-        ∙ (ap (indexes_where test) (reverse-append before (view line ∷ []))
-        ∙ ap (λ n. cond (test (view line)) (n ∷ rest) rest)
-        (length-reverse before ∙ (length-map (take i lines) view ∙ length-take-le i lines (omega arith))))))
+falling_indexes test lines found down has = grind (arith, nat_tests, indexes_by test (reverse lines) found down, reverse-reverse lines)

@@ -1,6 +1,7 @@
 -- Patterns that are read the same, and lists of them.
-use Rattle.std.proofs.Common.{◌≡◌, ℕ, zero, suc, ◌+◌, ◌<◌, ◌≤◌, true, ◌&&◌, List, [], ◌∷◌, ◌++◌, length, get_or, take, map, Option}
-use Rattle.std.proofs.Common.{Some, None, refl, sym, ap, ◌∙◌, arith, nat_eq, eq-eqb}
+use Rattle.std.proofs.lemmas.Grind.{common_steps}
+use Rattle.std.proofs.Common.{◌≡◌, ℕ, suc, ◌+◌, ◌<◌, ◌≤◌, true, ◌&&◌, List, ◌∷◌, length, get_or, take, map, Option}
+use Rattle.std.proofs.Common.{sym, ap, ◌∙◌, arith, nat_eq, eq-eqb}
 use Rattle.std.specs.Option.{option_eq}
 use Rattle.std.specs.Cmp.Lexicographic.{pointwise, bytes_decides}
 use Rattle.std.proofs.lemmas.Bool.Decides.{nat_tests}
@@ -14,27 +15,18 @@ use Rattle.attr_glob.specs.Patterns.{Reading}
 use Rattle.attr_glob.specs.Views.{pattern_view, mode_bits, patterns_of}
 
 offset_is : (x y : Option ℕ) → option_eq nat_eq x y ≡ true → x ≡ y
-offset_is None None e = refl
-offset_is (Some x) (Some y) e = ap Some (eqb-true x y e)
-offset_is x y e = absurd cc
+offset_is x y e = grind (arith, nat_tests, eqb-true)
 
 offset_same : (x y : Option ℕ) → x ≡ y → option_eq nat_eq x y ≡ true
-offset_same None None e = refl
-offset_same (Some x) (Some y) e = eq-eqb x y cc
-offset_same x y e = absurd cc
+offset_same x y e = grind (arith, nat_tests, eq-eqb)
 
 -- equal patterns are read the same
 pub read_same : (x y : Pattern) → pattern.ghosts.eq x y ≡ true → pattern_view x ≡ pattern_view y
 read_same x y e =
-    let one = and_parts (pointwise nat_eq x.text.items y.text.items) (nat_eq (mode_bits x.mode) (mode_bits y.mode) && option_eq nat_eq
-    x.first_wildcard_pos y.first_wildcard_pos) e in
-    let two = and_parts (nat_eq (mode_bits x.mode) (mode_bits y.mode)) (option_eq nat_eq x.first_wildcard_pos y.first_wildcard_pos) one.1 in
+    let one = and_parts (pointwise nat_eq x.text.items y.text.items) (nat_eq (mode_bits x.mode)
+    (mode_bits y.mode) && option_eq nat_eq x.first_wildcard_pos y.first_wildcard_pos) e in
     let text = (bytes_decides x.text.items y.text.items).0 one.0 in
-    let mode = eqb-true (mode_bits x.mode) (mode_bits y.mode) two.0 in
-    let offset = offset_is x.first_wildcard_pos y.first_wildcard_pos two.1 in
-    let Read : List ℕ → ℕ → Option ℕ → Reading = λ t m p. record { text = t; mode = m; wildcard = p } in
-    ap (λ t. Read t (mode_bits x.mode) x.first_wildcard_pos) text ∙ ap (λ m. Read y.text.items m x.first_wildcard_pos) mode ∙ ap
-    (λ p. Read y.text.items (mode_bits y.mode) p) offset
+    grind (arith, nat_tests, and_parts, nat_eq, eqb-true, offset_is)
 
 -- patterns that are read the same are equal
 pub same_read : (x y : Pattern) → pattern_view x ≡ pattern_view y → pattern.ghosts.eq x y ≡ true
@@ -53,17 +45,13 @@ pattern_in line = pattern_view line.pattern
 pub lines_more : {V : Type 0} (xs : List IndexedLine) (ys : List (Mapping V)) (i : ℕ) (d : IndexedLine) (e : Mapping V) →
     i < length xs → i < length ys → map pattern_in (take i xs) ≡ patterns_of (take i ys) →
     pattern_in (get_or xs i d) ≡ pattern_view (get_or ys i e).pattern → map pattern_in (take (i + 1) xs) ≡ patterns_of (take (i + 1) ys)
-lines_more xs ys i d e ltx lty same here =
-    ap (map pattern_in) (take_more xs i d ltx) ∙ map-append pattern_in (take i xs) (get_or xs i d ∷ [])
-    ∙ ap (λ l. l ++ pattern_in (get_or xs i d) ∷ []) same ∙ ap (λ r. patterns_of (take i ys) ++ r ∷ []) here
-    ∙ sym (ap patterns_of (take_more ys i e lty) ∙ map-append (λ m. pattern_view m.pattern) (take i ys) (get_or ys i e ∷ []))
+lines_more xs ys i d e ltx lty same here = grind (arith, common_steps, nat_tests, take_more, map-append)
 
 -- lists that are read the same are so at each index
 pub lines_at : {V : Type 0} (xs : List IndexedLine) (ys : List (Mapping V)) (i : ℕ) (d : IndexedLine) (e : Mapping V) →
     i < length xs → i < length ys → map pattern_in xs ≡ patterns_of ys → pattern_in (get_or xs i d) ≡ pattern_view (get_or ys i e).pattern
-lines_at (x ∷ xs) (y ∷ ys) zero d e ltx lty same = cc
 lines_at (x ∷ xs) (y ∷ ys) (suc i) d e ltx lty same = grind (arith, nat_tests, lines_at xs ys i d e)
-lines_at xs ys i d e ltx lty same = absurd (omega arith)
+lines_at xs ys i d e ltx lty same = grind (arith, nat_tests)
 
 pub take_whole : {X : Type 0} (xs : List X) (i : ℕ) → length xs ≤ i → take i xs ≡ xs
 take_whole xs i h = take_all i xs h

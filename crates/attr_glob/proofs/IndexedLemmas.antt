@@ -1,7 +1,7 @@
 -- The lines of an index are those of its list.
-use Rattle.std.proofs.Common.{arith, ◌≡◌, ℕ, ◌+◌, ◌<◌, List, [], ◌∷◌, ◌++◌, length, get_or, take, map, refl, sym, ap, ◌∙◌}
+use Rattle.std.proofs.Common.{arith, ◌≡◌, List, [], ◌∷◌, length, map, refl, sym, ap, ◌∙◌}
 use Rattle.std.proofs.lemmas.Bool.Decides.{nat_tests}
-use Rattle.std.proofs.lemmas.List.{take_more, map-append, length-map}
+use Rattle.std.proofs.lemmas.List.{length-map}
 use Rattle.attr_glob.specs.declared.search.pattern.Mapping.{Mapping}
 use Rattle.attr_glob.specs.declared.search.pattern.indexed_line.IndexedLine.{IndexedLine}
 use Rattle.attr_glob.specs.Indexed.{NumberedPattern, indexed_line, indexed_lines, listed_lines}
@@ -11,20 +11,6 @@ use Rattle.attr_glob.specs.shared.LineShapes.{indexed_keys, key_of_line, key_of_
 map_map : {X Y Z : Type 0} (g : Y → Z) (f : X → Y) (xs : List X) → map g (map f xs) ≡ map (λ x. g (f x)) xs
 map_map g f [] = refl
 map_map g f (x ∷ xs) = ap (λ l. g (f x) ∷ l) (map_map g f xs)
-
--- one more line of an index
-pub index_more : {V : Type 0} (lines : List IndexedLine) (mappings : List (Mapping V)) (i : ℕ) (d : Mapping V) (more : List IndexedLine)
-    (line : IndexedLine) (mapping : Mapping V) → i < length mappings → mapping ≡ get_or mappings i d →
-    indexed_lines lines ≡ listed_lines (take i mappings) → more ≡ lines ++ line ∷ [] →
-    pattern_view line.pattern ≡ pattern_view mapping.pattern → line.number ≡ mapping.sequence_number →
-    indexed_lines more ≡ listed_lines (take (i + 1) mappings)
-index_more {V} lines mappings i d more line mapping lt is before pushed pattern number =
-    let numbered : Mapping V → NumberedPattern = λ m. record { pattern = pattern_view m.pattern; number = m.sequence_number } in
-    let here : indexed_line line ≡ numbered mapping = cc (pattern, number) in
-    ap indexed_lines pushed ∙ map-append indexed_line lines (line ∷ [])
-    ∙ ap (λ r. r ++ indexed_line line ∷ []) before
-    ∙ ap (λ r. listed_lines (take i mappings) ++ r ∷ []) (here ∙ ap numbered is)
-    ∙ sym (ap listed_lines (take_more mappings i d lt) ∙ map-append numbered (take i mappings) (get_or mappings i d ∷ []))
 
 -- the keys of an index are those of its list
 pub keys_same : {V : Type 0} (lines : List IndexedLine) (mappings : List (Mapping V)) → indexed_lines lines ≡ listed_lines mappings →

@@ -1,7 +1,7 @@
 -- A text has a key if it is that text, begins with it or ends in it, under the case.
-use Rattle.std.proofs.Common.{◌≡◌, ℕ, zero, suc, ◌+◌, ◌-◌, ◌<◌, ◌≤◌, true, false, ◌&&◌, ◌⊎◌, inl, inr, List, [], ◌∷◌, ◌++◌, length, take, drop}
-use Rattle.std.proofs.Common.{map, reverse, refl, sym, ap, ◌∙◌, arith, nat_eq}
-use Rattle.std.specs.Char.{to_ascii_lowercase}
+use Rattle.std.proofs.lemmas.Grind.{common_steps}
+use Rattle.std.proofs.Common.{◌≡◌, ℕ, zero, suc, ◌+◌, ◌-◌, ◌<◌, ◌≤◌, false, ◌⊎◌, inl, inr, List, [], ◌∷◌, ◌++◌, length, take, drop}
+use Rattle.std.proofs.Common.{◌&&◌, map, reverse, refl, sym, ap, ◌∙◌, arith, nat_eq}
 use Rattle.std.specs.Cmp.Lexicographic.{pointwise, bytes_decides}
 use Rattle.std.specs.List.{starts_with, ends_with}
 use Rattle.std.proofs.lemmas.Bool.Decides.{nat_tests}
@@ -18,28 +18,21 @@ use Rattle.attr_glob.specs.Folding.{folded, same_text}
 use Rattle.attr_wildmatch.specs.Matching.{same_byte}
 use Rattle.attr_glob.specs.shared.LineShapes.{folds}
 use Rattle.attr_wildmatch.proofs.ForCallers.{reverse-cons, same_answer}
-use Rattle.attr_glob.proofs.MatchingLines.{bytewise, drop-folded, length-folded, turned}
-
-shifted : (a b : ℕ) → nat_eq (a + 2) (b + 2) ≡ nat_eq a b
-shifted a b = grind (arith, nat_tests)
+use Rattle.attr_glob.proofs.MatchingLines.{bytewise, drop-folded, length-folded}
 
 no_end : (a : ℕ) → nat_eq (a + 2) 1 ≡ false
 no_end a = grind (arith, nat_tests)
 
-no_byte : (a : ℕ) → nat_eq 1 (a + 2) ≡ false
-no_byte a = grind (arith, nat_tests)
-
 -- a whole key is had by the text that is the same
 pub whole_met : (case : Case) (subject : Subject) (text name : List ℕ) → has_content (folds case) name (whole_text subject text)
     ≡ same_text case text name
+whole_met case subject (c ∷ cs) (b ∷ bs) = grind (arith, nat_tests, whole_met Sensitive subject cs bs, whole_met Fold subject cs bs)
 whole_met case subject [] [] = grind (arith, nat_tests)
-whole_met Sensitive subject [] (b ∷ bs) = ap (λ t. t && true) (no_byte b)
-whole_met Fold subject [] (b ∷ bs) = ap (λ t. t && true) (no_byte (to_ascii_lowercase b))
+whole_met Sensitive subject [] (b ∷ bs) = grind (arith, nat_tests)
+whole_met Fold subject [] (b ∷ bs) = grind (arith, nat_tests)
 whole_met Sensitive subject (c ∷ cs) [] = ap (λ t. t && pointwise nat_eq (map (byte_code false) cs ++ 1 ∷ [])
     (take (length (map (byte_code false) cs ++ 1 ∷ [])) [])) (no_end c)
-whole_met Fold subject (c ∷ cs) [] = grind (arith, nat_tests, no_end)
-whole_met Sensitive subject (c ∷ cs) (b ∷ bs) = grind (arith, nat_tests, shifted, whole_met Sensitive subject cs bs)
-whole_met Fold subject (c ∷ cs) (b ∷ bs) = grind (arith, nat_tests, shifted, whole_met Fold subject cs bs)
+whole_met Fold subject (c ∷ cs) [] = grind (arith, nat_tests)
 
 -- a key that isn't whole is had by the text that begins with it
 abbrev pub front_text : Subject → List ℕ → KeyContent
@@ -47,24 +40,15 @@ front_text subject text = record { subject = subject; text = text; is_whole = fa
 
 pub front_met : (case : Case) (subject : Subject) (front text : List ℕ) →
     has_content (folds case) text (front_text subject front) ≡ starts_with (same_byte case) text front
-front_met case subject [] text = refl
-front_met Sensitive subject (c ∷ cs) [] = grind (arith, nat_tests, no_end)
-front_met Fold subject (c ∷ cs) [] = grind (arith, nat_tests, no_end)
-front_met Sensitive subject (c ∷ cs) (b ∷ bs) = grind (arith, nat_tests, shifted, turned, front_met Sensitive subject cs bs)
-front_met Fold subject (c ∷ cs) (b ∷ bs) = grind (arith, nat_tests, shifted, turned, front_met Fold subject cs bs)
+front_met case subject (c ∷ cs) (b ∷ bs) = grind (arith, nat_tests, front_met Sensitive subject cs bs, front_met Fold subject cs bs)
+front_met case subject front text = grind (arith, nat_tests)
 
 map_reverse : (f : ℕ → ℕ) (x : List ℕ) → map f (reverse x) ≡ reverse (map f x)
 map_reverse f [] = refl
-map_reverse f (b ∷ bs) =
-    ap (map f) (reverse-cons b bs) ∙ (map_snoc (reverse bs) b ∙ (ap (λ l. l ++ f b ∷ []) (map_reverse f bs) ∙ sym (reverse-cons (f b) (map f bs))))
-  where
-    map_snoc : (l : List ℕ) (c : ℕ) → map f (l ++ c ∷ []) ≡ map f l ++ f c ∷ []
-    map_snoc [] c = refl
-    map_snoc (d ∷ l) c = ap (λ m. f d ∷ m) (map_snoc l c)
+map_reverse f (b ∷ bs) = grind (arith, common_steps, nat_tests, reverse-cons, map_reverse f bs)
 
 folded-reverse : (case : Case) (x : List ℕ) → folded case (reverse x) ≡ reverse (folded case x)
-folded-reverse Sensitive x = refl
-folded-reverse Fold x = map_reverse to_ascii_lowercase x
+folded-reverse case x = grind (arith, nat_tests, map_reverse)
 
 same_reversed : (x y : List ℕ) → pointwise nat_eq (reverse x) (reverse y) ≡ pointwise nat_eq x y
 same_reversed x y =
@@ -73,9 +57,8 @@ same_reversed x y =
     (λ t. (bytes_decides (reverse x) (reverse y)).1 (ap reverse ((bytes_decides x y).0 t)))
 
 take_exact : (xs ys : List ℕ) (n : ℕ) → length xs ≡ n → take n (xs ++ ys) ≡ xs
-take_exact [] ys zero e = refl
 take_exact (x ∷ xs) ys (suc n) e = ap (λ l. x ∷ l) (take_exact xs ys n (omega arith))
-take_exact xs ys n e = absurd (omega arith)
+take_exact xs ys n e = grind (arith, nat_tests)
 
 -- the first bytes of a text turned round are its last ones
 turned_front : (n : ℕ) (text : List ℕ) → take n (reverse text) ≡ reverse (drop (length text - n) text)
@@ -90,10 +73,7 @@ turned_front n text = elim (sides n (length text)) [ inl le ↦ inside le | inr 
         ∙ take_exact back (reverse (take m text)) n len
 
     outside : length text < n → take n (reverse text) ≡ reverse (drop (length text - n) text)
-    outside lt =
-        let m : length text - n ≡ 0 = omega arith in
-        let len = length-reverse text in
-        take_all n (reverse text) (omega arith) ∙ sym (ap (λ k. reverse (drop k text)) m)
+    outside lt = grind (arith, nat_tests, length-reverse, take_all)
 
     sides : (a b : ℕ) → (a ≤ b) ⊎ (b < a)
     sides zero b = inl (omega arith)
@@ -122,5 +102,4 @@ suffix_met case base end =
 
 pub end_met : (case : Case) (base path end : List ℕ) →
     content_met (folds case) base path (suffix_of end) ≡ ends_with nat_eq (folded case base) (folded case end)
-end_met case base path [] = suffix_met case base []
-end_met case base path (b ∷ bs) = suffix_met case base (b ∷ bs)
+end_met case base path end = grind (arith, nat_tests, suffix_met case base)

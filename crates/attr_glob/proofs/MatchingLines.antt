@@ -1,9 +1,7 @@
 -- A line that matches a path is a candidate for it, so that a search may pass over all others.
-use Rattle.std.proofs.Common.{◌≡◌, ℕ, Bool, true, false, cond, not, ◌||◌, ◌==◌, List, [], ◌∷◌, length, drop, Option, Some, None, refl, sym}
-use Rattle.std.proofs.Common.{ap, ◌∙◌, arith, nat_eq}
+use Rattle.std.proofs.Common.{◌≡◌, ℕ, Bool, true, false, cond, not, ◌||◌, List, ◌∷◌, length, drop, Option, Some, refl, arith, nat_eq}
 use Rattle.std.specs.Prelude.{is_none}
 use Rattle.std.specs.List.{ends_with as ends_with_list}
-use Rattle.std.specs.Char.{to_ascii_lowercase}
 use Rattle.std.specs.Cmp.Lexicographic.{pointwise}
 use Rattle.std.proofs.lemmas.Bool.Decides.{nat_tests}
 use Rattle.std.proofs.lemmas.List.{length-map, drop-map}
@@ -20,25 +18,16 @@ use Rattle.attr_wildmatch.proofs.ForCallers.{by_test, and_parts}
 use Rattle.attr_glob.proofs.PathLemmas.{reading-wildcard, reading-ends_with}
 use Rattle.attr_glob.proofs.Literals.{text_matches-literal, suffix-ends, no_wildcard}
 
-pub turned : (a b : ℕ) → nat_eq a b ≡ (b == a)
-turned a b = grind (arith, nat_tests)
-
 -- texts are the same byte by byte just if they fold to the same
 pub bytewise : (case : Case) (x y : List ℕ) → pointwise (same_byte case) x y ≡ pointwise nat_eq (folded case x) (folded case y)
-bytewise Sensitive (c ∷ cs) (b ∷ bs) = grind (arith, nat_tests, turned, bytewise Sensitive cs bs)
-bytewise Fold (c ∷ cs) (b ∷ bs) = grind (arith, nat_tests, turned, bytewise Fold cs bs)
-bytewise Sensitive x y = refl
-bytewise Fold [] [] = refl
-bytewise Fold [] (b ∷ bs) = refl
-bytewise Fold (c ∷ cs) [] = refl
+bytewise case (c ∷ cs) (b ∷ bs) = grind (arith, nat_tests, bytewise Sensitive cs bs, bytewise Fold cs bs)
+bytewise case x y = grind (arith, nat_tests)
 
 pub length-folded : (case : Case) (x : List ℕ) → length (folded case x) ≡ length x
-length-folded Sensitive x = refl
-length-folded Fold x = length-map x to_ascii_lowercase
+length-folded case x = grind (arith, nat_tests, length-map)
 
 pub drop-folded : (case : Case) (n : ℕ) (x : List ℕ) → drop n (folded case x) ≡ folded case (drop n x)
-drop-folded Sensitive n x = refl
-drop-folded Fold n x = drop-map to_ascii_lowercase n x
+drop-folded case n x = grind (arith, nat_tests, drop-map)
 
 -- an end, byte by byte and folded
 pub ends_folded : (case : Case) (value tail : List ℕ) → ends_with_list (same_byte case) value tail
@@ -51,13 +40,7 @@ has_key_if_matched : (case : Case) (text : List ℕ) (r : Reading) (base : List 
     (literal : Bool) → is_none r.wildcard ≡ literal → (suffix : Bool) → has_flag r.mode ends_with ≡ suffix →
     has_key case base (cond literal (name r.text) (cond suffix (end (drop 1 r.text)) anything)) ≡ true
 has_key_if_matched case text r base read m true literal suffix flag =
-    let none : r.wildcard ≡ None = none_of r.wildcard literal in
-    let plain = no_wildcard r.text (sym (reading-wildcard text r read) ∙ none) in
-    sym (bytewise case r.text base) ∙ (sym (text_matches-literal case r.text base plain) ∙ m)
-  where
-    none_of : (o : Option ℕ) → is_none o ≡ true → o ≡ None
-    none_of None h = refl
-    none_of (Some x) h = cc
+    grind (arith, nat_tests, reading-wildcard text r read, bytewise case r.text base, no_wildcard, text_matches-literal)
 has_key_if_matched case text r base read m false literal true flag = grind (arith, nat_tests, ends_folded, suffix-ends, reading-ends_with)
 has_key_if_matched case text r base read m false literal false flag = refl
 
@@ -69,8 +52,5 @@ matching_line_is_candidate case text r path is_dir read plain m =
     let base = base_name path in
     let w = and_parts (not (has_flag r.mode must_be_dir) || is_directory is_dir) (text_matches case r.text (matched_part r path)) m in
     by_test (matches_base_name r)
-    (λ t.
-    let part : text_matches case r.text base ≡ true = ap (λ b. text_matches case r.text (cond b base path)) (sym t) ∙ w.1 in
-    rw (plain, t)
-    (has_key_if_matched case text r base read part (is_none r.wildcard) refl (has_flag r.mode ends_with) refl))
+    (λ t. grind (arith, nat_tests, has_key_if_matched))
     (λ f. rw (plain, f) refl)

@@ -1,4 +1,5 @@
 -- The flags of a mode are different bits, so that joining them adds them.
+use Rattle.std.proofs.lemmas.Bool.Decides.{nat_tests}
 use Rattle.std.proofs.Common.{arith, ◌≡◌, ℕ, ◌+◌, Bool, bit_or}
 use Rattle.attr_glob.specs.Patterns.{has_flag, set_where, no_sub_dir, ends_with, must_be_dir, negative, absolute}
 
@@ -14,12 +15,5 @@ added a b c d e =
 pub joined_flags : (a b c d e : Bool) → joined a b c d e ≡ added a b c d e
 joined_flags a b c d e = grind arith
 
--- of the flags that are added, these two are found again
-added-found : (a b c d e : Bool) → (has_flag (added a b c d e) ends_with ≡ b) × (has_flag (added a b c d e) negative ≡ d)
-added-found a b c d e = grind arith
-
 pub added-ends_with : (a b c d e : Bool) → has_flag (added a b c d e) ends_with ≡ b
-added-ends_with a b c d e = (added-found a b c d e).0
-
-pub added-negative : (a b c d e : Bool) → has_flag (added a b c d e) negative ≡ d
-added-negative a b c d e = (added-found a b c d e).1
+added-ends_with a b c d e = grind (arith, nat_tests)

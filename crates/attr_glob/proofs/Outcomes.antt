@@ -10,11 +10,7 @@ use Rattle.attr_glob.proofs.Spellings.{undone_from-spellings, Spells-escaped}
 use Rattle.attr_glob.proofs.Cuts.{cut_escape, cut, Stops, at_end, at_quote, at_bad}
 
 pub undone-IsQuoted : (text plain : List ℕ) (taken : ℕ) → IsQuoted text plain taken → undone text ≡ Ok (plain, taken)
-undone-IsQuoted text plain taken q =
-    let offset : 1 + length q.spelling + 1 ≡ taken = omega (arith, q.length_taken) in
-    ap undone q.whole
-    ∙ undone_from-spellings plain q.spelling q.spells 1 (quote ∷ q.rest)
-    ∙ rw (append-nil, offset) refl
+undone-IsQuoted text plain taken q = grind (arith, nat_tests, undone_from-spellings plain, append-nil)
 
 pub undone-IsUnclosed : (text : List ℕ) → IsUnclosed text → undone text ≡ Err unclosed
 undone-IsUnclosed text u =

@@ -1,9 +1,9 @@
-use Rattle.std.proofs.Common.{◌≡◌, sym, ap, subst, ◌∙◌}
+use Rattle.std.proofs.Common.{arith, sym, ap, ◌∙◌}
+use Rattle.std.proofs.lemmas.Bool.Decides.{nat_tests}
 use Rattle.bstr.specs.BStr.{bstr_bytes}
-use Rattle.attr_wildmatch.specs.Deciding.{text_matches}
 use Rattle.attr_glob.specs.Paths.{matched_part}
 use Rattle.attr_glob.specs.Views.{pattern_view}
-use Rattle.attr_glob.proofs.PathLemmas.{answer_of_match, path_answer}
+use Rattle.attr_glob.proofs.PathLemmas.{path_answer}
 use Rattle.attr_glob.proofs.pattern.Pattern.matches_repo_relative_path.Goals as goal
 
 pub returns-in-Some-clause-matched : goal.returns-in-Some-clause-matched
@@ -14,12 +14,8 @@ returns-in-Some-clause-matched c = λ text read.
     (c.matched_part-value.ensures ∙ ap (matched_part r) c.as_bytes.ensures) (c.in-Some.ensures.matched text read)
 
 pub returns-clause-matched : goal.returns-clause-matched
-returns-clause-matched c = λ text read.
-    let r = pattern_view c.args.self.now in
-    let value = c.matched_part-value.result.now in
-    let answer = c.in_ok-answer.answer in
-    path_answer c.args.case r (bstr_bytes c.args.path) value c.args.is_dir answer
-    (sym c.takes_kind.ensures ∙ c.if-not-takes_kind.false)
-    (c.matched_part-value.ensures ∙ ap (matched_part r) c.as_bytes.ensures)
-    (subst (λ x. answer ≡ text_matches c.args.case x value) c.deref.ensures.value
-    (answer_of_match c.args.case c.deref.result.now value answer c.in_ok-answer.ensures.matched.0 c.in_ok-answer.ensures.matched.1))
+returns-clause-matched c =
+    let fact3 = c.matched_part-value.ensures in
+    let fact = c.in_ok-answer.ensures.matched.0 in
+    let fact2 = c.in_ok-answer.ensures.matched.1 in
+    grind (arith, nat_tests, c.takes_kind.ensures, c.if-not-takes_kind.false, fact3, c.as_bytes.ensures, c.deref.ensures.value, fact, fact2)

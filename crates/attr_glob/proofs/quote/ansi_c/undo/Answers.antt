@@ -1,4 +1,5 @@
 -- By the first quote or backslash after the opening quote.
+use Rattle.std.proofs.lemmas.Grind.{common_steps}
 use Rattle.std.proofs.Common.{◌≢◌, ◌-◌, length, drop, take, get_or, position, ap, sym, ◌∙◌, arith}
 use Rattle.std.proofs.lemmas.Bool.Decides.{nat_tests}
 use Rattle.std.proofs.lemmas.Slice.{between_to_end}
@@ -10,19 +11,11 @@ use Rattle.attr_glob.proofs.quote.ansi_c.undo.Goals as goal
 
 pub returns-in_default-first_mark-clause-refused : goal.returns-in_default-first_mark-clause-refused
 returns-in_default-first_mark-clause-refused c =
-    let text = c.as_bytes-text.result.now in
-    let tail = between_to_end text 1 (length text) (omega arith) in
-    let quoted : BeginsQuoted text = omega arith in
-    rw (← c.as_bytes-text.ensures) (undone-unmarked text quoted (ap (position is_mark) (sym tail) ∙ sym c.in_default-first_mark.ensures))
+    grind (arith, common_steps, nat_tests, between_to_end, undone-unmarked, c.as_bytes-text.ensures, c.in_default-first_mark.ensures)
 
 pub returns-then-tail-front_len-eq34-clause-value : goal.returns-then-tail-front_len-eq34-clause-value
 returns-then-tail-front_len-eq34-clause-value c =
-    let text = c.as_bytes-text.result.now in
-    let tail = between_to_end text 1 (length text) (omega arith) in
-    let quoted : BeginsQuoted text = omega arith in
-    let at_quote = rw tail at c.if-tail-front_len-eq34.true in
-    let found = ap (position is_mark) (sym tail) ∙ sym c.in-Some.ensures in
-    rw (← c.as_bytes-text.ensures, tail) (undone-marked text c.in-Some.front_len quoted found at_quote)
+    grind (arith, common_steps, nat_tests, between_to_end, undone-marked, c.if-tail-front_len-eq34.true, c.in-Some.ensures, c.as_bytes-text.ensures)
 
 pub returns-then-tail-front_len-eq34-clause-quoted : goal.returns-then-tail-front_len-eq34-clause-quoted
 returns-then-tail-front_len-eq34-clause-quoted c =
@@ -44,11 +37,7 @@ returns-clause-inside c =
 
 pub returns-then-tail-front_len-eq34-clause-lent : goal.returns-then-tail-front_len-eq34-clause-lent
 returns-then-tail-front_len-eq34-clause-lent c =
-    let text = c.as_bytes-text.result.now in
-    let tail = between_to_end text 1 (length text) (omega arith) in
-    let at_quote = rw tail at c.if-tail-front_len-eq34.true in
-    let found = ap (position is_mark) (sym tail) ∙ sym c.in-Some.ensures in
-    rw (← c.as_bytes-text.ensures) (λ none. absurd none, no_escape text c.in-Some.front_len found at_quote)
+    grind (arith, common_steps, nat_tests, between_to_end, no_escape, c.if-tail-front_len-eq34.true, c.in-Some.ensures, c.as_bytes-text.ensures)
 
 pub undo_escapes-requires : goal.undo_escapes-requires
 undo_escapes-requires c =

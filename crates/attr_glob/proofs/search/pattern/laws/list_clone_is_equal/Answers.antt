@@ -1,5 +1,6 @@
 -- Each part of the copy is equal to that of the list.
-use Rattle.std.proofs.Common.{◌&&◌, nat_eq, eq-eqb}
+use Rattle.std.proofs.Common.{arith, ◌&&◌, nat_eq, eq-eqb}
+use Rattle.std.proofs.lemmas.Bool.Decides.{nat_tests}
 use Rattle.std.specs.Cmp.Lexicographic.{pointwise}
 use Rattle.std.specs.Option.{option_eq}
 use Rattle.std.specs.String.{string_eq}
@@ -16,11 +17,7 @@ returns g c =
     let copy = c.args.copy.now in
     let patterns = clones_equal (IsMappingClone g.T.Value.Clone.is_clone)
     (λ x y. pattern.ghosts.eq x.pattern y.pattern && (g.T.Value.PartialEq.eq x.value y.value && nat_eq x.sequence_number y.sequence_number))
-    (λ x y h. and_both (pattern.ghosts.eq y.pattern x.pattern)
-    (g.T.Value.PartialEq.eq y.value x.value && nat_eq y.sequence_number x.sequence_number)
-    (same_read y.pattern x.pattern h.pattern)
-    (and_both (g.T.Value.PartialEq.eq y.value x.value) (nat_eq y.sequence_number x.sequence_number)
-    (c.requires.values x.value y.value h.value) (eq-eqb y.sequence_number x.sequence_number h.sequence_number)))
+    (λ x y h. grind (arith, nat_tests, and_both, nat_eq, same_read, eq-eqb, c.requires.values))
     list.patterns.items copy.patterns.items c.requires.patterns in
     and_both
     (pointwise (λ x y. pattern.ghosts.eq x.pattern y.pattern
