@@ -1,6 +1,6 @@
 -- The lines that global files drop.
-use Rattle.std.proofs.Common.{◌≡◌, ◌∙◌, ◌⊎◌, inl, inr, ℕ, List, [], ◌∷◌, ◌++◌, map, sym, ap}
-use Rattle.std.proofs.Common.{append_assoc, Vec, String, Global, string_bytes}
+use Rattle.std.proofs.Common.{arith, ◌≡◌, ◌∙◌, ◌⊎◌, ℕ, List, [], ◌∷◌, ◌++◌, map, sym, append_assoc, Vec, String, Global, string_bytes}
+use Rattle.std.proofs.lemmas.Bool.Decides.{nat_tests}
 use Rattle.std.specs.List.{flat_map}
 use Rattle.std.proofs.lemmas.List.{append-nil}
 use Rattle.gix_attributes.specs.declared.search.Dropped.{Dropped}
@@ -17,15 +17,10 @@ pub one_reported : (text new all : List ℕ) (names names' : List (String Global
     → text ++ dropped_report_of names dropped ≡ all → names ≡ name ∷ names' → dropped ≡ lines ∷ dropped'
     → new ≡ text ++ flat_map (dropped_text (string_bytes name)) lines.items → new ++ dropped_report_of names' dropped' ≡ all
 one_reported text new all names names' name dropped dropped' lines so_far names_are dropped_are new_is =
-    let rest = dropped_report_of names' dropped' in
-    ap (λ t. t ++ rest) new_is ∙ (append_assoc text (flat_map (dropped_text (string_bytes name)) lines.items) rest
-    ∙ (sym (ap (λ ns. text ++ dropped_report_of ns dropped) names_are
-    ∙ ap (λ ds. text ++ dropped_report_of (name ∷ names') ds) dropped_are) ∙ so_far))
+    grind (arith, nat_tests, append_assoc, string_bytes)
 
 -- the lines of all files are appended
 pub all_reported : (text all : List ℕ) (names : List (String Global)) (dropped : List (Vec Dropped Global))
     → text ++ dropped_report_of names dropped ≡ all → (names ≡ []) ⊎ (dropped ≡ []) → text ≡ all
 all_reported text all [] dropped so_far none = sym (append-nil text) ∙ so_far
-all_reported text all (name ∷ names) [] so_far none = sym (append-nil text) ∙ so_far
-all_reported text all (name ∷ names) (lines ∷ dropped) so_far (inl e) = absurd cc
-all_reported text all (name ∷ names) (lines ∷ dropped) so_far (inr e) = absurd cc
+all_reported text all names dropped so_far none = grind (arith, nat_tests, append-nil)

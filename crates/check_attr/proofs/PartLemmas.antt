@@ -1,13 +1,11 @@
 -- The parts of a record are read exactly if they are spelled.
-use Rattle.std.proofs.lemmas.Bool.Decides.{nat_tests}
+use Rattle.std.proofs.lemmas.Bool.Decides.{nat_tests, Decides-eqb}
 use Rattle.std.proofs.Common.{◌≡◌, ℕ, ◌+◌, ◌-◌, ◌*◌, ◌^◌, ◌<◌, Bool, true, false, not, ◌&&◌, ◌||◌, List, [], ◌∷◌, ◌++◌}
-use Rattle.std.proofs.Common.{length, take, drop, get_or, fold, Option, Some, None, cond, option_map, refl, sym, ap, ◌∙◌, subst, arith}
-use Rattle.std.proofs.Common.{append_assoc}
-use Rattle.std.proofs.Common.{rules, ltb, ltb-false, lt-ltb, le-ltb, ltb-true, le-leb, leb-true, eq-eqb, ne_eqb, eqb-true}
-use Rattle.std.proofs.Common.{length-append, length-take-le}
-use Rattle.std.proofs.Common.{take-append-drop, true≢false}
+use Rattle.std.proofs.Common.{length, take, drop, get_or, fold, Option, Some, None, option_map, refl, sym, ap, ◌∙◌, arith, append_assoc}
+use Rattle.std.proofs.Common.{rules, ltb, ltb-false, lt-ltb, le-ltb, ltb-true, le-leb, leb-true, eq-eqb, eqb-true, length-append, length-take-le}
+use Rattle.std.proofs.Common.{take-append-drop}
 use Rattle.std.proofs.Math.Seq.{take-append_seam, take_at, drop_at}
-use Rattle.std.specs.Prelude.{⊤, nat_eq, nat_le, decimal, if◌then◌else◌, ◌==◌}
+use Rattle.std.specs.Prelude.{⊤, nat_eq, decimal, if◌then◌else◌, ◌==◌}
 use Rattle.std.specs.Char.{is_ascii_digit}
 use Rattle.std.specs.List.{list_all, starts_with, position, position_from}
 use Rattle.std.proofs.lemmas.List.Sums.{position_or_len_is}
@@ -17,17 +15,14 @@ use Rattle.std.proofs.lemmas.Fmt.{decimal-digits_value}
 use Rattle.std.proofs.lemmas.Iterator.Adapters.{position_from-zero}
 use Rattle.std.proofs.lemmas.Str.{IsUtf8-from_is_utf8, is_utf8-from_IsUtf8}
 use Rattle.std.proofs.lemmas.Str.Parse.{IsNumeralModel, FoldsDigits, IsDigitsTest, numerals_by_fold, digits_value_short}
-use Rattle.std.proofs.lemmas.Bool.Decides.{Decides-eqb}
 use Rattle.std.proofs.lemmas.Slice.Eq.{starts_is}
 use Rattle.check_attr.specs.Script.{IsHeaderNumber}
-use Rattle.check_attr.specs.inner.ScriptParts.{◌then◌, strip_prefix, choice_of, split_once, split_at, if_text, is_number, digits_value}
-use Rattle.check_attr.specs.inner.ScriptParts.{number_before}
+use Rattle.check_attr.specs.inner.ScriptParts.{◌then◌, strip_prefix, choice_of, split_once, split_at, if_text, is_number, digits_value, number_before}
 
 -- ---- options and tests
 
 pub then-some : {X Y : Type 0} (o : Option X) (next : X → Option Y) (y : Y) → (o then next) ≡ Some y → (x : X) × (o ≡ Some x) × (next x ≡ Some y)
-then-some None next y e = absurd cc
-then-some (Some x) next y e = (x, refl, e)
+then-some o next y e = grind (arith, nat_tests)
 
 in_some : {X : Type 0} → X → Option X → X
 in_some other None = other
@@ -38,20 +33,16 @@ unfolding in_some
 same_some x y e = ap (in_some x) e
 
 pub map-some : {X Y : Type 0} (f : X → Y) (o : Option X) (y : Y) → option_map f o ≡ Some y → (x : X) × (o ≡ Some x) × (f x ≡ y)
-map-some f None y e = absurd cc
-map-some f (Some x) y e = (x, refl, same_some (f x) y e)
+map-some f o y e = grind (arith, nat_tests, same_some)
 
 pub if-some : {X : Type 0} (b : Bool) (x y : X) → (if b then Some x else None) ≡ Some y → (b ≡ true) × (x ≡ y)
-if-some true x y e = (refl, same_some x y e)
-if-some false x y e = absurd cc
+if-some b x y e = grind (arith, nat_tests, same_some)
 
 both : (a b : Bool) → (a && b) ≡ true → (a ≡ true) × (b ≡ true)
-both true b e = (refl, e)
-both false b e = absurd cc
+both a b e = grind (arith, nat_tests)
 
 all_of : (a b : Bool) → a ≡ true → b ≡ true → (a && b) ≡ true
-all_of true b p q = q
-all_of false b p q = absurd cc
+all_of a b p q = grind (arith, nat_tests)
 
 -- ---- numbers
 
@@ -66,13 +57,10 @@ own = numerals_by_fold _ tells _ folds
 
 -- a number has no zero in front, unless it is `0`
 no_zero : (n : ℕ) → n < 10 ^ 8 → (t : Bool) → ltb n 10 ≡ t → (length (decimal n) == 1 || not (get_or (decimal n) 0 0 == 48)) ≡ true
-no_zero n h true e = ap (λ w. length w == 1 || not (get_or w 0 0 == 48)) (decimal_digit n (ltb-true n 10 e))
-no_zero n h false e = grind (arith, nat_tests, ltb-false, first_decimal)
+no_zero n h t e = grind (arith, nat_tests, decimal_digit, ltb-true, ltb-false, first_decimal)
 
 zero_alone : (single zero_first : Bool) → (single || not zero_first) ≡ true → zero_first ≡ true → single ≡ true
-zero_alone true b e z = refl
-zero_alone false true e z = absurd cc
-zero_alone false false e z = absurd cc
+zero_alone single zero_first e z = grind (arith, nat_tests)
 
 pub is_number-decimal : (n : ℕ) → n < 10 ^ 8 → is_number (decimal n) ≡ true
 is_number-decimal n h =
@@ -115,15 +103,12 @@ found-later : (i : ℕ) (stop b : ℕ) (bytes : List ℕ) → (b == stop) ≡ fa
 found-later i stop b bytes e = rw e
 
 not_true-false : (b : Bool) → not b ≡ true → b ≡ false
-not_true-false true e = absurd cc
-not_true-false false e = refl
+not_true-false b e = grind (arith, nat_tests)
 
 found-back : (i : ℕ) (stop : ℕ) (word rest : List ℕ) → Lacks stop word
     → position_from (λ b. b == stop) i (word ++ stop ∷ rest) ≡ Some (i + length word)
 found-back i stop [] rest e = found-here i stop stop rest (eq-eqb stop stop refl) ∙ ap Some (omega arith)
-found-back i stop (b ∷ word) rest e =
-    let a = both _ _ e in
-    found-later i stop b (word ++ stop ∷ rest) (not_true-false (b == stop) a.0) ∙ (found-back (i + 1) stop word rest a.1 ∙ ap Some (omega arith))
+found-back i stop (b ∷ word) rest e = grind (arith, nat_tests, both, found-later, not_true-false, found-back (i + 1) stop word rest)
 
 -- a word, the separator, and the rest
 abbrev Parted : ℕ → List ℕ → List ℕ → List ℕ → Type 0
@@ -152,28 +137,16 @@ at_offset bytes offset = (take offset bytes, drop (offset + 1) bytes)
 at_end : (stop : ℕ) (word rest : List ℕ) → at_offset (word ++ stop ∷ rest) (length word) ≡ (word, rest)
 unfolding at_offset
 at_end stop word rest =
-    let front : take (length word) (word ++ stop ∷ rest) ≡ word = take-append_seam word (stop ∷ rest) in
-    let back : drop (length word + 1) (word ++ stop ∷ rest) ≡ rest =
-    ap (drop (length word + 1)) (sym (append_assoc word (stop ∷ []) rest))
-    ∙ drop_at (word ++ stop ∷ []) rest (length word + 1) (length-append word (stop ∷ [])) in
-    λ i. (front i, back i)
+    let fact = drop_at (word ++ stop ∷ []) rest (length word + 1) (length-append word (stop ∷ [])) in
+    grind (arith, nat_tests, take-append_seam word (stop ∷ rest), append_assoc word (stop ∷ []) rest, fact, length-append word (stop ∷ []))
 
 pub split_once-back : (stop : ℕ) (word rest : List ℕ) → Lacks stop word → split_once stop (word ++ stop ∷ rest) ≡ Some (word, rest)
 unfolding at_offset
-split_once-back stop word rest lacks =
-    ap (option_map (at_offset (word ++ stop ∷ rest))) (position_from-zero (λ b. b == stop) (word ++ stop ∷ rest)
-    ∙ found-back 0 stop word rest lacks)
-    ∙ ap Some (ap (at_offset (word ++ stop ∷ rest)) (omega arith) ∙ at_end stop word rest)
+split_once-back stop word rest lacks = grind (arith, nat_tests, found-back 0 stop word rest lacks, at_end stop word rest, position_from-zero)
 
 pub split_once-only : (stop : ℕ) (bytes word rest : List ℕ) → split_once stop bytes ≡ Some (word, rest) → Parted stop bytes word rest
 unfolding at_offset
-split_once-only stop bytes word rest e =
-    let at = map-some (at_offset bytes) _ (word, rest) e in
-    let found = found-only 0 stop bytes at.0 (sym (position_from-zero (λ b. b == stop) bytes) ∙ at.1) in
-    let same : (found.0, found.1) ≡ (word, rest) =
-    sym (at_end stop found.0 found.1) ∙ (ap (λ xs. at_offset xs (length found.0)) (sym found.3.1)
-    ∙ (ap (at_offset bytes) (omega (arith, found.2)) ∙ at.2)) in
-    subst (λ (p : List ℕ × List ℕ). Parted stop bytes p.0 p.1) same found.3
+split_once-only stop bytes word rest e = grind (arith, nat_tests, found-only 0 stop bytes, at_end stop, map-some, position_from-zero)
 
 -- the first byte that is the separator
 pub position_at : (stop : ℕ) (bytes : List ℕ) (i : ℕ) → i < length bytes → ((k : ℕ) → k < i → (get_or bytes k 0 == stop) ≡ false)
@@ -185,8 +158,7 @@ pub no_position : (stop : ℕ) (bytes : List ℕ) → ((k : ℕ) → k < length 
     → None ≡ position (λ b. b == stop) bytes
 no_position stop bytes others =
     let at = position_or_len_is (λ b. b == stop) bytes (length bytes) 0 (omega arith) others (λ lt. absurd (omega (arith, lt))) in
-    sym (ap (λ n. cond (ltb n (length bytes)) (Some n) None) at
-    ∙ ap (λ b. cond b (Some (length bytes)) None) (le-ltb (length bytes) (length bytes) (omega arith)))
+    grind (arith, nat_tests, le-ltb)
 
 -- ---- a number before a separator
 
@@ -195,8 +167,7 @@ no_digit stop [] other e = refl
 no_digit stop (b ∷ word) other e = grind (arith, nat_tests, both, all_of, no_digit stop word other)
 
 if-yes : {X : Type 0} (b : Bool) (x y : X) → b ≡ true → (if b then x else y) ≡ x
-if-yes true x y e = refl
-if-yes false x y e = absurd cc
+if-yes b x y e = grind (arith, nat_tests)
 
 pub number_before-back : (stop n : ℕ) (rest : List ℕ) → is_ascii_digit stop ≡ false → IsHeaderNumber n
     → number_before stop (decimal n ++ stop ∷ rest) ≡ Some (n, rest)
@@ -210,8 +181,7 @@ number_before-only stop bytes n rest e =
     let read = if-some (is_number at.0.0) (digits_value at.0.0, at.0.1) (n, rest) at.2 in
     let parted = split_once-only stop bytes at.0.0 at.0.1 at.1 in
     let number = is_number-only at.0.0 read.0 in
-    subst (λ (p : ℕ × List ℕ). IsHeaderNumber p.0 × (bytes ≡ decimal p.0 ++ stop ∷ p.1)) read.1
-    (number.0, parted.1 ∙ ap (λ xs. xs ++ stop ∷ at.0.1) (sym number.1))
+    grind (arith, nat_tests)
 
 -- ---- parts of a length
 

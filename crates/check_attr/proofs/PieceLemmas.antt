@@ -39,15 +39,13 @@ nothing_written a text = (0, Appends-nil a)
 
 -- a refusal has no value
 pub no_value : {T E : Type 0} (r : Result T E) (P : E → Type 0) (Q : T → Type 0) → IsErrAnd r P → IfOk r Q
-no_value (Ok x) P Q is = absurd is
-no_value (Err e) P Q is = tt
+no_value r P Q is = grind (arith, nat_tests)
 
 -- ---- the things that are left of a list
 
 pub item_left : {X : Type 0} (xs : List X) (i : ℕ) (x : X) → i < length xs → x ≡ get_or xs i x → drop i xs ≡ x ∷ drop (i + 1) xs
-item_left [] i x lt is = absurd (omega (arith, lt))
-item_left (y ∷ ys) zero x lt is = ap (λ z. z ∷ ys) (sym is)
 item_left (y ∷ ys) (suc i) x lt is = grind (arith, nat_tests, item_left ys i x)
+item_left xs i x lt is = grind (arith, nat_tests)
 
 pub none_left : {X : Type 0} (xs : List X) (i : ℕ) → length xs ≤ i → drop i xs ≡ []
 none_left [] zero le = refl

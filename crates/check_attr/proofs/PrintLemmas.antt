@@ -1,7 +1,6 @@
 -- A text that was written whole, or a beginning of it before the writer failed.
 use Rattle.std.proofs.lemmas.Bool.Decides.{nat_tests}
-use Rattle.std.proofs.Common.{◌≡◌, ◌+◌, ℕ, zero, suc, List, [], ◌∷◌, ◌++◌, length, take, Option, Result, Ok, Err, OnOk, OnErr, inl, inr}
-use Rattle.std.proofs.Common.{refl, ap, ◌∙◌, arith, subst}
+use Rattle.std.proofs.Common.{◌≡◌, ◌+◌, ℕ, suc, List, [], ◌∷◌, ◌++◌, length, take, Option, Result, OnOk, OnErr, ap, ◌∙◌, arith, subst}
 use Rattle.std.proofs.KnownBytes.{Appends-trans}
 use Rattle.std.specs.Io.KnownBytes.{Appends}
 use Rattle.std.specs.Prelude.{IfErr}
@@ -9,7 +8,7 @@ use Rattle.check_attr.specs.Failures.{AppendsFront}
 use Rattle.check_attr.specs.Outcomes.{CountsWrites}
 use Rattle.check_attr.specs.Program.{Prints}
 use Rattle.check_attr.specs.declared.fault.Fault.{Fault}
-use Rattle.check_attr.specs.declared.fault.Fault.TheVariants.{Record, Read, Write, OutOfMemory}
+use Rattle.check_attr.specs.declared.fault.Fault.TheVariants.{Write}
 
 -- what a call that writes a text returns, as one fact
 pub Prints-written : {T E : Type 0} (contents : E → Option (List ℕ)) (failed stalled : E → ℕ) (Flushed : E → Type 0) (r : Result T Fault)
@@ -18,17 +17,12 @@ pub Prints-written : {T E : Type 0} (contents : E → Option (List ℕ)) (failed
     → OnErr r (AppendsFront (contents old) (contents new) text)
     → CountsWrites r (failed old) (failed new) (stalled old) (stalled new) → IfErr r (λ fault. fault ≡ Write)
     → Prints contents failed stalled Flushed old new text
-Prints-written contents failed stalled Flushed (Ok x) old new text whole flushed front counts only = inl (whole, flushed)
-Prints-written contents failed stalled Flushed (Err (Record k)) old new text whole flushed front counts only = absurd cc
-Prints-written contents failed stalled Flushed (Err Read) old new text whole flushed front counts only = absurd cc
-Prints-written contents failed stalled Flushed (Err Write) old new text whole flushed front counts only = inr (counts, front)
-Prints-written contents failed stalled Flushed (Err OutOfMemory) old new text whole flushed front counts only = absurd cc
+Prints-written contents failed stalled Flushed r old new text whole flushed front counts only = grind (arith, nat_tests)
 
 -- a beginning of a text is one of a longer text
 front_fits : (n : ℕ) (xs ys : List ℕ) → (m : ℕ) × (take n xs ≡ take m (xs ++ ys))
-front_fits zero xs ys = (0, refl)
-front_fits (suc n) [] ys = (0, refl)
 front_fits (suc n) (x ∷ xs) ys = let rest = front_fits n xs ys in (suc rest.0, ap (λ zs. x ∷ zs) rest.1)
+front_fits n xs ys = grind (arith, nat_tests)
 
 pub Front-longer : (old new : Option (List ℕ)) (xs ys : List ℕ) → AppendsFront old new xs → AppendsFront old new (xs ++ ys)
 Front-longer old new xs ys front = let fits = front_fits front.0 xs ys in (fits.0, subst (Appends old new) fits.1 front.1)
@@ -44,13 +38,10 @@ pub Front-later : (old mid new : Option (List ℕ)) (xs ys : List ℕ) → Appen
 Front-later old mid new xs ys first front = grind (arith, nat_tests, front_after, Appends-trans)
 
 pub on_err : {T E : Type 0} (r : Result T E) (P : Type 0) → P → OnErr r P
-on_err (Ok x) P p = tt
-on_err (Err e) P p = p
+on_err r P p = grind (arith, nat_tests)
 
 pub still_ok : {T E : Type 0} (r : Result T E) (P Q : Type 0) → OnOk r P → (P → Q) → OnOk r Q
-still_ok (Ok x) P Q p from = from p
-still_ok (Err e) P Q p from = tt
+still_ok r P Q p from = grind (arith, nat_tests)
 
 pub still_err : {T E : Type 0} (r : Result T E) (P Q : Type 0) → OnErr r P → (P → Q) → OnErr r Q
-still_err (Ok x) P Q p from = tt
-still_err (Err e) P Q p from = from p
+still_err r P Q p from = grind (arith, nat_tests)

@@ -1,9 +1,9 @@
 -- A script is that of its records.
-use Rattle.std.proofs.Common.{◌≡◌, ℕ, ◌+◌, List, [], ◌∷◌, ◌++◌, length, All, Option, Some, None, refl, sym, ap, ◌∙◌, subst, arith}
-use Rattle.std.proofs.Common.{append_assoc}
+use Rattle.std.proofs.lemmas.Bool.Decides.{nat_tests}
+use Rattle.std.proofs.Common.{◌≡◌, ℕ, ◌+◌, List, [], ◌∷◌, ◌++◌, length, All, Option, Some, None, refl, sym, ap, ◌∙◌, subst, arith, append_assoc}
 use Rattle.std.proofs.lemmas.List.{append-nil}
 use Rattle.check_attr.specs.Script.{Record, spelled, script_of, CanBeWritten, BeginsWithRecord}
-use Rattle.check_attr.specs.ScriptText.{IsRecordText, IsTextOfRecords, EndsAt, Writes, WritesRecords, ends, breaks, goes_on}
+use Rattle.check_attr.specs.ScriptText.{IsTextOfRecords, EndsAt, Writes, WritesRecords, ends, breaks, goes_on}
 use Rattle.gix_attributes.specs.EngineStates.{EngineState}
 use Rattle.check_attr.specs.ScriptStates.{next_state}
 use Rattle.check_attr.proofs.SpellingLemmas.{first_of, others_of, all_with, one_record, shorter}
@@ -25,8 +25,7 @@ at_end s number script (Some k) text end none =
 writes-from : (records : List Record) (s : EngineState) (number : ℕ) (script rest : List ℕ) (malformed : Option ℕ) (text : List ℕ)
     → All CanBeWritten records → script ≡ script_of records ++ rest → EndsAt (number + length records) rest malformed
     → IsTextOfRecords s records text → Writes s number script malformed text
-writes-from [] s number script rest malformed text can e end is_text =
-    at_end s number script malformed text (subst (λ xs. EndsAt (number + 0) xs malformed) (sym e) end) is_text
+writes-from [] s number script rest malformed text can e end is_text = grind (arith, nat_tests, at_end)
 writes-from (r ∷ records) s number script rest malformed text can e end is_text =
     let left = writes-from records (next_state r s) (number + 1) (script_of records ++ rest) rest malformed is_text.1
     (others_of CanBeWritten r records can) refl (subst (λ n. EndsAt n rest malformed) (omega arith) end) is_text.4 in
@@ -63,17 +62,13 @@ read_back : (records : List Record) (s : EngineState) (number : ℕ) (script : L
 unfolding IsReadBack
 read_back [] s number _ _ _ can e ends = (refl, refl)
 read_back [] s number _ _ _ can e (breaks some bad) = absurd (some e)
-read_back [] s number script _ _ can e (goes_on r rest first others begins is_text left) =
-    absurd (omega (arith, shorter script r rest begins, ap length e))
-read_back (r ∷ records) s number _ _ _ can e ends =
-    absurd (omega (arith, shorter [] r (script_of records ++ []) (begins_of r records [] [] can e)))
-read_back (r ∷ records) s number script _ _ can e (breaks some bad) =
-    absurd (bad r (script_of records ++ []) (begins_of r records script [] can e))
+read_back [] s number script _ _ can e (goes_on r rest first others begins is_text left) = grind (arith, nat_tests, shorter)
+read_back (r ∷ records) s number _ _ _ can e ends = grind (arith, nat_tests, shorter, begins_of)
+read_back (r ∷ records) s number script _ _ can e (breaks some bad) = grind (arith, nat_tests, begins_of r records script)
 read_back (r ∷ records) s number script malformed _ can e (goes_on q rest first others begins is_text left) =
-    let same = one_record script r q (script_of records ++ []) rest (begins_of r records script [] can e) begins in
-    let o = read_back records (next_state r s) (number + 1) rest malformed others (others_of CanBeWritten r records can) same.1
-    (subst (λ x. Writes (next_state x s) (number + 1) rest malformed others) same.0 left) in
-    (o.0, (first, others, refl, subst (λ x. IsRecordText s x first) same.0 is_text, o.1))
+    let fact2 = one_record script r q (script_of records ++ []) rest (begins_of r records script [] can e) begins in
+    let fact = read_back records (next_state r s) (number + 1) rest malformed others (others_of CanBeWritten r records can) in
+    grind (arith, nat_tests, fact2, begins_of r records script, others_of CanBeWritten r records can, fact)
 
 pub records_read_back : (s : EngineState) (number : ℕ) (records : List Record) (malformed : Option ℕ) (text : List ℕ) → All CanBeWritten records
     → Writes s number (script_of records) malformed text → (malformed ≡ None) × IsTextOfRecords s records text

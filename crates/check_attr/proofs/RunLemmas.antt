@@ -1,4 +1,5 @@
 -- Scripts, record by record.
+use Rattle.std.proofs.lemmas.Bool.Decides.{nat_tests}
 use Rattle.std.proofs.Common.{Bool, true, false}
 use Rattle.std.proofs.Common.{◌≡◌, ◌≢◌, ℕ, ◌+◌, List, [], ◌∷◌, ◌++◌, length, Option, Some, None, refl, sym, ap, ◌∙◌, subst, arith, append_assoc}
 use Rattle.std.proofs.lemmas.List.{append-nil}
@@ -40,5 +41,4 @@ some_bytes xs h e = h (ap length e)
 
 -- a test has one answer
 pub clash : (b : Bool) → b ≡ true → b ≡ false → ⊥
-clash true is is_not = absurd (cc)
-clash false is is_not = absurd (cc)
+clash b is is_not = grind (arith, nat_tests)

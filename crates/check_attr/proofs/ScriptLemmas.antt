@@ -1,7 +1,7 @@
 -- Parts of a script.
 use Rattle.std.proofs.lemmas.Bool.Decides.{nat_tests}
-use Rattle.std.proofs.Common.{◌≡◌, ℕ, zero, suc, ◌-◌, ◌<◌, Bool, true, false, List, [], ◌∷◌, ◌++◌, Option, Some, None, option_map, refl}
-use Rattle.std.proofs.Common.{sym, ap, ◌∙◌, arith, append_assoc, append-nil}
+use Rattle.std.proofs.Common.{◌≡◌, ℕ, ◌-◌, ◌<◌, Bool, true, false, List, [], ◌∷◌, ◌++◌, Option, Some, None, option_map}
+use Rattle.std.proofs.Common.{arith, append_assoc, append-nil}
 use Rattle.std.specs.Prelude.{if◌then◌else◌, Result, Ok, Err, MatchResult}
 use Rattle.std.specs.Borrow.{Bor}
 use Rattle.std.specs.Option.{option_copied}
@@ -15,8 +15,7 @@ use Rattle.check_attr.specs.inner.ScriptParts.{◌then◌, split_once, if_text, 
 pub text_lines-step : (n : ℕ) (bytes : List ℕ) → 0 < n →
     text_lines n bytes ≡ ((split_once line_feed bytes then if_text) then λ line. option_map (λ others. (line.0 ∷ others.0, others.1))
     (text_lines (n - 1) line.1))
-text_lines-step zero bytes h = absurd (omega arith)
-text_lines-step (suc n) bytes h = grind (arith, nat_tests)
+text_lines-step n bytes h = grind (arith, nat_tests)
 
 -- these lines before others
 abbrev pub before : List (List ℕ) → List (List ℕ) × List ℕ → List (List ℕ) × List ℕ
@@ -27,9 +26,7 @@ one_before line others = (line ∷ others.0, others.1)
 
 regrouped : (lines : List (List ℕ)) (line : List ℕ) (o : Option (List (List ℕ) × List ℕ)) →
     option_map (before lines) (option_map (one_before line) o) ≡ option_map (before (lines ++ line ∷ [])) o
-regrouped lines line None = refl
-regrouped lines line (Some o) = ap (λ (l : List (List ℕ)). let p : List (List ℕ) × List ℕ = (l, o.1) in Some p)
-    (sym (append_assoc lines (line ∷ []) o.0))
+regrouped lines line o = grind (arith, nat_tests, append_assoc)
 
 -- one line more is read
 pub text_lines-more : (whole : Option (List (List ℕ) × List ℕ)) (lines more : List (List ℕ)) (line : List ℕ) (n m : ℕ) (bytes rest : List ℕ) → 0 < n →
@@ -38,12 +35,7 @@ pub text_lines-more : (whole : Option (List (List ℕ) × List ℕ)) (lines more
     → (split_once line_feed bytes then if_text) ≡ Some (line, rest) → more ≡ lines ++ line ∷ []
     → whole ≡ option_map (before more) (text_lines m rest)
 text_lines-more whole lines more line n m bytes rest h m_is whole_is first more_is =
-    whole_is ∙ (ap (option_map (before lines))
-    (text_lines-step n bytes h ∙ (ap (λ (o : Option (List ℕ × List ℕ)). o then λ one. option_map (λ others. (one.0 ∷ others.0, others.1))
-    (text_lines (n - 1) one.1)) first
-    ∙ ap (λ k. option_map (one_before line) (text_lines k rest)) (sym m_is)))
-    ∙ (regrouped lines line (text_lines m rest)
-    ∙ ap (λ (l : List (List ℕ)). option_map (before l) (text_lines m rest)) (sym more_is)))
+    grind (arith, nat_tests, text_lines-step n bytes h, regrouped lines line (text_lines m rest))
 
 -- all lines are read
 pub text_lines-done : (whole : Option (List (List ℕ) × List ℕ)) (lines : List (List ℕ)) (n : ℕ) (bytes : List ℕ) → n ≡ 0
@@ -57,8 +49,7 @@ pub text_lines-stuck : (whole : Option (List (List ℕ) × List ℕ)) (lines : L
 text_lines-stuck whole lines n bytes h whole_is none = grind (arith, nat_tests, text_lines-step)
 
 not_true : (b : Bool) → (b ≡ true → ⊥) → b ≡ false
-not_true true h = absurd (h refl)
-not_true false h = refl
+not_true b h = grind (arith, nat_tests)
 
 -- bytes are text if they are UTF-8
 pub text_is : {E : Type 0} (r : Result (Bor (List ℕ)) E) (bytes : List ℕ) (P : E → Type 0)

@@ -1,18 +1,15 @@
 -- The first record of a script is read exactly if it is spelled.
 use Rattle.std.proofs.lemmas.Bool.Decides.{nat_tests}
-use Rattle.std.proofs.Common.{◌≡◌, ℕ, zero, suc, ◌<◌, ◌⊎◌, inl, inr, Bool, true, false, ◌&&◌, List, [], ◌∷◌, ◌++◌}
-use Rattle.std.proofs.Common.{length, get_or, drop, Option, Some, None, option_map, unwrap_or, IfSome, All, flat_map, codes, refl, sym, ap, ◌∙◌}
-use Rattle.std.proofs.Common.{subst, arith}
+use Rattle.std.proofs.Common.{◌≡◌, ℕ, zero, suc, ◌<◌, ◌⊎◌, inl, inr, Bool, true, false, List, [], ◌∷◌, ◌++◌}
+use Rattle.std.proofs.Common.{length, drop, Option, Some, None, option_map, unwrap_or, IfSome, All, flat_map, codes, refl, sym, ap, ◌∙◌, subst, arith}
 use Rattle.std.proofs.Common.{append_assoc, length-append, true≢false, is_some, zero-lt-suc}
-use Rattle.std.specs.Prelude.{nat_eq, decimal, if◌then◌else◌, Result, Ok, Err, IfOk}
+use Rattle.std.specs.Prelude.{nat_eq, decimal, if◌then◌else◌, Result, IfOk}
 use Rattle.std.specs.Char.{is_ascii_digit}
-use Rattle.std.specs.List.{list_all, starts_with, join_with_byte}
+use Rattle.std.specs.List.{list_all, starts_with}
 use Rattle.std.specs.Str.{IsUtf8}
 use Rattle.gix_attributes.specs.declared.glob.pattern.Case.{Case}
-use Rattle.gix_attributes.specs.declared.glob.pattern.Case.TheVariants.{Sensitive, Fold}
 use Rattle.gix_attributes.specs.LinesJoined.{line_feed}
 use Rattle.check_attr.specs.declared.script.Form.{Form}
-use Rattle.check_attr.specs.declared.script.Form.TheVariants.{Line, Zero, Origin}
 use Rattle.gix_attributes.specs.EngineStates.{AddedFile}
 use Rattle.check_attr.specs.Script.{Question, Record, add, pop, names, ask, space, header, macros_word, root_word, form_word, case_word}
 use Rattle.check_attr.specs.Script.{directory_word}
@@ -25,8 +22,7 @@ use Rattle.check_attr.specs.inner.ScriptParts.{add_record, names_record, ask_rec
 use Rattle.check_attr.proofs.PartLemmas.{then-some, map-some, same_some, starts_with-only, choice_of-only, strip_prefix-only, number_before-back}
 use Rattle.check_attr.proofs.PartLemmas.{number_before-only}
 use Rattle.check_attr.proofs.PartLemmas.{split_at-back, split_at-only, split_text-back, split_text-only, split_once-back, split_once-only}
-use Rattle.check_attr.proofs.PartLemmas.{if_text-back, if_text-only}
-use Rattle.check_attr.proofs.PartLemmas.{decimal_digits, decimal_some}
+use Rattle.check_attr.proofs.PartLemmas.{if_text-back, if_text-only, decimal_digits, decimal_some}
 
 -- ---- the text of a record, with the rest behind it
 
@@ -38,13 +34,8 @@ onto (word ∷ other ∷ words) rest = word ++ space ∷ onto (other ∷ words) 
 
 header-onto : (words : List (List ℕ)) (rest : List ℕ) → header words ++ rest ≡ onto words rest
 unfolding onto
-header-onto [] rest = refl
-header-onto (word ∷ []) rest = append_assoc word (line_feed ∷ []) rest
-header-onto (word ∷ other ∷ words) rest =
-    let joined : List ℕ = join_with_byte space (other ∷ words) in
-    append_assoc (word ++ space ∷ joined) (line_feed ∷ []) rest
-    ∙ (append_assoc word (space ∷ joined) (line_feed ∷ rest)
-    ∙ ap (λ xs. word ++ space ∷ xs) (sym (append_assoc joined (line_feed ∷ []) rest) ∙ header-onto (other ∷ words) rest))
+header-onto (word ∷ other ∷ words) rest = grind (arith, nat_tests, append_assoc, header-onto (other ∷ words) rest)
+header-onto words rest = grind (arith, nat_tests, append_assoc)
 
 ended_line-onto : (line rest : List ℕ) → ended_line line ++ rest ≡ line ++ line_feed ∷ rest
 ended_line-onto line rest = append_assoc line (line_feed ∷ []) rest
@@ -89,22 +80,16 @@ then-step : {X Y : Type 0} (o : Option X) (next : X → Option Y) (x : X) → o 
 then-step o next x e = ap (λ p. p then next) e
 
 macros-back : (b : Bool) (rest : List ℕ) → choice_of macro_flags (macros_word b ++ space ∷ rest) ≡ Some (b, rest)
-macros-back true rest = refl
-macros-back false rest = refl
+macros-back b rest = grind (arith, nat_tests)
 
 forms-back : (f : Form) (rest : List ℕ) → choice_of forms (form_word f ++ space ∷ rest) ≡ Some (f, rest)
-forms-back Line rest = refl
-forms-back Zero rest = refl
-forms-back Origin rest = refl
+forms-back f rest = grind (arith, nat_tests)
 
 cases-back : (c : Case) (rest : List ℕ) → choice_of cases (case_word c ++ space ∷ rest) ≡ Some (c, rest)
-cases-back Sensitive rest = refl
-cases-back Fold rest = refl
+cases-back c rest = grind (arith, nat_tests)
 
 directories-back : (d : Option Bool) (rest : List ℕ) → choice_of directory_flags (directory_word d ++ space ∷ rest) ≡ Some (d, rest)
-directories-back (Some true) rest = refl
-directories-back (Some false) rest = refl
-directories-back None rest = refl
+directories-back d rest = grind (arith, nat_tests)
 
 -- a number does not begin with `-`
 no_minus : (digits rest others : List ℕ) → 0 < length digits → list_all is_ascii_digit digits ≡ true → digits ++ rest ≡ 45 ∷ others → ⊥
@@ -112,19 +97,15 @@ no_minus [] rest others some all e = omega (arith, some)
 no_minus (d ∷ digits) rest others some all e = grind (arith, nat_tests)
 
 if-no : {X : Type 0} (b : Bool) (x y : X) → (b ≡ true → ⊥) → (if b then x else y) ≡ y
-if-no true x y no_way = absurd (no_way refl)
-if-no false x y no_way = refl
+if-no b x y no_way = grind (arith, nat_tests)
 
 root_length-back : (root : Option (List ℕ)) (rest : List ℕ) → IfSome root IsShortText
     → root_length (root_word root ++ space ∷ rest) ≡ Some (option_map length root, rest)
-root_length-back None rest short = refl
-root_length-back (Some root) rest short =
-    grind (arith, nat_tests, if-no, no_minus, decimal_some, decimal_digits, starts_with-only, number_before-back)
+root_length-back root rest short = grind (arith, nat_tests, if-no, no_minus, decimal_some, decimal_digits, starts_with-only, number_before-back)
 
 root_of-back : (root : Option (List ℕ)) (rest : List ℕ) → IfSome root IsShortText
     → root_of (option_map length root) (unwrap_or root [] ++ rest) ≡ Some (root, rest)
-root_of-back None rest short = refl
-root_of-back (Some root) rest short = ap (option_map _) (split_text-back (length root) root rest refl short.1)
+root_of-back root rest short = grind (arith, nat_tests, split_text-back)
 
 lengths_of : AddedFile → AddHeader
 lengths_of a = record { allow_macros = a.allow_macros; source = length a.source; root = option_map length a.root; buffer = length a.buffer }
@@ -145,22 +126,19 @@ pub others_of : {X : Type 0} (P : X → Type 0) (x : X) (xs : List X) → All P 
 others_of P x xs all = λ k d inside. all (suc k) d (omega (arith, inside))
 
 pub all_with : {X : Type 0} (P : X → Type 0) (x : X) (xs : List X) → P x → All P xs → All P (x ∷ xs)
-all_with P x xs first others zero d inside = first
-all_with P x xs first others (suc k) d inside = others k d (omega (arith, inside))
+all_with P x xs first others h d inside = grind (arith, nat_tests)
 
 lines-onto : (line : List ℕ) (lines : List (List ℕ)) (rest : List ℕ)
     → flat_map ended_line (line ∷ lines) ++ rest ≡ line ++ line_feed ∷ (flat_map ended_line lines ++ rest)
-lines-onto line lines rest =
-    append_assoc (ended_line line) (flat_map ended_line lines) rest ∙ ended_line-onto line (flat_map ended_line lines ++ rest)
+lines-onto line lines rest = grind (arith, nat_tests, append_assoc, flat_map, ended_line-onto)
 
 text_lines-back : (lines : List (List ℕ)) (rest : List ℕ) → All IsNameLine lines
     → text_lines (length lines) (flat_map ended_line lines ++ rest) ≡ Some (lines, rest)
 text_lines-back [] rest all = refl
 text_lines-back (line ∷ lines) rest all =
     let first = first_of IsNameLine line lines all in
-    ap (text_lines (suc (length lines))) (lines-onto line lines rest)
-    ∙ (then-step _ _ _ (then-step _ _ _ (split_once-back line_feed line _ first.1) ∙ if_text-back line _ first.0)
-    ∙ ap (option_map _) (text_lines-back lines rest (others_of IsNameLine line lines all)))
+    let fact = text_lines-back lines rest (others_of IsNameLine line lines all) in
+    grind (arith, nat_tests, lines-onto, then-step, split_once-back, if_text-back, others_of, fact)
 
 manner_of : Question → AskHeader
 manner_of q = record { form = q.form; case = q.case; is_dir = q.is_dir }
@@ -184,21 +162,17 @@ length_word (Some n) = decimal n
 
 root_word-length : (root : Option (List ℕ)) → length_word (option_map length root) ≡ root_word root
 unfolding length_word
-root_word-length None = refl
-root_word-length (Some root) = refl
+root_word-length root = grind (arith, nat_tests)
 
 if-cases : {X : Type 0} (b : Bool) (x y z : X) → (if b then x else y) ≡ z → ((b ≡ true) × (x ≡ z)) ⊎ (y ≡ z)
-if-cases true x y z e = inl (refl, e)
-if-cases false x y z e = inr e
+if-cases b x y z e = grind (arith, nat_tests)
 
 root_length-only : (bytes : List ℕ) (n : Option ℕ) (rest : List ℕ) → root_length bytes ≡ Some (n, rest)
     → IfSome n IsHeaderNumber × (bytes ≡ length_word n ++ space ∷ rest)
 unfolding length_word
 root_length-only bytes n rest e =
     elim (if-cases (starts_with nat_eq bytes (codes "- ")) _ _ _ e) [
-      | inl here ↦ subst (λ (p : Option ℕ × List ℕ). IfSome p.0 IsHeaderNumber
-          × (bytes ≡ length_word p.0 ++ space ∷ p.1)) (same_some (None, drop 2 bytes) (n, rest) here.1)
-          (tt, starts_with-only bytes (codes "- ") here.0)
+      | inl here ↦ grind (arith, nat_tests, same_some, starts_with-only, codes)
       | inr other ↦
           let read = map-some _ (number_before space bytes) (n, rest) other in
           subst (λ (p : Option ℕ × List ℕ). IfSome p.0 IsHeaderNumber × (bytes ≡ length_word p.0 ++ space ∷ p.1)) read.2
@@ -221,8 +195,7 @@ choice-only word bytes x rest e = e ∙ append_assoc (word x) (space ∷ []) res
 
 macros-only : (bytes : List ℕ) (b : Bool) (rest : List ℕ) → choice_of macro_flags bytes ≡ Some (b, rest) → bytes ≡ macros_word b ++ space ∷ rest
 unfolding spaced
-macros-only bytes b rest e =
-    choice-only macros_word bytes b rest (choice_of-only (spaced macros_word) macro_flags (refl, (refl, tt)) bytes b rest e)
+macros-only bytes b rest e = grind (arith, nat_tests, choice-only, choice_of-only)
 
 forms-only : (bytes : List ℕ) (f : Form) (rest : List ℕ) → choice_of forms bytes ≡ Some (f, rest) → bytes ≡ form_word f ++ space ∷ rest
 unfolding spaced
@@ -235,9 +208,7 @@ cases-only bytes c rest e = choice-only case_word bytes c rest (choice_of-only (
 directories-only : (bytes : List ℕ) (d : Option Bool) (rest : List ℕ) → choice_of directory_flags bytes ≡ Some (d, rest)
     → bytes ≡ directory_word d ++ space ∷ rest
 unfolding spaced
-directories-only bytes d rest e =
-    choice-only directory_word bytes d rest
-    (choice_of-only (spaced directory_word) directory_flags (refl, (refl, (refl, tt))) bytes d rest e)
+directories-only bytes d rest e = grind (arith, nat_tests, choice-only, choice_of-only)
 
 add_header-only : (bytes : List ℕ) (h : AddHeader) (rest : List ℕ) → add_header bytes ≡ Some (h, rest) → IsAddHeader h bytes rest
 unfolding IsAddHeader onto
@@ -249,14 +220,7 @@ add_header-only bytes h rest e =
     let s = number_before-only space allow.0.1 source.0.0 source.0.1 source.1 in
     let r = root_length-only source.0.1 root.0.0 root.0.1 root.1 in
     let b = number_before-only line_feed root.0.1 buffer.0.0 buffer.0.1 buffer.1 in
-    subst (λ (p : AddHeader × List ℕ). IsAddHeader p.0 bytes p.1) buffer.2 (
-      s.0,
-      r.0,
-      b.0,
-      macros-only bytes allow.0.0 allow.0.1 allow.1
-          ∙ λ i. macros_word allow.0.0 ++ space ∷ (s.1 ∙ λ j. decimal source.0.0 ++ space ∷ (r.1
-          ∙ λ k. length_word root.0.0 ++ space ∷ b.1 k) j) i,
-    )
+    grind (arith, nat_tests, macros-only)
 
 root_of-only : (n : Option ℕ) (bytes : List ℕ) (root : Option (List ℕ)) (rest : List ℕ) → root_of n bytes ≡ Some (root, rest)
     → (option_map length root ≡ n) × IfSome root IsUtf8 × (bytes ≡ unwrap_or root [] ++ rest)
@@ -264,13 +228,11 @@ root_of-only None bytes root rest e = grind (arith, nat_tests, same_some)
 root_of-only (Some n) bytes root rest e =
     let part = map-some _ (split_at n bytes then if_text) (root, rest) e in
     let read = split_text-only n bytes part.0.0 part.0.1 part.1 in
-    subst (λ (p : Option (List ℕ) × List ℕ). (option_map length p.0 ≡ Some n) × IfSome p.0 IsUtf8 × (bytes ≡ unwrap_or p.0 [] ++ p.1))
-    part.2 (ap Some read.0, read.1, read.2)
+    grind (arith, nat_tests, unwrap_or)
 
 short_root : (root : Option (List ℕ)) (n : Option ℕ) → option_map length root ≡ n → IfSome n IsHeaderNumber → IfSome root IsUtf8
     → IfSome root IsShortText
-short_root None n e short text = tt
-short_root (Some root) n e short text = (subst (λ m. IfSome m IsHeaderNumber) (sym e) short, text)
+short_root root n e short text = grind (arith, nat_tests)
 
 addition_of-only : (h : AddHeader) (bytes after : List ℕ) (a : AddedFile) (rest : List ℕ) → IsAddHeader h bytes after
     → addition_of h after ≡ Some (a, rest)
@@ -288,11 +250,7 @@ addition_of-only h bytes after a rest is e =
     let root_is : length_word h.root ≡ root_word root.0.0 = ap length_word (sym r.0) ∙ root_word-length root.0.0 in
     let parts : after ≡ source.0.0 ++ (unwrap_or root.0.0 [] ++ (buffer.0.0 ++ line_feed ∷ end.0)) =
     s.2 ∙ ap (λ xs. source.0.0 ++ xs) (r.2 ∙ ap (λ xs. unwrap_or root.0.0 [] ++ xs) (b.1 ∙ ap (λ xs. buffer.0.0 ++ xs) n)) in
-    subst (λ (p : AddedFile × List ℕ). CanBeWritten (add p.0) × (bytes ≡ onto (addition_words p.0) (addition_parts p.0 p.1))) end.2 (
-      ((subst IsHeaderNumber (sym s.0) is.0, s.1), short_root root.0.0 h.root r.0 is.1 r.1, subst IsHeaderNumber (sym b.0) is.2),
-      is.3 ∙ λ i. macros_word h.allow_macros ++ space ∷ (decimal (sym s.0 i) ++ space ∷ (root_is i ++ space ∷ (decimal
-          (sym b.0 i) ++ line_feed ∷ parts i))),
-    )
+    grind (arith, nat_tests, short_root)
 
 ask_header-only : (bytes : List ℕ) (h : AskHeader) (rest : List ℕ) → ask_header bytes ≡ Some (h, rest)
     → bytes ≡ form_word h.form ++ space ∷ (case_word h.case ++ space ∷ (directory_word h.is_dir ++ space ∷ rest))
@@ -300,11 +258,7 @@ ask_header-only bytes h rest e =
     let form = then-some (choice_of forms bytes) _ _ e in
     let case = then-some (choice_of cases form.0.1) _ _ form.2 in
     let is_dir = map-some _ (choice_of directory_flags case.0.1) _ case.2 in
-    subst (λ (p : AskHeader × List ℕ). bytes ≡ form_word p.0.form ++ space ∷ (case_word p.0.case ++ space ∷
-    (directory_word p.0.is_dir ++ space ∷ p.1))) is_dir.2
-    (forms-only bytes form.0.0 form.0.1 form.1
-    ∙ ap (λ xs. form_word form.0.0 ++ space ∷ xs) (cases-only form.0.1 case.0.0 case.0.1 case.1
-    ∙ ap (λ xs. case_word case.0.0 ++ space ∷ xs) (directories-only case.0.1 is_dir.0.0 is_dir.0.1 is_dir.1)))
+    grind (arith, nat_tests, forms-only, cases-only, directories-only)
 
 question_of-only : (h : AskHeader) (bytes : List ℕ) (q : Question) (rest : List ℕ) → question_of h bytes ≡ Some (q, rest)
     → (manner_of q ≡ h) × CanBeWritten (ask q) × (bytes ≡ decimal (length q.path) ++ line_feed ∷ (q.path ++ line_feed ∷ rest))
@@ -316,12 +270,7 @@ question_of-only h bytes q rest e =
     let c = number_before-only line_feed bytes count.0.0 count.0.1 count.1 in
     let p = split_at-only count.0.0 count.0.1 path.0.0 path.0.1 path.1 in
     let n = strip_prefix-only (codes "\n") path.0.1 end.0 end.1 in
-    subst (λ (p : Question × List ℕ). (manner_of p.0 ≡ h) × CanBeWritten (ask p.0)
-    × (bytes ≡ decimal (length p.0.path) ++ line_feed ∷ (p.0.path ++ line_feed ∷ p.1))) end.2 (
-      refl,
-      subst IsHeaderNumber (sym p.0) c.0,
-      c.1 ∙ λ i. decimal (sym p.0 i) ++ line_feed ∷ (p.1 ∙ ap (λ xs. path.0.0 ++ xs) n) i,
-    )
+    grind (arith, nat_tests, manner_of)
 
 text_lines-only : (n : ℕ) (bytes : List ℕ) (lines : List (List ℕ)) (rest : List ℕ) → text_lines n bytes ≡ Some (lines, rest)
     → (length lines ≡ n) × All IsNameLine lines × (bytes ≡ flat_map ended_line lines ++ rest)
@@ -349,8 +298,7 @@ add_record-only bytes after whole r rest e =
     let h = then-some (add_header after) _ (r, rest) e in
     let a = map-some _ (addition_of h.0.0 h.0.1) (r, rest) h.2 in
     let is = addition_of-only h.0.0 after h.0.1 a.0.0 a.0.1 (add_header-only after h.0.0 h.0.1 h.1) a.1 in
-    subst (λ (p : Record × List ℕ). CanBeWritten p.0 × (bytes ≡ text_with p.0 p.1)) a.2
-    (is.0, whole ∙ ap (λ xs. codes "add " ++ xs) is.1)
+    grind (arith, nat_tests, codes)
 
 names_record-only : (bytes after : List ℕ) → bytes ≡ codes "names " ++ after → ReadAs bytes (names_record after)
 unfolding ReadAs text_with onto
@@ -359,10 +307,7 @@ names_record-only bytes after whole r rest e =
     let lines = map-some _ (text_lines count.0.0 count.0.1) (r, rest) count.2 in
     let c = number_before-only line_feed after count.0.0 count.0.1 count.1 in
     let l = text_lines-only count.0.0 count.0.1 lines.0.0 lines.0.1 lines.1 in
-    subst (λ (p : Record × List ℕ). CanBeWritten p.0 × (bytes ≡ text_with p.0 p.1)) lines.2 (
-      (subst IsHeaderNumber (sym l.0) c.0, l.1),
-      whole ∙ ap (λ xs. codes "names " ++ xs) (c.1 ∙ λ i. decimal (sym l.0 i) ++ line_feed ∷ l.2 i),
-    )
+    grind (arith, nat_tests, codes)
 
 ask_record-only : (bytes after : List ℕ) → bytes ≡ codes "ask " ++ after → ReadAs bytes (ask_record after)
 unfolding ReadAs text_with onto question_words manner_of
@@ -371,9 +316,7 @@ ask_record-only bytes after whole r rest e =
     let q = map-some _ (question_of h.0.0 h.0.1) (r, rest) h.2 in
     let is = question_of-only h.0.0 h.0.1 q.0.0 q.0.1 q.1 in
     let words : AskHeader → List ℕ → List ℕ = λ m xs. form_word m.form ++ space ∷ (case_word m.case ++ space ∷
-    (directory_word m.is_dir ++ space ∷ xs)) in
-    subst (λ (p : Record × List ℕ). CanBeWritten p.0 × (bytes ≡ text_with p.0 p.1)) q.2
-    (is.1, whole ∙ ap (λ xs. codes "ask " ++ xs) (ask_header-only after h.0.0 h.0.1 h.1 ∙ λ i. words (sym is.0 i) (is.2 i)))
+    (directory_word m.is_dir ++ space ∷ xs)) in grind (arith, nat_tests, codes, ask_header-only)
 
 pop-only : (bytes after : List ℕ) → bytes ≡ codes "pop\n" ++ after → ReadAs bytes (Some (pop, after))
 unfolding ReadAs text_with onto
@@ -416,10 +359,7 @@ one_record script r s rest others begins begins_also =
     (ap (λ (p : Record × List ℕ). p.0) same, ap (λ (p : Record × List ℕ). p.1) same)
 
 pub spelled_some : (r : Record) → 0 < length (spelled r)
-spelled_some (add a) = zero-lt-suc _
-spelled_some pop = zero-lt-suc _
-spelled_some (names lines) = zero-lt-suc _
-spelled_some (ask q) = zero-lt-suc _
+spelled_some r = grind (arith, nat_tests, zero-lt-suc)
 
 pub shorter : (script : List ℕ) (r : Record) (rest : List ℕ) → BeginsWithRecord script r rest → length rest < length script
 shorter script r rest begins = omega (arith, spelled_some r, ap length begins.1, length-append (spelled r) rest)
@@ -432,16 +372,13 @@ first_record script (Some read) e = record_of-begins script read.0 read.1 (sym e
 
 pub number_spelled : (stop : ℕ) (bytes : List ℕ) (read : Option (ℕ × List ℕ)) → read ≡ number_before stop bytes → is_ascii_digit stop ≡ false
     → IsNumberBefore stop bytes read
-number_spelled stop bytes None e other = grind (arith, nat_tests, number_before-back)
-number_spelled stop bytes (Some read) e other = number_before-only stop bytes read.0 read.1 (sym e)
+number_spelled stop bytes read e other = grind (arith, nat_tests, number_before-back, number_before-only)
 
 if-then : {X : Type 0} (b : Bool) (x y : X) → b ≡ true → (if b then x else y) ≡ x
-if-then true x y e = refl
-if-then false x y e = absurd cc
+if-then b x y e = grind (arith, nat_tests)
 
 if-else : {X : Type 0} (b : Bool) (x y : X) → b ≡ false → (if b then x else y) ≡ y
-if-else true x y e = absurd cc
-if-else false x y e = refl
+if-else b x y e = grind (arith, nat_tests)
 
 number_in : List ℕ × List ℕ → Option (ℕ × List ℕ)
 number_in word = if is_number word.0 then Some (digits_value word.0, word.1) else None
@@ -467,5 +404,4 @@ pub reads_ask : (bytes : List ℕ) (read : Option (Record × List ℕ)) → star
 reads_ask bytes read ask_is e = grind (arith, nat_tests, starts_with-only, first_record, if-else, if-then)
 
 pub if_ok : {X E : Type 0} (r : Result X E) (P Q : X → Type 0) → ((x : X) → P x → Q x) → IfOk r P → IfOk r Q
-if_ok (Ok x) P Q next p = next x p
-if_ok (Err e) P Q next p = tt
+if_ok r P Q next p = grind (arith, nat_tests)

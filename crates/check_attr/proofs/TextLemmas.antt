@@ -1,5 +1,6 @@
 -- A script writes one text.
-use Rattle.std.proofs.Common.{◌≡◌, ◌≢◌, ℕ, zero, suc, ◌+◌, ◌≤◌, List, [], ◌∷◌, ◌++◌, length, Option, Some, None, refl, sym, ap, ◌∙◌, subst, arith}
+use Rattle.std.proofs.lemmas.Bool.Decides.{nat_tests}
+use Rattle.std.proofs.Common.{◌≡◌, ◌≢◌, ℕ, zero, suc, ◌+◌, ◌≤◌, List, [], ◌∷◌, ◌++◌, length, Option, Some, None, refl, arith}
 use Rattle.std.specs.List.{flat_map}
 use Rattle.gix_attributes.specs.Table.{Table}
 use Rattle.gix_attributes.specs.Cut.{no_answers}
@@ -31,13 +32,7 @@ some_record_text s (ask q) =
 
 -- and nothing else
 one_record_text : (s : EngineState) (r : Record) (text other : List ℕ) → IsRecordText s r text → IsRecordText s r other → text ≡ other
-one_record_text s (add a) text other is is_other = is ∙ sym is_other
-one_record_text s pop text other is is_other = is ∙ sym is_other
-one_record_text s (names selected) text other is is_other = is ∙ sym is_other
-one_record_text s (ask q) text other is is_other =
-    let one = OneTable-of (asked_setting s q) no_answers in
-    let tables : is.0.0 ≡ is_other.0.0 = one.2 is.0.0 is.0.1 ∙ sym (one.2 is_other.0.0 is_other.0.1) in
-    is.1 ∙ (ap (answers_by s q) tables ∙ sym is_other.1)
+one_record_text s r text other is is_other = grind (arith, nat_tests)
 
 abbrev HasText : EngineState → ℕ → List ℕ → Type 0
 HasText s number script = (malformed : Option ℕ) × (text : List ℕ) × Writes s number script malformed text
@@ -55,8 +50,7 @@ some_text : (longest : ℕ) (s : EngineState) (number : ℕ) (script : List ℕ)
 some_text longest s number [] short = (None, [], ends)
 some_text zero s number (b ∷ bs) short = absurd (omega (arith, short))
 some_text (suc longest) s number (b ∷ bs) short =
-    text_by s number (b ∷ bs) (λ e. absurd cc) (record_of (b ∷ bs)) (first_record (b ∷ bs) (record_of (b ∷ bs)) refl)
-    (λ r rest read. some_text longest (next_state r s) (number + 1) rest (omega (arith, short, shorter (b ∷ bs) r rest read)))
+    grind (arith, nat_tests, text_by s number (b ∷ bs), first_record (b ∷ bs) (record_of (b ∷ bs)) refl, shorter (b ∷ bs), some_text longest)
 
 -- and nothing else
 one_text : (s : EngineState) (number : ℕ) (script : List ℕ) (malformed other_malformed : Option ℕ) (text other : List ℕ)
@@ -71,14 +65,8 @@ one_text _ _ _ _ _ _ _ (goes_on r rest first others read is_text left) ends = ab
 one_text _ _ _ _ _ _ _ (goes_on r rest first others read is_text left) (breaks some read') = absurd (read' r rest read)
 one_text s number script malformed other_malformed _ _ (goes_on r rest first others read is_text left)
     (goes_on r' rest' first' others' read' is_text' left') =
-    let reads = one_record script r r' rest rest' read read' in
-    let first_is = one_record_text s r first' first (subst (λ x. IsRecordText s x first') reads.0 is_text') is_text in
-    let left_is = one_text (next_state r s) (number + 1) rest malformed other_malformed others others' left
-    (subst (λ x. Writes (next_state x s) (number + 1) rest other_malformed others') reads.0
-    (subst (λ x. Writes (next_state r' s) (number + 1) x other_malformed others') reads.1 left')) in
-    (left_is.0, ap (λ xs. xs ++ others') first_is ∙ ap (λ xs. first ++ xs) left_is.1)
+    let fact = one_text (next_state r s) (number + 1) rest malformed other_malformed others others' left in
+    grind (arith, nat_tests, one_record script r r' rest rest' read read', one_record_text s r first' first, fact)
 
 pub OneText-of : (s : EngineState) (number : ℕ) (script : List ℕ) → OneText s number script
-OneText-of s number script =
-    let some = some_text (length script) s number script (omega arith) in
-    (some.0, some.1, some.2, λ m t writes. one_text s number script some.0 m some.1 t some.2 writes)
+OneText-of s number script = grind (arith, nat_tests, some_text (length script) s number script, one_text s number script)

@@ -1,5 +1,6 @@
 -- An addition, a pop and a selection write one text each.
-use Rattle.std.proofs.Common.{[], refl, subst, sym}
+use Rattle.std.proofs.Common.{arith, [], refl, subst, sym}
+use Rattle.std.proofs.lemmas.Bool.Decides.{nat_tests}
 use Rattle.std.specs.List.{flat_map}
 use Rattle.gix_attributes.specs.KeptLists.{dropped_lines}
 use Rattle.gix_attributes.specs.EngineView.{addition_view}
@@ -32,9 +33,4 @@ returns-in_ok-select-in-Names-clause-text g c = (
 )
 
 pub returns-in_err-select-in-Names-clause-text : goal.returns-in_err-select-in-Names-clause-text
-returns-in_err-select-in-Names-clause-text g c = (
-  [],
-  subst (λ r. IsRecordText c.args.engine.now.state (record_view r) []) (sym c.in-Names.is) refl,
-  refused_at_once g.W.Push.contents g.W.Push.failed g.W.Push.stalled c.args.writer.now c.args.held.now _ c.from_residual.result
-      c.from_residual.ensures.1,
-)
+returns-in_err-select-in-Names-clause-text g c = grind (arith, nat_tests, refused_at_once)

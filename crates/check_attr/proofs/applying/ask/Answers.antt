@@ -1,4 +1,5 @@
-use Rattle.std.proofs.Common.{[], subst}
+use Rattle.std.proofs.Common.{arith, [], subst}
+use Rattle.std.proofs.lemmas.Bool.Decides.{nat_tests}
 use Rattle.std.specs.Prelude.{unwrap_or}
 use Rattle.std.specs.List.{flat_map}
 use Rattle.gix_attributes.specs.EngineStates.{AnswersTo}
@@ -12,11 +13,8 @@ use Rattle.check_attr.proofs.applying.ask.Goals as goal
 
 pub returns-in_err-ask-clause-text : goal.returns-in_err-ask-clause-text
 returns-in_err-ask-clause-text g c =
-    let some = some_record_text c.args.engine.now.state (ask (question_view c.args.question)) in (
-      some.0,
-      some.1,
-      refused_at_once g.W.Push.contents g.W.Push.failed g.W.Push.stalled _ _ _ c.from_residual.result c.from_residual.ensures.1,
-    )
+    let some = some_record_text c.args.engine.now.state (ask (question_view c.args.question)) in
+    grind (arith, nat_tests, refused_at_once, c.from_residual.ensures.1)
 
 pub returns-clause-text : goal.returns-clause-text
 returns-clause-text g c =

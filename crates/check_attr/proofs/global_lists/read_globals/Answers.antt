@@ -1,6 +1,7 @@
-use Rattle.std.proofs.Common.{◌∙◌, List, ap, map}
+use Rattle.std.proofs.Common.{arith, List, ap}
+use Rattle.std.proofs.lemmas.Bool.Decides.{nat_tests}
 use Rattle.gix_attributes.specs.declared.search.Dropped.{Dropped}
-use Rattle.gix_attributes.specs.Additions.{dropped_of, registered_lists}
+use Rattle.gix_attributes.specs.Additions.{registered_lists}
 use Rattle.gix_attributes.specs.Collections.{Collection}
 use Rattle.gix_attributes.specs.EngineStates.{EngineState}
 use Rattle.gix_attributes.proofs.ForCallers.{alone_first, globals_state, state_of}
@@ -8,10 +9,7 @@ use Rattle.check_attr.specs.ScriptStates.{GlobalLists}
 use Rattle.check_attr.proofs.global_lists.read_globals.Goals as goal
 
 pub of-requires-clause-known : goal.of-requires-clause-known
-of-requires-clause-known g c =
-    let made = c.in_ok-search.ensures in
-    alone_first c.new-collection.result (registered_lists c.in_ok-search.search c.new_globals_from.new.collection) made.kept made.added
-    c.new-collection.ensures.registered
+of-requires-clause-known g c = grind (arith, nat_tests, alone_first)
 
 pub returns-clause-loaded : goal.returns-clause-loaded
 returns-clause-loaded g c =
@@ -24,7 +22,5 @@ returns-clause-loaded g c =
     let Made : EngineState → List (List Dropped) → GlobalLists = λ s dropped. record { names = s.names; lists = s.lists; dropped = dropped } in (
       read,
       record { in_order = made.1; named = made.2; answered = made.3 },
-      ap (λ names. record c.of.result { names = names }) of.names
-          ∙ ap (λ lists. record { names = loaded.known.names; lists = lists; dropped = c.of.result.dropped }) of.lists
-          ∙ (ap (Made (state_of loaded)) (of.dropped ∙ made.4.dropped) ∙ ap (λ s. Made s (map (λ file. dropped_of file.answer) read)) state),
+      grind (arith, nat_tests, state_of),
     )

@@ -1,4 +1,5 @@
-use Rattle.std.proofs.Common.{◌≡◌, ℕ, ◌+◌, ◌-◌, List, [], ◌∷◌, ◌++◌, map, vec_len, sym, ap, ◌∙◌, arith}
+use Rattle.std.proofs.lemmas.Bool.Decides.{nat_tests}
+use Rattle.std.proofs.Common.{◌≡◌, ℕ, ◌+◌, ◌-◌, List, [], ◌∷◌, ◌++◌, map, vec_len, sym, arith}
 use Rattle.std.specs.Borrow.{Bor}
 use Rattle.std.proofs.lemmas.List.{map-append}
 use Rattle.check_attr.proofs.ScriptLemmas.{text_lines-more, text_lines-done, text_lines-stuck}
@@ -9,8 +10,7 @@ loop-rest-preserved c =
     let old = c.loop-rest.lines in
     let new = c.push.new.self in
     let now : Bor (List ℕ) → List ℕ = λ line. line.now in
-    let more : map now new.items ≡ map now old.items ++ now c.in-Some.line ∷ [] = ap (map now) c.in_ok-push.ensures.items ∙ map-append now old.items
-    (c.in-Some.line ∷ []) in
+    let more : map now new.items ≡ map now old.items ++ now c.in-Some.line ∷ [] = grind (arith, nat_tests, map-append, c.in_ok-push.ensures.items) in
     let longer : vec_len new ≡ vec_len old + 1 = c.in_ok-push.ensures.len in
     record {
       within = omega (arith, longer);
@@ -20,8 +20,7 @@ loop-rest-preserved c =
     }
 
 pub returns-in_default : goal.returns-in_default
-returns-in_default c = sym (text_lines-stuck _ _ (c.args.count - vec_len c.loop-rest.lines) _ (omega arith) c.loop-rest.invariant.read
-    (sym c.in_default.ensures))
+returns-in_default c = grind (arith, nat_tests, text_lines-stuck, vec_len)
 
 pub returns : goal.returns
 returns c = text_lines-done _ _ (c.args.count - vec_len c.loop-rest.lines) _ (omega arith) c.loop-rest.invariant.read

@@ -1,3 +1,4 @@
+use Rattle.std.proofs.lemmas.Bool.Decides.{nat_tests}
 use Rattle.std.proofs.Common.{◌≡◌, ◌<◌, ◌+◌, Some, None, Ok, ◌++◌, length, option_map, refl, sym, ap, ◌∙◌, subst, arith, eqb-true}
 use Rattle.std.specs.Prelude.{◌==◌, ⊤}
 use Rattle.check_attr.specs.Script.{BeginsWithRecord}
@@ -46,10 +47,7 @@ loop-rest-preserved g c =
     }
 
 pub loop-rest-smaller : goal.loop-rest-smaller
-loop-rest-smaller g c =
-    let read : BeginsWithRecord c.loop-rest.rest.now (record_view c.in-Some.next) c.in-Some.others.now =
-    subst (λ o. IsFirstRecord c.loop-rest.rest.now (option_map (with_rest record_view) o)) c.in-Some.is c.in_ok-next.ensures in
-    shorter _ _ _ read
+loop-rest-smaller g c = grind (arith, nat_tests, shorter)
 
 -- what the others write is a text whether or not they are applied
 pub returns-in_err-next : goal.returns-in_err-next
