@@ -1,12 +1,12 @@
 -- Texts are laid one after the other.
-use Rattle.std.proofs.Common.{◌≡◌, ◌≤◌, ℕ, List, [], ◌++◌, length, drop, refl, subst, append_assoc}
+use Rattle.std.proofs.Common.{arith, ◌≡◌, ◌≤◌, ℕ, List, [], ◌++◌, length, drop, refl, append_assoc}
+use Rattle.std.proofs.lemmas.Bool.Decides.{nat_tests}
 use Rattle.yektrod.specs.inner.Laid.{IsLaid, IsLaidBehind}
 
 -- two texts, one after the other
 pub laid_both : (x y old mid new : List ℕ) (at then told : ℕ) → IsLaidBehind old at x mid then → IsLaidBehind mid then y new told
     → IsLaidBehind old at (x ++ y) new told
-laid_both x y old mid new at then told first second = λ buffer before laid.
-    subst (λ text. IsLaid buffer text new told) (append_assoc before x y) (second buffer (before ++ x) (first buffer before laid))
+laid_both x y old mid new at then told first second = grind (arith, nat_tests, append_assoc)
 
 -- nothing is laid in a buffer at first
 pub laid_none : (buffer : List ℕ) → IsLaid buffer [] buffer 0

@@ -1,7 +1,8 @@
 -- Lists whose labels say their indexes keep their sources while lists are added after them and removed.
-use Rattle.std.proofs.Common.{◌≡◌, ℕ, ◌+◌, ◌-◌, ◌<◌, ◌≤◌, ◌^◌, List, [], ◌∷◌, ◌++◌, length, map, map-id, take, drop}
-use Rattle.std.proofs.Common.{get_or, Option, Some, None, sym, ap, ◌∙◌, refl, subst, ap₂, arith, add-zero, length-append, unwrap_or, option_map}
-use Rattle.std.specs.Prelude.{Result, Ok, Err, OnOk}
+use Rattle.std.proofs.lemmas.Bool.Decides.{nat_tests}
+use Rattle.std.proofs.Common.{◌≡◌, ℕ, ◌+◌, ◌-◌, ◌<◌, ◌≤◌, ◌^◌, List, [], ◌∷◌, ◌++◌, length, map, map-id, take}
+use Rattle.std.proofs.Common.{Option, None, sym, ap, ◌∙◌, refl, subst, ap₂, arith, add-zero, length-append, unwrap_or, option_map}
+use Rattle.std.specs.Prelude.{Result, OnOk}
 use Rattle.std.specs.List.{range_with_len}
 use Rattle.std.specs.Fmt.{decimal}
 use Rattle.std.proofs.lemmas.List.{get_or_append_left, get_or-append-add, get_or-take, map-append, length-map, length-take-le, take-map}
@@ -17,20 +18,13 @@ use Rattle.yektrod.proofs.LabelLemmas.{list_number-decimal}
 -- two ways to tell a source agree on a list whose label they agree on
 same_source : (f g : List ℕ → List ℕ) (source : Option (List ℕ)) (i : ℕ) → unwrap_or (option_map list_number source) 0 ≡ i
     → ((label : List ℕ) → list_number label ≡ i → f label ≡ g label) → option_map f source ≡ option_map g source
-same_source f g None i is agree = refl
-same_source f g (Some label) i is agree = ap Some (agree label is)
+same_source f g source i is agree = grind (arith, nat_tests)
 
 -- and on lists with labels from an index on, if they agree on these
 pub same_lists : (f g : List ℕ → List ℕ) (lists : List Listed) (a : ℕ) → map index_labelled lists ≡ range_with_len a (length lists)
     → ((label : List ℕ) → list_number label < a + length lists → f label ≡ g label) → map (list_told f) lists ≡ map (list_told g) lists
 same_lists f g [] a labels agree = refl
-same_lists f g (l ∷ lists) a labels agree =
-    let front : index_labelled l ≡ a = ap (λ xs. get_or xs 0 0) labels in
-    let rest : map index_labelled lists ≡ range_with_len (a + 1) (length lists) = ap (drop 1) labels in
-    ap₂ (λ (x : Listed) (xs : List Listed). x ∷ xs)
-    (ap (λ (source : Option (List ℕ)). record l { source = source })
-    (same_source f g l.source a front (λ label is. agree label (omega (arith, is)))))
-    (same_lists f g lists (a + 1) rest (λ label before. agree label (omega (arith, before))))
+same_lists f g (l ∷ lists) a labels agree = grind (arith, nat_tests, ap₂, same_source, same_lists f g lists (a + 1))
 
 -- the sources of the lists before one
 pub source_before : (sources : List (List ℕ)) (more : List (List ℕ)) (label : List ℕ) → list_number label < length sources
@@ -41,8 +35,7 @@ source_before sources more label before = get_or_append_left sources more [] (li
 pub source_last : (sources : List (List ℕ)) (source : List ℕ) → length sources < 2 ^ 64
     → source_in (sources ++ source ∷ []) (decimal (length sources)) ≡ source
 source_last sources source small =
-    ap (λ i. get_or (sources ++ source ∷ []) i []) (list_number-decimal (length sources) small)
-    ∙ (ap (λ i. get_or (sources ++ source ∷ []) i []) (sym (add-zero (length sources))) ∙ get_or-append-add sources (source ∷ []) 0 [])
+    grind (arith, nat_tests, list_number-decimal (length sources) small, add-zero (length sources), get_or-append-add sources (source ∷ []) 0)
 
 pub source_kept : (sources : List (List ℕ)) (n : ℕ) (label : List ℕ) → list_number label < n
     → source_in (take n sources) label ≡ source_in sources label
@@ -80,9 +73,7 @@ pub labels_added : (engine new : EngineContent) (a : AddedList) (n : ℕ)
     → map index_labelled engine.state.lists ≡ range_with_len 0 (length engine.state.lists) → n ≡ length engine.state.lists → n < 2 ^ 64
     → a.source ≡ decimal n → new ≡ with_list_below a engine
     → map index_labelled new.state.lists ≡ range_with_len 0 (length new.state.lists)
-labels_added engine new a n labels is small label new_is =
-    subst (λ (e : EngineContent). map index_labelled e.state.lists ≡ range_with_len 0 (length e.state.lists)) (sym new_is)
-    (labels_more engine.state.lists _ labels (ap list_number label ∙ list_number-decimal n small ∙ is))
+labels_added engine new a n labels is small label new_is = grind (arith, nat_tests, labels_more, list_number-decimal)
 
 -- an engine with these lists and no answers, to which a list is added
 abbrev with_lists : EngineContent → AddedList → List Listed → EngineContent
@@ -124,9 +115,7 @@ alone held lists =
 -- the labels of an engine of which the last list was removed
 pub labels_popped : (engine new : EngineContent) → map index_labelled engine.state.lists ≡ range_with_len 0 (length engine.state.lists)
     → new ≡ without_last engine → map index_labelled new.state.lists ≡ range_with_len 0 (length new.state.lists)
-labels_popped engine new labels new_is =
-    subst (λ (e : EngineContent). map index_labelled e.state.lists ≡ range_with_len 0 (length e.state.lists)) (sym new_is)
-    (labels_taken engine.state.lists (length engine.state.lists - 1) (omega arith) labels)
+labels_popped engine new labels new_is = grind (arith, nat_tests, labels_taken)
 
 -- and what is told of it
 pub told_popped : (engine new : EngineContent) (sources : List (List ℕ))
@@ -146,14 +135,12 @@ told_popped engine new sources labels as_many new_is law =
 
 -- a call that is done leaves what it leaves under each telling
 pub on_ok : {T E : Type 0} {P Q : Type 0} (r : Result T E) → (P → Q) → OnOk r P → OnOk r Q
-on_ok (Ok x) f p = f p
-on_ok (Err e) f p = tt
+on_ok r f p = grind (arith, nat_tests)
 
 -- the sources that are left, as texts
 pub sources_popped : {V : Type 0} (f : V → List ℕ) (old new : List V) (k : ℕ) → k ≡ length old → new ≡ take (k - 1) old
     → map f new ≡ take (length (map f old) - 1) (map f old)
-sources_popped f old new k is new_is =
-    ap (map f) new_is ∙ sym (take-map f (k - 1) old) ∙ ap (λ n. take (n - 1) (map f old)) (is ∙ sym (length-map old f))
+sources_popped f old new k is new_is = grind (arith, nat_tests, take-map, length-map)
 
 pub count_popped : {V : Type 0} (old new : List V) (k : ℕ) → k ≡ length old → new ≡ take (k - 1) old → length new ≡ length old - 1
 count_popped old new k is new_is = ap length new_is ∙ length-take-le (k - 1) old (omega (arith, is)) ∙ ap (λ n. n - 1) is

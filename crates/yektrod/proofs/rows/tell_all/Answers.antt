@@ -1,9 +1,9 @@
-use Rattle.std.proofs.Common.{◌≡◌, ◌<◌, ℕ, List, [], ap, ◌∙◌, subst, arith, length, unwrap_or}
-use Rattle.std.specs.Prelude.{flat_map, nat_lt, slice_set, if◌then◌else◌}
+use Rattle.std.proofs.lemmas.Bool.Decides.{nat_tests}
+use Rattle.std.proofs.Common.{◌≡◌, ◌<◌, ℕ, [], ap, ◌∙◌, subst, arith, length, unwrap_or}
+use Rattle.std.specs.Prelude.{nat_lt, slice_set, if◌then◌else◌}
 use Rattle.std.proofs.lemmas.List.{take_all}
 use Rattle.std.proofs.lemmas.List.FromFn.{get_or-map-range_with_len, length-map-range_with_len}
 use Rattle.gix_attributes.specs.Contents.{unspecified}
-use Rattle.gix_attributes.specs.Slots.{Matched}
 use Rattle.gix_attributes.specs.EngineStates.{EngineContent}
 use Rattle.yektrod.specs.inner.Laid.{IsLaid}
 use Rattle.yektrod.specs.RowsTold.{answers_of, offset_of, row_at, rows_of, text_of}
@@ -39,18 +39,10 @@ loop-i-preserved c =
 
 pub returns-clause-rows : goal.returns-clause-rows
 returns-clause-rows c =
-    let held = c.args.held.now in
-    let count : c.num_answers-i-end.result ≡ length (answers_of held) =
-    c.num_answers-i-end.ensures ∙ ap (λ (l : EngineContent). length (unwrap_or l.answers [])) c.labelled.ensures in
-    let long : length (rows_of held) ≡ length (answers_of held) =
-    length-map-range_with_len (λ i. row_at held (offset_of held i) i) 0 _ in
-    laid_in_room_all c.args.rows.now (rows_of held) c.loop-i.rows c.loop-i.i (omega (arith, c.loop-i-test.false, count, long))
-    c.loop-i.invariant.rows
+    let fact = c.num_answers-i-end.ensures in
+    let fact2 = c.loop-i.invariant.rows in
+    grind (arith, nat_tests, unwrap_or, length-map-range_with_len, laid_in_room_all, fact, c.labelled.ensures, c.loop-i-test.false, fact2)
 
 pub returns-clause-text : goal.returns-clause-text
 returns-clause-text c =
-    let held = c.args.held.now in
-    let count : c.num_answers-i-end.result ≡ length (answers_of held) =
-    c.num_answers-i-end.ensures ∙ ap (λ (l : EngineContent). length (unwrap_or l.answers [])) c.labelled.ensures in
-    subst (λ (ms : List Matched). IsLaid c.args.text.now (flat_map (text_of held) ms) c.loop-i.text c.loop-i.at)
-    (take_all c.loop-i.i (answers_of held) (omega (arith, c.loop-i-test.false, count))) c.loop-i.invariant.text
+    grind (arith, nat_tests, unwrap_or, take_all, c.num_answers-i-end.ensures, c.labelled.ensures, c.loop-i-test.false, c.loop-i.invariant.text)

@@ -1,6 +1,7 @@
-use Rattle.std.proofs.Common.{◌≡◌, ap, ◌∙◌, refl, sym, arith, length, ◌-◌}
+use Rattle.std.proofs.lemmas.Bool.Decides.{nat_tests}
+use Rattle.std.proofs.Common.{ap, ◌∙◌, refl, arith, ◌-◌}
 use Rattle.std.proofs.lemmas.List.{length-map, length-take-le}
-use Rattle.gix_attributes.specs.EngineStates.{EngineContent, without_last}
+use Rattle.gix_attributes.specs.EngineStates.{without_last}
 use Rattle.gix_attributes.specs.Told.{content_told}
 use Rattle.yektrod.specs.Sourced.{source_in, told_content}
 use Rattle.yektrod.specs.SourcedContents.{SourcedContent}
@@ -9,15 +10,10 @@ use Rattle.yektrod.proofs.sourced.SourcedEngine.pop.Goals as goal
 
 pub invariant_of-self-2 : goal.invariant_of-self-2
 invariant_of-self-2 c =
-    let engine = c.self.inside.engine in
-    let popped : c.pop.new.self ≡ without_last engine = c.if-not-pop.ensures.popped refl in
-    record {
-      labels = labels_popped engine c.pop.new.self c.self.invariant.labels popped;
-      sources =
-          count_popped c.self.inside.sources.items c.pop-2.new.self.items _ (omega (arith, c.self.inside.sources.ok)) c.pop-2.ensures.rest
-          ∙ ap (λ n. n - 1) c.self.invariant.sources
-          ∙ sym (ap (λ (e : EngineContent). length e.state.lists) popped ∙ length-take-le _ engine.state.lists (omega arith));
-    }
+    let fact = c.if-not-pop.ensures.popped in
+    let fact2 = c.self.inside.sources.ok in
+    let fact3 = c.self.invariant.sources in
+    grind (arith, nat_tests, labels_popped, count_popped, length-take-le, fact, c.self.invariant.labels, fact2, c.pop-2.ensures.rest, fact3)
 
 pub returns-clause-popped : goal.returns-clause-popped
 returns-clause-popped c = λ done.
