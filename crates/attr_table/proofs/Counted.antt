@@ -1,5 +1,5 @@
 -- Parts of a search, with their counts.
-use Rattle.std.proofs.Common.{◌≡◌, ℕ, zero, suc, ◌+◌, ◌-◌, ◌^◌, ◌<◌, ◌≤◌, List, [], ◌∷◌, ◌++◌, map, length, get_or, drop, Option, Some, None, min}
+use Rattle.std.proofs.Common.{◌≡◌, ℕ, zero, suc, ◌+◌, ◌-◌, ◌^◌, ◌≤◌, List, [], ◌∷◌, ◌++◌, length, Option, Some, None, min}
 use Rattle.std.proofs.Common.{refl, sym, ap, arith, true, false}
 use Rattle.std.specs.Prelude.{is_some, sum_by}
 use Rattle.std.proofs.lemmas.Grind.{common_steps}
@@ -13,7 +13,6 @@ use Rattle.attr_table.specs.Cut.{is_done}
 use Rattle.attr_table.specs.Work.{work_of, newly_at, newly_filled}
 use Rattle.attr_table.specs.shared.Walk.{Task, Walks, ends, stops, skips, fills, Searches, tasks_in, tasks_of, backwards, expands, opened, fill}
 use Rattle.attr_table.specs.shared.Walk.{free_items, left_in}
-use Rattle.attr_table.proofs.Listed.{backwards-more}
 use Rattle.attr_table.proofs.Walked.{length-tasks_in, fill_other, left_in-fill, then_walks, walks_past}
 
 -- the greatest u128
@@ -185,17 +184,6 @@ row_searched bodies wanted origin cause items ts before after a b on_stack p =
     let z = length-free before items in
     let l = ap length on_stack in
     grind (arith, nat_tests, append-nil)
-
--- one more element of a list, from its end
-pub more_searched : {X Y : Type 0} (bodies : List (List Item)) (wanted : List ℕ) (f : Y → List Task) (g : X → Y) (xs : List X) (k : ℕ) (d : X)
-    (first second third : Slots) (a b c : ℕ) →
-    0 < k → k ≤ length xs → Searches bodies wanted (backwards f (map g (drop k xs))) first second a b →
-    Searches bodies wanted (f (g (get_or xs (k - 1) d))) second third b c →
-    Searches bodies wanted (backwards f (map g (drop (k - 1) xs))) first third a c
-more_searched bodies wanted f g xs k d first second third a b c pos le p q =
-    let e = backwards-more f g xs k d pos le in
-    rw e (then_searches bodies wanted (backwards f (map g (drop k xs))) (f (g (get_or xs (k - 1) d))) first second third
-    a b c p q)
 
 length-backwards : {X Y : Type 0} (f : X → List Y) (size : X → ℕ) (xs : List X) → ((x : X) → length (f x) ≡ size x) →
     length (backwards f xs) ≡ sum_by size xs

@@ -1,13 +1,10 @@
 -- Lemmas for the crates above, beside the contracts and the laws.
 
 -- Tasks in the order of a search, from the last element of a list. `backwards-append`: of two lists the second comes first.
--- `backwards-none`: before the search there are no tasks. `backwards-more`: one more element appends its tasks.
--- `backwards-split`: the tasks so far, and then those of the rest. `length-tasks_in`: there is a task for each item.
--- `tasks_push`, `tasks_pass`: an item adds its task to the free ones if its attribute has no answer, and none if it has one.
--- `length-free`: there are no more free items than items.
-pub use Rattle.attr_table.proofs.Listed.{backwards-append, backwards-none, backwards-more, backwards-split}
-pub use Rattle.attr_table.proofs.Walked.{length-tasks_in}
-pub use Rattle.attr_table.proofs.Seen.{tasks_push, tasks_pass}
+-- `length-tasks_in`: there is a task for each item. `tasks_push`, `tasks_pass`: an item adds its task to the free ones if its
+-- attribute has no answer, and none if it has one. `length-free`: there are no more free items than items.
+pub use Rattle.attr_table.proofs.Listed.{backwards-append}
+pub use Rattle.attr_table.proofs.Walked.{length-tasks_in, tasks_push, tasks_pass}
 pub use Rattle.attr_table.proofs.Counted.{length-free}
 -- The order of paths of occurrences. `first_beginning`: a path comes before those that go on from it. `first_trans`: of three paths in
 -- order the first comes before the last.
@@ -18,9 +15,8 @@ pub use Rattle.attr_table.proofs.Walked.{fill_keeps, fill_other, then_walks}
 -- Parts of a search, with their counts. `nothing_taken`: a search without tasks changes nothing. `done_taken`: neither does one whose
 -- wanted attributes have answers. `then_searches`: one part after another. `taken_skip`: a task whose slot is filled.
 -- `taken_closed`, `taken_open`: a task that fills its slot, and sets no macro, or sets one. `row_filled`: items none of which is free.
--- `row_searched`: the free items count for all items. `more_searched`: one more element of a list.
+-- `row_searched`: the free items count for all items.
 pub use Rattle.attr_table.proofs.Counted.{nothing_taken, done_taken, then_searches, taken_skip, taken_closed, taken_open, row_filled, row_searched}
-pub use Rattle.attr_table.proofs.Counted.{more_searched}
 -- Counts. `top`: the greatest count. `left_in-less`: a task that fills its slot takes its body off the items that are left.
 -- `left_in-open`: with the free items of the body on the stack there is no more work than before. `taken_most`: a search takes no
 -- more than the work of its setting. `taken_least`: it takes no less than the slots that it fills.

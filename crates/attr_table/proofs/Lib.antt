@@ -9,6 +9,5 @@ pub mod Walked
 pub mod Ends
 pub mod Cuts
 pub mod Skipping
-pub mod Seen
 pub mod Counted
 pub mod ForCallers

@@ -1,9 +1,8 @@
 -- Lists from their end: their members, and their order.
-use Rattle.std.proofs.Common.{◌≡◌, ℕ, suc, ◌-◌, ◌<◌, ◌≤◌, ◌⊎◌, List, [], ◌∷◌, ◌++◌, map, length, get_or, take, drop, Some, refl, sym, ◌∙◌, inl}
-use Rattle.std.proofs.Common.{inr, ⊎_elim, arith, zero}
+use Rattle.std.proofs.Common.{◌≡◌, ℕ, zero, suc, ◌<◌, ◌⊎◌, List, [], ◌∷◌, ◌++◌, map, Some, refl, sym, ◌∙◌, inl, inr, ⊎_elim, arith}
 use Rattle.std.specs.Prelude.{slice_get}
 use Rattle.std.proofs.lemmas.Bool.Decides.{nat_tests}
-use Rattle.std.proofs.lemmas.List.{map-append, append-nil, append_assoc, drop_all, drop_more, take-append-drop}
+use Rattle.std.proofs.lemmas.List.{map-append, append-nil, append_assoc}
 use Rattle.attr_table.specs.shared.Walk.{backwards}
 
 -- an element is in a list
@@ -84,18 +83,3 @@ pub backwards-append : {X Y : Type 0} (f : X → List Y) (xs ys : List X) →
     backwards f (xs ++ ys) ≡ backwards f ys ++ backwards f xs
 backwards-append f [] ys = sym (append-nil (backwards f ys))
 backwards-append f (x ∷ xs) ys = grind (arith, nat_tests, append_assoc, backwards-append f xs ys)
-
--- a list from its end: no element, one more element, and the rest
-pub backwards-none : {X Y Z : Type 0} (f : Y → List Z) (g : X → Y) (xs : List X) →
-    backwards f (map g (drop (length xs) xs)) ≡ []
-backwards-none f g xs = let e = drop_all (length xs) xs (omega arith) in rw e refl
-
-pub backwards-more : {X Y Z : Type 0} (f : Y → List Z) (g : X → Y) (xs : List X) (k : ℕ) (d : X) → 0 < k → k ≤ length xs →
-    backwards f (map g (drop (k - 1) xs)) ≡ backwards f (map g (drop k xs)) ++ f (g (get_or xs (k - 1) d))
-backwards-more f g xs k d pos le = grind (arith, nat_tests, drop_more)
-
-pub backwards-split : {X Y Z : Type 0} (f : Y → List Z) (g : X → Y) (xs : List X) (k : ℕ) →
-    backwards f (map g xs) ≡ backwards f (map g (drop k xs)) ++ backwards f (map g (take k xs))
-backwards-split f g xs k =
-    let e = take-append-drop k xs in
-    grind (arith, nat_tests, map-append, backwards-append)

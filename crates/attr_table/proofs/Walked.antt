@@ -1,20 +1,33 @@
 -- Walks: each has an end, one goes on from another, and tasks whose slots are filled may be left out.
-use Rattle.std.proofs.Common.{◌≡◌, ℕ, zero, suc, ◌+◌, ◌≤◌, List, [], ◌∷◌, ◌++◌, length, ◌<◌, set, Option, Some, None, refl, ⊎_elim, arith, Bool}
+use Rattle.std.proofs.Common.{◌≡◌, ℕ, zero, suc, ◌+◌, ◌≤◌, List, [], ◌∷◌, ◌++◌, length, Option, Some, None, refl, ⊎_elim, arith, Bool}
 use Rattle.std.proofs.Common.{true, false}
 use Rattle.std.specs.Prelude.{is_some}
 use Rattle.std.proofs.lemmas.Bool.Decides.{nat_tests}
 use Rattle.std.proofs.lemmas.Bool.{cases_eq, eq-eqb, ne_eqb, cases_Bool}
-use Rattle.std.proofs.lemmas.List.{length-append, append_assoc, append-nil, get_or-set_same, get_or-set_other}
+use Rattle.std.proofs.lemmas.List.{length-append, append_assoc, append-nil}
+use Rattle.std.proofs.lemmas.List.Elements.{filter-append}
 use Rattle.attr_table.specs.Setting.{Item, Origin, Answer, body_of}
-use Rattle.attr_table.specs.Table.{Slots, slots_in}
-use Rattle.attr_table.specs.Cut.{answer_of}
+use Rattle.attr_table.specs.Table.{Slots}
 use Rattle.attr_table.specs.shared.Walk.{Task, Walks, ends, stops, skips, fills, tasks_in, opened, fill, left_in, free_items}
+use Rattle.attr_table.proofs.Listed.{backwards-append}
 use Rattle.attr_table.proofs.Stable.{some_or_none}
 
 pub length-tasks_in : (origin : Origin) (cause : Option ℕ) (items : List Item) →
     length (tasks_in origin cause items) ≡ length items
 length-tasks_in origin cause [] = refl
 length-tasks_in origin cause (i ∷ items) = grind (arith, nat_tests, length-append, length-tasks_in origin cause items)
+
+-- one more item adds its task to the free ones if its slot is empty, and else none
+pub tasks_push : (slots : Slots) (origin : Origin) (cause : Option ℕ) (items : List Item) (i : Item) →
+    is_some (slots i.attribute) ≡ false →
+    tasks_in origin cause (free_items slots (items ++ i ∷ []))
+    ≡ record { origin = origin; item = i; cause = cause } ∷ tasks_in origin cause (free_items slots items)
+tasks_push slots origin cause items i e = grind (arith, nat_tests, filter-append, backwards-append)
+
+pub tasks_pass : (slots : Slots) (origin : Origin) (cause : Option ℕ) (items : List Item) (i : Item) →
+    is_some (slots i.attribute) ≡ true →
+    tasks_in origin cause (free_items slots (items ++ i ∷ [])) ≡ tasks_in origin cause (free_items slots items)
+tasks_pass slots origin cause items i e = grind (arith, nat_tests, filter-append, append-nil)
 
 pub length-opened : (bodies : List (List Item)) (t : Task) →
     length (opened bodies t) ≤ length (body_of bodies t.item.attribute)
@@ -27,11 +40,6 @@ fill_same bodies t slots = let e = eq-eqb t.item.attribute t.item.attribute refl
 pub fill_other : (bodies : List (List Item)) (t : Task) (slots : Slots) (a : ℕ) → (a ≡ t.item.attribute → ⊥) →
     fill bodies t slots a ≡ slots a
 fill_other bodies t slots a ne = let e = ne_eqb a t.item.attribute ne in rw e refl
-
--- a write to a row of slots
-pub slots_in-fill : (bodies : List (List Item)) (t : Task) (slots : List (Option Answer)) → t.item.attribute < length slots →
-    slots_in (set slots t.item.attribute (Some (answer_of bodies t.origin t.item t.cause))) ≡ fill bodies t (slots_in slots)
-slots_in-fill bodies t slots lt = grind (arith, nat_tests, eq-eqb, get_or-set_same, ne_eqb, get_or-set_other, cases_eq)
 
 -- a slot that is filled stays so
 pub fill_keeps : (bodies : List (List Item)) (t : Task) (slots : Slots) (a : ℕ) → is_some (slots a) ≡ true →

@@ -1,4 +1,3 @@
--- Relations between functions inside the crates (own). No contract of a public call of the library reaches them, so none of them
--- has to be believed.
-pub mod Plain
+-- The example of the law `worked_cycle` (own). No contract of a public call of the library reaches it, so nothing of it has to be
+-- believed.
 pub mod Worked

@@ -3,7 +3,7 @@
 use crate::answer::Answer;
 use crate::fault::Fault;
 use crate::row::{Row, number_of};
-use attr_table::plain::{self, Item, Origin, State, is_in_range};
+use attr_vectors::plain::{self, Item, Origin, State, is_in_range};
 use bstr::BStr;
 use std::alloc::{AllocError, Global};
 

@@ -5,7 +5,7 @@ use crate::lists::Lists;
 use crate::parts::{COUNT, SELECTIONS, STARTS, files, short_lists};
 use crate::real_search::RealSearch;
 use crate::setting::{Setting, Slots, bodies_of};
-use attr_table::plain::{Item, Row};
+use attr_vectors::plain::{Item, Row};
 use std::alloc::Global;
 
 /// Compares the searches in each small setting, and reports how many settings there are.

@@ -3,7 +3,7 @@
 use crate::parts::{
     COUNT, SOURCE, START_SOURCE, START_SPELLING, push_items, push_macros, push_rows,
 };
-use attr_table::plain::{Item, Row, State};
+use attr_vectors::plain::{Item, Row, State};
 use gix_attributes::Search;
 use gix_attributes::search::MetadataCollection;
 use std::alloc::{AllocError, Global};

@@ -1,4 +1,4 @@
-//! Compares the search of `gix_attributes` with the plain one of `attr_table` over every small
+//! Compares the search of `gix_attributes` with the plain one of `attr_vectors` over every small
 //! setting, and prints how many there are. The first difference is printed, and ends the program
 //! with status 1.
 //!

@@ -1,6 +1,6 @@
 //! The parts of small settings, as numbers and as texts of attributes files.
 
-use attr_table::plain::{Item, Origin, Row, State};
+use attr_vectors::plain::{Item, Origin, Row, State};
 use bstr::BStr;
 use std::alloc::{AllocError, Global};
 use std::fmt::Write;

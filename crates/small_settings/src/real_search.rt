@@ -4,7 +4,7 @@ use crate::fault::Fault;
 use crate::lists::Lists;
 use crate::parts::{COUNT, NAMES, PATH};
 use crate::setting::Slots;
-use attr_table::plain::{Answer, Item, Origin, State};
+use attr_vectors::plain::{Answer, Item, Origin, State};
 use bitflags::Flags;
 use bstr::BStr;
 use gix_attributes::glob::pattern::Case;

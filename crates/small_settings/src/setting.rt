@@ -2,7 +2,7 @@
 
 use crate::fault::Fault;
 use crate::parts::{COUNT, START, push_macros, push_rows};
-use attr_table::plain::{self, Answer, Item, Row, State};
+use attr_vectors::plain::{self, Answer, Item, Row, State};
 use std::alloc::{AllocError, Global};
 use std::fmt::Write;
 

@@ -1,0 +1,2 @@
+mod Backwards
+mod Seen
