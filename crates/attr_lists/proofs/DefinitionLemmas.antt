@@ -1,5 +1,5 @@
 -- Definitions of macros, by list.
-use Rattle.std.proofs.Common.{◌≡◌, ℕ, Bool, true, false, not, eqb, List, [], ◌∷◌, ◌++◌, map, filter, refl, sym, ap, ◌∙◌, ⊎_elim, arith}
+use Rattle.std.proofs.Common.{◌≡◌, ℕ, Bool, true, false, not, List, [], ◌∷◌, ◌++◌, map, filter, refl, ap, arith}
 use Rattle.std.proofs.lemmas.Bool.{cases_Bool, cond-true, cond-false}
 use Rattle.std.proofs.lemmas.List.{append-nil, map-append}
 use Rattle.std.proofs.lemmas.List.Elements.{filter-append}
@@ -11,12 +11,7 @@ use Rattle.attr_lists.specs.Collections.{MacroDefinition}
 
 filter-same : {X : Type 0} (p q : X → Bool) → ((x : X) → p x ≡ true → q x ≡ true) → (xs : List X) → filter q (filter p xs) ≡ filter p xs
 filter-same p q both [] = refl
-filter-same p q both (x ∷ xs) =
-    ⊎_elim (λ y. ap (filter q) (cond-true (p x) (x ∷ filter p xs) (filter p xs) y) ∙ cond-true (q x) (x ∷ filter q (filter p xs))
-    (filter q (filter p xs)) (both x y) ∙ ap (λ l. x ∷ l) (filter-same p q both xs) ∙ sym (cond-true (p x) (x ∷ filter p xs) (filter p xs) y))
-    (λ n. ap (filter q) (cond-false (p x) (x ∷ filter p xs) (filter p xs) n) ∙ filter-same p q both xs ∙ sym
-    (cond-false (p x) (x ∷ filter p xs) (filter p xs) n))
-    (cases_Bool (p x))
+filter-same p q both (x ∷ xs) = grind (arith, filter, cond-true, cond-false, cases_Bool, filter-same p q both xs)
 
 -- what is not under a list id stays so
 pub of_other_lists-again : (list_id : ℕ) (ds : List MacroDefinition) → of_other_lists list_id (of_other_lists list_id ds) ≡ of_other_lists list_id ds
@@ -27,30 +22,20 @@ pub of_other_lists-append : (list_id : ℕ) (xs ys : List MacroDefinition) → o
     list_id ys
 of_other_lists-append list_id xs ys = filter-append (λ d. not (is_of_list list_id d)) xs ys
 
-eqb_self : (n : ℕ) → eqb n n ≡ true
-eqb_self n = grind arith
-
 -- of the bodies under a list id none is another list's
 pub of_other_lists-own : (list_id : ℕ) (bodies : List (List TrackedAssignment)) → of_other_lists list_id (map (definition_of list_id) bodies) ≡ []
 of_other_lists-own list_id [] = refl
-of_other_lists-own list_id (body ∷ bodies) =
-    cond-false (not (eqb list_id list_id)) (definition_of list_id body ∷ of_other_lists list_id (map (definition_of list_id) bodies))
-    (of_other_lists list_id (map (definition_of list_id) bodies)) (ap not (eqb_self list_id))
-    ∙ of_other_lists-own list_id bodies
+of_other_lists-own list_id (body ∷ bodies) = grind (arith, cond-false, of_other_lists-own list_id bodies)
 
 -- definitions of the list leave those of others as they are
 pub of_other_lists-more : (list_id : ℕ) (old : List MacroDefinition) (bodies : List (List TrackedAssignment)) → of_other_lists list_id
     (old ++ map (definition_of list_id) bodies) ≡ of_other_lists list_id old
-of_other_lists-more list_id old bodies =
-    of_other_lists-append list_id old (map (definition_of list_id) bodies) ∙ ap (λ l. of_other_lists list_id old ++ l)
-    (of_other_lists-own list_id bodies) ∙ append-nil (of_other_lists list_id old)
+of_other_lists-more list_id old bodies = grind (arith, of_other_lists-append, of_other_lists-own, append-nil)
 
 -- a line defines first
 pub bodies_defined-cons : (number : ℕ) (entry : Entry) (entries : List Entry) → bodies_defined number (entry ∷ entries) ≡ bodies_defined number
     (entry ∷ []) ++ bodies_defined number entries
-bodies_defined-cons number entry entries =
-    ap (map (λ (e : Entry). e.items)) (filter-append (is_definition number) (entry ∷ []) entries)
-    ∙ map-append (λ (e : Entry). e.items) (filter (is_definition number) (entry ∷ [])) (filter (is_definition number) entries)
+bodies_defined-cons number entry entries = grind (arith, filter-append, map-append, filter)
 
 pub bodies_defined-none : (number : ℕ) (entry : Entry) → is_definition number entry ≡ false → bodies_defined number (entry ∷ []) ≡ []
 bodies_defined-none number entry e = ap (map (λ (x : Entry). x.items)) (cond-false (is_definition number entry) (entry ∷ []) [] e)
@@ -58,9 +43,7 @@ bodies_defined-none number entry e = ap (map (λ (x : Entry). x.items)) (cond-fa
 -- the same of the bodies that lines define for a name
 pub bodies_named-cons : (name : List ℕ) (entry : Entry) (entries : List Entry) → bodies_named name (entry ∷ entries) ≡ bodies_named name
     (entry ∷ []) ++ bodies_named name entries
-bodies_named-cons name entry entries =
-    ap (map (λ (e : Entry). e.items)) (filter-append (defines_name name) (entry ∷ []) entries)
-    ∙ map-append (λ (e : Entry). e.items) (filter (defines_name name) (entry ∷ [])) (filter (defines_name name) entries)
+bodies_named-cons name entry entries = grind (arith, filter-append, map-append, filter)
 
 pub bodies_named-one : (name : List ℕ) (entry : Entry) → defines_name name entry ≡ true → bodies_named name (entry ∷ []) ≡ entry.items ∷ []
 bodies_named-one name entry e = ap (map (λ (x : Entry). x.items)) (cond-true (defines_name name entry) (entry ∷ []) [] e)
@@ -71,6 +54,4 @@ bodies_named-none name entry e = ap (map (λ (x : Entry). x.items)) (cond-false 
 -- the bodies of a list in two parts
 pub bodies_of_list-append : (list_id : ℕ) (xs ys : List MacroDefinition)
     → bodies_of_list list_id (xs ++ ys) ≡ bodies_of_list list_id xs ++ bodies_of_list list_id ys
-bodies_of_list-append list_id xs ys =
-    ap (map (λ (d : MacroDefinition). d.body)) (filter-append (is_of_list list_id) xs ys) ∙ map-append (λ (d : MacroDefinition). d.body)
-    (filter (is_of_list list_id) xs) (filter (is_of_list list_id) ys)
+bodies_of_list-append list_id xs ys = grind (arith, filter-append, map-append, filter)

@@ -1,5 +1,5 @@
 -- What is entries of names, by number.
-use Rattle.std.proofs.Common.{◌≡◌, ◌≢◌, ℕ, zero, suc, ◌+◌, ◌<◌, Bool, not, eqb, List, [], ◌∷◌, ◌++◌, length, get_or, set}
+use Rattle.std.proofs.Common.{◌≡◌, ◌≢◌, ℕ, suc, ◌+◌, ◌<◌, Bool, not, eqb, List, [], ◌∷◌, ◌++◌, length, get_or, set}
 use Rattle.std.proofs.Common.{take, drop, map, filter, All, refl, sym, ap, subst, ◌∙◌, ⊎_elim, inl, inr, arith, ne_eqb, eq-eqb}
 use Rattle.std.specs.List.Sorted.{IsNonDecreasingBy}
 use Rattle.std.proofs.lemmas.Bool.{cases_Bool, cases_eq, cond-true, cond-false}
@@ -22,12 +22,7 @@ use Rattle.attr_lists.proofs.NameTableLaws.{bodies_of_number-append}
 
 filter-map : {X Y : Type 0} (p : Y → Bool) (f : X → Y) (xs : List X) → map f (filter (λ x. p (f x)) xs) ≡ filter p (map f xs)
 filter-map p f [] = refl
-filter-map p f (x ∷ xs) =
-    ⊎_elim (λ y. ap (map f) (cond-true (p (f x)) (x ∷ filter (λ z. p (f z)) xs) (filter (λ z. p (f z)) xs) y) ∙ ap (λ l. f x ∷ l) (filter-map p f xs)
-    ∙ sym (cond-true (p (f x)) (f x ∷ filter p (map f xs)) (filter p (map f xs)) y))
-    (λ n. ap (map f) (cond-false (p (f x)) (x ∷ filter (λ z. p (f z)) xs) (filter (λ z. p (f z)) xs) n) ∙ filter-map p f xs ∙ sym
-    (cond-false (p (f x)) (f x ∷ filter p (map f xs)) (filter p (map f xs)) n))
-    (cases_Bool (p (f x)))
+filter-map p f (x ∷ xs) = grind (arith, cond-true, filter, cond-false, cases_Bool, filter-map p f xs)
 
 -- the definitions that are left
 pub others_kept : (list_id : ℕ) (old new : List Definition) → new ≡ filter (λ d. not (eqb d.list_id list_id)) old → map definition_view new ≡
@@ -41,61 +36,36 @@ ids_kept list_id number old new e h =
     (All-filter (λ d. not (eqb d.list_id list_id)) (λ (d : Definition). d.metadata.value.id.0 ≡ number) old h)
 
 push_nothing : {X : Type 0} (xs : List (List X)) (n : ℕ) → get_or (xs ++ [] ∷ []) n [] ≡ get_or xs n []
-push_nothing [] zero = refl
-push_nothing [] (suc n) = refl
-push_nothing (x ∷ xs) zero = refl
 push_nothing (x ∷ xs) (suc n) = push_nothing xs n
+push_nothing xs n = grind arith
 
 -- one more name, without a definition
 pub definitions_at-push : (old new : List NameEntry) (x : NameEntry) (n : ℕ) → new ≡ old ++ x ∷ [] → definitions_view x ≡ [] → definitions_at new n ≡
     definitions_at old n
-definitions_at-push old new x n e none =
-    ap (λ l. definitions_at l n) e ∙ ap (λ l. get_or l n []) (map-append definitions_view old (x ∷ []) ∙ ap (λ d. all_definitions old ++ d ∷ []) none)
-    ∙ push_nothing (all_definitions old) n
+definitions_at-push old new x n e none = grind (arith, map-append, push_nothing)
 
 pub AreEntries-push : (old new : List NameEntry) (x : NameEntry) (number : ℕ) → new ≡ old ++ x ∷ [] → length old ≡ number → IsEntry number x →
     AreEntries old → AreEntries new
-AreEntries-push old new x number e at is all =
-    subst AreEntries (sym e) (λ n d lt.
-    ⊎_elim (λ same. subst (λ k. IsEntry k (get_or (old ++ x ∷ []) n d)) (sym same)
-    (subst (IsEntry number) (sym (get_or_push old x d n (at ∙ sym same))) is))
-    (λ other. let below : n < length old = omega (arith, length-append old (x ∷ [])) in subst (IsEntry n)
-    (sym (get_or_append_left old (x ∷ []) d n below)) (all n d below))
-    (cases_eq n number))
-
-pub AreEntries-set : (entries : List NameEntry) (i : ℕ) (x : NameEntry) → IsEntry i x → AreEntries entries → AreEntries (set entries i x)
-AreEntries-set entries i x is all = λ n d lt.
-    let below : n < length entries = omega (arith, length-set entries i x) in
-    ⊎_elim (λ same. subst (λ k. IsEntry k (get_or (set entries i x) n d)) (sym same)
-    (subst (IsEntry i) (sym (ap (λ k. get_or (set entries i x) k d) same ∙ get_or-set_same entries i x d
-    (subst (λ k. k < length entries) same below)))
-    is))
-    (λ other. subst (IsEntry n) (sym (get_or-set_other entries i n x d other)) (all n d below))
-    (cases_eq n i)
+AreEntries-push old new x number e at is all = grind (arith, get_or_push, length-append, get_or_append_left, cases_eq)
 
 -- the definitions of the name that changes, and of the others
 pub definitions_at-same : (entries : List NameEntry) (i : ℕ) (x : NameEntry) → i < length entries → definitions_at (set entries i x) i ≡
     definitions_view x
-definitions_at-same entries i x lt =
-    ap (λ l. get_or l i []) (map-set definitions_view entries i x) ∙ get_or-set_same (all_definitions entries) i (definitions_view x) []
-    (omega (arith, length-map entries definitions_view))
+definitions_at-same entries i x lt = grind (arith, map-set, get_or-set_same, length-map)
 
 pub definitions_at-other : (entries : List NameEntry) (i n : ℕ) (x : NameEntry) → n ≢ i → definitions_at (set entries i x) n ≡ definitions_at entries
     n
-definitions_at-other entries i n x other =
-    ap (λ l. get_or l n []) (map-set definitions_view entries i x) ∙ get_or-set_other (all_definitions entries) i n (definitions_view x) [] other
+definitions_at-other entries i n x other = grind (arith, map-set, get_or-set_other)
 
 pub definitions_at-within : (entries : List NameEntry) (i : ℕ) (d : NameEntry) → i < length entries → definitions_at entries i ≡ definitions_view
     (get_or entries i d)
 definitions_at-within entries i d lt =
-    get_or_default (all_definitions entries) i [] (definitions_view d) (omega (arith, length-map entries definitions_view)) ∙ get_or-map
-    definitions_view
-    entries i d
+    grind (arith, get_or_default (all_definitions entries) i, length-map entries definitions_view, get_or-map definitions_view entries i d)
 
 -- the value that a write leaves is what is entries of the name at that index
 pub AreEntries-set-element : (entries : List NameEntry) (i : ℕ) (d x : NameEntry) {n : ℕ} → length entries ≡ n → i < n →
     (IsEntry i (get_or entries i d) → IsEntry i x) → AreEntries entries → AreEntries (set entries i x)
-AreEntries-set-element entries i d x {n} len lt keeps all = AreEntries-set entries i x (keeps (all i d (omega arith))) all
+AreEntries-set-element entries i d x {n} len lt keeps all = grind (arith, length-set, get_or-set_same, get_or-set_other, cases_eq)
 
 -- the definitions are removed from one more name
 pub remove_all_step : (list_id : ℕ) (start entries : List NameEntry) (i : ℕ) (d x : NameEntry) → i < length start → all_definitions entries ≡ front
@@ -149,13 +119,7 @@ module _ (list_id i : ℕ) (entries : List NameEntry) (d x : NameEntry) (lt : i 
 
 -- the list ids of a name don't fall
 pub in_order : (ds : List Definition) → AreInListOrder (map definition_view ds) → IsNonDecreasingBy (λ d. d.list_id) ds
-in_order ds h = λ i j d le lt.
-    omega (
-      arith,
-      h i j (definition_view d) le (omega (arith, lt, length-map ds definition_view)),
-      ap (λ m. m.list_id) (get_or-map definition_view ds i d),
-      ap (λ m. m.list_id) (get_or-map definition_view ds j d),
-    )
+in_order ds h = grind (arith, length-map ds definition_view, get_or-map definition_view ds)
 
 pub order_at : (entries : List NameEntry) (i : ℕ) (d : NameEntry) → i < length entries → AreAllInOrder entries
     → AreInListOrder (definitions_view (get_or entries i d))
@@ -204,10 +168,8 @@ defined_at list_id n entries b d x lt e =
     let bodies = λ (l : List NumberedBody). map (definition_of list_id) (map (λ (k : NumberedBody). k.body) l) in
     definitions_at-cases (λ ds. ds ≡ definitions_at entries n ++ bodies (filter (λ (k : NumberedBody). eqb k.number n) (b ∷ []))) entries b.number
     n d x lt
-    (λ at same. e ∙ ap (λ l. l ++ definition_of list_id b.body ∷ []) at
-    ∙ ap (λ l. definitions_at entries n ++ bodies l) (sym (cond-true (eqb b.number n) (b ∷ []) [] (eq-eqb b.number n same))))
-    (λ other. sym (append-nil (definitions_at entries n))
-    ∙ ap (λ l. definitions_at entries n ++ bodies l) (sym (cond-false (eqb b.number n) (b ∷ []) [] (ne_eqb b.number n other))))
+    (λ at same. grind (arith, cond-true, eq-eqb))
+    (λ other. grind (arith, append-nil, cond-false, ne_eqb))
 
 -- the definitions of other lists stay
 pub others_at : (list_id i n : ℕ) (entries : List NameEntry) (d x : NameEntry) (body : List TrackedAssignment) → i < length entries → definitions_view
@@ -230,8 +192,8 @@ all_of_map P f [] h = All-nil (λ x. P (f x))
 all_of_map P f (x ∷ xs) h = All-cons (λ y. P (f y)) x xs (All-head P (f x) (map f xs) h) (all_of_map P f xs (All-tail P (f x) (map f xs) h))
 
 pub ids_copied : (number : ℕ) (old new : List Definition)
-    → map (λ (d : Definition). d.metadata.value.id.0) new ≡ map (λ (d : Definition). d.metadata.value.id.0) old
-    → All (λ d. d.metadata.value.id.0 ≡ number) old → All (λ d. d.metadata.value.id.0 ≡ number) new
+    → map (λ (d : Definition). d.metadata.value.id.0) new ≡ map (λ (d : Definition). d.metadata.value.id.0) old → All
+    (λ d. d.metadata.value.id.0 ≡ number) old → All (λ d. d.metadata.value.id.0 ≡ number) new
 ids_copied number old new e h =
     all_of_map (λ id. id ≡ number) (λ (d : Definition). d.metadata.value.id.0) new
     (subst (All (λ id. id ≡ number)) (sym e) (All-map (λ id. id ≡ number) (λ (d : Definition). d.metadata.value.id.0) old h))
@@ -245,9 +207,3 @@ copied_step entries copy now i item x lt at pushed same so_far =
     ap all_definitions pushed ∙ map-append definitions_view copy (x ∷ []) ∙ ap (λ l. l ++ definitions_view x ∷ []) so_far
     ∙ ap (λ d. all_definitions (take i entries) ++ d ∷ []) (same ∙ ap definitions_view at)
     ∙ sym (ap all_definitions (take_more entries i item lt) ∙ map-append definitions_view (take i entries) (get_or entries i item ∷ []))
-
-pub copied_entries : (entries copy now : List NameEntry) (i : ℕ) (item x : NameEntry) → i < length entries → item ≡ get_or entries i item → now ≡ copy
-    ++ x ∷
-    [] → length copy ≡ i → ((n : ℕ) → IsEntry n item → IsEntry n x) → AreEntries entries → AreEntries copy → AreEntries now
-copied_entries entries copy now i item x lt at pushed count keeps all so_far =
-    AreEntries-push copy now x i pushed count (keeps i (subst (IsEntry i) (sym at) (all i item lt))) so_far

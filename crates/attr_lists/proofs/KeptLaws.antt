@@ -1,10 +1,9 @@
 -- The macros that a list keeps of a buffer have valid names.
-use Rattle.std.proofs.Common.{◌≡◌, ℕ, ◌+◌, Bool, true, false, not, List, [], ◌∷◌, Option, Some, None, filter, Result, Ok, Err, refl, arith}
+use Rattle.std.proofs.Common.{◌≡◌, ℕ, ◌+◌, Bool, true, not, List, [], ◌∷◌, Option, Some, None, filter, Result, Ok, Err, refl, arith}
 use Rattle.std.specs.Prelude.{option_map, drop, length, ◌==◌, ◌||◌, slice_index, if◌then◌else◌}
 use Rattle.std.specs.List.{list_all}
 use Rattle.std.specs.Option.{option_to_list}
 use Rattle.std.proofs.lemmas.List.Folds.{list_all-append}
-use Rattle.std.proofs.lemmas.Bool.Decides.{nat_tests}
 use Rattle.attr_wildmatch.specs.Bytes.{number_sign}
 use Rattle.attr_glob.specs.Patterns.{Reading, reading}
 use Rattle.attr_text.specs.Names.{is_valid_name, is_reserved_name}
@@ -13,8 +12,7 @@ use Rattle.attr_lists.specs.LineResults.{Target, pattern, macro, LineResult, mac
 use Rattle.attr_lists.specs.LineResults.{is_macro_definition, macro_of, pattern_of, parts_of, with_items, result_of}
 use Rattle.attr_lists.specs.LineResults.{results_from, results_of, lines_in}
 use Rattle.attr_lists.specs.ListViews.{Entry}
-use Rattle.attr_lists.specs.KeptLists.{macros_valid, kept_lines, kept_list, kept_list_where}
-use Rattle.attr_lists.specs.KeptLists.{defines_no_macro}
+use Rattle.attr_lists.specs.KeptLists.{macros_valid, kept_lines, kept_list, kept_list_where, defines_no_macro}
 
 -- a macro of a valid name, or no macro
 target_valid : Target → Bool
@@ -38,8 +36,7 @@ valid-by : (text name items : List ℕ) (number : ℕ) (skipped is_macro : Bool)
     → list_all line_valid (option_to_list (if skipped then None else option_map (with_items items number)
     (if is_macro then Some (macro_of checked name number) else option_map (pattern_of text number) found))) ≡ true
 unfolding line_valid target_valid
-valid-by text name items number skipped is_macro (Ok n) found valid = let is = valid n refl in grind arith
-valid-by text name items number skipped is_macro (Err refusal) found valid = grind arith
+valid-by text name items number skipped is_macro checked found valid = grind arith
 
 result_of-valid : (line : List ℕ) (number : ℕ) → list_all line_valid (option_to_list (result_of line number)) ≡ true
 result_of-valid line number =
@@ -51,19 +48,12 @@ result_of-valid line number =
 
 results-valid : (number : ℕ) (lines : List (List ℕ)) → list_all line_valid (results_from number lines) ≡ true
 results-valid number [] = refl
-results-valid number (line ∷ lines) = grind (
-  arith,
-  nat_tests,
-  list_all-append line_valid (option_to_list (result_of line number))
-      (results_from (number + 1) lines),
-  result_of-valid line number,
-  results-valid (number + 1) lines,
-)
+results-valid number (line ∷ lines) = grind (arith, list_all-append, result_of-valid, results-valid (number + 1) lines)
 
 kept-valid : (lines : List LineResult) → list_all line_valid lines ≡ true → macros_valid (kept_lines lines) ≡ true
 unfolding line_valid target_valid
 kept-valid [] h = refl
-kept-valid (line ∷ lines) h = grind (arith, nat_tests, kept-valid lines)
+kept-valid (line ∷ lines) h = grind (arith, kept-valid lines)
 
 pub kept_macros_valid : (bytes : List ℕ) → macros_valid (kept_list bytes) ≡ true
 kept_macros_valid bytes = kept-valid (results_of bytes) (results-valid 1 (lines_in bytes))
@@ -71,8 +61,7 @@ kept_macros_valid bytes = kept-valid (results_of bytes) (results-valid 1 (lines_
 -- what is left of valid macros without the lines that define any
 pub valid_without_macros : (entries : List Entry) → macros_valid entries ≡ true → macros_valid (filter defines_no_macro entries) ≡ true
 valid_without_macros [] h = refl
-valid_without_macros (entry ∷ entries) h = grind (arith, nat_tests, valid_without_macros entries)
+valid_without_macros (entry ∷ entries) h = grind (arith, valid_without_macros entries)
 
 pub kept_macros_valid_where : (allow_macros : Bool) (bytes : List ℕ) → macros_valid (kept_list_where allow_macros bytes) ≡ true
-kept_macros_valid_where true bytes = kept_macros_valid bytes
-kept_macros_valid_where false bytes = valid_without_macros (kept_list bytes) (kept_macros_valid bytes)
+kept_macros_valid_where allow_macros bytes = grind (arith, kept_macros_valid, valid_without_macros)

@@ -1,8 +1,6 @@
 -- The entries so far, and those of the lines that are left.
-use Rattle.std.proofs.Common.{◌≡◌, ℕ, not, if◌then◌else◌, Bool, List, [], ◌∷◌, ◌++◌, map}
-use Rattle.std.proofs.Common.{filter, Option, MatchOption, Result, Ok, Err, refl}
+use Rattle.std.proofs.Common.{◌≡◌, ℕ, not, if◌then◌else◌, Bool, List, [], ◌∷◌, ◌++◌, map, filter, Option, MatchOption, Result, Ok, Err, refl}
 use Rattle.std.proofs.Common.{append-nil, arith}
-use Rattle.std.proofs.lemmas.Bool.Decides.{nat_tests}
 use Rattle.std.proofs.lemmas.Grind.{common_steps}
 use Rattle.std.specs.List.{filter_map}
 use Rattle.std.specs.Option.{option_to_list}
@@ -21,7 +19,7 @@ use Rattle.attr_lists.specs.KeptLists.{tracked, reason_of, unless_refused, defin
 pub entries_without_macros : (mappings : List (Mapping Value)) → entries_view (filter (λ m. defines_no_macro (entry_view m)) mappings) ≡ filter
     defines_no_macro (entries_view mappings)
 entries_without_macros [] = refl
-entries_without_macros (m ∷ ms) = grind (arith, nat_tests, entries_without_macros ms)
+entries_without_macros (m ∷ ms) = grind (arith, entries_without_macros ms)
 
 -- the result of items after these assignments
 abbrev pub read_after : List TrackedAssignment → List (Result Assignment Refusal) → Result (List TrackedAssignment) DropReason

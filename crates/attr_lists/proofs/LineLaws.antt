@@ -1,19 +1,18 @@
 -- The lines that are computed are those that the bytes join, and no others are.
-use Rattle.std.proofs.Common.{◌≡◌, ◌≢◌, ℕ, zero, suc, ◌+◌, ◌-◌, ◌<◌, ◌≤◌, not, List, [], ◌∷◌, ◌++◌, length, take, drop, get_or, map}
-use Rattle.std.proofs.Common.{refl, sym, ap, ◌∙◌, append_assoc, arith, inl, inr, subst, length-append, eqb}
+use Rattle.std.proofs.Common.{ap, drop, ◌∙◌, ◌≡◌, ◌≢◌, ℕ, zero, suc, ◌+◌, ◌-◌, ◌<◌, ◌≤◌, not, List, [], ◌∷◌, ◌++◌, length, take, get_or, map}
+use Rattle.std.proofs.Common.{refl, sym, append_assoc, arith, inl, inr, subst, length-append, eqb}
 use Rattle.std.specs.List.{position_or_len, before_first, after_first}
 use Rattle.std.proofs.Math.Seq.{take-append_seam, take-append-add, drop-append-add, get_or-append_seam}
 use Rattle.std.proofs.lemmas.List.{take_all, take_more, drop_all, length-drop, get_or_append_left}
 use Rattle.std.proofs.lemmas.List.Sums.{AllPass-from_list_all, split_at_first, passes_at_first}
 use Rattle.std.proofs.lemmas.List.Folds.{list_all-append}
 use Rattle.std.proofs.lemmas.Bool.{cases_eq, cases_lt, not-true, eqb-false}
-use Rattle.std.proofs.lemmas.Bool.Decides.{nat_tests}
 use Rattle.bstr.specs.Text.{line_len, lines_of, no_cr, without_terminator}
 use Rattle.bstr.proofs.lemmas.LineLemmas.{line_len-at, line_len-none, lines-step, lines-nil}
 use Rattle.attr_lists.specs.LineResults.{byte_order_marks, without_front, lines_in}
 use Rattle.attr_text.specs.Items.{carriage_return}
 use Rattle.attr_text.proofs.ForCallers.{front_fails}
-use Rattle.attr_lists.specs.LinesJoined.{line_feed, IsLine, EndsNoReturn, AreLines}
+use Rattle.attr_lists.specs.LinesJoined.{line_feed, IsLine, AreLines}
 
 -- the lines of some bytes, without their ends
 abbrev stripped : List ℕ → List (List ℕ)
@@ -29,13 +28,10 @@ pushed : (front : List ℕ) (b : ℕ) → (0 < length (front ++ b ∷ [])) × (g
 pushed front b = grind (arith, length-append front (b ∷ []), get_or-append_seam front b [] 0, take-append_seam front (b ∷ []))
 
 no_cr-push : (line : List ℕ) → no_cr (line ++ carriage_return ∷ []) ≡ line
-no_cr-push line = grind (arith, nat_tests, pushed line carriage_return)
-
-no_cr-none : (line : List ℕ) → EndsNoReturn line → no_cr line ≡ line
-no_cr-none line ends = grind (arith, nat_tests)
+no_cr-push line = grind (arith, pushed line carriage_return)
 
 without-fed : (front : List ℕ) → without_terminator (front ++ line_feed ∷ []) ≡ no_cr front
-without-fed front = grind (arith, nat_tests, pushed front line_feed)
+without-fed front = grind (arith, pushed front line_feed)
 
 -- the lines of bytes that begin with a front without line feed, and a line feed
 fed : (front rest : List ℕ) → IsLine front → stripped (front ++ line_feed ∷ rest) ≡ no_cr front ∷ stripped rest
@@ -50,30 +46,21 @@ fed front rest is =
     let others : drop (line_len bytes) bytes ≡ rest = rw len (drop-append-add front (line_feed ∷ rest) 1) in
     rw (lines-step bytes (omega arith), first, others, without-fed front) refl
 
--- the one line of bytes without line feed
-unfed : (line : List ℕ) → IsLine line → 0 < length line → stripped line ≡ line ∷ []
-unfed line is some =
-    let len = line_len-none line (no_feed line is) in
-    let first : take (line_len line) line ≡ line = take_all (line_len line) line (omega arith) in
-    let others : drop (line_len line) line ≡ [] = drop_all (line_len line) line (omega arith) in
-    let whole : without_terminator line ≡ line = grind (arith, nat_tests, no_feed line is (length line - 1)) in
-    rw (lines-step line some, first, others, whole, lines-nil) refl
-
 is_line-return : (line : List ℕ) → IsLine line → IsLine (line ++ carriage_return ∷ [])
-is_line-return line is = grind (arith, nat_tests, list_all-append (λ b. not (eqb b line_feed)) line (carriage_return ∷ []))
+is_line-return line is = grind (arith, list_all-append (λ b. not (eqb b line_feed)) line (carriage_return ∷ []))
 
 is_line-front : (line : List ℕ) → IsLine (line ++ carriage_return ∷ []) → IsLine line
-is_line-front line is = grind (arith, nat_tests, list_all-append (λ b. not (eqb b line_feed)) line (carriage_return ∷ []))
+is_line-front line is = grind (arith, list_all-append (λ b. not (eqb b line_feed)) line (carriage_return ∷ []))
 
 joined_lines : (bytes : List ℕ) (lines : List (List ℕ)) → AreLines bytes lines → lines ≡ stripped bytes
 joined_lines bytes [] none = rw (none, lines-nil) refl
-joined_lines bytes (line ∷ others) (is, inl (rest, whole, ends, more)) = rw (whole, fed line rest is, no_cr-none line ends)
-    (ap (λ l. line ∷ l) (joined_lines rest others more))
+joined_lines bytes (line ∷ others) (is, inl (rest, whole, ends, more)) = grind (arith, fed, joined_lines rest others more)
 joined_lines bytes (line ∷ others) (is, inr (inl (rest, whole, more))) =
     let front = line ++ carriage_return ∷ [] in
     let split : bytes ≡ front ++ line_feed ∷ rest = whole ∙ sym (append_assoc line (carriage_return ∷ []) (line_feed ∷ rest)) in
     rw (split, fed front rest (is_line-return line is), no_cr-push line) (ap (λ l. line ∷ l) (joined_lines rest others more))
-joined_lines bytes (line ∷ others) (is, inr (inr (whole, some, none))) = rw (whole, unfed line is some, none) refl
+joined_lines bytes (line ∷ others) (is, inr (inr (whole, some, none))) =
+    grind (arith, line_len-none, no_feed, take_all, drop_all, lines-step, lines-nil)
 
 -- a line whose last byte is a carriage return
 cut_return : (front : List ℕ) → get_or front (length front - 1) 0 ≡ carriage_return
@@ -82,22 +69,11 @@ cut_return front e = grind (arith, take_more front (length front - 1) 0, take_al
 
 join-fed : (front rest : List ℕ) → IsLine front → AreLines rest (stripped rest) → AreLines (front ++ line_feed ∷ rest)
     (stripped (front ++ line_feed ∷ rest))
-join-fed front rest is others = subst (AreLines (front ++ line_feed ∷ rest)) (sym (fed front rest is))
-    (elim (cases_eq (get_or front (length front - 1) 0) carriage_return) [
-      | inl e ↦
-          let line = take (length front - 1) front in
-          let whole = cut_return front e in
-          subst (λ l. AreLines (front ++ line_feed ∷ rest) (l ∷ stripped rest)) (sym (ap no_cr whole ∙ no_cr-push line)) (
-            is_line-front line (subst IsLine whole is),
-            inr (inl (rest, ap (λ l. l ++ line_feed ∷ rest) whole ∙ append_assoc line (carriage_return ∷ []) (line_feed ∷ rest), others)),
-          )
-      | inr ne ↦ subst (λ l. AreLines (front ++ line_feed ∷ rest) (l ∷ stripped rest)) (sym (no_cr-none front (λ some. ne)))
-          (is, inl (rest, refl, (λ some. ne), others))
-    ])
+join-fed front rest is others = grind (arith, fed, cases_eq, cut_return, no_cr-push, is_line-front, append_assoc)
 
 join-unfed : (line : List ℕ) → IsLine line → AreLines line (stripped line)
 join-unfed [] is = rw lines-nil refl
-join-unfed (b ∷ bs) is = rw (unfed (b ∷ bs) is (omega arith)) (is, inr (inr (refl, omega arith, refl)))
+join-unfed (b ∷ bs) is = grind (arith, line_len-none, no_feed, take_all, drop_all, lines-step, lines-nil)
 
 -- what stands before the first line feed, and what comes after it
 abbrev front_of : List ℕ → List ℕ
@@ -107,7 +83,7 @@ abbrev rest_of : List ℕ → List ℕ
 rest_of bytes = after_first (λ b. eqb b line_feed) bytes
 
 cut_feed : (bytes : List ℕ) → position_or_len (λ b. eqb b line_feed) bytes < length bytes → bytes ≡ front_of bytes ++ line_feed ∷ rest_of bytes
-cut_feed bytes has = grind (arith, nat_tests, split_at_first (λ b. eqb b line_feed) bytes 0 has, passes_at_first (λ b. eqb b line_feed) bytes 0 has)
+cut_feed bytes has = grind (arith, split_at_first (λ b. eqb b line_feed) bytes 0 has, passes_at_first (λ b. eqb b line_feed) bytes 0 has)
 
 stripped_joins : (fuel : ℕ) (bytes : List ℕ) → length bytes ≤ fuel → AreLines bytes (stripped bytes)
 stripped_joins zero [] enough = join-unfed [] refl

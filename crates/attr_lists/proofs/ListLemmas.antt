@@ -1,46 +1,35 @@
 -- Lists and their images under a function.
-use Rattle.std.proofs.Common.{◌≡◌, ℕ, ◌+◌, ◌<◌, Bool, true, ◌&&◌, List, [], ◌∷◌, ◌++◌, length, get_or, map}
-use Rattle.std.proofs.Common.{slice_get, take}
-use Rattle.std.proofs.Common.{drop, set, Some, Result, Ok, Err, OnOk, OnErr, refl, sym, ap, ◌∙◌, arith, zero, suc, add-one}
+use Rattle.std.proofs.Common.{◌≡◌, ℕ, ◌+◌, ◌<◌, Bool, true, List, [], ◌∷◌, ◌++◌, length, get_or, map, slice_get, take}
+use Rattle.std.proofs.Common.{drop, set, Some, Result, OnOk, OnErr, refl, ap, arith, suc}
 use Rattle.std.specs.List.{list_all, refill}
 use Rattle.std.proofs.lemmas.Bool.{and_parts}
 
-pub list_all-map : {X Y : Type 0} (p : Y → Bool) (f : X → Y) (xs : List X) → list_all p (map f xs) ≡ list_all (λ x. p (f x)) xs
-list_all-map p f [] = refl
-list_all-map p f (x ∷ xs) = ap (λ b. p (f x) && b) (list_all-map p f xs)
-
 -- the element at an index within the list
 pub slice_get-within : {X : Type 0} (xs : List X) (i : ℕ) (d : X) → i < length xs → slice_get xs i ≡ Some (get_or xs i d)
-slice_get-within [] i d h = absurd (omega arith)
-slice_get-within (x ∷ xs) zero d h = refl
 slice_get-within (x ∷ xs) (suc i) d h = slice_get-within xs i d (omega arith)
+slice_get-within xs i d h = grind arith
 
 -- the element at an index of a mapped list
 pub get_or-map : {X Y : Type 0} (f : X → Y) (xs : List X) (i : ℕ) (d : X) → get_or (map f xs) i (f d) ≡ f (get_or xs i d)
-get_or-map f [] i d = refl
-get_or-map f (x ∷ xs) zero d = refl
 get_or-map f (x ∷ xs) (suc i) d = get_or-map f xs i d
+get_or-map f xs i d = grind arith
 
 -- f of the first so many elements, and the others as they are
 abbrev pub front : {X : Type 0} → (X → X) → ℕ → List X → List X
 front f i xs = map f (take i xs) ++ drop i xs
 
 pub front-at : {X : Type 0} (f : X → X) (i : ℕ) (xs : List X) (d : X) → get_or (front f i xs) i d ≡ get_or xs i d
-front-at f zero xs d = refl
-front-at f (suc i) [] d = refl
 front-at f (suc i) (x ∷ xs) d = front-at f i xs d
+front-at f i xs d = grind arith
 
 front-set : {X : Type 0} (f : X → X) (i : ℕ) (xs : List X) (d : X) → i < length xs → set (front f i xs) i (f (get_or xs i d)) ≡ front f (suc i) xs
-front-set f i [] d h = absurd (omega arith)
-front-set f zero (x ∷ xs) d h = refl
 front-set f (suc i) (x ∷ xs) d h = ap (λ l. f x ∷ l) (front-set f i xs d (omega arith))
+front-set f i xs d h = grind arith
 
 -- one more element is changed
 pub front-more : {X : Type 0} (f : X → X) (i : ℕ) (start now : List X) (x d : X) → i < length start → x ≡ f (get_or now i d) → now ≡ front f i start →
     set now i x ≡ front f (i + 1) start
-front-more f i start now x d h is e =
-    ap (set now i) (is ∙ ap (λ l. f (get_or l i d)) e ∙ ap f (front-at f i start d))
-    ∙ ap (λ l. set l i (f (get_or start i d))) e ∙ front-set f i start d h ∙ ap (λ n. front f n start) (sym (add-one i))
+front-more f i start now x d h is e = grind (arith, front-at, front-set)
 
 -- a slice that was written over the whole of a list
 pub refill_whole : {X : Type 0} (xs ws : List X) → length ws ≡ length xs → refill (length xs) xs ws ≡ ws
@@ -50,19 +39,12 @@ refill_whole (x ∷ xs) [] e = absurd (omega (arith, e))
 refill_whole (x ∷ xs) (w ∷ ws) e = ap (λ l. w ∷ l) (refill_whole xs ws (omega (arith, e)))
 
 pub on_ok : {T E : Type 0} (r : Result T E) (P Q : Type 0) → (P → Q) → OnOk r P → OnOk r Q
-on_ok (Ok x) P Q f h = f h
-on_ok (Err e) P Q f h = h
-
-pub on_ok_both : {T E : Type 0} (r : Result T E) (P Q R : Type 0) → (P → Q → R) → OnOk r P → OnOk r Q → OnOk r R
-on_ok_both (Ok x) P Q R f h k = f h k
-on_ok_both (Err e) P Q R f h k = h
+on_ok r P Q f h = grind arith
 
 pub on_err : {T E : Type 0} (r : Result T E) (P : Type 0) → P → OnErr r P
-on_err (Ok x) P h = tt
-on_err (Err e) P h = h
+on_err r P h = grind arith
 
 -- each element passes
 pub list_all-within : {X : Type 0} (p : X → Bool) (xs : List X) (i : ℕ) (d : X) → i < length xs → list_all p xs ≡ true → p (get_or xs i d) ≡ true
-list_all-within p [] i d lt h = absurd (omega arith)
-list_all-within p (x ∷ xs) zero d lt h = (and_parts (p x) (list_all p xs) h).0
 list_all-within p (x ∷ xs) (suc i) d lt h = list_all-within p xs i d (omega arith) (and_parts (p x) (list_all p xs) h).1
+list_all-within p xs i d lt h = grind (arith, and_parts)

@@ -1,12 +1,10 @@
 -- Names by number: a list that takes names grows at its end, and its names differ and are valid.
-use Rattle.std.proofs.Common.{◌≡◌, ℕ, suc, ◌+◌, ◌-◌, ◌<◌, true, false, cond, ltb, List, [], ◌∷◌, ◌++◌, length, get_or, drop, map, IsTrue, bytes_eq}
-use Rattle.std.proofs.Common.{Some, None}
+use Rattle.std.proofs.Common.{◌≡◌, ℕ, ◌+◌, ◌-◌, ◌<◌, true, false, List, [], ◌∷◌, ◌++◌, length, get_or, drop, map, IsTrue, bytes_eq}
 use Rattle.std.proofs.Common.{refl, sym, ap, subst, ◌∙◌, ⊎_elim, arith}
-use Rattle.std.specs.List.{list_any, range_with_len, IsDistinct}
+use Rattle.std.specs.List.{list_any, IsDistinct}
 use Rattle.std.specs.Cmp.Lexicographic.{nat_list_eq_equiv}
-use Rattle.std.proofs.lemmas.Bool.{cases_Bool, cond-true, cond-false, lt-ltb}
-use Rattle.std.proofs.lemmas.List.{append-nil, append_assoc, at_drop_more, length-append, get_or_at, get_or_default}
-use Rattle.std.proofs.lemmas.List.{get_or_append_left}
+use Rattle.std.proofs.lemmas.Bool.{cases_Bool, cond-true, cond-false}
+use Rattle.std.proofs.lemmas.List.{append-nil, append_assoc, at_drop_more, length-append, get_or_at, get_or_default, get_or_append_left}
 use Rattle.std.proofs.lemmas.List.Elements.{All-push}
 use Rattle.std.proofs.lemmas.List.Folds.{list_any_none}
 use Rattle.std.proofs.lemmas.List.Sums.{fold-append}
@@ -93,12 +91,3 @@ lines_step names now lines i line all lt at entered h =
     ap (λ n. with_names n behind) (entered ∙ ap (λ l. with_names names (names_of (entry_view l))) at)
     ∙ sym (fold-append with_name names (names_of (entry_view (get_or lines i line))) behind)
     ∙ sym (at_drop_more rest lines i line lt) ∙ h
-
--- the first of the numbers up to n, and the others
-pub range_first : {X : Type 0} (f : ℕ → X) (i n : ℕ) (x : X) → i < n → Some x ≡ cond (ltb i n) (Some (f i)) None
-    → map f (range_with_len i (n - i)) ≡ x ∷ map f (range_with_len (i + 1) (n - (i + 1)))
-range_first f i n x lt is =
-    let count : n - i ≡ suc (n - (i + 1)) = omega arith in
-    let own : Some x ≡ Some (f i) = is ∙ cond-true (ltb i n) (Some (f i)) None (lt-ltb i n lt) in
-    let here : x ≡ f i = cc in
-    ap (λ k. map f (range_with_len i k)) count ∙ ap (λ y. y ∷ map f (range_with_len (i + 1) (n - (i + 1)))) (sym here)

@@ -1,13 +1,12 @@
 -- A set of names: what an appended name and a removed one leave of the numbers.
-use Rattle.std.proofs.Common.{◌≡◌, ℕ, ◌+◌, ◌<◌, Bool, true, false, ltb, List, [], ◌∷◌, ◌++◌, length, get_or, map, drop, bytes_eq, Option, Some, None}
+use Rattle.std.proofs.Common.{◌≡◌, ℕ, ◌+◌, ◌<◌, Bool, true, false, List, [], ◌∷◌, ◌++◌, length, get_or, map, drop, bytes_eq, Option, Some, None}
 use Rattle.std.proofs.Common.{refl, sym, ap, subst, ◌∙◌, ⊎_elim, true≢false, arith}
 use Rattle.std.specs.BTreeMap.{BTreeMap, UpdatesBy}
 use Rattle.std.specs.Cmp.{eq_by_cmp_equiv}
 use Rattle.std.specs.Cmp.Lexicographic.{bytes_decides, slice_cmp, nat_list_cmp_total, nat_list_eq_equiv}
-use Rattle.std.specs.List.{list_any, position_or_len, IsDistinct}
+use Rattle.std.specs.List.{list_any, IsDistinct}
 use Rattle.std.specs.Map.{lookup, IsKeyTest, AreApart, KeepsOthers}
 use Rattle.std.specs.Ordering.{is_eq, nat_cmp}
-use Rattle.std.specs.Prelude.{is_some}
 use Rattle.std.specs.Rc.{rc_str_bytes}
 use Rattle.std.specs.declared.rc.RcStr.{RcStr}
 use Rattle.std.proofs.lemmas.Bool.{cases_Bool, cases_lt, cond-true, lt-ltb}
@@ -16,21 +15,15 @@ use Rattle.std.proofs.lemmas.List.Folds.{list_any_at}
 use Rattle.std.proofs.lemmas.List.Quantifiers.{position-Some}
 use Rattle.std.proofs.lemmas.Map.Keys.{apart_from_distinct, IsDistinct-from_apart, IsDistinct-push}
 use Rattle.std.proofs.lemmas.Map.Text.{is_eq-slice_cmp}
-use Rattle.attr_lists.specs.Numbers.{number_of, with_name}
+use Rattle.attr_lists.specs.Numbers.{number_of}
 use Rattle.attr_lists.specs.declared.name_table.name_set.NameSet.TheInside.{Inside}
 use Rattle.attr_lists.specs.inner.NameSets.{texts_of, number_under, IsNameSet}
-use Rattle.attr_lists.proofs.NameLemmas.{not_before, with_name-new}
+use Rattle.attr_lists.proofs.NameLemmas.{not_before}
 use Rattle.attr_lists.proofs.NamedDefinitions.{has_at, index_of, number_at, number_name}
 
 -- a name has a number where it is among the names
 pub absent : (names : List (List ℕ)) (name : List ℕ) → number_of names name ≡ None → list_any (bytes_eq name) names ≡ false
-absent names name none =
-    let index = position_or_len (bytes_eq name) names in
-    ⊎_elim
-    (λ (has : list_any (bytes_eq name) names ≡ true). absurd (true≢false (ap is_some (sym (cond-true (ltb index (length names)) (Some index) None
-    (lt-ltb index (length names) (index_of names name has))) ∙ none))))
-    (λ no. no)
-    (cases_Bool (list_any (bytes_eq name) names))
+absent names name none = grind (arith, bytes_eq, true≢false, cond-true, lt-ltb, index_of, cases_Bool)
 
 pub without_number : (names : List (List ℕ)) (name : List ℕ) → list_any (bytes_eq name) names ≡ false → number_of names name ≡ None
 without_number names name none = at (number_of names name) refl
@@ -40,14 +33,6 @@ without_number names name none = at (number_of names name) refl
     at (Some n) e =
         let here = position-Some (bytes_eq name) names n [] e in
         absurd (true≢false (sym (list_any_at (bytes_eq name) names n [] here.0 here.1) ∙ none))
-
--- a name without a number is taken
-pub numbered_new : (names : List (List ℕ)) (name : List ℕ) → is_some (number_of names name) ≡ false → names ++ name ∷ [] ≡ with_name names name
-numbered_new names name unknown = at (number_of names name) refl unknown
-  where
-    at : (o : Option ℕ) → number_of names name ≡ o → is_some o ≡ false → names ++ name ∷ [] ≡ with_name names name
-    at None e is = sym (with_name-new names name (absent names name e))
-    at (Some n) e is = absurd (true≢false is)
 
 pub distinct_front : (front rest : List (List ℕ)) → IsDistinct bytes_eq (front ++ rest) → IsDistinct bytes_eq front
 distinct_front front rest distinct = IsDistinct-from_apart bytes_eq front (λ i j d before lt.
@@ -119,11 +104,7 @@ module _ {Z : Type 0} (text : List ℕ) (old new : BTreeMap (RcStr Z) ℕ) (numb
 
 pub name_set_empty : (set : Inside) → set.texts.items ≡ [] → set.numbers.entries ≡ [] → IsNameSet set
 unfolding IsDistinct
-name_set_empty set texts numbers = record {
-  distinct = subst (IsDistinct bytes_eq) (sym (ap (map rc_str_bytes) texts)) tt;
-  numbers = λ other. ap (lookup (λ key. is_eq (slice_cmp nat_cmp other (rc_str_bytes key)))) numbers
-      ∙ sym (ap (λ l. number_of (map rc_str_bytes l) other) texts);
-}
+name_set_empty set texts numbers = grind (arith, bytes_eq)
 
 module _ (old new : Inside) (text : List ℕ) (is : IsNameSet old) where
   pub name_set_pushed : texts_of new ≡ texts_of old ++ text ∷ [] → number_of (texts_of old) text ≡ None →

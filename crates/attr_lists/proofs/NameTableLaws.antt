@@ -1,12 +1,11 @@
 -- What the addition and the removal of a list do to a collection, and to its other lists.
-use Rattle.std.proofs.Common.{◌≡◌, ◌≢◌, ℕ, zero, suc, ◌+◌, ◌-◌, ◌^◌, ◌<◌, ◌≤◌, Bool, true, false, not, cond, eqb, ltb, List, [], ◌∷◌, ◌++◌, length}
-use Rattle.std.proofs.Common.{get_or, map, filter, All, slice_get, bytes_eq, IsTrue, Option, Some, None, IfSome, unwrap_or, option_map, refl}
+use Rattle.std.proofs.Common.{◌≡◌, ◌≢◌, ℕ, zero, suc, ◌+◌, ◌-◌, ◌<◌, ◌≤◌, true, false, not, eqb, List, [], ◌∷◌, ◌++◌, length}
+use Rattle.std.proofs.Common.{get_or, map, filter, All, slice_get, bytes_eq, Option, Some, None, IfSome, unwrap_or, option_map, refl}
 use Rattle.std.proofs.Common.{sym, ap, subst, ◌∙◌, ⊎_elim, arith, true≢false, ne_eqb, eq-eqb}
 use Rattle.std.specs.Prelude.{◌==◌, ◌||◌}
 use Rattle.std.specs.List.{list_any, flat_map, position_or_len, AllPairs, IsDistinct}
 use Rattle.std.specs.Cmp.Lexicographic.{bytes_decides}
-use Rattle.std.proofs.lemmas.Bool.{cases_Bool, cases_lt, cond-true, cond-false, eqb-true, eqb-false, lt-ltb, le-ltb}
-use Rattle.std.proofs.lemmas.Bool.{or_left, or_right, or_parts}
+use Rattle.std.proofs.lemmas.Bool.{cases_Bool, cases_lt, cond-true, cond-false, eqb-true, eqb-false, lt-ltb, le-ltb, or_left, or_right, or_parts}
 use Rattle.std.proofs.lemmas.List.{append-nil, length-append, get_or_append_left, map-append}
 use Rattle.std.proofs.lemmas.List.Concat.{flat_map-append}
 use Rattle.std.proofs.lemmas.List.Elements.{All-nil, All-cons, All-head, All-tail, All-append, All-filter, All-map, All-weaker, filter-append}
@@ -15,20 +14,18 @@ use Rattle.std.proofs.lemmas.List.Kept.{AllPairs-filter}
 use Rattle.std.proofs.lemmas.List.Quantifiers.{all_pairs_push}
 use Rattle.std.proofs.lemmas.List.Sums.{passes_at_first}
 use Rattle.std.proofs.lemmas.Option.{get_or_from_slice_get}
-use Rattle.attr_text.specs.Names.{is_valid_name}
 use Rattle.attr_lists.specs.declared.types.AttributeId.{AttributeId}
 use Rattle.attr_lists.specs.declared.types.TrackedAssignment.{TrackedAssignment}
 use Rattle.attr_lists.specs.Definitions.{is_definition, bodies_defined, bodies_named, definition_of, is_of_list, bodies_of_list, of_other_lists}
-use Rattle.attr_lists.specs.Definitions.{bodies_of_number, definitions_by, definitions_of, definitions_for, is_registered, macro_defined}
-use Rattle.attr_lists.specs.Definitions.{macros_defined}
+use Rattle.attr_lists.specs.Definitions.{bodies_of_number, definitions_by, definitions_of, definitions_for, is_registered, macros_defined}
 use Rattle.attr_lists.specs.Definitions.{with_list, without_list, HoldsList, IsWithin, IsSoundCollection}
 use Rattle.attr_lists.specs.shared.Keeping.{HasMacroNumber, IsNumbered}
 use Rattle.attr_lists.proofs.NamedDefinitions.{Has, itself, index_of, number_at, number_name, defined_by_name, none_by_name}
 use Rattle.attr_lists.specs.inner.EntryViews.{AreValid}
 use Rattle.attr_lists.specs.ListViews.{Entry}
-use Rattle.attr_lists.specs.Collections.{MacroDefinition, NumberedBody, RegisteredList, Collection, empty_collection}
+use Rattle.attr_lists.specs.Collections.{MacroDefinition, NumberedBody, RegisteredList, Collection}
 use Rattle.attr_lists.specs.Numbers.{macro_names, names_of, names_in, with_name, with_names, number_of, id_of, numbered_item, numbered}
-use Rattle.attr_lists.specs.Numbers.{no_number, numbered_lines, AreNamed, IsNumberOf}
+use Rattle.attr_lists.specs.Numbers.{numbered_lines, AreNamed, IsNumberOf}
 use Rattle.attr_lists.proofs.DefinitionLemmas.{bodies_defined-cons, bodies_defined-none, bodies_of_list-append}
 use Rattle.attr_lists.proofs.DefinitionLemmas.{of_other_lists-append, of_other_lists-own}
 use Rattle.attr_lists.proofs.ListLemmas.{slice_get-within}
@@ -44,12 +41,7 @@ has_still known names name h =
     let more = with_names-extends known names in subst (λ l. Has l name) (sym more.1) (has_kept known more.0 name h)
 
 pub has_own : (known : List (List ℕ)) (name : List ℕ) → Has (with_name known name) name
-has_own known name =
-    ⊎_elim (λ e. subst (λ l. Has l name) (sym (with_name-known known name e)) e)
-    (λ e. subst (λ l. Has l name) (sym (with_name-new known name e))
-    (list_any-append (bytes_eq name) known (name ∷ []) ∙ or_right (list_any (bytes_eq name) known) (list_any (bytes_eq name) (name ∷ []))
-    (or_left (bytes_eq name name) false (itself name))))
-    (cases_Bool (list_any (bytes_eq name) known))
+has_own known name = grind (arith, with_name-known, with_name-new, list_any-append, bytes_eq, or_right, or_left, itself, cases_Bool)
 
 pub has_all : (known names : List (List ℕ)) → All (Has (with_names known names)) names
 has_all known [] = All-nil (Has known)
@@ -73,16 +65,14 @@ pub number_is : (names : List (List ℕ)) (name : List ℕ) → Has names name �
 number_is names name h =
     let index = position_or_len (bytes_eq name) names in
     let lt = index_of names name h in
-    let at : index ≡ (id_of names name).0 = sym (ap (λ o. unwrap_or o (2 ^ 64 - 1))
-    (cond-true (ltb index (length names)) (Some index) None (lt-ltb index (length names) lt))) in
+    let at : index ≡ (id_of names name).0 = grind (arith, unwrap_or, cond-true, lt-ltb) in
     subst (λ k. slice_get names k ≡ Some name) at
     (slice_get-within names index name lt ∙ ap Some (sym ((bytes_decides name (get_or names index name)).0
     (passes_at_first (bytes_eq name) names name lt))))
 
 below : {X : Type 0} (xs : List X) (i : ℕ) (x : X) → slice_get xs i ≡ Some x → i < length xs
-below [] i x h = absurd cc
-below (y ∷ ys) zero x h = omega arith
 below (y ∷ ys) (suc i) x h = let rest = below ys i x h in omega arith
+below xs i x h = grind arith
 
 line_numbered : (names : List (List ℕ)) (pattern : List ℕ) (entry : Entry) → All (Has names) (names_of entry) → IsNumbered names
     (numbered names entry)
@@ -118,24 +108,7 @@ list_numbered known entries = lines_numbered (with_names known (names_in entries
 pub number_kept : (known more : List (List ℕ)) (name : List ℕ) (number : ℕ) → number_of known name ≡ Some number → number_of (known ++ more) name ≡
     Some number
 number_kept known more name number h =
-    let index = position_or_len (bytes_eq name) known in
-    ⊎_elim
-    (λ lt.
-    let at : index ≡ number = some_is (sym (cond-true (ltb index (length known)) (Some index) None (lt-ltb index (length known) lt)) ∙ h) in
-    let same : position_or_len (bytes_eq name) (known ++ more) ≡ index =
-    prefix_len-append (λ x. not (bytes_eq name x)) known more ∙ cond-false (eqb index (length known))
-    (length known + position_or_len (bytes_eq name) more) index (ne_eqb index (length known) (λ e. omega arith)) in
-    let within : index < length (known ++ more) = omega (arith, length-append known more) in
-    ap (λ n. cond (ltb n (length (known ++ more))) (Some n) None) same ∙ cond-true (ltb index (length (known ++ more))) (Some index) None
-    (lt-ltb index (length (known ++ more)) within) ∙ ap Some at)
-    (λ past. absurd (none_is (sym (cond-false (ltb index (length known)) (Some index) None (le-ltb index (length known) past)) ∙ h)))
-    (cases_lt index (length known))
-  where
-    some_is : {a b : ℕ} → Some a ≡ Some b → a ≡ b
-    some_is e = cc
-
-    none_is : {b : ℕ} → None ≡ Some b → ⊥
-    none_is e = cc
+    grind (arith, bytes_eq, cond-true, lt-ltb, prefix_len-append, cond-false, ne_eqb, length-append, le-ltb, cases_lt)
 
 pub number_stays : (known names : List (List ℕ)) (name : List ℕ) (number : ℕ) → number_of known name ≡ Some number → number_of
     (with_names known names) name ≡ Some number
@@ -144,11 +117,7 @@ number_stays known names name number h =
 
 -- so its id stays, whatever names are taken after it
 pub id_stays : (names more : List (List ℕ)) (name : List ℕ) → Has names name → id_of names name ≡ id_of (with_names names more) name
-id_stays names more name has =
-    let index = position_or_len (bytes_eq name) names in
-    let here : number_of names name ≡ Some index = cond-true (ltb index (length names)) (Some index) None
-    (lt-ltb index (length names) (index_of names name has)) in
-    ap (λ (o : Option ℕ). record { 0 = unwrap_or o no_number }) (here ∙ sym (number_stays names more name index here))
+id_stays names more name has = grind (arith, bytes_eq, cond-true, lt-ltb, index_of, unwrap_or, number_stays)
 
 pub items_stay : (names more : List (List ℕ)) (items : List TrackedAssignment) → All (λ item. Has names item.inner.name) items
     → map (numbered_item names) items ≡ map (numbered_item (with_names names more)) items
@@ -185,9 +154,8 @@ count_more known names = let more = with_names-extends known names in omega (ari
 
 -- a number stays that of its name
 get_still : {X : Type 0} (xs more : List X) (i : ℕ) (x : X) → slice_get xs i ≡ Some x → slice_get (xs ++ more) i ≡ Some x
-get_still [] more i x h = absurd cc
-get_still (y ∷ ys) more zero x h = h
 get_still (y ∷ ys) more (suc i) x h = get_still ys more i x h
+get_still xs more i x h = grind arith
 
 number_still : (known names : List (List ℕ)) (name : List ℕ) (id : AttributeId) → IsNumberOf known name id → IsNumberOf (with_names known names) name
     id
@@ -196,9 +164,7 @@ number_still known names name id h =
 
 -- items stay named
 pub named_still : (known names : List (List ℕ)) (items : List TrackedAssignment) → AreNamed known items → AreNamed (with_names known names) items
-named_still known names items h = All-weaker (λ (item : TrackedAssignment). IsNumberOf known item.inner.name item.id)
-    (λ (item : TrackedAssignment). IsNumberOf (with_names known names) item.inner.name item.id)
-    (λ item at. number_still known names item.inner.name item.id at) items h
+named_still known names items h = grind (arith, number_still)
 
 -- ---- definitions
 
@@ -213,8 +179,7 @@ bodies_past names (line ∷ lines) number past h =
   where
     none : (m : Option AttributeId) → IfSome m (IsNumberOf names line.pattern.text) → unwrap_or (option_map (λ (id : AttributeId). eqb id.0 number) m)
         false ≡ false
-    none None i = refl
-    none (Some id) i = let lt = below names id.0 line.pattern.text i in ne_eqb id.0 number (λ e. omega arith)
+    none m i = grind (arith, below, ne_eqb)
 
 -- the bodies of numbered lines have numbers of names
 bodies_within : (names : List (List ℕ)) (list_id number : ℕ) (lines : List Entry) → All (IsNumbered names) lines → All (IsWithin (length names))
@@ -224,9 +189,7 @@ bodies_within names list_id number lines h =
     All-map (IsWithin (length names)) (definition_of list_id) (bodies_defined number lines)
     (All-map IsIn (λ (e : Entry). e.items) (filter (is_definition number) lines)
     (All-filter (is_definition number) (λ (e : Entry). IsIn e.items) lines
-    (All-weaker (IsNumbered names) (λ (e : Entry). IsIn e.items) (λ e is. All-weaker
-    (λ (item : TrackedAssignment). IsNumberOf names item.inner.name item.id) (λ (item : TrackedAssignment). item.id.0 < length names)
-    (λ item at. below names item.id.0 item.inner.name at) e.items is.items) lines h)))
+    (All-weaker (IsNumbered names) (λ (e : Entry). IsIn e.items) (λ e is. grind (arith, below)) lines h)))
 
 -- and they are named
 bodies_named_by : (names : List (List ℕ)) (list_id number : ℕ) (lines : List Entry) → All (IsNumbered names) lines → All
@@ -243,60 +206,24 @@ eqb_self n = eq-eqb n n refl
 -- the definitions that a list has under its list id are its own
 bodies_of_list-own : (list_id : ℕ) (bodies : List (List TrackedAssignment)) → bodies_of_list list_id (map (definition_of list_id) bodies) ≡ bodies
 bodies_of_list-own list_id [] = refl
-bodies_of_list-own list_id (body ∷ bodies) =
-    ap (map (λ (d : MacroDefinition). d.body)) (cond-true (eqb list_id list_id)
-    (definition_of list_id body ∷ filter (is_of_list list_id) (map (definition_of list_id) bodies))
-    (filter (is_of_list list_id) (map (definition_of list_id) bodies)) (eqb_self list_id))
-    ∙ ap (λ l. body ∷ l) (bodies_of_list-own list_id bodies)
+bodies_of_list-own list_id (body ∷ bodies) = grind (arith, cond-true, filter, eqb_self, bodies_of_list-own list_id bodies)
 
 -- and no other list's
 bodies_of_list-other : (other list_id : ℕ) (bodies : List (List TrackedAssignment)) → other ≢ list_id → bodies_of_list other
     (map (definition_of list_id) bodies) ≡ []
 bodies_of_list-other other list_id [] apart = refl
-bodies_of_list-other other list_id (body ∷ bodies) apart =
-    ap (map (λ (d : MacroDefinition). d.body)) (cond-false (eqb list_id other)
-    (definition_of list_id body ∷ filter (is_of_list other) (map (definition_of list_id) bodies))
-    (filter (is_of_list other) (map (definition_of list_id) bodies)) (ne_eqb list_id other (λ e. apart (sym e))))
-    ∙ bodies_of_list-other other list_id bodies apart
+bodies_of_list-other other list_id (body ∷ bodies) apart = grind (arith, cond-false, filter, ne_eqb, bodies_of_list-other other list_id bodies apart)
 
 pub of_other_lists-free : (list_id : ℕ) (ds : List MacroDefinition) → bodies_of_list list_id ds ≡ [] → of_other_lists list_id ds ≡ ds
 of_other_lists-free list_id [] h = refl
-of_other_lists-free list_id (d ∷ ds) h =
-    ⊎_elim
-    (λ own. absurd (cons_is (sym (ap (map (λ (x : MacroDefinition). x.body))
-    (cond-true (eqb d.list_id list_id) (d ∷ filter (is_of_list list_id) ds) (filter (is_of_list list_id) ds) own)) ∙ h)))
-    (λ other.
-    let rest : bodies_of_list list_id ds ≡ [] = sym (ap (map (λ (x : MacroDefinition). x.body))
-    (cond-false (eqb d.list_id list_id) (d ∷ filter (is_of_list list_id) ds) (filter (is_of_list list_id) ds) other)) ∙ h in
-    cond-true (not (eqb d.list_id list_id)) (d ∷ of_other_lists list_id ds) (of_other_lists list_id ds) (ap not other) ∙ ap (λ l. d ∷ l)
-    (of_other_lists-free list_id ds rest))
-    (cases_Bool (eqb d.list_id list_id))
-  where
-    cons_is : {X : Type 0} {x : X} {xs : List X} → x ∷ xs ≡ [] → ⊥
-    cons_is e = cc
+of_other_lists-free list_id (d ∷ ds) h = grind (arith, cond-true, filter, cond-false, cases_Bool, of_other_lists-free list_id ds)
 
 -- a removal keeps the definitions of another list
 bodies_of_list-of_other_lists : (other list_id : ℕ) (ds : List MacroDefinition) → other ≢ list_id → bodies_of_list other (of_other_lists list_id ds) ≡
     bodies_of_list other ds
 bodies_of_list-of_other_lists other list_id [] apart = refl
 bodies_of_list-of_other_lists other list_id (d ∷ ds) apart =
-    ⊎_elim
-    (λ own.
-    ap (bodies_of_list other) (cond-false (not (eqb d.list_id list_id)) (d ∷ of_other_lists list_id ds) (of_other_lists list_id ds) (ap not own)) ∙
-    bodies_of_list-of_other_lists other list_id ds apart
-    ∙ sym (ap (map (λ (x : MacroDefinition). x.body)) (cond-false (eqb d.list_id other) (d ∷ filter (is_of_list other) ds)
-    (filter (is_of_list other) ds) (ne_eqb d.list_id other (λ e. apart (sym e ∙ eqb-true d.list_id list_id own))))))
-    (λ free.
-    ap (bodies_of_list other) (cond-true (not (eqb d.list_id list_id)) (d ∷ of_other_lists list_id ds) (of_other_lists list_id ds) (ap not free))
-    ∙ one (eqb d.list_id other) d (filter (is_of_list other) (of_other_lists list_id ds)) (filter (is_of_list other) ds)
-    (bodies_of_list-of_other_lists other list_id ds apart))
-    (cases_Bool (eqb d.list_id list_id))
-  where
-    one : (b : Bool) (x : MacroDefinition) (xs ys : List MacroDefinition) → map (λ (d : MacroDefinition). d.body) xs ≡ map
-        (λ (d : MacroDefinition). d.body) ys → map (λ (d : MacroDefinition). d.body) (cond b (x ∷ xs) xs) ≡ map (λ (d : MacroDefinition). d.body)
-        (cond b (x ∷ ys) ys)
-    one true x xs ys e = ap (λ l. x.body ∷ l) e
-    one false x xs ys e = e
+    grind (arith, cond-false, filter, ne_eqb, eqb-true, cond-true, cases_Bool, bodies_of_list-of_other_lists other list_id ds apart)
 
 some_is : {a b : ℕ} → Some a ≡ Some b → a ≡ b
 some_is e = cc
@@ -320,9 +247,7 @@ Differ lists = AllPairs (λ x y. x.list_id ≢ y.list_id) lists
 
 pub none_registered : (list_id : ℕ) (lists : List RegisteredList) → list_any (λ l. l.list_id == list_id) lists ≡ false → Lack list_id lists
 none_registered list_id [] h = All-nil (λ l. l.list_id ≢ list_id)
-none_registered list_id (l ∷ lists) h =
-    let both = or_parts (eqb l.list_id list_id) (list_any (λ l. l.list_id == list_id) lists) h in
-    All-cons (λ l. l.list_id ≢ list_id) l lists (eqb-false l.list_id list_id both.0) (none_registered list_id lists both.1)
+none_registered list_id (l ∷ lists) h = grind (arith, or_parts, eqb-false, none_registered list_id lists)
 
 pub lack_registered : (list_id : ℕ) (lists : List RegisteredList) → Lack list_id lists → list_any (λ l. l.list_id == list_id) lists ≡ false
 lack_registered list_id [] h = refl
@@ -368,30 +293,12 @@ own_bodies number (l ∷ lists) (suc i) own pairs at =
 -- the bodies of a number among two parts of macros
 pub bodies_of_number-append : (number : ℕ) (xs ys : List NumberedBody)
     → bodies_of_number number (xs ++ ys) ≡ bodies_of_number number xs ++ bodies_of_number number ys
-bodies_of_number-append number xs ys =
-    ap (map (λ (b : NumberedBody). b.body)) (filter-append (λ (b : NumberedBody). b.number == number) xs ys)
-    ∙ map-append (λ (b : NumberedBody). b.body) (filter (λ (b : NumberedBody). b.number == number) xs)
-    (filter (λ (b : NumberedBody). b.number == number) ys)
+bodies_of_number-append number xs ys = grind (arith, filter-append, map-append, filter)
 
 -- the macros of lines have the bodies that the lines define
 pub bodies_of_lines : (number : ℕ) (lines : List Entry) → bodies_of_number number (macros_defined lines) ≡ bodies_defined number lines
 bodies_of_lines number [] = refl
-bodies_of_lines number (line ∷ lines) =
-    bodies_of_number-append number (macro_defined line) (macros_defined lines)
-    ∙ ap (λ bs. bs ++ bodies_of_number number (macros_defined lines)) (at line.macro)
-    ∙ ap (λ bs. bodies_defined number (line ∷ []) ++ bs) (bodies_of_lines number lines)
-    ∙ sym (bodies_defined-cons number line lines)
-  where
-    one : (b : Bool) (own : NumberedBody) → own.body ≡ line.items
-        → map (λ (x : NumberedBody). x.body) (cond b (own ∷ []) []) ≡ map (λ (x : Entry). x.items) (cond b (line ∷ []) [])
-    one true own same = ap (λ x. x ∷ []) same
-    one false own same = refl
-
-    at : (m : Option AttributeId)
-        → bodies_of_number number (unwrap_or (option_map (λ id. record { number = id.0; body = line.items } ∷ []) m) [])
-        ≡ map (λ (x : Entry). x.items) (cond (unwrap_or (option_map (λ id. id.0 == number) m) false) (line ∷ []) [])
-    at None = refl
-    at (Some id) = one (eqb id.0 number) (record { number = id.0; body = line.items }) refl
+bodies_of_lines number (line ∷ lines) = grind (arith, bodies_of_number-append, bodies_defined-cons, unwrap_or, bodies_of_lines number lines)
 
 -- ---- a list is added
 
@@ -611,14 +518,3 @@ module _ (old : Collection) (gone : ℕ) where
     bodies = λ name. ap (bodies_of_list other) (removed_for name)
         ∙ (bodies_of_list-of_other_lists other gone (definitions_for old name) apart ∙ h.bodies name);
   }
-
-pub nothing_sound : IsSoundCollection empty_collection
-unfolding IsDistinct
-nothing_sound = record {
-  valid = All-nil (λ name. IsTrue (is_valid_name name));
-  distinct = tt;
-  ids = λ i j d lt below. absurd (omega arith);
-  numbers = λ number past. refl;
-  within = λ number. All-nil (IsWithin 0);
-  named = λ number. All-nil (λ d. AreNamed [] d.body);
-}

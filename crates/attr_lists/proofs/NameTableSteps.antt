@@ -1,5 +1,5 @@
 -- What the steps of an addition and of a removal do to the parts of a name table.
-use Rattle.std.proofs.Common.{◌≡◌, ◌≢◌, ℕ, zero, suc, ◌<◌, ◌≤◌, true, false, not, eqb, List, [], ◌∷◌, ◌++◌, length, get_or, take, drop, map}
+use Rattle.std.proofs.Common.{◌≡◌, ◌≢◌, ℕ, zero, suc, ◌<◌, ◌≤◌, true, false, not, eqb, List, [], ◌∷◌, ◌++◌, length, get_or, take, map}
 use Rattle.std.proofs.Common.{filter, slice_get, All, Option, Some, None, unwrap_or, option_map, refl, sym, ap, subst, ◌∙◌, ⊎_elim, arith}
 use Rattle.std.proofs.Common.{ne_eqb, eq-eqb}
 use Rattle.std.specs.Prelude.{◌==◌}
@@ -24,7 +24,6 @@ use Rattle.attr_lists.specs.ListViews.{Entry}
 use Rattle.attr_lists.specs.Numbers.{AppendsNames, names_in, number_of, numbered_lines, with_names}
 use Rattle.attr_lists.specs.inner.EntrySteps.{KeepsOtherDefinitions, RemovesListed}
 use Rattle.attr_lists.specs.inner.EntryViews.{definitions_view, all_definitions, definitions_at, AreAllInOrder, AreEntries, AreInListOrder, AreValid}
-use Rattle.attr_lists.specs.inner.EntryViews.{IsEntry}
 use Rattle.attr_lists.specs.inner.NameTableView.{parts_view, AreWhole, IsPartlyAdded}
 use Rattle.attr_lists.specs.inner.Registered.{bodies_of_name, registered_views, registered_view, AgreesOn, AreAscending, IsAbove, ListsBodies}
 use Rattle.attr_lists.specs.shared.Keeping.{IsNumbered, StayRegistered}
@@ -33,13 +32,8 @@ use Rattle.attr_lists.proofs.ListLemmas.{get_or-map}
 use Rattle.attr_lists.proofs.MacroLemmas.{added_listed, removed_listed, still_listed}
 use Rattle.attr_lists.proofs.NameLemmas.{with_names-extends}
 use Rattle.attr_lists.proofs.NameTableLaws.{added_at, added_holds, added_keeps, added_sound, bodies_of_lines, definitions_in, lack_registered}
-use Rattle.attr_lists.proofs.NameTableLaws.{none_of_list, of_other_lists-free}
-use Rattle.attr_lists.proofs.NameTableLaws.{list_numbered, own_bodies, removed_at, removed_sound, Lack}
+use Rattle.attr_lists.proofs.NameTableLaws.{none_of_list, of_other_lists-free, list_numbered, own_bodies, removed_at, removed_sound, Lack}
 use Rattle.attr_lists.proofs.RegisteredLemmas.{bodies_none}
-
-pub AreEntries-take : (n : ℕ) (entries : List NameEntry) → AreEntries entries → AreEntries (take n entries)
-AreEntries-take n entries all = λ k d lt.
-    subst (IsEntry k) (sym (get_or-take n entries k d (omega (arith, length-take n entries)))) (all k d (omega (arith, length-take n entries)))
 
 -- ---- ids
 
@@ -69,10 +63,7 @@ from_first t (x ∷ xs) ys own later order =
     in_cons x (xs ++ ys) (All-weaker (λ d. t ≤ d.list_id) (λ d. x.list_id ≤ d.list_id) (λ d le. omega (arith, le, here)) (xs ++ ys) above) rest
   where
     in_cons : (x : MacroDefinition) (xs : List MacroDefinition) → All (λ d. x.list_id ≤ d.list_id) xs → AreInListOrder xs → AreInListOrder (x ∷ xs)
-    in_cons x xs above order zero zero d le lt = omega arith
-    in_cons x xs above order zero (suc j) d le lt = above j d (omega arith)
-    in_cons x xs above order (suc i) zero d le lt = absurd (omega arith)
-    in_cons x xs above order (suc i) (suc j) d le lt = order i j d (omega arith) (omega arith)
+    in_cons x xs above order h e d le lt = grind arith
 
 later_ids : (t number : ℕ) (lists : List RegisteredList) → All (λ l. t < l.list_id) lists → All (λ d. t ≤ d.list_id) (definitions_in number lists)
 later_ids t number [] h = All-nil (λ d. t ≤ d.list_id)
@@ -92,8 +83,7 @@ definitions_in_order number (l ∷ lists) ascend =
     (definitions_in_order number lists (λ i j d lt below. ascend (suc i) (suc j) d (omega arith) (omega arith)))
 
 pub all_in_order : (p : Parts) → AreWhole p → AreAllInOrder p.entries.items
-all_in_order p whole = λ number.
-    subst AreInListOrder (sym (whole.defined number)) (definitions_in_order number (registered_views p.lists.items) whole.ascending)
+all_in_order p whole = grind (arith, definitions_in_order)
 
 -- ---- a list is removed
 
@@ -136,19 +126,12 @@ removed_list (l ∷ lists) (suc at) own ascend here =
     (sym (removed_list lists at own (λ i j d lt below. ascend (suc i) (suc j) d (omega arith) (omega arith)) here)))
 
 map_remove : {X Y : Type 0} (f : X → Y) (xs : List X) (i : ℕ) → map f (remove xs i) ≡ remove (map f xs) i
-map_remove f xs i =
-    map-append f (take i xs) (drop (suc i) xs)
-    ∙ ap (λ l. l ++ map f (drop (suc i) xs)) (sym (take-map f i xs)) ∙ ap (λ l. take i (map f xs) ++ l) (sym (drop-map f (suc i) xs))
+map_remove f xs i = grind (arith, map-append, take-map, drop-map)
 
 -- the list at an index
 pub view_at : (lists : List ListMacros) (at : ℕ) (own : RegisteredList) (list : ListMacros) → slice_get (registered_views lists) at ≡ Some own
     → list ≡ get_or lists at list → own ≡ registered_view list
-view_at lists at own list here is =
-    let within = slice_get_within (registered_views lists) at own here in
-    let found : Some own ≡ Some (registered_view list) = sym here ∙ slice_get-map registered_view lists at
-    ∙ ap (option_map registered_view)
-    (slice_get_read lists (length lists) at list refl (omega (arith, within, length-map lists registered_view)) is) in
-    cc
+view_at lists at own list here is = grind (arith, slice_get_within, slice_get-map, slice_get_read, length-map)
 
 -- `q` are the parts after the list at an index is removed
 module _ (p q : Parts) (list_id at : ℕ) (own : RegisteredList) (whole : AreWhole p)
@@ -232,23 +215,12 @@ pub partly_added : (p : Parts) (names texts : List (List ℕ)) (entries : Vec Na
     → names ≡ with_names p.names texts → length p.entries.items ≤ length entries.items → AreEntries entries.items
     → KeepsOtherDefinitions list_id p.entries.items entries.items → lists.items ≡ p.lists.items → KeepsNumbers p.macros macros
     → IsPartlyAdded list_id p (record { names = names; entries = entries; lists = lists; macros = macros })
-partly_added p names texts entries lists macros list_id is count are others same kept =
-    let more = with_names-extends p.names texts in
-    record {
-      names = (more.0, is ∙ more.1);
-      counted = count;
-      entries = are;
-      definitions = others;
-      lists = same;
-      macros = kept;
-    }
+partly_added p names texts entries lists macros list_id is count are others same kept = grind (arith, with_names-extends p.names texts)
 
 -- the definitions of other lists stay when names and definitions are added
 pub others_kept_on : (list_id : ℕ) (old extended seen now items : List NameEntry) → ((n : ℕ) → definitions_at extended n ≡ definitions_at old n)
     → seen ≡ extended → KeepsOtherDefinitions list_id seen now → items ≡ now → KeepsOtherDefinitions list_id old items
-others_kept_on list_id old extended seen now items same seen_is others items_is n =
-    ap (λ l. of_other_lists list_id (definitions_at l n)) items_is ∙ others n
-    ∙ ap (λ l. of_other_lists list_id (definitions_at l n)) seen_is ∙ ap (of_other_lists list_id) (same n)
+others_kept_on list_id old extended seen now items same seen_is others items_is n = grind arith
 
 -- `mid` are the parts when memory runs out, and `now` those that are taken back
 module _ (start mid now : Parts) (list_id count : ℕ) (part : IsPartlyAdded list_id start mid) (count_is : count ≡ length start.names)

@@ -30,15 +30,11 @@ itself name = (bytes_decides name name).1 refl
 pub has_at : (names : List (List ℕ)) (n : ℕ) → n < length names → Has names (get_or names n [])
 has_at [] n lt = absurd (omega arith)
 has_at (x ∷ xs) zero lt = or_left (bytes_eq x x) (list_any (bytes_eq x) xs) (itself x)
-has_at (x ∷ xs) (suc n) lt =
-    or_right (bytes_eq (get_or xs n []) x) (list_any (bytes_eq (get_or xs n [])) xs) (has_at xs n (omega arith))
+has_at (x ∷ xs) (suc n) lt = grind (arith, or_right, bytes_eq, has_at xs n)
 
 -- a name among the names has the number of its index
 pub index_of : (names : List (List ℕ)) (name : List ℕ) → Has names name → position_or_len (bytes_eq name) names < length names
-index_of names name h =
-    ⊎_elim (λ lt. lt)
-    (λ past. absurd (true≢false (sym h ∙ list_any_none (bytes_eq name) names (λ k d lt. fails_before_first (bytes_eq name) names k d (omega arith)))))
-    (cases_lt (position_or_len (bytes_eq name) names) (length names))
+index_of names name h = grind (arith, true≢false, list_any_none, bytes_eq, fails_before_first, cases_lt)
 
 some_is : {a b : ℕ} → Some a ≡ Some b → a ≡ b
 some_is e = cc
@@ -69,14 +65,12 @@ number_name names name n e =
     let first = position-Some (bytes_eq name) names n [] e in (first.0, sym ((bytes_decides name (get_or names n [])).0 first.1))
 
 get_below : {X : Type 0} (xs : List X) (i : ℕ) (x : X) → slice_get xs i ≡ Some x → i < length xs
-get_below [] i x h = absurd cc
-get_below (y ∷ ys) zero x h = omega arith
 get_below (y ∷ ys) (suc i) x h = let rest = get_below ys i x h in omega arith
+get_below xs i x h = grind arith
 
 get_at : {X : Type 0} (xs : List X) (i : ℕ) (x d : X) → slice_get xs i ≡ Some x → get_or xs i d ≡ x
-get_at [] i x d h = absurd cc
-get_at (y ∷ ys) zero x d h = cc
 get_at (y ∷ ys) (suc i) x d h = get_at ys i x d h
+get_at xs i x d h = grind arith
 
 -- of names that differ, each has the number at which it stands
 pub number_where : (names : List (List ℕ)) (name : List ℕ) (n : ℕ) → IsDistinct bytes_eq names → slice_get names n ≡ Some name

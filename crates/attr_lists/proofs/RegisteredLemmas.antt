@@ -166,15 +166,7 @@ module _ (names : List (List ℕ)) (list : List SharedMacro) (lines : List (Mapp
 
 -- the ids of lists that ascend don't fall
 pub rising : (lists : List ListMacros) → AreAscending (registered_views lists) → IsNonDecreasingBy (λ l. l.list_id) lists
-rising lists ascend = λ i j d le lt.
-    ⊎_elim (λ (same : i ≡ j). omega (arith, ap (λ k. (get_or lists k d).list_id) same))
-    (λ (apart : i ≢ j). omega (
-      arith,
-      ascend i j (registered_view d) (omega arith) (omega (arith, length-map lists registered_view)),
-      ap (λ m. m.list_id) (get_or-map registered_view lists i d),
-      ap (λ m. m.list_id) (get_or-map registered_view lists j d),
-    ))
-    (cases_eq i j)
+rising lists ascend = grind (arith, length-map lists registered_view, get_or-map registered_view lists, cases_eq)
 
 -- the point of halving, and the list that stands there
 module _ (lists : List ListMacros) (list_id at : ℕ) (ascend : AreAscending (registered_views lists))
@@ -220,5 +212,4 @@ above_last lists last list_id ascend is lt = All-map (λ l. l.list_id < list_id)
 pub next_above : (lists : List ListMacros) (last : ListMacros) (next : Option ℕ) → AreAscending (registered_views lists)
     → last ≡ get_or lists (length lists - 1) last → SomeIff next (last.list_id + 1 < 2 ^ 64) (last.list_id + 1)
     → IfSome next (λ list_id. IsAbove list_id (registered_views lists))
-next_above lists last None ascend is sum = tt
-next_above lists last (Some list_id) ascend is sum = above_last lists last list_id ascend is (omega (arith, sum.1))
+next_above lists last next ascend is sum = grind (arith, above_last lists last)

@@ -1,5 +1,5 @@
 -- A list that is registered under a list id that no list of the collection had, as the crates above see it.
-use Rattle.std.proofs.Common.{◌≡◌, ℕ, ◌<◌, ◌-◌, true, List, ◌++◌, length, get_or, map, All, slice_get, Option, Some, None, unwrap_or}
+use Rattle.std.proofs.Common.{arith, ◌≡◌, ℕ, ◌<◌, ◌-◌, true, List, ◌++◌, length, get_or, map, All, slice_get, Option, Some, None, unwrap_or}
 use Rattle.std.proofs.Common.{[], option_map, refl, sym, ap, subst}
 use Rattle.std.specs.Prelude.{bytes_eq}
 use Rattle.std.specs.List.{IsDistinct}
@@ -22,10 +22,7 @@ held_registered known list_id entries held = held.registered
 pub registered_for : (old new : Collection) (list_id : ℕ) (entries : List Entry) → IsSoundCollection old → RegistersAs list_id entries old new
     → (name : List ℕ) → definitions_for new name
     ≡ definitions_for old name ++ map (definition_of list_id) (bodies_named name (numbered_lines new.names entries))
-registered_for old new list_id entries sound registers name =
-    subst (λ (k : Collection). definitions_for k name
-    ≡ definitions_for old name ++ map (definition_of list_id) (bodies_named name (numbered_lines k.names entries))) (sym registers.added)
-    (added_for old list_id entries sound name)
+registered_for old new list_id entries sound registers name = grind (arith, added_for)
 
 -- of names that differ, the definitions of a number are those of its name
 pub definitions_by_name : (known : Collection) (number : ℕ) → IsDistinct bytes_eq known.names → number < length known.names

@@ -4,7 +4,6 @@ use Rattle.std.proofs.Common.{eqb, leb, ltb, refl, sym, ap, ◌∙◌, ⊎_elim,
 use Rattle.std.specs.List.{remove_range}
 use Rattle.std.specs.List.Sorted.{IsPartitionPoint}
 use Rattle.std.proofs.lemmas.Bool.{cases_lt}
-use Rattle.std.proofs.lemmas.Bool.Decides.{nat_tests}
 use Rattle.std.proofs.lemmas.List.{length-take, length-drop, get_or-take, get_or-drop, take-append-drop, drop-drop}
 use Rattle.std.proofs.lemmas.List.Elements.{All-head, All-tail, filter-append}
 
@@ -33,7 +32,7 @@ points_apart n (x ∷ xs) t i j within first second =
     (λ le. le) (cases_lt j i)
   where
     both : (a : ℕ) → ltb a t ≡ true → leb a t ≡ false → ⊥
-    both a f g = grind (arith, nat_tests)
+    both a f g = grind arith
 
 -- a removal of what stands between leaves the others
 pub run_removed : {X : Type 0} (n : X → ℕ) (xs : List X) (t i j : ℕ) → i ≤ j → j ≤ length xs → Below n t xs i → Upto n t xs j
@@ -44,26 +43,19 @@ run_removed {X} n xs t i j le within first second =
     let mid = take (j - i) rest in
     let last = drop (j - i) rest in
     let last_is : last ≡ drop j xs = drop-drop (j - i) i xs ∙ ap (λ k. drop k xs) (omega arith) in
-    let front : filter p (take i xs) ≡ take i xs = keep_all p (take i xs) (λ k d lt.
-    let below : k < i = omega (arith, length-take i xs) in
-    ap p (get_or-take i xs k d below) ∙ ap not (lower (n (get_or xs k d)) (first.0 k d (omega arith) below))) in
-    let middle : filter p mid ≡ [] = keep_none p mid (λ k d lt.
-    let below : k < j - i = omega (arith, length-take (j - i) rest) in
-    ap p (get_or-take (j - i) rest k d below ∙ get_or-drop i xs k d)
-    ∙ ap not (same (n (get_or xs (i + k) d)) (first.1 (i + k) d (omega arith) (omega arith)) (second.0 (i + k) d (omega arith) (omega arith)))) in
-    let back : filter p (drop j xs) ≡ drop j xs = keep_all p (drop j xs) (λ k d lt.
-    ap p (get_or-drop j xs k d)
-    ∙ ap not (upper (n (get_or xs (j + k) d)) (second.1 (j + k) d (omega arith) (omega (arith, length-drop j xs))))) in
+    let front : filter p (take i xs) ≡ take i xs = keep_all p (take i xs) (λ k d lt. grind (arith, length-take, get_or-take, lower)) in
+    let middle : filter p mid ≡ [] = keep_none p mid (λ k d lt. grind (arith, length-take, get_or-take, get_or-drop, same)) in
+    let back : filter p (drop j xs) ≡ drop j xs = keep_all p (drop j xs) (λ k d lt. grind (arith, get_or-drop, upper, length-drop)) in
     sym (ap (filter p) (sym (take-append-drop i xs)) ∙ filter-append p (take i xs) rest
     ∙ ap (λ l. l ++ filter p rest) front
     ∙ ap (λ l. take i xs ++ l) (ap (filter p) (sym (take-append-drop (j - i) rest)) ∙ filter-append p mid last
     ∙ ap (λ l. l ++ filter p last) middle ∙ ap (filter p) last_is ∙ back))
   where
     lower : (a : ℕ) → ltb a t ≡ true → eqb a t ≡ false
-    lower a f = grind (arith, nat_tests)
+    lower a f = grind arith
 
     same : (a : ℕ) → ltb a t ≡ false → leb a t ≡ true → eqb a t ≡ true
-    same a f g = grind (arith, nat_tests)
+    same a f g = grind arith
 
     upper : (a : ℕ) → leb a t ≡ false → eqb a t ≡ false
-    upper a f = grind (arith, nat_tests)
+    upper a f = grind arith

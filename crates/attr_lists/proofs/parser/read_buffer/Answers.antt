@@ -1,7 +1,6 @@
-use Rattle.std.proofs.Common.{◌≡◌, ◌∙◌, ap}
+use Rattle.std.proofs.Common.{arith}
 use Rattle.std.specs.Result.{result_ok, result_err}
-use Rattle.attr_lists.specs.ListViews.{entries_view}
-use Rattle.attr_lists.specs.KeptLists.{line_read, kept_list, macros_valid}
+use Rattle.attr_lists.specs.KeptLists.{line_read}
 use Rattle.attr_lists.proofs.KeptLemmas.{given-more, given-all}
 use Rattle.attr_lists.proofs.KeptLaws.{kept_macros_valid}
 use Rattle.attr_lists.proofs.parser.read_buffer.Goals as goal
@@ -15,11 +14,4 @@ loop-line-preserved c = record {
 }
 
 pub returns : goal.returns
-returns c =
-    let kept : entries_view c.shrink_to_fit.new.self.items ≡ kept_list c.args.bytes.now =
-    ap entries_view c.shrink_to_fit.ensures.items ∙ given-all _ _ _ _ c.loop-line.invariant.kept c.in-None.ensures.steps.0 in
-    record {
-      kept = kept;
-      left_out = given-all _ _ _ _ c.loop-line.invariant.left_out c.in-None.ensures.steps.0;
-      valid = ap macros_valid kept ∙ kept_macros_valid c.args.bytes.now;
-    }
+returns c = grind (arith, given-all, kept_macros_valid)

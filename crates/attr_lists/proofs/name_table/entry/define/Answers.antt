@@ -1,6 +1,6 @@
-use Rattle.std.proofs.Common.{◌≡◌, ◌∷◌, ◌++◌, [], ◌∙◌, ap, get_or, map}
+use Rattle.std.proofs.Common.{arith, ◌≡◌, ◌∷◌, ◌++◌, [], ◌∙◌, ap, get_or, map}
 use Rattle.attr_lists.specs.Collections.{NumberedBody}
-use Rattle.attr_lists.specs.Definitions.{bodies_of_number, definition_of, of_other_lists}
+use Rattle.attr_lists.specs.Definitions.{bodies_of_number, definition_of}
 use Rattle.attr_lists.specs.declared.types.Metadata.{Metadata}
 use Rattle.attr_lists.specs.inner.EntryViews.{definitions_at, definitions_view}
 use Rattle.attr_lists.specs.inner.Registered.{numbered_body}
@@ -8,9 +8,7 @@ use Rattle.attr_lists.proofs.EntryLemmas.{defined_at, others_at, same_at}
 use Rattle.attr_lists.proofs.name_table.entry.define.Goals as goal
 
 pub returns-in_err-define-clause-others : goal.returns-in_err-define-clause-others
-returns-in_err-define-clause-others c = λ n.
-    ap (of_other_lists c.args.list_id) (same_at c.deref.result.now.id.0 n c.args.entries.now c.index-entries-own.result c.define.new.self
-    c.if-own-entries.false c.in_err-define.ensures.err)
+returns-in_err-define-clause-others c = grind (arith, same_at)
 
 pub returns-clause-ok : goal.returns-clause-ok
 returns-clause-ok c = λ n lt.
@@ -24,6 +22,4 @@ returns-clause-ok c = λ n lt.
     ∙ ap (λ b. definitions_at c.args.entries.now n ++ map (definition_of c.args.list_id) (bodies_of_number n (b ∷ []))) same
 
 pub returns-clause-others : goal.returns-clause-others
-returns-clause-others c = λ n.
-    others_at c.args.list_id c.deref.result.now.id.0 n c.args.entries.now c.index-entries-own.result c.define.new.self
-    c.in_ok-metadata.metadata.value.macro_attributes.items c.if-own-entries.false c.in_ok-define.ensures.ok
+returns-clause-others c = grind (arith, others_at)

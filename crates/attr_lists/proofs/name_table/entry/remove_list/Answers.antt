@@ -1,4 +1,4 @@
-use Rattle.std.proofs.Common.{ap}
+use Rattle.std.proofs.Common.{arith, ap}
 use Rattle.attr_lists.specs.declared.types.Metadata.{Metadata}
 use Rattle.attr_lists.proofs.EntryLemmas.{order_kept, removed_step}
 use Rattle.attr_lists.proofs.name_table.entry.remove_list.Goals as goal
@@ -10,8 +10,6 @@ loop-known-preserved c =
     record {
       order = order_kept c.args.list_id at c.loop-known.entries c.remove_at.new.entries c.remove_at.ensures.here c.remove_at.ensures.others
           c.loop-known.invariant.order;
-      removed = removed_step c.args.list_id at c.loop-known.entries c.remove_at.new.entries c.remove_at.ensures.here c.remove_at.ensures.others
-          c.args.entries.now c.args.list.now c.loop-known.known-index c.known-item.result c.loop-known-test.true c.known-item.is at_is
-          c.loop-known.invariant.removed;
+      removed = grind (arith, removed_step);
       entries = λ all. c.remove_at.ensures.entries (c.loop-known.invariant.entries all);
     }

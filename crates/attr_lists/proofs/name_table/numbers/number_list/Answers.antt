@@ -1,4 +1,4 @@
-use Rattle.std.proofs.Common.{◌∙◌, get_or}
+use Rattle.std.proofs.Common.{arith, ◌∙◌, get_or}
 use Rattle.attr_lists.specs.ListViews.{entry_view}
 use Rattle.attr_lists.specs.Numbers.{names_of}
 use Rattle.attr_lists.proofs.NameLemmas.{extends_again, with_names-extends}
@@ -6,8 +6,7 @@ use Rattle.attr_lists.proofs.NumberLemmas.{line_step, unnumbered_valid}
 use Rattle.attr_lists.proofs.name_table.numbers.number_list.Goals as goal
 
 pub number_line-requires : goal.number_line-requires
-number_line-requires c = unnumbered_valid _ c.args.mappings.now c.loop-mapping.mappings c.loop-mapping.mapping-index
-    c.mapping-item.result c.loop-mapping-test.true c.loop-mapping.invariant.numbered c.requires
+number_line-requires c = grind (arith, unnumbered_valid)
 
 pub loop-mapping-preserved : goal.loop-mapping-preserved
 loop-mapping-preserved c =

@@ -1,5 +1,4 @@
-use Rattle.std.proofs.Common.{◌∙◌, [], ◌∷◌, ◌++◌, ◌+◌, Some, ap, bytes_eq, drop, map, sym}
-use Rattle.std.specs.Prelude.{is_some, ◌&&◌}
+use Rattle.std.proofs.Common.{arith, ◌∙◌, [], ◌∷◌, ◌++◌, ◌+◌, Some, ap, bytes_eq, drop, map, sym}
 use Rattle.attr_lists.specs.Definitions.{bodies_named}
 use Rattle.attr_lists.specs.inner.Registered.{bodies_of_name, numbered_body}
 use Rattle.attr_lists.specs.ListViews.{entry_view, entries_view, items_in, macro_id}
@@ -23,9 +22,5 @@ loop-mapping-preserved c = λ name h.
           (same.1 ∙ w.deref-in-MacroAssignments.ensures ∙ sym (ap items_in w.in-MacroAssignments.is)) name
           ∙ ap (λ l. bodies_named name (line ∷ []) ++ l) (ap (λ r. bodies_of_name names (map numbered_body r.now) name) (sym w.rest-is) ∙ h)
           ∙ from
-      | in-Assignments w ↦
-          ap (λ r. bodies_of_name names (map numbered_body r.now) name) (sym w.rest-is) ∙ h
-          ∙ sym (ap (λ l. l ++ bodies_named name behind) (bodies_named-none name line
-          (ap (λ m. is_some m && bytes_eq name line.pattern.text) (ap macro_id w.in-Assignments.is))))
-          ∙ from
+      | in-Assignments w ↦ grind (arith, bodies_named-none, bytes_eq, in-Assignments)
     ])

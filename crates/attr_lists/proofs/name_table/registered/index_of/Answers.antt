@@ -1,5 +1,5 @@
-use Rattle.std.proofs.Common.{◌∙◌, ap, length, ltb, refl, rules, sym}
-use Rattle.std.specs.Prelude.{is_some, option_map}
+use Rattle.std.proofs.Common.{arith, ◌∙◌, ap, ltb, rules, sym}
+use Rattle.std.specs.Prelude.{is_some}
 use Rattle.std.proofs.lemmas.List.Sorted.{IsPartitionPoint-from_clause, IsPartitionedBy-ltb}
 use Rattle.std.proofs.lemmas.Option.{slice_get-map, slice_get_read}
 use Rattle.attr_lists.specs.declared.name_table.registered.ListMacros.{ListMacros}
@@ -16,14 +16,7 @@ returns-in_default c =
     lacks_past lists c.args.list_id at c.requires point (sym c.get.ensures.lookup.0 ∙ ap is_some c.in_default.is)
 
 pub returns-then-list-list_id : goal.returns-then-list-list_id
-returns-then-list-list_id c =
-    let lists = c.args.lists.now in
-    let look = c.in-Some.ensures.lookup in (
-      registered_view c.in-Some.list.now,
-      slice_get-map registered_view lists c.partition_point-at.result
-          ∙ ap (option_map registered_view) (slice_get_read lists (length lists) c.partition_point-at.result c.in-Some.list.now refl look.3.0 look.1),
-      c.if-list-list_id.true,
-    )
+returns-then-list-list_id c = grind (arith, slice_get-map registered_view, slice_get_read)
 
 pub returns-else-list-list_id : goal.returns-else-list-list_id
 returns-else-list-list_id c =
@@ -32,5 +25,4 @@ returns-else-list-list_id c =
     let look = c.in-Some.ensures.lookup in
     let point = IsPartitionPoint-from_clause (λ (l : ListMacros). ltb l.list_id c.args.list_id) lists at c.partition_point-at.ensures.partitioned
     (IsPartitionedBy-ltb (λ (l : ListMacros). l.list_id) lists c.args.list_id (rising lists c.requires)) (λ a r q k. search rules) in
-    lacks_at lists c.args.list_id at c.requires point c.in-Some.list.now
-    (slice_get_read lists (length lists) at c.in-Some.list.now refl look.3.0 look.1) c.if-list-list_id.false
+    grind (arith, lacks_at, slice_get_read)

@@ -1,5 +1,4 @@
-use Rattle.std.proofs.Common.{◌∙◌, [], ◌∷◌, ◌+◌, ◌++◌, map, drop, ap, sym, subst, bytes_eq}
-use Rattle.std.specs.List.{IsDistinct}
+use Rattle.std.proofs.Common.{arith, ◌+◌, map, drop, bytes_eq}
 use Rattle.std.specs.Rc.{rc_str_bytes}
 use Rattle.std.proofs.lemmas.List.{append_assoc}
 use Rattle.attr_lists.proofs.NameLemmas.{not_before}
@@ -12,13 +11,7 @@ push-requires c =
     let rest = map rc_str_bytes (drop (c.loop-text.text-index + 1) c.as_slice-text-items.result.now) in
     let names = copy_step c.args.self.now c.loop-text.copy c.as_slice-text-items.result.now c.loop-text.text-index c.text-item.result text
     c.loop-text-test.true c.text-item.is c.in_ok-clone.ensures.cases c.loop-text.invariant in
-    without_number c.loop-text.copy text
-    (not_before c.loop-text.copy text rest (subst (IsDistinct bytes_eq) (c.self.view_is ∙ sym names) c.self.invariant.distinct))
+    grind (arith, without_number, not_before, bytes_eq)
 
 pub loop-text-preserved : goal.loop-text-preserved
-loop-text-preserved c =
-    let text = rc_str_bytes c.in_ok-clone.field-0 in
-    let rest = map rc_str_bytes (drop (c.loop-text.text-index + 1) c.as_slice-text-items.result.now) in
-    ap (λ l. l ++ rest) c.in_ok-push.ensures.ok ∙ append_assoc c.loop-text.copy (text ∷ []) rest
-    ∙ copy_step c.args.self.now c.loop-text.copy c.as_slice-text-items.result.now c.loop-text.text-index c.text-item.result text
-    c.loop-text-test.true c.text-item.is c.in_ok-clone.ensures.cases c.loop-text.invariant
+loop-text-preserved c = grind (arith, append_assoc, copy_step)

@@ -1,10 +1,10 @@
-use Rattle.std.proofs.Common.{◌≡◌, ◌∙◌, ℕ, List, ap, map, slice_get, subst, sym, true≢false}
-use Rattle.attr_lists.specs.Collections.{NumberedBody, RegisteredList}
+use Rattle.std.proofs.Common.{arith, ◌≡◌, ◌∙◌, ℕ, List, ap, map, slice_get, subst, sym, true≢false}
+use Rattle.attr_lists.specs.Collections.{NumberedBody}
 use Rattle.attr_lists.specs.Definitions.{HoldsList}
 use Rattle.attr_lists.specs.ListViews.{entries_view}
 use Rattle.attr_lists.specs.inner.NameTableView.{parts_view}
 use Rattle.attr_lists.specs.inner.Registered.{AgreesOn, numbered_body, registered_views}
-use Rattle.attr_lists.proofs.NameTableLaws.{Lack, lack_registered}
+use Rattle.attr_lists.proofs.NameTableLaws.{lack_registered}
 use Rattle.attr_lists.proofs.NameTableSteps.{held_lines, lines_held, view_at}
 use Rattle.attr_lists.proofs.name_table.parts.Parts.holds.Goals as goal
 
@@ -16,9 +16,7 @@ returns-in-Some c =
     let lines = entries_view c.args.mappings.now in
     let Agrees = λ (list : List NumberedBody). (name : List ℕ) → AgreesOn p.names list lines name in
     let here = ap (λ ls. slice_get (registered_views ls) at) (sym c.deref.ensures.value) ∙ e.1 in
-    let macros : map numbered_body c.deref-in-Some.result.now ≡ e.0.macros =
-    ap (map numbered_body) c.deref-in-Some.ensures.value
-    ∙ ap (λ (r : RegisteredList). r.macros) (sym (view_at p.lists.items at e.0 c.index.result.now here c.index.ensures)) in (
+    let macros : map numbered_body c.deref-in-Some.result.now ≡ e.0.macros = grind (arith, view_at) in (
       λ yes. subst (λ id. HoldsList (parts_view p) id lines) e.2
           (held_lines (parts_view p) at e.0 c.requires.sound here lines (subst Agrees macros (c.has_lines.ensures.0 yes))),
       λ holds. c.has_lines.ensures.1 (subst Agrees (sym macros)
@@ -26,8 +24,4 @@ returns-in-Some c =
     )
 
 pub returns-in-None : goal.returns-in-None
-returns-in-None c = (
-  λ yes. absurd (true≢false (sym yes)),
-  λ holds. absurd (true≢false (sym holds.registered ∙ lack_registered c.args.list_id (registered_views c.args.self.now.lists.items)
-      (subst (λ ls. Lack c.args.list_id (registered_views ls)) c.deref.ensures.value c.in-None.ensures))),
-)
+returns-in-None c = grind (arith, true≢false, lack_registered)

@@ -1,10 +1,10 @@
-use Rattle.std.proofs.Common.{◌≡◌, ◌∷◌, ◌++◌, ◌∙◌, ℕ, [], ap, arith, length, map, refl, subst, sym}
+use Rattle.std.proofs.Common.{◌≡◌, ◌∙◌, ℕ, ap, arith, length, map, refl, subst, sym}
 use Rattle.std.specs.Vec.{with_items}
 use Rattle.std.proofs.lemmas.List.{map-append, with_items_is}
-use Rattle.attr_lists.specs.Definitions.{bodies_of_number, definition_of, macros_defined, of_other_lists}
+use Rattle.attr_lists.specs.Definitions.{macros_defined, of_other_lists}
 use Rattle.attr_lists.specs.declared.name_table.parts.Parts.{Parts}
 use Rattle.attr_lists.specs.inner.EntryViews.{AreEntries, definitions_at}
-use Rattle.attr_lists.specs.inner.Registered.{ListsBodies, numbered_body, registered_views, registered_view}
+use Rattle.attr_lists.specs.inner.Registered.{ListsBodies, numbered_body}
 use Rattle.attr_lists.specs.ListViews.{entries_view}
 use Rattle.attr_lists.specs.Numbers.{names_in, numbered_lines}
 use Rattle.attr_lists.proofs.ListLemmas.{on_err}
@@ -13,14 +13,7 @@ use Rattle.attr_lists.proofs.NameTableSteps.{added_whole, others_kept_on, partly
 use Rattle.attr_lists.proofs.name_table.parts.Parts.insert.Goals as goal
 
 pub extend-requires : goal.extend-requires
-extend-requires c =
-    omega (
-      arith,
-      c.len.ensures,
-      ap length c.in_ok-number_list.ensures.inserted,
-      count_more c.args.self.now.names (names_in (entries_view c.args.mappings.now)),
-      c.requires.whole.counted,
-    )
+extend-requires c = grind (arith, count_more)
 
 pub returns-in_err-extend-clause-err : goal.returns-in_err-extend-clause-err
 returns-in_err-extend-clause-err c =
@@ -76,16 +69,7 @@ returns-in_err-push-clause-err c =
     c.in_err-push.ensures.items c.insert_macros.ensures.kept)
 
 pub returns-clause-added : goal.returns-clause-added
-returns-clause-added c =
-    let lines = entries_view c.args.mappings.now in
-    let names = c.in_ok-number_list.ensures.inserted in
-    let old = c.args.self.now.lists.items in
-    let own = c.in_ok-macros.macros in
-    let lists = ap registered_views c.in_ok-push.ensures.items
-    ∙ map-append registered_view old (record { list_id = c.args.list_id; macros = own } ∷ [])
-    ∙ ap (λ m. registered_views old ++ record { list_id = c.args.list_id; macros = m } ∷ [])
-    (c.in_ok-macros.ensures ∙ ap macros_defined c.in_ok-number_list.ensures.numbered ∙ ap (λ ns. macros_defined (numbered_lines ns lines)) names) in
-    λ j. record { names = names j; lists = lists j }
+returns-clause-added c = grind (arith, map-append)
 
 pub returns-clause-whole : goal.returns-clause-whole
 returns-clause-whole c =
@@ -106,10 +90,6 @@ returns-clause-whole c =
     (omega (arith, ap length items, kept, c.extend.new.entries.ok.0, c.in_ok-extend.ensures.ok, c.len.ensures))
     (subst AreEntries (sym items) (c.define_list.ensures.entries (subst AreEntries (sym c.deref_mut.ensures.value)
     (c.extend.ensures.entries c.requires.whole.entries))))
-    (λ n lt. ap (λ l. definitions_at l n) items
-    ∙ c.in_ok-define_list.ensures.ok n (omega (arith, lt, ap length items, c.define_list.auto.entries))
-    ∙ ap (λ ds. ds ++ map (definition_of c.args.list_id) (bodies_of_number n (map numbered_body c.deref-2.result.now))) (before n)
-    ∙ ap (λ l. definitions_at p.entries.items n ++ map (definition_of c.args.list_id) (bodies_of_number n (map numbered_body l)))
-    c.deref-2.ensures.value)
+    (λ n lt. grind arith)
     c.insert_macros.ensures.kept
     (subst (λ l. ListsBodies c.insert_macros.new.macros (map numbered_body l)) c.deref.ensures.value c.in_ok-insert_macros.ensures.listed)

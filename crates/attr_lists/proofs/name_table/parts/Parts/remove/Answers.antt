@@ -7,7 +7,6 @@ use Rattle.attr_lists.specs.inner.EntrySteps.{RemovesListed}
 use Rattle.attr_lists.specs.inner.EntryViews.{AreAllInOrder, AreEntries}
 use Rattle.attr_lists.specs.inner.Registered.{numbered_body, registered_views}
 use Rattle.attr_lists.specs.shared.MacroNumbers.{RemovesUndefined}
-use Rattle.attr_lists.proofs.NameTableLaws.{Lack}
 use Rattle.attr_lists.proofs.NameTableSteps.{all_in_order, left, left_whole, none_left, view_at}
 use Rattle.attr_lists.proofs.name_table.parts.Parts.remove.Goals as goal
 
@@ -51,5 +50,4 @@ returns-in-Some-clause-whole c =
     (subst (λ l. RemovesUndefined l p.macros c.remove_macros.new.macros) c.deref-in-Some-2.ensures.value c.remove_macros.ensures)
 
 pub returns-in_default-clause-removed : goal.returns-in_default-clause-removed
-returns-in_default-clause-removed c =
-    none_left c.args.self.now c.args.list_id (subst (λ ls. Lack c.args.list_id (registered_views ls)) c.deref.ensures.value c.in_default.ensures)
+returns-in_default-clause-removed c = grind (arith, none_left)

@@ -1,8 +1,8 @@
-use Rattle.std.proofs.Common.{◌≡◌, length, map, ap, sym, ◌∙◌, subst, refl, arith}
+use Rattle.std.proofs.Common.{◌≡◌, length, map, ap, ◌∙◌, refl, arith}
 use Rattle.std.proofs.lemmas.List.{with_items_is}
 use Rattle.attr_lists.specs.Definitions.{of_other_lists}
-use Rattle.attr_lists.specs.inner.EntryViews.{all_definitions, AreEntries}
-use Rattle.attr_lists.proofs.NameTableSteps.{AreEntries-take, rolled_back}
+use Rattle.attr_lists.specs.inner.EntryViews.{all_definitions}
+use Rattle.attr_lists.proofs.NameTableSteps.{rolled_back}
 use Rattle.attr_lists.proofs.name_table.parts.Parts.roll_back.Goals as goal
 
 pub returns : goal.returns
@@ -14,6 +14,5 @@ returns c = record {
       let seen = c.deref_mut.ensures.value ∙ c.truncate-2.ensures.items in
       rolled_back start c.args.self.now _ c.args.list_id c.args.count part count whole above c.truncate.ensures
       (ap all_definitions items ∙ c.take_back.ensures.definitions ∙ ap (λ l. map (of_other_lists c.args.list_id) (all_definitions l)) seen)
-      (λ all. subst AreEntries (sym items) (c.take_back.ensures.entries (subst AreEntries (sym seen)
-      (AreEntries-take c.args.count c.args.self.now.entries.items all)))) refl refl;
+      (λ all. grind (arith, c.take_back.ensures.entries)) refl refl;
 }
