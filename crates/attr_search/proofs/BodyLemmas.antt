@@ -1,7 +1,6 @@
 -- How bodies grow and change.
-use Rattle.std.proofs.lemmas.Bool.Decides.{nat_tests}
 use Rattle.std.proofs.Common.{◌≡◌, ℕ, ◌+◌, ◌-◌, ◌<◌, List, [], ◌∷◌, ◌++◌, length, length-take, set, take, replicate, All, Vec, append_assoc}
-use Rattle.std.proofs.Common.{Bool, false, Result, Ok, Err, is_err, length-append, refl, sym, ap, ◌∙◌, arith}
+use Rattle.std.proofs.Common.{Bool, false, Result, Ok, Err, is_err, length-append, refl, sym, arith}
 use Rattle.std.specs.Global.{Global}
 use Rattle.std.specs.Result.{OnOk}
 use Rattle.std.proofs.lemmas.List.{length-replicate, take-map, length-map, length-set, map_push, map-set, replicate_more, take-append-le}
@@ -14,21 +13,17 @@ use Rattle.attr_search.specs.shared.Slotted.{bodies_view}
 -- one more empty body
 pub grown_more : (old now after : List (Vec TrackedAssignment Global)) (body : Vec TrackedAssignment Global) (n : ℕ) → body.items ≡ [] →
     after ≡ now ++ body ∷ [] → bodies_view now ≡ bodies_view old ++ replicate n [] → bodies_view after ≡ bodies_view old ++ replicate (n + 1) []
-grown_more old now after body n empty pushed so_far =
-    ap bodies_view pushed ∙ map_push (λ b. b.items) now body ∙ ap (λ l. l ++ body.items ∷ []) so_far
-    ∙ ap (λ x. (bodies_view old ++ replicate n []) ++ x ∷ []) empty
-    ∙ append_assoc (bodies_view old) (replicate n []) ([] ∷ [])
-    ∙ ap (λ l. bodies_view old ++ l) (replicate_more n [])
+grown_more old now after body n empty pushed so_far = grind (arith, map_push, append_assoc, replicate_more)
 
 -- what there was stays in front
 pub kept_more : {X : Type 0} (old now after : List X) (x : X) → after ≡ now ++ x ∷ [] → take (length old) now ≡ old → take (length old) after ≡ old
-kept_more old now after x pushed kept = grind (arith, nat_tests, length-take, take-append-le)
+kept_more old now after x pushed kept = grind (arith, length-take, take-append-le)
 
 -- one change is made, and the others are left
 pub change_made : (left rest : List BodyChange) (change : BodyChange) (bodies : List (Vec TrackedAssignment Global))
     (made : List (List TrackedAssignment)) → left ≡ change ∷ rest → changed_bodies left (bodies_view bodies) ≡ made →
     changed_bodies rest (bodies_view (set bodies change.number change.body)) ≡ made
-change_made left rest change bodies made e told = grind (arith, nat_tests, map-set)
+change_made left rest change bodies made e told = grind (arith, map-set)
 
 pub change_below : (left rest : List BodyChange) (change : BodyChange) (bodies : List (Vec TrackedAssignment Global)) → left ≡ change ∷ rest →
     All (λ c. c.number < length bodies) left → All (λ c. c.number < length (set bodies change.number change.body)) rest
@@ -45,11 +40,11 @@ told_ok (Err x) b e is h = absurd cc
 pub cut_sized : (old grown cut : List (Vec TrackedAssignment Global)) (bodies : List (List TrackedAssignment)) (count n : ℕ) → count ≡ n →
     bodies_view old ≡ bodies → bodies_view grown ≡ bodies_view old ++ replicate (count - length old) [] → cut ≡ take count grown →
     bodies_view cut ≡ sized_bodies n bodies
-cut_sized old grown cut bodies count n counted same grows is = grind (arith, nat_tests, length-map, take-map)
+cut_sized old grown cut bodies count n counted same grows is = grind (arith, length-map, take-map)
 
 pub length_sized : (count : ℕ) (bodies : List (List TrackedAssignment)) → length (sized_bodies count bodies) ≡ count
-length_sized count bodies = grind (arith, nat_tests, length-append, length-replicate, length-take)
+length_sized count bodies = grind (arith, length-append, length-replicate, length-take)
 
 pub length_changed : (changes : List BodyChange) (bodies : List (List TrackedAssignment)) → length (changed_bodies changes bodies) ≡ length bodies
 length_changed [] bodies = refl
-length_changed (c ∷ changes) bodies = grind (arith, nat_tests, length-set, length_changed changes)
+length_changed (c ∷ changes) bodies = grind (arith, length-set, length_changed changes)

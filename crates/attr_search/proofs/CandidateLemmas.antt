@@ -1,6 +1,5 @@
 -- A search of a list goes through its candidates alone: the lines that it passes over give nothing.
-use Rattle.std.proofs.lemmas.Bool.Decides.{nat_tests}
-use Rattle.std.proofs.Common.{◌≡◌, ℕ, zero, suc, ◌+◌, ◌-◌, ◌<◌, ◌≤◌, Bool, true, false, ◌&&◌, List, [], ◌∷◌, length, reverse, map, get_or}
+use Rattle.std.proofs.Common.{◌≡◌, ℕ, ◌+◌, ◌-◌, ◌<◌, ◌≤◌, Bool, true, false, ◌&&◌, List, [], ◌∷◌, length, reverse, map, get_or}
 use Rattle.std.proofs.Common.{Option, Some, None, refl, sym, ap, ◌∙◌, arith}
 use Rattle.std.specs.Prelude.{All, MatchOption, ⊤, is_none}
 use Rattle.std.specs.List.{flat_map}
@@ -55,9 +54,7 @@ passed_by : (case : Case) (is_dir : Option Bool) (rest : List ℕ) (test : Readi
 passed_by case is_dir rest test takes (Some id) r known out = refl
 passed_by case is_dir rest test takes None r known out =
     by_test (path_matches case r rest is_dir)
-    (λ t.
-    let e : true ≡ false = sym (takes known.0 r is_dir known.1 (not_macro r known.2) t) ∙ out in
-    absurd (cc))
+    (λ t. grind (arith, not_macro))
     (λ f. f)
 
 passed_at : (case : Case) (is_dir : Option Bool) (rest : List ℕ) (test : Reading → Bool) → TakesMatching case rest test →
@@ -71,21 +68,21 @@ passed_at case is_dir rest test takes lines read k d lt out =
 -- a list that is gone through from its end, reversed
 pub backwards-reverse : {X Y : Type 0} (f : X → List Y) (xs : List X) → backwards f xs ≡ flat_map f (reverse xs)
 backwards-reverse f [] = refl
-backwards-reverse f (x ∷ xs) = grind (arith, nat_tests, append-nil, flat_map-append, reverse-cons, backwards-reverse f xs)
+backwards-reverse f (x ∷ xs) = grind (arith, append-nil, flat_map-append, reverse-cons, backwards-reverse f xs)
 
 -- the indexes by a test of what the elements give
 indexes_where-map : {X Y : Type 0} (test : Y → Bool) (g : X → Y) (xs : List X) → indexes_where test (map g xs) ≡ indexes_where (λ x. test (g x)) xs
 indexes_where-map test g [] = refl
-indexes_where-map test g (x ∷ xs) = grind (arith, nat_tests, length-map, indexes_where-map test g xs)
+indexes_where-map test g (x ∷ xs) = grind (arith, length-map, indexes_where-map test g xs)
 
 map-reverse : {X Y : Type 0} (g : X → Y) (xs : List X) → reverse (map g xs) ≡ map g (reverse xs)
 map-reverse g [] = refl
-map-reverse g (x ∷ xs) = grind (arith, nat_tests, reverse-cons, map-append, map-reverse g xs)
+map-reverse g (x ∷ xs) = grind (arith, reverse-cons, map-append, map-reverse g xs)
 
 -- what stands at an index of the reversed list, and what it gives where it is no candidate
 pub turned_at : {X : Type 0} (xs : List X) (k : ℕ) (d : X) → k < length (reverse xs) →
     get_or xs (length (reverse xs) - 1 - k) d ≡ get_or (reverse xs) k d
-turned_at xs k d lt = grind (arith, nat_tests, length-reverse, get_or-reverse)
+turned_at xs k d lt = grind (arith, length-reverse, get_or-reverse)
 
 pub passed_entry : (case : Case) (is_dir : Option Bool) (source : Option (List ℕ)) (rest : List ℕ) (test : Reading → Bool) →
     TakesMatching case rest test → (lines : List Entry) → ∥ AreRead lines ∥₁ →
@@ -102,31 +99,25 @@ passed_entry case is_dir source rest test takes lines read k lt out =
 
 pub tried_turned : (test : Reading → Bool) (lines : List Entry) →
     indexes_where test (reverse (map (λ entry. entry.pattern) lines)) ≡ indexes_where (λ entry. test entry.pattern) (reverse lines)
-tried_turned test lines = grind (arith, nat_tests, map-reverse, indexes_where-map)
-
--- the indexes of candidates are those of lines
-fits_step : (n p : ℕ) (ps : List ℕ) → p < n → ((k d : ℕ) → k < length ps → get_or ps k d < n) →
-    (k d : ℕ) → k < length (p ∷ ps) → get_or (p ∷ ps) k d < n
-fits_step n p ps lt all zero d l = lt
-fits_step n p ps lt all (suc k) d l = all k d (omega arith)
+tried_turned test lines = grind (arith, map-reverse, indexes_where-map)
 
 indexes_fit : {X : Type 0} (test : X → Bool) (xs : List X) (n : ℕ) → length xs ≤ n →
     (k d : ℕ) → k < length (indexes_where test xs) → get_or (indexes_where test xs) k d < n
 indexes_fit test [] n le = λ k d lt. absurd (omega arith)
-indexes_fit test (x ∷ xs) n le = grind (arith, nat_tests, fits_step, indexes_fit test xs n)
+indexes_fit test (x ∷ xs) n le = grind (arith, indexes_fit test xs n)
 
 pub tried_fit : (case : Case) (rest : List ℕ) (ms : List (Mapping Value)) (found : List ℕ) →
     AreTried case rest (patterns_of ms) found → All (λ index. index < length ms) found
-tried_fit case rest ms found are = grind (arith, nat_tests, length-reverse, length-map, indexes_fit)
+tried_fit case rest ms found are = grind (arith, length-reverse, length-map, indexes_fit)
 
 -- a test that implies another passes at no more indexes
 fewer_indexes : {X : Type 0} (p q : X → Bool) → ((x : X) → p x ≡ true → q x ≡ true) → (xs : List X) →
     length (indexes_where p xs) ≤ length (indexes_where q xs)
 fewer_indexes p q so [] = omega arith
-fewer_indexes p q so (x ∷ xs) = grind (arith, nat_tests, fewer_indexes p q so xs)
+fewer_indexes p q so (x ∷ xs) = grind (arith, fewer_indexes p q so xs)
 
 -- no more lines are tried than there are candidates
 pub tried_most : (query : PathQuery) (path : List ℕ) (list : IndexedList) (found : List ℕ) →
     Some path ≡ rest_below (listed_view list).base query.case (bstr_bytes query.path) →
     AreTried query.case path (patterns_of list.list.patterns.items) found → length found ≤ list_candidates (listed_view list) query
-tried_most query path list found below are = grind (arith, nat_tests, fewer_indexes, lines_patterns)
+tried_most query path list found below are = grind (arith, fewer_indexes, lines_patterns)

@@ -31,11 +31,6 @@ pub entry_is : (ms : List (Mapping Value)) (index : ℕ) (m : Mapping Value) →
     entry_at (entries_view ms) index ≡ entry_view m
 entry_is ms index m lt is = get_or-map entry_view ms index m no_entry lt ∙ ap entry_view (sym is)
 
--- a pattern that wants a directory matches no other path
-pub other_kind : (entry : Entry) (r : Reading) (case : Case) (path : List ℕ) (is_dir : Option Bool) → entry.pattern ≡ r →
-    (not (has_flag r.mode must_be_dir) || is_directory is_dir) ≡ false → false ≡ path_matches case entry.pattern path is_dir
-other_kind entry r case path is_dir same kind = rw (same, kind) refl
-
 -- else the answer for the matched part is the test of the line
 pub matched_answer : {E : Type 0} (ms : List (Mapping Value)) (index : ℕ) (r : Reading) (case : Case) (path part : List ℕ)
     (is_dir : Option Bool) (result : Result Bool E) →
@@ -51,6 +46,4 @@ matched_answer ms index r case path part is_dir (Ok answer) read lt none here ki
     let test : text_matches case r.text (matched_part r path) ≡ path_matches case (entry_at (entries_view ms) index).pattern path is_dir =
     rw (here, kind) refl in
     ∥∥₁_elim read (Bool-set answer (path_matches case (entry_at (entries_view ms) index).pattern path is_dir))
-    (λ lines. let known = read_at (entries_view ms) index lines (omega arith) none in
-    told known.0 (known.1 ∙ ap Some here)
-    ∙ (ap (text_matches case r.text) same ∙ test))
+    (λ lines. grind (arith, read_at))

@@ -1,7 +1,6 @@
 -- What filling slots by numbered items reads and writes, in the terms of the table.
-use Rattle.std.proofs.lemmas.Bool.Decides.{nat_tests}
 use Rattle.std.proofs.Common.{◌≡◌, ℕ, ◌+◌, ◌<◌, ◌≤◌, List, [], ◌∷◌, ◌++◌, length, get_or, set, take, map, Option, Some, None, refl, sym, ap}
-use Rattle.std.proofs.Common.{subst, ◌∙◌, ⊎_elim, arith, Bool, true, false}
+use Rattle.std.proofs.Common.{⊎_elim, arith, Bool, true, false}
 use Rattle.std.specs.Prelude.{is_some, not, ◌==◌, All, Vec, slice_index_or}
 use Rattle.std.specs.Global.{Global}
 use Rattle.std.proofs.Math.ListN
@@ -13,29 +12,23 @@ use Rattle.attr_lists.specs.declared.types.TrackedAssignment.{TrackedAssignment}
 use Rattle.attr_table.specs.Setting.{Origin, body_of}
 use Rattle.attr_table.specs.Table.{Slots}
 use Rattle.attr_table.specs.Cut.{is_filled}
-use Rattle.attr_table.specs.shared.Walk.{Task, expands, tasks_in, free_items, fill, Searches}
+use Rattle.attr_table.specs.shared.Walk.{expands, tasks_in, free_items, fill, Searches}
 use Rattle.attr_table.proofs.ForCallers.{backwards-append, length-tasks_in, top, length-free, row_searched, taken_skip, taken_closed, taken_open}
 use Rattle.attr_table.proofs.ForCallers.{left_in-less, left_in-open, tasks_push, tasks_pass}
 use Rattle.attr_search.specs.declared.pending_item.PendingItem.{PendingItem}
-use Rattle.attr_search.specs.Slots.{is_needed, table_item, table_items, table_state, slots_of}
+use Rattle.attr_search.specs.Slots.{table_item, table_items, table_state}
 use Rattle.attr_search.specs.shared.SlotContents.{SlotContents, open_slots, wanted_numbers}
 use Rattle.attr_search.proofs.OpenLemmas.{open_needed}
 use Rattle.attr_search.specs.Settings.{HaveSlots}
 use Rattle.attr_lists.specs.Numbers.{AreNamed}
 use Rattle.attr_search.specs.declared.matching_line.MatchingLine.{MatchingLine}
 use Rattle.attr_search.specs.declared.slot_filler.SlotFiller.{SlotFiller}
-use Rattle.attr_search.specs.inner.Filling.{AtLine, BodiesFit, FillsNamed, KeepsFiller, Processes, filler_slots, item_task, most_left, stack_tasks}
+use Rattle.attr_search.specs.inner.Filling.{AtLine, FillsNamed, KeepsFiller, Processes, filler_slots, item_task, most_left, stack_tasks}
 use Rattle.attr_search.specs.inner.Pending.{PushesFree, item_answer, line_origin, items_beside, pending_item, IsInside, task_of, pending_tasks}
 use Rattle.attr_search.specs.inner.Pending.{no_item, table_bodies}
 
--- a test and its denial
-free_of : (x : Bool) → true ≡ not x → x ≡ false
-free_of true e = absurd (cc)
-free_of false e = refl
-
 filled_of : (x : Bool) → false ≡ not x → x ≡ true
-filled_of true e = refl
-filled_of false e = absurd (cc)
+filled_of x e = grind arith
 
 -- the bodies in the table
 pub body_table : (bs : List (List TrackedAssignment)) (a : ℕ) →
@@ -46,7 +39,7 @@ body_table bs a = ListN.get_or-map table_items bs a []
 beside : (P : List TrackedAssignment → Type 0) (line : List TrackedAssignment) (bs : List (List TrackedAssignment)) (cause : Option ℕ) →
     P [] → P line → All P bs → P (items_beside line bs cause)
 beside P line bs None none h b = h
-beside P line bs (Some a) none h b = grind (arith, nat_tests, get_or_past, cases_lt)
+beside P line bs (Some a) none h b = grind (arith, get_or_past, cases_lt)
 
 pub has_slot : (line : MatchingLine) (top : PendingItem) (item : TrackedAssignment) (filler : SlotFiller) → AtLine line filler →
     IsInside line.items.now filler.slots.bodies top → item ≡ pending_item line.items.now filler.slots.bodies top →
@@ -78,40 +71,18 @@ pub fills_item : (line : MatchingLine) (top : PendingItem) (item : TrackedAssign
     (Some (item_answer line filler.slots.bodies (pending_item line.items.now filler.slots.bodies top) top.cause)) →
     new.wanted ≡ filler.slots.wanted → new.needed ≡ filler.slots.needed → new.bodies ≡ filler.slots.bodies →
     FillsItem line top item filler.slots new
-fills_item line top item filler new at inside is free written wanted needed bodies = record {
-  is = is;
-  inside = inside;
-  within = has_slot line top (pending_item line.items.now filler.slots.bodies top) filler at inside refl;
-  free = free_of (is_some (open_slots filler.slots (pending_item line.items.now filler.slots.bodies top).id.0)) (rw is at free);
-  written = rw is at written;
-  wanted = wanted;
-  needed = needed;
-  bodies = bodies;
-}
+fills_item line top item filler new at inside is free written wanted needed bodies = grind (arith, has_slot, top)
 
 item_opened : {line : MatchingLine} {top : PendingItem} {item : TrackedAssignment} {held new : SlotContents} → FillsItem line top item held new →
     open_slots new ≡ fill (table_bodies held.bodies) (item_task line held.bodies top) (open_slots held)
 item_opened {line} {top} {item} {held} {new} p =
-    grind (arith, nat_tests, top, open_needed, is_filled-table, body_table, get_or-set_same, eq-eqb, get_or-set_other, ne_eqb, cases_eq)
+    grind (arith, top, open_needed, is_filled-table, body_table, get_or-set_same, eq-eqb, get_or-set_other, ne_eqb, cases_eq)
 
 -- the rest is kept
 pub fills_kept : {line : MatchingLine} {top : PendingItem} {item : TrackedAssignment} (before after : SlotFiller) →
     FillsItem line top item before.slots after.slots → KeepsFiller before after
 fills_kept {line} {top} before after p =
-    let held = before.slots in
-    let own = pending_item line.items.now held.bodies top in
-    let answer = item_answer line held.bodies own top.cause in
-    record {
-      wanted = p.wanted;
-      needed = p.needed;
-      len = ap length p.written ∙ length-set held.answers own.id.0 (Some answer);
-      bodies = p.bodies;
-      skipped = λ a skip.
-          let needed : is_needed held.needed own.id.0 ≡ true =
-          open_needed (is_needed held.needed) (slots_of held.answers) own.id.0 p.free in
-          let apart : a ≡ own.id.0 → ⊥ = λ e. absurd (false≢true (sym skip ∙ ap (is_needed held.needed) e ∙ needed)) in
-          ap (λ l. get_or l a None) p.written ∙ get_or-set_other held.answers own.id.0 a (Some answer) None apart;
-    }
+    let held = before.slots in grind (arith, top, length-set, open_needed, false≢true, get_or-set_other)
 
 pub fills_named : {line : MatchingLine} {top : PendingItem} {item : TrackedAssignment} (before : SlotFiller) (new : SlotContents) →
     FillsItem line top item before.slots new → FillsNamed line.items.now before (record before { slots = new })
@@ -124,9 +95,7 @@ fills_named {line} {top} before new p names h b held a =
     let g = get_or-set_same before.slots.answers own.id.0 (Some answer) None p.within in
     let named = beside (AreNamed names) line.items.now bs top.cause (λ k d lt. absurd (omega arith)) h b top.index no_item p.inside in
     rw (p.written, f, g) named)
-    (λ (ne : a ≡ own.id.0 → ⊥).
-    let g = get_or-set_other before.slots.answers own.id.0 a (Some answer) None ne in
-    rw (p.written, g) (held a))
+    (λ (ne : a ≡ own.id.0 → ⊥). grind (arith, get_or-set_other))
     (cases_eq a own.id.0)
 
 -- the top of the stack is taken where its slot is filled
@@ -158,7 +127,7 @@ less_closed {line} {top} before new p =
 body_is : (line : MatchingLine) (top : PendingItem) (item : TrackedAssignment) (held new : SlotContents) (body : List TrackedAssignment) →
     FillsItem line top item held new → body ≡ slice_index_or held.bodies item.id.0 [] →
     body_of (table_bodies held.bodies) (pending_item line.items.now held.bodies top).id.0 ≡ table_items body
-body_is line top item held new body p bodied = grind (arith, nat_tests, body_table, top)
+body_is line top item held new body p bodied = grind (arith, body_table, top)
 
 -- and where it sets it, and the free items of its body are pushed
 pub opens_item : {line : MatchingLine} {top : PendingItem} {item : TrackedAssignment} (before : SlotFiller) (new : SlotContents)
@@ -177,7 +146,7 @@ opens_item {line} {top} {item} before new stack body p set bodied pushed undone 
 length-pending_tasks : (origin : Origin) (line : List TrackedAssignment) (bs : List (List TrackedAssignment)) (stack : List PendingItem) →
     length (pending_tasks origin line bs stack) ≡ length stack
 length-pending_tasks origin line bs [] = refl
-length-pending_tasks origin line bs (w ∷ stack) = grind (arith, nat_tests, length-append, length-pending_tasks origin line bs stack)
+length-pending_tasks origin line bs (w ∷ stack) = grind (arith, length-append, length-pending_tasks origin line bs stack)
 
 pub less_open : {line : MatchingLine} {top : PendingItem} {item : TrackedAssignment} (before : SlotFiller) (new : SlotContents)
     (stack : Vec PendingItem Global) (body : List TrackedAssignment) →
@@ -201,10 +170,7 @@ less_open {line} {top} {item} before new stack body p bodied pushed =
 -- one more item is laid on, or left out
 items_more : (items : List TrackedAssignment) (k : ℕ) (i : TrackedAssignment) → k < length items → i ≡ get_or items k i →
     table_items (take (k + 1) items) ≡ table_items (take k items) ++ table_item i ∷ []
-items_more items k i lt is =
-    ap table_items (take_more items k i lt)
-    ∙ (map-append table_item (take k items) (get_or items k i ∷ [])
-    ∙ ap (λ (j : TrackedAssignment). table_items (take k items) ++ table_item j ∷ []) (sym is))
+items_more items k i lt is = grind (arith, take_more items k i lt, map-append table_item (take k items) (get_or items k i ∷ []))
 
 pub pending_tasks-push : (origin : Origin) (line : List TrackedAssignment) (bs : List (List TrackedAssignment)) (stack : List PendingItem)
     (w : PendingItem)
@@ -220,17 +186,13 @@ pub pushed_more : (origin : Origin) (line : List TrackedAssignment) (bs : List (
     ≡ tasks_in origin cause (free_items slots (table_items (take k items))) ++ pending_tasks origin line bs before →
     pending_tasks origin line bs after
     ≡ tasks_in origin cause (free_items slots (table_items (take (k + 1) items))) ++ pending_tasks origin line bs before
-pushed_more origin line bs cause items k i slots before stack after source lt is free pushed laid =
-    let w : PendingItem = record { cause = cause; index = k } in
-    let t : Task = record { origin = origin; item = table_item i; cause = cause } in
-    let here : slice_index_or (items_beside line bs cause) k no_item ≡ i =
-    ap (λ (xs : List TrackedAssignment). get_or xs k no_item) source ∙ (get_or_default items k no_item i lt ∙ sym is) in
-    let task : task_of origin line bs w ≡ t =
-    ap (λ (j : TrackedAssignment). record { origin = origin; item = table_item j; cause = cause }) here in
-    let more = items_more items k i lt is in
-    let push = tasks_push slots origin cause (table_items (take k items)) (table_item i) (free_of (is_some (slots i.id.0)) free) in
-    rw (pushed, more, push) (pending_tasks-push origin line bs stack w ∙
-    (ap (λ (u : Task). u ∷ pending_tasks origin line bs stack) task ∙ ap (λ (ts : List Task). t ∷ ts) laid))
+pushed_more origin line bs cause items k i slots before stack after source lt is free pushed laid = grind (
+  arith,
+  get_or_default items k no_item i lt,
+  items_more items k i lt is,
+  tasks_push slots origin cause (table_items (take k items)) (table_item i),
+  pending_tasks-push origin line bs stack,
+)
 
 pub pushed_same : (origin : Origin) (line : List TrackedAssignment) (bs : List (List TrackedAssignment)) (cause : Option ℕ)
     (items : List TrackedAssignment) (k : ℕ) (i : TrackedAssignment) (slots : Slots) (before stack after : List PendingItem) →
@@ -240,9 +202,7 @@ pub pushed_same : (origin : Origin) (line : List TrackedAssignment) (bs : List (
     pending_tasks origin line bs after
     ≡ tasks_in origin cause (free_items slots (table_items (take (k + 1) items))) ++ pending_tasks origin line bs before
 pushed_same origin line bs cause items k i slots before stack after lt is filled same laid =
-    let more = items_more items k i lt is in
-    let pass = tasks_pass slots origin cause (table_items (take k items)) (table_item i) (filled_of (is_some (slots i.id.0)) filled) in
-    rw (same, more, pass) laid
+    grind (arith, items_more items k i lt is, tasks_pass slots origin cause (table_items (take k items)) (table_item i), filled_of)
 
 pub inside_push : (line : List TrackedAssignment) (bs : List (List TrackedAssignment)) (cause : Option ℕ) (items : List TrackedAssignment) (k : ℕ)
     (stack after : List PendingItem) →
@@ -274,15 +234,7 @@ pub line_walked : (bs : List (List TrackedAssignment)) (origin : Origin) (items 
     Searches (map table_items bs) (wanted_numbers old.wanted) (tasks_in origin None (table_items items)) (open_slots old) after a b
 line_walked bs origin items old fresh after stack laid a b begun empty is p =
     let bare : pending_tasks origin items bs laid ≡ tasks_in origin None (free_items (open_slots fresh) (table_items items)) =
-    is ∙ (ap (λ (s : List PendingItem). tasks_in origin None (free_items (open_slots fresh) (table_items items)) ++ pending_tasks origin items
-    bs s) empty
-    ∙ append-nil (tasks_in origin None (free_items (open_slots fresh) (table_items items)))) in
+    grind (arith, append-nil) in
     let q = row_searched (map table_items bs) (wanted_numbers fresh.wanted) origin None (table_items items)
     (pending_tasks origin items bs laid) (open_slots fresh) after a b bare p in
-    subst (λ (f : SlotContents). Searches (map table_items bs) (wanted_numbers f.wanted) (tasks_in origin None (table_items items))
-    (open_slots f) after a b) begun q
-
--- bodies fit slots that are as many as before
-pub still_fit : (before after : SlotFiller) → KeepsFiller before after → BodiesFit (length before.slots.answers) before.slots.bodies →
-    BodiesFit (length after.slots.answers) after.slots.bodies
-still_fit before after kept fit = rw (kept.len, kept.bodies) fit
+    grind arith

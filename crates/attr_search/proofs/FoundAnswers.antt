@@ -1,9 +1,8 @@
 -- What a whole search leaves, and whether it found what was wanted.
-use Rattle.std.proofs.Common.{◌≡◌, ℕ, suc, ◌+◌, ◌<◌, ◌≤◌, Bool, true, false, ◌&&◌, ◌||◌, List, [], ◌∷◌, length, map, get_or, Option, Some, None, refl}
+use Rattle.std.proofs.Common.{◌≡◌, ℕ, suc, ◌+◌, ◌<◌, Bool, true, false, ◌&&◌, ◌||◌, List, [], ◌∷◌, length, map, get_or, Option, None, refl}
 use Rattle.std.proofs.Common.{sym, ap, ◌∙◌, arith, nat_lt}
 use Rattle.std.specs.Prelude.{is_some, is_none, option_map}
 use Rattle.std.specs.List.{list_any}
-use Rattle.std.proofs.lemmas.Bool.Decides.{nat_tests}
 use Rattle.std.proofs.lemmas.List.Folds.{list_any_none}
 use Rattle.attr_wildmatch.proofs.ForCallers.{by_test}
 use Rattle.attr_table.specs.Setting.{Item, Setting}
@@ -29,45 +28,24 @@ walks_keep : (bodies : List (List Item)) (done : Slots → Bool) {ts : List Task
 walks_keep bodies done ends a e = e
 walks_keep bodies done (stops d) a e = e
 walks_keep bodies done (skips f w) a e = walks_keep bodies done w a e
-walks_keep bodies done (fills {t = t} {slots = slots} d f w) a e = grind (arith, nat_tests, fill_keeps, walks_keep bodies done w a)
+walks_keep bodies done (fills {t = t} {slots = slots} d f w) a e = grind (arith, fill_keeps, walks_keep bodies done w a)
 
 none-map : {X Y : Type 0} (f : X → Y) (o : Option X) → is_none (option_map f o) ≡ is_none o
-none-map f None = refl
-none-map f (Some x) = refl
+none-map f o = grind arith
 
 any-map : {X Y : Type 0} (p : Y → Bool) (f : X → Y) (xs : List X) → list_any p (map f xs) ≡ list_any (λ x. p (f x)) xs
 any-map p f [] = refl
 any-map p f (x ∷ xs) = ap (λ b. p (f x) || b) (any-map p f xs)
-
-any-same : {X : Type 0} (p q : X → Bool) (xs : List X) → ((x : X) → p x ≡ q x) → list_any p xs ≡ list_any q xs
-any-same p q [] same = refl
-any-same p q (x ∷ xs) same = ap (λ b. b || list_any p xs) (same x) ∙ ap (λ b. q x || b) (any-same p q xs same)
 
 -- fewer are left where something wanted was found, and else as many
 record IsLeft (found : Bool) (old new : ℕ) : Type 0 where
   some : found ≡ true → new < old
   none : found ≡ false → new ≡ old
 
-less_left : (found : Bool) (old new : ℕ) → IsLeft found old new → new ≤ old
-less_left found old new left = grind (arith, nat_tests)
-
-left_past : (found : Bool) (old new h : ℕ) → IsLeft found old new → IsLeft found (h + old) (h + new)
-left_past found old new h left =
-    record {
-      some = λ t. let l = left.some t in omega arith;
-      none = λ f. let l = left.none f in omega arith;
-    }
-
 left_here : {X : Type 0} (w : Bool) (o n : Option X) (rest : Bool) (old new : ℕ) →
     (w ≡ true → is_some o ≡ true → is_some n ≡ true) → IsLeft rest old new →
     IsLeft ((w && (is_none o && is_some n)) || rest) (remaining_at w o + old) (remaining_at w n + new)
-left_here false o n rest old new kept left = left_past rest old new 0 left
-left_here true None None rest old new kept left = left_past rest old new 1 left
-left_here true None (Some y) rest old new kept left =
-    let le = less_left rest old new left in
-    record { some = λ t. omega arith; none = λ f. absurd (cc) }
-left_here true (Some x) None rest old new kept left = let e : false ≡ true = kept refl refl in absurd (cc)
-left_here true (Some x) (Some y) rest old new kept left = left_past rest old new 0 left
+left_here w o n rest old new kept left = grind arith
 
 -- whether a slot was filled
 abbrev newly : {X : Type 0} → List (Option X) → List (Option X) → ℕ → Bool
@@ -75,16 +53,13 @@ newly old new a = is_none (get_or old a None) && is_some (get_or new a None)
 
 any_wanted : (w : Bool) (flags : List Bool) (p : ℕ → Bool) →
     list_any p (wanted_numbers (w ∷ flags)) ≡ (w && p 0) || list_any (λ a. p (suc a)) (wanted_numbers flags)
-any_wanted true flags p = ap (λ b. p 0 || b) (any-map p suc (wanted_numbers flags))
-any_wanted false flags p = any-map p suc (wanted_numbers flags)
+any_wanted w flags p = grind (arith, any-map)
 
 left_by : {X : Type 0} (flags : List Bool) (old new : List (Option X)) → length old ≡ length new →
     ((a : ℕ) → get_or flags a false ≡ true → is_some (get_or old a None) ≡ true → is_some (get_or new a None) ≡ true) →
     IsLeft (list_any (newly old new) (wanted_numbers flags)) (count_remaining flags old) (count_remaining flags new)
 left_by [] old new same kept = record { some = λ t. absurd (cc); none = λ f. refl }
-left_by {X = X} (w ∷ flags) [] [] same kept =
-    let none = list_any_none (newly {X = X} [] []) (wanted_numbers (w ∷ flags)) (λ k d lt. refl) in
-    record { some = λ t. let e : true ≡ false = sym t ∙ none in absurd (cc); none = λ f. refl }
+left_by {X = X} (w ∷ flags) [] [] same kept = grind (arith, list_any_none)
 left_by (w ∷ flags) [] (n ∷ ns) same kept = absurd (omega arith)
 left_by (w ∷ flags) (o ∷ os) [] same kept = absurd (omega arith)
 left_by (w ∷ flags) (o ∷ os) (n ∷ ns) same kept =
@@ -96,12 +71,12 @@ left_by (w ∷ flags) (o ∷ os) (n ∷ ns) same kept =
 wanted_same : (flags : List Bool) (p q : ℕ → Bool) → ((a : ℕ) → get_or flags a false ≡ true → p a ≡ q a) →
     list_any p (wanted_numbers flags) ≡ list_any q (wanted_numbers flags)
 wanted_same [] p q same = refl
-wanted_same (w ∷ flags) p q same = grind (arith, nat_tests, any_wanted, wanted_same flags)
+wanted_same (w ∷ flags) p q same = grind (arith, any_wanted, wanted_same flags)
 
 -- the slot of a wanted number is seen as it is
 wanted_seen : (state : SearchContents) (a : ℕ) → AreFlagsAmong state.wanted state.needed → get_or state.wanted a false ≡ true →
     state_slots state a ≡ slots_of state.answers a
-wanted_seen state a among w = grind (arith, nat_tests, narrowed_needed, flag_needed)
+wanted_seen state a among w = grind (arith, narrowed_needed, flag_needed)
 
 -- the answer of a search
 pub found_is : (bodies : List (List Item)) (wanted : List ℕ) (ts : List Task) (old new : SearchContents) (left left' a b : ℕ) →
@@ -118,27 +93,12 @@ found_is bodies wanted ts old new left left' a b among p same e e' =
     λ k. is_some_map (table_answer k) (get_or old.answers k None) in
     let some_is : (k : ℕ) → is_some (slots_of new.answers k) ≡ is_some (get_or new.answers k None) =
     λ k. is_some_map (table_answer k) (get_or new.answers k None) in
-    let kept : (k : ℕ) → get_or flags k false ≡ true → is_some (get_or old.answers k None) ≡ true →
-    is_some (get_or new.answers k None) ≡ true =
-    λ k w t. sym (some_is k) ∙ sym (ap is_some (is k w))
-    ∙ walks_keep bodies (is_done wanted) p.walks k (ap is_some (was k w) ∙ some_was k ∙ t) in
-    let told : list_any (newly old.answers new.answers) (wanted_numbers flags) ≡ is_found (state_wanted old) (state_slots old) (state_slots new) =
-    wanted_same flags (newly old.answers new.answers) (λ w. is_none (state_slots old w) && is_some (state_slots new w))
-    (λ k w. ap (λ x. x && is_some (get_or new.answers k None))
-    (sym (none-map (table_answer k) (get_or old.answers k None)) ∙ sym (ap is_none (was k w)))
-    ∙ ap (λ x. is_none (state_slots old k) && x) (sym (some_is k) ∙ sym (ap is_some (is k w)))) in
-    let counted : left' ≡ count_remaining flags new.answers = e' ∙ ap (λ (f : List Bool). count_remaining f new.answers) same.wanted in
-    let l = left_by flags old.answers new.answers (sym same.len) kept in
-    by_test (list_any (newly old.answers new.answers) (wanted_numbers flags))
-    (λ t. let less = l.some t in let lt : left' < left = omega (arith, e, counted, less) in
-    let yes : nat_lt left' left ≡ true = grind (arith, nat_tests) in yes ∙ (sym t ∙ told))
-    (λ f. let equal = l.none f in
-    by_test (nat_lt left' left)
-    (λ t. let lt : left' < left = grind (arith, nat_tests) in absurd (omega (arith, e, counted, equal, lt)))
-    (λ n. n ∙ (sym f ∙ told)))
+    let kept : (k : ℕ) → get_or flags k false ≡ true → is_some (get_or old.answers k None) ≡ true → is_some (get_or new.answers k None) ≡ true =
+    λ k w t. sym (some_is k) ∙ sym (ap is_some (is k w)) ∙ walks_keep bodies (is_done wanted) p.walks k (ap is_some (was k w) ∙ some_was k ∙ t) in
+    let l = left_by flags old.answers new.answers (sym same.len) kept in grind (arith, wanted_same, none-map, by_test, nat_lt)
 
 pub nothing_found : (wanted : List ℕ) (slots : Slots) → false ≡ is_found wanted slots slots
-nothing_found wanted slots = grind (arith, nat_tests, list_any_none)
+nothing_found wanted slots = grind (arith, list_any_none)
 
 -- the slots after a search, over other lists that were searched before
 pub extends : (s : Setting) (wanted : List ℕ) (before after : Slots) → IsSearched s wanted before after →
@@ -149,7 +109,7 @@ extends s wanted before after searched = λ lists first.
 -- the counts of a state say nothing of what is kept
 pub counted_from : (before after : SearchContents) (taken tested : ℕ) → KeepsState (record before { taken = taken; tested = tested }) after →
     KeepsState before after
-counted_from before after taken tested kept = grind (arith, nat_tests)
+counted_from before after taken tested kept = grind arith
 
 -- lists that were searched are searched by the tasks of their setting
 pub searched_as : (query : PathQuery) (lists : List Listed) {before after : SearchContents} → SearchedLists query lists before after →

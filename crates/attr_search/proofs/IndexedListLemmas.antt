@@ -1,25 +1,17 @@
 -- What is made of a list's patterns stays theirs when the list is numbered.
-use Rattle.std.proofs.lemmas.Bool.Decides.{nat_tests}
-use Rattle.std.proofs.Common.{arith, ◌≡◌, ℕ, ◌<◌, List, [], ◌∷◌, ◌++◌, length, get_or, take, map, Option, Some, None, refl, sym, ap, ◌∙◌, drop}
-use Rattle.std.specs.Prelude.{option_map, string_bytes}
+use Rattle.std.proofs.Common.{arith, ◌≡◌, ℕ, ◌<◌, List, [], ◌∷◌, ◌++◌, length, get_or, take, map, Option, refl, sym, ap, ◌∙◌, drop}
 use Rattle.std.proofs.Math.Seq.{take-append_seam}
 use Rattle.std.proofs.lemmas.List.{length-map, get_or-map}
 use Rattle.std.proofs.lemmas.List.Elements.{All-nil, All-cons, All-head, All-tail}
 use Rattle.attr_glob.specs.declared.search.pattern.Mapping.{Mapping}
-use Rattle.attr_glob.specs.declared.search.pattern.List.{List as PatternList}
-use Rattle.attr_glob.specs.Clones.{AreMappingClones}
 use Rattle.attr_glob.specs.Patterns.{Reading}
-use Rattle.attr_glob.specs.Views.{base_bytes, pattern_view, patterns_of}
-use Rattle.attr_lists.specs.declared.parser.Attributes.{Attributes}
-use Rattle.attr_lists.specs.declared.types.Dropped.{Dropped}
+use Rattle.attr_glob.specs.Views.{pattern_view, patterns_of}
 use Rattle.attr_lists.specs.declared.types.Value.{Value}
-use Rattle.attr_lists.specs.ListViews.{Entry, SameValue, entry_view, entries_view}
+use Rattle.attr_lists.specs.ListViews.{Entry, entry_view, entries_view}
 use Rattle.attr_lists.specs.Numbers.{numbered, numbered_lines}
-use Rattle.attr_search.specs.ListView.{list_view}
 use Rattle.attr_glob.specs.declared.search.pattern.indexed_line.IndexedLine.{IndexedLine}
 use Rattle.attr_glob.specs.Indexed.{NumberedPattern, indexed_line, indexed_lines, listed_lines}
 use Rattle.attr_glob.proofs.ForCallers.{lines_length}
-use Rattle.attr_lists.proofs.ForCallers.{copied_lines}
 use Rattle.attr_search.proofs.EntryAtLemmas.{lines_patterns}
 use Rattle.attr_search.specs.inner.EntryAt.{entry_at, no_entry}
 use Rattle.attr_search.specs.shared.ReadLines.{IsRead, AreRead}
@@ -59,13 +51,12 @@ same_patterns before after e = lines_patterns after ∙ ap (map (λ (entry : Ent
 
 pub numbered_lines_in : (names : List (List ℕ)) (before after : List (Mapping Value)) → entries_view after ≡ numbered_lines names
     (entries_view before) → listed_lines after ≡ listed_lines before
-numbered_lines_in names before after e = grind (arith, nat_tests, lines-entries, numbered-entries)
+numbered_lines_in names before after e = grind (arith, lines-entries, numbered-entries)
 
 entry-numbered : (names : List (List ℕ)) (pattern : Reading) (items : List _) (line : ℕ) (macro : Option _)
     → IsRead (record { pattern = pattern; macro = macro; items = items; line = line }) → IsRead
     (numbered names (record { pattern = pattern; macro = macro; items = items; line = line }))
-entry-numbered names pattern items line None h = h
-entry-numbered names pattern items line (Some id) h = h
+entry-numbered names pattern items line macro h = grind arith
 
 -- and what was read of pattern texts still is
 pub numbered_read : (names : List (List ℕ)) (entries : List Entry) → AreRead entries → AreRead (numbered_lines names entries)
@@ -81,10 +72,4 @@ written old new n e same = ap (λ k. take k (new ++ drop (length new) old)) (e �
 -- a numbered list is as long as it was
 pub numbered_length : (names : List (List ℕ)) (before after : List (Mapping Value)) → entries_view after ≡ numbered_lines names (entries_view before)
     → length after ≡ length before
-numbered_length names before after e = grind (arith, nat_tests, length-map)
-
--- a copy of a list has its lines, its source and its base
-pub copied_list : (list copy : PatternList Attributes Value Dropped) → AreMappingClones SameValue list.patterns.items copy.patterns.items →
-    option_map string_bytes copy.source ≡ option_map string_bytes list.source → base_bytes copy.base ≡ base_bytes list.base →
-    list_view copy ≡ list_view list
-copied_list list copy lines source base = grind (arith, nat_tests, copied_lines)
+numbered_length names before after e = grind (arith, length-map)

@@ -1,6 +1,6 @@
 -- Numbers by key: the greatest with a key, after one more and after one less.
-use Rattle.std.proofs.lemmas.Bool.Decides.{nat_tests}
-use Rattle.std.proofs.Common.{◌≡◌, ◌≢◌, ℕ, zero, suc, ◌+◌, ◌<◌, ◌≤◌, ◌⊎◌, inl, inr, true, false, cond, List, [], ◌∷◌, ◌++◌, length, get_or, Option}
+use Rattle.std.proofs.lemmas.Bool.Decides.{eqb_tells}
+use Rattle.std.proofs.Common.{◌≡◌, ◌≢◌, ℕ, suc, ◌+◌, ◌<◌, ◌≤◌, ◌⊎◌, inl, inr, true, false, cond, List, [], ◌∷◌, ◌++◌, length, get_or, Option}
 use Rattle.std.proofs.Common.{Some, None, refl, sym, ap, subst, ◌∙◌, arith, eq-eqb, nat_eq}
 use Rattle.std.specs.Prelude.{Contains, MatchOption, ⊤, ◌↔◌, IsTrue, is_none, option_map, slice_get}
 use Rattle.std.specs.List.{AllPairs, IsDistinct, list_all}
@@ -8,7 +8,6 @@ use Rattle.std.specs.Bool.{Decides}
 use Rattle.std.proofs.lemmas.Bool.{eqb-true}
 use Rattle.std.proofs.lemmas.List.Sums.{AllPass-from_list_all, list_all-from_AllPass}
 use Rattle.std.proofs.lemmas.Map.Made.{AllPairs-from_IsDistinct, IsDistinct-from_AllPairs}
-use Rattle.std.proofs.lemmas.Bool.Decides.{eqb_tells}
 use Rattle.std.proofs.lemmas.List.{get_or-map, length-append, length-map}
 use Rattle.std.proofs.lemmas.List.Elements.{Contains-append_left, Contains-push}
 use Rattle.std.proofs.lemmas.Option.{IfSome_then, get_or_from_slice_get, same_Some, slice_get-get_or, slice_get-map, slice_get_read, slice_get_within}
@@ -18,9 +17,8 @@ use Rattle.attr_search.specs.inner.NumbersView.{AreLatest, LeadOn, link_keys}
 
 -- an element of the front part, and the one after it
 pub get_front : {X : Type 0} (xs ys : List X) (m : ℕ) → m < length xs → slice_get (xs ++ ys) m ≡ slice_get xs m
-get_front [] ys m lt = absurd (omega (arith, lt))
-get_front (x ∷ xs) ys zero lt = refl
 get_front (x ∷ xs) ys (suc m) lt = get_front xs ys m (omega (arith, lt))
+get_front xs ys m lt = grind arith
 
 pub get_seam : {X : Type 0} (xs : List X) (y : X) (ys : List X) → slice_get (xs ++ y ∷ ys) (length xs) ≡ Some y
 get_seam [] y ys = refl
@@ -29,29 +27,19 @@ get_seam (x ∷ xs) y ys = get_seam xs y ys
 -- the keys below the bound are the same
 latest_same : (keys others : List ℕ) (bound key : ℕ) (latest : Option ℕ) → ((m : ℕ) → m < bound → slice_get others m ≡ slice_get keys m) →
     IsLatest keys bound key latest → IsLatest others bound key latest
-latest_same keys others bound key latest same is = grind (arith, nat_tests)
-
--- one more number of this key, and one of another
-latest_own : (keys : List ℕ) (bound key : ℕ) → slice_get keys bound ≡ Some key → IsLatest keys (bound + 1) key (Some bound)
-latest_own keys bound key is = record { has = (omega arith, is); greatest = λ number lt has. omega (arith, lt) }
+latest_same keys others bound key latest same is = grind arith
 
 pub below_or : (number bound : ℕ) → number < bound + 1 → (number < bound) ⊎ (number ≡ bound)
 below_or number bound lt = elim (eqb_tells number bound) [ inl same ↦ inr same.1 | inr other ↦ let ne = other.1 in inl (omega (arith, lt, ne)) ]
 
-other_greatest : (keys : List ℕ) (bound own key : ℕ) (latest : Option ℕ) → slice_get keys bound ≡ Some own → own ≢ key →
-    IsLatest keys bound key latest → (number : ℕ) → (number < bound) ⊎ (number ≡ bound) → slice_get keys number ≡ Some key →
-    MatchOption latest ⊥ (λ n. number ≤ n)
-other_greatest keys bound own key latest is other l number (inl lt) has = l.greatest number lt has
-other_greatest keys bound own key latest is other l number (inr same) has = grind (arith, nat_tests, same_Some)
-
 latest_other : (keys : List ℕ) (bound own key : ℕ) (latest : Option ℕ) → slice_get keys bound ≡ Some own → own ≢ key →
     IsLatest keys bound key latest → IsLatest keys (bound + 1) key latest
-latest_other keys bound own key latest is other l = grind (arith, nat_tests, other_greatest, below_or)
+latest_other keys bound own key latest is other l = grind (arith, below_or)
 
 -- and back
 latest_less : (keys : List ℕ) (bound own key : ℕ) (latest : Option ℕ) → slice_get keys bound ≡ Some own → own ≢ key →
     IsLatest keys (bound + 1) key latest → IsLatest keys bound key latest
-latest_less keys bound own key latest is other l = grind (arith, nat_tests, below_or, same_Some)
+latest_less keys bound own key latest is other l = grind (arith, below_or, same_Some)
 
 abbrev option_key : Option Link → Option ℕ
 option_key link = option_map (λ l. l.key) link
@@ -59,10 +47,10 @@ option_key link = option_map (λ l. l.key) link
 -- the keys of links, with one more link
 keys_front : (links : List Link) (link : Link) (m : ℕ) → m < length links →
     slice_get (link_keys (links ++ link ∷ [])) m ≡ slice_get (link_keys links) m
-keys_front links link m lt = grind (arith, nat_tests, slice_get-map, get_front)
+keys_front links link m lt = grind (arith, slice_get-map, get_front)
 
 keys_seam : (links : List Link) (link : Link) → slice_get (link_keys (links ++ link ∷ [])) (length links) ≡ Some link.key
-keys_seam links link = grind (arith, nat_tests, slice_get-map, get_seam)
+keys_seam links link = grind (arith, slice_get-map, get_seam)
 
 length_more : (links : List Link) (link : Link) → length (links ++ link ∷ []) ≡ length links + 1
 length_more links link = length-append links (link ∷ [])
@@ -72,7 +60,7 @@ more_latest : (links : List Link) (link : Link) (key : ℕ) (before after : Opti
     ((nat_eq link.key key ≡ true) × (link.key ≡ key)) ⊎ ((nat_eq link.key key ≡ false) × (link.key ≢ key)) →
     IsLatest (link_keys links) (length links) key before → after ≡ cond (nat_eq link.key key) (Some (length links)) before →
     IsLatest (link_keys (links ++ link ∷ [])) (length links + 1) key after
-more_latest links link key before after (inl own) l is = grind (arith, nat_tests, latest_own, keys_seam)
+more_latest links link key before after (inl own) l is = grind (arith, slice_get-map, get_seam)
 more_latest links link key before after (inr other) l is =
     let latest : after ≡ before = is ∙ ap (λ t. cond t (Some (length links)) before) other.0 in
     subst (IsLatest (link_keys (links ++ link ∷ [])) (length links + 1) key) (sym latest)
@@ -88,10 +76,7 @@ pushed_latest links link before after l is = λ key.
 one_leads : (links : List Link) (link : Link) → LeadOn links → IsLatest (link_keys links) (length links) link.key link.earlier →
     (number : ℕ) (other : Link) → (number < length links) ⊎ (number ≡ length links) → slice_get (links ++ link ∷ []) number ≡ Some other →
     IsLatest (link_keys (links ++ link ∷ [])) number other.key other.earlier
-one_leads links link lead l number other (inl lt) is =
-    latest_same (link_keys links) (link_keys (links ++ link ∷ [])) number other.key other.earlier
-    (λ m below. keys_front links link m (omega (arith, lt, below))) (lead number other (sym (get_front links (link ∷ []) number lt) ∙ is))
-one_leads links link lead l number other (inr same) is = grind (arith, nat_tests, same_Some, get_seam, latest_same, keys_front)
+one_leads links link lead l number other h is = grind (arith, latest_same, keys_front, get_front, same_Some, get_seam, lead number other)
 
 pub pushed_lead : (links : List Link) (link : Link) (before : ℕ → Option ℕ) → AreLatest links before → link.earlier ≡ before link.key →
     LeadOn links → LeadOn (links ++ link ∷ [])
@@ -107,8 +92,7 @@ less_latest : (links : List Link) (link : Link) (key : ℕ) (before after : Opti
     IsLatest (link_keys (links ++ link ∷ [])) (length links) link.key link.earlier →
     IsLatest (link_keys (links ++ link ∷ [])) (length links + 1) key before → after ≡ cond (nat_eq link.key key) link.earlier before →
     IsLatest (link_keys (links ++ link ∷ [])) (length links) key after
-less_latest links link key before after (inl own) lead l is = grind (arith, nat_tests)
-less_latest links link key before after (inr other) lead l is = grind (arith, nat_tests, latest_less, keys_seam)
+less_latest links link key before after h lead l is = grind (arith, latest_less, keys_seam)
 
 pub popped_latest : (all links : List Link) (link : Link) (before after : ℕ → Option ℕ) → all ≡ links ++ link ∷ [] → AreLatest all before →
     LeadOn all → ((key : ℕ) → after key ≡ cond (nat_eq link.key key) link.earlier (before key)) → AreLatest links after
@@ -140,7 +124,7 @@ count_down (Some n) = n + 1
 
 same_key : (links : List Link) (link : Link) (number key : ℕ) → slice_get links number ≡ Some link → slice_get (link_keys links) number ≡ Some key →
     link.key ≡ key
-same_key links link number key is has = grind (arith, nat_tests, same_Some, slice_get-map)
+same_key links link number key is has = grind (arith, same_Some, slice_get-map)
 
 walked_one : (keys : List ℕ) (key bound number : ℕ) (found : List ℕ) (earlier : Option ℕ) → IsLatest keys bound key earlier →
     slice_get keys number ≡ Some key → Contains found number ⊎ (number ≤ bound) →
@@ -165,12 +149,11 @@ walk_on links link key number before found lead is covers =
 
 pub link_at : (links : List Link) (link : Link) (key number : ℕ) (before found : List ℕ) (next : Option ℕ) → next ≡ Some number →
     link ≡ get_or links number link → CoversDown (link_keys links) key before found next → slice_get links number ≡ Some link
-link_at links link key number before found next at is covers = grind (arith, nat_tests, found, at, slice_get_read, length-map)
+link_at links link key number before found next at is covers = grind (arith, found, at, slice_get_read, length-map)
 
 smaller_earlier : (keys : List ℕ) (bound key : ℕ) (earlier : Option ℕ) →
     MatchOption earlier ⊤ (λ n. (n < bound) × (slice_get keys n ≡ Some key)) → count_down earlier < bound + 1
-smaller_earlier keys bound key None h = omega arith
-smaller_earlier keys bound key (Some n) h = let lt = h.0 in omega (arith, lt)
+smaller_earlier keys bound key earlier h = grind arith
 
 pub walk_shorter : (links : List Link) (link : Link) (number : ℕ) → LeadOn links → slice_get links number ≡ Some link →
     count_down link.earlier < count_down (Some number)
@@ -179,23 +162,18 @@ walk_shorter links link number lead is = smaller_earlier (link_keys links) numbe
 -- the key of the last number is not missing
 pub last_present : (all links : List Link) (link : Link) (latest : ℕ → Option ℕ) → all ≡ links ++ link ∷ [] → AreLatest all latest →
     latest link.key ≡ None → ⊥
-last_present all links link latest whole l none =
-    let is = subst (λ ls. AreLatest ls latest) whole l link.key in
-    let long = length_more links link in
-    subst (λ o. MatchOption o ⊥ (λ n. length links ≤ n)) none
-    (is.greatest (length links) (omega (arith, long)) (keys_seam links link))
+last_present all links link latest whole l none = grind (arith, length_more links link, keys_seam links link)
 
 -- keys of which no two are the same have no earlier number, and the other way round
 same_tells : (a b : ℕ) → Decides (nat_eq a b) (a ≡ b)
 same_tells a b = (eqb-true a b, eq-eqb a b)
 
 alone : (option : Option ℕ) → is_none option ≡ true → option ≡ None
-alone None is = refl
-alone (Some n) is = absurd cc
+alone option is = grind arith
 
 first_of_key : (keys : List ℕ) (bound key : ℕ) (latest : Option ℕ) → IsLatest keys bound key latest → latest ≡ None → (number : ℕ) → number < bound →
     slice_get keys number ≡ Some key → ⊥
-first_of_key keys bound key latest l none number lt has = grind (arith, nat_tests)
+first_of_key keys bound key latest l none number lt has = grind arith
 
 unlinked_differ : (links : List Link) → LeadOn links → list_all (λ (l : Link). is_none l.earlier) links ≡ true →
     AllPairs (λ x y. x ≢ y) (link_keys links)
@@ -203,8 +181,7 @@ unlinked_differ links lead all i j d lt below same =
     let long = length-map links (λ (l : Link). l.key) in
     let link = get_or links j (record { key = d; earlier = None }) in
     let has = slice_get-get_or links j (record { key = d; earlier = None }) (omega (arith, below, long)) in
-    let own : get_or (link_keys links) j d ≡ link.key = get_or-map (λ (l : Link). l.key) links j (record { key = d; earlier = None }) d
-    (omega (arith, below, long)) in
+    let own : get_or (link_keys links) j d ≡ link.key = grind (arith, get_or-map) in
     let unlinked = alone link.earlier (AllPass-from_list_all (λ (l : Link). is_none l.earlier) links all j (record { key = d; earlier = None })
     (omega (arith, below, long))) in
     first_of_key (link_keys links) j link.key link.earlier (lead j link has) unlinked i lt
@@ -212,16 +189,11 @@ unlinked_differ links lead all i j d lt below same =
 
 linked_same : (keys : List ℕ) (bound key : ℕ) (latest : Option ℕ) → MatchOption latest ⊤ (λ n. (n < bound) × (slice_get keys n ≡ Some key)) →
     AllPairs (λ x y. x ≢ y) keys → slice_get keys bound ≡ Some key → is_none latest ≡ true
-linked_same keys bound key None has differ is = refl
-linked_same keys bound key (Some n) has differ is =
-    absurd (differ n bound key has.0 (slice_get_within keys bound key is)
-    (get_or_from_slice_get keys n key key has.1 ∙ sym (get_or_from_slice_get keys bound key key is)))
+linked_same keys bound key latest has differ is = grind (arith, slice_get_within, get_or_from_slice_get)
 
 one_unlinked : (links : List Link) (link : Link) (number : ℕ) → LeadOn links → AllPairs (λ x y. x ≢ y) (link_keys links) →
     slice_get links number ≡ Some link → is_none link.earlier ≡ true
-one_unlinked links link number lead differ is =
-    linked_same (link_keys links) number link.key link.earlier (lead number link is).has differ
-    (slice_get-map (λ (l : Link). l.key) links number ∙ ap option_key is)
+one_unlinked links link number lead differ is = grind (arith, linked_same, slice_get-map, lead number link is)
 
 pub unlinked_distinct : (links : List Link) → LeadOn links →
     IsTrue (list_all (λ (l : Link). is_none l.earlier) links) ↔ IsDistinct nat_eq (link_keys links)

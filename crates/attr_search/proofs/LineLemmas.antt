@@ -1,7 +1,5 @@
 -- The lines of a list, of which a search goes through the candidates alone.
-use Rattle.std.proofs.lemmas.Bool.Decides.{nat_tests}
-use Rattle.std.proofs.Common.{◌≡◌, ℕ, ◌+◌, ◌<◌, ◌≤◌, Bool, true, false, ◌&&◌, List, [], ◌∷◌, length, get_or, Option, Some, None}
-use Rattle.std.proofs.Common.{refl, sym, map, arith, inl}
+use Rattle.std.proofs.Common.{◌≡◌, ℕ, ◌+◌, ◌<◌, ◌≤◌, Bool, true, false, List, [], ◌∷◌, length, get_or, Option, Some, None, refl, sym, map, arith, inl}
 use Rattle.std.specs.Prelude.{is_none, option_map, string_bytes}
 use Rattle.std.specs.List.{list_any}
 use Rattle.std.proofs.lemmas.Bool.{or_parts}
@@ -62,20 +60,16 @@ line_defines rest list index m state lt is defines =
     let e = entry_is list.list.patterns.items index m lt is in
     not_given rest (listed_view list) index state.tested state (rw (e, defines) refl) (omega arith) (omega arith)
 
-no_both : (a b : Bool) → b ≡ false → a && b ≡ false
-no_both true b e = e
-no_both false b e = refl
-
 pub line_differs : (rest : PathQuery) (listed : Listed) (index tested : ℕ) (state : SearchContents) (answer : Bool) →
     answer ≡ path_matches rest.case (entry_at listed.lines index).pattern (bstr_bytes rest.path) rest.is_dir → answer ≡ false →
     state.tested ≤ tested → tested ≤ state.tested + 1 → SearchedLine rest listed index state (record state { tested = tested })
-line_differs rest listed index tested state answer told other le most = grind (arith, nat_tests, not_given, no_both)
+line_differs rest listed index tested state answer told other le most = grind (arith, not_given)
 
 -- a line without a free item
 none_free : (slots : Slots) (items : List TrackedAssignment) → list_any (λ i. is_none (slots i.id.0)) items ≡ false →
     free_items slots (table_items items) ≡ []
 none_free slots [] e = refl
-none_free slots (i ∷ items) e = grind (arith, nat_tests, or_parts, none_free slots items)
+none_free slots (i ∷ items) e = grind (arith, or_parts, none_free slots items)
 
 pub line_filled : (rest : PathQuery) (list : IndexedList) (index : ℕ) (m : Mapping Value) (items : List TrackedAssignment) (state : SearchContents) →
     index < length list.list.patterns.items → m ≡ get_or list.list.patterns.items index m → items ≡ items_in m.value →
@@ -100,7 +94,7 @@ pub line_matched : (rest : PathQuery) (list : IndexedList) (index : ℕ) (m : Ma
     before.taken taken →
     Searches (state_bodies before) (state_wanted before) (listed_tasks rest (listed_view list) index) (state_slots before) after
     before.taken taken
-line_matched rest list index m items before after taken answer origin lt is given plain told same there p = grind (arith, nat_tests, entry_is)
+line_matched rest list index m items before after taken answer origin lt is given plain told same there p = grind (arith, entry_is)
 
 -- a line of an index is where that of its list is
 numbered_origin : Option (List ℕ) → NumberedPattern → Origin
@@ -120,13 +114,13 @@ listed_origins source ms =
 pub origin_is : (known : Index) (source : Option (List ℕ)) (ms : List (Mapping Value)) (index : ℕ) (m : Mapping Value) →
     indexed_lines known.lines.items ≡ listed_lines ms → option_map string_bytes known.source ≡ source → index < length ms → m ≡ get_or ms index m →
     index_origin known index ≡ origin_of source m
-origin_is known source ms index m lines e lt is = grind (arith, nat_tests, indexed_origins, numbered_origin, listed_origins, get_or-map)
+origin_is known source ms index m lines e lt is = grind (arith, indexed_origins, numbered_origin, listed_origins, get_or-map)
 
 -- what is known of the line at an index
 pub slots_at : (n : ℕ) (ms : List (Mapping Value)) (index : ℕ) (m : Mapping Value) (items : List TrackedAssignment) →
     index < length ms → m ≡ get_or ms index m → items ≡ items_in m.value → LinesHaveSlots n (entries_view ms) → HaveSlots n items
-slots_at n ms index m items lt is given all = grind (arith, nat_tests, length-map, entry_is)
+slots_at n ms index m items lt is given all = grind (arith, length-map, entry_is)
 
 pub named_at : (names : List (List ℕ)) (ms : List (Mapping Value)) (index : ℕ) (m : Mapping Value) (items : List TrackedAssignment) →
     index < length ms → m ≡ get_or ms index m → items ≡ items_in m.value → LinesAreNamed names (entries_view ms) → AreNamed names items
-named_at names ms index m items lt is given all = grind (arith, nat_tests, length-map, entry_is)
+named_at names ms index m items lt is given all = grind (arith, length-map, entry_is)

@@ -1,13 +1,12 @@
 -- Slots that are open: needed, and without an answer.
-use Rattle.std.proofs.lemmas.Bool.Decides.{nat_tests}
-use Rattle.std.proofs.Common.{◌≡◌, ℕ, zero, suc, ◌<◌, ◌≤◌, Bool, true, false, ◌&&◌, List, [], ◌∷◌, length, get_or, set, map, take, replicate}
-use Rattle.std.proofs.Common.{nat_eq, ◌++◌, ◌-◌, ◌+◌, Option, Some, None, is_some, is_none, refl, sym, ap, ◌∙◌, ⊎_elim, arith}
+use Rattle.std.proofs.Common.{◌≡◌, ℕ, suc, ◌<◌, Bool, true, false, ◌&&◌, List, ◌∷◌, length, get_or, set, map, take, replicate}
+use Rattle.std.proofs.Common.{nat_eq, ◌++◌, ◌-◌, ◌+◌, Option, Some, None, is_some, is_none, sym, ap, ◌∙◌, arith}
 use Rattle.std.specs.Prelude.{if◌then◌else◌}
 use Rattle.std.proofs.lemmas.Bool.{cases_eq, cases_lt}
 use Rattle.std.proofs.lemmas.List.Elements.{All-weaker}
 use Rattle.std.proofs.Math.Bool.{and-false, and-true}
 use Rattle.std.proofs.Math.ListN.{get_or-append}
-use Rattle.std.proofs.lemmas.List.{ext_get_or, get_or_past, get_or-append_right, get_or_at, get_or-set_other, get_or-set_same}
+use Rattle.std.proofs.lemmas.List.{ext_get_or, get_or_past, get_or-append_right, get_or-set_other, get_or-set_same}
 use Rattle.std.proofs.lemmas.List.{get_or-take, length-append, length-replicate, length-set, length-take}
 use Rattle.attr_table.specs.Cut.{is_done}
 use Rattle.attr_table.specs.Skipped.{narrowed, skipped_answer}
@@ -22,43 +21,35 @@ use Rattle.attr_search.proofs.SlotLemmas.{left_done, none_at, seen_filled}
 
 -- a number whose flag is set is needed
 pub flag_needed : (flags : List Bool) (a : ℕ) → get_or flags a false ≡ true → is_needed flags a ≡ true
-flag_needed [] a e = absurd cc
-flag_needed (b ∷ flags) zero e = e
 flag_needed (b ∷ flags) (suc a) e = flag_needed flags a e
+flag_needed flags a e = grind arith
 
 -- a slot that is not filled where others are skipped is needed, and is not filled
 pub open_needed : (needed : ℕ → Bool) (slots : Slots) (a : ℕ) → is_some (narrowed needed slots a) ≡ false → needed a ≡ true
-open_needed needed slots a free = grind (arith, nat_tests)
+open_needed needed slots a free = grind arith
 
 pub narrowed_needed : (needed : ℕ → Bool) (slots : Slots) (a : ℕ) → needed a ≡ true → narrowed needed slots a ≡ slots a
 narrowed_needed needed slots a own = ap (λ b. if b then slots a else Some skipped_answer) own
 
 pub open_free : (needed : ℕ → Bool) (slots : Slots) (a : ℕ) → is_some (narrowed needed slots a) ≡ false → is_some (slots a) ≡ false
-open_free needed slots a free = grind (arith, nat_tests, narrowed_needed, open_needed)
-
--- a slot is filled, and open no more, or emptied, and open if it is needed
-open_set : {X : Type 0} (needed : List Bool) (slots : List (Option X)) (is_open : List Bool) (i : ℕ) (o : Option X) (b : Bool) → i < length slots →
-    (get_or needed i false && is_none o) ≡ b → AreOpen needed slots is_open → AreOpen needed (set slots i o) (set is_open i b)
-open_set needed slots is_open i o b lt told sound = grind (arith, nat_tests, length-set, get_or-set_same, get_or-set_other, cases_eq)
+open_free needed slots a free = grind (arith, narrowed_needed, open_needed)
 
 pub open_filled : {X : Type 0} (needed : List Bool) (slots : List (Option X)) (is_open : List Bool) (i : ℕ) (x : X) → i < length slots →
     AreOpen needed slots is_open → AreOpen needed (set slots i (Some x)) (set is_open i false)
-open_filled needed slots is_open i x lt sound = open_set needed slots is_open i (Some x) false lt (and-false (get_or needed i false)) sound
+open_filled needed slots is_open i x lt sound = grind (arith, length-set, get_or-set_same, get_or-set_other, cases_eq, and-false)
 
 pub open_emptied : {X : Type 0} (needed : List Bool) (slots : List (Option X)) (is_open : List Bool) (i : ℕ) → i < length slots →
     get_or needed i false ≡ true → AreOpen needed slots is_open → AreOpen needed (set slots i None) (set is_open i true)
-open_emptied needed slots is_open i lt own sound = open_set needed slots is_open i None true lt (ap (λ b. b && true) own) sound
+open_emptied needed slots is_open i lt own sound = grind (arith, length-set, get_or-set_same, get_or-set_other, cases_eq)
 
 -- if no slot is filled, those that are needed are open
 pub all_open : {X : Type 0} (needed : List Bool) (slots : List (Option X)) (is_open : List Bool) → length needed ≡ length slots →
     ((a : ℕ) → get_or slots a None ≡ None) → AreOpen needed slots is_open → is_open ≡ needed
-all_open needed slots is_open same none sound =
-    ext_get_or false is_open needed (sound.0 ∙ sym same)
-    (λ a lt. sound.1 a ∙ ap (λ o. get_or needed a false && is_none o) (none a) ∙ and-true (get_or needed a false))
+all_open needed slots is_open same none sound = grind (arith, ext_get_or false is_open needed (sound.0 ∙ sym same), and-true)
 
 pub open_all : {X Y : Type 0} (needed is_open : List Bool) (slots : List (Option X)) (ys : List Y) → is_open ≡ needed →
     length needed ≡ length slots → slots ≡ map (λ y. None) ys → AreOpen needed slots is_open
-open_all {X} needed is_open slots ys is same none = grind (arith, nat_tests, none_at, and-true)
+open_all {X} needed is_open slots ys is same none = grind (arith, none_at, and-true)
 
 -- nothing is left where each wanted slot is filled, since what is wanted is needed
 pub is_done_left : (flags needed : List Bool) (store : PartsContent) (slots : List (Option MatchRef)) (left : ℕ) →
@@ -71,52 +62,28 @@ is_done_left flags needed store slots left same among counted =
     ∙ seen_filled store slots a)
 
 same_everywhere : {X : Type 0} (x : X) (n k : ℕ) → get_or (replicate n x) k x ≡ x
-same_everywhere x zero k = refl
-same_everywhere x (suc n) zero = refl
 same_everywhere x (suc n) (suc k) = same_everywhere x n k
-
--- a list to which the default was appended reads as before
-appended : {X : Type 0} (xs : List X) (x : X) (n a : ℕ) → get_or (xs ++ replicate n x) a x ≡ get_or xs a x
-appended xs x n a = grind (arith, nat_tests, get_or-append, get_or-append_right, same_everywhere, get_or_past, cases_lt)
+same_everywhere x n k = grind arith
 
 -- slots that were appended are free, and not open
 pub open_grown : {X : Type 0} (needed : List Bool) (slots : List (Option X)) (is_open : List Bool) (n : ℕ) →
     AreOpen needed slots is_open →
     AreOpen (needed ++ replicate n false) (slots ++ replicate n None) (is_open ++ replicate n false)
-open_grown {X} needed slots is_open n sound = grind (arith, nat_tests, length-append, length-replicate, appended)
+open_grown {X} needed slots is_open n sound =
+    grind (arith, length-append, length-replicate, get_or-append, get_or-append_right, same_everywhere, get_or_past, cases_lt)
 
 -- numbers stay needed where more are appended
 pub needed_grown : (needed : List Bool) (numbers : List ℕ) (n : ℕ) → AllAreNeeded needed numbers → AllAreNeeded (needed ++ replicate n false) numbers
-needed_grown needed numbers n all = grind (arith, nat_tests, All-weaker, appended)
-
--- and in flags of which these are among
-pub needed_among : (needed others : List Bool) (numbers : List ℕ) → AreFlagsAmong needed others → AllAreNeeded needed numbers →
-    AllAreNeeded others numbers
-needed_among needed others numbers among all = grind (arith, nat_tests, All-weaker)
+needed_grown needed numbers n all = grind (arith, All-weaker, get_or-append, get_or-append_right, same_everywhere, get_or_past, cases_lt)
 
 -- the flags of the first slots, one by one
 pub record AreOpenUpTo {X : Type 0} (needed : List Bool) (slots : List (Option X)) (is_open : List Bool) (number : ℕ) : Type 0 where
   pub count : length is_open ≡ number
   pub at : (a : ℕ) → a < number → get_or is_open a false ≡ (get_or needed a false && is_none (get_or slots a None))
 
-pub open_pushed : {X : Type 0} (needed : List Bool) (slots : List (Option X)) (is_open : List Bool) (number : ℕ) (b : Bool) →
-    b ≡ (get_or needed number false && is_none (get_or slots number None)) → AreOpenUpTo needed slots is_open number →
-    AreOpenUpTo needed slots (is_open ++ b ∷ []) (number + 1)
-open_pushed needed slots is_open number b told so_far = record {
-  count = length-append is_open (b ∷ []) ∙ ap (λ k. k + 1) so_far.count;
-  at = λ a lt.
-      ⊎_elim
-      (λ (less : a < number). get_or-append is_open (b ∷ []) false a (omega (arith, less, so_far.count)) ∙ so_far.at a less)
-      (λ (le : number ≤ a).
-      let same : a ≡ number = omega (arith, le, lt) in
-      get_or_at is_open b [] false a (so_far.count ∙ sym same)
-      ∙ told ∙ sym (ap (λ k. get_or needed k false && is_none (get_or slots k None)) same))
-      (cases_lt a number);
-}
-
 pub open_whole : {X : Type 0} (needed : List Bool) (slots : List (Option X)) (is_open : List Bool) (number : ℕ) →
     length needed ≡ length slots → number ≡ length slots → AreOpenUpTo needed slots is_open number → AreOpen needed slots is_open
-open_whole needed slots is_open number same end all = grind (arith, nat_tests, get_or_past, cases_lt)
+open_whole needed slots is_open number same end all = grind (arith, get_or_past, cases_lt)
 
 -- after all slots were emptied the flags are those that are needed, and of slots that were appended none is set
 pub flags_cut : {X : Type 0} (needed : List Bool) (slots grown : List (Option X)) (is_open opened emptied cut : List Bool) (numbers : List ℕ)
@@ -134,10 +101,7 @@ flags_cut {X} needed slots grown is_open opened emptied cut numbers count same s
     flags = needed ++ replicate n false
 
     long : length flags ≡ length grown
-    long =
-        length-append needed (replicate n false) ∙ ap (λ k. k + length (replicate n false)) same
-        ∙ ap (λ k. length slots + k) (length-replicate n false ∙ sym (let none : Option X = None in length-replicate n none))
-        ∙ sym (length-append slots (replicate n None)) ∙ sym (ap length grows)
+    long = grind (arith, length-append, length-replicate)
 
     own : AreOpen flags grown opened
     own =
@@ -145,16 +109,14 @@ flags_cut {X} needed slots grown is_open opened emptied cut numbers count same s
 
 pub length_cut : (needed : List Bool) (slots : ℕ) (cut : List Bool) (count : ℕ) → length needed ≡ slots →
     cut ≡ take count (needed ++ replicate (count - slots) false) → length cut ≡ count
-length_cut needed slots cut count same is = grind (arith, nat_tests, length-take, count, length-append, length-replicate)
+length_cut needed slots cut count same is = grind (arith, length-take, count, length-append, length-replicate)
 
 pub flag_cut : (needed : List Bool) (n : ℕ) (cut : List Bool) (count number : ℕ) → cut ≡ take count (needed ++ replicate n false) →
     number < count → get_or cut number false ≡ get_or needed number false
-flag_cut needed n cut count number is lt = grind (arith, nat_tests, get_or-take, count, appended)
+flag_cut needed n cut count number is lt =
+    grind (arith, get_or-take, count, get_or-append, get_or-append_right, same_everywhere, get_or_past, cases_lt)
 
 -- any flags are among as many that are all set
 pub all_among : (flags : List Bool) (n : ℕ) → length flags ≡ n → AreFlagsAmong flags (replicate n true)
-all_among [] zero same number e = e
-all_among [] (suc n) same number e = absurd (omega arith)
-all_among (b ∷ flags) zero same number e = absurd (omega arith)
-all_among (b ∷ flags) (suc n) same zero e = refl
 all_among (b ∷ flags) (suc n) same (suc number) e = all_among flags n (omega arith) number e
+all_among flags n same number e = grind arith

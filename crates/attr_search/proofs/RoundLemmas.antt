@@ -1,5 +1,4 @@
 -- Lines that a search goes through one by one.
-use Rattle.std.proofs.lemmas.Bool.Decides.{nat_tests}
 use Rattle.std.proofs.Common.{◌≡◌, ℕ, suc, ◌-◌, ◌<◌, inl, Bool, true, false, List, [], ◌∷◌, ◌++◌, length, reverse, map, get_or}
 use Rattle.std.proofs.Common.{Some, None, refl, ap, subst, ◌∙◌, arith}
 use Rattle.std.specs.List.{flat_map}
@@ -58,11 +57,11 @@ rounds_joined bodies wanted (round {tasks = tasks} {lines = lines} {before = fir
 
 list_joined : (lines : List Line) → flat_map (λ tasks. tasks) (list_rounds lines) ≡ list_tasks lines
 list_joined [] = refl
-list_joined (line ∷ lines) = grind (arith, nat_tests, flat_map-append, append-nil, list_joined lines)
+list_joined (line ∷ lines) = grind (arith, flat_map-append, append-nil, list_joined lines)
 
 lists_joined : (lists : List (List Line)) → flat_map (λ tasks. tasks) (rounds_of lists) ≡ tasks_of lists
 lists_joined [] = refl
-lists_joined (lines ∷ lists) = grind (arith, nat_tests, flat_map-append, list_joined, lists_joined lists)
+lists_joined (lines ∷ lists) = grind (arith, flat_map-append, list_joined, lists_joined lists)
 
 pub rounds_walked : (bodies : List (List Item)) (wanted : List ℕ) (lists : List (List Line)) {first second : SearchContents} →
     Rounds bodies wanted (rounds_of lists) first second →
@@ -126,12 +125,11 @@ list_round bodies wanted query path list found before after below are p =
     let source = (listed_view list).source in
     let f : Entry → List Task = entry_tasks query.case query.is_dir source path in
     let test : Entry → Bool = λ entry. are.test entry.pattern in
-    let turned : found ≡ indexes_where test (reverse all) =
-    are.tried ∙ (ap (λ rs. indexes_where are.test (reverse rs)) (lines_patterns list.list.patterns.items) ∙ tried_turned are.test all) in
-    let q = rounds_passed bodies wanted f test all (reverse all) no_entry
-    (λ k lt. turned_at all k no_entry lt)
+    let turned : found ≡ indexes_where test (reverse all) = are.tried
+    ∙ (ap (λ rs. indexes_where are.test (reverse rs)) (lines_patterns list.list.patterns.items) ∙ tried_turned are.test all) in
+    let q = rounds_passed bodies wanted f test all (reverse all) no_entry (λ k lt. turned_at all k no_entry lt)
     (λ k lt out. passed_entry query.case query.is_dir source path are.test are.matching all list.read k lt out) (rw turned at p) in
-    rw (← below, list_turned (line_of query.case query.is_dir source (Some path)) all) q
+    grind (arith, list_turned)
 
 -- a list that does not apply
 pub list_unasked : (bodies : List (List Item)) (wanted : List ℕ) (query : PathQuery) (listed : Listed) (state : SearchContents) →

@@ -1,7 +1,6 @@
 -- Parts of a search, one after another.
-use Rattle.std.proofs.lemmas.Bool.Decides.{nat_tests}
 use Rattle.std.proofs.Common.{◌≡◌, ℕ, ◌+◌, ◌<◌, ◌≤◌, ◌⊎◌, false, true, List, [], ◌∷◌, ◌++◌, length, map, get_or, take, drop, Some, None}
-use Rattle.std.proofs.Common.{refl, sym, ap, arith, subst, ◌∙◌, zero, suc, inl, inr, Option, length-append}
+use Rattle.std.proofs.Common.{refl, sym, arith, subst, zero, suc, Option, length-append}
 use Rattle.std.specs.Prelude.{slice_get}
 use Rattle.std.specs.List.{list_all}
 use Rattle.std.specs.List.Sorted.{IsNonDecreasing}
@@ -23,12 +22,10 @@ use Rattle.attr_search.specs.SearchContents.{SearchContents}
 use Rattle.attr_search.specs.Settings.{LinesAreNamed, candidates_in}
 use Rattle.attr_search.specs.shared.Slotted.{LinesHaveSlots, ListsHaveSlots}
 use Rattle.attr_search.specs.inner.FoundLists.{AreListsFor}
-use Rattle.attr_search.specs.inner.Lines.{listed_tasks}
 use Rattle.attr_search.specs.inner.Searched.{KeepsState, Rounds, Searched, SearchedLine, SearchedLines, SearchedList, SearchedLists}
 use Rattle.attr_search.specs.inner.Searched.{over, state_bodies, state_slots, state_wanted}
 use Rattle.attr_search.specs.inner.Trying.{AreTried}
 use Rattle.attr_search.proofs.CandidateLemmas.{tried_most}
-use Rattle.attr_search.proofs.KeyedLemmas.{below_or}
 use Rattle.attr_search.proofs.RoundLemmas.{list_round, list_unasked, rounds_append, rounds_done}
 use Rattle.attr_search.proofs.TryingLemmas.{idle_tried}
 
@@ -37,7 +34,7 @@ pub state_kept : (state : SearchContents) → KeepsState state state
 state_kept state = record { wanted = refl; needed = refl; bodies = refl; len = refl; skipped = λ a skip. refl }
 
 pub then_kept : (first second third : SearchContents) → KeepsState first second → KeepsState second third → KeepsState first third
-then_kept first second third p q = grind (arith, nat_tests)
+then_kept first second third p q = grind arith
 
 -- nothing, anything once the search is done, and one part after another
 pub nothing_searched : {Named : List (List ℕ) → Type 0} (most : ℕ) (state : SearchContents) → Searched Named most [] state state
@@ -45,31 +42,23 @@ nothing_searched most state = record { named = λ names items bodies held. held;
 
 pub done_searched : {Named : List (List ℕ) → Type 0} {most : ℕ} {lines : List (List Task)} (state : SearchContents) →
     is_done (state_wanted state) (state_slots state) ≡ true → Searched Named most lines state state
-done_searched {lines = lines} state done = grind (arith, nat_tests, rounds_done)
+done_searched {lines = lines} state done = grind (arith, rounds_done)
 
 rounds_from : {lines : List (List Task)} (first second third : SearchContents) → KeepsState first second →
     Rounds (state_bodies second) (state_wanted second) lines second third → Rounds (state_bodies first) (state_wanted first) lines second third
-rounds_from {lines} first second third kept p = grind (arith, nat_tests)
-
-pub then_searched : {Named : List (List ℕ) → Type 0} {most more : ℕ} {xs ys : List (List Task)} {first second third : SearchContents} →
-    KeepsState first second → Searched Named most xs first second → Searched Named more ys second third →
-    Searched Named (most + more) (xs ++ ys) first third
-then_searched {first = first} {second = second} {third = third} kept p q = grind (arith, nat_tests, rounds_append, rounds_from)
+rounds_from {lines} first second third kept p = grind arith
 
 -- lines at indexes: one more, and all if the search is done
 indexes_append : (rest : PathQuery) (listed : Listed) (xs ys : List ℕ) (first second third : SearchContents) → KeepsState first second →
     SearchedLines rest listed xs first second → SearchedLines rest listed ys second third → SearchedLines rest listed (xs ++ ys) first third
-indexes_append rest listed xs ys first second third kept p q =
-    rw (length-append xs ys, map-append (listed_tasks rest listed) xs ys) (then_searched kept p q)
+indexes_append rest listed xs ys first second third kept p q = grind (arith, length-append, map-append, rounds_append, rounds_from)
 
 pub more_indexes : (rest : PathQuery) (listed : Listed) (indexes : List ℕ) (k index : ℕ) (first second third : SearchContents) →
     KeepsState first second → k < length indexes → index ≡ get_or indexes k index →
     SearchedLines rest listed (take k indexes) first second → SearchedLine rest listed index second third →
     SearchedLines rest listed (take (k + 1) indexes) first third
 more_indexes rest listed indexes k index first second third kept lt is p q =
-    let more : take (k + 1) indexes ≡ take k indexes ++ index ∷ [] =
-    take_more indexes k index lt ∙ ap (λ i. take k indexes ++ i ∷ []) (sym is) in
-    rw more (indexes_append rest listed (take k indexes) (index ∷ []) first second third kept p q)
+    grind (arith, take_more indexes k index lt, indexes_append rest listed (take k indexes) (index ∷ []) first second third kept p q)
 
 pub indexes_done : (rest : PathQuery) (listed : Listed) (indexes : List ℕ) (k : ℕ) (first second : SearchContents) →
     KeepsState first second → is_done (state_wanted second) (state_slots second) ≡ true →
@@ -81,7 +70,7 @@ indexes_done rest listed indexes k first second kept done p =
 -- a list that does not apply to the path, one whose candidates were searched, and one whose lines define macros
 pub list_apart : (query : PathQuery) (listed : Listed) (state : SearchContents) →
     None ≡ rest_below listed.base query.case (bstr_bytes query.path) → SearchedList query listed state state
-list_apart query listed state none = grind (arith, nat_tests, list_unasked)
+list_apart query listed state none = grind (arith, list_unasked)
 
 pub list_by_candidates : (query rest : PathQuery) (list : IndexedList) (found : List ℕ) (before after : SearchContents) →
     Some (bstr_bytes rest.path) ≡ rest_below (listed_view list).base query.case (bstr_bytes query.path) →
@@ -145,8 +134,7 @@ ApartBetween query lists low high =
 
 passed_over : (query : PathQuery) (list : IndexedList) (state : SearchContents) → IsApart query list →
     SearchedList query (listed_view list) state state
-passed_over query list state (inl idle) = list_idle query list state (sym list.idle ∙ idle)
-passed_over query list state (inr apart) = list_apart query (listed_view list) state apart
+passed_over query list state h = grind (arith, list_idle query list state, list_apart query (listed_view list) state)
 
 pub skip_lists : (query : PathQuery) (lists : List IndexedList) (low high : ℕ) (first second : SearchContents) → KeepsState first second →
     low ≤ high → ApartBetween query lists low high → SearchedLists query (lists_view (drop high lists)) first second →
@@ -171,39 +159,30 @@ AreLeft query lists bound k numbers =
     rest_below (listed_view list).base query.case (bstr_bytes query.path) ≡ Some rest →
     (index : ℕ) × (index < k) × (get_or numbers index 0 ≡ number)
 
-none_left : (query : PathQuery) (list : IndexedList) →
-    ((r : List ℕ) → list.is_idle ≡ false → rest_below (listed_view list).base query.case (bstr_bytes query.path) ≡ Some r → ⊥) →
-    IsApart query list
-none_left query list none = grind (arith, nat_tests)
-
 -- those above the greatest number that is left don't apply
 pub apart_above : (query : PathQuery) (lists : List IndexedList) (bound k : ℕ) (numbers : List ℕ) → k < length numbers →
     IsNonDecreasing numbers → AreLeft query lists bound (k + 1) numbers →
     ApartBetween query lists (get_or numbers k 0 + 1) bound
-apart_above query lists bound k numbers lt rising left = grind (arith, nat_tests, none_left)
-
-below_top : (numbers : List ℕ) (index k number : ℕ) → index < k + 1 → get_or numbers index 0 ≡ number → (index ≡ k → ⊥) → index < k
-below_top numbers index k number lt is other = grind (arith, nat_tests, below_or)
+apart_above query lists bound k numbers lt rising left = grind arith
 
 -- fewer are left after the greatest
 pub left_less : (query : PathQuery) (lists : List IndexedList) (bound less k : ℕ) (numbers : List ℕ) → less ≤ bound →
     less ≤ get_or numbers k 0 → AreLeft query lists bound (k + 1) numbers → AreLeft query lists less k numbers
-left_less query lists bound less k numbers le most left = grind (arith, nat_tests, below_top)
+left_less query lists bound less k numbers le most left = grind arith
 
 -- at the end none is left
 pub apart_below : (query : PathQuery) (lists : List IndexedList) (bound k : ℕ) (numbers : List ℕ) → k ≤ 0 →
     AreLeft query lists bound k numbers → ApartBetween query lists 0 bound
-apart_below query lists bound k numbers no_more left = grind (arith, nat_tests, none_left)
+apart_below query lists bound k numbers no_more left = grind arith
 
 -- at the beginning all are
 get_at : (numbers : List ℕ) (index number : ℕ) → index < length numbers → get_or numbers index number ≡ number → get_or numbers index 0 ≡ number
-get_at [] index number lt is = absurd (omega (arith, lt))
-get_at (n ∷ numbers) zero number lt is = is
 get_at (n ∷ numbers) (suc index) number lt is = get_at numbers index number (omega (arith, lt)) is
+get_at numbers index number lt is = grind arith
 
 pub all_left : (query : PathQuery) (lists : List IndexedList) (bound : ℕ) (numbers : List ℕ) →
     AreListsFor query.case (bstr_bytes query.path) lists numbers → AreLeft query lists bound (length numbers) numbers
-all_left query lists bound numbers are = grind (arith, nat_tests, get_at)
+all_left query lists bound numbers are = grind (arith, get_at)
 
 -- what is known of the list at an index
 pub list_slots : (n m : ℕ) (lists : List IndexedList) (k : ℕ) (s : IndexedList) → m ≡ n → k < length lists → s ≡ get_or lists k s →

@@ -1,13 +1,12 @@
 -- What is left to fill, and slots over what is stored.
-use Rattle.std.proofs.Common.{◌≡◌, ◌==◌, ℕ, zero, suc, ◌+◌, ◌-◌, ◌<◌, ◌≤◌, Bool, true, false, ◌&&◌, ◌||◌, cond, nat_eq, List, [], ◌∷◌, ◌++◌, length}
-use Rattle.std.proofs.Common.{get_or, set, take, map, Option, Some, None, is_some, option_map, MatchOption, refl, sym, ap, ◌∙◌, arith, Result, Ok}
-use Rattle.std.proofs.Common.{Err, zero-add, length-take, slice_get, drop, replicate, length-append}
+use Rattle.std.proofs.Common.{◌≡◌, ℕ, suc, ◌+◌, ◌-◌, ◌<◌, ◌≤◌, Bool, true, false, ◌&&◌, ◌||◌, cond, nat_eq, List, [], ◌∷◌, ◌++◌, length}
+use Rattle.std.proofs.Common.{get_or, set, take, map, Option, Some, None, is_some, option_map, MatchOption, refl, sym, ap, ◌∙◌, arith, Result}
+use Rattle.std.proofs.Common.{zero-add, length-take, slice_get, drop, replicate, length-append}
 use Rattle.std.specs.Bool.{⊤}
 use Rattle.std.specs.List.{list_all, list_any}
 use Rattle.std.proofs.Math.Seq.{get_or-append_seam}
 use Rattle.std.specs.Result.{OnErr, OnOk}
 use mir.Val.{bool_byte}
-use Rattle.std.proofs.lemmas.Bool.Decides.{nat_tests}
 use Rattle.std.proofs.lemmas.List.{drop_all, drop_more, get_or-set_other, get_or-set_same, get_or-take, length-map, length-replicate, length-set}
 use Rattle.std.proofs.lemmas.List.{ext_get_or, get_or_default, take_more, map-set}
 use Rattle.std.proofs.lemmas.List.Elements.{All-set, All-weaker, All-head, All-tail, All-same, All-map, All-nil, All-push}
@@ -15,46 +14,35 @@ use Rattle.std.proofs.lemmas.List.Folds.{list_all-map, list_any-append}
 use mathlib.Core.List.{map-map}
 use Rattle.attr_table.specs.Setting.{Origin}
 use Rattle.attr_search.specs.shared.SlotContents.{AreListed, count_remaining, remaining_at, wanted_numbers}
-use Rattle.std.specs.Prelude.{not, slice_index_or}
-use Rattle.attr_search.specs.Matches.{cause_of, is_macro_kind}
+use Rattle.attr_search.specs.Matches.{cause_of}
 use Rattle.attr_search.specs.inner.AnswerRefs.{HasAssignment, KeepsAnswer, RefersTo, IsMatchRef, AreMatchRefs, assignment_at, line_by_ref}
 use Rattle.attr_search.specs.inner.AnswerRefs.{match_by_ref, matches_by_ref}
-use Rattle.attr_search.specs.Slots.{Matched, filled_in, slots_of, table_answer}
+use Rattle.attr_search.specs.Slots.{Matched, filled_in, slots_of}
 use Rattle.attr_search.specs.inner.PartsContents.{PartsContent, KeepsOneMore, KeepsParts}
 use Rattle.attr_lists.specs.declared.types.TrackedAssignment.{TrackedAssignment}
 use Rattle.attr_text.specs.declared.assignment.Assignment.{Assignment}
 use Rattle.attr_lists.specs.declared.types.MatchKind.{MatchKind}
 use Rattle.attr_search.specs.declared.matching_line.MatchingLine.{MatchingLine}
 use Rattle.attr_search.specs.declared.pending_item.PendingItem.{PendingItem}
-use Rattle.attr_search.specs.inner.Pending.{item_answer, item_match, items_beside, line_origin, no_item, pending_item}
-use Rattle.attr_search.specs.shared.Slotted.{no_origin}
+use Rattle.attr_search.specs.inner.Pending.{items_beside, line_origin, no_item, pending_item}
 use Rattle.attr_search.specs.declared.answer_parts.MatchRef.{MatchRef}
 use Rattle.std.proofs.lemmas.Option.{get_or_from_slice_get, slice_get_within}
 use Rattle.attr_search.proofs.PartLemmas.{grows_at, grows_length}
 
 -- a fact that holds anyway holds on a value, and on an error
 pub on_ok : {T E F : Type 0} (r : Result T E) → F → OnOk r F
-on_ok (Ok x) f = f
-on_ok (Err e) f = tt
+on_ok r f = grind arith
 
 pub on_err : {T E F : Type 0} (r : Result T E) → F → OnErr r F
-on_err (Ok x) f = tt
-on_err (Err e) f = f
+on_err r f = grind arith
 
 pub is_some_map : {X Y : Type 0} (f : X → Y) (o : Option X) → is_some (option_map f o) ≡ is_some o
-is_some_map f None = refl
-is_some_map f (Some x) = refl
-
-more_left : (n : ℕ) → nat_eq (1 + n) 0 ≡ false
-more_left n = grind arith
+is_some_map f o = grind arith
 
 -- nothing is left where each wanted slot is filled
 pub left_done : {X Y : Type 0} (flags : List Bool) (slots : List (Option X)) (found : ℕ → Option Y) → length flags ≡ length slots →
     ((a : ℕ) → get_or flags a false ≡ true → is_some (found a) ≡ is_some (get_or slots a None)) →
     nat_eq (count_remaining flags slots) 0 ≡ list_all (λ w. is_some (found w)) (wanted_numbers flags)
-left_done [] slots found e same = refl
-left_done (w ∷ flags) [] found e same = absurd (omega arith)
-left_done (true ∷ flags) (None ∷ slots) found e same = grind (arith, nat_tests, more_left)
 left_done (true ∷ flags) (Some x ∷ slots) found e same =
     ap (λ n. nat_eq n 0) (zero-add (count_remaining flags slots))
     ∙ left_done flags slots (λ a. found (suc a)) (omega arith) (λ a w. same (suc a) w)
@@ -64,20 +52,20 @@ left_done (false ∷ flags) (o ∷ slots) found e same =
     ap (λ n. nat_eq n 0) (zero-add (count_remaining flags slots))
     ∙ left_done flags slots (λ a. found (suc a)) (omega arith) (λ a w. same (suc a) w)
     ∙ sym (list_all-map (λ v. is_some (found v)) suc (wanted_numbers flags))
+left_done flags slots found e same = grind arith
 
 -- a slot is seen as filled where it is filled
 pub seen_filled : (store : PartsContent) (slots : List (Option MatchRef)) (a : ℕ) → is_some (slots_of (matches_by_ref store slots) a) ≡ is_some
     (get_or slots a None)
-seen_filled store [] a = refl
-seen_filled store (o ∷ slots) zero = is_some_map (table_answer 0) (option_map (match_by_ref store) o) ∙ is_some_map (match_by_ref store) o
-seen_filled store (o ∷ slots) (suc a) = grind (arith, nat_tests, is_some_map, seen_filled store slots a)
+seen_filled store (o ∷ slots) (suc a) = grind (arith, is_some_map, seen_filled store slots a)
+seen_filled store slots a = grind (arith, is_some_map)
 
 count_left_push : {X : Type 0} (flags : List Bool) (slots : List (Option X)) (w : Bool) (o : Option X) → length flags ≡ length slots →
     count_remaining (flags ++ w ∷ []) (slots ++ o ∷ []) ≡ count_remaining flags slots + remaining_at w o
 count_left_push [] [] w o e = omega arith
 count_left_push [] (p ∷ slots) w o e = absurd (omega arith)
 count_left_push (v ∷ flags) [] w o e = absurd (omega arith)
-count_left_push (v ∷ flags) (p ∷ slots) w o e = grind (arith, nat_tests, count_left_push flags slots w o)
+count_left_push (v ∷ flags) (p ∷ slots) w o e = grind (arith, count_left_push flags slots w o)
 
 -- one more slot
 pub count_left_more : {X : Type 0} (flags : List Bool) (slots : List (Option X)) (i : ℕ) → i < length flags → length flags ≡ length slots →
@@ -94,18 +82,13 @@ count_left_more flags slots i lt same =
 pub count_left_set : {X : Type 0} (flags : List Bool) (slots : List (Option X)) (i : ℕ) (x : X) → length flags ≡ length slots → i < length slots →
     is_some (get_or slots i None) ≡ false →
     count_remaining flags (set slots i (Some x)) + cond (get_or flags i false) 1 0 ≡ count_remaining flags slots
-count_left_set flags [] i x e lt free = absurd (omega arith)
-count_left_set [] (o ∷ slots) i x e lt free = absurd (omega arith)
-count_left_set (true ∷ flags) (None ∷ slots) zero x e lt free = omega arith
-count_left_set (false ∷ flags) (None ∷ slots) zero x e lt free = omega arith
-count_left_set (w ∷ flags) (Some y ∷ slots) zero x e lt free = absurd cc
-count_left_set (w ∷ flags) (o ∷ slots) (suc i) x e lt free = grind (arith, nat_tests, count_left_set flags slots i x)
+count_left_set (w ∷ flags) (o ∷ slots) (suc i) x e lt free = grind (arith, count_left_set flags slots i x)
+count_left_set flags slots i x e lt free = grind arith
 
 -- slots that are all empty
 pub none_at : {Y : Type 0} (X : Type 0) (xs : List Y) (a : ℕ) → get_or {A = Option X} (map (λ x. None) xs) a None ≡ None
-none_at X [] a = refl
-none_at X (x ∷ xs) zero = refl
 none_at X (x ∷ xs) (suc a) = none_at X xs a
+none_at X xs a = grind arith
 
 pub all_empty : {X Y : Type 0} (slots : List (Option X)) (old : List Y) → length slots ≡ length old →
     ((k : ℕ) → k < length slots → get_or slots k None ≡ None) → slots ≡ map (λ y. None) old
@@ -113,38 +96,18 @@ all_empty {X} slots old e empty =
     ext_get_or None slots (map (λ y. None) old) (e ∙ sym (length-map {B = Option X} old (λ y. None)))
     (λ k lt. empty k lt ∙ sym (none_at X old k))
 
--- a kept line stays what it is
-pub line_stays : (old new : PartsContent) (l : ℕ) → KeepsParts old new → l < length old.lines →
-    (l < length new.lines) × (line_by_ref new l ≡ line_by_ref old l)
-line_stays old new l extends within = grind (arith, nat_tests, grows_length, grows_at)
-
-assignment_stays : (old new : PartsContent) (cause : Option ℕ) (index : ℕ) → KeepsParts old new → HasAssignment old cause index →
-    HasAssignment new cause index × (assignment_at new cause index ≡ assignment_at old cause index)
-assignment_stays old new None index extends within = grind (arith, nat_tests, grows_length, grows_at)
-assignment_stays old new (Some cause) index extends within = (rw extends.bodies within, rw extends.bodies refl)
-
 -- and a stored match
 pub match_stays : (old new : PartsContent) (m : MatchRef) → KeepsParts old new → IsMatchRef old m → IsMatchRef new m ×
     (match_by_ref new m ≡ match_by_ref old m)
-match_stays old new m extends within =
-    let line = line_stays old new m.line extends within.line in
-    let assignment = assignment_stays old new (cause_of m.kind) m.assignment extends within.assignment in (
-      record { line = line.0; assignment = assignment.0 },
-      cc (line.1, assignment.1),
-    )
+match_stays old new m extends within = grind (arith, grows_length, grows_at)
 
 slot_stays : (old new : PartsContent) (o : Option MatchRef) → KeepsParts old new → MatchOption o ⊤ (IsMatchRef old) →
     MatchOption o ⊤ (IsMatchRef new) × (option_map (match_by_ref new) o ≡ option_map (match_by_ref old) o)
-slot_stays old new None extends within = (tt, refl)
-slot_stays old new (Some m) extends within =
-    let stays = match_stays old new m extends within in
-    (stays.0, ap Some stays.1)
+slot_stays old new o extends within = grind (arith, match_stays old new)
 
 -- and what all slots hold
 pub slots_stay : (old new : PartsContent) (slots : List (Option MatchRef)) → KeepsParts old new → AreMatchRefs old slots → AreMatchRefs new slots
-slots_stay old new slots extends within =
-    All-weaker (λ o. MatchOption o ⊤ (IsMatchRef old)) (λ o. MatchOption o ⊤ (IsMatchRef new)) (λ o w. (slot_stays old new o extends w).0) slots
-    within
+slots_stay old new slots extends within = grind (arith, slot_stays old new)
 
 pub matches_stay : (old new : PartsContent) (slots : List (Option MatchRef)) → KeepsParts old new → AreMatchRefs old slots
     → matches_by_ref new slots ≡
@@ -153,8 +116,7 @@ matches_stay old new [] extends within = refl
 matches_stay old new (o ∷ slots) extends within =
     let P : Option MatchRef → Type 0 = λ o. MatchOption o ⊤ (IsMatchRef old) in
     let first = (slot_stays old new o extends (All-head P o slots within)).1 in
-    let rest = matches_stay old new slots extends (All-tail P o slots within) in
-    cc (first, rest)
+    grind (arith, matches_stay old new slots extends (All-tail P o slots within))
 
 -- one slot is filled in
 pub slots_filled : (old new : PartsContent) (slots : List (Option MatchRef)) (i : ℕ) (m : MatchRef) → KeepsParts old new → AreMatchRefs old slots →
@@ -166,7 +128,7 @@ pub matches_filled : (old new : PartsContent) (slots : List (Option MatchRef)) (
     → AreMatchRefs
     old slots → match_by_ref new m ≡ x →
     matches_by_ref new (set slots i (Some m)) ≡ set (matches_by_ref old slots) i (Some x)
-matches_filled old new slots i m x extends within here = grind (arith, nat_tests, map-set, matches_stay)
+matches_filled old new slots i m x extends within here = grind (arith, map-set, matches_stay)
 
 -- empty slots hold no match
 pub empty_within : {X : Type 0} (store : PartsContent) (slots : List (Option MatchRef)) (xs : List X) → slots ≡ map (λ x. None) xs
@@ -190,43 +152,22 @@ emptied_seen store store' slots slots' held is e =
     empty_seen store' slots' slots e ∙ sym (map-map (λ (m : Option Matched). None) (λ o. option_map (match_by_ref store) o) slots) ∙ ap
     (map (λ o. None)) is
 
-byte_is : (b : Bool) → bool_byte b ≡ cond b 1 0
-byte_is true = refl
-byte_is false = refl
-
 -- one slot less is left where a wanted one is filled
 pub fill_counts : {X : Type 0} (flags : List Bool) (slots : List (Option X)) (i : ℕ) (x : X) (w : Bool) (left taken : ℕ) → length flags ≡ length slots
     → i < length slots → is_some (get_or slots i None) ≡ false →
     left ≡ count_remaining flags slots → w ≡ get_or flags i false → taken ≡ bool_byte w → (taken ≤ left) ×
     (left - taken ≡ count_remaining flags (set slots i (Some x)))
-fill_counts flags slots i x w left taken same lt free counted read byte =
-    let step = count_left_set flags slots i x same lt free in
-    let one : taken ≡ cond (get_or flags i false) 1 0 = byte ∙ byte_is w ∙ ap (λ b. cond b 1 0) read in
-    (omega arith, omega arith)
-
--- the match by an item is the answer by it, if its kind tells whether there is a body
-pub match_made : (line : MatchingLine) (item : TrackedAssignment) (kind : MatchKind) (cause : Option ℕ) (bodies : List (List TrackedAssignment))
-    (body : List TrackedAssignment) (empty : Bool) → body ≡ slice_index_or bodies item.id.0 [] → empty ≡ (length body == 0) →
-    is_macro_kind kind ≡ not empty → cause_of kind ≡ cause → item_match line item kind ≡ item_answer line bodies item cause
-match_made line item kind cause bodies body empty bodied counted told caused = grind (arith, nat_tests)
+fill_counts flags slots i x w left taken same lt free counted read byte = grind (arith, count_left_set flags slots i x same lt free)
 
 -- the line that was kept last is seen as it is
 pub line_seen : (store : PartsContent) (origin : Origin) (l : Option ℕ) → MatchOption l ⊤ (λ s. RefersTo store s origin) →
     MatchOption (option_map (line_by_ref store) l) ⊤ (λ o. o ≡ origin)
-line_seen store origin None h = tt
-line_seen store origin (Some l) h = get_or_from_slice_get store.lines l origin no_origin h
-
--- answers that are seen are as many as the slots that hold them
-remaining_at-seen : (store : PartsContent) (w : Bool) (slot : Option MatchRef) → remaining_at w slot ≡ remaining_at w
-    (option_map (match_by_ref store) slot)
-remaining_at-seen store w None = refl
-remaining_at-seen store w (Some m) = refl
+line_seen store origin l h = grind (arith, get_or_from_slice_get)
 
 pub left_seen : (flags : List Bool) (store : PartsContent) (slots : List (Option MatchRef)) → count_remaining flags slots ≡ count_remaining flags
     (matches_by_ref store slots)
-left_seen [] store slots = refl
-left_seen (w ∷ flags) store [] = refl
-left_seen (w ∷ flags) store (slot ∷ slots) = grind (arith, nat_tests, remaining_at-seen, left_seen flags store slots)
+left_seen (w ∷ flags) store (slot ∷ slots) = grind (arith, left_seen flags store slots)
+left_seen flags store slots = grind arith
 
 -- every slot but those with these numbers is empty
 abbrev pub OthersEmpty : {X : Type 0} → List (Option X) → List ℕ → Type 0
@@ -235,12 +176,12 @@ OthersEmpty slots numbers = (a : ℕ) → list_any (nat_eq a) numbers ≡ false 
 -- a slot is emptied
 pub one_emptied : {X : Type 0} (slots : List (Option X)) (numbers : List ℕ) (i number : ℕ) → i < length numbers → number ≡ get_or numbers i 0 →
     number < length slots → OthersEmpty slots (drop i numbers) → OthersEmpty (set slots number None) (drop (i + 1) numbers)
-one_emptied slots numbers i number lt is below others = grind (arith, nat_tests, get_or-set_same, drop_more, get_or-set_other)
+one_emptied slots numbers i number lt is below others = grind (arith, get_or-set_same, drop_more, get_or-set_other)
 
 -- all are empty, once those with all numbers are
 pub all_emptied : {X Y : Type 0} (slots : List (Option X)) (old : List Y) (numbers : List ℕ) (i : ℕ) → length slots ≡ length old →
     length numbers ≤ i → OthersEmpty slots (drop i numbers) → slots ≡ map (λ y. None) old
-all_emptied slots old numbers i same le others = grind (arith, nat_tests, all_empty, drop_all)
+all_emptied slots old numbers i same le others = grind (arith, all_empty, drop_all)
 
 -- empty slots need no number
 pub empty_listed : {X Y : Type 0} (slots : List (Option X)) (xs : List Y) → slots ≡ map (λ x. None) xs → AreListed slots []
@@ -255,13 +196,12 @@ listed_more slots numbers number below listed = record {
 }
   where
     first : (b c : Bool) → b || c ≡ false → b ≡ false
-    first true c e = e
-    first false c e = refl
+    first b c e = grind arith
 
 -- the slot of a listed number is filled
 pub listed_filled : {X : Type 0} (slots : List (Option X)) (numbers : List ℕ) (number : ℕ) (o : Option X) →
     AreListed slots (numbers ++ number ∷ []) → AreListed (set slots number o) (numbers ++ number ∷ [])
-listed_filled slots numbers number o listed = grind (arith, nat_tests, All-weaker, length-set, get_or-set_other, list_any-append)
+listed_filled slots numbers number o listed = grind (arith, All-weaker, length-set, get_or-set_other, list_any-append)
 
 -- slots that were emptied and cut are as many as flags
 pub empty_cut : (old grown emptied cut : List (Option MatchRef)) (count : ℕ) (flags : List Bool) → count ≡ length flags →
@@ -270,24 +210,17 @@ pub empty_cut : (old grown emptied cut : List (Option MatchRef)) (count : ℕ) (
 empty_cut old grown emptied cut count flags counted grows empty is =
     let many : length emptied ≡ length old + (count - length old) = ap length empty ∙ length-map grown (λ slot. None) ∙ ap length grows
     ∙ length-append old (replicate (count - length old) None) ∙ ap (λ n. length old + n) (length-replicate (count - length old) None) in
-    let same : length cut ≡ length flags = omega (arith, ap length is, length-take count emptied) in
-    all_empty cut flags same
-    (λ k lt. ap (λ l. get_or l k None) is ∙ get_or-take count emptied k None (omega arith) ∙ ap (λ l. get_or l k None) empty
-    ∙ none_at MatchRef grown k)
+    let same : length cut ≡ length flags = omega (arith, ap length is, length-take count emptied) in grind (arith, all_empty, get_or-take, none_at)
 
 -- how many slots are filled
 pub filled_set : {X : Type 0} (slots : List (Option X)) (i : ℕ) (x : X) → i < length slots → is_some (get_or slots i None) ≡ false →
     length (filled_in (set slots i (Some x))) ≡ length (filled_in slots) + 1
-filled_set [] i x lt free = absurd (omega arith)
-filled_set (None ∷ slots) zero x lt free = omega arith
-filled_set (Some y ∷ slots) zero x lt free = absurd cc
-filled_set (None ∷ slots) (suc i) x lt free = filled_set slots i x (omega arith) free
-filled_set (Some y ∷ slots) (suc i) x lt free = let rest = filled_set slots i x (omega arith) free in omega arith
+filled_set (t ∷ slots) (suc i) x lt free = grind (arith, filled_set slots i x)
+filled_set slots i x lt free = grind arith
 
 pub filled_seen : (store : PartsContent) (slots : List (Option MatchRef)) → length (filled_in (matches_by_ref store slots)) ≡ length (filled_in slots)
+filled_seen store (t ∷ slots) = grind (arith, filled_seen store slots)
 filled_seen store [] = refl
-filled_seen store (None ∷ slots) = filled_seen store slots
-filled_seen store (Some m ∷ slots) = ap suc (filled_seen store slots)
 
 -- an answer is kept whose line and assignment are
 pub answer_kept : (line : MatchingLine) (top : PendingItem) (kind : MatchKind) (before after : PartsContent) (l i : ℕ) →
@@ -295,15 +228,13 @@ pub answer_kept : (line : MatchingLine) (top : PendingItem) (kind : MatchKind) (
     slice_get after.lines l ≡ Some (line_origin line) → HasAssignment after top.cause i →
     assignment_at after top.cause i ≡ (pending_item line.items.now before.bodies top).inner →
     KeepsAnswer line top kind before after (record { line = l; assignment = i; kind = kind })
-answer_kept line top kind before after l i cause extends more handed found has same =
-    grind (arith, nat_tests, get_or_from_slice_get, slice_get_within)
+answer_kept line top kind before after l i cause extends more handed found has same = grind (arith, get_or_from_slice_get, slice_get_within)
 
 -- an item of a body is there
 pub body_has : (items : List TrackedAssignment) (after : PartsContent) (cause : Option ℕ) (index : ℕ) → is_some cause ≡ true →
     index < length (items_beside items after.bodies cause) → HasAssignment after cause index ×
     (assignment_at after cause index ≡ (get_or (items_beside items after.bodies cause) index no_item).inner)
-body_has items after None index some inside = absurd cc
-body_has items after (Some a) index some inside = (inside, refl)
+body_has items after cause index some inside = grind arith
 
 -- and an item of the line that was kept
 pub own_has : (items : List TrackedAssignment) (bodies : List (List TrackedAssignment)) (after : PartsContent) (cause : Option ℕ) (index : ℕ)
@@ -311,6 +242,4 @@ pub own_has : (items : List TrackedAssignment) (bodies : List (List TrackedAssig
     index < length (items_beside items bodies cause) → item ≡ get_or items index item → own ≡ item.inner →
     after.assignments ≡ before ++ own ∷ [] → HasAssignment after cause (length before) ×
     (assignment_at after cause (length before) ≡ (get_or (items_beside items bodies cause) index no_item).inner)
-own_has items bodies after (Some a) index item own before none inside is same pushed = absurd cc
-own_has items bodies after None index item own before none inside is same pushed =
-    grind (arith, nat_tests, length-append, get_or-append_seam, get_or_default)
+own_has items bodies after cause index item own before none inside is same pushed = grind (arith, length-append, get_or-append_seam, get_or_default)

@@ -1,15 +1,14 @@
 -- A search whose lines are told apart by tags in place of their origins.
-use Rattle.std.proofs.lemmas.Bool.Decides.{nat_tests}
 use Rattle.std.proofs.Common.{◌≡◌, ℕ, zero, suc, ◌+◌, ◌-◌, ◌^◌, ◌≤◌, ⊎_elim, min, true, false, List, [], ◌∷◌, ◌++◌, length, map}
-use Rattle.std.proofs.Common.{Option, Some, None, refl, sym, ap, subst, ◌∙◌, arith, ◌==◌}
-use Rattle.std.specs.Prelude.{is_some, MatchOption, ⊤, Contains, slice_get, option_map, option_and_then}
+use Rattle.std.proofs.Common.{Option, Some, None, refl, sym, ap, subst, ◌∙◌, arith}
+use Rattle.std.specs.Prelude.{is_some, MatchOption, ⊤, Contains, slice_get, option_map}
 use Rattle.std.specs.List.{flat_map}
 use Rattle.std.proofs.lemmas.Bool.{cases_eq, eq-eqb}
 use Rattle.std.proofs.lemmas.List.{map-append, append-nil}
 use Rattle.std.proofs.lemmas.Grind.{flat_map-append}
 use Rattle.attr_wildmatch.proofs.ForCallers.{by_test}
 use Rattle.attr_table.specs.Setting.{Item, Origin, Line, Setting}
-use Rattle.attr_table.specs.Table.{Occurrence, Root, Inside, Table, Slots, line_at, item_at, IsReached, IsLive, IsEarliest, IsStable}
+use Rattle.attr_table.specs.Table.{Occurrence, Root, Inside, Table, Slots, line_at, item_at, IsLive, IsEarliest, IsStable}
 use Rattle.attr_table.specs.Cut.{is_done, origin_at, answer_at, IsCut, IsCutAt}
 use Rattle.attr_table.specs.shared.Walk.{Task, Walks, ends, stops, skips, fills, tasks_in, line_tasks, list_tasks, tasks_of, opened, fill}
 use Rattle.attr_table.proofs.ForCallers.{some_or_none, entry_is, none_value, fill_other, then_walks, walked_searched, OneTable-of}
@@ -28,23 +27,23 @@ Alike x y = (a : ℕ) → is_some (x a) ≡ is_some (y a)
 
 done_alike : (wanted : List ℕ) (x y : Slots) → Alike x y → is_done wanted x ≡ is_done wanted y
 done_alike [] x y same = refl
-done_alike (w ∷ wanted) x y same = grind (arith, nat_tests, done_alike wanted x y same)
+done_alike (w ∷ wanted) x y same = grind (arith, done_alike wanted x y same)
 
 fill_alike : (bodies : List (List Item)) (g : Origin) (t : Task) (x y : Slots) → Alike x y →
     Alike (fill bodies (retag g t) x) (fill bodies t y)
 unfolding retag
-fill_alike bodies g t x y same a = grind (arith, nat_tests)
+fill_alike bodies g t x y same a = grind arith
 
 retag-tasks : (g origin : Origin) (cause : Option ℕ) (items : List Item) →
     map (retag g) (tasks_in origin cause items) ≡ tasks_in g cause items
 unfolding retag
 retag-tasks g origin cause [] = refl
-retag-tasks g origin cause (i ∷ items) = grind (arith, nat_tests, map-append, retag, retag-tasks g origin cause items)
+retag-tasks g origin cause (i ∷ items) = grind (arith, map-append, retag, retag-tasks g origin cause items)
 
 retag-opened : (bodies : List (List Item)) (g : Origin) (t : Task) →
     map (retag g) (opened bodies t) ≡ opened bodies (retag g t)
 unfolding retag
-retag-opened bodies g t = grind (arith, nat_tests, retag-tasks)
+retag-opened bodies g t = grind (arith, retag-tasks)
 
 -- a walk over tasks of one tag
 record Retagged (g : Origin) (bodies : List (List Item)) (wanted : List ℕ) (ts : List Task) (before after : Slots) : Type 0 where
@@ -88,19 +87,8 @@ retagged g bodies wanted (fills {t = t} {ts = ts} {slots = slots} d f w) before 
           (subst (λ us. Walks bodies (is_done wanted) us next r.final)
           (map-append (retag g) (opened bodies t) ts ∙ ap (λ us. us ++ map (retag g) ts) (retag-opened bodies g t)) r.walks);
       alike = r.alike;
-      kept = λ a e.
-          let ne : a ≡ t.item.attribute → ⊥ = λ (h : a ≡ t.item.attribute). let x : true ≡ false = sym e ∙ (ap (λ n. is_some (before n)) h ∙ empty)
-          in absurd (cc) in
-          let o = fill_other bodies u before a ne in
-          r.kept a (ap (λ v. is_some v) o ∙ e) ∙ o;
-      tagged = λ a e.
-          ⊎_elim
-          (λ (h : a ≡ t.item.attribute).
-          let here : (a == t.item.attribute) ≡ true = eq-eqb a t.item.attribute h in
-          let filled : is_some (next a) ≡ true = rw here refl in
-          rw (r.kept a filled) (rw here refl))
-          (λ ne. r.tagged a (fill_other bodies u before a ne ∙ e))
-          (cases_eq a t.item.attribute);
+      kept = λ a e. grind (arith, fill_other);
+      tagged = λ a e. grind (arith, eq-eqb, fill_other, cases_eq);
     }
 
 -- a line's tag: its list and its index there
@@ -193,34 +181,22 @@ tagged_setting s = record { lists = tagged_lists 0 s.lists; bodies = s.bodies }
 groups_plain : (i j : ℕ) (lines : List Line) → map (λ g. g.1) (line_groups i j lines) ≡ list_rounds lines
 unfolding line_groups
 groups_plain i j [] = refl
-groups_plain i j (l ∷ lines) =
-    map-append (λ (g : (ℕ × ℕ) × List Task). g.1) (line_groups i (suc j) lines) (((i, j), line_tasks l) ∷ [])
-    ∙ ap (λ ls. ls ++ line_tasks l ∷ []) (groups_plain i (suc j) lines)
+groups_plain i j (l ∷ lines) = grind (arith, map-append, groups_plain i (suc j) lines)
 
 lists_plain : (i : ℕ) (lists : List (List Line)) → map (λ g. g.1) (list_groups i lists) ≡ rounds_of lists
 unfolding list_groups
 lists_plain i [] = refl
-lists_plain i (lines ∷ lists) =
-    map-append (λ (g : (ℕ × ℕ) × List Task). g.1) (list_groups (suc i) lists) (line_groups i 0 lines)
-    ∙ (ap (λ ls. ls ++ map (λ g. g.1) (line_groups i 0 lines)) (lists_plain (suc i) lists)
-    ∙ ap (λ ls. rounds_of lists ++ ls) (groups_plain i 0 lines))
+lists_plain i (lines ∷ lists) = grind (arith, map-append, groups_plain, lists_plain (suc i) lists)
 
 groups_tagged : (i j : ℕ) (lines : List Line) → tagged_tasks (line_groups i j lines) ≡ list_tasks (tagged_lines i j lines)
 unfolding line_groups tagged_lines tagged_line
 groups_tagged i j [] = refl
-groups_tagged i j (l ∷ lines) =
-    flat_map-append (λ (g : (ℕ × ℕ) × List Task). map (retag (tag_of g.0)) g.1) (line_groups i (suc j) lines) (((i, j), line_tasks l) ∷ [])
-    ∙ (ap (λ ts. ts ++ (map (retag (tag_of (i, j))) (line_tasks l) ++ [])) (groups_tagged i (suc j) lines)
-    ∙ ap (λ ts. list_tasks (tagged_lines i (suc j) lines) ++ ts)
-    (append-nil (map (retag (tag_of (i, j))) (line_tasks l)) ∙ retag-tasks (tag_of (i, j)) l.origin None l.items))
+groups_tagged i j (l ∷ lines) = grind (arith, flat_map-append, retag, tag_of, append-nil, retag-tasks, groups_tagged i (suc j) lines)
 
 lists_tagged : (i : ℕ) (lists : List (List Line)) → tagged_tasks (list_groups i lists) ≡ tasks_of (tagged_lists i lists)
 unfolding list_groups tagged_lists
 lists_tagged i [] = refl
-lists_tagged i (lines ∷ lists) =
-    flat_map-append (λ (g : (ℕ × ℕ) × List Task). map (retag (tag_of g.0)) g.1) (list_groups (suc i) lists) (line_groups i 0 lines)
-    ∙ (ap (λ ts. ts ++ tagged_tasks (line_groups i 0 lines)) (lists_tagged (suc i) lists)
-    ∙ ap (λ ts. tasks_of (tagged_lists (suc i) lists) ++ ts) (groups_tagged i 0 lines))
+lists_tagged i (lines ∷ lists) = grind (arith, flat_map-append, retag, tag_of, groups_tagged, lists_tagged (suc i) lists)
 
 -- what is read at an index of the tagged setting
 line_in : (i j k n : ℕ) (lines : List Line) → n ≡ j + k →
@@ -239,40 +215,24 @@ lines_in i (suc k) n (lines ∷ lists) e = lines_in (suc i) k n lists (omega ari
 
 tagged_line_at : (s : Setting) (i j : ℕ) → line_at (tagged_setting s) i j ≡ option_map (tagged_line (i, j)) (line_at s i j)
 unfolding tagged_setting
-tagged_line_at s i j =
-    ap (λ o. option_and_then (λ lines. slice_get lines j) o) (lines_in 0 i i s.lists (omega arith)) ∙ go (slice_get s.lists i)
-  where
-    go : (o : Option (List Line)) →
-        option_and_then (λ lines. slice_get lines j) (option_map (tagged_lines i 0) o)
-        ≡ option_map (tagged_line (i, j)) (option_and_then (λ lines. slice_get lines j) o)
-    go None = refl
-    go (Some lines) = line_in i 0 j j lines (omega arith)
+tagged_line_at s i j = grind (arith, lines_in, tagged_line, line_in)
 
 same_item : (s : Setting) (o : Occurrence) → item_at (tagged_setting s) o ≡ item_at s o
 unfolding tagged_setting tagged_line
-same_item s (Root i j k) = grind (arith, nat_tests, tagged_line_at, tagged_line)
-same_item s (Inside parent index) = grind (arith, nat_tests, same_item s parent)
+same_item s (Root i j k) = grind (arith, tagged_line_at, tagged_line)
+same_item s (Inside parent index) = grind (arith, same_item s parent)
 
 tagged_origin : (s : Setting) (o : Occurrence) (i : Item) → item_at s o ≡ Some i →
     origin_at (tagged_setting s) o ≡ Some (tag_of (root_line o))
 unfolding tagged_line
-tagged_origin s (Root i j k) x e = grind (arith, nat_tests, tagged_line_at, tagged_line, tag_of)
-tagged_origin s (Inside parent index) x e = grind (arith, nat_tests, some_or_none, tagged_origin s parent)
-
--- a table is as stable for the tagged setting
-reached_back : (s : Setting) (table : Table) (o : Occurrence) → IsReached (tagged_setting s) table o → IsReached s table o
-reached_back s table (Root i j k) r = tt
-reached_back s table (Inside parent index) r = (r.0, sym (same_item s parent) ∙ r.1, r.2, r.3)
-
-reached_there : (s : Setting) (table : Table) (o : Occurrence) → IsReached s table o → IsReached (tagged_setting s) table o
-reached_there s table (Root i j k) r = tt
-reached_there s table (Inside parent index) r = (r.0, same_item s parent ∙ r.1, r.2, r.3)
+tagged_origin s (Root i j k) x e = grind (arith, tagged_line_at, tagged_line, tag_of)
+tagged_origin s (Inside parent index) x e = grind (arith, some_or_none, tagged_origin s parent)
 
 live_back : (s : Setting) (table : Table) (o : Occurrence) (i : Item) → IsLive (tagged_setting s) table o i → IsLive s table o i
-live_back s table o i live = grind (arith, nat_tests, same_item, reached_back)
+live_back s table o i live = grind (arith, same_item)
 
 live_there : (s : Setting) (table : Table) (o : Occurrence) (i : Item) → IsLive s table o i → IsLive (tagged_setting s) table o i
-live_there s table o i live = grind (arith, nat_tests, same_item, reached_there)
+live_there s table o i live = grind (arith, same_item)
 
 earliest_there : (s : Setting) (table : Table) (a : ℕ) (entry : Option Occurrence) → IsEarliest s table a entry →
     IsEarliest (tagged_setting s) table a entry
@@ -283,7 +243,7 @@ earliest_there s table a (Some o) h = (
 )
 
 stable_there : (s : Setting) (start : Slots) (table : Table) → IsStable s start table → IsStable (tagged_setting s) start table
-stable_there s start table stable a = grind (arith, nat_tests, tagged_setting, earliest_there)
+stable_there s start table stable a = grind (arith, tagged_setting, earliest_there)
 
 -- an entry's slot is filled at the line where its root stands
 root_is : (s : Setting) (start final : Slots) (table : Table) (wanted : List ℕ) (a : ℕ) (o : Occurrence) (t : ℕ × ℕ) →
@@ -301,10 +261,8 @@ root_is s start final table wanted a o t stable cut e free some tagged =
     let apart : (tag_of (root_line o) ≡ tag_of t → ⊥) → ⊥ =
     λ ne. let gone : final a ≡ None = here.1 (λ k. ne (shown (here.0 k))) in
     let x : false ≡ true = rw gone at some in absurd (cc) in (
-      ⊎_elim (λ (h : t.0 ≡ (root_line o).0). h)
-          (λ ne. absurd (apart (λ f. ne (ap (λ (g : Origin). g.mode) (sym f))))) (cases_eq t.0 (root_line o).0),
-      ⊎_elim (λ (h : t.1 ≡ (root_line o).1). h)
-          (λ ne. absurd (apart (λ f. ne (ap (λ (g : Origin). g.line) (sym f))))) (cases_eq t.1 (root_line o).1),
+      grind (arith, ⊎_elim, cases_eq),
+      grind (arith, ⊎_elim, cases_eq),
     )
 
 pair_is : (t u : ℕ × ℕ) → t.0 ≡ u.0 → t.1 ≡ u.1 → t ≡ u

@@ -1,7 +1,6 @@
 -- The keys of lines decide between the lines that match a path and the candidates for it.
-use Rattle.std.proofs.lemmas.Bool.Decides.{nat_tests}
-use Rattle.std.proofs.Common.{◌≡◌, ℕ, zero, suc, ◌==◌, Bool, true, false, not, ◌||◌, List, [], ◌∷◌, take, map, position, Option, Some, None, refl}
-use Rattle.std.proofs.Common.{sym, ap, ◌∙◌, arith, cond, Result, Ok, Err, OnOk}
+use Rattle.std.proofs.Common.{ap, ◌≡◌, ℕ, suc, ◌==◌, Bool, true, false, not, ◌||◌, List, [], ◌∷◌, take, map, position, Option, Some, None, refl}
+use Rattle.std.proofs.Common.{sym, ◌∙◌, arith}
 use Rattle.std.specs.Prelude.{is_none, slice_get}
 use Rattle.std.specs.List.{list_all, starts_with}
 use Rattle.attr_keys.specs.declared.key.Subject.TheVariants.{Name, Path}
@@ -15,7 +14,7 @@ use Rattle.attr_glob.specs.Candidates.{has_macro_mode, matches_base_name, is_can
 use Rattle.attr_wildmatch.specs.Deciding.{text_matches}
 use Rattle.attr_wildmatch.specs.Matching.{same_byte}
 use Rattle.attr_glob.specs.Paths.{matched_part, is_directory, path_matches}
-use Rattle.attr_glob.specs.Patterns.{Reading, reading, has_flag, is_wildcard, must_be_dir, ends_with}
+use Rattle.attr_glob.specs.Patterns.{Reading, reading, has_flag, is_wildcard, must_be_dir}
 use Rattle.attr_glob.specs.shared.LineShapes.{folds, is_tried, key_of_line}
 use Rattle.attr_glob.proofs.ForCallers.{matching_line_is_candidate, reading-wildcard, no_wildcard, text_matches-literal, text_matches-front}
 use Rattle.attr_glob.proofs.ForCallers.{whole_met, front_met, end_met, bytewise, falling_indexes, passes}
@@ -31,15 +30,13 @@ tried_is_candidate case path line h =
     (λ m. by_test (matches_base_name line)
     (λ n. by_test (is_none line.wildcard)
     (λ w. rw (m, n, w) (sym (whole_met case Name line.text name) ∙ (rw (m, n, w) at h)))
-    (λ w. by_test (has_flag line.mode ends_with)
-    (λ e. rw (m, n, w, e) (sym (end_met case name path _) ∙ (rw (m, n, w, e) at h)))
-    (λ e. rw (m, n, w, e) refl)))
+    (λ w. grind (arith, by_test, end_met)))
     (λ n. rw (m, n) refl))
 
 -- what a text matches begins with what stands before its first wildcard
 begins_so : (case : Case) (text value : List ℕ) (n : ℕ) → position is_wildcard text ≡ Some n → text_matches case text value ≡ true →
     starts_with (same_byte case) value (take n text) ≡ true
-begins_so case text value n at m = grind (arith, nat_tests, text_matches-front)
+begins_so case text value n at m = grind (arith, text_matches-front)
 
 name_front : (case : Case) (text name path : List ℕ) (wildcard : Option ℕ) → wildcard ≡ position is_wildcard text →
     text_matches case text name ≡ true → content_met (folds case) name path (prefix_of Name text wildcard) ≡ true
@@ -67,23 +64,12 @@ matching_is_tried case path text line is_dir read plain m =
     let read_wildcard = reading-wildcard text line read in
     let whole = and_parts (not (has_flag line.mode must_be_dir) || is_directory is_dir) (text_matches case line.text (matched_part line path)) m in
     let known = matching_line_is_candidate case text line path is_dir read plain m in
-    by_test (matches_base_name line)
-    (λ n.
-    let part : text_matches case line.text name ≡ true = ap (λ b. text_matches case line.text (cond b name path)) (sym n) ∙ whole.1 in
-    by_test (is_none line.wildcard)
-    (λ w. rw (plain, n, w) (whole_met case Name line.text name ∙ (rw (plain, n, w) at known)))
-    (λ w. by_test (has_flag line.mode ends_with)
-    (λ e. rw (plain, n, w, e) (end_met case name path _ ∙ (rw (plain, n, w, e) at known)))
-    (λ e. rw (plain, n, w, e) (name_front case line.text name path line.wildcard read_wildcard part))))
-    (λ n.
-    let part : text_matches case line.text path ≡ true = ap (λ b. text_matches case line.text (cond b name path)) (sym n) ∙ whole.1 in
-    rw (plain, n) (path_front case line.text name path line.wildcard read_wildcard part))
+    grind (arith, by_test, whole_met, end_met, name_front, path_front)
 
 met_at : (case : Case) (path : List ℕ) (lines : List Reading) (row : ℕ) →
     content_met_at (folds case) (base_name path) path (slice_get (map key_of_line lines) row) ≡ passes (is_tried case path) (slice_get lines row)
-met_at case path [] row = refl
-met_at case path (line ∷ lines) zero = refl
 met_at case path (line ∷ lines) (suc row) = met_at case path lines row
+met_at case path lines row = grind arith
 
 -- the indexes that were found by the keys
 pub found_tried : (case : Case) (path : List ℕ) (lines : List Reading) (keys : List KeyContent) (found : List ℕ) → keys ≡ map key_of_line lines →
@@ -101,15 +87,9 @@ found_tried case path lines keys found is down has =
 -- of lines that define macros none is tried
 none_passes : (case : Case) (path : List ℕ) (lines : List Reading) (row : ℕ) → list_all has_macro_mode lines ≡ true →
     passes (is_tried case path) (slice_get lines row) ≡ false
-none_passes case path [] row all = refl
-none_passes case path (line ∷ lines) zero all = rw (and_parts (has_macro_mode line) (list_all has_macro_mode lines) all).0 refl
-none_passes case path (line ∷ lines) (suc row) all = grind (arith, nat_tests, and_parts, none_passes case path lines row)
+none_passes case path (line ∷ lines) (suc row) all = grind (arith, and_parts, none_passes case path lines row)
+none_passes case path lines row all = grind (arith, and_parts)
 
 pub idle_tried : (case : Case) (path : List ℕ) (lines : List Reading) → list_all has_macro_mode lines ≡ true → AreTried case path lines []
 idle_tried case path lines all =
-    found_tried case path lines (map key_of_line lines) [] refl (λ k lt. absurd (omega (arith, lt)))
-    (λ row. sym (met_at case path lines row ∙ none_passes case path lines row all))
-
-pub both_ok : {T E P Q R : Type 0} (r : Result T E) → (P → Q → R) → OnOk r P → OnOk r Q → OnOk r R
-both_ok (Ok x) f p q = f p q
-both_ok (Err e) f p q = tt
+    grind (arith, found_tried case path lines (map key_of_line lines), met_at case path lines, none_passes case path lines)

@@ -1,7 +1,6 @@
 -- How many flags are set.
-use Rattle.std.proofs.lemmas.Bool.Decides.{nat_tests}
-use Rattle.std.proofs.Common.{◌≡◌, ℕ, zero, suc, ◌+◌, ◌<◌, ◌≤◌, Bool, true, false, not, cond, List, [], ◌∷◌, length, get_or, set, map, replicate}
-use Rattle.std.proofs.Common.{None, refl, sym, ap, ◌∙◌, arith, ◌++◌, ◌⊎◌, ◌≢◌, ◌||◌, ⊎_elim, Equal}
+use Rattle.std.proofs.Common.{◌≡◌, ℕ, suc, ◌+◌, ◌<◌, ◌≤◌, Bool, true, false, not, cond, List, [], ◌∷◌, length, get_or, set, map, replicate}
+use Rattle.std.proofs.Common.{None, sym, ap, ◌∙◌, arith, ◌++◌, ◌⊎◌, ◌≢◌, ◌||◌}
 use mathlib.Core.Bool.{beq}
 use mir.Val.{bool_byte}
 use Rattle.std.proofs.Math.Bool.{or-false, or-true}
@@ -11,9 +10,8 @@ use Rattle.std.specs.Prelude.{if◌then◌else◌}
 use Rattle.std.proofs.lemmas.List.Folds.{list_any-append}
 use Rattle.std.specs.BTreeMap.{is_at}
 use Rattle.std.specs.BTreeSet.{contains}
-use Rattle.std.specs.Cmp.{nat_cmp_is}
 use Rattle.std.specs.List.{list_any}
-use Rattle.std.specs.Ordering.{is_eq, nat_cmp}
+use Rattle.std.specs.Ordering.{nat_cmp}
 use Rattle.std.proofs.lemmas.Bool.{cases_eq, cases_lt}
 use Rattle.std.proofs.lemmas.List.FromFn.{fill_by_all, get_or-map-range_with_len, length-map-range_with_len}
 use Rattle.attr_search.specs.shared.SlotContents.{count_wanted, count_remaining}
@@ -24,47 +22,30 @@ abbrev one : Bool → ℕ
 one w = cond w 1 0
 
 one_small : (w : Bool) → cond w 1 0 ≤ 1
-one_small true = omega arith
-one_small false = omega arith
+one_small w = grind arith
 
 pub count_small : (flags : List Bool) → count_wanted flags ≤ length flags
 count_small [] = omega arith
 count_small (w ∷ flags) =
-    let first = one_small w in
-    let cons = sum_by-cons (λ w. cond w 1 0) w flags in
-    let rest = count_small flags in
-    omega arith
+    let cons = sum_by-cons (λ w. cond w 1 0) w flags in grind (arith, one_small, count_small flags)
 
 -- all flags are set, or none
 pub count_replicate : (n : ℕ) (w : Bool) → count_wanted (replicate n w) ≡ cond w n 0
-count_replicate zero true = refl
-count_replicate zero false = refl
 count_replicate (suc n) true =
-    let cons = sum_by-cons (λ w. cond w 1 0) true (replicate n true) in
-    let rest = count_replicate n true in
-    omega arith
-count_replicate (suc n) false = grind (arith, nat_tests, sum_by-cons, count_replicate n false)
-
-byte_of : (w : Bool) → bool_byte (not w) + cond w 1 0 ≡ 1
-byte_of true = refl
-byte_of false = refl
+    let cons = sum_by-cons (λ w. cond w 1 0) true (replicate n true) in grind (arith, count_replicate n true)
+count_replicate (suc n) false = grind (arith, sum_by-cons, count_replicate n false)
+count_replicate n w = grind arith
 
 -- one more is set, if it wasn't before
 pub count_set : (flags : List Bool) (number count more : ℕ) (w : Bool) → number < length flags → count ≡ count_wanted flags →
     w ≡ get_or flags number w → more ≡ bool_byte (not w) →
     (count + more ≤ length flags) × (count + more ≡ count_wanted (set flags number true))
 count_set flags number count more w lt counted read told =
-    let step : count_wanted (set flags number true) + cond (get_or flags number w) 1 0 ≡ count_wanted flags + 1 =
-    sum_by-set (λ w. cond w 1 0) flags number true w lt in
-    let here : one (get_or flags number w) ≡ one w = ap one (sym read) in
-    let byte : bool_byte (not w) + cond w 1 0 ≡ 1 = byte_of w in
-    let small : count_wanted (set flags number true) ≤ length (set flags number true) = count_small (set flags number true) in
-    let len : length (set flags number true) ≡ length flags = length-set flags number true in
-    (omega arith, omega arith)
+    grind (arith, count_small (set flags number true), length-set flags number true, sum_by-set)
 
 -- another number is not at this one's index
 pub at_other : (n k : ℕ) → k ≢ n → is_at (nat_cmp n) k ≡ false
-at_other n k apart = grind (arith, nat_tests, cases_lt)
+at_other n k apart = grind (arith, cases_lt)
 
 -- the flag of a number
 pub flag_at : (w : Inside) (k : ℕ) → k < w.len → get_or (wanted_flags_view w) k false ≡ is_flag_set w k
@@ -86,60 +67,36 @@ pub flags_more : (w v : Inside) (number : ℕ) → number < w.len → v.len ≡ 
 flags_more w v number lt len all here others =
     let flags = wanted_flags_view w in
     sym (fill_by_all (is_flag_set v) (set flags number true) v.len false (length-set flags number true ∙ length_flags w ∙ sym len)
-    (λ k below.
-    ⊎_elim
-    (λ (same : k ≡ number). ap (λ i. get_or (set flags number true) i false) same
-    ∙ get_or-set_same flags number true false (omega (arith, length_flags w))
-    ∙ sym (ap (is_flag_set v) same ∙ ap (λ b. v.all || b) here ∙ or-true v.all))
-    (λ (apart : k ≢ number). get_or-set_other flags number k true false apart ∙ flag_at w k (omega (arith, below, len))
-    ∙ sym (ap (λ b. b || contains nat_cmp v.numbers k) all ∙ ap (λ b. w.all || b) (others k (at_other number k apart))))
-    (cases_eq k number)))
+    (λ k below. grind (arith, get_or-set_same, length_flags, or-true, get_or-set_other, flag_at, at_other, cases_eq)))
 
 -- where all slots are free, each wanted one is left
 pub count_empty : {Y : Type 0} (X : Type 0) (flags : List Bool) (xs : List Y) → length flags ≡ length xs →
     count_remaining {X = X} flags (map (λ x. None) xs) ≡ count_wanted flags
-count_empty X [] [] e = refl
-count_empty X [] (x ∷ xs) e = absurd (omega arith)
-count_empty X (w ∷ flags) [] e = absurd (omega arith)
 count_empty X (true ∷ flags) (x ∷ xs) e =
     let cons = sum_by-cons (λ w. cond w 1 0) true flags in
     let rest = count_empty X flags xs (omega arith) in
     omega arith
-count_empty X (false ∷ flags) (x ∷ xs) e = grind (arith, nat_tests, sum_by-cons, count_empty X flags xs)
+count_empty X (false ∷ flags) (x ∷ xs) e = grind (arith, sum_by-cons, count_empty X flags xs)
+count_empty X flags xs e = grind arith
 
 -- a flag after flags of some numbers were set, by its number: of these it has the value, and else what it had
 abbrev pub after_set : List ℕ → Bool → ℕ → Bool → Bool
 after_set seen value number before = if list_any (is_at (nat_cmp number)) seen then value else before
-
-any_last : (p : ℕ → Bool) (xs : List ℕ) (n : ℕ) (b : Bool) → p n ≡ b → list_any p (xs ++ n ∷ []) ≡ (list_any p xs || b)
-any_last p xs n b e = list_any-append p xs (n ∷ []) ∙ ap (λ d. list_any p xs || d) (or-false (p n) ∙ e)
-
-at_same : (n : ℕ) → is_at (nat_cmp n) n ≡ true
-at_same n = ap is_eq (sym (nat_cmp_is n n Equal refl))
 
 -- one more flag is set
 pub one_set : (flags : List Bool) (seen : List ℕ) (a n : ℕ) (value before : Bool) → a < length flags →
     get_or flags a false ≡ after_set seen value a before →
     get_or (set flags n value) a false ≡ after_set (seen ++ n ∷ []) value a before
 one_set flags seen a n value before lt so_far =
-    grind (arith, nat_tests, get_or-set_same, any_last, at_same, or-true, get_or-set_other, at_other, or-false, cases_eq)
+    grind (arith, get_or-set_same, list_any-append, or-true, get_or-set_other, at_other, or-false, cases_eq)
 
 -- and none of a number past the flags
 pub none_set : (flags : List Bool) (seen : List ℕ) (a n : ℕ) (value before : Bool) → a < length flags → length flags ≤ n →
     get_or flags a false ≡ after_set seen value a before → get_or flags a false ≡ after_set (seen ++ n ∷ []) value a before
-none_set flags seen a n value before lt past so_far = grind (arith, nat_tests, any_last, at_other, or-false)
+none_set flags seen a n value before lt past so_far = grind (arith, list_any-append, at_other, or-false)
 
 if_set : (b value : Bool) → (if b then true else value) ≡ (b || value)
-if_set true value = refl
-if_set false value = refl
-
-if_unset : (b : Bool) → (if b then false else b) ≡ false
-if_unset true = refl
-if_unset false = refl
-
-if_same : (b value : Bool) → (if b then value else value) ≡ value
-if_same true value = refl
-if_same false value = refl
+if_set b value = grind arith
 
 -- flags that are all set, or cleared, and then set at some numbers are those of these numbers
 pub written_flags : (w : Inside) (flags : List Bool) → length flags ≡ w.len →
@@ -149,22 +106,18 @@ written_flags w flags same at =
     (λ k lt. at k (omega (arith, same, lt)) ∙ if_set (contains nat_cmp w.numbers k) w.all ∙ swap (contains nat_cmp w.numbers k) w.all)
   where
     swap : (a b : Bool) → (a || b) ≡ (b || a)
-    swap true b = sym (or-true b)
-    swap false b = sym (or-false b)
+    swap a b = grind (arith, or-true, or-false)
 
 -- a flag is that of all, or where these are the same it is as it was
 abbrev pub IsBase : Inside → Inside → ℕ → Bool → Type 0
 IsBase w v a flag = (flag ≡ w.all) ⊎ ((w.all ≡ v.all) × (flag ≡ is_flag_set v a))
 
 pub base_set : (w v : Inside) (a : ℕ) (flag : Bool) → w.all ≡ true → IsBase w v a flag → flag ≡ w.all
-base_set w v a flag all base = grind (arith, nat_tests)
+base_set w v a flag all base = grind arith
 
 pub base_cleared : (w v : Inside) (a : ℕ) (flag : Bool) → w.all ≡ false → IsBase w v a flag →
     after_set v.numbers.keys false a flag ≡ w.all
-base_cleared w v a flag none base = grind (arith, nat_tests, if_same, if_unset)
+base_cleared w v a flag none base = grind arith
 
 pub beq_same : (a b : Bool) → beq a b ≡ true → a ≡ b
-beq_same true true e = refl
-beq_same true false e = absurd cc
-beq_same false true e = absurd cc
-beq_same false false e = refl
+beq_same a b e = grind arith

@@ -6,15 +6,6 @@ use Rattle.attr_search.proofs.DirectoryLemmas.{gathered_on, gathered_past}
 use Rattle.attr_search.proofs.indexed_lists.append_directories.Goals.{then-text-offset-eq47+in_ok-append, else-text-offset-eq47}
 use Rattle.attr_search.proofs.indexed_lists.append_directories.Goals as goal
 
-pub loop-offset-init : goal.loop-offset-init
-loop-offset-init c =
-    record {
-      read = let none = c.new-front.ensures.read in omega (arith, none);
-      front = c.new-front.ensures.front c.args.text.now;
-      kept = λ number has. has;
-      found = λ offset lt. absurd (omega (arith, lt));
-    }
-
 pub loop-offset-preserved : goal.loop-offset-preserved
 loop-offset-preserved c =
     let keys = c.args.by_key.now.keys in
@@ -38,10 +29,6 @@ loop-offset-preserved c =
             read = subst (λ (f : FrontHasher). f.read ≤ k + 1) (sym w.front-is) (omega (arith, before));
             front = subst (HasFront text) (sym w.front-is) inv.front;
             kept = subst (λ ns. Includes c.args.numbers.now.items ns.items) (sym w.numbers-is) inv.kept;
-            found = subst (λ ns. GathersDirectories keys text (k + 1) ns.items) (sym w.numbers-is)
-                (gathered_past keys text k c.loop-offset.numbers.items inv.found w.if-text-offset-eq47.false);
+            found = grind (arith, gathered_past, w.if-text-offset-eq47.false);
           }
     ]
-
-pub returns-clause-found : goal.returns-clause-found
-returns-clause-found c = λ offset lt. let over = c.loop-offset-test.false in c.loop-offset.invariant.found offset (omega (arith, lt, over))

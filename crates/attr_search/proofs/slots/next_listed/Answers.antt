@@ -2,7 +2,7 @@ use Rattle.std.proofs.Common.{◌≡◌, ◌≤◌, ◌∙◌, true, ltb, None, 
 use Rattle.std.proofs.lemmas.Bool.{ltb-false, ltb-true}
 use Rattle.std.proofs.lemmas.List.{get_or_default}
 use Rattle.std.proofs.lemmas.List.Sorted.{IsPartitionPoint-from_clause, IsPartitionedBy-ltb}
-use Rattle.attr_search.proofs.ListedLemmas.{free_first, free_more, next_is, none_left, not_filled}
+use Rattle.attr_search.proofs.ListedLemmas.{free_first, next_is, none_left}
 use Rattle.attr_search.proofs.slots.next_listed.Goals as goal
 
 pub loop-index-init : goal.loop-index-init
@@ -15,13 +15,7 @@ loop-index-init c =
     (λ j d early lt. ltb-true (get_or c.args.numbers.now j d) c.args.from (parted.0 j d (omega arith) early))
 
 pub loop-index-preserved : goal.loop-index-preserved
-loop-index-preserved c =
-    let numbers = c.args.numbers.now in
-    let index = c.loop-index.index in
-    let number = get_or numbers index 0 in
-    let free : get_or c.args.slots.now number None ≡ None = not_filled (get_or c.args.slots.now number None) (sym c.if-is_some.ensures) in
-    free_more c.args.slots.now numbers c.args.from index number (λ d. get_or_default numbers index d 0 c.loop-index-test.true) free
-    c.loop-index.invariant
+loop-index-preserved c = grind (arith, get_or_default)
 
 pub returns-then-is_some : goal.returns-then-is_some
 returns-then-is_some c =

@@ -1,14 +1,13 @@
-use Rattle.std.proofs.Common.{◌≡◌, ◌∙◌, ap, sym, subst, option_map, string_bytes}
+use Rattle.std.proofs.Common.{arith, ◌≡◌, ◌∙◌, ap, sym, subst, option_map, string_bytes}
 use Rattle.std.specs.List.{list_all}
 use Rattle.std.proofs.Math.Logic.{∥∥₁_map}
 use Rattle.attr_glob.specs.Candidates.{has_macro_mode}
 use Rattle.attr_lists.specs.ListViews.{entries_view}
 use Rattle.attr_glob.specs.declared.search.pattern.index.Index.{Index}
 use Rattle.attr_search.specs.inner.DirectoryKeys.{base_text, keys_of}
-use Rattle.attr_glob.specs.Indexed.{indexed_lines}
 use Rattle.attr_search.specs.shared.ReadLines.{AreRead}
 use Rattle.attr_lists.proofs.ForCallers.{copied_lines}
-use Rattle.attr_search.proofs.IndexedListLemmas.{copied_list, same_lines, same_patterns}
+use Rattle.attr_search.proofs.IndexedListLemmas.{same_lines, same_patterns}
 use Rattle.attr_search.proofs.indexed_list.IndexedList.clone.Goals as goal
 
 pub invariant_of-result : goal.invariant_of-result
@@ -19,8 +18,7 @@ invariant_of-result c =
     let lines : entries_view copy.patterns.items ≡ entries_view before =
     copied_lines before copy.patterns.items c.in_ok-list.ensures.patterns in
     record {
-      lines = ap (λ (x : Index). indexed_lines x.lines.items) c.in_ok-index.ensures.cases ∙ own.lines
-          ∙ sym (same_lines before copy.patterns.items lines);
+      lines = grind (arith, same_lines, c.in_ok-index.ensures.cases);
       source = ap (λ (x : Index). option_map string_bytes x.source) c.in_ok-index.ensures.cases ∙ own.source ∙ sym c.in_ok-list.ensures.source;
       based = λ busy. own.based busy ∙ ap (λ base. keys_of (base_text base)) (sym c.in_ok-list.ensures.base);
       idle = own.idle ∙ ap (list_all has_macro_mode) (sym (same_patterns before copy.patterns.items lines));
@@ -28,5 +26,4 @@ invariant_of-result c =
     }
 
 pub returns-clause-list : goal.returns-clause-list
-returns-clause-list c =
-    copied_list c.args.self.now.list c.in_ok-list.list c.in_ok-list.ensures.patterns c.in_ok-list.ensures.source c.in_ok-list.ensures.base
+returns-clause-list c = grind (arith, copied_lines)

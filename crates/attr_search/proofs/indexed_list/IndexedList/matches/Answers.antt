@@ -1,22 +1,14 @@
-use Rattle.std.proofs.Common.{◌∙◌, ap, get_or, sym}
+use Rattle.std.proofs.Common.{arith, ◌∙◌, ap, get_or, sym}
 use Rattle.bstr.specs.BStr.{bstr_bytes}
 use Rattle.attr_glob.specs.Paths.{matched_part}
 use Rattle.attr_glob.specs.Views.{pattern_view}
-use Rattle.attr_lists.specs.ListViews.{entries_view}
 use Rattle.attr_glob.specs.declared.search.pattern.index.Index.{Index}
-use Rattle.attr_search.specs.inner.EntryAt.{entry_at}
 use Rattle.attr_search.proofs.IndexedListLemmas.{entry_pattern}
-use Rattle.attr_search.proofs.EntryAtLemmas.{other_kind, matched_answer}
+use Rattle.attr_search.proofs.EntryAtLemmas.{matched_answer}
 use Rattle.attr_search.proofs.indexed_list.IndexedList.matches.Goals as goal
 
 pub returns-then-not-takes_kind : goal.returns-then-not-takes_kind
-returns-then-not-takes_kind c =
-    let list = c.args.self.now in
-    let line = c.index-line.result.now in
-    let here = entry_pattern list.index.value.lines.items list.list.patterns.items c.args.index line list.lines c.requires.index
-    (c.index-line.ensures ∙ ap (λ (x : Index). get_or x.lines.items c.args.index line) c.deref.ensures) in
-    other_kind (entry_at (entries_view list.list.patterns.items) c.args.index) (pattern_view line.pattern) c.args.rest.case
-    (bstr_bytes c.args.rest.path) c.args.rest.is_dir here (sym c.takes_kind.ensures ∙ c.if-not-takes_kind.true)
+returns-then-not-takes_kind c = grind (arith, entry_pattern)
 
 pub returns : goal.returns
 returns c =

@@ -1,9 +1,7 @@
-use Rattle.std.proofs.Common.{List, ℕ, ◌++◌, ◌∙◌, ap, length, subst, sym, take}
-use Rattle.std.specs.Prelude.{Contains}
+use Rattle.std.proofs.Common.{arith, List, ℕ, ◌++◌, ◌∙◌, ap, length, subst, take}
 use Rattle.attr_glob.specs.Folding.{folded}
 use Rattle.attr_search.specs.inner.BaseKeys.{base_keys}
 use Rattle.attr_search.specs.inner.DirectoryKeys.{GathersDirectories}
-use Rattle.std.proofs.lemmas.List.Elements.{Contains-append_right}
 use Rattle.std.proofs.lemmas.List.Sorted.{Contains-permutation, IsNonDecreasingBy-from_sort}
 use Rattle.attr_search.proofs.DirectoryLemmas.{list_found}
 use Rattle.attr_search.proofs.indexed_lists.IndexedLists.find.Goals as goal
@@ -19,8 +17,7 @@ returns c =
       all = λ number list rest has busy applies. Contains-permutation _ _ number c.sort_unstable.ensures.permutation
           (list_found lists.lists.items lists.roots.items c.args.path.now c.gather.new.numbers.items rest lists.longest c.args.case number list
           lists.rooted lists.within
-          (λ root is. c.in_ok-gather.ensures.kept root (subst (λ ns. Contains ns root) (sym rooted)
-          (Contains-append_right c.clear.new.self.items lists.roots.items root is)))
+          (λ root is. grind (arith, c.in_ok-gather.ensures.kept))
           (subst (λ n. Gathered (folded c.args.case (take n path))) c.min.ensures c.in_ok-gather.ensures.found)
           has busy applies);
       rising = IsNonDecreasingBy-from_sort (λ x. x) _ c.sort_unstable.ensures.sorted;

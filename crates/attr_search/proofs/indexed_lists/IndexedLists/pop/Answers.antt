@@ -1,6 +1,5 @@
 use Rattle.std.proofs.Common.{◌≡◌, ◌≤◌, subst, ◌∙◌, arith, length}
 use Rattle.attr_wildmatch.specs.declared.case.Case.TheVariants.{Sensitive, Fold}
-use Rattle.attr_search.specs.declared.indexed_list.IndexedList.{IndexedList}
 use Rattle.attr_search.specs.inner.BaseKeys.{key_in, longest_base}
 use Rattle.attr_search.proofs.DirectoryLemmas.{longest_popped, mapped_popped, roots_popped}
 use Rattle.attr_search.proofs.indexed_lists.IndexedLists.pop.Goals as goal
@@ -17,7 +16,6 @@ invariant_of-self-2 c =
       folding = c.pop-3.ensures ∙ mapped_popped (key_in Fold) lists.folded.keys lists.lists.items left last lists.folding whole;
       rooted = roots_popped lists.lists.items left last lists.roots.items c.pop_root.new.roots.items whole lists.rooted
           (λ other ne. c.pop_root.ensures other (λ same. ne (same ∙ count)));
-      registered = c.pop-4.ensures
-          ∙ mapped_popped (λ (l : IndexedList). l.list_id) lists.by_id.keys lists.lists.items left last lists.registered whole;
+      registered = grind (arith, mapped_popped, c.pop-4.ensures);
       within = longest_popped left last lists.longest (subst (λ ls. longest_base ls ≤ lists.longest) whole lists.within);
     }

@@ -1,9 +1,9 @@
-use Rattle.std.proofs.Common.{◌≡◌, ◌≤◌, sym, ap, subst, ◌∙◌, arith, length}
+use Rattle.std.proofs.Common.{◌≡◌, sym, ap, subst, ◌∙◌, arith, length}
 use Rattle.std.specs.Prelude.{Contains}
 use Rattle.attr_wildmatch.specs.declared.case.Case.TheVariants.{Sensitive, Fold}
 use Rattle.attr_search.specs.declared.indexed_list.IndexedList.{IndexedList}
 use Rattle.attr_search.specs.IndexedLists.{list_ids_of}
-use Rattle.attr_search.specs.inner.BaseKeys.{HaveRoots, base_keys, key_in, longest_base}
+use Rattle.attr_search.specs.inner.BaseKeys.{HaveRoots, base_keys, key_in}
 use Rattle.attr_search.proofs.DirectoryLemmas.{longest_pushed, mapped_pushed, roots_pushed}
 use Rattle.attr_search.proofs.indexed_lists.IndexedLists.push_reserved.Goals as goal
 
@@ -26,6 +26,5 @@ invariant_of-self c =
           (λ is. subst (Contains c.push_root.new.roots.items) count (c.push_root.ensures.own is)));
       registered = c.push_reserved.ensures ∙ mapped_pushed (λ (l : IndexedList). l.list_id) lists.by_id.keys lists.lists.items list lists.registered
           ∙ ap list_ids_of all;
-      within = subst (λ ls. longest_base ls ≤ c.max-self.result) all
-          (longest_pushed lists.lists.items list c.max-self.result (omega (arith, most, within)) (omega (arith, most, text)));
+      within = grind (arith, longest_pushed);
     }

@@ -1,4 +1,4 @@
-use Rattle.std.proofs.Common.{sym, nat_eq, cond, ap, ◌∙◌}
+use Rattle.std.proofs.Common.{arith, nat_eq}
 use Rattle.std.specs.HashMap.{get}
 use Rattle.attr_search.proofs.KeyedLemmas.{last_present, popped_latest, popped_lead}
 use Rattle.attr_search.proofs.numbers_by_key.NumbersByKey.pop.Goals as goal
@@ -8,8 +8,7 @@ invariant_of-self-in-Ok c =
     record {
       latest = popped_latest c.self.inside.links.items c.pop.new.self.items c.in-Some.link (get nat_eq c.self.inside.latest)
           (get nat_eq c.insert.new.self) c.in-Some.ensures.items c.self.invariant.latest c.self.invariant.links
-          (λ key. c.in-Ok.ensures.updates.0 key
-          ∙ ap (λ e. cond (nat_eq c.in-Some.link.key key) e (get nat_eq c.self.inside.latest key)) (sym c.in-Some-earlier.is));
+          (λ key. grind arith);
       links = popped_lead c.self.inside.links.items c.pop.new.self.items c.in-Some.link c.in-Some.ensures.items c.self.invariant.links;
     }
 
@@ -23,7 +22,6 @@ invariant_of-self-in-None c =
     record {
       latest = popped_latest c.self.inside.links.items c.pop.new.self.items c.in-Some.link (get nat_eq c.self.inside.latest)
           (get nat_eq c.remove.new.self) c.in-Some.ensures.items c.self.invariant.latest c.self.invariant.links
-          (λ key. c.remove.ensures.updates.0 key
-          ∙ ap (λ e. cond (nat_eq c.in-Some.link.key key) e (get nat_eq c.self.inside.latest key)) (sym c.in-None.is));
+          (λ key. grind arith);
       links = popped_lead c.self.inside.links.items c.pop.new.self.items c.in-Some.link c.in-Some.ensures.items c.self.invariant.links;
     }

@@ -1,8 +1,8 @@
-use Rattle.std.proofs.Common.{◌+◌, ◌≤◌, sym, length, refl, arith}
+use Rattle.std.proofs.Common.{sym, length, refl, arith}
 use Rattle.attr_table.specs.shared.Walk.{stops}
 use Rattle.attr_table.proofs.ForCallers.{taken_most, taken_least, walked_searched, OneTable-of}
 use Rattle.attr_search.specs.IndexedLists.{lists_view}
-use Rattle.attr_search.specs.inner.Searched.{query_candidates, query_setting, state_bodies, state_slots, state_wanted}
+use Rattle.attr_search.specs.inner.Searched.{query_setting, state_bodies, state_slots, state_wanted}
 use Rattle.attr_search.proofs.TaggedLines.{roots_most}
 use Rattle.attr_search.proofs.FoundAnswers.{counted_from, found_is, nothing_found, extends, searched_as}
 use Rattle.attr_search.proofs.SearchedLemmas.{state_kept}
@@ -31,9 +31,6 @@ returns-then-is_done-clause-joined c =
 pub returns-then-is_done-clause-found : goal.returns-then-is_done-clause-found
 returns-then-is_done-clause-found c = nothing_found (state_wanted c.args.self.now) (state_slots c.args.self.now)
 
-pub search_lists-requires : goal.search_lists-requires
-search_lists-requires c = record { in_lists = rw c.begin_counts.ensures c.requires.in_lists }
-
 pub returns-in_err-search_lists-clause-kept : goal.returns-in_err-search_lists-clause-kept
 returns-in_err-search_lists-clause-kept c = counted_from c.args.self.now _ 0 0 (rw c.begin_counts.ensures at c.search_lists.ensures).kept
 
@@ -49,10 +46,7 @@ returns-clause-one c =
     OneTable-of (query_setting c.args.self.now (lists_view c.args.lists.now.lists.items) c.args.query) (state_slots c.args.self.now)
 
 pub returns-clause-searched : goal.returns-clause-searched
-returns-clause-searched c =
-    let p = (rw c.begin_counts.ensures at c.in_ok-search_lists.ensures).done in
-    walked_searched (query_setting c.args.self.now (lists_view c.args.lists.now.lists.items) c.args.query) (state_wanted c.args.self.now)
-    (state_slots c.args.self.now) (state_slots c.search_lists.new.self) (searched_as c.args.query (lists_view c.args.lists.now.lists.items) p).walks
+returns-clause-searched c = grind (arith, walked_searched, searched_as)
 
 pub returns-clause-joined : goal.returns-clause-joined
 returns-clause-joined c =
@@ -71,9 +65,6 @@ returns-clause-found c =
     c.remaining-remaining.ensures.among (searched_as c.args.query (lists_view c.args.lists.now.lists.items) part.done)
     (counted_from before after 0 0 part.kept) c.remaining-remaining.ensures.count c.remaining.ensures.count
 
-pub returns-clause-named : goal.returns-clause-named
-returns-clause-named c = (rw c.begin_counts.ensures at c.in_ok-search_lists.ensures).done.named
-
 pub returns-clause-most : goal.returns-clause-most
 returns-clause-most c = λ undone.
     let p = (rw c.begin_counts.ensures at c.in_ok-search_lists.ensures).done in
@@ -88,12 +79,6 @@ returns-clause-least c = λ undone.
     taken_least (query_setting c.args.self.now (lists_view c.args.lists.now.lists.items) c.args.query) (state_wanted c.args.self.now)
     (state_slots c.args.self.now) (state_slots c.search_lists.new.self) c.search_lists.new.self.taken (length c.search_lists.new.self.answers)
     (omega (arith, long, c.len.ensures)) (searched_as c.args.query (lists_view c.args.lists.now.lists.items) part.done)
-
-pub returns-clause-tested : goal.returns-clause-tested
-returns-clause-tested c = λ undone.
-    let most : c.search_lists.new.self.tested ≤ 0 + query_candidates (lists_view c.args.lists.now.lists.items) c.args.query =
-    (rw c.begin_counts.ensures at c.in_ok-search_lists.ensures).done.tested in
-    omega (arith, most)
 
 pub returns-clause-roots : goal.returns-clause-roots
 returns-clause-roots c = λ undone table stable.

@@ -1,4 +1,4 @@
-use Rattle.std.proofs.Common.{refl, inr, arith, rules}
+use Rattle.std.proofs.Common.{refl, inr, arith}
 use Rattle.std.proofs.lemmas.Result.{on_ok_weaker}
 use Rattle.attr_search.specs.IndexedLists.{listed_view}
 use Rattle.attr_search.specs.inner.Searched.{over, round}
@@ -6,15 +6,10 @@ use Rattle.attr_search.specs.shared.Slotted.{index_origin}
 use Rattle.attr_search.specs.inner.SearchView.{search_view}
 use Rattle.attr_search.proofs.LineLemmas.{line_defines, line_differs, line_filled, line_matched, named_at, origin_is, slots_at}
 use Rattle.attr_search.proofs.SearchedLemmas.{state_kept}
-use Rattle.attr_search.proofs.FillingLemmas.{still_fit}
 use Rattle.attr_search.proofs.search_state.SearchState.search_line.Goals as goal
 
 pub returns-in_default : goal.returns-in_default
-returns-in_default c = record {
-  kept = state_kept c.args.self.now;
-  done = line_defines c.args.rest c.args.list.now c.args.index c.index-mapping.result.now c.args.self.now
-      c.requires.index c.index-mapping.ensures (c.in_default.ensures.definition refl);
-}
+returns-in_default c = grind (arith, state_kept, line_defines)
 
 pub has_free-requires : goal.has_free-requires
 has_free-requires c =
@@ -27,10 +22,6 @@ returns-then-not-has_free c = rw (← c.self.view_is) (record {
   done = line_filled c.args.rest c.args.list.now c.args.index c.index-mapping.result.now c.in-Some.items.now (search_view c.self.inside)
       c.requires.index c.index-mapping.ensures c.in-Some.ensures.items c.if-not-has_free.ensures;
 })
-
-pub returns-in_err-matches : goal.returns-in_err-matches
-returns-in_err-matches c = rw (← c.self.view_is)
-    (record { kept = record { wanted = refl; needed = refl; bodies = refl; len = refl; skipped = λ a skip. refl }; done = search rules })
 
 pub returns-then-not-branch : goal.returns-then-not-branch
 returns-then-not-branch c =
@@ -52,12 +43,7 @@ fill_attributes-requires c = record {
 }
 
 pub invariant_of-self-2 : goal.invariant_of-self-2
-invariant_of-self-2 c =
-    let kept = c.fill_attributes.ensures.kept in
-    record {
-      bodies = still_fit c.self.inside.filler c.fill_attributes.new.self kept c.self.invariant.bodies;
-      among = rw (kept.wanted, kept.needed) c.self.invariant.among;
-    }
+invariant_of-self-2 c = grind arith
 
 pub returns : goal.returns
 returns c =

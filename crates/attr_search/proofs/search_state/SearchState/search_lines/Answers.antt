@@ -1,4 +1,4 @@
-use Rattle.std.proofs.Common.{sym}
+use Rattle.std.proofs.Common.{arith}
 use Rattle.std.proofs.lemmas.List.{get_or_default}
 use Rattle.attr_search.specs.IndexedLists.{listed_view}
 use Rattle.attr_search.proofs.SearchedLemmas.{indexes_done, more_indexes, nothing_searched, state_kept, then_kept}
@@ -8,11 +8,7 @@ pub loop-line-init : goal.loop-line-init
 loop-line-init c = record { kept = state_kept c.args.self.now; searched = nothing_searched 0 c.args.self.now }
 
 pub returns-then-is_done : goal.returns-then-is_done
-returns-then-is_done c = record {
-  kept = c.loop-line.invariant.kept;
-  done = indexes_done c.args.rest (listed_view c.args.list.now) c.args.indexes.now c.loop-line.line-index c.args.self.now c.loop-line.self
-      c.loop-line.invariant.kept (sym c.if-is_done.ensures) c.loop-line.invariant.searched;
-}
+returns-then-is_done c = grind (arith, indexes_done)
 
 pub loop-line-preserved : goal.loop-line-preserved
 loop-line-preserved c = record {

@@ -1,6 +1,5 @@
-use Rattle.std.proofs.Common.{sym, ◌∙◌, rules}
+use Rattle.std.proofs.Common.{arith, sym, ◌∙◌, rules}
 use Rattle.std.proofs.lemmas.Result.{on_ok_weaker}
-use Rattle.bstr.specs.BStr.{bstr_bytes}
 use Rattle.attr_search.specs.IndexedLists.{listed_view}
 use Rattle.attr_search.proofs.CandidateLemmas.{tried_fit}
 use Rattle.attr_search.proofs.SearchedLemmas.{list_apart, list_by_candidates, list_idle, state_kept}
@@ -22,12 +21,7 @@ pub returns-in_err-indexes : goal.returns-in_err-indexes
 returns-in_err-indexes c = record { kept = rw c.find_candidates.ensures.unchanged (state_kept c.args.self.now); done = search rules }
 
 pub search_lines-searched-requires-clause-indexes : goal.search_lines-searched-requires-clause-indexes
-search_lines-searched-requires-clause-indexes c =
-    rw c.deref.ensures.value (tried_fit c.in-Some.rest.case (bstr_bytes c.in-Some.rest.path)
-    c.args.list.now.list.patterns.items c.in_ok-indexes.indexes.items c.in_ok-indexes.ensures.indexes)
-
-pub search_lines-searched-requires-clause-in_lines : goal.search_lines-searched-requires-clause-in_lines
-search_lines-searched-requires-clause-in_lines c = rw c.find_candidates.ensures.unchanged c.requires.in_lines
+search_lines-searched-requires-clause-indexes c = grind (arith, tried_fit)
 
 pub returns : goal.returns
 returns c =

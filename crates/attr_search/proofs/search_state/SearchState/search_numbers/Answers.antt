@@ -15,11 +15,7 @@ loop-k-init c = record {
 }
 
 pub returns-then-is_done : goal.returns-then-is_done
-returns-then-is_done c = record {
-  kept = c.loop-k.invariant.kept;
-  done = lists_done c.args.query c.args.lists.now c.loop-k.bound c.args.self.now c.loop-k.self c.loop-k.invariant.kept
-      (sym c.if-is_done.ensures) c.loop-k.invariant.searched;
-}
+returns-then-is_done c = grind (arith, lists_done)
 
 pub search_list-requires : goal.search_list-requires
 search_list-requires c =

@@ -1,7 +1,6 @@
-use Rattle.std.proofs.Common.{None, ◌∙◌, ap, get_or, length, refl, []}
+use Rattle.std.proofs.Common.{◌∙◌, ap, []}
 use Rattle.std.specs.Prelude.{slice_index_or}
 use Rattle.std.proofs.lemmas.Result.{on_ok_weaker}
-use Rattle.attr_lists.specs.declared.types.TrackedAssignment.{TrackedAssignment}
 use Rattle.attr_search.specs.inner.Pending.{pending_item}
 use Rattle.attr_search.proofs.FillingLemmas.{closes_item, fills_item, fills_kept, fills_named, has_slot, less_closed, less_open, opens_item}
 use Rattle.attr_search.proofs.FillingLemmas.{skips_item}
@@ -12,33 +11,15 @@ is_free-requires c =
     has_slot c.args.line c.args.top _ c.args.self.now c.requires.at_line c.requires.inside
     (c.item-item.ensures ∙ ap (λ bs. pending_item c.args.line.items.now bs c.args.top) c.bodies.ensures)
 
-pub fill-requires-clause-own : goal.fill-requires-clause-own
-fill-requires-clause-own c =
-    ap (λ (i : TrackedAssignment). i.id.0)
-    (c.item-item.ensures ∙ ap (λ bs. pending_item c.args.line.items.now bs c.args.top) c.bodies.ensures)
-
 pub fill-requires-clause-within : goal.fill-requires-clause-within
 fill-requires-clause-within c =
     has_slot c.args.line c.args.top _ c.args.self.now c.requires.at_line c.requires.inside
     (c.item-item.ensures ∙ ap (λ bs. pending_item c.args.line.items.now bs c.args.top) c.bodies.ensures)
 
-pub returns-then-not-is_free-clause-kept : goal.returns-then-not-is_free-clause-kept
-returns-then-not-is_free-clause-kept c = record { wanted = refl; needed = refl; len = refl; bodies = refl; skipped = λ a skip. refl }
-
 pub returns-then-not-is_free-clause-processed : goal.returns-then-not-is_free-clause-processed
 returns-then-not-is_free-clause-processed c =
     skips_item c.args.line c.args.top _ c.args.self.now
     (c.item-item.ensures ∙ ap (λ bs. pending_item c.args.line.items.now bs c.args.top) c.bodies.ensures) c.if-not-is_free.ensures
-
-pub returns-in_err-fill-clause-kept : goal.returns-in_err-fill-clause-kept
-returns-in_err-fill-clause-kept c =
-    record {
-      wanted = c.fill.ensures.wanted;
-      needed = c.fill.ensures.needed;
-      len = ap length c.in_err-fill.ensures.refused;
-      bodies = c.fill.ensures.bodies;
-      skipped = λ a skip. ap (λ l. get_or l a None) c.in_err-fill.ensures.refused;
-    }
 
 pub returns-then-not-is_expanded-clause-kept : goal.returns-then-not-is_expanded-clause-kept
 returns-then-not-is_expanded-clause-kept c =

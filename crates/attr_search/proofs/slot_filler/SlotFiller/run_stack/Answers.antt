@@ -1,19 +1,10 @@
-use Rattle.std.proofs.Common.{◌∙◌, ap, sym, refl, arith}
+use Rattle.std.proofs.Common.{sym, arith}
 use Rattle.attr_search.specs.inner.Filling.{filler_slots, stack_tasks}
 use Rattle.attr_search.specs.inner.Pending.{line_origin, table_bodies}
-use Rattle.attr_search.specs.Slots.{is_needed}
 use Rattle.attr_search.specs.shared.SlotContents.{wanted_numbers}
 use Rattle.attr_table.proofs.ForCallers.{nothing_taken, done_taken}
 use Rattle.attr_search.proofs.FillingLemmas.{pending_tasks-none, pending_tasks-top}
 use Rattle.attr_search.proofs.slot_filler.SlotFiller.run_stack.Goals as goal
-
-pub loop-alloc-init : goal.loop-alloc-init
-loop-alloc-init c = record {
-  at_line = c.requires.at_line;
-  kept = record { wanted = refl; needed = refl; len = refl; bodies = refl; skipped = λ a skip. refl };
-  named = λ names line bodies held. held;
-  filled = λ final later p. p;
-}
 
 pub returns-in_default-clause-filled : goal.returns-in_default-clause-filled
 returns-in_default-clause-filled c =
@@ -30,18 +21,8 @@ returns-in_default-clause-filled c =
 pub loop-alloc-preserved : goal.loop-alloc-preserved
 loop-alloc-preserved c = record {
   at_line = c.in_ok-process.ensures.at_line;
-  kept = record {
-    wanted = c.process.ensures.kept.wanted ∙ c.loop-alloc.invariant.kept.wanted;
-    needed = c.process.ensures.kept.needed ∙ c.loop-alloc.invariant.kept.needed;
-    len = c.process.ensures.kept.len ∙ c.loop-alloc.invariant.kept.len;
-    bodies = c.process.ensures.kept.bodies ∙ c.loop-alloc.invariant.kept.bodies;
-    skipped = λ a skip.
-        c.process.ensures.kept.skipped a (ap (λ flags. is_needed flags a) c.loop-alloc.invariant.kept.needed ∙ skip)
-        ∙ c.loop-alloc.invariant.kept.skipped a skip;
-  };
-  named = λ names line bodies held.
-      c.in_ok-process.ensures.named names line (rw c.loop-alloc.invariant.kept.bodies bodies)
-      (c.loop-alloc.invariant.named names line bodies held);
+  kept = grind arith;
+  named = λ names line bodies held. grind arith;
   filled = λ final later p.
       let now = c.loop-alloc.self in
       let top = pending_tasks-top (line_origin c.args.line) c.args.line.items.now now.slots.bodies

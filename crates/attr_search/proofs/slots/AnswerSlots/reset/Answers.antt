@@ -1,11 +1,9 @@
+use Rattle.attr_search.specs.declared.answer_parts.MatchRef.{MatchRef}
+use Rattle.std.proofs.Common.{ap, ◌≡◌, false, get_or, true, arith, ◌∙◌, sym}
+use Rattle.attr_search.specs.shared.SlotContents.{count_remaining}
 use Rattle.std.proofs.lemmas.List.Elements.{All-nil}
 use Rattle.attr_search.proofs.OpenLemmas.{open_all}
-use Rattle.std.proofs.Common.{◌≡◌, false, get_or, true, arith, List, [], Option, None, ap, refl, ◌∙◌, sym}
-use Rattle.attr_search.specs.shared.SlotContents.{SlotContents, count_remaining}
-use Rattle.attr_search.specs.inner.AnswerRefs.{matches_by_ref}
-use Rattle.attr_search.specs.Slots.{Matched}
 use Rattle.attr_search.proofs.SlotLemmas.{emptied_seen, empty_listed, empty_within}
-use Rattle.attr_search.specs.declared.answer_parts.MatchRef.{MatchRef}
 use Rattle.attr_search.proofs.WantedLemmas.{count_empty}
 use Rattle.attr_search.proofs.ListedLemmas.{rising_nothing}
 use Rattle.attr_search.proofs.slots.AnswerSlots.reset.Goals as goal
@@ -35,11 +33,4 @@ invariant_of-self c =
     }
 
 pub returns : goal.returns
-returns c =
-    let b = c.self.inside in
-    let Emptied : List (Option Matched) → SlotContents = λ answers. record
-    { answers = answers; wanted = b.wanted; needed = b.needed; line = None; bodies = b.parts.bodies; kept = 0 } in
-    rw (← c.self.view_is) (rw c.keep_none.ensures
-    (ap Emptied (emptied_seen b.parts (record b.parts { lines = []; line = None; assignments = [] }) b.slots.items c.empty.new.slots.items
-    (matches_by_ref b.parts b.slots.items) refl
-    c.empty.ensures.items)))
+returns c = grind (arith, emptied_seen)

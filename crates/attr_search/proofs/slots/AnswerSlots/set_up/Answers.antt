@@ -1,16 +1,10 @@
-use Rattle.std.proofs.Common.{arith, false, get_or, true, ℕ, ◌+◌, ◌-◌, ◌≡◌, List, Option, None, length, map, option_map, refl, sym, ap, ◌∙◌}
-use Rattle.std.proofs.lemmas.List.{length-map}
-use Rattle.attr_table.specs.Setting.{Origin}
-use Rattle.attr_search.specs.Slots.{Matched}
+use Rattle.std.proofs.lemmas.List.Elements.{All-nil}
 use Rattle.attr_search.specs.declared.answer_parts.MatchRef.{MatchRef}
-use Rattle.attr_search.specs.inner.AnswerRefs.{line_by_ref}
-use Rattle.attr_lists.specs.declared.types.TrackedAssignment.{TrackedAssignment}
-use Rattle.attr_search.specs.shared.BodyChanges.{changed_bodies, sized_bodies}
-use Rattle.attr_search.specs.inner.PartsContents.{PartsContent}
-use Rattle.attr_search.specs.shared.SlotContents.{SlotContents, count_remaining}
+use Rattle.std.proofs.Common.{None, ap, get_or, length, refl, sym, true, ◌∙◌, ◌≡◌, arith, false, ◌-◌}
+use Rattle.attr_search.specs.shared.SlotContents.{count_remaining}
+use Rattle.std.proofs.lemmas.List.{length-map}
 use Rattle.attr_search.proofs.BodyLemmas.{told_ok}
 use Rattle.attr_search.proofs.OpenLemmas.{flag_cut, flags_cut, length_cut, open_all}
-use Rattle.std.proofs.lemmas.List.Elements.{All-nil}
 use Rattle.attr_search.proofs.SlotLemmas.{empty_cut, empty_listed, empty_seen, empty_within}
 use Rattle.attr_search.proofs.ListedLemmas.{rising_nothing}
 use Rattle.attr_search.proofs.WantedLemmas.{count_empty}
@@ -23,8 +17,7 @@ write-requires-clause-len c =
     c.truncate-3.new.self.items b.filled.items c.len-count.result c.self.invariant.needed_length c.self.invariant.opened
     c.self.invariant.filled_needed c.in_ok-grow.ensures.slots.grown c.in_ok-grow.ensures.opened.grown
     (rw c.deref.ensures.value at c.empty.ensures.opened) c.truncate-3.ensures.items in
-    length_cut b.needed (length b.slots.items) c.truncate-3.new.self.items c.len-count.result c.self.invariant.needed_length cut
-    ∙ c.len-count.ensures ∙ sym c.requires.needed
+    grind (arith, length_cut)
 
 pub write-requires-clause-before : goal.write-requires-clause-before
 write-requires-clause-before c = λ number lt within.
@@ -33,8 +26,7 @@ write-requires-clause-before c = λ number lt within.
     c.truncate-3.new.self.items b.filled.items c.len-count.result c.self.invariant.needed_length c.self.invariant.opened
     c.self.invariant.filled_needed c.in_ok-grow.ensures.slots.grown c.in_ok-grow.ensures.opened.grown
     (rw c.deref.ensures.value at c.empty.ensures.opened) c.truncate-3.ensures.items in
-    flag_cut b.needed (c.len-count.result - length b.slots.items) c.truncate-3.new.self.items c.len-count.result number cut
-    (omega (arith, lt, c.requires.needed, c.len-count.ensures))
+    grind (arith, flag_cut)
 
 pub invariant_of-self-2 : goal.invariant_of-self-2
 invariant_of-self-2 c =
@@ -64,20 +56,6 @@ pub returns-clause-ok : goal.returns-clause-ok
 returns-clause-ok c =
     let slots = c.truncate-2.new.self.items in
     let wanted = c.args.wanted in
-    let parts = c.set_up.new.self in
-    let bodies = changed_bodies c.args.changes.items (sized_bodies (length wanted) c.args.self.now.bodies) in
-    let made = told_ok c.set_up.result c.is_err.result c.is_err.ensures.value c.if-is_err.false c.set_up.ensures.ok in
-    let line = ap (λ (p : PartsContent). p.line) made in
-    let changed : parts.bodies ≡ bodies = ap (λ (p : PartsContent). p.bodies) made
-    ∙ ap (λ n. changed_bodies c.args.changes.items (sized_bodies n c.self.inside.parts.bodies)) c.len-count.ensures
-    ∙ ap (λ v. changed_bodies c.args.changes.items (sized_bodies (length wanted) v.bodies)) c.self.view_is in
     let cut = empty_cut c.self.inside.slots.items c.grow.new.slots.items c.empty.new.slots.items slots c.len-count.result wanted c.len-count.ensures
     c.in_ok-grow.ensures.slots.grown c.empty.ensures.items c.truncate-2.ensures.items in
-    let kept : length parts.lines + length parts.assignments ≡ 0 = ap (λ (p : PartsContent). length p.lines + length p.assignments) made in
-    let View : List (Option Matched) → Option Origin → List (List TrackedAssignment) → ℕ → SlotContents = λ answers line bodies kept. record
-    { answers = answers; wanted = wanted; needed = c.args.needed; line = line; bodies = bodies; kept = kept } in
-    let before = length parts.lines + length parts.assignments in
-    ap (λ a. View a (option_map (line_by_ref parts) parts.line) parts.bodies before) (empty_seen parts slots wanted cut)
-    ∙ ap (λ l. View (map (λ flag. None) wanted) (option_map (line_by_ref parts) l) parts.bodies before) line
-    ∙ ap (λ b. View (map (λ flag. None) wanted) None b before) changed
-    ∙ ap (View (map (λ flag. None) wanted) None bodies) kept
+    grind (arith, told_ok, empty_seen, c.is_err.ensures.value, c.if-is_err.false, c.set_up.ensures.ok, c.len-count.ensures)
