@@ -2,18 +2,16 @@
 use Rattle.std.proofs.lemmas.Grind.{common_steps}
 use Rattle.std.proofs.lemmas.Bool.Decides.{nat_tests}
 use Rattle.std.proofs.Common.{◌≡◌, ℕ, ◌++◌, ◌-◌, append_assoc, ◌+◌, ◌<◌, ◌≤◌, Bool, true, false, List, [], ◌∷◌, length, drop, map, Option}
-use Rattle.std.proofs.Common.{Some, None, Result, Ok, Err, OnOk, OnErr}
+use Rattle.std.proofs.Common.{Some, None, Result, OnOk, OnErr}
 use Rattle.std.proofs.Common.{⊎_elim, MatchOption, option_map, slice_get, get_or, refl, sym, ap, ◌∙◌, arith, subst, eqb-true}
 use Rattle.std.specs.Prelude.{◌==◌, ⊤, bytes_eq, if◌then◌else◌, option_and_then, unwrap_or}
 use Rattle.std.specs.List.{IsDistinct}
-use Rattle.std.proofs.lemmas.List.{append-nil, length-map, map-append, drop_more, drop_all}
+use Rattle.std.proofs.lemmas.List.{append-nil, length-map, map-append, drop_more}
 use Rattle.std.specs.List.Sorted.{IsNonDecreasing}
-use Rattle.attr_search.proofs.ForCallers.{AreFreeButLeft, free_up_to, none_left as none_listed}
-use Rattle.std.proofs.lemmas.Option.{get_or_from_slice_get, slice_get_cases, slice_get_within}
+use Rattle.attr_search.proofs.ForCallers.{AreFreeButLeft, none_left as none_listed}
+use Rattle.std.proofs.lemmas.Option.{get_or_from_slice_get, slice_get_cases, slice_get_within, slice_get-map}
 use Rattle.attr_lists.specs.Collections.{Collection}
-use Rattle.gix_attributes.specs.Contents.{Content, Wanted, found_in}
-use Rattle.gix_attributes.specs.Contents.{initial_content, looked_up, names_selected, reset_content, selected_in}
-use Rattle.gix_attributes.specs.Contents.{bodies_of, wanted_of}
+use Rattle.gix_attributes.specs.Contents.{Content, Wanted, found_in, looked_up, names_selected, selected_in, bodies_of, wanted_of}
 use Rattle.attr_table.specs.Cut.{IsSearched}
 use Rattle.gix_attributes.specs.Lookups.{FindsAnswers, Lookup, OfTheOnlyTable, answers_by_number, selected_answers}
 use Rattle.attr_lists.specs.Numbers.{number_of}
@@ -24,14 +22,12 @@ use Rattle.attr_table.specs.Table.{Slots}
 use Rattle.attr_lists.proofs.ForCallers.{number_at}
 use Rattle.gix_attributes.proofs.KeepingLemmas.{bodies_have_names}
 use Rattle.gix_attributes.proofs.NarrowedLemmas.{narrowed_answers, narrowed_found, narrowed_named}
-use Rattle.gix_attributes.specs.inner.Needed.{AreNeeded, IsNarrowed}
-use Rattle.gix_attributes.proofs.OutcomeLemmas.{emptied_again, found_at, found_over, names_looked_up, nothing_found}
-use Rattle.gix_attributes.proofs.OutcomeLemmas.{reset_at_first, reset_searched}
-use Rattle.gix_attributes.specs.EngineStates.{EngineState, is_specified, path_setting, returned_answers, specified_among, texts_answered}
+use Rattle.gix_attributes.specs.inner.Needed.{IsNarrowed}
+use Rattle.gix_attributes.proofs.OutcomeLemmas.{found_over, names_looked_up, nothing_found, reset_at_first, reset_searched}
+use Rattle.gix_attributes.specs.EngineStates.{EngineState, path_setting, returned_answers, specified_among, texts_answered}
 use Rattle.gix_attributes.specs.EngineView.{returned_by}
 use Rattle.gix_attributes.specs.Registration.{RegistersAlone}
 use Rattle.gix_attributes.specs.inner.SoundEngines.{AreNumbered, AreNumbersOf, IsCurrentFor, IsOfNames, is_slot_specified}
-use Rattle.std.proofs.lemmas.Option.{slice_get-map}
 use Rattle.gix_attributes.proofs.RegistrationLemmas.{bodies_registered}
 
 -- ---- selected names
@@ -40,42 +36,25 @@ use Rattle.gix_attributes.proofs.RegistrationLemmas.{bodies_registered}
 pub names_stay : {T E : Type 0} (r : Result T E) (names texts : List (List ℕ)) (before after : Content) →
     OnOk r (after.selection ≡ looked_up names texts) → OnErr r (after ≡ before) → names_selected before.selection ≡ texts →
     names_selected after.selection ≡ texts
-names_stay (Ok x) names texts before after again same is = ap names_selected again ∙ names_looked_up names texts
-names_stay (Err e) names texts before after again same is = ap (λ (h : Content). names_selected h.selection) same ∙ is
+names_stay r names texts before after again same is = grind (arith, nat_tests, names_looked_up)
 
 -- an outcome that is initialised is current
 pub current_at_first : (known : Collection) (selected : List (List ℕ)) (held : Content) → IsNarrowed known selected held
     → IsCurrentFor known held
 current_at_first known selected held fresh = grind (arith, nat_tests, names_looked_up, reset_at_first)
 
--- what a reset leaves decides whether an outcome is current
-current_alike : (known : Collection) (before after : Content) → reset_content after ≡ reset_content before → IsCurrentFor known before
-    → IsCurrentFor known after
-current_alike known before after e current = subst (λ (h : Content). IsNarrowed known (names_selected h.selection) h) (sym e) current
-
 -- and stays so by searches and resets, for the names and the selection stay
 pub current_searched : (known : Collection) (before after : Content) → KeepsAllButAnswers before after → IsCurrentFor known before
     → IsCurrentFor known after
-current_searched known before after kept current = current_alike known before after (reset_searched before after kept) current
-
-pub current_reset : (known : Collection) (before after : Content) → after ≡ reset_content before → IsCurrentFor known before
-    → IsCurrentFor known after
-current_reset known before after e current = grind (arith, nat_tests, current_alike, emptied_again)
-
--- an outcome that is initialised or searched has the selection that it is initialised with
-pub selection_kept : (known : Collection) (selected : List (List ℕ)) (before after : Content) → IsNarrowed known selected before
-    → KeepsAllButAnswers before after → after.selection ≡ looked_up known.names selected
-selection_kept known selected before after fresh kept = grind (arith, nat_tests)
+current_searched known before after kept current = grind (arith, nat_tests, reset_searched)
 
 -- ---- answers
 
 if_true : {X : Type 0} (b : Bool) (x y : X) → b ≡ true → (if b then x else y) ≡ x
-if_true true x y e = refl
-if_true false x y e = absurd (cc)
+if_true b x y e = grind (arith, nat_tests)
 
 if_false : {X : Type 0} (b : Bool) (x y : X) → b ≡ false → (if b then x else y) ≡ y
-if_false true x y e = absurd (cc)
-if_false false x y e = refl
+if_false b x y e = grind (arith, nat_tests)
 
 module _ (q : Lookup) (list_ids : List ℕ) (before after : Content)
     (same : length list_ids ≡ length q.lists) (knows : RegistersAlone q.known list_ids q.lists) (fresh : IsNarrowed q.known q.selected before)
@@ -89,14 +68,13 @@ module _ (q : Lookup) (list_ids : List ℕ) (before after : Content)
 
   -- an outcome selects as many names as are selected
   count : length after.selection ≡ length q.selected
-  count = ap length (selection_kept q.known q.selected before after fresh kept) ∙ length-map q.selected _
+  count = grind (arith, nat_tests, length-map)
 
   returned : (answers : Slots) (b : Bool) → (length q.selected == 0) ≡ b
       → (length q.selected ≡ 0 → found_in after.slots ≡ answers_by_number q.known.names answers)
       → selected_in after.slots after.selection ≡ selected_answers q.known.names answers q.selected
       → returned_by after ≡ returned_answers state answers
-  returned answers true e all selected = grind (arith, nat_tests, if_true, count, eqb-true)
-  returned answers false e all selected = grind (arith, nat_tests, if_false, count)
+  returned answers b e all selected = grind (arith, nat_tests, if_true, count, eqb-true, if_false)
 
   -- the answers that are returned are those of the only stable table of the lists
   pub answered : OfTheOnlyTable (path_setting state q.path q.case q.is_dir) (λ answers. returned_by after ≡ returned_answers state answers)
@@ -119,23 +97,13 @@ module _ (q : Lookup) (list_ids : List ℕ) (before after : Content)
 
   -- with the names of the collection
   pub of_names : IsOfNames q.known.names after
-  of_names = grind (arith, nat_tests, selection_kept, names_looked_up, narrowed_named, bodies_named)
+  of_names = grind (arith, nat_tests, names_looked_up, narrowed_named, bodies_named)
 
 -- ---- where the answers are, if nothing is selected
-
-kept_one : (m : Matched) (ms : List Matched) → is_specified m.assignment.state ≡ true → specified_among (m ∷ ms) ≡ m ∷ specified_among ms
-kept_one m ms e = if_true (is_specified m.assignment.state) _ _ e
-
-left_out : (m : Matched) (ms : List Matched) → is_specified m.assignment.state ≡ false → specified_among (m ∷ ms) ≡ specified_among ms
-left_out m ms e = if_false (is_specified m.assignment.state) _ _ e
 
 -- what is left to be numbered from a number on
 abbrev pub left_from : List (Option Matched) → ℕ → List (Option Matched)
 left_from slots i = map Some (specified_among (found_in (drop i slots)))
-
--- after the last slot nothing is left
-pub none_left : (slots : List (Option Matched)) (i : ℕ) → length slots ≤ i → left_from slots i ≡ []
-none_left slots i le = ap (λ l. map Some (specified_among (found_in l))) (drop_all i slots le)
 
 -- as many numbers as answers
 pub same_length : (slots : List (Option Matched)) (matches : List Matched) (numbers : List ℕ) → AreNumbersOf slots matches numbers
@@ -143,8 +111,7 @@ pub same_length : (slots : List (Option Matched)) (matches : List Matched) (numb
 same_length slots matches numbers numbered = grind (arith, nat_tests, length-map)
 
 some_of_some : {X : Type 0} (o p : Option X) → Some o ≡ option_map (λ y. Some y) p → o ≡ p
-some_of_some o None e = absurd (cc)
-some_of_some o (Some y) e = cc
+some_of_some o p e = grind (arith, nat_tests)
 
 -- the answer at an index is in the slot with the number there
 pub at_index : (slots : List (Option Matched)) (matches : List Matched) (numbers : List ℕ) (i n : ℕ) → AreNumbersOf slots matches numbers
@@ -154,12 +121,6 @@ at_index slots matches numbers i n numbered here =
     (ap (option_map (λ number. get_or slots number None)) (sym here)
     ∙ (sym (slice_get-map (λ number. get_or slots number None) numbers i)
     ∙ (ap (λ l. slice_get l i) numbered ∙ slice_get-map (λ m. Some m) matches i)))
-
--- without a selection, the answer with a number is the match in the slot there
-pub answer_in_slot : (has : Bool) (held : Content) (numbers : List ℕ) (i n : ℕ) (o : Option Matched) → has ≡ true → length held.selection ≡ 0
-    → (has ≡ true → AreNumbered held numbers) → slice_get numbers i ≡ Some n → o ≡ get_or held.slots n None
-    → o ≡ option_and_then (λ answers. slice_get answers i) (if has then Some (returned_by held) else None)
-answer_in_slot has held numbers i n o given none numbered here o_is = grind (arith, nat_tests, at_index, if_true)
 
 -- ---- the numbers of the attributes that answers are for
 
@@ -218,8 +179,7 @@ next_answer (Some xs) i x e =
 -- what is left from a number on is its answer, if that is specified, and what is left from the next one on
 left_more : (slots : List (Option Matched)) (number : ℕ) (o : Option Matched) → number < length slots → get_or slots number None ≡ o →
     left_from slots number ≡ (if is_slot_specified o then o ∷ left_from slots (number + 1) else left_from slots (number + 1))
-left_more slots number None lt e = ap (λ l. map Some (specified_among l)) (found_at slots number None lt e)
-left_more slots number (Some m) lt e = grind (arith, common_steps, found_at, kept_one, left_out)
+left_more slots number o lt e = grind (arith, common_steps, nat_tests, drop_more, if_true, if_false)
 
 -- one more number is looked at
 pub numbered_more : (slots : List (Option Matched)) (before after : List ℕ) (number : ℕ) → number < length slots →
@@ -232,9 +192,7 @@ numbered_more slots before after number lt e so_far = grind (arith, common_steps
 pub left_at : (slots : List (Option Matched)) (listed : List ℕ) (from index number : ℕ) → IsNonDecreasing listed → index < length listed →
     ((d : ℕ) → get_or listed index d ≡ number) → from ≤ number → number < length slots → AreFreeButLeft slots listed from index →
     left_from slots from ≡ left_from slots number
-left_at slots listed from index number rising within at le lt free =
-    ap (λ l. map Some (specified_among l)) (found_over slots from number (number - from) (omega (arith, le)) (omega (arith, lt))
-    (free_up_to slots listed from index number rising within at free))
+left_at slots listed from index number rising within at le lt free = grind (arith, nat_tests, found_over slots from number (number - from))
 
 -- nothing is left once all that is listed was looked at
 pub all_numbered : (slots : List (Option Matched)) (listed numbers : List ℕ) (from index : ℕ) → length listed ≤ index →

@@ -1,13 +1,12 @@
 -- After a search from nothing, the macro whose body has the item of an answer has its answer too.
 use Rattle.std.proofs.lemmas.Bool.Decides.{nat_tests}
-use Rattle.std.proofs.Common.{arith, ◌≡◌, Bool, get_or, slice_get, true, ℕ, ◌⊎◌, List, [], Option, Some, None, refl, inl, inr, ⊎_elim, sym}
-use Rattle.std.proofs.Common.{ap, ◌∙◌, subst}
-use Rattle.std.specs.Prelude.{Contains, option_and_then, option_map}
+use Rattle.std.proofs.Common.{arith, ◌≡◌, Bool, get_or, slice_get, true, ℕ, ◌⊎◌, List, Option, Some, None, refl, ⊎_elim, sym, ap, ◌∙◌, subst}
+use Rattle.std.specs.Prelude.{option_and_then, option_map}
 use Rattle.std.proofs.lemmas.Option.{get_or_from_slice_get, slice_get_within}
-use Rattle.attr_table.specs.Setting.{Answer, Item, Origin, Setting, body_of}
+use Rattle.attr_table.specs.Setting.{Answer, Item, Setting, body_of}
 use Rattle.attr_table.specs.Skipped.{IsClosed}
-use Rattle.attr_table.specs.Table.{Inside, IsEarlier, IsStable, Occurrence, Root, Slots, Table, item_at, path}
-use Rattle.attr_table.specs.Cut.{IsCut, IsCutAt, IsKept, answer_at, answer_of, cause_at, full_answer, no_answers, origin_at}
+use Rattle.attr_table.specs.Table.{Inside, IsStable, Occurrence, Root, Slots, Table, item_at, path}
+use Rattle.attr_table.specs.Cut.{IsCut, IsCutAt, IsKept, answer_at, cause_at, full_answer, no_answers}
 use Rattle.attr_table.proofs.ForCallers.{entry_is, first_beginning, first_trans, seen_others}
 use Rattle.gix_attributes.proofs.SearchLaws.{has_answer}
 
@@ -19,21 +18,7 @@ cause_is s o x h = grind (arith, nat_tests)
 kept_parent : (table : Table) (wanted : List ℕ) (parent : Occurrence) (index : ℕ) → IsKept no_answers table wanted (Inside parent index) →
     IsKept no_answers table wanted parent
 kept_parent table wanted parent index kept =
-    ⊎_elim
-    (λ (free : (w : ℕ) × Contains wanted w × (no_answers w ≡ None) × (table w ≡ None)). inl free)
-    (λ (k : (w : ℕ) × (p : Occurrence) × Contains wanted w × (table w ≡ Some p) × ((Inside parent index ≡ p) ⊎ IsEarlier (Inside parent index) p)).
-    inr (k.0, k.1, k.2, k.3, inr (earlier k.1 k.4)))
-    kept
-  where
-    above : IsEarlier parent (Inside parent index)
-    above = first_beginning (path parent) index []
-
-    earlier : (p : Occurrence) → (Inside parent index ≡ p) ⊎ IsEarlier (Inside parent index) p → IsEarlier parent p
-    earlier p c =
-        ⊎_elim
-        (λ (e : Inside parent index ≡ p). subst (λ o. IsEarlier parent o) e above)
-        (λ (later : IsEarlier (Inside parent index) p). first_trans (path parent) (path (Inside parent index)) (path p) above later)
-        c
+    grind (arith, nat_tests, first_beginning (path parent) index, first_trans (path parent) (path (Inside parent index)))
 
 module _ (s : Setting) (wanted : List ℕ) (slots : Slots) (table : Table) (stable : IsStable s no_answers table)
     (cut : IsCut s no_answers table wanted slots) where
@@ -57,19 +42,10 @@ module _ (s : Setting) (wanted : List ℕ) (slots : Slots) (table : Table) (stab
       there none = absurd cc
 
       by_occurrence : (o : Occurrence) → table a ≡ Some o → answer_at s o ≡ Some x → slots cause ≡ full_answer s None (table cause)
-      by_occurrence (Root list line item) e h =
-          let none : x.cause ≡ None = cause_is s (Root list line item) x h in absurd cc
-      by_occurrence (Inside parent index) e h =
-          let reached = (entry_is s no_answers table stable a (Inside parent index) e).0.1.reached in
-          let own : x.cause ≡ Some reached.0.attribute =
-          cause_is s (Inside parent index) x h ∙ ap (option_map (λ (i : Item). i.attribute)) reached.1 in
-          let same : reached.0.attribute ≡ cause = cc in
-          subst (λ n. slots n ≡ full_answer s None (table n)) same
-          (parent_seen parent index a reached.0.attribute reached.0 reached.1 reached.3 e there)
+      by_occurrence o e h = grind (arith, nat_tests, cause_is, entry_is, stable, parent_seen, there)
 
       by_entry : (o : Option Occurrence) → table a ≡ o → slots cause ≡ full_answer s None (table cause)
-      by_entry None e =
-          let none : slots a ≡ None = subst (λ entry. IsCutAt s no_answers table wanted entry (slots a)) e (cut a) in absurd cc
+      by_entry None e = grind (arith, nat_tests, cut)
       by_entry (Some o) e =
           ⊎_elim
           (λ (none : slots a ≡ None). absurd cc)
@@ -95,15 +71,7 @@ module _ (s : Setting) (wanted : List ℕ) (slots : Slots) (table : Table) (stab
           sym (ap (option_and_then (λ (i : Item). slice_get (body_of s.bodies i.attribute) index)) reached.1) ∙ live.1.item in
           let within = slice_get_within body index live.0 item in
           let there : get_or body index live.0 ≡ live.0 = get_or_from_slice_get body index live.0 live.0 item in
-          ap needed (sym same)
-          ∙ closed reached.0.attribute index live.0 within (ap (λ (i : Item). needed i.attribute) there ∙ ap needed live.2 ∙ own)
+          grind (arith, nat_tests)
 
       by_entry : (o : Option Occurrence) → table a ≡ o → needed cause ≡ true
-      by_entry None e =
-          let none : slots a ≡ None = subst (λ entry. IsCutAt s no_answers table wanted entry (slots a)) e (cut a) in absurd cc
-      by_entry (Some o) e =
-          ⊎_elim
-          (λ (none : slots a ≡ None). absurd cc)
-          (λ (full : slots a ≡ full_answer s None (table a)).
-          by_occurrence o e (sym (ap (full_answer s None) e) ∙ (sym full ∙ here)))
-          (seen_others s no_answers wanted table slots a stable cut)
+      by_entry o e = grind (arith, nat_tests, cut, by_occurrence, seen_others, stable)

@@ -1,10 +1,10 @@
 -- A collection holds a search after lists are added and removed.
-use Rattle.std.proofs.Common.{◌≡◌, ◌≢◌, ℕ, Bool, true, false, List, [], ◌∷◌, ◌++◌, map, refl, sym, ap, ◌∙◌, subst, nat_eq}
+use Rattle.std.proofs.Common.{arith, ◌≡◌, ◌≢◌, ℕ, Bool, false, List, [], ◌∷◌, ◌++◌, map, refl, subst, nat_eq, Some, eq-eqb}
+use Rattle.std.proofs.lemmas.Bool.Decides.{nat_tests}
 use Rattle.std.specs.Prelude.{All}
 use Rattle.std.specs.List.{AllZip, IsDistinct}
 use Rattle.std.specs.Cmp.{IsEquivalence}
 use Rattle.std.proofs.lemmas.Bool.{eqb-true}
-use Rattle.std.proofs.Common.{Some, eq-eqb}
 use Rattle.std.proofs.lemmas.List.{map-append}
 use Rattle.std.proofs.lemmas.List.Elements.{All-nil, All-cons, All-head, All-tail, All-push, All-pop, All-weaker, All-map, All-from_recursion}
 use Rattle.std.proofs.lemmas.List.Elements.{recursion_from_All}
@@ -13,8 +13,7 @@ use Rattle.std.proofs.lemmas.Map.Keys.{IsDistinct-push}
 use Rattle.attr_lists.specs.Collections.{Collection}
 use Rattle.attr_lists.specs.Definitions.{HoldsList, is_registered}
 use Rattle.attr_lists.specs.ListViews.{entries_view}
-use Rattle.attr_lists.specs.shared.Keeping.{StayRegistered}
-use Rattle.attr_lists.specs.shared.Keeping.{OthersStayRegistered}
+use Rattle.attr_lists.specs.shared.Keeping.{StayRegistered, OthersStayRegistered}
 use Rattle.attr_lists.proofs.ForCallers.{held_registered}
 use Rattle.gix_attributes.specs.SearchViews.{AreHeld}
 use Rattle.gix_attributes.specs.inner.HeldLists.{AreHeldLists, IsHeldList}
@@ -22,15 +21,9 @@ use Rattle.attr_search.specs.IndexedLists.{list_ids_of, lists_view}
 use Rattle.attr_search.specs.ListView.{Listed}
 use Rattle.attr_search.specs.declared.indexed_list.IndexedList.{IndexedList}
 
-true-false : true ≡ false → ⊥
-true-false e = absurd cc
-
 other : (known : Collection) (list_id : ℕ) → is_registered known list_id ≡ false → (s : IndexedList) → IsHeldList known s → (b : Bool)
     → nat_eq list_id s.list_id ≡ b → b ≡ false
-other known list_id free s held false e = refl
-other known list_id free s held true e =
-    absurd (true-false (sym (held_registered known s.list_id (entries_view s.list.patterns.items) held)
-    ∙ ap (is_registered known) (sym (eqb-true list_id s.list_id e)) ∙ free))
+other known list_id free s held b e = grind (arith, nat_tests, held_registered, eqb-true)
 
 -- one more list, under a list id that no other has
 pub held_more : (before after : Collection) (lists : List IndexedList) (s : IndexedList)
@@ -44,8 +37,7 @@ held_more before after lists s laws keeps new free held =
     let apart = list_any_none (nat_eq s.list_id) list_ids (All-map (λ m. nat_eq s.list_id m ≡ false) (λ (x : IndexedList). x.list_id) lists others)
     in
     record {
-      distinct = subst (IsDistinct nat_eq) (sym (map-append (λ (x : IndexedList). x.list_id) lists (s ∷ [])))
-          (IsDistinct-push laws list_ids s.list_id held.distinct apart);
+      distinct = grind (arith, nat_tests, nat_eq, map-append, IsDistinct-push);
       held = All-push (IsHeldList after) lists s (All-weaker (IsHeldList before) (IsHeldList after)
           (λ x h. keeps x.list_id (entries_view x.list.patterns.items) h) lists held.held) new;
     }
@@ -56,13 +48,12 @@ pub distinct-parts : (list_ids : List ℕ) (list_id : ℕ) → IsDistinct nat_eq
 unfolding IsDistinct
 distinct-parts [] list_id d = (tt, All-nil (λ m. nat_eq m list_id ≡ false))
 distinct-parts (m ∷ ms) list_id d =
-    let rest = distinct-parts ms list_id d.1 in
-    let first = All-pop (λ k. nat_eq m k ≡ false) (ms ++ list_id ∷ []) ms (Some list_id) refl
-    (All-from_recursion (λ k. nat_eq m k ≡ false) (ms ++ list_id ∷ []) d.0) in
-    ((recursion_from_All (λ k. nat_eq m k ≡ false) ms first.0, rest.0), All-cons (λ k. nat_eq k list_id ≡ false) m ms first.1 rest.1)
+    let first = All-pop (λ k. nat_eq m k ≡ false) (ms ++ list_id ∷ []) ms (Some list_id) refl (All-from_recursion (λ k. nat_eq m k ≡ false)
+    (ms ++ list_id ∷ []) d.0) in
+    grind (arith, nat_tests, recursion_from_All, nat_eq, All-cons, distinct-parts ms list_id d.1)
 
 apart : (x y : ℕ) → nat_eq x y ≡ false → x ≢ y
-apart x y differ same = true-false (sym (eq-eqb x y same) ∙ differ)
+apart x y differ same = grind (arith, nat_tests, eq-eqb)
 
 others-held : (before after : Collection) (list_id : ℕ) → OthersStayRegistered list_id before after → (lists : List IndexedList)
     → All (λ m. nat_eq m list_id ≡ false) (list_ids_of lists) → All (IsHeldList before) lists → All (IsHeldList after) lists

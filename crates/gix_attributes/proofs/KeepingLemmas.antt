@@ -1,21 +1,17 @@
 -- What additions and removals keep, and what a collection registers after them.
-use Rattle.std.proofs.Common.{◌≡◌, ◌≢◌, ◌∙◌, ℕ, zero, suc, ◌+◌, ◌-◌, ◌<◌, ◌≤◌, true, false, not, cond, eqb, List, [], ◌∷◌, ◌++◌, length, get_or, map}
-use Rattle.std.proofs.Common.{All}
-use Rattle.std.proofs.Common.{nat_eq, eq-eqb, slice_get, Option, Some, None, option_map, unwrap_or, MatchOption, refl, sym, ap, subst, append_assoc}
-use Rattle.std.proofs.Common.{arith, ⊎_elim}
-use Rattle.std.specs.Bool.{⊤}
-use Rattle.std.specs.Prelude.{IfSome}
-use Rattle.std.specs.List.{IsDistinct, flat_map, range_with_len}
-use Rattle.std.proofs.lemmas.Bool.{cases_Bool, cond-true, cond-false, eqb-true, true≢false}
+use Rattle.std.proofs.lemmas.Bool.Decides.{nat_tests}
+use Rattle.std.proofs.Common.{◌≡◌, ◌≢◌, ◌∙◌, ℕ, suc, ◌+◌, ◌-◌, ◌<◌, true, false, eqb, List, [], ◌∷◌, ◌++◌, length, get_or, map, All}
+use Rattle.std.proofs.Common.{nat_eq, eq-eqb, slice_get, Option, Some, option_map, unwrap_or, refl, sym, ap, subst, append_assoc, arith}
+use Rattle.std.specs.List.{IsDistinct, range_with_len}
+use Rattle.std.proofs.lemmas.Bool.{cases_Bool, cond-true, cond-false, true≢false}
 use Rattle.std.proofs.lemmas.Grind.{flat_map-append}
 use Rattle.std.proofs.lemmas.List.{append-nil, map-append, length-map, length-append, get_or_default, ext_get_or}
 use Rattle.std.proofs.lemmas.List.Elements.{All-nil, All-cons, All-head, All-tail, All-map, All-pop, All-push, All-weaker, filter-append}
 use Rattle.attr_lists.specs.Collections.{MacroDefinition, Collection}
-use Rattle.attr_lists.specs.Definitions.{IsSoundCollection, RegistersAs, bodies_named, definition_of, definitions_for, definitions_of}
+use Rattle.attr_lists.specs.Definitions.{IsSoundCollection, RegistersAs, bodies_named, definition_of}
 use Rattle.attr_lists.specs.Definitions.{is_registered, last_body, macro_body, of_other_lists, without_list}
 use Rattle.attr_lists.specs.ListViews.{Entry, entries_view}
-use Rattle.attr_lists.specs.Numbers.{AppendsNames, AreNamed, IsNumberOf, names_in, numbered_lines, with_names}
-use Rattle.attr_lists.specs.declared.types.AttributeId.{AttributeId}
+use Rattle.attr_lists.specs.Numbers.{AppendsNames, AreNamed, names_in, numbered_lines, with_names}
 use Rattle.attr_lists.specs.shared.Keeping.{IsNumbered, OthersStayRegistered, StayRegistered}
 use Rattle.attr_lists.specs.declared.types.TrackedAssignment.{TrackedAssignment}
 use Rattle.attr_lists.proofs.ForCallers.{body_named, definitions_by_name, get_or-map, held_registered, list_numbered, of_other_lists-append}
@@ -40,118 +36,58 @@ use Rattle.gix_attributes.proofs.SelectionLemmas.{body_at, length_bodies}
 -- ---- names
 
 get_still : {X : Type 0} (xs more : List X) (i : ℕ) (x : X) → slice_get xs i ≡ Some x → slice_get (xs ++ more) i ≡ Some x
-get_still [] more i x h = absurd cc
-get_still (y ∷ ys) more zero x h = h
 get_still (y ∷ ys) more (suc i) x h = get_still ys more i x h
+get_still xs more i x h = grind (arith, nat_tests)
 
 name_still : (old new : List (List ℕ)) → AppendsNames old new → (i : ℕ) (name : List ℕ) → slice_get old i ≡ Some name
     → slice_get new i ≡ Some name
 name_still old new more i name h = subst (λ ns. slice_get ns i ≡ Some name) (sym more.1) (get_still old more.0 i name h)
 
-items_still : (old new : List (List ℕ)) → AppendsNames old new → (items : List TrackedAssignment) → AreNamed old items → AreNamed new items
-items_still old new more items h = All-weaker (λ (i : TrackedAssignment). IsNumberOf old i.inner.name i.id)
-    (λ (i : TrackedAssignment). IsNumberOf new i.inner.name i.id) (λ i at. name_still old new more i.id.0 i.inner.name at) items h
-
 lines_still : (old new : List (List ℕ)) → AppendsNames old new → (lines : List Entry) → LinesAreNamed old lines → LinesAreNamed new lines
-lines_still old new more lines h = All-weaker (λ (e : Entry). AreNamed old e.items) (λ (e : Entry). AreNamed new e.items)
-    (λ e at. items_still old new more e.items at) lines h
+lines_still old new more lines h = grind (arith, nat_tests, name_still, All-weaker)
 
 -- what has the numbers of its names still has them when names are appended
 pub lists_still : (old new : List (List ℕ)) → AppendsNames old new → (lists : List Listed) → ListsAreNamed old lists → ListsAreNamed new lists
-lists_still old new more lists h = All-weaker (λ (l : Listed). LinesAreNamed old l.lines) (λ (l : Listed). LinesAreNamed new l.lines)
-    (λ l at. lines_still old new more l.lines at) lists h
+lists_still old new more lists h = grind (arith, nat_tests, lines_still old new more, All-weaker)
 
 pub bodies_still : (old new : List (List ℕ)) → AppendsNames old new → (bodies : List (List TrackedAssignment)) → BodiesAreNamed old bodies
     → BodiesAreNamed new bodies
-bodies_still old new more bodies h = All-weaker (AreNamed old) (AreNamed new) (λ b at. items_still old new more b at) bodies h
+bodies_still old new more bodies h = grind (arith, nat_tests, All-weaker, name_still)
 
 pub answers_still : (old new : List (List ℕ)) → AppendsNames old new → (answers : List (Option Matched)) → HeldAreNamed old answers
     → HeldAreNamed new answers
-answers_still old new more answers h a = at (get_or answers a None) (h a)
-  where
-    at : (o : Option Matched) → MatchOption o ⊤ (λ m. slice_get old a ≡ Some m.assignment.name)
-        → MatchOption o ⊤ (λ m. slice_get new a ≡ Some m.assignment.name)
-    at None e = e
-    at (Some m) e = name_still old new more a m.assignment.name e
-
-appends_same : (names : List (List ℕ)) → AppendsNames names names
-appends_same names = ([], sym (append-nil names))
-
-appends_then : (one two three : List (List ℕ)) → AppendsNames one two → AppendsNames two three → AppendsNames one three
-appends_then one two three first second =
-    (first.0 ++ second.0, second.1 ∙ (ap (λ ns. ns ++ second.0) first.1 ∙ append_assoc one first.0 second.0))
+answers_still old new more answers h a = grind (arith, nat_tests, name_still)
 
 -- ---- numbers of names
 
 get_within : {X : Type 0} (xs : List X) (i : ℕ) (x : X) → slice_get xs i ≡ Some x → i < length xs
-get_within [] i x h = absurd cc
-get_within (y ∷ ys) zero x h = omega arith
 get_within (y ∷ ys) (suc i) x h = let within = get_within ys i x h in omega (arith, within)
+get_within xs i x h = grind (arith, nat_tests)
 
 -- numbers of names are below the count of names
 line_covered : (names : List (List ℕ)) (e : Entry) → IsNumbered names e → IsCovered (length names) e
-line_covered names e is = record {
-  items = All-weaker (λ (i : TrackedAssignment). IsNumberOf names i.inner.name i.id) (λ (i : TrackedAssignment). i.id.0 < length names)
-      (λ i at. get_within names i.id.0 i.inner.name at) e.items is.items;
-  macro = at e.macro is.macro;
-}
-  where
-    at : (o : Option AttributeId) → IfSome o (IsNumberOf names e.pattern.text) → MatchOption o ⊤ (λ id. id.0 < length names)
-    at None h = tt
-    at (Some id) h = get_within names id.0 e.pattern.text h
-
-line_more : (n m : ℕ) → n ≤ m → (e : Entry) → IsCovered n e → IsCovered m e
-line_more n m more e is = record {
-  items = All-weaker (λ (i : TrackedAssignment). i.id.0 < n) (λ (i : TrackedAssignment). i.id.0 < m)
-      (λ i lt. omega (arith, lt, more)) e.items is.items;
-  macro = at e.macro is.macro;
-}
-  where
-    at : (o : Option AttributeId) → MatchOption o ⊤ (λ id. id.0 < n) → MatchOption o ⊤ (λ id. id.0 < m)
-    at None h = tt
-    at (Some id) h = omega (arith, h, more)
+line_covered names e is = grind (arith, nat_tests, All-weaker, get_within)
 
 -- numbers of names still are when names are appended
 pub covered_still : (old new : List (List ℕ)) → AppendsNames old new → (lists : List Listed) → ListsAreCovered (length old) lists
     → ListsAreCovered (length new) lists
-covered_still old new more lists h =
-    let longer : length old ≤ length new =
-    let long : length new ≡ length old + length more.0 = ap length more.1 ∙ length-append old more.0 in omega (arith, long) in
-    All-weaker (λ (l : Listed). AreCovered (length old) l.lines) (λ (l : Listed). AreCovered (length new) l.lines)
-    (λ l at. All-weaker (IsCovered (length old)) (IsCovered (length new)) (λ e is. line_more (length old) (length new) longer e is) l.lines at)
-    lists h
+covered_still old new more lists h = grind (arith, nat_tests, length-append, All-weaker)
 
 -- ---- calls that change nothing, and calls in a row
 
 pub keeps_same : (lists : RegisteredLists) → Keeps lists lists
-keeps_same lists = record {
-  names = appends_same lists.known.names;
-  named = λ h. h;
-  covered = λ h. h;
-  others = λ other apart held. (apart, held);
-}
+keeps_same lists = grind (arith, nat_tests, append-nil)
 
 pub keeps_then : (one two three : RegisteredLists) → Keeps one two → Keeps two three → Keeps one three
-keeps_then one two three first second = record {
-  names = appends_then one.known.names two.known.names three.known.names first.names second.names;
-  named = λ h. second.named (first.named h);
-  covered = λ h. second.covered (first.covered h);
-  others = λ other apart held. let mid = first.others other apart held in second.others other mid.0 mid.1;
-}
+keeps_then one two three first second = grind (arith, nat_tests, append_assoc)
 
 pub adds_same : (lists : RegisteredLists) → Adds lists lists
-adds_same lists = record {
-  added = [];
-  to_search = sym (append-nil (with_list_ids lists.list_ids lists.lists));
-  to_collection = λ register h. subst (RegistersExactly lists.known) (sym (append-nil register)) h;
-  held = λ search h. h;
-}
+adds_same lists = grind (arith, nat_tests, append-nil)
 
 pub adds_then : (one two three : RegisteredLists) → Adds one two → Adds two three → Adds one three
 adds_then one two three first second = record {
   added = first.added ++ second.added;
-  to_search = second.to_search ∙ (ap (λ rs. rs ++ second.added) first.to_search
-      ∙ append_assoc (with_list_ids one.list_ids one.lists) first.added second.added);
+  to_search = grind (arith, nat_tests, append_assoc);
   to_collection = λ register h. subst (RegistersExactly three.known) (append_assoc register first.added second.added)
       (second.to_collection (register ++ first.added) (first.to_collection register h));
   held = λ search h. second.held search (first.held search h);
@@ -190,8 +126,7 @@ free_apart known list_id search free h =
     let items = search.patterns.lists.items in
     All-map (λ m. m ≢ list_id) (λ (s : IndexedList). s.list_id) items
     (All-weaker (IsHeldList known) (λ (s : IndexedList). s.list_id ≢ list_id)
-    (λ s e same. true≢false (sym (held_registered known s.list_id (entries_view s.list.patterns.items) e)
-    ∙ (ap (is_registered known) same ∙ free))) items (held_lists known items h).held)
+    (λ s e same. grind (arith, nat_tests, true≢false, held_registered)) items (held_lists known items h).held)
 
 -- ---- lists and their list ids
 
@@ -204,15 +139,7 @@ views_registered (s ∷ ss) = ap (λ rs. registered_view s ∷ rs) (views_regist
 
 one_registered : (before after : List IndexedList) (s : IndexedList) → after ≡ before ++ s ∷ []
     → with_list_ids (list_ids_of after) (lists_view after) ≡ with_list_ids (list_ids_of before) (lists_view before) ++ registered_view s ∷ []
-one_registered before after s e =
-    views_registered after ∙ (ap (map registered_view) e ∙ (map-append registered_view before (s ∷ [])
-    ∙ ap (λ rs. rs ++ registered_view s ∷ []) (sym (views_registered before))))
-
-push_definitions : (register : List Registered) (r : Registered) (name : List ℕ) → definitions_under (register ++ r ∷ []) name
-    ≡ definitions_under register name ++ map (definition_of r.list_id) (bodies_named name r.list.lines)
-push_definitions register r name =
-    let f : Registered → List MacroDefinition = λ x. map (definition_of x.list_id) (bodies_named name x.list.lines) in
-    flat_map-append f register (r ∷ []) ∙ ap (λ ds. flat_map f register ++ ds) (append-nil (f r))
+one_registered before after s e = grind (arith, nat_tests, views_registered, map-append)
 
 -- ---- a list is added
 
@@ -249,16 +176,7 @@ module _ (known now : Collection) (list_id : ℕ) (entries : List Entry) (regist
   -- a list is registered after all others
   pub registers_more : (list : Listed) → list.lines ≡ numbered_lines now.names entries → IsSoundCollection now
       → RegistersLast known (record { list_id = list_id; list = list }) now
-  registers_more list lines_are sound register h =
-      let r : Registered = record { list_id = list_id; list = list } in
-      record {
-        sound = sound;
-        defined = λ name.
-            registered_for known now list_id entries h.sound registers name
-            ∙ (ap (λ ds. ds ++ map (definition_of list_id) (bodies_named name (numbered_lines now.names entries))) (h.defined name)
-            ∙ (ap (λ ls. definitions_under register name ++ map (definition_of list_id) (bodies_named name ls)) (sym lines_are)
-            ∙ sym (push_definitions register r name)));
-      }
+  registers_more list lines_are sound register h = grind (arith, nat_tests, registered_for, registers, flat_map-append, append-nil)
 
 module _ (known now : Collection) (entries : List Entry) (before after : List IndexedList) (s : IndexedList)
     (registers : RegistersAs s.list_id entries known now) (pushed : after ≡ before ++ s ∷ [])
@@ -300,28 +218,13 @@ module _ (known now : Collection) (entries : List Entry) (before after : List In
 others_left : (list_id other : ℕ) (bodies : List (List TrackedAssignment)) → eqb other list_id ≡ false
     → of_other_lists list_id (map (definition_of other) bodies) ≡ map (definition_of other) bodies
 others_left list_id other [] e = refl
-others_left list_id other (b ∷ bs) e =
-    let rest = of_other_lists list_id (map (definition_of other) bs) in
-    ap (λ t. cond (not t) (definition_of other b ∷ rest) rest) e ∙ ap (λ ds. definition_of other b ∷ ds) (others_left list_id other bs e)
+others_left list_id other (b ∷ bs) e = grind (arith, nat_tests, others_left list_id other bs e)
 
 definitions_left : (list_id : ℕ) (name : List ℕ) (register : List Registered) → of_other_lists list_id (definitions_under register name)
     ≡ definitions_under (without_registered list_id register) name
 definitions_left list_id name [] = refl
 definitions_left list_id name (r ∷ rs) =
-    let bodies = bodies_named name r.list.lines in
-    let rest = definitions_left list_id name rs in
-    of_other_lists-append list_id (map (definition_of r.list_id) bodies) (definitions_under rs name)
-    ∙ ⊎_elim
-    (λ (own : eqb r.list_id list_id ≡ true).
-    ap (λ ds. ds ++ of_other_lists list_id (definitions_under rs name))
-    (ap (λ m. of_other_lists list_id (map (definition_of m) bodies)) (eqb-true r.list_id list_id own) ∙ of_other_lists-own list_id bodies)
-    ∙ (rest ∙ ap (λ l. definitions_under l name)
-    (sym (cond-false (not (eqb r.list_id list_id)) (r ∷ without_registered list_id rs) (without_registered list_id rs) (ap not own)))))
-    (λ (other : eqb r.list_id list_id ≡ false).
-    ap (λ ds. ds ++ of_other_lists list_id (definitions_under rs name)) (others_left list_id r.list_id bodies other)
-    ∙ (ap (λ ds. map (definition_of r.list_id) bodies ++ ds) rest ∙ ap (λ l. definitions_under l name)
-    (sym (cond-true (not (eqb r.list_id list_id)) (r ∷ without_registered list_id rs) (without_registered list_id rs) (ap not other)))))
-    (cases_Bool (eqb r.list_id list_id))
+    grind (arith, of_other_lists-append, of_other_lists-own, cond-false, others_left, cond-true, cases_Bool, definitions_left list_id name rs)
 
 module _ (known now : Collection) (before after : List IndexedList) (s : IndexedList) (popped : before ≡ after ++ s ∷ [])
     (now_is : now ≡ without_list s.list_id known) (stays : OthersStayRegistered s.list_id known now) where
@@ -344,31 +247,20 @@ module _ (known now : Collection) (before after : List IndexedList) (s : Indexed
   }
 
   pub removes_removed : IsSoundCollection now → Removes (state before known) (state after now)
-  removes_removed sound = record {
-    removed = registered_view s;
-    of_search = one_registered after before s popped;
-    of_collection = λ register h. record {
-      sound = sound;
-      defined = λ name. ap (λ (k : Collection). definitions_for k name) now_is
-          ∙ (removed_for known s.list_id name ∙ (ap (of_other_lists s.list_id) (h.defined name) ∙ definitions_left s.list_id name register));
-    };
-  }
+  removes_removed sound = grind (arith, nat_tests, one_registered after before s popped, removed_for known, popped, now_is, definitions_left)
 
 -- ---- searches without lists
 
 pub as_no_lists : (search : Search) (known : Collection) → lists_in search ≡ [] → list_ids_in search ≡ []
     → registered_lists search known ≡ no_lists known
-as_no_lists search known none no_ids =
-    ap (λ ls. record { lists = ls; list_ids = list_ids_in search; known = known }) none
-    ∙ ap (λ ids. record { lists = []; list_ids = ids; known = known }) no_ids
+as_no_lists search known none no_ids = grind (arith, nat_tests)
 
 -- ---- the lists of one search alone
 
 ids_registered : (list_ids : List ℕ) (lists : List Listed) → length list_ids ≡ length lists
     → map (λ (r : Registered). r.list_id) (with_list_ids list_ids lists) ≡ list_ids
-ids_registered [] lists e = refl
-ids_registered (m ∷ ms) [] e = absurd (omega arith)
 ids_registered (m ∷ ms) (l ∷ ls) e = ap (λ ids. m ∷ ids) (ids_registered ms ls (omega arith))
+ids_registered list_ids lists e = grind (arith, nat_tests)
 
 -- lists without their list ids
 pub lists_with_ids : (list_ids : List ℕ) (lists : List Listed) → length list_ids ≡ length lists
@@ -384,19 +276,11 @@ none_left list_id [] h = refl
 none_left list_id (r ∷ rs) h =
     let P : ℕ → Type 0 = λ m. nat_eq m list_id ≡ false in
     let ids = map (λ (x : Registered). x.list_id) rs in
-    cond-true (not (nat_eq r.list_id list_id)) (r ∷ without_registered list_id rs) (without_registered list_id rs)
-    (ap not (All-head P r.list_id ids h))
-    ∙ ap (λ l. r ∷ l) (none_left list_id rs (All-tail P r.list_id ids h))
+    grind (arith, nat_tests, cond-true, nat_eq, All-head, All-tail, none_left list_id rs (All-tail P r.list_id ids h))
 
 without_last : (rs : List Registered) (r : Registered) → IsDistinct nat_eq (map (λ (x : Registered). x.list_id) (rs ++ r ∷ []))
     → without_registered r.list_id (rs ++ r ∷ []) ≡ rs
-without_last rs r distinct =
-    let id : Registered → ℕ = λ x. x.list_id in
-    let parts = distinct-parts (map id rs) r.list_id (subst (IsDistinct nat_eq) (map-append id rs (r ∷ [])) distinct) in
-    filter-append (λ (x : Registered). not (nat_eq x.list_id r.list_id)) rs (r ∷ [])
-    ∙ (ap (λ l. l ++ without_registered r.list_id (r ∷ [])) (none_left r.list_id rs parts.1)
-    ∙ (ap (λ l. rs ++ l) (cond-false (not (nat_eq r.list_id r.list_id)) (r ∷ []) [] (ap not (eq-eqb r.list_id r.list_id refl)))
-    ∙ append-nil rs))
+without_last rs r distinct = grind (arith, nat_tests, distinct-parts, nat_eq, map-append, filter-append, none_left, cond-false, eq-eqb, append-nil)
 
 -- a collection that registers the lists of a search alone registers what is left of them
 pub left_alone : (before after : RegisteredLists) → Removes before after → IsDistinct nat_eq before.list_ids
@@ -417,9 +301,8 @@ left_alone before after gone distinct same h =
 -- ---- bodies
 
 slice_get-map : {X Y : Type 0} (f : X → Y) (xs : List X) (i : ℕ) → slice_get (map f xs) i ≡ option_map f (slice_get xs i)
-slice_get-map f [] i = refl
-slice_get-map f (x ∷ xs) zero = refl
 slice_get-map f (x ∷ xs) (suc i) = slice_get-map f xs i
+slice_get-map f xs i = grind (arith, nat_tests)
 
 -- the bodies of definitions, without their list ids
 bodies_under : (register : List Registered) (name : List ℕ) → map (λ (d : MacroDefinition). d.body) (definitions_under register name)
@@ -436,10 +319,7 @@ bodies_under (r ∷ rs) name =
 
 last_of : (ds : List MacroDefinition) (bodies : List (List TrackedAssignment)) → map (λ (d : MacroDefinition). d.body) ds ≡ bodies
     → last_body ds ≡ unwrap_or (slice_get bodies (length bodies - 1)) []
-last_of ds bodies e =
-    ap (λ (o : Option (List TrackedAssignment)). unwrap_or o []) (sym (slice_get-map (λ (d : MacroDefinition). d.body) ds (length ds - 1)))
-    ∙ (ap (λ n. unwrap_or (slice_get (map (λ (d : MacroDefinition). d.body) ds) (n - 1)) []) (sym (length-map ds (λ (d : MacroDefinition). d.body)))
-    ∙ ap (λ bs. unwrap_or (slice_get bs (length bs - 1)) []) e)
+last_of ds bodies e = grind (arith, nat_tests, slice_get-map, length-map)
 
 -- the body of each name is the last definition in the lists that are registered
 pub bodies_registered : (known : Collection) (register : List Registered) → RegistersExactly known register

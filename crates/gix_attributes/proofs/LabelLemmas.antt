@@ -1,8 +1,7 @@
 -- What labels stand for: each the source with its index, whichever sources are appended.
 use Rattle.std.proofs.lemmas.Bool.Decides.{nat_tests}
-use Rattle.std.proofs.Common.{◌≡◌, ℕ, zero, suc, ◌<◌, ◌^◌, Bool, true, false, List, [], ◌∷◌, ◌++◌, length, map}
-use Rattle.std.proofs.Common.{Option, Some, None, option_map, slice_get, unwrap_or, refl, ap, ◌∙◌, arith}
-use Rattle.std.specs.Prelude.{IfSome, if◌then◌else◌}
+use Rattle.std.proofs.Common.{◌≡◌, ℕ, ◌<◌, ◌^◌, true, List, [], ◌∷◌, ◌++◌, length, map, Option, option_map, slice_get, unwrap_or, refl, arith}
+use Rattle.std.specs.Prelude.{IfSome}
 use Rattle.std.specs.Str.{all_ascii_digits}
 use Rattle.std.specs.Str.Parse.{digits_value}
 use Rattle.std.proofs.lemmas.Option.{unwrap_or-slice_get}
@@ -39,20 +38,14 @@ source_at-more sources more text below = grind (arith, nat_tests, unwrap_or-slic
 
 option_more : (sources more : List (List ℕ)) (source : Option (List ℕ)) → IfSome source (IsLabelBelow (length sources)) →
     option_map (source_at (sources ++ more)) source ≡ option_map (source_at sources) source
-option_more sources more None below = refl
-option_more sources more (Some text) below = ap Some (source_at-more sources more text below)
+option_more sources more source below = grind (arith, nat_tests, source_at-more)
 
 lists_more : (sources more : List (List ℕ)) (lists : List Listed) → AreLabelsBelow (length sources) lists →
     map (list_told (source_at (sources ++ more))) lists ≡ map (list_told (source_at sources)) lists
 lists_more sources more [] below = refl
 lists_more sources more (list ∷ lists) below =
     let P : Listed → Type 0 = λ l. IfSome l.source (IsLabelBelow (length sources)) in
-    grind (
-      arith,
-      nat_tests,
-      option_more sources more list.source (All-head P list lists below),
-      lists_more sources more lists (All-tail P list lists below),
-    )
+    grind (arith, nat_tests, option_more, All-head, All-tail, lists_more sources more lists (All-tail P list lists below))
 
 pub state_told-more : (sources more : List (List ℕ)) (s : EngineState) → AreLabelsBelow (length sources) s.lists →
     state_told (source_at (sources ++ more)) s ≡ state_told (source_at sources) s

@@ -4,7 +4,7 @@ use Rattle.std.proofs.lemmas.Bool.Decides.{nat_tests}
 use Rattle.std.proofs.Common.{◌≡◌, inl, inr, ℕ, zero, suc, ◌+◌, ◌<◌, ◌==◌, Bool, true, false, List, [], ◌∷◌, ◌++◌, length, get_or, map, replicate}
 use Rattle.std.proofs.Common.{filter, slice_get, All, Option, Some, None, MatchOption, option_map, unwrap_or, refl, sym, ap, ◌∙◌, arith}
 use Rattle.std.proofs.Common.{subst, ⊎_elim, eqb-true}
-use Rattle.std.specs.Prelude.{bytes_eq, option_and_then, ⊤, is_some}
+use Rattle.std.specs.Prelude.{option_and_then, ⊤, is_some}
 use Rattle.std.specs.List.{Contains, cons_option, filter_map, list_any, range_with_len}
 use Rattle.std.proofs.lemmas.Bool.{or_cases}
 use Rattle.std.proofs.lemmas.List.{length-map, map-append}
@@ -15,19 +15,17 @@ use Rattle.std.proofs.lemmas.List.Folds.{Any-from_list_any, list_all_at}
 use Rattle.std.proofs.lemmas.List.Quantifiers.{position-Some}
 use Rattle.std.proofs.lemmas.Slice.Eq.{bytes_eq-Decides}
 use Rattle.attr_text.specs.declared.state.State.{State}
-use Rattle.attr_text.specs.declared.state.State.TheVariants.{Set, Unset, Value, Unspecified}
 use Rattle.attr_wildmatch.specs.declared.case.Case.{Case}
 use Rattle.attr_lists.specs.Numbers.{number_of}
 use Rattle.attr_lists.specs.declared.types.TrackedAssignment.{TrackedAssignment}
 use Rattle.attr_table.specs.Setting.{Answer, Setting}
 use Rattle.attr_table.specs.Table.{IsStable, Occurrence, OneTable, Slots, Table}
 use Rattle.attr_table.specs.Cut.{IsSearched, answer_at, full_answer, is_done, no_answers}
-use Rattle.attr_table.proofs.ForCallers.{OneTable-of}
+use Rattle.attr_table.proofs.ForCallers.{OneTable-of, narrowed_at}
 use Rattle.attr_search.specs.ListView.{Listed}
 use Rattle.attr_search.specs.Settings.{BodiesAreNamed, HeldAreNamed, LinesAreNamed, lines_of, setting_of}
 use Rattle.attr_search.specs.Slots.{Matched, is_needed, slots_of, table_answer, table_items, table_state}
 use Rattle.attr_table.specs.Skipped.{narrowed}
-use Rattle.attr_table.proofs.ForCallers.{narrowed_at}
 use Rattle.gix_attributes.specs.Contents.{Content, Wanted, found_in, has_number, initial_content}
 use Rattle.gix_attributes.specs.Contents.{is_wanted, looked_up, selected_in, unspecified, wanted_of}
 use Rattle.gix_attributes.specs.inner.Needed.{flags_of}
@@ -43,15 +41,12 @@ use Rattle.gix_attributes.proofs.SearchLaws.{name_wanted, not_done, nothing_in, 
 -- ---- lists
 
 from_filter : {X : Type 0} (p : X → Bool) (xs : List X) (x : X) → Contains (filter p xs) x → (p x ≡ true) × Contains xs x
-from_filter p xs x c = (
-  All-contains (λ y. p y ≡ true) (filter p xs) x (filter_passes p xs) c,
-  All-contains (Contains xs) (filter p xs) x (All-filter p (Contains xs) xs (All-contains_itself xs)) c,
-)
+from_filter p xs x c =
+    grind (arith, nat_tests, filter_passes p xs, All-contains (Contains xs) (filter p xs), All-filter p (Contains xs), All-contains_itself xs)
 
 below_range : (a n number : ℕ) → Contains (range_with_len a n) number → number < a + n
-below_range a zero number (k, lt, e) = absurd (omega (arith, lt))
-below_range a (suc n) number (zero, lt, e) = omega (arith, e)
 below_range a (suc n) number (suc k, lt, e) = omega (arith, below_range (a + 1) n number (k, omega (arith, lt), e))
+below_range a n number h = grind (arith, nat_tests)
 
 from_front : {X : Type 0} (P : X → Type 0) (xs ys : List X) → All P (xs ++ ys) → All P xs
 from_front P xs ys h =
@@ -62,8 +57,7 @@ from_end P xs ys h =
     All-weaker (Contains ys) P (λ y c. All-contains P (xs ++ ys) y h (Contains-append_right xs ys y c)) ys (All-contains_itself ys)
 
 number_had : (number : ℕ) (o : Option ℕ) → unwrap_or (option_map (λ n. n == number) o) false ≡ true → o ≡ Some number
-number_had number None e = absurd cc
-number_had number (Some n) e = ap Some (eqb-true n number e)
+number_had number o e = grind (arith, nat_tests, eqb-true)
 
 -- of a part of what is wanted something is left, so something of the whole is
 still_left : (some all : List ℕ) (slots : Slots) → ((number : ℕ) → Contains some number → Contains all number) →
@@ -76,23 +70,18 @@ still_left some all slots within left =
 -- ---- answers with names
 
 state_again : (state : State) → attribute_state (table_state state) ≡ state
-state_again Set = refl
-state_again Unset = refl
-state_again (Value bytes) = refl
-state_again Unspecified = refl
+state_again state = grind (arith, nat_tests)
 
 -- the name of a number
 name_at_number : (names : List (List ℕ)) (number : ℕ) (name : List ℕ) → slice_get names number ≡ Some name → get_or names number [] ≡ name
-name_at_number [] number name e = absurd cc
-name_at_number (x ∷ xs) zero name e = cc
 name_at_number (x ∷ xs) (suc number) name e = name_at_number xs number name e
+name_at_number names number name e = grind (arith, nat_tests)
 
 -- a slot whose answer has its number's name is the answer that the table sees, with this name
 named_again : (names : List (List ℕ)) (number : ℕ) (slot : Option Matched) →
     MatchOption slot ⊤ (λ m. slice_get names number ≡ Some m.assignment.name) →
     slot ≡ option_map (named_answer (get_or names number [])) (option_map (table_answer number) slot)
-named_again names number None named = refl
-named_again names number (Some m) named = grind (arith, nat_tests, name_at_number, state_again)
+named_again names number slot named = grind (arith, nat_tests, name_at_number, state_again)
 
 -- the answers that are found, by number
 found_by_number : (g : ℕ → Option Matched) (slots : List (Option Matched)) (k : ℕ) →
@@ -109,9 +98,8 @@ in_cons None xs x c = c
 in_cons (Some y) xs x c = (suc c.0, omega (arith, c.1), c.2)
 
 in_found : (slots : List (Option Matched)) (number : ℕ) (m : Matched) → get_or slots number None ≡ Some m → Contains (found_in slots) m
-in_found [] number m e = absurd cc
-in_found (slot ∷ slots) zero m e = subst (λ o. Contains (cons_option o (found_in slots)) m) (sym e) (0, omega arith, refl)
 in_found (slot ∷ slots) (suc number) m e = in_cons slot (found_in slots) m (in_found slots number m e)
+in_found slots number m e = grind (arith, nat_tests)
 
 -- the name at the number of a name
 named_at : (names : List (List ℕ)) (name : List ℕ) (number : ℕ) → number_of names name ≡ Some number → (number < length names) ×
@@ -132,11 +120,10 @@ from_look names texts w c =
 
 wanted_in_selection : (names : List (List ℕ)) (name : List ℕ) (selected : List (List ℕ)) → Contains selected name →
     Contains (looked_up names selected) (look names name)
-wanted_in_selection names name [] (k, lt, e) = absurd (omega (arith, lt))
-wanted_in_selection names name (x ∷ xs) (zero, lt, e) = (0, omega arith, ap (look names) e)
 wanted_in_selection names name (x ∷ xs) (suc k, lt, e) =
     let c = wanted_in_selection names name xs (k, omega (arith, lt), e) in
     (suc c.0, omega (arith, c.1), c.2)
+wanted_in_selection names name selected h = grind (arith, nat_tests)
 
 -- ---- what is returned of slots that have the answers of a table
 
@@ -159,15 +146,12 @@ module _ (q : Lookup) (held : Content) (answers : Slots) (count : length held.sl
 
   slot_of_name : (name : List ℕ) (number : ℕ) → Contains q.selected name → number_of q.known.names name ≡ Some number →
       get_or held.slots number None ≡ option_map (named_answer name) (answers number)
-  slot_of_name name number c e =
-      slot_is number (answers number) (asked name number c e)
-      ∙ ap (λ text. option_map (named_answer text) (answers number)) (named_at q.known.names name number e).1
+  slot_of_name name number c e = grind (arith, nat_tests, slot_is number (answers number) (asked name number c e), asked name number c e, named_at)
 
   one_selected : (name : List ℕ) → Contains q.selected name → (o : Option ℕ) → number_of q.known.names name ≡ o →
       unwrap_or (option_and_then (λ number. get_or held.slots number None) o) (unspecified name)
       ≡ unwrap_or (option_map (named_answer name) (option_and_then answers o)) (unspecified name)
-  one_selected name c None e = refl
-  one_selected name c (Some number) e = ap (λ slot. unwrap_or slot (unspecified name)) (slot_of_name name number c e)
+  one_selected name c o e = grind (arith, nat_tests, slot_of_name)
 
   pub all_selected : (texts : List (List ℕ)) → All (Contains q.selected) texts →
       selected_in held.slots (looked_up q.known.names texts) ≡ selected_answers q.known.names answers texts
@@ -179,8 +163,7 @@ module _ (q : Lookup) (held : Content) (answers : Slots) (count : length held.sl
 
   one_among : (name : List ℕ) → Contains q.selected name → (o : Option ℕ) → number_of q.known.names name ≡ o →
       MatchOption (option_map (named_answer name) (option_and_then answers o)) ⊤ (Contains (found_in held.slots))
-  one_among name c None e = tt
-  one_among name c (Some number) e = grind (arith, nat_tests, slot_of_name, in_found)
+  one_among name c o e = grind (arith, nat_tests, slot_of_name, in_found)
 
   returned : ArePartOf (answers_in held) answers →
       (length q.selected ≡ 0 → (number : ℕ) → number < length q.known.names → IsSeen held number (answers number)) →
@@ -200,13 +183,11 @@ module _ (q : Lookup) (held : Content) (answers : Slots) (count : length held.sl
 -- ---- after a lookup
 
 pub full_is : (s : Setting) (o : Option Occurrence) → full_answer s None o ≡ option_and_then (answer_at s) o
-full_is s None = refl
-full_is s (Some o) = refl
+full_is s o = grind (arith, nat_tests)
 
 pub nothing_named : {X : Type 0} (names : List (List ℕ)) (xs : List X) →
     HeldAreNamed names (map (λ (x : X). let none : Option Matched = None in none) xs)
-nothing_named names xs a =
-    subst (λ (o : Option Matched). MatchOption o ⊤ (λ m. slice_get names a ≡ Some m.assignment.name)) (sym (empty_at xs a)) tt
+nothing_named names xs a = grind (arith, nat_tests, empty_at xs a)
 
 -- nothing of what is wanted changes
 wanted_kept : (before after : Content) → KeepsAllButAnswers before after → wanted_of after ≡ wanted_of before
@@ -248,8 +229,7 @@ module _ (q : Lookup) where
   wanted_flag number c =
       let found = from_filter (is_wanted start.selection) (range_with_len 0 (length start.slots)) number c in
       let lt = below_range 0 (length start.slots) number found.1 in
-      get_or-map-range_with_len (is_wanted start.selection) 0 (length q.known.names) number number false (omega (arith, lt, counted)) (omega arith)
-      ∙ found.0
+      grind (arith, nat_tests, get_or-map-range_with_len, counted)
 
 module _ (q : Lookup) (before after : Content) (looked : IsLookedUp q before after) where
   from : IsLookedUp q (start q) after
@@ -297,10 +277,7 @@ module _ (q : Lookup) (before after : Content) (looked : IsLookedUp q before aft
     returned q after answers (from.kept.count ∙ (counted q)) all_named (ap (λ (h : Content). h.selection) from.kept.rest)
         (λ name number c e. (own number, answered number (asked_for q name number c e))) part
         (λ none number lt. (own number, answered number (all_asked_for q none number lt)))
-        (λ left number lt. (
-          own number,
-          whole (ap (λ wanted. is_done wanted (answers_in after)) (sym (wanted_kept (start q) after from.kept)) ∙ left) number,
-        )) own,
+        (λ left number lt. grind (arith, nat_tests, own, whole, wanted_kept, from)) own,
   )
 
   -- what is found is the answer, with its name
@@ -312,8 +289,7 @@ module _ (q : Lookup) (before after : Content) (looked : IsLookedUp q before aft
 
   selected_found : (text : List ℕ) → Contains q.selected text → (o : Option ℕ) → number_of q.known.names text ≡ o →
       MatchOption o ⊤ (IsFound q.known.names answers after.slots)
-  selected_found text c None e = tt
-  selected_found text c (Some number) e = found_if number (answered number (asked_for q text number c e))
+  selected_found text c o e = grind (arith, nat_tests, found_if, answered, asked_for)
 
   cause_found : (number : ℕ) (m : Matched) → get_or after.slots number None ≡ Some m → (o : Option ℕ) → m.cause ≡ o →
       MatchOption o ⊤ (IsFound q.known.names answers after.slots)
@@ -327,8 +303,7 @@ module _ (q : Lookup) (before after : Content) (looked : IsLookedUp q before aft
 
   causes_found : (number : ℕ) (slot : Option Matched) → get_or after.slots number None ≡ slot →
       MatchOption slot ⊤ (λ m. MatchOption m.cause ⊤ (IsFound q.known.names answers after.slots))
-  causes_found number None here = tt
-  causes_found number (Some m) here = cause_found number m here m.cause refl
+  causes_found number slot here = grind (arith, nat_tests, cause_found)
 
   pub looked_up_found : OfTheOnlyTable (setting_in q) (λ answers. FindsAnswers q.known.names q.selected answers after.slots)
   looked_up_found = (
@@ -358,11 +333,7 @@ module _ (q : Lookup) (before after : Content) (looked : IsLookedUp q before aft
         fewer
 
     all_asked_there : length names ≡ 0 → (number : ℕ) → number < length q.known.names → Contains (wanted_of (start q)) number
-    all_asked_there none number lt =
-        ⊎_elim
-        (λ (all : length q.selected ≡ 0). all_asked_for q all number lt)
-        (λ (some : (0 < length names) × All (Contains q.selected) names). absurd (omega (arith, none, some.0)))
-        fewer
+    all_asked_there none number lt = grind (arith, nat_tests, all_asked_for q, fewer)
 
     -- what is wanted there is wanted here
     wanted_there : (number : ℕ) → Contains (wanted_of copy) number → Contains (wanted_of (start q)) number
@@ -393,9 +364,7 @@ module _ (q : Lookup) (before after : Content) (looked : IsLookedUp q before aft
           (λ name number c e. seen_there number (answers number) (answered number (asked_there name number c e)))
           (subst (λ s. ArePartOf s answers) (sym same) part)
           (λ none number lt. seen_there number (answers number) (answered number (all_asked_there none number lt)))
-          (λ left number lt. seen_there number (answers number)
-          (whole (still_left (wanted_of copy) (wanted_of (start q)) (answers_in after) wanted_there
-          (ap (is_done (wanted_of copy)) (sym same) ∙ left)) number))
+          (λ left number lt. grind (arith, nat_tests, seen_there, whole, still_left, wanted_there, same))
           (all_are_needed copy.needed (length q.known.names) refl),
     )
 

@@ -1,6 +1,7 @@
 -- What an outcome returns after a search that skips what the selected names don't depend on: the answers that a search for them
 -- returns which skips nothing.
-use Rattle.std.proofs.Common.{◌≡◌, ◌⊎◌, ℕ, zero, suc, Bool, true, false, List, [], ◌∷◌, length, get_or, All, Option, Some, None, MatchOption}
+use Rattle.std.proofs.Common.{arith, ◌≡◌, ◌⊎◌, ℕ, suc, Bool, true, false, List, [], ◌∷◌, length, get_or, All, Option, Some, None, MatchOption}
+use Rattle.std.proofs.lemmas.Bool.Decides.{nat_tests}
 use Rattle.std.proofs.Common.{option_map, refl, sym, ap, ◌∙◌, inl, inr, ⊎_elim, subst}
 use Rattle.std.specs.Prelude.{⊤}
 use Rattle.std.specs.List.{Contains}
@@ -26,9 +27,8 @@ use Rattle.gix_attributes.proofs.SearchLaws.{answered_by, answered_or_not, cut_o
 
 -- a number whose flag is set is needed
 flag_is_needed : (flags : List Bool) (a : ℕ) → get_or flags a false ≡ true → is_needed flags a ≡ true
-flag_is_needed [] a e = absurd cc
-flag_is_needed (b ∷ flags) zero e = e
 flag_is_needed (b ∷ flags) (suc a) e = flag_is_needed flags a e
+flag_is_needed flags a e = grind (arith, nat_tests)
 
 module _ (q : Lookup) (before after : Content) (fresh : IsNarrowed q.known q.selected before)
     (lists_named : ListsAreNamed q.known.names q.lists) (bodies_named : BodiesAreNamed q.known.names (bodies_of q.known))
@@ -146,14 +146,11 @@ module _ (q : Lookup) (before after : Content) (fresh : IsNarrowed q.known q.sel
 
   causes_found : (number : ℕ) (b : Bool) → need number ≡ b → (slot : Option Matched) → get_or after.slots number None ≡ slot →
       MatchOption slot ⊤ (λ m. MatchOption m.cause ⊤ (IsFound q.known.names answers after.slots))
-  causes_found number b is None here = tt
-  causes_found number false skip (Some m) here = absurd (let none = sym here ∙ unseen number skip in cc)
-  causes_found number true own (Some m) here = cause_found number m here own m.cause refl
+  causes_found number b is slot here = grind (arith, nat_tests, unseen, cause_found)
 
   selected_found : (text : List ℕ) → Contains q.selected text → (o : Option ℕ) → number_of q.known.names text ≡ o →
       MatchOption o ⊤ (IsFound q.known.names answers after.slots)
-  selected_found text c None e = tt
-  selected_found text c (Some number) e = found_if number (asked text number c e)
+  selected_found text c o e = grind (arith, nat_tests, found_if, asked)
 
   pub narrowed_found : OfTheOnlyTable (setting_in q) (λ answers. FindsAnswers q.known.names q.selected answers after.slots)
   narrowed_found = (

@@ -1,11 +1,10 @@
 -- Marks of attributes, and the items of one attribute.
 use Rattle.std.proofs.lemmas.Grind.{common_steps}
-use Rattle.std.proofs.Common.{◌≡◌, ◌≢◌, ◌⊎◌, ◌==◌, ◌||◌, ℕ, zero, suc, ◌+◌, ◌-◌, ◌<◌, ◌≤◌, Bool, true, false, not, cond}
-use Rattle.std.proofs.Common.{List, [], ◌∷◌, ◌++◌, length, get_or, set, take, drop, replicate, map, BTreeSet}
-use Rattle.std.proofs.Common.{Option, Some, None, ⊎_elim, inl, inr, refl, sym, ap, ◌∙◌, subst, leb, ltb, arith}
+use Rattle.std.proofs.Common.{◌≡◌, ◌≢◌, ◌⊎◌, ◌==◌, ◌||◌, ℕ, suc, ◌+◌, ◌-◌, ◌<◌, ◌≤◌, Bool, true, false, not, cond}
+use Rattle.std.proofs.Common.{List, [], ◌∷◌, ◌++◌, length, get_or, set, take, drop, replicate, BTreeSet}
+use Rattle.std.proofs.Common.{Option, Some, None, ⊎_elim, inl, inr, sym, ap, ◌∙◌, subst, leb, ltb, arith}
 use Rattle.std.specs.Prelude.{All, MatchOption, ⊤, option_map, unwrap_or}
 use Rattle.std.specs.BTreeMap.{is_at}
-use Rattle.std.specs.BTreeSet.{contains}
 use Rattle.std.specs.List.{Contains, cons_option, list_any}
 use Rattle.std.specs.List.Sorted.{IsNonDecreasingBy, IsPartitionPoint, IsPermutation}
 use Rattle.std.specs.Ordering.{nat_cmp}
@@ -16,11 +15,10 @@ use Rattle.std.proofs.lemmas.List.Folds.{list_any_at}
 use Rattle.std.proofs.lemmas.Bool.{cases_eq, cases_lt, false≢true}
 use Rattle.std.proofs.lemmas.Bool.Decides.{nat_tests}
 use Rattle.std.proofs.lemmas.List.{get_or_default, get_or-drop, get_or-map, get_or_past, get_or-replicate, get_or-set_other, get_or-set_same}
-use Rattle.std.proofs.lemmas.List.{get_or-take, flat_map_more, length-drop, length_push}
-use Rattle.std.proofs.lemmas.List.{length-replicate, length-set, length-take, take_all, take_more}
+use Rattle.std.proofs.lemmas.List.{get_or-take, length-drop, length_push, length-replicate, length-set, length-take, take_all}
 use Rattle.std.proofs.lemmas.List.Elements.{All-append, All-contains, All-contains_itself, All-drop, All-head, All-map, All-more}
 use Rattle.std.proofs.lemmas.List.Elements.{All-cons, All-nil, All-push, All-same, All-tail, All-take, All-weaker}
-use Rattle.std.proofs.lemmas.List.Elements.{filter_map-append, Contains-append_left, Contains-append_right, Contains-push, Contains-push_cases}
+use Rattle.std.proofs.lemmas.List.Elements.{Contains-append_left, Contains-append_right, Contains-push, Contains-push_cases}
 use Rattle.std.proofs.lemmas.List.Sums.{sum_by-set}
 use Rattle.attr_lists.specs.declared.types.TrackedAssignment.{TrackedAssignment}
 use Rattle.attr_search.proofs.ForCallers.{at_other}
@@ -30,10 +28,10 @@ use Rattle.attr_search.specs.shared.Slotted.{BodiesHaveSlots}
 use Rattle.gix_attributes.specs.inner.Consistency.{AreEmptyElsewhere}
 use Rattle.gix_attributes.specs.declared.search.selected_name.SelectedName.{SelectedName}
 use Rattle.gix_attributes.specs.declared.search.needed.BodyItem.{BodyItem}
-use Rattle.gix_attributes.specs.inner.Needed.{AreClosedBut, AreNeeded, AreOwnersOf, AreOwnersSet, HasFlags, HasOwners, HaveBodies}
+use Rattle.gix_attributes.specs.inner.Needed.{AreClosedBut, AreNeeded, AreOwnersOf, AreOwnersSet, HasOwners, HaveBodies}
 use Rattle.gix_attributes.specs.inner.Needed.{IsClosedFor, IsClosedOver, IsFlagSet, IsMarked, SetsOnly}
 use Rattle.gix_attributes.proofs.SearchLaws.{repeated}
-use Rattle.gix_attributes.specs.inner.Needed.{body_item, body_items, count_unset, flags_of, items_with, numbers_of}
+use Rattle.gix_attributes.specs.inner.Needed.{body_item, body_items, flags_of, items_with, numbers_of}
 
 -- marks after others
 pub marked_then : (flags flags' flags'' : List Bool) (stack stack' stack'' : List ℕ) →
@@ -42,10 +40,6 @@ marked_then flags flags' flags'' stack stack' stack'' first second = grind (arit
 
 abbrev unset : Bool → ℕ
 unset flag = cond (not flag) 1 0
-
-unset_fewer : (flags : List Bool) (a : ℕ) → a < length flags → get_or flags a false ≡ false →
-    count_unset (set flags a true) + 1 ≡ count_unset flags
-unset_fewer flags a lt free = grind (arith, nat_tests, sum_by-set)
 
 set_kept : (flags : List Bool) (a : ℕ) → a < length flags → (b : ℕ) → IsFlagSet flags b → IsFlagSet (set flags a true) b
 set_kept flags a lt b is = grind (arith, nat_tests, get_or-set_same, get_or-set_other)
@@ -61,12 +55,8 @@ marked_one flags stack a lt free = record {
   stays = λ b on. Contains-append_left stack (a ∷ []) b on;
   stacked = λ all. All-push (IsFlagSet (set flags a true)) stack a
       (All-weaker (IsFlagSet flags) (IsFlagSet (set flags a true)) (set_kept flags a lt) stack all) (get_or-set_same flags a true false lt);
-  left = omega (arith, length_push stack a, unset_fewer flags a lt free);
+  left = grind (arith, nat_tests, length_push stack a, sum_by-set);
 }
-
--- no other flag is set
-pub set_only : (flags : List Bool) (a : ℕ) → SetsOnly flags (set flags a true) (λ has. has a ≡ true)
-set_only flags a = grind (arith, nat_tests, get_or-set_other)
 
 -- macros stay marked
 pub owners_kept : (flags flags' : List Bool) (items : List BodyItem) → ((a : ℕ) → IsFlagSet flags a → IsFlagSet flags' a) →
@@ -147,11 +137,6 @@ pub owners_more : (items : List BodyItem) (index : ℕ) (d : BodyItem) (flags fl
 owners_more items index d flags flags' lt kept set here =
     All-more (λ i. IsFlagSet flags' i.owner) items index d lt (owners_kept flags flags' (take index items) kept set) here
 
--- one more body
-pub items_more : (bodies : List (List TrackedAssignment)) (owners : List ℕ) (owner : ℕ) →
-    items_with bodies owners ++ body_items bodies owner ≡ items_with bodies (owners ++ owner ∷ [])
-items_more bodies owners owner = flat_map_more (body_items bodies) [] owners owner
-
 -- the items of a body whose number is among some are among theirs
 items_among : (bodies : List (List TrackedAssignment)) (owners : List ℕ) (m : ℕ) → list_any (is_at (nat_cmp m)) owners ≡ true →
     All (Contains (items_with bodies owners)) (body_items bodies m)
@@ -160,14 +145,9 @@ items_among bodies (owner ∷ owners) m found =
     ⊎_elim
     (λ (here : owner ≡ m).
     All-weaker (Contains (body_items bodies m)) (Contains (items_with bodies (owner ∷ owners)))
-    (λ x on. Contains-append_left (body_items bodies owner) (items_with bodies owners) x
-    (subst (λ n. Contains (body_items bodies n) x) (sym here) on))
+    (λ x on. grind (arith, nat_tests, Contains-append_left))
     (body_items bodies m) (All-contains_itself (body_items bodies m)))
-    (λ (apart : owner ≢ m).
-    All-weaker (Contains (items_with bodies owners)) (Contains (items_with bodies (owner ∷ owners)))
-    (λ x on. Contains-append_right (body_items bodies owner) (items_with bodies owners) x on)
-    (body_items bodies m)
-    (items_among bodies owners m (sym (ap (λ b. b || list_any (is_at (nat_cmp m)) owners) (at_other m owner apart)) ∙ found)))
+    (λ (apart : owner ≢ m). grind (arith, nat_tests, All-weaker, Contains-append_right, at_other, items_among bodies owners m))
     (cases_eq owner m)
 
 -- all items are those of the macros' bodies
@@ -180,17 +160,13 @@ owner_below bodies owner =
     ⊎_elim
     (λ (lt : owner < length bodies).
     All-map (λ i. i.owner < length bodies) (body_item owner) (get_or bodies owner []) (λ k d inside. lt))
-    (λ (past : length bodies ≤ owner).
-    All-same (λ i. i.owner < length bodies) (body_items bodies owner) []
-    (ap (λ body. map (body_item owner) body) (get_or_past bodies owner [] past)) (All-nil (λ (i : BodyItem). i.owner < length bodies)))
+    (λ (past : length bodies ≤ owner). grind (arith, nat_tests, All-same, get_or_past, All-nil))
     (cases_lt owner (length bodies))
 
 -- the macros of items have bodies
 owners_below : (bodies : List (List TrackedAssignment)) (owners : List ℕ) → All (λ i. i.owner < length bodies) (items_with bodies owners)
 owners_below bodies [] = All-nil (λ (i : BodyItem). i.owner < length bodies)
-owners_below bodies (owner ∷ owners) =
-    All-append (λ i. i.owner < length bodies) (body_items bodies owner) (items_with bodies owners)
-    (owner_below bodies owner) (owners_below bodies owners)
+owners_below bodies (owner ∷ owners) = grind (arith, common_steps, nat_tests, All-append, owner_below, owners_below bodies owners)
 
 -- what is closed is so over the items of bodies
 closed_over : (bodies : List (List TrackedAssignment)) (owners : List ℕ) (has : ℕ → Bool) → IsClosedFor bodies has →
@@ -235,18 +211,11 @@ needed_all n bodies selected flags none is =
     let none' : (length selection == 0) ≡ true = ap (λ k. k == 0) (length-map selected wanted_view) ∙ none in
     let all : flags ≡ replicate n true = is ∙ sym (fill_by_all (is_wanted selection) (replicate n true) n false (length-replicate n true)
     (λ k lt. get_or-replicate n k true false lt ∙ sym (ap (λ b. b || list_any (has_number k) selection) none'))) in
-    record {
-      count = ap length all ∙ length-replicate n true;
-      selected = λ a set. ap (λ l. get_or l a false) is ∙ set;
-      closed = λ m k d lt set. ap (λ l. get_or l m true) all ∙ repeated true n m;
-      all = λ e. all;
-      least = λ has held closed. subst (λ l. HasFlags l has) (sym is) held;
-    }
+    grind (arith, nat_tests, length-replicate, set, repeated)
 
 set_any : (flags : List Bool) (m : ℕ) → get_or flags m false ≡ true → get_or flags m true ≡ true
-set_any [] m is = refl
-set_any (f ∷ flags) zero is = is
 set_any (f ∷ flags) (suc m) is = set_any flags m is
+set_any flags m is = grind (arith, nat_tests)
 
 -- without a stack the macro of each item of a marked attribute is marked
 owner_set : (flags : List Bool) (items : List BodyItem) (item : BodyItem) → AreClosedBut [] flags items → Contains items item →
@@ -255,10 +224,7 @@ owner_set flags items item closed on is = grind (arith, nat_tests)
 
 item_on : (bodies : List (List TrackedAssignment)) (items : List BodyItem) (m k : ℕ) (d : TrackedAssignment) → HaveBodies bodies items →
     k < length (get_or bodies m []) → Contains items (body_item m (get_or (get_or bodies m []) k d))
-item_on bodies items m k d had lt =
-    let body = get_or bodies m [] in
-    let item = body_item m (get_or body k d) in
-    subst (Contains items) (get_or-map (body_item m) body k d item lt) (had m k item (omega (arith, lt, length-map body (body_item m))))
+item_on bodies items m k d had lt = grind (arith, nat_tests, get_or-map, length-map, had m k (body_item m (get_or (get_or bodies m []) k d)))
 
 item_below : (n : ℕ) (bodies : List (List TrackedAssignment)) (m k : ℕ) (d : TrackedAssignment) → BodiesHaveSlots n bodies →
     k < length (get_or bodies m []) → (get_or (get_or bodies m []) k d).id.0 < n
@@ -267,23 +233,11 @@ item_below n bodies m k d within lt = grind (arith, nat_tests, get_or_past)
 number_set : (selected : List SelectedName) (count k : ℕ) (d : SelectedName) → k < length selected → (number : Option ℕ) →
     (get_or selected k d).number ≡ number → MatchOption number ⊤ (λ n. n < count) →
     MatchOption number ⊤ (IsFlagSet (flags_of (selection_view selected) count))
-number_set selected count k d lt None e below = below
-number_set selected count k d lt (Some a) e below =
-    let selection = selection_view selected in
-    let here : has_number a (get_or selection k (wanted_view d)) ≡ true =
-    ap (has_number a) (get_or-map wanted_view selected k d (wanted_view d) lt) ∙ rw e (grind (arith, nat_tests)) in
-    let found = list_any_at (has_number a) selection k (wanted_view d) (omega (arith, lt, length-map selected wanted_view)) here in
-    flag_at selection count a below ∙ grind (arith, nat_tests)
-
--- one more name
-pub numbers_more : (selected : List SelectedName) (index : ℕ) (name : SelectedName) (number : Option ℕ) → index < length selected →
-    name ≡ get_or selected index name → name.number ≡ number →
-    numbers_of (take (index + 1) selected) ≡ numbers_of (take index selected) ++ cons_option number []
-numbers_more selected index name number lt here is = grind (arith, common_steps, take_more, filter_map-append)
+number_set selected count k d lt number e below =
+    grind (arith, nat_tests, get_or-map wanted_view selected k d (wanted_view d) lt, length-map selected wanted_view, list_any_at, flag_at)
 
 all_step : (P : ℕ → Type 0) (number : Option ℕ) (rest : List ℕ) → MatchOption number ⊤ P → All P rest → All P (cons_option number rest)
-all_step P None rest here all = all
-all_step P (Some a) rest here all = All-cons P a rest here all
+all_step P number rest here all = grind (arith, nat_tests, All-cons)
 
 all_numbers : (P : ℕ → Type 0) (selected : List SelectedName) → All (λ s. MatchOption s.number ⊤ P) selected → All P (numbers_of selected)
 all_numbers P [] all = All-nil P
@@ -295,19 +249,12 @@ all_numbers P (name ∷ selected) all =
 pub numbers_set : (selected : List SelectedName) (count : ℕ) → All (λ s. MatchOption s.number ⊤ (λ n. n < count)) selected →
     All (IsFlagSet (flags_of (selection_view selected) count)) (numbers_of selected)
 numbers_set selected count below =
-    all_numbers (IsFlagSet (flags_of (selection_view selected) count)) selected
-    (λ k d lt. number_set selected count k d lt (get_or selected k d).number refl (below k d lt))
+    grind (arith, nat_tests, all_numbers (IsFlagSet (flags_of (selection_view selected) count)) selected, number_set selected count)
 
 on_step : (number : Option ℕ) (rest : List ℕ) (a : ℕ) (others : Bool) → (others ≡ true → Contains rest a) →
     unwrap_or (option_map (λ n. n == a) number) false || others ≡ true → Contains (cons_option number rest) a
 on_step None rest a others on is = on is
-on_step (Some n) rest a others on is =
-    ⊎_elim
-    (λ (here : n ≡ a). Contains-append_left (n ∷ []) rest a (subst (Contains (n ∷ [])) here (Contains-push [] n)))
-    (λ (apart : n ≢ a).
-    let other : (n == a) ≡ false = grind (arith, nat_tests) in
-    Contains-append_right (n ∷ []) rest a (on (sym (ap (λ b. b || others) other) ∙ is)))
-    (cases_eq n a)
+on_step (Some n) rest a others on is = grind (arith, nat_tests, Contains-append_right (n ∷ []) rest a, cases_eq n a, Contains-push)
 
 numbers_have : (selected : List SelectedName) (a : ℕ) → list_any (has_number a) (selection_view selected) ≡ true → Contains (numbers_of selected) a
 numbers_have [] a is = absurd (false≢true is)

@@ -1,18 +1,15 @@
 -- What initialising leaves is consistent, and what is wanted of it.
-use Rattle.std.proofs.Common.{◌≡◌, ℕ, zero, suc, ◌+◌, ◌<◌, ◌≤◌, Bool, true, false, cond, List, [], ◌∷◌, length, get_or, drop, slice_get, map, filter}
-use Rattle.std.proofs.Common.{⊎_elim, is_some, All, Option, Some, None, MatchOption, option_map, unwrap_or, refl, sym, ap, ◌∙◌, ◌-◌, arith}
-use Rattle.std.proofs.Common.{subst}
+use Rattle.std.proofs.lemmas.Bool.Decides.{nat_tests}
+use Rattle.std.proofs.Common.{◌≡◌, ℕ, zero, suc, ◌+◌, ◌<◌, ◌≤◌, Bool, true, false, cond, List, [], ◌∷◌, length, get_or, drop, map, filter}
+use Rattle.std.proofs.Common.{is_some, All, Option, None, MatchOption, refl, sym, ap, ◌∙◌, ◌-◌, arith}
 use Rattle.std.specs.Bool.{⊤}
-use Rattle.std.specs.List.{range_with_len, cons_option}
-use Rattle.std.specs.Str.{bytes_eq}
+use Rattle.std.specs.List.{range_with_len}
 use Rattle.std.proofs.lemmas.Bool.{cases_lt, false≢true}
 use Rattle.std.proofs.lemmas.List.{append-nil, length-map, drop_more, drop_all, get_or_past, take_all}
-use Rattle.std.proofs.Common.{◌++◌, replicate, take}
 use Rattle.std.proofs.lemmas.List.FromFn.{length-map-range_with_len}
-use Rattle.std.proofs.lemmas.List.Elements.{All-nil, All-cons, All-head, All-tail, All-map, All-weaker}
+use Rattle.std.proofs.lemmas.List.Elements.{All-nil, All-cons, All-head, All-tail, All-map}
 use Rattle.std.proofs.lemmas.List.Quantifiers.{position-Some}
 use Rattle.attr_lists.specs.Collections.{Collection}
-use Rattle.attr_lists.specs.Numbers.{number_of}
 use Rattle.attr_lists.specs.Definitions.{IsSoundCollection, macro_body}
 use Rattle.attr_lists.specs.declared.types.TrackedAssignment.{TrackedAssignment}
 use Rattle.attr_lists.proofs.ForCallers.{body_within}
@@ -21,13 +18,12 @@ use Rattle.attr_search.specs.shared.BodyChanges.{changed_bodies, sized_bodies}
 use Rattle.attr_search.specs.declared.bodies.BodyChange.{BodyChange}
 use Rattle.attr_search.specs.shared.SlotContents.{wanted_numbers}
 use Rattle.gix_attributes.specs.Contents.{Content, IsNextFound, Wanted, bodies_of, reset_content, found_in, initial_content, is_wanted, looked_up}
-use Rattle.gix_attributes.specs.inner.Needed.{flags_of}
+use Rattle.gix_attributes.specs.inner.Needed.{flags_of, AreNeeded, IsNarrowed}
 use Rattle.gix_attributes.specs.Contents.{names_selected}
 use Rattle.attr_search.specs.Settings.{HaveSlots}
 use Rattle.attr_search.specs.shared.Slotted.{BodiesHaveSlots}
 use Rattle.gix_attributes.specs.Searching.{KeepsAllButAnswers}
-use Rattle.gix_attributes.specs.inner.Needed.{AreNeeded, IsNarrowed}
-use Rattle.gix_attributes.specs.Selection.{wanted_view, selection_view}
+use Rattle.gix_attributes.specs.Selection.{selection_view}
 use Rattle.gix_attributes.proofs.SelectionLemmas.{length_bodies}
 use Rattle.attr_search.specs.Slots.{AreFreeFrom, IsNextFilled, Matched}
 use Rattle.gix_attributes.specs.declared.search.selected_name.SelectedName.{SelectedName}
@@ -45,39 +41,13 @@ looked_up_again names selected seen e = e ∙ ap (looked_up names) (sym (ap name
 pub narrowed_by : (known : Collection) (texts : List (List ℕ)) (seen : List Wanted) (flags : List Bool) (held : Content) →
     seen ≡ looked_up known.names texts → held ≡ record (initial_content known (names_selected seen)) { needed = flags } →
     AreNeeded (length known.names) (bodies_of known) seen flags → IsNarrowed known texts held
-narrowed_by known texts seen flags held e is needed =
-    let First : List (List ℕ) → List Bool → Content = λ l f. record (initial_content known l) { needed = f } in
-    let own : held.needed ≡ flags = ap (λ (h : Content). h.needed) is in
-    record {
-      content = is ∙ ap (λ l. First l flags) (ap names_selected e ∙ names_looked_up known.names texts) ∙ ap (First texts) (sym own);
-      needed = let Needed : List Wanted → List Bool → Type 0 = AreNeeded (length known.names) (bodies_of known) in
-          subst (Needed (looked_up known.names texts)) (sym own) (subst (λ w. Needed w flags) e needed);
-    }
-
-pub initialized_by : (known : Collection) (selected : List (List ℕ)) (seen : List Wanted) → seen ≡ looked_up known.names selected → initial_content
-    known (names_selected seen) ≡ initial_content known selected
-initialized_by known selected seen e = ap (initial_content known) (ap names_selected e ∙ names_looked_up known.names selected)
-
--- a number that is looked up is that of a name
-number_below : (names : List (List ℕ)) (name : List ℕ) (o : Option ℕ) → number_of names name ≡ o → MatchOption o ⊤ (λ n. n < length names)
-number_below names name None e = tt
-number_below names name (Some n) e = (position-Some (bytes_eq name) names n [] e).0
+narrowed_by known texts seen flags held e is needed = grind (arith, nat_tests, names_looked_up)
 
 pub selected_below : (selected : List SelectedName) (names texts : List (List ℕ)) → selection_view selected ≡ looked_up names texts → All
     (λ s. MatchOption s.number ⊤ (λ n. n < length names)) selected
 selected_below [] names texts e = All-nil (λ s. MatchOption s.number ⊤ (λ n. n < length names))
 selected_below (s ∷ selected) names [] e = absurd cc
-selected_below (s ∷ selected) names (text ∷ texts) e =
-    let here : number_of names text ≡ s.number = sym (ap (λ (w : Wanted). w.number) (head_same (wanted_view s) _ (selection_view selected) _ e)) in
-    let rest : selection_view selected ≡ looked_up names texts = tail_same (wanted_view s) _ (selection_view selected) _ e in
-    All-cons (λ t. MatchOption t.number ⊤ (λ n. n < length names)) s selected (number_below names text s.number here)
-    (selected_below selected names texts rest)
-  where
-    head_same : {X : Type 0} (x y : X) (xs ys : List X) → x ∷ xs ≡ y ∷ ys → x ≡ y
-    head_same x y xs ys h = cc
-
-    tail_same : {X : Type 0} (x y : X) (xs ys : List X) → x ∷ xs ≡ y ∷ ys → xs ≡ ys
-    tail_same x y xs ys h = cc
+selected_below (s ∷ selected) names (text ∷ texts) e = grind (arith, nat_tests, All-cons, position-Some, selected_below selected names texts)
 
 -- empty slots for flags, of which there are as many
 pub length_flags : (seen : List Wanted) (count : ℕ) (flags : List Bool) → flags ≡ flags_of seen count → length flags ≡ count
@@ -100,19 +70,15 @@ shifted_all p a b n e = shifted (wanted_numbers (map p (range_with_len b n)))
   where
     shifted : (ks : List ℕ) → map (λ k. k + a) (map suc ks) ≡ map (λ k. k + b) ks
     shifted [] = refl
-    shifted (k ∷ ks) = let here : suc k + a ≡ k + b = omega arith in ap (λ j. j ∷ map (λ i. i + a) (map suc ks)) here ∙ ap (λ l. (k + b) ∷ l)
-        (shifted ks)
+    shifted (k ∷ ks) = grind (arith, nat_tests, shifted ks)
 
 wanted_step : (b : Bool) (a : ℕ) (ks rest : List ℕ) → map (λ k. k + a) (map suc ks) ≡ rest →
     map (λ k. k + a) (cond b (0 ∷ map suc ks) (map suc ks)) ≡ cond b (a ∷ rest) rest
-wanted_step true a ks rest e = let here : 0 + a ≡ a = omega arith in ap (λ j. j ∷ map (λ k. k + a) (map suc ks)) here ∙ ap (λ l. a ∷ l) e
-wanted_step false a ks rest e = e
+wanted_step b a ks rest e = grind (arith, nat_tests)
 
 wanted_from : (p : ℕ → Bool) (a n : ℕ) → map (λ k. k + a) (wanted_numbers (map p (range_with_len a n))) ≡ filter p (range_with_len a n)
 wanted_from p a zero = refl
-wanted_from p a (suc n) =
-    wanted_step (p a) a (wanted_numbers (map p (range_with_len (a + 1) n))) (filter p (range_with_len (a + 1) n))
-    (shifted_all p a (a + 1) n refl ∙ wanted_from p (a + 1) n)
+wanted_from p a (suc n) = grind (arith, nat_tests, wanted_step, shifted_all, wanted_from p (a + 1) n)
 
 without_shift : (ks : List ℕ) → map (λ k. k + 0) ks ≡ ks
 without_shift [] = refl
@@ -126,8 +92,7 @@ wanted_by_flags p n = sym (without_shift (wanted_numbers (map p (range_with_len 
 pub changed_to : (known : Collection) (changes : List BodyChange) (bodies seen : List (List TrackedAssignment)) (n : ℕ) → n ≡ length known.names →
     seen ≡ bodies → changed_bodies changes (sized_bodies (length known.names) seen) ≡ bodies_of known → changed_bodies changes
     (sized_bodies n bodies) ≡ bodies_of known
-changed_to known changes bodies seen n counted same made =
-    ap (λ l. changed_bodies changes (sized_bodies n l)) (sym same) ∙ ap (λ k. changed_bodies changes (sized_bodies k seen)) counted ∙ made
+changed_to known changes bodies seen n counted same made = grind (arith, nat_tests)
 
 pub changed_within : (known : Collection) (bodies : List (List TrackedAssignment)) (n : ℕ) → IsSoundCollection known → n ≡ length known.names →
     bodies ≡ bodies_of known → BodiesHaveSlots n bodies
@@ -136,17 +101,7 @@ changed_within known bodies n sound counted same = rw (same, counted) (bodies_wi
 -- without changes they stay those of a collection
 pub kept_as : (known : Collection) (changes : List BodyChange) (bodies : List (List TrackedAssignment)) (n : ℕ) → IsSoundCollection known →
     n ≡ length known.names → changes ≡ [] → bodies ≡ bodies_of known → changed_bodies changes (sized_bodies n bodies) ≡ bodies_of known
-kept_as known changes bodies n sound counted none current =
-    let all : length bodies ≡ n = ap length current ∙ length_bodies known ∙ sym counted in
-    let nothing : List (List TrackedAssignment) = [] in
-    ap (λ l. changed_bodies l (sized_bodies n bodies)) none
-    ∙ ap (λ k. take n (bodies ++ replicate k [])) (let gap : n - length bodies ≡ 0 = omega (arith, all) in gap)
-    ∙ ap (take n) (append-nil bodies)
-    ∙ take_all n bodies (omega (arith, all))
-    ∙ current
-
-pub changes_below : (changes : List BodyChange) (n m : ℕ) → m ≡ n → All (λ c. c.number < n) changes → All (λ c. c.number < m) changes
-changes_below changes n m same below = All-weaker (λ c. c.number < n) (λ c. c.number < m) (λ c lt. omega arith) changes below
+kept_as known changes bodies n sound counted none current = grind (arith, nat_tests, length_bodies, append-nil, take_all)
 
 -- what is held of a selection and of what a search fills
 abbrev pub held_of : List Wanted → SearchContents → Content
@@ -168,53 +123,24 @@ pub held_as : (known : Collection) (texts : List (List ℕ)) (slots slots' : Lis
     seen ≡ looked_up known.names texts → kept ≡ kept' →
     record { is_initialized = true; slots = slots; bodies = bodies; needed = needed; selection = seen; kept = kept; taken = 0; tested = 0 }
     ≡ record (initial_content known texts) { slots = slots'; needed = needed; kept = kept' }
-held_as known texts slots slots' bodies needed seen kept kept' e f g h =
-    let Held : List (Option Matched) → List (List TrackedAssignment) → List Wanted → ℕ → Content = λ s b w k. record
-    { is_initialized = true; slots = s; bodies = b; needed = needed; selection = w; kept = k; taken = 0; tested = 0 } in
-    ap (λ s. Held s bodies seen kept) e ∙ ap (λ b. Held slots' b seen kept) f ∙ ap (λ w. Held slots' (bodies_of known) w kept) g
-    ∙ ap (Held slots' (bodies_of known) (looked_up known.names texts)) h
-
--- what is found from a number on is its answer, if there is one, and what is found from the next number on
-pub found_at : (slots : List (Option Matched)) (i : ℕ) (o : Option Matched) → i < length slots → get_or slots i None ≡ o → found_in (drop i slots) ≡
-    cons_option o (found_in (drop (i + 1) slots))
-found_at slots i o lt e = ap found_in (drop_more slots i None lt) ∙ ap (λ x. cons_option x (found_in (drop (i + 1) slots))) e
+held_as known texts slots slots' bodies needed seen kept kept' e f g h = grind (arith, nat_tests)
 
 -- a number without an answer is passed over
 pub found_skip : (slots : List (Option Matched)) (i : ℕ) → i < length slots → get_or slots i None ≡ None → found_in (drop i slots) ≡ found_in
     (drop (i + 1) slots)
-found_skip slots i lt e = found_at slots i None lt e
-
-pub found_none : (slots : List (Option Matched)) (i : ℕ) → length slots ≤ i → found_in (drop i slots) ≡ []
-found_none slots i le = ap found_in (drop_all i slots le)
+found_skip slots i lt e = grind (arith, nat_tests, drop_more)
 
 -- slots without a match are passed over
 pub found_over : (slots : List (Option Matched)) (from number gap : ℕ) → from + gap ≡ number → number ≤ length slots →
     ((k : ℕ) → from ≤ k → k < number → get_or slots k None ≡ None) → found_in (drop from slots) ≡ found_in (drop number slots)
 found_over slots from number zero e le free = let same : from ≡ number = omega (arith, e) in ap (λ n. found_in (drop n slots)) same
-found_over slots from number (suc gap) e le free =
-    found_skip slots from (omega (arith, e, le)) (free from (omega arith) (omega (arith, e)))
-    ∙ found_over slots (from + 1) number gap (omega (arith, e)) le (λ k ge lt. free k (omega (arith, ge)) lt)
-
-filled_within : (slots : List (Option Matched)) (number : ℕ) → is_some (get_or slots number None) ≡ true → number < length slots
-filled_within slots number filled =
-    ⊎_elim (λ lt. lt) (λ past. absurd (false≢true (ap is_some (sym (get_or_past slots number None past)) ∙ filled))) (cases_lt number (length slots))
+found_over slots from number (suc gap) e le free = grind (arith, nat_tests, found_skip, found_over slots (from + 1) number gap)
 
 pub next_found : (slots : List (Option Matched)) (from number : ℕ) → IsNextFilled slots from number → IsNextFound slots from number
-next_found slots from number next = record {
-  reached = next.reached;
-  filled = next.filled;
-  first = found_over slots from number (number - from) (omega (arith, next.reached))
-      (let lt = filled_within slots number next.filled in omega (arith, lt)) next.free;
-}
+next_found slots from number next = grind (arith, nat_tests, found_over slots from number (number - from), false≢true, is_some, get_or_past, cases_lt)
 
 pub nothing_found : (slots : List (Option Matched)) (from : ℕ) → AreFreeFrom slots from → found_in (drop from slots) ≡ []
-nothing_found slots from free =
-    ⊎_elim
-    (λ (lt : from < length slots). found_over slots from (length slots) (length slots - from) (omega (arith, lt)) (omega arith)
-    (λ k ge below. free k ge)
-    ∙ found_none slots (length slots) (omega arith))
-    (λ past. found_none slots from past)
-    (cases_lt from (length slots))
+nothing_found slots from free = grind (arith, nat_tests, found_over slots from (length slots) (length slots - from), drop_all)
 
 -- resetting again changes nothing
 pub emptied_again : (held : Content) → reset_content (reset_content held) ≡ reset_content held

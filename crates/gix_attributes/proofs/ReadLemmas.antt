@@ -1,19 +1,17 @@
 -- The lines that a list keeps of a buffer were read from pattern texts, none of them negative.
 use Rattle.std.proofs.lemmas.Bool.Decides.{nat_tests}
-use Rattle.std.proofs.Common.{arith, ◌≡◌, ℕ, ◌+◌, Bool, true, false, not, List, [], ◌∷◌, Option, Some, None, filter, cond, Result, Ok, Err}
-use Rattle.std.proofs.Common.{refl, ap, ◌∙◌}
+use Rattle.std.proofs.Common.{arith, ◌≡◌, ℕ, ◌+◌, Bool, true, false, List, [], ◌∷◌, Option, Some, None, Result, Ok, Err, refl}
 use Rattle.std.specs.Prelude.{⊤, All, option_map, drop, length, ◌==◌, ◌||◌, slice_index, if◌then◌else◌}
-use Rattle.std.specs.List.{list_all, list_any, cons_option}
+use Rattle.std.specs.List.{list_all, cons_option}
 use Rattle.std.specs.Option.{option_to_list}
 use Rattle.std.specs.Result.{result_ok, result_map_both}
 use Rattle.attr_wildmatch.specs.Bytes.{number_sign}
 use Rattle.std.proofs.lemmas.Bool.{cond_both}
 use Rattle.std.proofs.lemmas.List.Elements.{All-filter, All-nil, All-cons, All-head, All-tail, All-append}
-use Rattle.attr_glob.specs.Patterns.{Reading, reading, read_rest, is_negated, without_negation, without_root, without_end, is_space}
-use Rattle.attr_wildmatch.specs.Slashes.{is_slash, ends_in_slash}
-use Rattle.attr_glob.specs.Patterns.{is_suffix, first, set_where, has_flag, no_sub_dir, ends_with, must_be_dir, negative, absolute}
+use Rattle.attr_glob.specs.Patterns.{Reading, reading, read_rest, is_negated, without_negation, is_space}
+use Rattle.attr_glob.specs.Patterns.{set_where, has_flag, no_sub_dir, ends_with, must_be_dir, negative, absolute}
 use Rattle.attr_text.specs.Items.{Refusal, checked_name, after_blanks}
-use Rattle.attr_lists.specs.LineResults.{Target, pattern, macro, LineResult, RefusedLine, Given, macro_name, negative_pattern, macro_prefix}
+use Rattle.attr_lists.specs.LineResults.{Target, pattern, macro, LineResult, RefusedLine, Given, negative_pattern, macro_prefix}
 use Rattle.attr_lists.specs.LineResults.{is_macro_definition, macro_of, pattern_of, target_of, parts_of, with_items, result_of_text, result_of}
 use Rattle.attr_lists.specs.LineResults.{results_from, results_of, lines_in}
 use Rattle.attr_lists.specs.declared.types.TrackedAssignment.{TrackedAssignment}
@@ -35,11 +33,8 @@ LineRead (Err refused) = ⊤
 abbrev flags : Bool → Bool → Bool → Bool → ℕ
 flags a b c e = set_where a no_sub_dir + set_where b ends_with + set_where c must_be_dir + set_where false negative + set_where e absolute
 
-flags-not_negative : (a b c e : Bool) → has_flag (flags a b c e) negative ≡ false
-flags-not_negative a b c e = grind (arith, nat_tests)
-
 rest-not_negative : (negated : Bool) (rest : List ℕ) → negated ≡ false → has_flag (read_rest negated rest).mode negative ≡ false
-rest-not_negative negated rest e = grind (arith, nat_tests, flags-not_negative)
+rest-not_negative negated rest e = grind (arith, nat_tests)
 
 OptionRead : Option (Result Target RefusedLine) → Type 0
 OptionRead None = ⊤
@@ -48,22 +43,19 @@ OptionRead (Some (Err refused)) = ⊤
 
 read-macro : (checked : Result (List ℕ) Refusal) (name : List ℕ) (line : ℕ) → OptionRead (Some (macro_of checked name line))
 unfolding OptionRead TargetRead
-read-macro (Ok checked) name line = tt
-read-macro (Err refusal) name line = tt
+read-macro checked name line = grind (arith, nat_tests)
 
 read-pattern : (text : List ℕ) (line : ℕ) (negated : Bool) (read : Reading) → reading text ≡ Some read
     → (negated ≡ false → has_flag read.mode negative ≡ false)
     → OptionRead (Some (if negated then Err (negative_pattern line text) else Ok (pattern read)))
 unfolding OptionRead TargetRead
-read-pattern text line true read e h = tt
-read-pattern text line false read e h = (text, e, h refl)
+read-pattern text line negated read e h = grind (arith, nat_tests)
 
 read-found : (text : List ℕ) (line : ℕ) (blank : Bool) → reading text ≡
     (if blank then None else Some (read_rest (is_negated text) (without_negation text)))
     → OptionRead (option_map (pattern_of text line) (if blank then None else Some (read_rest (is_negated text) (without_negation text))))
 unfolding OptionRead
-read-found text line true e = tt
-read-found text line false e = grind (arith, nat_tests, read-pattern, rest-not_negative)
+read-found text line blank e = grind (arith, nat_tests, read-pattern, rest-not_negative)
 
 target_of-read : (text : List ℕ) (line : ℕ) → OptionRead (target_of text line)
 target_of-read text line =
@@ -74,9 +66,7 @@ target_of-read text line =
 read-line : (items : List ℕ) (line : ℕ) (target : Option (Result Target RefusedLine)) → OptionRead target
     → All LineRead (option_to_list (option_map (with_items items line) target))
 unfolding OptionRead LineRead
-read-line items line None h = All-nil LineRead
-read-line items line (Some (Ok target)) h = All-cons LineRead _ [] h (All-nil LineRead)
-read-line items line (Some (Err refused)) h = All-cons LineRead _ [] tt (All-nil LineRead)
+read-line items line target h = grind (arith, nat_tests, All-nil, All-cons)
 
 result_of-read : (line : List ℕ) (number : ℕ) → All LineRead (option_to_list (result_of line number))
 result_of-read line number =
@@ -93,18 +83,15 @@ results-read number (line ∷ lines) =
 
 entry-read : (target : Target) (line : ℕ) (items : List TrackedAssignment) → TargetRead target → IsRead (entry_for target line items)
 unfolding TargetRead
-entry-read (pattern read) line items h = h
-entry-read (macro name) line items h = tt
+entry-read target line items h = grind (arith, nat_tests)
 
 kept-given : (given : Given) (left_out : DropReason → Dropped) (read : Result (List TrackedAssignment) DropReason) (others : List Entry)
     → TargetRead given.target → AreRead others
     → AreRead (cons_option (result_ok {E = Dropped} (result_map_both (entry_for given.target given.line) left_out read)) others)
-kept-given given left_out (Ok items) others valid h = All-cons IsRead _ others (entry-read given.target given.line items valid) h
-kept-given given left_out (Err reason) others valid h = h
+kept-given given left_out read others valid h = grind (arith, nat_tests, All-cons, entry-read)
 
 kept-refused : (refused : RefusedLine) (others : List Entry) → AreRead others → AreRead (cons_option (result_ok (line_read (Err refused))) others)
-kept-refused (macro_name line name) others h = h
-kept-refused (negative_pattern line text) others h = h
+kept-refused refused others h = grind (arith, nat_tests)
 
 kept-read : (lines : List LineResult) → All LineRead lines → AreRead (kept_lines lines)
 unfolding LineRead

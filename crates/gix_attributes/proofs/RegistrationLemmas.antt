@@ -1,6 +1,6 @@
 -- A collection that registers the lists of one search alone.
 use Rattle.std.proofs.lemmas.Bool.Decides.{nat_tests}
-use Rattle.std.proofs.Common.{arith, ◌≡◌, ℕ, List, [], ◌++◌, length, map, Option, Some, None, option_map, sym, ap, ◌∙◌}
+use Rattle.std.proofs.Common.{arith, ◌≡◌, ℕ, List, [], ◌++◌, length, Option, option_map, sym, ◌∙◌}
 use Rattle.std.specs.Prelude.{nat_eq, IfSome, MatchOption}
 use Rattle.std.proofs.Math.Path.{subst}
 use Rattle.std.specs.List.{IsDistinct}
@@ -10,12 +10,10 @@ use Rattle.std.proofs.lemmas.List.Elements.{All-nil}
 use Rattle.gix_attributes.specs.Additions.{RegisteredLists, registered_lists}
 use Rattle.attr_lists.specs.Collections.{Collection}
 use Rattle.gix_attributes.specs.Contents.{bodies_of}
-use Rattle.gix_attributes.specs.Covered.{AreCovered}
 use Rattle.attr_search.specs.IndexedLists.{listed_view}
 use Rattle.gix_attributes.specs.Keeping.{Adds, Keeps, Removes}
-use Rattle.gix_attributes.specs.Registers.{RegistersExactly, last_definition, no_lists, with_list_ids}
+use Rattle.gix_attributes.specs.Registers.{RegistersExactly, no_lists, with_list_ids}
 use Rattle.gix_attributes.specs.SearchViews.{LosesLast, RemovesLast, lists_in, list_ids_in}
-use Rattle.attr_search.specs.Settings.{LinesAreNamed}
 use Rattle.attr_search.specs.ListView.{Listed}
 use Rattle.gix_attributes.specs.declared.search.attributes.Search.{Search}
 use Rattle.gix_attributes.proofs.KeepingLemmas.{bodies_registered as registered_bodies, left_alone, lists_with_ids}
@@ -37,12 +35,7 @@ alone_added before after kept more h = record {
 -- lists are added to a collection that registers none
 pub alone_first : (known : Collection) (after : RegisteredLists) → Keeps (no_lists known) after → Adds (no_lists known) after
     → RegistersExactly known [] → IsAlone after
-alone_first known after kept more h =
-    alone_added (no_lists known) after kept more (record {
-      named = All-nil (λ (l : Listed). LinesAreNamed known.names l.lines);
-      covered = All-nil (λ (l : Listed). AreCovered (length known.names) l.lines);
-      exactly = h;
-    })
+alone_first known after kept more h = grind (arith, nat_tests, alone_added (no_lists known) after kept more, All-nil)
 
 -- as many list ids as lists
 pub same_count : (search : Search) → length (list_ids_in search) ≡ length (lists_in search)
@@ -55,17 +48,11 @@ pub alone_popped : {X : Type 0} (read : X → Listed) (r : Option X) (old new : 
     → lists_in old ≡ lists_in new ++ option_to_list (option_map read r) → MatchOption r (now ≡ known) (λ _. RemovesLast (list_ids_in old) known now)
     → MatchOption r (list_ids_in new ≡ list_ids_in old) (λ _. LosesLast (list_ids_in old) (list_ids_in new)) → IsAlone (registered_lists old known)
     → IsAlone (registered_lists new now)
-alone_popped read None old new known now distinct kept gone lists_are now_is ids_are h = grind (arith, nat_tests, append-nil)
-alone_popped read (Some x) old new known now distinct kept gone lists_are now_is ids_are h = record {
-  named = kept.named h.named;
-  covered = kept.covered h.covered;
-  exactly = left_alone (registered_lists old known) (registered_lists new now) gone distinct (same_count old) h.exactly;
-}
+alone_popped read r old new known now distinct kept gone lists_are now_is ids_are h = grind (arith, nat_tests, append-nil, left_alone, same_count)
 
 -- the body of a macro is its last definition in the lists
 pub bodies_registered : (known : Collection) (list_ids : List ℕ) (lists : List Listed) (selected : List (List ℕ)) → length list_ids ≡ length lists
     → RegistersAlone known list_ids lists
     → bodies_of known ≡ bodies_by (record { names = known.names; lists = lists; selection = selected })
 bodies_registered known list_ids lists selected same knows =
-    registered_bodies known (with_list_ids list_ids lists) knows.exactly
-    ∙ ap (λ ls. map (last_definition ls) known.names) (lists_with_ids list_ids lists same)
+    grind (arith, nat_tests, registered_bodies known (with_list_ids list_ids lists), lists_with_ids list_ids lists same)

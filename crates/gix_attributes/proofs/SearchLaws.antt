@@ -1,8 +1,7 @@
 -- The laws of searches, from the laws of the table.
 use Rattle.std.proofs.lemmas.Bool.Decides.{nat_tests}
-use Rattle.std.proofs.Common.{◌≡◌, ◌⊎◌, inl, ◌↔◌, ℕ, zero, suc, ◌+◌, ◌<◌, ◌==◌, ◌||◌}
-use Rattle.std.proofs.Common.{Bool, true, false, cond, List, [], ◌∷◌, ◌++◌, length, get_or, map, replicate}
-use Rattle.std.proofs.Common.{filter, All, Option, Some, None, MatchOption, option_map, unwrap_or, refl, sym, ap, ◌∙◌, arith, eq-eqb}
+use Rattle.std.proofs.Common.{◌≡◌, ◌⊎◌, ◌↔◌, ℕ, suc, ◌+◌, ◌<◌, ◌==◌, ◌||◌, Bool, true, false, List, [], ◌∷◌, ◌++◌, length, get_or, map, replicate}
+use Rattle.std.proofs.Common.{filter, All, Option, Some, None, MatchOption, option_map, refl, sym, ap, ◌∙◌, arith}
 use Rattle.std.proofs.Math.Path.{subst, fun_ext}
 use Rattle.std.specs.Prelude.{◌&&◌, is_some, option_and_then, slice_get}
 use Rattle.std.specs.List.{Contains, list_any, range_with_len}
@@ -14,36 +13,32 @@ use Rattle.std.proofs.lemmas.List.{append-nil}
 use Rattle.attr_wildmatch.specs.declared.case.Case.{Case}
 use Rattle.attr_lists.specs.ListViews.{Entry}
 use Rattle.attr_lists.specs.declared.types.TrackedAssignment.{TrackedAssignment}
-use Rattle.attr_table.specs.Setting.{Answer, Item, Line, Origin, Setting, body_of}
-use Rattle.attr_table.specs.Table.{Inside, IsEarliest, IsStable, Occurrence, Root, Slots, Table, item_at, line_at}
-use Rattle.attr_table.specs.Cut.{IsCut, IsCutAt, IsSearched, answer_at, answer_of, cause_at, full_answer, is_done, no_answers, origin_at}
-use Rattle.attr_table.specs.shared.Walk.{Walks, line_tasks, list_tasks, tasks_of}
-use Rattle.attr_table.proofs.ForCallers.{searched_walked, seen_others, seen_wanted, walked_searched}
-use Rattle.attr_table.proofs.ForCallers.{OneTable-of}
+use Rattle.attr_table.specs.Setting.{Answer, Item, Line, Origin, Setting}
+use Rattle.attr_table.specs.Table.{Inside, IsStable, Occurrence, Root, Slots, Table, item_at, line_at}
+use Rattle.attr_table.specs.Cut.{IsCut, IsCutAt, IsSearched, answer_at, full_answer, is_done, no_answers, origin_at}
+use Rattle.attr_table.specs.shared.Walk.{list_tasks, tasks_of}
+use Rattle.attr_table.proofs.ForCallers.{searched_walked, seen_others, seen_wanted, walked_searched, OneTable-of, narrowed_all}
 use Rattle.gix_attributes.specs.Contents.{Content, Wanted, has_number, is_wanted, wanted_of}
 use Rattle.attr_search.specs.ListView.{Listed, rest_for}
-use Rattle.attr_search.specs.Settings.{gives, line_of, lines_of, origin_in, setting_of}
-use Rattle.attr_search.specs.Slots.{Matched, is_needed, slots_of, table_answer, table_items}
+use Rattle.attr_search.specs.Settings.{gives, line_of, lines_of, setting_of}
+use Rattle.attr_search.specs.Slots.{Matched, is_needed, slots_of, table_answer}
 use Rattle.attr_table.specs.Skipped.{narrowed}
-use Rattle.attr_table.proofs.ForCallers.{narrowed_all}
 
 -- empty slots have no answers
 abbrev no_slot : {X : Type 0} → X → Option Matched
 no_slot x = None
 
 pub empty_at : {X : Type 0} (xs : List X) (a : ℕ) → get_or (map no_slot xs) a None ≡ None
-empty_at [] a = refl
-empty_at (x ∷ xs) zero = refl
 empty_at (x ∷ xs) (suc a) = empty_at xs a
+empty_at xs a = grind (arith, nat_tests)
 
 pub nothing_in : {X : Type 0} (xs : List X) → slots_of (map no_slot xs) ≡ no_answers
 nothing_in xs = fun_ext (λ a. ap (option_map (table_answer a)) (empty_at xs a))
 
 -- where one value is repeated, it is at each index
 pub repeated : {X : Type 0} (x : X) (n a : ℕ) → get_or (replicate n x) a x ≡ x
-repeated x zero a = refl
-repeated x (suc n) zero = refl
 repeated x (suc n) (suc a) = repeated x n a
+repeated x n a = grind (arith, nat_tests)
 
 -- where all are needed, slots are seen as they are
 pub all_are_needed : (flags : List Bool) (n : ℕ) → flags ≡ replicate n true → (a : ℕ) → is_needed flags a ≡ true
@@ -54,15 +49,13 @@ all_seen flags n slots e = narrowed_all (is_needed flags) slots (all_are_needed 
 
 -- what a filter lets through is in what it leaves
 pub in_filter : {X : Type 0} (p : X → Bool) (xs : List X) (x : X) → Contains xs x → p x ≡ true → Contains (filter p xs) x
-in_filter p [] x (k, lt, e) t = absurd (omega (arith, lt))
-in_filter p (y ∷ ys) x (zero, lt, e) t = let here : p y ≡ true = ap p e ∙ t in rw here (0, omega arith, e)
 in_filter p (y ∷ ys) x (suc k, lt, e) t =
     let c = in_filter p ys x (k, omega (arith, lt), e) t in
     cond_both (p y) (y ∷ filter p ys) (filter p ys) (λ zs. Contains zs x) (λ _. (suc c.0, omega (arith, c.1), c.2)) (λ _. c)
+in_filter p xs x h t = grind (arith, nat_tests)
 
 in_range : (a n k number : ℕ) → k < n → number ≡ a + k → Contains (range_with_len a n) number
-in_range a n k number lt e =
-    (k, omega (arith, length-range_with_len a n, lt), get_or-range_with_len a n k number lt ∙ sym e)
+in_range a n k number lt e = grind (arith, nat_tests, length-range_with_len a n, get_or-range_with_len a n k number lt)
 
 -- a number is wanted if there is no selection, or if its name is selected
 pub all_wanted : (held : Content) (number : ℕ) → length held.selection ≡ 0 → number < length held.slots → Contains (wanted_of held) number
@@ -122,13 +115,7 @@ has_origin s (Root list line item) i e = at (line_at s list line) e
         (origin : Origin) × (option_map (λ l. l.origin) l ≡ Some origin)
     at None d = absurd cc
     at (Some l) d = (l.origin, refl)
-has_origin s (Inside parent index) i e = at (λ j h. has_origin s parent j h) (item_at s parent) refl e
-  where
-    at : ((j : Item) → item_at s parent ≡ Some j → (origin : Origin) × (origin_at s parent ≡ Some origin)) → (o : Option Item) →
-        item_at s parent ≡ o → option_and_then (λ j. slice_get (body_of s.bodies j.attribute) index) o ≡ Some i →
-        (origin : Origin) × (origin_at s parent ≡ Some origin)
-    at above None h d = absurd cc
-    at above (Some j) h d = above j h
+has_origin s (Inside parent index) i e = grind (arith, nat_tests, has_origin s parent)
 
 pub has_answer : (s : Setting) (o : Occurrence) (i : Item) → item_at s o ≡ Some i → answer_at s o ≡ None → ⊥
 has_answer s o i e none = grind (arith, nat_tests, has_origin)
@@ -151,20 +138,17 @@ whole_from s wanted start slots table searched stable left number =
   where
     by_entry : (w : ℕ) × Contains wanted w × (start w ≡ None) × (table w ≡ None) → (o : Option Occurrence) →
         IsCutAt s start table wanted o (slots number) → slots number ≡ full_answer s None o
-    by_entry free None e = e
-    by_entry free (Some o) e = e.0 (inl free)
+    by_entry free o e = grind (arith, nat_tests)
 
     at : (w : ℕ) × Contains wanted w × (start w ≡ None) × (table w ≡ None) → (o : Option Answer) →
         MatchOption o (IsCutAt s start table wanted (table number) (slots number)) (λ x. slots number ≡ Some x) →
         slots number ≡ full_answer s o (table number)
-    at free None e = by_entry free (table number) e
-    at free (Some x) e = e
+    at free o e = grind (arith, nat_tests, by_entry)
 
 pub whole_table : (s : Setting) (wanted : List ℕ) (before after : Slots) (table : Table) → before ≡ no_answers →
     IsSearched s wanted before after → IsStable s no_answers table → is_done wanted after ≡ false → (number : ℕ) →
     after number ≡ full_answer s None (table number)
-whole_table s wanted before after table nothing searched stable left number =
-    whole_from s wanted no_answers after table (subst (λ start. IsSearched s wanted start after) nothing searched) stable left number
+whole_table s wanted before after table nothing searched stable left number = grind (arith, nat_tests, whole_from s wanted no_answers after table)
 
 -- ---- lists of which no line matches
 

@@ -1,7 +1,6 @@
 -- From what a search leaves of its state to what it leaves of an outcome.
 use Rattle.std.proofs.lemmas.Bool.Decides.{nat_tests}
 use Rattle.std.proofs.Common.{arith, ◌≡◌, ℕ, Bool, true, false, List, length, map, Option, None, Ok, sym, ap, ◌∙◌}
-use Rattle.std.proofs.Math.Path.{subst}
 use Rattle.std.specs.Result.{is_err}
 use Rattle.std.specs.declared.result.Result.{Result}
 use Rattle.bstr.specs.BStr.{bstr_bytes}
@@ -13,7 +12,7 @@ use Rattle.attr_search.specs.declared.indexed_list.IndexedList.{IndexedList}
 use Rattle.attr_search.specs.SearchContents.{SearchContents}
 use Rattle.attr_search.specs.shared.SlotContents.{wanted_numbers}
 use Rattle.gix_attributes.specs.ContentView.{outcome_view}
-use Rattle.gix_attributes.specs.Contents.{Content, reset_content, is_wanted, wanted_of}
+use Rattle.gix_attributes.specs.Contents.{Content, reset_content, wanted_of}
 use Rattle.gix_attributes.specs.inner.Needed.{flags_of}
 use Rattle.gix_attributes.specs.Selection.{selection_view}
 use Rattle.attr_search.specs.Slots.{Matched, is_needed, slots_of}
@@ -47,12 +46,6 @@ with_state held state =
 -- with the same state it is the same outcome
 pub same_state : (o : Inside) (state : SearchContents) → state ≡ o.state → with_state (outcome_view o) state ≡ outcome_view o
 same_state o state e = ap (with_state (outcome_view o)) e
-
--- with the same bodies, if the same is needed, it differs in its answers and counts
-pub same_bodies : (o : Inside) (state : SearchContents) → state.bodies ≡ o.state.bodies → state.needed ≡ o.state.needed →
-    with_state (outcome_view o) state
-    ≡ record (outcome_view o) { slots = state.answers; kept = state.kept; taken = state.taken; tested = state.tested }
-same_bodies o state e f = grind (arith, nat_tests)
 
 -- what is left of an outcome that is reset does not depend on its answers
 pub emptied_alike : (o : Inside) (state : SearchContents) → state.bodies ≡ o.state.bodies → state.needed ≡ o.state.needed →

@@ -1,12 +1,13 @@
 -- A text without the slashes at its end, and the variables that were looked up.
+use Rattle.std.proofs.lemmas.Grind.{common_steps}
 use Rattle.std.proofs.lemmas.Bool.Decides.{nat_tests}
-use Rattle.std.proofs.Common.{◌≡◌, ◌∙◌, ◌<◌, ◌≤◌, ◌+◌, ◌-◌, ℕ, List, [], ◌∷◌, ◌++◌, length, take, get_or, refl, sym, ap, subst, Option, Some, None}
-use Rattle.std.proofs.Common.{arith, eq-eqb, inl, inr, lit<, Bor, String, Global, string_bytes, Result}
+use Rattle.std.proofs.Common.{◌≡◌, ◌<◌, ◌≤◌, ◌-◌, ℕ, List, [], ◌∷◌, length, take, get_or, refl, Option, Some, None}
+use Rattle.std.proofs.Common.{arith, eq-eqb, lit<, Bor, String, Global, string_bytes, Result}
 use Rattle.std.specs.Prelude.{is_some, option_map, IfOk}
 use Rattle.std.specs.Fn.{Mut, CalledAt}
 use Rattle.std.specs.List.{suffix_len}
 use Rattle.std.specs.Str.Pattern.{IsTrimEndMatches, IsFullyTrimmed, CutsSuffixes, FindsCharSuffix}
-use Rattle.std.proofs.lemmas.Bool.{ne_eqb, cases_lt}
+use Rattle.std.proofs.lemmas.Bool.{ne_eqb}
 use Rattle.std.proofs.lemmas.List.{length-take-le, take-take, get_or-take, take_more, take_all}
 use Rattle.std.proofs.lemmas.Str.{encode_ascii}
 use Rattle.std.proofs.lemmas.List.Sums.{suffix_len_is}
@@ -21,25 +22,14 @@ record AreCut (text left : List ℕ) : Type 0 where
   pub within : length left ≤ length text
   pub slashes : (k : ℕ) → length left ≤ k → k < length text → get_or text k 0 ≡ 47
 
--- one byte more
-cut_more : (text mid left : List ℕ) → AreCut text mid → left ≡ take (length mid - 1) mid → 0 < length mid → get_or mid (length mid - 1) 0 ≡ 47 →
-    AreCut text left
-cut_more text mid left cut is some last = grind (arith, nat_tests, length-take-le, get_or-take, take-take)
-
 cut_all : (text : List ℕ) (widths : List ℕ) (left : List ℕ) → CutsSuffixes (FindsCharSuffix 47) text widths left → AreCut text left
 cut_all text [] left cuts = grind (arith, nat_tests, take_all)
 cut_all text (n ∷ ns) left (mid, cuts, (width, at, boundary), is) =
-    let one : n ≡ 1 = width in
-    cut_more text mid left (cut_all text ns mid cuts) (is ∙ ap (λ m. take (length mid - m) mid) one) (omega (arith, at.ends))
-    (ap (λ m. get_or mid (length mid - m) 0) (sym one) ∙ at.byte (lit< tt))
+    grind (arith, common_steps, nat_tests, length-take-le, get_or-take, take-take, lit<, cut_all text ns mid cuts)
 
 -- what is left has no slash at its end
 last_byte : (left : List ℕ) → IsFullyTrimmed (FindsCharSuffix 47) left → 0 < length left → get_or left (length left - 1) 0 ≡ 47 → ⊥
-last_byte left (None, finds, end) some is =
-    finds (take (length left - 1) left)
-    (sym (take_all (length left - 1 + 1) left (omega arith)) ∙ take_more left (length left - 1) 0 (omega arith) ∙ ap
-    (λ b. take (length left - 1) left ++ b ∷ []) is
-    ∙ ap (λ bs. take (length left - 1) left ++ bs) (sym (encode_ascii 47 (lit< tt))))
+last_byte left (None, finds, end) some is = grind (arith, nat_tests, take_all, take_more, encode_ascii, lit<, finds (take (length left - 1) left))
 last_byte left (Some n, finds, end) some is = absurd (omega (arith, finds.0, end))
 
 pub trimmed : (text left : List ℕ) → IsTrimEndMatches (FindsCharSuffix 47) text left → left ≡ take (length text - suffix_len is_slash text) text
@@ -65,8 +55,7 @@ asks_two calls f name answer mid name' answer' after called called' =
     (after, (mid, (answer, called, refl), (after, (answer', called', refl), refl)))
 
 pub is_some-text : (answer : Option (String Global)) → is_some (option_map string_bytes answer) ≡ is_some answer
-is_some-text None = refl
-is_some-text (Some text) = refl
+is_some-text answer = grind (arith, nat_tests)
 
 -- a result that is the path of a source is the path of the same source by another name
 pub located : {E : Type 0} (source known : Source) (prefixes : Prefixes) (asked : List Asked) (found : Option (List ℕ))

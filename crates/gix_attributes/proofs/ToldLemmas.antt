@@ -1,28 +1,25 @@
 -- Sources only tell: lists that differ in their sources alone have the same answers, but for the sources of these.
 use Rattle.std.proofs.lemmas.Bool.Decides.{nat_tests}
-use Rattle.std.proofs.Common.{arith, ◌≡◌, ℕ, zero, suc, ◌-◌, inl, inr, ⊎_elim, ◌==◌, Bool, true, false, List, [], ◌∷◌, ◌++◌, length, map, take}
-use Rattle.std.proofs.Common.{Option, Some, None, MatchOption, option_map, slice_get, unwrap_or, refl, sym, ap, ◌∙◌, subst, get_or}
-use Rattle.std.proofs.Math.Path.{fun_ext}
-use Rattle.std.specs.Prelude.{⊤, option_and_then, if◌then◌else◌}
-use Rattle.std.specs.List.{cons_option, filter_map, range_with_len}
+use Rattle.std.proofs.Common.{arith, ◌≡◌, ℕ, suc, ◌-◌, ◌==◌, Bool, List, [], ◌∷◌, ◌++◌, length, map}
+use Rattle.std.proofs.Common.{Option, Some, None, MatchOption, option_map, refl, sym, ap, ◌∙◌, subst, get_or}
+use Rattle.std.specs.Prelude.{⊤, if◌then◌else◌}
+use Rattle.std.specs.List.{filter_map, range_with_len}
 use Rattle.std.proofs.lemmas.List.{length-map, map-append, take-map}
 use Rattle.std.proofs.lemmas.List.Elements.{All-weaker}
 use Rattle.std.proofs.lemmas.Option.{slice_get-map}
-use Rattle.attr_table.specs.Cut.{answer_at, answer_of, cause_at, no_answers, origin_at}
-use Rattle.gix_attributes.specs.Contents.{unspecified}
-use Rattle.attr_search.specs.ListView.{Listed, rest_for}
+use Rattle.attr_table.specs.Cut.{cause_at, no_answers, origin_at}
+use Rattle.attr_search.specs.ListView.{Listed}
 use Rattle.attr_lists.specs.ListViews.{Entry}
-use Rattle.gix_attributes.specs.Lookups.{FindsAnswers, IsFound, OfTheOnlyTable, answer_for, answers_by_number, named_answer}
-use Rattle.gix_attributes.specs.Lookups.{selected_answers, table_answers}
+use Rattle.gix_attributes.specs.Lookups.{FindsAnswers, IsFound, OfTheOnlyTable, answers_by_number, named_answer, selected_answers, table_answers}
 use Rattle.attr_lists.specs.Numbers.{number_of}
 use Rattle.gix_attributes.specs.Registers.{definitions_in}
 use Rattle.attr_lists.specs.Definitions.{bodies_named}
-use Rattle.attr_table.specs.Setting.{Answer, Item, Line, Origin, Setting, body_of}
+use Rattle.attr_table.specs.Setting.{Answer, Line, Setting}
 use Rattle.attr_search.specs.Settings.{line_of, lines_of}
-use Rattle.attr_search.specs.Slots.{Matched, table_items}
-use Rattle.attr_table.specs.Table.{Inside, IsEarliest, IsLive, IsReached, IsStable, Occurrence, Root, Slots, Table, item_at, line_at}
+use Rattle.attr_search.specs.Slots.{Matched}
+use Rattle.attr_table.specs.Table.{Inside, IsEarliest, IsReached, IsStable, Occurrence, Root, Slots, Table, item_at}
 use Rattle.attr_wildmatch.specs.declared.case.Case.{Case}
-use Rattle.gix_attributes.specs.EngineStates.{AddedList, AnswersTo, EngineContent, EngineState, FindsFor, bodies_by, is_specified, number_answered}
+use Rattle.gix_attributes.specs.EngineStates.{AddedList, AnswersTo, EngineContent, EngineState, FindsFor, bodies_by, number_answered}
 use Rattle.gix_attributes.specs.EngineStates.{path_setting, returned_answers, specified_among, with_list_below, without_last}
 use Rattle.gix_attributes.specs.Told.{addition_told, content_told, list_told, match_told, origin_told, state_told}
 
@@ -30,20 +27,11 @@ use Rattle.gix_attributes.specs.Told.{addition_told, content_told, list_told, ma
 
 reached_same : (s t : Setting) → ((o : Occurrence) → item_at s o ≡ item_at t o) → (table : Table) (o : Occurrence) → IsReached s table o →
     IsReached t table o
-reached_same s t same table (Root list line item) h = h
-reached_same s t same table (Inside parent index) h = (h.0, sym (same parent) ∙ h.1, h.2, h.3)
-
-live_same : (s t : Setting) → ((o : Occurrence) → item_at s o ≡ item_at t o) → (table : Table) (o : Occurrence) (i : Item) →
-    IsLive s table o i → IsLive t table o i
-live_same s t same table o i live = grind (arith, nat_tests, reached_same)
+reached_same s t same table o h = grind (arith, nat_tests)
 
 earliest_same : (s t : Setting) → ((o : Occurrence) → item_at s o ≡ item_at t o) → (table : Table) (a : ℕ) (entry : Option Occurrence) →
     IsEarliest s table a entry → IsEarliest t table a entry
-earliest_same s t same table a None none = λ o i live. none o i (live_same t s (λ p. sym (same p)) table o i live)
-earliest_same s t same table a (Some o) first = (
-  (first.0.0, live_same s t same table o first.0.0 first.0.1, first.0.2),
-  λ p i live e. first.1 p i (live_same t s (λ q. sym (same q)) table p i live) e,
-)
+earliest_same s t same table a entry none = grind (arith, nat_tests, reached_same)
 
 stable_same : (s t : Setting) → ((o : Occurrence) → item_at s o ≡ item_at t o) → (table : Table) → IsStable s no_answers table →
     IsStable t no_answers table
@@ -64,27 +52,19 @@ module _ (told : List ℕ → List ℕ) where
   abbrev answers_told : Slots → Slots
   answers_told answers number = option_map answer_told (answers number)
 
-  line_same : (s : Setting) (list line : ℕ) → line_at (setting_told s) list line ≡ option_map line_told (line_at s list line)
-  line_same s list line = grind (arith, nat_tests, slice_get-map)
-
   item_same : (s : Setting) (o : Occurrence) → item_at (setting_told s) o ≡ item_at s o
-  item_same s (Root list line item) = grind (arith, nat_tests, line_same)
+  item_same s (Root list line item) = grind (arith, nat_tests, slice_get-map)
   item_same s (Inside parent index) = grind (arith, nat_tests, item_same s parent)
 
   origin_same : (s : Setting) (o : Occurrence) → origin_at (setting_told s) o ≡ option_map (origin_told told) (origin_at s o)
-  origin_same s (Root list line item) = grind (arith, nat_tests, line_same)
+  origin_same s (Root list line item) = grind (arith, nat_tests, slice_get-map)
   origin_same s (Inside parent index) = origin_same s parent
 
   cause_same : (s : Setting) (o : Occurrence) → cause_at (setting_told s) o ≡ cause_at s o
-  cause_same s (Root list line item) = refl
-  cause_same s (Inside parent index) = ap (option_map (λ (i : Item). i.attribute)) (item_same s parent)
-
-  -- its answers tell the other sources
-  answer_same : (s : Setting) (o : Occurrence) → answer_at (setting_told s) o ≡ option_map answer_told (answer_at s o)
-  answer_same s o = grind (arith, nat_tests, origin_same, item_same, cause_same)
+  cause_same s o = grind (arith, nat_tests, item_same)
 
   answers_same : (s : Setting) (table : Table) → table_answers (setting_told s) table ≡ answers_told (table_answers s table)
-  answers_same s table = grind (arith, nat_tests, answer_same)
+  answers_same s table = grind (arith, nat_tests, origin_same, item_same, cause_same)
 
   only_told : (s : Setting) (Holds HoldsTold : Slots → Type 0) → ((answers : Slots) → Holds answers → HoldsTold (answers_told answers)) →
       OfTheOnlyTable s Holds → OfTheOnlyTable (setting_told s) HoldsTold
@@ -151,16 +131,14 @@ module _ (told : List ℕ → List ℕ) where
           (if b then specified_among (answers_by_number s.names answers) else selected_answers s.names answers s.selection)
           ≡ (if b then specified_among (answers_by_number s.names (answers_told answers))
           else selected_answers s.names (answers_told answers) s.selection)
-      at true = sym all
-      at false = sym (selected_same s.names answers s.selection)
+      at b = grind (arith, nat_tests, all, selected_same)
 
   -- ---- what is found
 
   slot_same : (found : List (Option Matched)) (number : ℕ) →
       get_or (map (option_map (match_told told)) found) number None ≡ option_map (match_told told) (get_or found number None)
-  slot_same [] number = refl
-  slot_same (slot ∷ found) zero = refl
   slot_same (slot ∷ found) (suc number) = slot_same found number
+  slot_same found number = grind (arith, nat_tests)
 
   found_same : (names : List (List ℕ)) (answers : Slots) (found : List (Option Matched)) (number : ℕ) → IsFound names answers found number →
       IsFound names (answers_told answers) (map (option_map (match_told told)) found) number
@@ -170,26 +148,22 @@ module _ (told : List ℕ → List ℕ) where
       FindsAnswers names selected (answers_told answers) (map (option_map (match_told told)) found)
   finds_same names selected answers found finds =
       record {
-        part = λ number. ⊎_elim (λ none. inl (slot_same found number ∙ ap (option_map (match_told told)) none))
-            (λ e. inr (found_same names answers found number e)) (finds.part number);
+        part = λ number. grind (arith, nat_tests, slot_same, found_same);
         all = λ none number lt. found_same names answers found number (finds.all none number lt);
         selected = All-weaker (λ text. MatchOption (number_of names text) ⊤ (IsFound names answers found))
             (λ text. MatchOption (number_of names text) ⊤ IsTold) (λ text h. by_number (number_of names text) h) selected finds.selected;
-        causes = λ number. subst (λ slot. MatchOption slot ⊤ (λ m. MatchOption m.cause ⊤ IsTold)) (sym (slot_same found number))
-            (by_slot (get_or found number None) (finds.causes number));
+        causes = λ number. grind (arith, nat_tests, slot_same, by_slot);
       }
     where
       IsTold : ℕ → Type 0
       IsTold number = IsFound names (answers_told answers) (map (option_map (match_told told)) found) number
 
       by_number : (o : Option ℕ) → MatchOption o ⊤ (IsFound names answers found) → MatchOption o ⊤ IsTold
-      by_number None h = tt
-      by_number (Some number) h = found_same names answers found number h
+      by_number o h = grind (arith, nat_tests, found_same)
 
       by_slot : (slot : Option Matched) → MatchOption slot ⊤ (λ m. MatchOption m.cause ⊤ (IsFound names answers found)) →
           MatchOption (option_map (match_told told) slot) ⊤ (λ m. MatchOption m.cause ⊤ IsTold)
-      by_slot None h = tt
-      by_slot (Some m) h = by_number m.cause h
+      by_slot slot h = grind (arith, nat_tests, by_number)
 
   -- ---- engines
 
@@ -239,7 +213,4 @@ module _ (told : List ℕ → List ℕ) where
 
       at : (o : Option (List Matched)) → number_answered (content_told told (record held { answers = o })) index
           ≡ number_answered (record held { answers = o }) index
-      at None = refl
-      at (Some ms) =
-          ap (λ names. option_and_then (number_of held.state.names)
-          (slice_get (if length held.state.selection == 0 then names else held.state.selection) index)) (names_same ms)
+      at o = grind (arith, nat_tests, names_same)

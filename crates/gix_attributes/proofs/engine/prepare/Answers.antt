@@ -1,15 +1,9 @@
 use Rattle.std.proofs.lemmas.Bool.Decides.{nat_tests}
-use Rattle.std.proofs.Common.{arith, ◌≡◌, ◌∙◌, ap, subst}
+use Rattle.std.proofs.Common.{arith}
 use Rattle.std.proofs.lemmas.Result.{on_ok_weaker}
-use Rattle.gix_attributes.specs.Contents.{Content, looked_up, names_selected}
-use Rattle.gix_attributes.specs.Selection.{selection_view}
-use Rattle.gix_attributes.specs.inner.Needed.{IsNarrowed}
 use Rattle.gix_attributes.proofs.AnswerLemmas.{names_stay}
 use Rattle.gix_attributes.proofs.OutcomeLemmas.{looked_up_again, names_looked_up}
 use Rattle.gix_attributes.proofs.engine.prepare.Goals as goal
-
-pub returns-in_err-initialize-clause-names : goal.returns-in_err-initialize-clause-names
-returns-in_err-initialize-clause-names c = ap (λ (h : Content). names_selected h.selection) c.in_err-initialize.ensures.refused
 
 pub returns-in_err-names-clause-names : goal.returns-in_err-names-clause-names
 returns-in_err-names-clause-names c = grind (arith, nat_tests, names_looked_up)

@@ -1,4 +1,5 @@
-use Rattle.std.proofs.Common.{◌∙◌, refl}
+use Rattle.std.proofs.Common.{arith, ◌∙◌, refl}
+use Rattle.std.proofs.lemmas.Bool.Decides.{nat_tests}
 use Rattle.attr_lists.specs.KeptLists.{kept_list_where}
 use Rattle.gix_attributes.specs.Additions.{registered_lists}
 use Rattle.gix_attributes.proofs.CurrentLemmas.{current_added}
@@ -11,8 +12,7 @@ invariant_of-self-2 c =
     let added = c.in_ok-self-inside.ensures in
     record {
       held = added.held c.self.invariant.held;
-      known = alone_added (registered_lists old.search old.collection)
-          (registered_lists c.add_patterns_below.new.self c.add_patterns_below.new.collection) added.kept added.added c.self.invariant.known;
+      known = grind (arith, nat_tests, alone_added, c.self.invariant.known);
       current = λ still.
           let stays = c.stays_current-self-inside.ensures in
           current_added (kept_list_where c.args.list.allow_macros c.args.list.buffer.now) (registered_lists old.search old.collection)

@@ -1,14 +1,14 @@
 -- A search from nothing answers by the only stable table, and leaves an outcome that can be reset.
-use Rattle.std.proofs.Common.{◌≡◌, ℕ, List, [], Option, None, Some, length, refl, sym, ap, ◌∙◌, subst, Result, Ok, Err, OnErr}
-use Rattle.std.proofs.lemmas.List.{length-map}
+use Rattle.gix_attributes.proofs.OutcomeLemmas.{emptied_again}
+use Rattle.std.proofs.Common.{arith, ◌≡◌, ℕ, List, Option, Some, refl, ap, ◌∙◌, subst}
+use Rattle.std.proofs.lemmas.Bool.Decides.{nat_tests}
 use Rattle.gix_attributes.specs.Contents.{Content, names_selected}
-use Rattle.gix_attributes.specs.Covered.{ListsAreCovered}
 use Rattle.gix_attributes.specs.Lookups.{FindsAnswers, Lookup, OfTheOnlyTable}
 use Rattle.gix_attributes.specs.SearchViews.{list_ids_in, lists_in}
 use Rattle.attr_search.specs.Slots.{Matched}
-use Rattle.gix_attributes.specs.EngineStates.{EngineContent, path_setting, returned_answers, without_answers}
+use Rattle.gix_attributes.specs.EngineStates.{EngineContent, path_setting, returned_answers}
 use Rattle.gix_attributes.specs.EngineView.{engine_view, returned_by}
-use Rattle.gix_attributes.proofs.AnswerLemmas.{answered, current_at_first, current_reset, current_searched, found, of_names}
+use Rattle.gix_attributes.proofs.AnswerLemmas.{answered, current_at_first, current_searched, found, of_names}
 use Rattle.gix_attributes.proofs.RegistrationLemmas.{same_count}
 use Rattle.gix_attributes.specs.declared.engine.Engine.TheInside.{Inside}
 use Rattle.gix_attributes.specs.declared.engine.Question.{Question}
@@ -26,43 +26,17 @@ looked_for e selected question =
       is_dir = question.is_dir;
     }
 
--- an outcome that is initialised has a slot for each name
-pub pattern_matching_relative_path-requires-clause-covered : goal.pattern_matching_relative_path-requires-clause-covered
-pattern_matching_relative_path-requires-clause-covered c =
-    let made = ap (λ (held : Content). length held.slots) c.in_ok-prepare.ensures.ready.content ∙ length-map c.self.inside.collection.names _ in
-    subst (λ n. ListsAreCovered n (lists_in c.self.inside.search)) (sym made) c.self.invariant.known.covered
-
 pub invariant_of-self-in_err-pattern_matching_relative_path : goal.invariant_of-self-in_err-pattern_matching_relative_path
-invariant_of-self-in_err-pattern_matching_relative_path c = record {
-  held = c.self.invariant.held;
-  known = c.self.invariant.known;
-  current = λ yes. current_reset c.self.inside.collection c.prepare.new.outcome c.pattern_matching_relative_path.new.out
-      c.in_err-pattern_matching_relative_path.ensures.refused
-      (current_at_first c.self.inside.collection _ c.prepare.new.outcome c.in_ok-prepare.ensures.ready);
-  answered = λ never. absurd (cc);
-  numbered = λ never. absurd (cc);
-  named = λ never. absurd (cc);
-}
+invariant_of-self-in_err-pattern_matching_relative_path c = grind (arith, nat_tests, emptied_again, current_at_first, answered)
 
 pub invariant_of-self-in_err-number_answers : goal.invariant_of-self-in_err-number_answers
-invariant_of-self-in_err-number_answers c = record {
-  held = c.self.invariant.held;
-  known = c.self.invariant.known;
-  current = λ yes. current_searched c.self.inside.collection c.prepare.new.outcome c.pattern_matching_relative_path.new.out
-      c.in_ok-pattern_matching_relative_path.ensures.kept
-      (current_at_first c.self.inside.collection _ c.prepare.new.outcome c.in_ok-prepare.ensures.ready);
-  answered = λ never. absurd (cc);
-  numbered = λ never. absurd (cc);
-  named = λ never. absurd (cc);
-}
+invariant_of-self-in_err-number_answers c = grind (arith, nat_tests, current_searched, current_at_first, answered)
 
 pub invariant_of-self-2 : goal.invariant_of-self-2
 invariant_of-self-2 c = record {
   held = c.self.invariant.held;
   known = c.self.invariant.known;
-  current = λ yes. current_searched c.self.inside.collection c.prepare.new.outcome c.pattern_matching_relative_path.new.out
-      c.in_ok-pattern_matching_relative_path.ensures.kept
-      (current_at_first c.self.inside.collection _ c.prepare.new.outcome c.in_ok-prepare.ensures.ready);
+  current = λ yes. grind (arith, nat_tests, current_searched, current_at_first, c.in_ok-prepare.ensures.ready);
   answered = λ yes. refl;
   numbered = λ yes. c.in_ok-number_answers.ensures;
   named = λ yes.
@@ -83,29 +57,6 @@ Seen old selection answers found =
       dropped = old.dropped;
     }
 
--- an engine without answers, if the selection stays
-unanswered : {T E : Type 0} (r : Result T E) (before now : EngineContent) (selection : List (List ℕ)) → selection ≡ before.state.selection
-    → before ≡ now → OnErr r (Seen before selection None [] ≡ without_answers now)
-unanswered (Ok x) before now selection same is_now = tt
-unanswered (Err e) before now selection same is_now =
-    ap (λ s. Seen before s None []) same ∙ ap without_answers is_now
-
-pub returns-in_err-pattern_matching_relative_path-clause-refused : goal.returns-in_err-pattern_matching_relative_path-clause-refused
-returns-in_err-pattern_matching_relative_path-clause-refused c =
-    let e = c.self.inside in
-    unanswered c.from_residual-in_err-pattern_matching_relative_path.result (engine_view e) c.args.self.now _
-    (ap (λ (h : Content). names_selected h.selection) c.in_err-pattern_matching_relative_path.ensures.refused
-    ∙ c.in_ok-prepare.ensures.names)
-    c.self.view_is
-
-pub returns-in_err-number_answers-clause-refused : goal.returns-in_err-number_answers-clause-refused
-returns-in_err-number_answers-clause-refused c =
-    let e = c.self.inside in
-    unanswered c.from_residual-in_err-number_answers.result (engine_view e) c.args.self.now _
-    (ap (λ (h : Content). names_selected h.selection) c.in_ok-pattern_matching_relative_path.ensures.kept.rest
-    ∙ c.in_ok-prepare.ensures.names)
-    c.self.view_is
-
 pub returns-clause-answers : goal.returns-clause-answers
 returns-clause-answers c =
     let e = c.self.inside in
@@ -122,8 +73,7 @@ returns-clause-answers c =
     ≡ record held { answers = Some (returned_answers held.state answers); found = after.slots }))
     c.self.view_is (
       seen.0,
-      ap (λ s. Seen (engine_view e) s (Some (returned_by after)) after.slots) selection
-          ∙ ap (λ answers. Seen (engine_view e) (names_selected e.outcome.selection) (Some answers) after.slots) seen.1,
+      grind (arith, nat_tests),
     )
 
 pub returns-clause-found : goal.returns-clause-found

@@ -1,12 +1,10 @@
-use Rattle.std.proofs.Common.{ap, ◌∙◌}
-use Rattle.std.specs.Prelude.{unwrap_or}
-use Rattle.gix_attributes.specs.Told.{label_at}
+use Rattle.std.proofs.Common.{arith}
+use Rattle.std.proofs.lemmas.Bool.Decides.{nat_tests}
 use Rattle.gix_attributes.proofs.LabelLemmas.{label_below, source_at_label, state_told-more}
 use Rattle.gix_attributes.proofs.engine.laws.labels_stand_for_sources.Goals as goal
 
 pub returns-clause-label : goal.returns-clause-label
-returns-clause-label c sources index source below here =
-    source_at_label sources index below ∙ ap (λ o. unwrap_or o (label_at index)) here
+returns-clause-label c sources index source below here = grind (arith, nat_tests, source_at_label)
 
 pub returns-clause-below : goal.returns-clause-below
 returns-clause-below c = label_below

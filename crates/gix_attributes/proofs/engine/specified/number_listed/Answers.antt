@@ -1,3 +1,4 @@
+use Rattle.std.proofs.lemmas.Bool.Decides.{nat_tests}
 use Rattle.std.proofs.Common.{◌∙◌, ◌++◌, ◌+◌, ◌<◌, ℕ, None, arith, ap, get_or, length, map, refl, sym}
 use Rattle.std.proofs.lemmas.List.{get_or_default}
 use Rattle.std.proofs.lemmas.List.Elements.{All-get_or}
@@ -30,17 +31,9 @@ loop-number-preserved c =
                 c.loop-number-test.true (λ d. get_or_default listed index d 0 c.loop-number-test.true) w.if-number-from.true within
                 c.loop-number.invariant.free))
                 ∙ c.loop-number.invariant.numbered));
-            free = rw w.from-is (free_on slots listed from (number + 1) index number
-                (λ d. get_or_default listed index d 0 c.loop-number-test.true) (omega (arith, w.if-number-from.true)) (omega arith)
-                c.loop-number.invariant.free);
+            free = grind (arith, nat_tests, free_on, get_or_default, c.loop-number-test.true, c.loop-number.invariant.free, w.if-number-from.true);
           }
-      | else-number-from w ↦
-          record {
-            numbered = rw (w.numbers-is, w.from-is) c.loop-number.invariant.numbered;
-            free = rw w.from-is (free_on slots listed from from index number
-                (λ d. get_or_default listed index d 0 c.loop-number-test.true) (omega arith) (omega (arith, w.if-number-from.false))
-                c.loop-number.invariant.free);
-          }
+      | else-number-from w ↦ grind (arith, free_on, get_or_default, c.loop-number-test.true, c.loop-number.invariant.free, w.if-number-from.false)
     ]
 
 pub returns : goal.returns

@@ -1,6 +1,6 @@
-use Rattle.std.proofs.Common.{arith, subst}
+use Rattle.std.proofs.lemmas.Bool.Decides.{nat_tests}
+use Rattle.std.proofs.Common.{arith}
 use Rattle.std.proofs.lemmas.List.{take_all}
-use Rattle.gix_attributes.specs.inner.Needed.{AreOwnersSet}
 use Rattle.gix_attributes.proofs.NeededLemmas.{marked_then, owners_more}
 use Rattle.gix_attributes.proofs.search.needed.mark_owners.Goals as goal
 
@@ -14,5 +14,4 @@ loop-item-preserved c = record {
 }
 
 pub returns-clause-set : goal.returns-clause-set
-returns-clause-set c =
-    subst (AreOwnersSet c.loop-item.flags) (take_all c.loop-item.item-index c.args.items.now (omega arith)) c.loop-item.invariant.set
+returns-clause-set c = grind (arith, nat_tests, take_all, c.loop-item.invariant.set)

@@ -1,14 +1,7 @@
-use Rattle.std.proofs.Common.{◌<◌, [], length, subst, sym}
-use Rattle.std.proofs.lemmas.List.Elements.{All-nil}
-use Rattle.attr_search.specs.declared.bodies.BodyChange.{BodyChange}
+use Rattle.std.proofs.Common.{[], subst, sym}
 use Rattle.gix_attributes.specs.inner.BodiesMade.{AreMade}
 use Rattle.gix_attributes.proofs.SelectionLemmas.{made_all, made_first}
 use Rattle.gix_attributes.proofs.search.selection.body_changes.Goals as goal
-
-pub returns-clause-numbers : goal.returns-clause-numbers
-returns-clause-numbers c =
-    let Below : BodyChange → Type 0 = λ change. change.number < length c.args.collection.now.names in
-    c.in_ok-push_changes-2.ensures.numbers (c.in_ok-push_changes.ensures.numbers (rw c.new-changes.ensures.items (All-nil Below)))
 
 pub returns-clause-made : goal.returns-clause-made
 returns-clause-made c =

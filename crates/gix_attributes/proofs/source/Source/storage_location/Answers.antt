@@ -1,13 +1,9 @@
 use Rattle.std.proofs.lemmas.Bool.Decides.{nat_tests}
-use Rattle.std.proofs.Common.{arith, ◌≡◌, ◌∙◌, ◌∷◌, [], None, true, false, refl, sym, ap, subst, codes, string_bytes, if◌then◌else◌}
+use Rattle.std.proofs.Common.{arith, ◌≡◌, ◌∙◌, ◌∷◌, [], true, false, refl, sym, ap, subst, codes, string_bytes, if◌then◌else◌}
 use Rattle.std.specs.Prelude.{option_map, is_some}
-use Rattle.gix_attributes.specs.Sources.{IsAsked, no_system, config_home, home, below, location, is_unset_or_empty}
-use Rattle.gix_attributes.specs.declared.source.Source.TheVariants.{GitInstallation, System, Git}
+use Rattle.gix_attributes.specs.Sources.{IsAsked, no_system, config_home, home, is_unset_or_empty}
 use Rattle.gix_attributes.proofs.SourceLemmas.{asked_for, asks_one, asks_two, is_some-text, located}
 use Rattle.gix_attributes.proofs.source.Source.storage_location.Goals as goal
-
-pub returns-in-GitInstallation : goal.returns-in-GitInstallation
-returns-in-GitInstallation g c = grind (arith, nat_tests, located)
 
 pub returns-then-is_some : goal.returns-then-is_some
 returns-then-is_some g c =
@@ -17,8 +13,7 @@ returns-then-is_some g c =
       asked,
       asks_one g.F.FnMut c.args.env_var no_system c.env_var.result _ (record { shown = _; shows = refl; called = c.env_var.ensures }),
       subst (λ s. IsAsked s asked) (sym c.in-System.is) refl,
-      sym (ap (λ s. location s c.args.prefixes.now asked) c.in-System.is
-          ∙ ap (λ b. if b then None else below (option_map string_bytes c.args.prefixes.now.system) (codes "etc/gitattributes")) known),
+      grind (arith, nat_tests, string_bytes, codes, c.in-System.is),
     )
 
 pub returns-in-System : goal.returns-in-System
@@ -29,9 +24,7 @@ returns-in-System g c =
       asked,
       asks_one g.F.FnMut c.args.env_var no_system c.env_var.result _ (record { shown = _; shows = refl; called = c.env_var.ensures }),
       subst (λ s. IsAsked s asked) (sym c.in-System.is) refl,
-      located c.args.self System c.args.prefixes.now asked _ c.join_known-in-System.result c.in-System.is
-          (ap (λ b. if b then None else below (option_map string_bytes c.args.prefixes.now.system) (codes "etc/gitattributes")) known)
-          c.join_known-in-System.ensures,
+      grind (arith, nat_tests, located, string_bytes, codes, c.in-System.is, c.join_known-in-System.ensures),
     )
 
 pub returns-then-not-is_unset_or_empty : goal.returns-then-not-is_unset_or_empty
@@ -42,8 +35,7 @@ returns-then-not-is_unset_or_empty g c =
       asked,
       asks_one g.F.FnMut c.args.env_var config_home c.env_var-config.result _ (record { shown = _; shows = refl; called = c.env_var-config.ensures }),
       subst (λ s. IsAsked s asked) (sym c.in-Git.is) (ap (λ b. config_home ∷ (if b then home ∷ [] else [])) (sym known)),
-      located c.args.self Git c.args.prefixes.now asked _ c.join_known-then-not-is_unset_or_empty.result c.in-Git.is
-          (ap (λ b. if b then None else below config (codes "git/attributes")) known) c.join_known-then-not-is_unset_or_empty.ensures,
+      grind (arith, nat_tests, located, codes, c.in-Git.is, c.join_known-then-not-is_unset_or_empty.ensures),
     )
 
 pub returns-in-Git : goal.returns-in-Git
@@ -57,7 +49,5 @@ returns-in-Git g c =
           (record { shown = _; shows = refl; called = c.env_var-config.ensures })
           (record { shown = _; shows = refl; called = c.env_var-home.ensures }),
       subst (λ s. IsAsked s asked) (sym c.in-Git.is) (ap (λ b. config_home ∷ (if b then home ∷ [] else [])) (sym known)),
-      located c.args.self Git c.args.prefixes.now asked _ c.join_known-in-Git.result c.in-Git.is
-          (ap (λ b. if b then below directory (codes ".config/git/attributes") else below config (codes "git/attributes")) known)
-          c.join_known-in-Git.ensures,
+      grind (arith, nat_tests, located, codes, c.in-Git.is, c.join_known-in-Git.ensures),
     )

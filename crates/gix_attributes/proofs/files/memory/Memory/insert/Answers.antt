@@ -1,4 +1,5 @@
-use Rattle.std.proofs.Common.{◌≡◌, List, ℕ, Bool, true, false, Option, Some, cond, Vec, Global, ap, ◌∙◌, string_bytes, rules}
+use Rattle.std.proofs.Common.{arith, ◌≡◌, List, ℕ, Bool, Option, Some, cond, Vec, Global, string_bytes, rules}
+use Rattle.std.proofs.lemmas.Bool.Decides.{nat_tests}
 use Rattle.std.specs.Option.{option_map}
 use Rattle.std.proofs.lemmas.Map.Text.{hash_map_updates_text}
 use Rattle.gix_attributes.proofs.files.memory.Memory.insert.Goals as goal
@@ -7,8 +8,7 @@ use Rattle.gix_attributes.proofs.files.memory.Memory.insert.Goals as goal
 option_map-cond : (is_it : Bool) (v : Vec ℕ Global) (bytes : List ℕ) (old new : Option (Vec ℕ Global)) → new ≡ cond is_it (Some v) old → v.items ≡
     bytes
     → option_map (λ w. w.items) new ≡ cond is_it (Some bytes) (option_map (λ w. w.items) old)
-option_map-cond true v bytes old new e same = ap (option_map (λ w. w.items)) e ∙ ap Some same
-option_map-cond false v bytes old new e same = ap (option_map (λ w. w.items)) e
+option_map-cond is_it v bytes old new e same = grind (arith, nat_tests)
 
 pub returns-clause-files : goal.returns-clause-files
 returns-clause-files c = λ name.

@@ -1,8 +1,6 @@
-use Rattle.std.proofs.Common.{Some, ◌∙◌, sym, ap, subst, ◌++◌, ◌∷◌, []}
+use Rattle.std.proofs.Common.{arith, Some, ◌∙◌, sym, ap, subst, ◌++◌, ◌∷◌, []}
+use Rattle.std.proofs.lemmas.Bool.Decides.{nat_tests}
 use Rattle.std.specs.Cmp.{nat_eq_equiv}
-use Rattle.std.proofs.lemmas.List.{map-append}
-use Rattle.attr_lists.specs.Definitions.{RegistersAs}
-use Rattle.attr_search.specs.IndexedLists.{list_ids_of}
 use Rattle.gix_attributes.specs.inner.HeldLists.{AreHeldLists}
 use Rattle.gix_attributes.specs.inner.Registering.{Registers}
 use Rattle.gix_attributes.proofs.HoldsLemmas.{held_more, held_lists, held_views}
@@ -13,23 +11,7 @@ use Rattle.gix_attributes.proofs.search.attributes.Search.add_patterns_below.Goa
 -- the list is registered in the collection as it was passed, since reading lines changes nothing in it
 registers : (c : After-push_reserved) → Registers c.args.collection.now c.register.new.self
     (record { patterns = c.in_ok-patterns.patterns; source = Some c.args.source; base = c.args.base }) c.in_ok-indexed.indexed
-registers c =
-    subst (λ known. Registers known c.register.new.self (record {
-      patterns = c.in_ok-patterns.patterns;
-      source = Some c.args.source;
-      base = c.args.base;
-    }) c.in_ok-indexed.indexed) c.in_ok-patterns.ensures.same c.in_ok-indexed.ensures.registered
-
-pub returns-clause-registered : goal.returns-clause-registered
-returns-clause-registered c =
-    let list_id = c.in_ok-indexed.indexed.list_id in
-    let pushed = c.push_reserved.ensures ∙ ap (λ xs. xs ++ c.in_ok-indexed.indexed ∷ []) c.in_ok-reserve.ensures.lists in
-    record {
-      list_id = list_id;
-      registered = subst (λ entries. RegistersAs list_id entries c.args.collection.now c.register.new.self) c.in_ok-patterns.ensures.lines
-          (registers c).registered;
-      noted = ap list_ids_of pushed ∙ map-append (λ s. s.list_id) c.args.self.now.patterns.lists.items (c.in_ok-indexed.indexed ∷ []);
-    }
+registers c = grind (arith, nat_tests, c.in_ok-patterns.ensures.same, c.in_ok-indexed.ensures.registered)
 
 pub returns-clause-held : goal.returns-clause-held
 returns-clause-held c held =
@@ -47,8 +29,4 @@ returns-clause-kept c =
     c.in_ok-indexed.indexed registered.registered pushed registered.lines registered.others
 
 pub returns-clause-added : goal.returns-clause-added
-returns-clause-added c =
-    let registered = registers c in
-    let pushed = c.push_reserved.ensures ∙ ap (λ xs. xs ++ c.in_ok-indexed.indexed ∷ []) c.in_ok-reserve.ensures.lists in
-    adds_added c.args.collection.now c.register.new.self _ c.args.self.now.patterns.lists.items c.push_reserved.new.self.lists.items
-    c.in_ok-indexed.indexed registered.registered pushed registered.lines registered.others registered.sound
+returns-clause-added c = grind (arith, nat_tests, registers, adds_added, c.push_reserved.ensures, c.in_ok-reserve.ensures.lists)

@@ -1,7 +1,6 @@
-use Rattle.std.proofs.Common.{◌≡◌, ◌∙◌, true, List, [], ℕ, None, ap, codes, string_bytes, subst}
+use Rattle.std.proofs.Common.{true, List, ℕ, None, codes, subst}
 use Rattle.gix_attributes.specs.Additions.{AddsBuffer, registered_lists}
 use Rattle.gix_attributes.specs.Globals.{built_in, built_in_source}
-use Rattle.gix_attributes.specs.Keeping.{Adds, Keeps}
 use Rattle.gix_attributes.proofs.KeepingLemmas.{as_no_lists}
 use Rattle.gix_attributes.proofs.search.attributes.Search.new_built_in.Goals as goal
 
@@ -16,16 +15,3 @@ returns-clause-loaded c =
     (subst (λ source. AddsBuffer source None true bytes (registered_lists c.new-search.result c.args.collection.now) after)
     c.in_ok-source.ensures.ok
     (record { lists = added.list; registered = added.registered }))
-
-pub returns-clause-held : goal.returns-clause-held
-returns-clause-held c = c.in_ok-add_patterns_buffer.ensures.held (c.new-search.ensures.held c.args.collection.now)
-
-pub returns-clause-kept : goal.returns-clause-kept
-returns-clause-kept c = subst (λ before. Keeps before (registered_lists c.add_patterns_buffer.new.self c.add_patterns_buffer.new.collection))
-    (as_no_lists c.new-search.result c.args.collection.now c.new-search.ensures.lists c.new-search.ensures.list_ids)
-    c.in_ok-add_patterns_buffer.ensures.kept
-
-pub returns-clause-added : goal.returns-clause-added
-returns-clause-added c = subst (λ before. Adds before (registered_lists c.add_patterns_buffer.new.self c.add_patterns_buffer.new.collection))
-    (as_no_lists c.new-search.result c.args.collection.now c.new-search.ensures.lists c.new-search.ensures.list_ids)
-    c.in_ok-add_patterns_buffer.ensures.added

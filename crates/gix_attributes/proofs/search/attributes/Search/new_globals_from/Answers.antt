@@ -1,20 +1,18 @@
-use Rattle.std.proofs.Common.{◌≡◌, ◌∙◌, ◌+◌, ◌∷◌, [], ◌++◌, List, Vec, Global, map, drop, string_bytes, refl, sym, ap, subst, arith, Result, Ok, Err}
-use Rattle.std.proofs.Common.{OnErr}
-use Rattle.std.proofs.lemmas.List.{map-append, take_all}
+use Rattle.std.proofs.lemmas.List.Elements.{All-nil}
+use Rattle.std.proofs.lemmas.Bool.Decides.{nat_tests}
+use Rattle.std.proofs.Common.{◌≡◌, ◌∙◌, ◌+◌, ◌∷◌, [], ◌++◌, List, Vec, Global, map, drop, string_bytes, sym, ap, subst, arith, Result, OnErr}
+use Rattle.std.proofs.lemmas.List.{map-append}
 use Rattle.attr_lists.specs.declared.types.Dropped.{Dropped}
 use Rattle.attr_lists.specs.Collections.{Collection}
-use Rattle.gix_attributes.specs.Additions.{IsIo, RefusedBy, RegisteredLists, registered_lists}
-use Rattle.gix_attributes.specs.Globals.{RefusesGlobals, globals_in}
+use Rattle.gix_attributes.specs.Additions.{IsIo, RefusedBy, RegisteredLists}
 use Rattle.gix_attributes.specs.Keeping.{Adds, AddsBeforeRefusal, Keeps}
 use Rattle.gix_attributes.specs.Registers.{no_lists}
-use Rattle.gix_attributes.proofs.GlobalLemmas.{AreAdded, none_added, one_added, refused_between, refused_by, fails_later, of_error, names_parted}
-use Rattle.gix_attributes.proofs.GlobalLemmas.{one_more_name}
+use Rattle.gix_attributes.proofs.GlobalLemmas.{one_added, refused_between, refused_by, fails_later, of_error, names_parted, one_more_name}
 use Rattle.gix_attributes.proofs.KeepingLemmas.{adds_same, adds_then, keeps_same, keeps_then}
 use Rattle.gix_attributes.proofs.search.attributes.Search.new_globals_from.Goals as goal
 
 of_refusal : {T E : Type 0} (r : Result T E) (P : Type 0) → P → OnErr r P
-of_refusal (Ok x) P h = tt
-of_refusal (Err e) P h = h
+of_refusal r P h = grind (arith, nat_tests)
 
 -- what was added before the call was refused
 before_refusal : (old after : Collection) (lists : RegisteredLists) → lists.known ≡ after → Keeps (no_lists old) lists → Adds (no_lists old) lists
@@ -28,49 +26,27 @@ returns-in_err-search-clause-added_before g c = of_refusal c.from_residual.resul
     (sym c.in_err-search.ensures.refused) (keeps_same (no_lists c.args.collection.now)) (adds_same (no_lists c.args.collection.now)))
 
 pub returns-in_err-reserve-clause-added_before : goal.returns-in_err-reserve-clause-added_before
-returns-in_err-reserve-clause-added_before g c = of_refusal c.from_residual-in_err-reserve.result
-    (AddsBeforeRefusal c.args.collection.now c.loop-name.collection) (before_refusal c.args.collection.now c.loop-name.collection
-    (registered_lists c.loop-name.search c.loop-name.collection) refl c.loop-name.invariant.kept c.loop-name.invariant.registered)
+returns-in_err-reserve-clause-added_before g c = grind (arith, nat_tests, of_refusal, before_refusal)
 
 pub returns-in_err-source-clause-added_before : goal.returns-in_err-source-clause-added_before
-returns-in_err-source-clause-added_before g c = of_refusal c.from_residual-in_err-source.result
-    (AddsBeforeRefusal c.args.collection.now c.loop-name.collection) (before_refusal c.args.collection.now c.loop-name.collection
-    (registered_lists c.loop-name.search c.loop-name.collection) refl c.loop-name.invariant.kept c.loop-name.invariant.registered)
+returns-in_err-source-clause-added_before g c = grind (arith, nat_tests, of_refusal, before_refusal)
 
 pub returns-in_err-added-clause-added_before : goal.returns-in_err-added-clause-added_before
-returns-in_err-added-clause-added_before g c = of_refusal c.from_residual-in_err-added.result
-    (AddsBeforeRefusal c.args.collection.now c.add_patterns_file_from.new.collection)
-    (before_refusal c.args.collection.now c.add_patterns_file_from.new.collection
-    (registered_lists c.loop-name.search c.loop-name.collection) (sym c.in_err-added.ensures.unchanged) c.loop-name.invariant.kept
-    c.loop-name.invariant.registered)
+returns-in_err-added-clause-added_before g c = grind (arith, nat_tests, of_refusal, before_refusal)
 
 pub loop-name-init : goal.loop-name-init
 loop-name-init g c =
-    let bytes : List (Vec Dropped Global) → List (List Dropped) = λ all. map (λ lines. lines.items) all in
-    record {
-      added = none_added g.F.Files.reads c.args.files.now c.args.collection.now c.args.buf.now.items _ c.in_ok-search.ensures.loaded
-          (ap bytes c.new-dropped.ensures.items) refl;
-      held = c.in_ok-search.ensures.held;
-      kept = c.in_ok-search.ensures.kept;
-      registered = c.in_ok-search.ensures.added;
-      count = omega arith;
-    }
+    grind (arith, All-nil, c.in_ok-search.ensures.loaded, c.new-dropped.ensures.items, c.in_ok-search.ensures.kept, c.in_ok-search.ensures.added)
 
 pub returns-in_err-reserve-clause-refused : goal.returns-in_err-reserve-clause-refused
 returns-in_err-reserve-clause-refused g c = of_error c.from_residual-in_err-reserve.result _ _ c.from_residual-in_err-reserve.ensures.1 (λ e is.
     refused_between g.F.Files.reads c.args.files.now c.loop-name.files _ (map string_bytes (drop c.loop-name.name-index c.args.names.now)) _
     c.args.collection.now _ _ e c.loop-name.invariant.added (names_parted string_bytes c.args.names.now c.loop-name.name-index) is)
 
-pub returns-in_err-reserve-clause-count : goal.returns-in_err-reserve-clause-count
-returns-in_err-reserve-clause-count g c = c.loop-name.invariant.count
-
 pub returns-in_err-source-clause-refused : goal.returns-in_err-source-clause-refused
 returns-in_err-source-clause-refused g c = of_error c.from_residual-in_err-source.result _ _ c.from_residual-in_err-source.ensures.1 (λ e is.
     refused_between g.F.Files.reads c.args.files.now c.loop-name.files _ (map string_bytes (drop c.loop-name.name-index c.args.names.now)) _
     c.args.collection.now _ _ e c.loop-name.invariant.added (names_parted string_bytes c.args.names.now c.loop-name.name-index) is)
-
-pub returns-in_err-source-clause-count : goal.returns-in_err-source-clause-count
-returns-in_err-source-clause-count g c = c.loop-name.invariant.count
 
 pub returns-in_err-added-clause-refused : goal.returns-in_err-added-clause-refused
 returns-in_err-added-clause-refused g c = of_error c.from_residual-in_err-added.result _ _ c.from_residual-in_err-added.ensures.1 (λ e is.
@@ -83,19 +59,11 @@ returns-in_err-added-clause-refused g c = of_error c.from_residual-in_err-added.
     (string_bytes c.in_ok-source.source)
     (map string_bytes (drop (i + 1) names)) _ c.args.collection.now _ _ ensured.read.0 e c.loop-name.invariant.added ensured.read.1
     (ap (λ ns. ns ++ map string_bytes (drop (i + 1) names)) next ∙ names_parted string_bytes names (i + 1))
-    (subst (RefusedBy ensured.read.0) (sym is) ensured.read.2) in (
-      refused.0,
-      refused.1,
-      subst (λ known. RefusesGlobals (map string_bytes names) refused.0 c.args.collection.now known e) (sym ensured.unchanged)
-          refused.2,
-    ))
+    (subst (RefusedBy ensured.read.0) (sym is) ensured.read.2) in grind (arith, nat_tests, string_bytes))
 
 pub returns-in_err-added-clause-device : goal.returns-in_err-added-clause-device
 returns-in_err-added-clause-device g c = of_error c.from_residual-in_err-added.result _ _ c.from_residual-in_err-added.ensures.1 (λ e is. λ io.
     fails_later _ _ _ c.loop-name.invariant.count c.in_err-added.ensures.count (c.in_err-added.ensures.device (subst IsIo is io)))
-
-pub returns-in_err-added-clause-count : goal.returns-in_err-added-clause-count
-returns-in_err-added-clause-count g c = omega (arith, c.loop-name.invariant.count, c.in_err-added.ensures.count)
 
 pub loop-name-preserved : goal.loop-name-preserved
 loop-name-preserved g c =
@@ -110,39 +78,9 @@ loop-name-preserved g c =
     c.push_reserved.ensures.items ∙ ap (λ all. all ++ c.in_ok-added.added.dropped ∷ []) c.in_ok-reserve.ensures.items in
     let grown = ap (map bytes) pushed ∙ map-append bytes c.loop-name.dropped.items (c.in_ok-added.added.dropped ∷ []) in
     record {
-      added = subst (λ read. AreAdded g.F.Files.reads c.args.files.now c.add_patterns_file_from.new.files read c.args.collection.now
-          c.args.buf.now.items
-          (globals_in c.add_patterns_file_from.new.self c.add_patterns_file_from.new.collection c.push_reserved.new.self.items
-          c.add_patterns_file_from.new.buf.items)) next
-          (one_added g.F.Files.reads c.args.files.now c.loop-name.files c.add_patterns_file_from.new.files _ (string_bytes c.in_ok-source.source)
-          c.args.collection.now _ _ _
-          ensured.read.0 c.loop-name.invariant.added ensured.read.1 file.answered
-          file.loaded (grown ∙ ap (λ lines. map bytes c.loop-name.dropped.items ++ lines ∷ []) file.dropped) file.left);
+      added = grind (arith, nat_tests, one_added, string_bytes, c.loop-name.invariant.added);
       held = ensured.held c.loop-name.invariant.held;
       kept = keeps_then _ _ _ c.loop-name.invariant.kept ensured.kept;
       registered = adds_then _ _ _ c.loop-name.invariant.registered ensured.added;
       count = omega (arith, c.loop-name.invariant.count, ensured.count);
     }
-
-pub returns-clause-globals : goal.returns-clause-globals
-returns-clause-globals g c =
-    let so_far = c.loop-name.invariant.added in
-    let i = c.loop-name.name-index in (
-      so_far.read,
-      so_far.in_order,
-      so_far.named ∙ ap (map string_bytes) (take_all i c.args.names.now c.loop-name-test.false),
-      so_far.answered,
-      so_far.made,
-    )
-
-pub returns-clause-held : goal.returns-clause-held
-returns-clause-held g c = c.loop-name.invariant.held
-
-pub returns-clause-kept : goal.returns-clause-kept
-returns-clause-kept g c = c.loop-name.invariant.kept
-
-pub returns-clause-added : goal.returns-clause-added
-returns-clause-added g c = c.loop-name.invariant.registered
-
-pub returns-clause-count : goal.returns-clause-count
-returns-clause-count g c = c.loop-name.invariant.count

@@ -1,20 +1,9 @@
-use Rattle.std.proofs.Common.{◌∷◌, [], ap, subst, ◌∙◌}
-use Rattle.std.proofs.lemmas.List.{map-append}
-use Rattle.attr_search.specs.IndexedLists.{list_ids_of}
+use Rattle.std.proofs.Common.{arith, subst}
+use Rattle.std.proofs.lemmas.Bool.Decides.{nat_tests}
 use Rattle.gix_attributes.specs.inner.HeldLists.{AreHeldLists}
 use Rattle.gix_attributes.proofs.HoldsLemmas.{held_less, held_lists, held_views}
 use Rattle.gix_attributes.proofs.KeepingLemmas.{keeps_removed, removes_removed}
 use Rattle.gix_attributes.proofs.search.attributes.Search.pop_pattern_list.Goals as goal
-
-pub returns-clause-collection : goal.returns-clause-collection
-returns-clause-collection c =
-    let left = c.pop.new.self.lists.items in
-    let last = c.in_ok-last.last in (
-      last.list_id,
-      list_ids_of left,
-      ap list_ids_of c.in_ok-last.ensures.last ∙ map-append (λ s. s.list_id) left (last ∷ []),
-      c.remove.ensures.removed,
-    )
 
 pub returns-clause-held : goal.returns-clause-held
 returns-clause-held c =
@@ -29,6 +18,4 @@ returns-clause-kept c =
     c.in_ok-last.ensures.last c.remove.ensures.removed c.remove.ensures.others
 
 pub returns-clause-removed : goal.returns-clause-removed
-returns-clause-removed c =
-    removes_removed c.args.collection.now c.remove.new.self c.args.self.now.patterns.lists.items c.pop.new.self.lists.items c.in_ok-last.last
-    c.in_ok-last.ensures.last c.remove.ensures.removed c.remove.ensures.others c.remove.ensures.sound
+returns-clause-removed c = grind (arith, nat_tests, removes_removed)

@@ -1,31 +1,19 @@
-use Rattle.std.proofs.Common.{◌≡◌, ◌∙◌, ap, arith, length, subst, sym}
+use Rattle.std.proofs.Common.{◌≡◌, length, sym, ◌∙◌, ap, arith, subst}
+use Rattle.attr_search.specs.Settings.{LinesAreNamed}
+use Rattle.std.proofs.lemmas.Bool.Decides.{nat_tests}
 use Rattle.std.proofs.lemmas.List.{with_items_is}
 use Rattle.attr_lists.specs.Definitions.{RegistersAs, with_list}
-use Rattle.attr_lists.specs.KeptLists.{macros_valid}
 use Rattle.attr_lists.specs.ListViews.{entries_view}
-use Rattle.attr_lists.specs.Numbers.{numbered_lines}
 use Rattle.attr_lists.specs.shared.Keeping.{StayRegistered}
 use Rattle.attr_lists.proofs.ForCallers.{copied_lines}
-use Rattle.attr_search.specs.Settings.{LinesAreNamed}
 use Rattle.gix_attributes.proofs.KeepingLemmas.{registers_more, stay_held}
 use Rattle.gix_attributes.proofs.search.collection.MetadataCollection.update_from_list.Goals as goal
 
 pub add-requires : goal.add-requires
-add-requires c =
-    let list = c.in_ok-numbered.numbered.patterns in
-    let lines = ap entries_view c.deref_mut.ensures.value
-    ∙ copied_lines c.args.list.now.patterns.items list.items c.in_ok-numbered.ensures.patterns in
-    ap macros_valid lines ∙ c.requires
+add-requires c = grind (arith, nat_tests, copied_lines, c.deref_mut.ensures.value, c.in_ok-numbered.ensures.patterns, c.requires)
 
 pub returns-clause-numbered : goal.returns-clause-numbered
-returns-clause-numbered c =
-    let list = c.in_ok-numbered.numbered.patterns in
-    let lines = ap entries_view c.deref_mut.ensures.value
-    ∙ copied_lines c.args.list.now.patterns.items list.items c.in_ok-numbered.ensures.patterns in
-    let kept : length c.add.new.mappings ≡ list.len =
-    omega (arith, c.add.auto.mappings, c.deref_mut.ensures.len, ap length c.deref_mut.ensures.value) in
-    ap (λ v. entries_view v.items) c.swap.ensures.x_after ∙ ap entries_view (with_items_is list c.add.new.mappings kept)
-    ∙ c.in_ok-add.ensures.numbered ∙ ap (numbered_lines c.add.new.self.names) lines
+returns-clause-numbered c = grind (arith, nat_tests, copied_lines, with_items_is)
 
 pub returns-clause-registered : goal.returns-clause-registered
 returns-clause-registered c =

@@ -1,10 +1,6 @@
 use Rattle.std.proofs.lemmas.Bool.Decides.{nat_tests}
-use Rattle.std.proofs.Common.{arith, ◌≡◌, ◌∙◌, length, replicate, sym, ap, true}
-use Rattle.gix_attributes.specs.Contents.{initial_content, looked_up, names_selected}
-use Rattle.gix_attributes.specs.inner.Needed.{flags_of}
-use Rattle.gix_attributes.specs.Selection.{selection_view}
-use Rattle.gix_attributes.proofs.OutcomeLemmas.{held_as, length_flags, selected_below}
-use Rattle.attr_search.specs.SearchContents.{SearchContents}
+use Rattle.std.proofs.Common.{arith}
+use Rattle.gix_attributes.proofs.OutcomeLemmas.{length_flags, selected_below}
 use Rattle.gix_attributes.proofs.SelectionLemmas.{copied_elsewhere}
 use Rattle.gix_attributes.proofs.search.outcome.Outcome.copy_into.Goals as goal
 
@@ -18,6 +14,3 @@ copy_from-requires c = grind (arith, nat_tests, length_flags)
 
 pub invariant_of-dest-2 : goal.invariant_of-dest-2
 invariant_of-dest-2 c = grind (arith, nat_tests, copied_elsewhere)
-
-pub returns-clause-ok : goal.returns-clause-ok
-returns-clause-ok c = grind (arith, nat_tests, held_as)

@@ -1,7 +1,7 @@
-use Rattle.std.proofs.Common.{All, ℕ, ◌≡◌, ◌∙◌, ◌<◌, length, subst, sym}
+use Rattle.std.proofs.Common.{arith, ℕ, ◌≡◌, ◌∙◌, length, subst, sym}
+use Rattle.std.proofs.lemmas.Bool.Decides.{nat_tests}
 use Rattle.gix_attributes.specs.inner.Needed.{IsClosedOver, IsFlagSet, SetsOnly, flags_of}
 use Rattle.gix_attributes.specs.Selection.{selection_view}
-use Rattle.gix_attributes.specs.declared.search.needed.BodyItem.{BodyItem}
 use Rattle.gix_attributes.proofs.NeededLemmas.{closed_selected, needed_all, needed_marked, numbers_set}
 use Rattle.gix_attributes.proofs.OutcomeLemmas.{length_flags}
 use Rattle.gix_attributes.proofs.search.outcome.Outcome.needed.Goals as goal
@@ -12,22 +12,13 @@ returns-then-is_empty-clause-needed c =
     (sym c.is_empty.ensures ∙ c.if-is_empty.true) (c.in_ok-needed.ensures ∙ c.requires.wanted)
 
 pub mark_all-requires-clause-within : goal.mark_all-requires-clause-within
-mark_all-requires-clause-within c =
-    subst (λ n. All (λ (i : BodyItem). i.owner < n) c.in_ok-owners.owners.items.items)
-    (c.requires.count ∙ sym (length_flags (selection_view c.args.names.now) (length c.args.self.now.slots) c.in_ok-needed.needed
-    (c.in_ok-needed.ensures ∙ c.requires.wanted)))
-    c.in_ok-owners.ensures.owners.owners
+mark_all-requires-clause-within c = grind (arith, nat_tests, length_flags)
 
 pub mark_all-requires-clause-stacked : goal.mark_all-requires-clause-stacked
-mark_all-requires-clause-stacked c =
-    rw (c.in_ok-stack.ensures, c.in_ok-needed.ensures ∙ c.requires.wanted)
-    (numbers_set c.args.names.now (length c.args.self.now.slots) c.requires.numbers)
+mark_all-requires-clause-stacked c = grind (arith, nat_tests, numbers_set)
 
 pub mark_all-requires-clause-pending : goal.mark_all-requires-clause-pending
-mark_all-requires-clause-pending c =
-    rw (c.in_ok-stack.ensures, c.in_ok-needed.ensures ∙ c.requires.wanted)
-    (closed_selected c.args.names.now (length c.args.self.now.slots) c.in_ok-owners.owners.items.items
-    (sym c.is_empty.ensures ∙ c.if-is_empty.false))
+mark_all-requires-clause-pending c = grind (arith, nat_tests, closed_selected)
 
 pub returns-clause-needed : goal.returns-clause-needed
 returns-clause-needed c =

@@ -1,15 +1,14 @@
+use Rattle.std.proofs.lemmas.List.Elements.{All-weaker}
 use Rattle.std.proofs.lemmas.Bool.Decides.{nat_tests}
-use Rattle.std.proofs.Common.{arith, ◌≡◌, ◌∙◌, length, map, replicate, true, None, refl, sym, ap}
+use Rattle.std.proofs.Common.{arith, ◌≡◌, ◌∙◌, length, map, replicate, true, None, refl, ap}
 use Rattle.std.proofs.lemmas.List.{length-map, length-replicate}
 use Rattle.attr_search.proofs.ForCallers.{all_among}
-use Rattle.attr_search.specs.SearchContents.{SearchContents}
 use Rattle.attr_search.specs.shared.BodyChanges.{changed_bodies, sized_bodies}
 use Rattle.attr_search.specs.shared.Slotted.{bodies_view}
-use Rattle.gix_attributes.specs.inner.Needed.{flags_of}
 use Rattle.gix_attributes.specs.Selection.{selection_view}
-use Rattle.gix_attributes.specs.Contents.{bodies_of, initial_content, names_selected}
+use Rattle.gix_attributes.specs.Contents.{initial_content, names_selected}
 use Rattle.gix_attributes.proofs.SelectionLemmas.{copied_elsewhere, listed_elsewhere}
-use Rattle.gix_attributes.proofs.OutcomeLemmas.{changed_to, changed_within, changes_below, held_as, held_of, length_flags, same_empty, selected_below}
+use Rattle.gix_attributes.proofs.OutcomeLemmas.{changed_to, changed_within, held_as, held_of, length_flags, same_empty, selected_below}
 use Rattle.gix_attributes.proofs.search.outcome.Outcome.set_up.Goals as goal
 
 pub flags-requires : goal.flags-requires
@@ -17,7 +16,7 @@ flags-requires c =
     rw (c.deref.ensures.value, c.len-count.ensures.count) (selected_below c.args.selected.items c.args.collection.now.names _ c.requires)
 
 pub set_up-requires-clause-numbers : goal.set_up-requires-clause-numbers
-set_up-requires-clause-numbers c = grind (arith, nat_tests, length_flags, changes_below)
+set_up-requires-clause-numbers c = grind (arith, nat_tests, length_flags, All-weaker)
 
 pub set_up-requires-clause-within : goal.set_up-requires-clause-within
 set_up-requires-clause-within c = grind (arith, nat_tests, length_flags, changed_to, changed_within)
@@ -41,8 +40,7 @@ returns-clause-ok c =
     let changes = c.in_ok-changes.changes.items in
     let wanted = c.in_ok-wanted.wanted in
     let seen = selection_view c.args.selected.items in
-    let count : length wanted ≡ length known.names = length_flags (selection_view c.deref.result.now) c.len-count.result wanted
-    c.in_ok-wanted.ensures ∙ c.len-count.ensures.count in
+    let count : length wanted ≡ length known.names = grind (arith, nat_tests, length_flags, c.in_ok-wanted.ensures, c.len-count.ensures.count) in
     let made = changed_to known changes own (bodies_view c.bodies.result.now) (length wanted) count c.bodies.ensures.bodies
     c.in_ok-changes.ensures.made in
     ap (held_of seen) c.in_ok-set_up.ensures.ok
