@@ -1,6 +1,5 @@
 -- The end of a walk over all roots.
-use Rattle.std.proofs.Common.{◌≡◌, ℕ, ◌+◌, ◌⊎◌, List, [], ◌∷◌, ◌++◌, map, length, Option, Some, None, refl, ap, subst, ◌∙◌, inl, inr, ⊎_elim, arith}
-use Rattle.std.proofs.Common.{Bool, true, false}
+use Rattle.std.proofs.Common.{◌≡◌, ℕ, ◌+◌, ◌⊎◌, List, [], ◌∷◌, map, length, Option, Some, None, refl, subst, ⊎_elim, arith, Bool, true, false}
 use Rattle.std.specs.Prelude.{Contains, MatchOption}
 use Rattle.std.proofs.lemmas.List.{map-append}
 use mathlib.Core.Path.{fun_ext}
@@ -8,8 +7,8 @@ use Rattle.attr_table.specs.Setting.{Item, Setting, Answer}
 use Rattle.attr_table.specs.Table.{Occurrence, Table, Slots, IsEarlier, IsLive, IsEarliest, IsStable, OneTable}
 use Rattle.attr_table.specs.shared.Walk.{Task, Walks, ends, stops, skips, fills, tasks_of, fill, left_in}
 use Rattle.attr_table.proofs.Stable.{some_or_none, none_value}
-use Rattle.attr_table.proofs.Nodes.{Node, task_at, nodes_of, map-nodes_of, child_nodes, map-child_nodes}
-use Rattle.attr_table.proofs.Facts.{Facts, Covers, Waits, IsSettled, no_entries, at_start}
+use Rattle.attr_table.proofs.Nodes.{Node, task_at, nodes_of, map-nodes_of, map-child_nodes}
+use Rattle.attr_table.proofs.Facts.{Facts, no_entries, at_start}
 use Rattle.attr_table.proofs.Skips.{skipped}
 use Rattle.attr_table.proofs.Fills.{filled}
 use Rattle.attr_table.proofs.Walked.{walk_from}
@@ -30,26 +29,14 @@ end_of : (s : Setting) (start : Slots) (done : Slots → Bool) (wanted : List �
     {ts : List Task} {slots final : Slots} → Walks s.bodies done ts slots final →
     (table : Table) (nodes : List Node) → map task_at nodes ≡ ts → Facts s start done wanted table nodes slots →
     IsEnd s start done wanted final
-end_of s start done wanted turns ends table [] e facts =
-    record { table = table; nodes = []; facts = facts; over = inl refl }
-end_of s start done wanted turns (stops d) table nodes e facts =
-    record { table = table; nodes = nodes; facts = facts; over = inr d }
+end_of s start done wanted turns ends table [] e facts = grind arith
+end_of s start done wanted turns (stops d) table nodes e facts = grind arith
 end_of s start done wanted turns (skips {t = t} {slots = slots} f w) table (h ∷ nodes) e facts =
-    let same : h.task ≡ t = cc in
-    end_of s start done wanted turns w table nodes (cc)
-    (skipped s start done wanted table h nodes slots facts (rw same f))
+    grind (arith, skipped s start done wanted table h nodes slots facts, end_of s start done wanted turns w table nodes)
 end_of s start done wanted turns (fills {t = t} {ts = ts} {slots = slots} d f w) table (h ∷ nodes) e facts =
     let same : h.task ≡ t = cc in
-    let rest : map task_at nodes ≡ ts = cc in
-    let r = filled s start done wanted table h nodes slots facts (rw same (none_value (slots t.item.attribute) f))
-    (turns h.task slots d) in
-    end_of s start done wanted turns w r.0 (child_nodes s.bodies h ++ nodes)
-    (map-append task_at (child_nodes s.bodies h) nodes
-    ∙ (let a = map-child_nodes s.bodies h in rw (a, rest, same) refl))
-    (subst
-    (λ (x : Slots). Facts s start done wanted r.0 (child_nodes s.bodies h ++ nodes) x)
-    (ap (λ (x : Task). fill s.bodies x slots) same)
-    r.1)
+    let r = filled s start done wanted table h nodes slots facts (rw same (none_value (slots t.item.attribute) f)) (turns h.task slots d) in
+    grind (arith, map-append, map-child_nodes, end_of s start done wanted turns w r.0)
 end_of s start done wanted turns nodes table t e facts = absurd (cc)
 
 pub roots_end : (s : Setting) (start : Slots) (done : Slots → Bool) (wanted : List ℕ) → IsTurnedByWanted s.bodies done wanted →
@@ -64,28 +51,13 @@ stable_of s start done wanted table slots facts a = at (start a) refl
   where
     settled : (p : Occurrence) (i : Item) → start a ≡ None → IsLive s table p i → i.attribute ≡ a →
         (q : Occurrence) × (table a ≡ Some q) × ((q ≡ p) ⊎ IsEarlier q p)
-    settled p i free live of =
-        ⊎_elim
-        (λ (w : Waits p []). absurd w.1)
-        (λ (k : IsSettled start table p i.attribute).
-        ⊎_elim
-        (λ (r : (x : Answer) × (start i.attribute ≡ Some x)). let e = rw of at r.1 in absurd (cc))
-        (λ (r : (q : Occurrence) × (table i.attribute ≡ Some q) × ((q ≡ p) ⊎ IsEarlier q p)).
-        (r.0, rw of at r.1, r.2))
-        k)
-        (facts.met p i live)
+    settled p i free live of = grind (arith, facts.met p i live)
 
     earliest : (o : Option Occurrence) → start a ≡ None → table a ≡ o → IsEarliest s table a o
     earliest None free e = λ o i live of. let r = settled o i free live of in let d = r.1 in cc
     earliest (Some o) free e =
-        let entry = facts.entries a o e in (
-          (entry.item, entry.live, entry.of),
-          λ p i live of.
-              let r = settled p i free live of in
-              let d = r.1 in
-              let same : r.0 ≡ o = cc in
-              rw same at r.2,
-        )
+        let entry = facts.entries a o e in
+        ((entry.item, entry.live, entry.of), λ p i live of. grind (arith, settled p i))
 
     at : (x : Option Answer) → start a ≡ x →
         MatchOption x (IsEarliest s table a (table a)) (λ answer. table a ≡ None)
@@ -113,29 +85,11 @@ whole s start table nodes slots facts none = (
     clear = subst (λ (x : List Node). Facts s start never [] table x slots) none facts
 
     same : (other : Table) → IsStable s start other → (a : ℕ) → other a ≡ table a
-    same other stable a =
-        let agrees = clear.others other stable in
-        ⊎_elim
-        (λ (r : (o : Occurrence) × (other a ≡ Some o)).
-        ⊎_elim
-        (λ (t : table a ≡ Some r.0). let e = r.1 in cc)
-        (λ (c : Covers [] r.0). absurd c.1)
-        (agrees.covered a r.0 r.1))
-        (λ (n : other a ≡ None).
-        ⊎_elim
-        (λ (r : (o : Occurrence) × (table a ≡ Some o)).
-        let e = agrees.within a r.0 r.1 in absurd (cc))
-        (λ (m : table a ≡ None). cc)
-        (some_or_none (table a)))
-        (some_or_none (other a))
+    same other stable a = grind (arith, clear, some_or_none)
 
 pub OneTable-of : (s : Setting) (start : Slots) → OneTable s start
 OneTable-of s start =
     let ts = tasks_of s.lists in
     let w = walk_from s.bodies never (length ts + left_in s.bodies start) ts start (omega arith) in
-    let turns : IsTurnedByWanted s.bodies never [] = λ t slots d e. absurd (cc) in
-    let end = roots_end s start never [] turns w.0 w.1 in
-    ⊎_elim
-    (λ (n : end.nodes ≡ []). whole s start end.table end.nodes w.0 end.facts n)
-    (λ (d : never w.0 ≡ true). absurd (cc))
-    end.over
+    let end = roots_end s start never [] (λ t slots d e. absurd (cc)) w.0 w.1 in
+    whole s start end.table end.nodes w.0 end.facts (grind (arith, end.over))

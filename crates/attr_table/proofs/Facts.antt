@@ -1,6 +1,5 @@
 -- Facts at each point of a walk.
-use Rattle.std.proofs.Common.{arith, ◌≡◌, ℕ, ◌⊎◌, List, Option, Some, None, refl, inl, inr, ⊎_elim, Bool, false}
-use Rattle.std.proofs.lemmas.Bool.Decides.{nat_tests}
+use Rattle.std.proofs.Common.{arith, ◌≡◌, ℕ, ◌⊎◌, List, Some, None, ⊎_elim, Bool, false}
 use Rattle.std.specs.Prelude.{Contains}
 use Rattle.attr_table.specs.Setting.{Item, Setting, Answer}
 use Rattle.attr_table.specs.Table.{Occurrence, Root, Inside, Table, Slots, item_at, IsEarlier, IsReached, IsLive, IsStable}
@@ -63,64 +62,22 @@ pub record Facts (s : Setting) (start : Slots) (done : Slots → Bool) (wanted :
 -- an empty slot was empty at the start and has no entry
 pub empty_parts : (s : Setting) (start : Slots) (done : Slots → Bool) (wanted : List ℕ) (table : Table) (nodes : List Node) (slots : Slots) →
     Facts s start done wanted table nodes slots → (a : ℕ) → slots a ≡ None → (start a ≡ None) × (table a ≡ None)
-empty_parts s start done wanted table nodes slots facts a empty = (free, no_entry)
-  where
-    e : slots a ≡ full_answer s (start a) (table a)
-    e = facts.shown a
-
-    free : start a ≡ None
-    free =
-        ⊎_elim
-        (λ (r : (x : Answer) × (start a ≡ Some x)). let d = r.1 in let f = rw d at e in absurd (cc))
-        (λ (n : start a ≡ None). n)
-        (some_or_none (start a))
-
-    no_entry : table a ≡ None
-    no_entry =
-        ⊎_elim
-        (λ (r : (p : Occurrence) × (table a ≡ Some p)).
-        let d = r.1 in
-        let f = free in
-        let g = rw (f, d) at e in
-        let entry = facts.entries a r.0 d in
-        let x = (answered s r.0 entry.item entry.live.item).1 in
-        absurd (cc))
-        (λ (n : table a ≡ None). n)
-        (some_or_none (table a))
+empty_parts s start done wanted table nodes slots facts a empty =
+    let e = facts.shown a in
+    ⊎_elim
+    (λ (r : (p : Occurrence) × (table a ≡ Some p)). grind (arith, answered, facts.entries a r.0 r.1))
+    (λ (n : table a ≡ None). grind (arith, some_or_none))
+    (some_or_none (table a))
 
 -- no entry
 abbrev pub no_entries : Table
 no_entries a = None
 
 pub root_above : (s : Setting) (o : Occurrence) (i : Item) → item_at s o ≡ Some i → Covers (nodes_of s.lists) o
-root_above s (Root list line item) i e = grind (arith, nat_tests, root_in, item)
-root_above s (Inside parent index) i e = grind (arith, nat_tests, some_or_none, root_above s parent)
+root_above s (Root list line item) i e = grind (arith, root_in)
+root_above s (Inside parent index) i e = grind (arith, some_or_none, root_above s parent)
 
 -- as a walk over all roots begins
 pub at_start : (s : Setting) (start : Slots) (done : Slots → Bool) (wanted : List ℕ) →
     Facts s start done wanted no_entries (nodes_of s.lists) start
-at_start s start done wanted =
-    record {
-      nodes_are = λ n m. (root_node s n m).4;
-      reached = λ n m. let e = (root_node s n m).3 in rw e tt;
-      ordered = roots_ordered s.lists;
-      entries = λ a o e. absurd (cc);
-      met = met;
-      others = λ other stable. record {
-        within = λ a o e. absurd (cc);
-        covered = λ a o e.
-            let entry = (entry_is s start other stable a o e).0 in
-            inr (root_above s o entry.0 entry.1.item);
-      };
-      shown = λ a. shown (start a);
-      last = inr (inl (λ a. refl));
-    }
-  where
-    met : (o : Occurrence) (i : Item) → IsLive s no_entries o i →
-        Waits o (nodes_of s.lists) ⊎ IsSettled start no_entries o i.attribute
-    met (Root list line item) i live = inl (root_in s list line item i live.item)
-    met (Inside parent index) i live = absurd (let e = live.reached.3 in cc)
-
-    shown : (x : Option Answer) → x ≡ full_answer s x None
-    shown None = refl
-    shown (Some x) = refl
+at_start s start done wanted = grind (arith, root_node, roots_ordered, entry_is, root_above)

@@ -1,10 +1,9 @@
 -- A walk fills the slot of a task whose attribute has no answer.
-use Rattle.std.proofs.Common.{arith, ◌≡◌, ℕ, ◌⊎◌, List, [], ◌∷◌, ◌++◌, Some, None, refl, sym, ap, ◌∙◌, inl, inr, ⊎_elim, Bool, true, eqb}
-use Rattle.std.proofs.lemmas.Bool.Decides.{nat_tests}
+use Rattle.std.proofs.Common.{arith, ◌≡◌, ℕ, ◌⊎◌, List, ◌∷◌, ◌++◌, Some, None, refl, inl, inr, ⊎_elim, Bool, true, eqb}
 use Rattle.std.specs.Prelude.{Contains, if◌then◌else◌}
 use Rattle.std.proofs.lemmas.Bool.{cases_eq, eq-eqb, ne_eqb, cases_Bool}
-use Rattle.attr_table.specs.Setting.{Set, Item, Setting}
-use Rattle.attr_table.specs.Table.{Occurrence, Root, Inside, Table, Slots, path, item_at, IsEarlier, IsReached, IsLive, IsStable}
+use Rattle.attr_table.specs.Setting.{Item, Setting}
+use Rattle.attr_table.specs.Table.{Occurrence, Root, Inside, Table, Slots, item_at, IsEarlier, IsReached, IsLive, IsStable}
 use Rattle.attr_table.specs.Cut.{full_answer}
 use Rattle.attr_table.specs.shared.Walk.{fill}
 use Rattle.attr_table.proofs.Listed.{Mem, mem_cases, mem_left, mem_right, IsOrdered, ordered_append}
@@ -21,8 +20,7 @@ with_entry table a o b = if eqb b a then Some o else table b
 -- a table keeps an attribute's entry as it grows
 pub reached_still : (s : Setting) (table other : Table) → IsWithin table other → (o : Occurrence) →
     IsReached s table o → IsReached s other o
-reached_still s table other within (Root list line item) r = tt
-reached_still s table other within (Inside parent index) r = (r.0, r.1, r.2, within r.0.attribute parent r.3)
+reached_still s table other within o r = grind arith
 
 module _ (s : Setting) (start : Slots) (done : Slots → Bool) (wanted : List ℕ) (table : Table) (h : Node) (nodes : List Node) (slots : Slots)
     (facts : Facts s start done wanted table (h ∷ nodes) slots) (empty : slots h.task.item.attribute ≡ None) where
@@ -46,10 +44,10 @@ module _ (s : Setting) (start : Slots) (done : Slots → Bool) (wanted : List �
   -- an entry of the next table is the node's, or was there before
   next_cases : (a : ℕ) (o : Occurrence) → next a ≡ Some o →
       ((a ≡ h.task.item.attribute) × (o ≡ h.occurrence)) ⊎ (table a ≡ Some o)
-  next_cases a o e = grind (arith, nat_tests, next_same, next_other, cases_eq)
+  next_cases a o e = grind (arith, next_same, next_other, cases_eq)
 
   within : IsWithin table next
-  within a o e = grind (arith, nat_tests, no_entry, next_other, cases_eq)
+  within a o e = grind (arith, no_entry, next_other, cases_eq)
 
   more : List Node
   more = child_nodes s.bodies h ++ nodes
@@ -70,55 +68,27 @@ module _ (s : Setting) (start : Slots) (done : Slots → Bool) (wanted : List �
 
   reached : (n : Node) → Mem n more → IsReached s next n.occurrence
   reached n m =
-      ⊎_elim
-      (λ a.
-      let r = child_is s h n is a in
-      let e = r.1 in
-      rw e (h.task.item, is.item, r.3, next_same))
-      (λ b. reached_still s table next within n.occurrence (facts.reached n (inr b)))
-      (mem_more n m)
+      let k = mem_more n m in
+      grind (arith, child_is s h n is, next_same, is, reached_still, within)
 
   ordered : IsOrdered PartsAt more
   unfolding more
   ordered =
       ordered_append PartsAt (child_nodes s.bodies h) nodes (children_ordered s.bodies h) facts.ordered.1
-      (λ c n a b.
-      let r = child_is s h c is a in
-      let e = r.1 in
-      rw e (parts_left (path h.occurrence) (path n.occurrence) (r.0 ∷ []) (facts.ordered.0 n b)))
+      (λ c n a b. grind (arith, child_is s h c is a, parts_left))
 
   -- the node's occurrence comes before all nodes that are left
   first : (n : Node) → Mem n more → IsEarlier h.occurrence n.occurrence
-  first n m =
-      ⊎_elim
-      (λ a.
-      let r = child_is s h n is a in
-      let e = r.1 in
-      rw e (first_beginning (path h.occurrence) r.0 []))
-      (λ b. parts_first (path h.occurrence) (path n.occurrence) (facts.ordered.0 n b))
-      (mem_more n m)
+  first n m = grind (arith, child_is s h n is, mem_more n m, first_beginning, parts_first)
 
   entries : (a : ℕ) (o : Occurrence) → next a ≡ Some o → IsEntry s start next more a o
   entries a o e =
       ⊎_elim
-      (λ (d : (a ≡ h.task.item.attribute) × (o ≡ h.occurrence)).
-      let f = d.0 in let g = d.1 in
-      rw (f, g) record {
-        item = h.task.item;
-        live = record { item = is.item; reached = reached_still s table next within h.occurrence h_live.reached };
-        of = refl;
-        free = free;
-        first = first;
-      })
+      (λ (d : (a ≡ h.task.item.attribute) × (o ≡ h.occurrence)). grind (arith, is, reached_still, within, h_live, free, first))
       (λ d.
       let r = facts.entries a o d in
-      record {
-        item = r.item;
-        live = record { item = r.live.item; reached = reached_still s table next within o r.live.reached };
-        of = r.of;
-        free = r.free;
-        first = λ n m. first_trans (path o) (path h.occurrence) (path n.occurrence) (r.first h (inl refl)) (first n m);
-      })
+      let live : IsLive s next o r.item = record { item = r.live.item; reached = reached_still s table next within o r.live.reached } in
+      grind (arith, r, first_trans, first))
       (next_cases a o e)
 
   -- what is settled stays so
@@ -133,11 +103,8 @@ module _ (s : Setting) (start : Slots) (done : Slots → Bool) (wanted : List �
       (λ (w : Waits o (h ∷ nodes)).
       ⊎_elim
       (λ (d : w.0 ≡ h).
-      let f : h.occurrence ≡ o = sym (ap (λ (x : Node). x.occurrence) d) ∙ w.2 in
-      let g = is.item in let l = live.item in
-      let same : i ≡ h.task.item = cc in
-      let n = next_same in
-      inr (inr (h.occurrence, rw same n, inl f)))
+      let same : i ≡ h.task.item = grind (arith, is) in
+      inr (inr (h.occurrence, rw same next_same, grind arith)))
       (λ m. inl (w.0, mem_right w.0 (child_nodes s.bodies h) nodes m, w.2))
       w.1)
       (λ k. inr (settled_still o i.attribute k))
@@ -149,63 +116,34 @@ module _ (s : Setting) (start : Slots) (done : Slots → Bool) (wanted : List �
   met (Inside parent index) i live =
       let r = live.reached in
       ⊎_elim
-      (λ (d : (r.0.attribute ≡ h.task.item.attribute) × (parent ≡ h.occurrence)).
-      let f = d.1 in
-      let g = is.item in let k = r.1 in
-      let same : r.0 ≡ h.task.item = cc in
-      let set : h.task.item.state ≡ Set = sym (ap (λ (x : Item). x.state) same) ∙ r.2 in
-      let l = live.item in
-      inl (inside index i f set (rw f at l)))
+      (λ (d : (r.0.attribute ≡ h.task.item.attribute) × (parent ≡ h.occurrence)). grind (arith, child_in s h index i is, is, mem_left))
       (λ (d : table r.0.attribute ≡ Some parent).
       met_before (Inside parent index) i (record { item = live.item; reached = (r.0, r.1, r.2, d) }))
       (next_cases r.0.attribute parent r.3)
-    where
-      inside : (k : ℕ) (j : Item) → parent ≡ h.occurrence → h.task.item.state ≡ Set → item_at s (Inside h.occurrence k) ≡ Some j →
-          Waits (Inside parent k) more
-      inside k j e set item =
-          let c = child_in s h k j is set item in
-          (c.0, mem_left c.0 (child_nodes s.bodies h) nodes c.1, rw e c.2)
 
   shown : (a : ℕ) → fill s.bodies h.task slots a ≡ full_answer s (start a) (next a)
-  shown a = grind (arith, nat_tests, eq-eqb, next_same, free, node_answer, is, ne_eqb, next_other, cases_eq)
+  shown a = grind (arith, eq-eqb, next_same, free, node_answer, is, ne_eqb, next_other, cases_eq)
 
   -- the nodes cover no occurrence that is earlier than the node's
   covered_later : (o : Occurrence) → Covers (h ∷ nodes) o → (h.occurrence ≡ o) ⊎ IsEarlier h.occurrence o
-  covered_later o c = grind (arith, nat_tests, below_later, parts_first, parts_below)
+  covered_later o c = grind (arith, below_later, parts_first, parts_below)
 
   module _ (other : Table) (stable : IsStable s start other) where
     -- each stable table has the node's occurrence as its attribute's entry
     is_entry : other h.task.item.attribute ≡ Some h.occurrence
     is_entry =
         let agrees = facts.others other stable in
-        let live : IsLive s other h.occurrence h.task.item = record {
-          item = is.item;
-          reached = reached_still s table other agrees.within h.occurrence h_live.reached;
-        } in
+        let live : IsLive s other h.occurrence h.task.item = grind (arith, reached_still, h_live) in
         let r = entry_of s start other stable h.task.item.attribute h.occurrence h.task.item free live refl in
-        let e = r.1 in
         ⊎_elim
-        (λ (d : r.0 ≡ h.occurrence). cc)
+        (λ (d : r.0 ≡ h.occurrence). grind (arith, r.1))
         (λ (earlier : IsEarlier r.0 h.occurrence).
-        ⊎_elim
-        (λ (t : table h.task.item.attribute ≡ Some r.0). let n = no_entry in absurd (cc))
-        (λ (c : Covers (h ∷ nodes) r.0).
-        ⊎_elim
-        (λ (d : h.occurrence ≡ r.0). cc)
-        (λ (later : IsEarlier h.occurrence r.0).
-        absurd (first_irreflexive (path h.occurrence)
-        (first_trans (path h.occurrence) (path r.0) (path h.occurrence) later earlier)))
-        (covered_later r.0 c))
-        (agrees.covered h.task.item.attribute r.0 e))
+        let c = agrees.covered h.task.item.attribute r.0 r.1 in
+        grind (arith, no_entry, covered_later r.0, first_irreflexive, first_trans))
         r.2
 
     other_within : IsWithin next other
-    other_within a o e =
-        ⊎_elim
-        (λ (d : (a ≡ h.task.item.attribute) × (o ≡ h.occurrence)).
-        let f = d.0 in let g = d.1 in let k = is_entry in cc)
-        (λ t. (facts.others other stable).within a o t)
-        (next_cases a o e)
+    other_within a o e = grind (arith, is_entry, within, next_cases)
 
     -- an entry inside the node's occurrence is covered by a child
     inside_covered : (o : Occurrence) → IsReached s other o → (i : Item) → item_at s o ≡ Some i → Below h.occurrence o →
@@ -213,62 +151,22 @@ module _ (s : Setting) (start : Slots) (done : Slots → Bool) (wanted : List �
     unfolding more
     inside_covered o reached i item b =
         let r = below_child h.occurrence o b in
-        let set = (above_live s start other stable h.occurrence o reached b) in
-        let x = set.1.item in let y = is.item in
-        let same : set.0 ≡ h.task.item = cc in
-        let state : h.task.item.state ≡ Set = sym (ap (λ (x : Item). x.state) same) ∙ set.2 in
-        ⊎_elim
-        (λ (e : Inside h.occurrence r.0 ≡ o).
-        let c = child_in s h r.0 i is state (ap (λ p. item_at s p) e ∙ item) in
-        (c.0, mem_left c.0 (child_nodes s.bodies h) nodes c.1, inl (c.2 ∙ e)))
-        (λ (d : Below (Inside h.occurrence r.0) o).
-        let q = above_live s start other stable (Inside h.occurrence r.0) o reached d in
-        let c = child_in s h r.0 q.0 is state q.1.item in
-        let e = c.2 in
-        (c.0, mem_left c.0 (child_nodes s.bodies h) nodes c.1, inr (rw e d)))
-        r.1
+        grind (arith, above_live s start other stable, child_in s h, is, mem_left)
 
     other_covered : (a : ℕ) (o : Occurrence) → other a ≡ Some o → (next a ≡ Some o) ⊎ Covers more o
     unfolding more
     other_covered a o e =
-        let entry = (entry_is s start other stable a o e).0 in
-        ⊎_elim
-        (λ t. inl (within a o t))
-        (λ (c : Covers (h ∷ nodes) o).
-        ⊎_elim
-        (λ (d : c.0 ≡ h).
-        let here : h.occurrence ≡ c.0.occurrence = sym (ap (λ (x : Node). x.occurrence) d) in
-        ⊎_elim
-        (λ (at : c.0.occurrence ≡ o).
-        let x = entry.1.item in let y = is.item in
-        let same : entry.0 ≡ h.task.item = cc in
-        let of : a ≡ h.task.item.attribute =
-        sym entry.2 ∙ ap (λ (x : Item). x.attribute) same in
-        let n = next_same in
-        inl (rw of (n ∙ ap Some (here ∙ at))))
-        (λ (b : Below c.0.occurrence o).
-        inr (inside_covered o entry.1.reached entry.0 entry.1.item (rw here b)))
-        c.2)
-        (λ m. inr (c.0, mem_right c.0 (child_nodes s.bodies h) nodes m, c.2))
-        c.1)
-        ((facts.others other stable).covered a o e)
+        let c = (facts.others other stable).covered a o e in
+        grind (arith, entry_is, within, is, next_same, inside_covered, mem_right)
 
   module _ (turns : done (fill s.bodies h.task slots) ≡ true → Contains wanted h.task.item.attribute) where
     last : IsLast done wanted next (fill s.bodies h.task slots)
     last =
         ⊎_elim
         (λ (d : done (fill s.bodies h.task slots) ≡ true).
-        inr (inr (
-          h.task.item.attribute,
-          h.occurrence,
-          turns d,
-          next_same,
-          λ a o e.
-              ⊎_elim
-              (λ (r : (a ≡ h.task.item.attribute) × (o ≡ h.occurrence)). inl r.1)
-              (λ t. inr ((facts.entries a o t).first h (inl refl)))
-              (next_cases a o e),
-        )))
+        let latest : (a : ℕ) (o : Occurrence) → next a ≡ Some o → (o ≡ h.occurrence) ⊎ IsEarlier o h.occurrence =
+        λ a o e. ⊎_elim (λ r. inl r.1) (λ t. inr ((facts.entries a o t).first h (inl refl))) (next_cases a o e) in
+        grind (arith, turns, next_same, latest))
         (λ d. inl d)
         (cases_Bool (done (fill s.bodies h.task slots)))
 

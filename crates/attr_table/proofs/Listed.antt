@@ -1,7 +1,6 @@
 -- Lists from their end: their members, and their order.
-use Rattle.std.proofs.Common.{◌≡◌, ℕ, zero, suc, ◌<◌, ◌⊎◌, List, [], ◌∷◌, ◌++◌, map, Some, refl, sym, ◌∙◌, inl, inr, ⊎_elim, arith}
+use Rattle.std.proofs.Common.{◌≡◌, ℕ, zero, suc, ◌<◌, ◌⊎◌, List, [], ◌∷◌, ◌++◌, map, Some, refl, sym, inl, inr, ⊎_elim, arith}
 use Rattle.std.specs.Prelude.{slice_get}
-use Rattle.std.proofs.lemmas.Bool.Decides.{nat_tests}
 use Rattle.std.proofs.lemmas.List.{map-append, append-nil, append_assoc}
 use Rattle.attr_table.specs.shared.Walk.{backwards}
 
@@ -12,7 +11,7 @@ Mem y (x ∷ xs) = (y ≡ x) ⊎ Mem y xs
 
 pub mem_cases : {X : Type 0} (y : X) (xs ys : List X) → Mem y (xs ++ ys) → Mem y xs ⊎ Mem y ys
 mem_cases y [] ys m = inr m
-mem_cases y (x ∷ xs) ys m = grind (arith, nat_tests, mem_cases y xs ys)
+mem_cases y (x ∷ xs) ys m = grind (arith, mem_cases y xs ys)
 
 pub mem_left : {X : Type 0} (y : X) (xs ys : List X) → Mem y xs → Mem y (xs ++ ys)
 mem_left y [] ys m = absurd m
@@ -39,7 +38,7 @@ mem_backward f (x ∷ xs) y m =
 pub backward_mem : {X Y : Type 0} (f : ℕ → X → List Y) (xs : List X) (k : ℕ) (x : X) (y : Y) →
     slice_get xs k ≡ Some x → Mem y (f k x) → Mem y (backward f xs)
 backward_mem f [] k x y e m = absurd (cc)
-backward_mem {X} {Y} f (z ∷ xs) zero x y e m = grind (arith, nat_tests, mem_right)
+backward_mem {X} {Y} f (z ∷ xs) zero x y e m = grind (arith, mem_right)
 backward_mem f (z ∷ xs) (suc k) x y e m =
     mem_left y (backward (λ j. f (suc j)) xs) (f 0 z) (backward_mem (λ j. f (suc j)) xs k x y e m)
 
@@ -66,20 +65,15 @@ ordered_backward R f (x ∷ xs) each apart =
     (ordered_backward R (λ k. f (suc k)) xs (λ k y e. each (suc k) y e)
     (λ j k y z u v lt a b. apart (suc j) (suc k) y z u v (omega arith) a b))
     (each 0 x refl)
-    (λ u v a b.
-    let r = mem_backward (λ k. f (suc k)) xs u a in
-    apart 0 (suc r.0) r.1 x u v (omega arith) r.3 b)
+    (λ u v a b. grind (arith, mem_backward (λ k. f (suc k)) xs u a, apart))
 
 -- without indexes it is `backwards`
 pub map-backward : {X Y Z : Type 0} (g : Y → Z) (f : ℕ → X → List Y) (h : X → List Z) (xs : List X) →
     ((k : ℕ) (x : X) → map g (f k x) ≡ h x) → map g (backward f xs) ≡ backwards h xs
 map-backward g f h [] same = refl
-map-backward g f h (x ∷ xs) same =
-    map-append g (backward (λ k. f (suc k)) xs) (f 0 x)
-    ∙ (let e = map-backward g (λ k. f (suc k)) h xs (λ k y. same (suc k) y) in
-    let d = same 0 x in cc)
+map-backward g f h (x ∷ xs) same = grind (arith, map-append, map-backward g (λ k. f (suc k)) h xs)
 
 pub backwards-append : {X Y : Type 0} (f : X → List Y) (xs ys : List X) →
     backwards f (xs ++ ys) ≡ backwards f ys ++ backwards f xs
 backwards-append f [] ys = sym (append-nil (backwards f ys))
-backwards-append f (x ∷ xs) ys = grind (arith, nat_tests, append_assoc, backwards-append f xs ys)
+backwards-append f (x ∷ xs) ys = grind (arith, append_assoc, backwards-append f xs ys)

@@ -1,6 +1,5 @@
 -- Precedence among occurrences.
 use Rattle.std.proofs.Common.{◌≡◌, ℕ, ◌<◌, ◌⊎◌, List, [], ◌∷◌, ◌++◌, refl, inl, inr, ⊎_elim, arith}
-use Rattle.std.proofs.lemmas.Bool.Decides.{nat_tests}
 use Rattle.std.proofs.lemmas.List.{append_assoc}
 use Rattle.attr_table.specs.Table.{Occurrence, Root, Inside, path, ComesFirst, IsEarlier}
 
@@ -9,11 +8,8 @@ first_irreflexive [] h = h
 first_irreflexive (x ∷ xs) h = ⊎_elim (λ lt. omega arith) (λ r. first_irreflexive xs r.1) h
 
 pub first_trans : (xs ys zs : List ℕ) → ComesFirst xs ys → ComesFirst ys zs → ComesFirst xs zs
-first_trans [] [] zs h k = absurd h
-first_trans [] (y ∷ ys) (z ∷ zs) h k = tt
-first_trans (x ∷ xs) [] zs h k = absurd h
-first_trans (x ∷ xs) (y ∷ ys) (z ∷ zs) h k = grind (arith, nat_tests, first_trans xs ys zs)
-first_trans xs (y ∷ ys) [] h k = absurd k
+first_trans (x ∷ xs) (y ∷ ys) (z ∷ zs) h k = grind (arith, first_trans xs ys zs)
+first_trans xs ys zs h k = grind arith
 
 pub first_beginning : (xs : List ℕ) (y : ℕ) (ys : List ℕ) → ComesFirst xs (xs ++ y ∷ ys)
 first_beginning [] y ys = tt
@@ -51,9 +47,7 @@ below_path o (Root list line item) b = absurd b
 below_path o (Inside parent index) b =
     ⊎_elim
     (λ (e : o ≡ parent). (index, [], rw e refl))
-    (λ d. let r = below_path o parent d in
-    let e = r.2 in
-    (r.0, r.1 ++ index ∷ [], rw e (append_assoc (path o) (r.0 ∷ r.1) (index ∷ []))))
+    (λ d. grind (arith, append_assoc (path o) ((below_path o parent d).0 ∷ (below_path o parent d).1) (index ∷ []), below_path o parent d))
     b
 
 pub below_later : (o p : Occurrence) → Below o p → IsEarlier o p
@@ -70,7 +64,7 @@ below_child o (Inside parent index) b =
 
 -- what is at an occurrence or inside it comes after what parts from it before
 pub parts_below : (o p q : Occurrence) → Parts (path o) (path p) → (p ≡ q) ⊎ Below p q → Parts (path o) (path q)
-parts_below o p q h c = grind (arith, nat_tests, below_path, parts_right)
+parts_below o p q h c = grind (arith, below_path, parts_right)
 
 pub earlier_below : (o p q : Occurrence) → IsEarlier o p → (p ≡ q) ⊎ Below p q → IsEarlier o q
-earlier_below o p q h c = grind (arith, nat_tests, first_trans, below_later)
+earlier_below o p q h c = grind (arith, first_trans, below_later)

@@ -1,6 +1,5 @@
 -- A search may skip the attributes that nothing depends on: a walk goes past their tasks and those of their bodies.
-use Rattle.std.proofs.Common.{arith, ◌≡◌, ℕ, List, [], ◌∷◌, ◌++◌, Option, Some, refl, subst, inl, ⊎_elim, Bool, true, false}
-use Rattle.std.proofs.lemmas.Bool.Decides.{nat_tests}
+use Rattle.std.proofs.Common.{arith, ◌≡◌, ℕ, List, [], ◌∷◌, ◌++◌, Option, Some, refl, inl, ⊎_elim, Bool, true, false}
 use Rattle.std.specs.Prelude.{All, is_some, if◌then◌else◌}
 use Rattle.std.proofs.lemmas.Bool.{cases_eq, eq-eqb, cases_Bool}
 use Rattle.std.proofs.lemmas.List.Elements.{All-head, All-tail}
@@ -30,18 +29,17 @@ done_narrowed : (needed : ℕ → Bool) (wanted : List ℕ) (slots : Slots) → 
     is_done wanted (narrowed needed slots) ≡ is_done wanted slots
 done_narrowed needed [] slots all = refl
 done_narrowed needed (w ∷ wanted) slots all =
-    let e = All-head (λ w. needed w ≡ true) w wanted all in
     let d = done_narrowed needed wanted slots (All-tail (λ w. needed w ≡ true) w wanted all) in
-    rw (e, d) refl
+    grind (arith, All-head (λ w. needed w ≡ true) w wanted all)
 
 -- a needed slot is filled in both, any other one in none
 narrowed_fill : (bodies : List (List Item)) (needed : ℕ → Bool) (t : Task) (slots : Slots) → needed t.item.attribute ≡ true →
     narrowed needed (fill bodies t slots) ≡ fill bodies t (narrowed needed slots)
-narrowed_fill bodies needed t slots n = grind (arith, nat_tests, eq-eqb, fill_other, cases_eq)
+narrowed_fill bodies needed t slots n = grind (arith, eq-eqb, fill_other, cases_eq)
 
 narrowed_unfilled : (bodies : List (List Item)) (needed : ℕ → Bool) (t : Task) (slots : Slots) →
     needed t.item.attribute ≡ false → narrowed needed (fill bodies t slots) ≡ narrowed needed slots
-narrowed_unfilled bodies needed t slots n = grind (arith, nat_tests, fill_other, cases_eq)
+narrowed_unfilled bodies needed t slots n = grind (arith, fill_other, cases_eq)
 
 -- what holds of items holds of those of their tasks
 task_in : (P : Item → Type 0) (origin : Origin) (cause : Option ℕ) (items : List Item) (u : Task) → All P items →
@@ -49,10 +47,8 @@ task_in : (P : Item → Type 0) (origin : Origin) (cause : Option ℕ) (items : 
 task_in P origin cause [] u all m = absurd m
 task_in P origin cause (i ∷ items) u all m =
     let one : Task = record { origin = origin; item = i; cause = cause } in
-    ⊎_elim
-    (λ a. task_in P origin cause items u (All-tail P i items all) a)
-    (λ b. ⊎_elim (λ (e : u ≡ one). rw e (All-head P i items all)) (λ none. absurd none) b)
-    (mem_cases u (tasks_in origin cause items) (one ∷ []) m)
+    let k = mem_cases u (tasks_in origin cause items) (one ∷ []) m in
+    grind (arith, All-head P i items all, task_in P origin cause items u (All-tail P i items all))
 
 -- the tasks of the body of a macro that is not needed are not needed
 opened_past : (bodies : List (List Item)) (needed : ℕ → Bool) (t : Task) → IsClosed bodies needed → needed t.item.attribute ≡ false →
@@ -65,10 +61,7 @@ opened_past bodies needed t closed n u = go (expands t.item.state)
     go true m =
         let k = task_in (λ i. needed i.attribute ≡ true → needed t.item.attribute ≡ true) t.origin (Some t.item.attribute)
         (body_of bodies t.item.attribute) u (closed t.item.attribute) m in
-        ⊎_elim
-        (λ (e : needed u.item.attribute ≡ true). let d = k e in absurd (cc))
-        (λ (e : needed u.item.attribute ≡ false). e)
-        (cases_Bool (needed u.item.attribute))
+        grind (arith, cases_Bool)
     go false m = absurd m
 
 -- first tasks whose slots are filled may be left out
@@ -77,7 +70,7 @@ walks_without : (bodies : List (List Item)) (done : Slots → Bool) (xs ts : Lis
     Walks bodies done ts slots final
 walks_without bodies done [] ts slots final filled w = w
 walks_without bodies done (x ∷ xs) ts slots final filled (stops d) = stops d
-walks_without bodies done (x ∷ xs) ts slots final filled (skips e w) = grind (arith, nat_tests, walks_without bodies done xs ts slots final)
+walks_without bodies done (x ∷ xs) ts slots final filled (skips e w) = grind (arith, walks_without bodies done xs ts slots final)
 walks_without bodies done (x ∷ xs) ts slots final filled (fills d e w) = let f = filled x (inl refl) in absurd (cc)
 
 -- the same tasks lead from the needed slots to the needed slots
@@ -87,37 +80,23 @@ module _ (bodies : List (List Item)) (needed : ℕ → Bool) (wanted : List ℕ)
       Walks bodies (is_done wanted) ts (narrowed needed slots) (narrowed needed final)
   narrowed_walk ends = ends
   narrowed_walk {slots = slots} (stops d) = let e = done_narrowed needed wanted slots all in stops (rw e d)
-  narrowed_walk (skips {t = t} {slots = slots} e w) = skips still (narrowed_walk w)
-    where
-      still : is_some (narrowed needed slots t.item.attribute) ≡ true
-      still =
-          ⊎_elim
-          (λ (n : needed t.item.attribute ≡ true). rw n e)
-          (λ (n : needed t.item.attribute ≡ false). narrowed_past needed slots t.item.attribute n)
-          (cases_Bool (needed t.item.attribute))
+  narrowed_walk (skips {t = t} {slots = slots} e w) = grind (arith, narrowed_past, cases_Bool, skips, narrowed_walk w)
   narrowed_walk (fills {t = t} {ts = ts} {slots = slots} {final = final} d e w) =
       ⊎_elim
       (λ (n : needed t.item.attribute ≡ true).
       let f = done_narrowed needed wanted slots all in
-      fills (rw f d) (rw n e)
-      (subst (λ (x : Slots). Walks bodies (is_done wanted) (opened bodies t ++ ts) x (narrowed needed final))
-      (narrowed_fill bodies needed t slots n) (narrowed_walk w)))
+      fills (rw f d) (rw n e) (rw (narrowed_fill bodies needed t slots n) at (narrowed_walk w)))
       (λ (n : needed t.item.attribute ≡ false).
       skips (narrowed_past needed slots t.item.attribute n)
       (walks_without bodies (is_done wanted) (opened bodies t) ts (narrowed needed slots) (narrowed needed final)
       (λ u m. narrowed_past needed slots u.item.attribute (opened_past bodies needed t closed n u m))
-      (subst (λ (x : Slots). Walks bodies (is_done wanted) (opened bodies t ++ ts) x (narrowed needed final))
-      (narrowed_unfilled bodies needed t slots n) (narrowed_walk w))))
+      (rw (narrowed_unfilled bodies needed t slots n) at (narrowed_walk w))))
       (cases_Bool (needed t.item.attribute))
 
 pub skipping_unseen : (s : Setting) (needed : ℕ → Bool) (wanted : List ℕ) (start slots : Slots) → IsClosed s.bodies needed →
     All (λ w. needed w ≡ true) wanted → IsSearched s wanted (narrowed needed start) slots →
     (all : Slots) × IsSearched s wanted start all × (slots ≡ narrowed needed all)
 skipping_unseen s needed wanted start slots closed wants searched =
-    let w = some_walk s wanted start in (
-      w.0,
-      walked_searched s wanted start w.0 w.1,
-      same_searched s wanted (narrowed needed start) slots (narrowed needed w.0) searched
-          (walked_searched s wanted (narrowed needed start) (narrowed needed w.0)
-          (narrowed_walk s.bodies needed wanted closed wants w.1)),
-    )
+    let w = some_walk s wanted start in
+    let walked = walked_searched s wanted (narrowed needed start) (narrowed needed w.0) in
+    grind (arith, walked_searched s wanted start w.0 w.1, same_searched s wanted (narrowed needed start) slots, walked, narrowed_walk)

@@ -1,6 +1,5 @@
 -- What a stable table has.
 use Rattle.std.proofs.Common.{arith, ◌≡◌, ℕ, ◌⊎◌, Option, Some, None, refl, inl, inr, ⊎_elim, true, false}
-use Rattle.std.proofs.lemmas.Bool.Decides.{nat_tests}
 use Rattle.std.specs.Prelude.{option_map, option_and_then, slice_get, is_some}
 use Rattle.std.proofs.lemmas.Option.{MatchOption-at_some, MatchOption-at_none}
 use Rattle.attr_table.specs.Setting.{Set, Item, Line, Origin, Setting, Answer}
@@ -9,12 +8,10 @@ use Rattle.attr_table.specs.Cut.{origin_at, cause_at, answer_of, answer_at}
 use Rattle.attr_table.proofs.Order.{Below}
 
 pub some_value : {X : Type 0} (o : Option X) → is_some o ≡ true → (x : X) × (o ≡ Some x)
-some_value None e = absurd (cc)
-some_value (Some x) e = (x, refl)
+some_value o e = grind arith
 
 pub none_value : {X : Type 0} (o : Option X) → is_some o ≡ false → o ≡ None
-none_value None e = refl
-none_value (Some x) e = absurd (cc)
+none_value o e = grind arith
 
 pub some_or_none : {X : Type 0} (o : Option X) → ((x : X) × (o ≡ Some x)) ⊎ (o ≡ None)
 some_or_none None = inr refl
@@ -29,7 +26,7 @@ origin_of s (Root list line item) i e = go (line_at s list line) e
         (origin : Origin) × (option_map (λ l. l.origin) l ≡ Some origin)
     go None d = absurd (cc)
     go (Some l) d = (l.origin, refl)
-origin_of s (Inside parent index) i e = grind (arith, nat_tests, some_or_none, origin_of s parent)
+origin_of s (Inside parent index) i e = grind (arith, some_or_none, origin_of s parent)
 
 pub answered : (s : Setting) (o : Occurrence) (i : Item) → item_at s o ≡ Some i →
     (x : Answer) × (answer_at s o ≡ Some x)
@@ -47,7 +44,7 @@ module _ (s : Setting) (start : Slots) (table : Table) (stable : IsStable s star
 
   -- an attribute with an entry had no answer at the start
   pub entry_free : (a : ℕ) (o : Occurrence) → table a ≡ Some o → start a ≡ None
-  entry_free a o e = grind (arith, nat_tests, stable_taken, some_or_none)
+  entry_free a o e = grind (arith, stable_taken, some_or_none)
 
   -- an entry is the earliest of its live occurrences
   pub entry_is : (a : ℕ) (o : Occurrence) → table a ≡ Some o → IsEarliest s table a (Some o)
@@ -60,13 +57,11 @@ module _ (s : Setting) (start : Slots) (table : Table) (stable : IsStable s star
       ⊎_elim
       (λ (r : (p : Occurrence) × (table a ≡ Some p)).
       (r.0, r.1, (entry_is a r.0 r.1).1 o i live e))
-      (λ (n : table a ≡ None).
-      let none : IsEarliest s table a None = rw n at (stable_free a free) in
-      absurd (none o i live e))
+      (λ (n : table a ≡ None). grind (arith, stable_free))
       (some_or_none (table a))
 
   -- each parent of a live occurrence is an entry, and sets its attribute
   pub above_live : (o p : Occurrence) → IsReached s table p → Below o p →
       (i : Item) × IsLive s table o i × (i.state ≡ Set) × (table i.attribute ≡ Some o)
   above_live o (Root list line item) h b = absurd b
-  above_live o (Inside parent index) h b = grind (arith, nat_tests, entry_is, above_live o parent)
+  above_live o (Inside parent index) h b = grind (arith, entry_is, above_live o parent)

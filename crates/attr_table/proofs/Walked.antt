@@ -1,9 +1,7 @@
 -- Walks: each has an end, one goes on from another, and tasks whose slots are filled may be left out.
-use Rattle.std.proofs.Common.{◌≡◌, ℕ, zero, suc, ◌+◌, ◌≤◌, List, [], ◌∷◌, ◌++◌, length, Option, Some, None, refl, ⊎_elim, arith, Bool}
-use Rattle.std.proofs.Common.{true, false}
+use Rattle.std.proofs.Common.{◌≡◌, ℕ, zero, suc, ◌+◌, ◌≤◌, List, [], ◌∷◌, ◌++◌, length, Option, Some, None, refl, ⊎_elim, arith, Bool, true, false}
 use Rattle.std.specs.Prelude.{is_some}
-use Rattle.std.proofs.lemmas.Bool.Decides.{nat_tests}
-use Rattle.std.proofs.lemmas.Bool.{cases_eq, eq-eqb, ne_eqb, cases_Bool}
+use Rattle.std.proofs.lemmas.Bool.{cases_eq, ne_eqb, cases_Bool}
 use Rattle.std.proofs.lemmas.List.{length-append, append_assoc, append-nil}
 use Rattle.std.proofs.lemmas.List.Elements.{filter-append}
 use Rattle.attr_table.specs.Setting.{Item, Origin, Answer, body_of}
@@ -15,27 +13,23 @@ use Rattle.attr_table.proofs.Stable.{some_or_none}
 pub length-tasks_in : (origin : Origin) (cause : Option ℕ) (items : List Item) →
     length (tasks_in origin cause items) ≡ length items
 length-tasks_in origin cause [] = refl
-length-tasks_in origin cause (i ∷ items) = grind (arith, nat_tests, length-append, length-tasks_in origin cause items)
+length-tasks_in origin cause (i ∷ items) = grind (arith, length-append, length-tasks_in origin cause items)
 
 -- one more item adds its task to the free ones if its slot is empty, and else none
 pub tasks_push : (slots : Slots) (origin : Origin) (cause : Option ℕ) (items : List Item) (i : Item) →
     is_some (slots i.attribute) ≡ false →
     tasks_in origin cause (free_items slots (items ++ i ∷ []))
     ≡ record { origin = origin; item = i; cause = cause } ∷ tasks_in origin cause (free_items slots items)
-tasks_push slots origin cause items i e = grind (arith, nat_tests, filter-append, backwards-append)
+tasks_push slots origin cause items i e = grind (arith, filter-append, backwards-append)
 
 pub tasks_pass : (slots : Slots) (origin : Origin) (cause : Option ℕ) (items : List Item) (i : Item) →
     is_some (slots i.attribute) ≡ true →
     tasks_in origin cause (free_items slots (items ++ i ∷ [])) ≡ tasks_in origin cause (free_items slots items)
-tasks_pass slots origin cause items i e = grind (arith, nat_tests, filter-append, append-nil)
+tasks_pass slots origin cause items i e = grind (arith, filter-append, append-nil)
 
 pub length-opened : (bodies : List (List Item)) (t : Task) →
     length (opened bodies t) ≤ length (body_of bodies t.item.attribute)
-length-opened bodies t = grind (arith, nat_tests, length-tasks_in)
-
-pub fill_same : (bodies : List (List Item)) (t : Task) (slots : Slots) →
-    is_some (fill bodies t slots t.item.attribute) ≡ true
-fill_same bodies t slots = let e = eq-eqb t.item.attribute t.item.attribute refl in rw e refl
+length-opened bodies t = grind (arith, length-tasks_in)
 
 pub fill_other : (bodies : List (List Item)) (t : Task) (slots : Slots) (a : ℕ) → (a ≡ t.item.attribute → ⊥) →
     fill bodies t slots a ≡ slots a
@@ -44,24 +38,18 @@ fill_other bodies t slots a ne = let e = ne_eqb a t.item.attribute ne in rw e re
 -- a slot that is filled stays so
 pub fill_keeps : (bodies : List (List Item)) (t : Task) (slots : Slots) (a : ℕ) → is_some (slots a) ≡ true →
     is_some (fill bodies t slots a) ≡ true
-fill_keeps bodies t slots a e = grind (arith, nat_tests, fill_same, fill_other, cases_eq)
-
-left_same : (bodies : List (List Item)) (old new : Slots) → ((a : ℕ) → new a ≡ old a) →
-    left_in bodies old ≡ left_in bodies new
-left_same [] old new same = refl
-left_same (body ∷ bodies) old new same = grind (arith, nat_tests, left_same bodies)
+fill_keeps bodies t slots a e = grind (arith, fill_other, cases_eq)
 
 left_one : (bodies : List (List Item)) (old new : Slots) (a : ℕ) → is_some (old a) ≡ false → is_some (new a) ≡ true →
     ((b : ℕ) → (b ≡ a → ⊥) → new b ≡ old b) →
     left_in bodies old ≡ left_in bodies new + length (body_of bodies a)
-left_one [] old new a empty full same = omega arith
-left_one (body ∷ bodies) old new zero empty full same = grind (arith, nat_tests, left_same)
-left_one (body ∷ bodies) old new (suc a) empty full same = grind (arith, nat_tests, left_one bodies)
+left_one (body ∷ bodies) old new (suc a) empty full same = grind (arith, left_one bodies)
+left_one bodies old new a empty full same = grind arith
 
 -- a task that fills its slot leaves as many fewer items as its attribute's body has
 pub left_in-fill : (bodies : List (List Item)) (t : Task) (slots : Slots) → is_some (slots t.item.attribute) ≡ false →
     left_in bodies slots ≡ left_in bodies (fill bodies t slots) + length (body_of bodies t.item.attribute)
-left_in-fill bodies t slots empty = grind (arith, nat_tests, left_one, fill_same, fill_other)
+left_in-fill bodies t slots empty = grind (arith, left_one, fill_other)
 
 -- from each point a walk leads to an end
 pub walk_from : (bodies : List (List Item)) (done : Slots → Bool) (fuel : ℕ) (ts : List Task) (slots : Slots) →
@@ -69,26 +57,13 @@ pub walk_from : (bodies : List (List Item)) (done : Slots → Bool) (fuel : ℕ)
 walk_from bodies done fuel [] slots le = (slots, ends)
 walk_from bodies done zero (t ∷ ts) slots le = absurd (omega arith)
 walk_from bodies done (suc fuel) (t ∷ ts) slots le =
-    go (walk_from bodies done fuel ts slots (omega arith)) (λ (is : is_some (slots t.item.attribute) ≡ false).
-    walk_from bodies done fuel (opened bodies t ++ ts) (fill bodies t slots)
-    (let a = length-append (opened bodies t) ts in
-    let b = length-opened bodies t in
-    let c = left_in-fill bodies t slots is in omega arith))
-  where
-    go : (final : Slots) × Walks bodies done ts slots final →
-        (is_some (slots t.item.attribute) ≡ false →
-        (final : Slots) × Walks bodies done (opened bodies t ++ ts) (fill bodies t slots) final) →
-        (final : Slots) × Walks bodies done (t ∷ ts) slots final
-    go past through =
-        ⊎_elim
-        (λ (d : done slots ≡ true). (slots, stops d))
-        (λ (d : done slots ≡ false).
-        ⊎_elim
-        (λ (e : is_some (slots t.item.attribute) ≡ true). (past.0, skips e past.1))
-        (λ (e : is_some (slots t.item.attribute) ≡ false).
-        let r = through e in (r.0, fills d e r.1))
-        (cases_Bool (is_some (slots t.item.attribute))))
-        (cases_Bool (done slots))
+    ⊎_elim
+    (λ (d : done slots ≡ true). (slots, stops d))
+    (λ (d : done slots ≡ false).
+    let past = walk_from bodies done fuel ts slots in
+    let through = walk_from bodies done fuel (opened bodies t ++ ts) (fill bodies t slots) in
+    grind (arith, cases_Bool (is_some (slots t.item.attribute)), past, through, length-append, length-opened, left_in-fill, skips, fills))
+    (cases_Bool (done slots))
 
 -- a walk that is done changes nothing
 pub stopped : (bodies : List (List Item)) (done : Slots → Bool) (ts : List Task) (slots final : Slots) →
@@ -101,8 +76,7 @@ stopped bodies done (t ∷ ts) slots final (fills n e w) d = absurd (cc)
 pub then_walks : (bodies : List (List Item)) (done : Slots → Bool) (xs ys : List Task) (first second third : Slots) →
     Walks bodies done xs first second → Walks bodies done ys second third → Walks bodies done (xs ++ ys) first third
 then_walks bodies done [] ys first second third ends v = v
-then_walks bodies done xs ys first second third (stops d) v =
-    let e = stopped bodies done ys first third v d in rw e (stops d)
+then_walks bodies done xs ys first second third (stops d) v = grind (arith, stopped, stops)
 then_walks bodies done (t ∷ xs) ys first second third (skips e w) v =
     skips e (then_walks bodies done xs ys first second third w v)
 then_walks bodies done (t ∷ xs) ys first second third (fills d e w) v =
@@ -129,7 +103,7 @@ leaves_out_fill : (bodies : List (List Item)) (t : Task) {slots : Slots} {ts us 
     LeavesOut (fill bodies t slots) ts us
 leaves_out_fill bodies t none_left = none_left
 leaves_out_fill bodies t (kept_one l) = kept_one (leaves_out_fill bodies t l)
-leaves_out_fill bodies t {slots} (left_one_out {t = u} e l) = grind (arith, nat_tests, left_one_out, fill_keeps, leaves_out_fill bodies t l)
+leaves_out_fill bodies t {slots} (left_one_out {t = u} e l) = grind (arith, left_one_out, fill_keeps, leaves_out_fill bodies t l)
 
 -- up to the first that is kept, all are skipped
 all_out : (bodies : List (List Item)) (done : Slots → Bool) {slots : Slots} {ts : List Task} → LeavesOut slots ts [] →
@@ -153,8 +127,7 @@ walks_with bodies done (skips {final = final} e w) ts l =
 walks_with bodies done (fills {t = t} {final = final} d e w) ts l =
     up_to_kept bodies done final l
     (λ rest k. fills d e
-    (walks_with bodies done w (opened bodies t ++ rest)
-    (leaves_out_append (leaves_none (fill bodies t _) (opened bodies t)) (leaves_out_fill bodies t k))))
+    (walks_with bodies done w (opened bodies t ++ rest) (grind (arith, leaves_out_append, leaves_none, leaves_out_fill))))
 
 -- items whose slots are filled may be left out
 leaves_item : (slots : Slots) (origin : Origin) (cause : Option ℕ) (i : Item) (items : List Item) →
@@ -163,21 +136,19 @@ leaves_item : (slots : Slots) (origin : Origin) (cause : Option ℕ) (i : Item) 
 leaves_item slots origin cause i items rest =
     ⊎_elim
     (λ (r : (x : Answer) × (slots i.attribute ≡ Some x)).
-    let e = r.1 in
-    let d : is_some (slots i.attribute) ≡ true = rw e refl in
     let t : Task = record { origin = origin; item = i; cause = cause } in
-    let out : LeavesOut slots (t ∷ []) [] = left_one_out {t = t} d none_left in
-    rw e (rw append-nil at (leaves_out_append rest out)))
+    let out : LeavesOut slots (t ∷ []) [] = left_one_out {t = t} (grind arith) none_left in
+    grind (arith, append-nil, leaves_out_append rest out))
     (λ (e : slots i.attribute ≡ None). rw e (leaves_out_append rest (kept_one none_left)))
     (some_or_none (slots i.attribute))
 
 leaves_filled : (slots : Slots) (origin : Origin) (cause : Option ℕ) (items : List Item) →
     LeavesOut slots (tasks_in origin cause items) (tasks_in origin cause (free_items slots items))
 leaves_filled slots origin cause [] = none_left
-leaves_filled slots origin cause (i ∷ items) = grind (arith, nat_tests, leaves_item, leaves_filled slots origin cause items)
+leaves_filled slots origin cause (i ∷ items) = grind (arith, leaves_item, leaves_filled slots origin cause items)
 
 pub walks_past : (bodies : List (List Item)) (done : Slots → Bool) (slots final : Slots) (origin : Origin) (cause : Option ℕ) (items : List Item)
     (rest : List Task) →
     Walks bodies done (tasks_in origin cause (free_items slots items) ++ rest) slots final →
     Walks bodies done (tasks_in origin cause items ++ rest) slots final
-walks_past bodies done slots final origin cause items rest w = grind (arith, nat_tests, walks_with, leaves_out_append, leaves_filled, leaves_none)
+walks_past bodies done slots final origin cause items rest w = grind (arith, walks_with, leaves_out_append, leaves_filled, leaves_none)

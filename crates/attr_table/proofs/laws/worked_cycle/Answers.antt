@@ -1,5 +1,4 @@
-use Rattle.std.proofs.Common.{◌≡◌, ℕ, suc, ◌∷◌, [], refl, inr, arith, Some, None}
-use Rattle.std.proofs.lemmas.Bool.Decides.{nat_tests}
+use Rattle.std.proofs.Common.{◌≡◌, ℕ, ◌∷◌, [], refl, arith, Some, None}
 use Rattle.std.proofs.lemmas.Bool.{ne_eqb}
 use Rattle.attr_table.specs.Table.{Slots}
 use Rattle.attr_table.specs.Cut.{IsSearched, is_done, no_answers}
@@ -24,17 +23,10 @@ walk = fills refl refl (fills refl refl (stops refl))
 
 left_at : (a : ℕ) → left a ≡ cycle_answers a
 unfolding left a_task b_task
-left_at (suc (suc a)) = grind (arith, nat_tests, ne_eqb)
-left_at a = refl
+left_at a = grind (arith, ne_eqb)
 
 searched : IsSearched cycle (0 ∷ 1 ∷ []) no_answers cycle_answers
-searched = grind (arith, nat_tests, left_at, walked_searched, left, walk)
+searched = grind (arith, left_at, walked_searched, left, walk)
 
 pub returns : goal.returns
-returns c = record {
-  items = (refl, refl, refl);
-  order = (inr (refl, inr (refl, inr (refl, tt))), inr (refl, inr (refl, inr (refl, inr (refl, tt)))));
-  answers = searched;
-  only = λ slots other. same_searched cycle (0 ∷ 1 ∷ []) no_answers slots cycle_answers other searched;
-  work = refl;
-}
+returns c = grind (arith, same_searched cycle (0 ∷ 1 ∷ []) no_answers, searched)
