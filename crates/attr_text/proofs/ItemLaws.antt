@@ -1,6 +1,6 @@
 -- Each word has a form, and its item follows from the form.
-use Rattle.std.proofs.Common.{◌≡◌, ◌≢◌, ℕ, Bool, true, false, List, [], ◌∷◌, ◌++◌, drop, map, Result}
-use Rattle.std.proofs.Common.{refl, sym, ◌∙◌, arith, subst, inl, inr}
+use Rattle.std.proofs.lemmas.Grind.{common_steps}
+use Rattle.std.proofs.Common.{◌≡◌, ◌≢◌, ℕ, Bool, true, false, List, [], ◌∷◌, ◌++◌, drop, map, Result, refl, arith, subst, inl, inr}
 use Rattle.std.specs.List.{before_first, AllZip, position_or_len}
 use Rattle.std.proofs.Math.Seq.{drop-append-add}
 use Rattle.std.proofs.lemmas.List.{append-nil, take-append-drop}
@@ -8,7 +8,7 @@ use Rattle.std.proofs.lemmas.Bool.{cases_Bool, cases_eq, eqb-true}
 use Rattle.std.proofs.lemmas.Bool.Decides.{nat_tests}
 use Rattle.attr_wildmatch.specs.Bytes.{exclamation_mark, hyphen}
 use Rattle.attr_text.specs.Names.{is_valid_name, is_reserved_name}
-use Rattle.attr_text.specs.Items.{equals, is_equals, Refusal, checked_name, with_state, item_of, items_of}
+use Rattle.attr_text.specs.Items.{is_equals, Refusal, checked_name, with_state, item_of, items_of}
 use Rattle.attr_text.specs.ItemForms.{HasNoEquals, HasNoMark, IsValuePart, HasForm, name_alone, name_and_value, after_minus}
 use Rattle.attr_text.specs.ItemForms.{after_exclamation_mark, IsItem, accepted, bad_name, reserved_name}
 use Rattle.attr_text.specs.Words.{AreWords}
@@ -20,15 +20,13 @@ use Rattle.attr_text.proofs.WordLemmas.{drop-one_more}
 use Rattle.attr_text.proofs.WordLaws.{front_fails, runs_are_words}
 
 before-part : (name rest : List ℕ) → HasNoEquals name → IsValuePart rest → before_first is_equals (name ++ rest) ≡ name
-before-part name [] none part = grind (arith, append-nil name, before-whole name)
-before-part name (b ∷ value) none part = grind (arith, before-equals name value)
+before-part name rest none part = grind (arith, append-nil name, before-whole name, before-equals name)
 
 form-reads : (word name : List ℕ) (state : State) → HasForm word name state → item_of word ≡ with_state (checked_name name) state
 form-reads _ _ _ (name_alone name mark none) = grind (arith, nat_tests, before-whole name none, no_offset name none)
-form-reads _ _ _ (name_and_value name value mark none) =
-    grind (arith, nat_tests, before-equals name value none, offset-equals name value none, drop-append-add name (equals ∷ value) 1)
-form-reads _ _ _ (after_minus name rest none part) = grind (arith, nat_tests, before-part (hyphen ∷ name) rest none part)
-form-reads _ _ _ (after_exclamation_mark name rest none part) = grind (arith, nat_tests, before-part (exclamation_mark ∷ name) rest none part)
+form-reads _ _ _ (name_and_value name value mark none) = grind (arith, nat_tests, before-equals, offset-equals, drop-append-add)
+form-reads _ _ _ (after_minus name rest none part) = grind (arith, before-part (hyphen ∷ name) rest none part)
+form-reads _ _ _ (after_exclamation_mark name rest none part) = grind (arith, before-part (exclamation_mark ∷ name) rest none part)
 
 -- an item that the relation gives is the computed one
 pub item_only : (word : List ℕ) (item : Result Assignment Refusal) → IsItem word item → item ≡ item_of word
@@ -52,10 +50,7 @@ from_equals text = drop (position_or_len is_equals text) text
 
 value_part : (text : List ℕ) → IsValuePart (from_equals text)
 value_part [] = tt
-value_part (b ∷ bs) = elim (cases_Bool (is_equals b)) [
-  | inl e ↦ rw e (eqb-true b equals e)
-  | inr e ↦ rw (e, drop-one_more) (value_part bs)
-]
+value_part (b ∷ bs) = grind (arith, cases_Bool, eqb-true, drop-one_more, value_part bs)
 
 -- a text is the part before its first `=`, and the rest
 cut : (text : List ℕ) → before_first is_equals text ++ from_equals text ≡ text
@@ -66,16 +61,12 @@ Formed : List ℕ → Type 0
 Formed word = (name : List ℕ) × (state : State) × HasForm word name state
 
 unmarked : (b : ℕ) (bs name rest : List ℕ) → b ≢ hyphen → b ≢ exclamation_mark → name ++ rest ≡ b ∷ bs → HasNoMark name
-unmarked b bs [] rest no_minus no_bang whole = ((λ e. omega arith), (λ e. omega arith))
-unmarked b bs (c ∷ cs) rest no_minus no_bang whole = grind arith
+unmarked b bs name rest no_minus no_bang whole = grind (arith, common_steps)
 
 named-formed : (word name rest : List ℕ) → HasNoMark name → name ++ rest ≡ word → HasNoEquals name → IsValuePart rest → Formed word
 unfolding Formed
-named-formed word name [] mark whole none part =
-    (name, Set, subst (λ t. HasForm t name Set) (sym (append-nil name) ∙ whole) (name_alone name mark none))
-named-formed word name (c ∷ value) mark whole none part =
-    let spelled : name ++ equals ∷ value ≡ word = cc in
-    (name, Value value, subst (λ t. HasForm t name (Value value)) spelled (name_and_value name value mark none))
+named-formed word name [] mark whole none part = (name, Set, grind (arith, append-nil name, name_alone name))
+named-formed word name (c ∷ value) mark whole none part = (name, Value value, grind (arith, name_and_value name value))
 
 formed : (word : List ℕ) → Formed word
 unfolding Formed
@@ -83,27 +74,15 @@ formed [] = ([], Set, name_alone [] ((λ e. omega arith), (λ e. omega arith)) r
 formed (b ∷ bs) =
     let text = b ∷ bs in
     let name = before_first is_equals bs in
-    let rest = from_equals bs in
     elim (cases_eq b hyphen) [
-      | inl e ↦ (name, Unset, subst (λ t. HasForm t name Unset) (minus e) (after_minus name rest (front_fails is_equals bs) (value_part bs)))
+      | inl e ↦ (name, Unset, grind (arith, cut bs, after_minus name, front_fails is_equals bs, value_part bs))
       | inr no_minus ↦ elim (cases_eq b exclamation_mark) [
-        | inl e ↦ (
-          name,
-          Unspecified,
-          subst (λ t. HasForm t name Unspecified) (bang e)
-              (after_exclamation_mark name rest (front_fails is_equals bs) (value_part bs)),
-        )
+        | inl e ↦ (name, Unspecified, grind (arith, cut bs, after_exclamation_mark name, front_fails is_equals bs, value_part bs))
         | inr no_bang ↦
             let mark = unmarked b bs (before_first is_equals text) (from_equals text) no_minus no_bang (cut text) in
             named-formed text (before_first is_equals text) (from_equals text) mark (cut text) (front_fails is_equals text) (value_part text)
       ]
     ]
-  where
-    minus : b ≡ hyphen → hyphen ∷ (before_first is_equals bs ++ from_equals bs) ≡ b ∷ bs
-    minus e = grind (arith, cut bs)
-
-    bang : b ≡ exclamation_mark → exclamation_mark ∷ (before_first is_equals bs ++ from_equals bs) ≡ b ∷ bs
-    bang e = grind (arith, cut bs)
 
 item_of_formed : (word : List ℕ) → Formed word → IsItem word (item_of word)
 unfolding Formed
