@@ -13,9 +13,6 @@ use Rattle.attr_keys.specs.inner.Hashes.{AreStarts, IsBucketStart}
 use Rattle.attr_keys.proofs.Narrowing.{filter_drop}
 use Rattle.attr_keys.proofs.RowLemmas.{by_test}
 
-div_rises : (x y w : ℕ) → 0 < w → x ≤ y → x / w ≤ y / w
-div_rises x y w some le = let below = div-mul-le_self x w in le-div (x / w) y w some (omega arith)
-
 -- what is passed from an index on is not taken
 filter_front : {X : Type 0} (p : X → Bool) (d : X) (j : ℕ) (xs : List X) → ((k : ℕ) → j ≤ k → k < length xs → p (get_or xs k d) ≡ false) →
     filter p xs ≡ filter p (take j xs)
@@ -60,12 +57,20 @@ in_bucket width hash start end rows first second =
 pub start_here : (width bucket start : ℕ) (rows : List HashedRow) → 0 < width → IsNonDecreasingBy (λ h. h.hash) rows → start ≤ length rows →
     AllWithin (λ (h : HashedRow). h.hash / width < bucket) rows 0 start →
     (e : HashedRow) → start < length rows → bucket ≤ (get_or rows start e).hash / width → IsBucketStart width rows bucket start
-start_here width bucket start rows some order bound before e inside here = grind (arith, nat_tests, le_trans, div_rises, get_or_default, order start)
+start_here width bucket start rows some order bound before e inside here = grind (
+  arith,
+  nat_tests,
+  le_trans,
+  div-mul-le_self,
+  le-div,
+  get_or_default,
+  order start,
+)
 
 -- each hash has a bucket
 pub bucket_within : (width : ℕ) (rows : List HashedRow) (starts : List ℕ) → 2 ≤ width → AreStarts width rows starts →
     (hash index : ℕ) → hash < 2 ^ 64 → index ≡ hash / width → index + 1 < length starts
-bucket_within width rows starts wide are hash index fits is = grind (arith, nat_tests, div_rises)
+bucket_within width rows starts wide are hash index fits is = grind (arith, nat_tests, div-mul-le_self, le-div)
 
 -- the rows of a hash lie between two starts
 pub between_starts : (width : ℕ) (rows : List HashedRow) (starts : List ℕ) → 2 ≤ width → AreStarts width rows starts →

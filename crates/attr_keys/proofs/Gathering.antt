@@ -15,22 +15,17 @@ use Rattle.attr_keys.specs.shared.KeyContents.{KeyContent}
 use Rattle.attr_keys.specs.inner.Cases.{content_in_case, in_case, keys_seen, seen, seen_keys, seen_text}
 use Rattle.attr_keys.specs.inner.Extensions.{is_hashed, is_reversed_extension}
 use Rattle.attr_keys.specs.inner.Kinds.{is_of}
-use Rattle.attr_keys.specs.shared.Meeting.{directed, is_about, is_end, same_subject, text_has}
+use Rattle.attr_keys.specs.shared.Meeting.{directed, is_about, is_end, text_has}
 use Rattle.attr_keys.specs.inner.Orders.{AreFindable, AreSorted, AreSubjectRows, has_subject_row}
 use Rattle.attr_keys.specs.shared.Rows.{has_row}
 use Rattle.attr_keys.proofs.SeenTexts.{directed_in_case, directed_twice, seen_lower}
-
--- a key of a subject, as it is read for that subject
-seen_same : (subject : Subject) (fold : Bool) (key : KeyContent) → same_subject subject key.subject ≡ true →
-    seen fold (is_end subject) key ≡ content_in_case fold key
-seen_same subject fold key same = grind (arith, nat_tests, directed_twice)
 
 -- a test of a subject's keys, as they are read for it
 about_seen : (subject : Subject) (fold : Bool) (test : Option KeyContent → Bool) (keys : List KeyContent) (row : ℕ) →
     is_about subject (slice_get keys row) && test (slice_get (seen_keys fold (is_end subject) keys) row)
     ≡ is_about subject (slice_get (map (content_in_case fold) keys) row) && test (slice_get (map (content_in_case fold) keys) row)
 about_seen subject fold test (key ∷ keys) (suc row) = about_seen subject fold test keys row
-about_seen subject fold test keys row = grind (arith, nat_tests, seen_same)
+about_seen subject fold test keys row = grind (arith, nat_tests, directed_twice)
 
 -- the keys of lines, as they are read
 pub seen_by : {K : Type 0} (content : K → KeyContent) (keys : Keys K) (lines : List K) (fold from_end : Bool) → keys.lines.now ≡ lines →

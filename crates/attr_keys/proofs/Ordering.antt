@@ -1,22 +1,19 @@
 -- What a sort by codes makes of numbers.
-use Rattle.std.proofs.Common.{arith, ◌≡◌, ℕ, Bool, List, sym, eqb}
+use Rattle.std.proofs.Common.{arith, ◌≡◌, ℕ, Bool, List}
 use Rattle.std.proofs.lemmas.Bool.Decides.{nat_tests}
 use denote.Param.Members.{Mut}
 use denote.Ref.{Bor}
 use Rattle.std.specs.Cmp.Lexicographic.{slice_cmp, nat_list_cmp_total}
 use Rattle.std.specs.Cmp.{IsStrictWeakOrder}
 use Rattle.std.specs.Fn.{Called, ComparesAs}
-use Rattle.std.specs.List.Sorted.{IsPermutation, IsSortedBy}
+use Rattle.std.specs.List.Sorted.{IsSortedBy}
 use Rattle.std.specs.Ordering.{nat_cmp}
 use Rattle.std.specs.declared.cmp.Ordering.{Ordering}
 use Rattle.std.proofs.lemmas.Fn.{always_returns_same}
-use Rattle.std.proofs.lemmas.List.Sorted.{list_any-IsPermutation, ranks_by}
+use Rattle.std.proofs.lemmas.List.Sorted.{ranks_by}
 use Rattle.attr_keys.specs.shared.KeyContents.{KeyContent}
 use Rattle.attr_keys.specs.shared.Codes.{row_codes}
-use Rattle.attr_keys.specs.shared.Rows.{has_row, AreInOrder}
-
-pub same_rows : (before after : List ℕ) (row : ℕ) → IsPermutation before after → has_row after row ≡ has_row before row
-same_rows before after row moved = sym (list_any-IsPermutation (λ r. eqb r row) before after moved)
+use Rattle.attr_keys.specs.shared.Rows.{AreInOrder}
 
 -- a sort by a closure that compares codes
 pub sorted_by_codes : (keys : List KeyContent) {F : Type 0} {g : Mut F (Bor ℕ × (Bor ℕ × Unit {0})) Ordering} {f : F} (rows : List ℕ) →

@@ -102,16 +102,25 @@ module _ (keys : List KeyContent) (rows new : List ℕ) (start end : ℕ) (le : 
       let f = row_codes keys in
       sym (get_or-map f new k 0) ∙ ap (λ l. get_or l k (f 0)) (moved_codes alike) ∙ get_or-map f rows k 0
 
-  left_at : (k : ℕ) → k < start → get_or new k 0 ≡ get_or rows k 0
-  left_at k below = grind (arith, nat_tests, length-take, get_or_append_left, get_or-take)
-
   moved_at : (k : ℕ) → start ≤ k → k < end → get_or new k 0 ≡ get_or m.moved (k - start) 0
   moved_at k from below = grind (arith, nat_tests, length-take, get_or-append-add, get_or_append_left, length_permutation, length-drop)
 
   pub moved_raised : AreAlike keys rows start end → IsRaisedUpTo keys rows start →
       ((k : ℕ) → k + 1 ≡ start → row_codes keys (get_or rows k 0) ≢ row_codes keys (get_or rows start 0)) → IsRaisedUpTo keys new end
-  moved_raised alike raised apart k below same =
-      grind (arith, nat_tests, left_at, raised, apart, moved_at, code_at, alike, length_permutation, length-take, length-drop)
+  moved_raised alike raised apart k below same = grind (
+    arith,
+    nat_tests,
+    get_or_append_left,
+    get_or-take,
+    raised,
+    apart,
+    moved_at,
+    code_at,
+    alike,
+    length_permutation,
+    length-take,
+    length-drop,
+  )
 
   -- where the rows of one key end, that of the next one has another
   pub next_apart : AreAlike keys rows start end →

@@ -57,11 +57,8 @@ pub standing_seen : (fold from_end : Bool) (keys : List KeyContent) (row : ℕ) 
 standing_seen fold from_end (key ∷ keys) (suc row) = standing_seen fold from_end keys row
 standing_seen fold from_end keys row = grind (arith, nat_tests, directed_in_case, directed_twice)
 
-pub length-directed : (from_end : Bool) (text : List ℕ) → length (directed from_end text) ≡ length text
-length-directed from_end text = grind (arith, nat_tests, length-reverse)
-
 pub length-in_case : (fold : Bool) (text : List ℕ) → length (in_case fold text) ≡ length text
 length-in_case fold text = grind (arith, nat_tests, length-map)
 
 pub length-seen : (fold from_end : Bool) (text : List ℕ) → length (in_case fold (directed from_end text)) ≡ length text
-length-seen fold from_end text = length-in_case fold (directed from_end text) ∙ length-directed from_end text
+length-seen fold from_end text = grind (arith, nat_tests, length-map, length-reverse)

@@ -1,6 +1,4 @@
-use Rattle.std.proofs.lemmas.Bool.Decides.{nat_tests}
 use Rattle.std.proofs.Common.{◌≡◌, length, take, get_or, sym, ap, subst, ◌∙◌, arith}
-use Rattle.std.proofs.Math.Seq.{take-length}
 use Rattle.std.proofs.lemmas.List.{take_more}
 use Rattle.attr_keys.specs.declared.hashed.HashedRow.{HashedRow}
 use Rattle.attr_keys.specs.inner.Cases.{keys_seen}
@@ -28,9 +26,3 @@ loop-row-preserved g c =
       | else-len-longest w ↦ no_longer_push view.from_end keys c.loop-row.longest most (take index rows) row c.loop-row.invariant
           (omega (arith, w.longest-is)) (omega (arith, text, w.longest-is, w.if-len-longest.false))
     ])
-
-pub returns : goal.returns
-returns g c =
-    let rows = c.args.rows.now in
-    let all : c.loop-row.row-index ≡ length rows = omega (arith, c.loop-row-test.false, c.loop-row.auto.row-index-end) in
-    grind (arith, nat_tests, take-length, c.loop-row.invariant)

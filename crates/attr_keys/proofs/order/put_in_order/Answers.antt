@@ -1,10 +1,12 @@
-use Rattle.std.proofs.Common.{rules}
+use Rattle.std.proofs.Common.{arith, rules}
+use Rattle.std.proofs.lemmas.Bool.Decides.{nat_tests}
+use Rattle.std.proofs.lemmas.List.Sorted.{list_any-IsPermutation}
 use Rattle.attr_keys.specs.inner.Cases.{keys_seen}
-use Rattle.attr_keys.proofs.Ordering.{same_rows, sorted_by_codes}
+use Rattle.attr_keys.proofs.Ordering.{sorted_by_codes}
 use Rattle.attr_keys.proofs.order.put_in_order.Goals as goal
 
 pub returns-clause-rows : goal.returns-clause-rows
-returns-clause-rows g c = λ row. same_rows c.args.rows.now.items c.sort_unstable_by.new.self.items row c.sort_unstable_by.ensures.permutation
+returns-clause-rows g c = grind (arith, nat_tests, list_any-IsPermutation, c.sort_unstable_by.ensures.permutation)
 
 pub returns-clause-order : goal.returns-clause-order
 returns-clause-order g c =

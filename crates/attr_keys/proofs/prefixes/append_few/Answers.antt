@@ -1,6 +1,4 @@
-use Rattle.std.proofs.lemmas.Bool.Decides.{nat_tests}
-use Rattle.std.proofs.Common.{arith, true, sym, ap, ◌∙◌}
-use Rattle.std.proofs.lemmas.Grind.{common_steps}
+use Rattle.std.proofs.Common.{true, sym, ap, ◌∙◌}
 use Rattle.std.specs.Prelude.{slice_index}
 use Rattle.attr_keys.specs.shared.Meeting.{directed}
 use Rattle.attr_keys.proofs.SeenTexts.{codes_in_case}
@@ -11,6 +9,3 @@ has_prefix-requires-clause-text_first g c =
     let view = c.args.keys.view in
     c.first_code-text_first.ensures
     ∙ ap (λ l. slice_index l 0) (sym (codes_in_case view.fold (directed view.from_end c.args.text.now) true))
-
-pub loop-index-preserved : goal.loop-index-preserved
-loop-index-preserved g c = grind (arith, nat_tests, common_steps)
