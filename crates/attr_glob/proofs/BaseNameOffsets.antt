@@ -8,7 +8,7 @@ use Rattle.std.proofs.lemmas.List.{length-reverse, length-drop, reverse-append}
 use Rattle.std.proofs.lemmas.List.Folds.{prefix_len-append}
 use Rattle.std.proofs.lemmas.List.Sums.{suffix_len-le-length}
 use Rattle.attr_glob.specs.inner.OffsetsAfter.{offset_after}
-use Rattle.attr_glob.specs.BaseNames.{base_name, base_name_offset}
+use Rattle.attr_glob.specs.BaseNames.{base_name_offset}
 use Rattle.attr_wildmatch.specs.Slashes.{is_slash}
 
 abbrev no_slash : ℕ → Bool
@@ -32,15 +32,9 @@ pub data Name (path : List ℕ) : Type 0 where
   whole : list_any is_slash path ≡ false → name_len path ≡ length path → Name path
   below : list_any is_slash path ≡ true → name_len path < length path → Name path
 
-within_below-any : (b : ℕ) (bs : List ℕ) → list_any is_slash bs ≡ true → list_any is_slash (b ∷ bs) ≡ true
-within_below-any b bs any = grind arith
-
-name_within : (b : ℕ) (bs : List ℕ) → Name bs → Name (b ∷ bs)
-name_within b bs h = grind (arith, nat_tests, name_len-slash, name_len-longer, name_len-below)
-
 pub name_of : (path : List ℕ) → Name path
 name_of [] = whole refl refl
-name_of (b ∷ bs) = name_within b bs (name_of bs)
+name_of (b ∷ bs) = grind (arith, nat_tests, name_len-slash, name_len-longer, name_len-below, name_of bs)
 
 abbrev offset_onto : ℕ → Option ℕ → Option ℕ
 offset_onto b (Some offset) = Some (offset + 1)
@@ -58,7 +52,7 @@ offset-some : (path : List ℕ) → list_any is_slash path ≡ true → base_nam
 offset-some path any = grind (arith, nat_tests, length-drop, suffix_len-le-length)
 
 offset_within : (b : ℕ) (bs : List ℕ) → Name bs → base_name_offset (b ∷ bs) ≡ offset_onto b (base_name_offset bs)
-offset_within b bs h = grind (arith, nat_tests, name_len-slash, offset-none, name_len-below, offset-some, within_below-any)
+offset_within b bs h = grind (arith, nat_tests, name_len-slash, offset-none, name_len-below, offset-some)
 
 offset_of_is : (path : List ℕ) → base_name_offset path ≡ offset_of path
 offset_of_is [] = refl
@@ -73,7 +67,3 @@ offset_of-drop (suc n) [] = refl
 -- the offset of the base name after a front
 pub base_name_offset-drop : (n : ℕ) (path : List ℕ) → base_name_offset (drop n path) ≡ offset_after n (base_name_offset path)
 base_name_offset-drop n path = offset_of_is (drop n path) ∙ offset_of-drop n path ∙ ap (offset_after n) (sym (offset_of_is path))
-
--- without an offset the base name is the whole path
-pub base_name-whole : (path : List ℕ) → base_name_offset path ≡ None → path ≡ base_name path
-base_name-whole path = grind (arith, nat_tests, name_of)

@@ -20,9 +20,6 @@ record Digits (high middle low byte : ℕ) : Type 0 where
 digits_byte-three : (high middle low byte : ℕ) (more : List ℕ) → digits_byte (high ∷ middle ∷ low ∷ more) ≡ Some byte → Digits high middle low byte
 digits_byte-three high middle low byte more e = grind (arith, nat_tests)
 
-digits_byte-two : (high middle byte : ℕ) → digits_byte (high ∷ middle ∷ []) ≡ Some byte → ⊥
-digits_byte-two high middle byte e = grind (arith, nat_tests)
-
 -- the bytes after a backslash begin with the rest of a spelling
 pub record EscapeCut (bytes : List ℕ) (byte : ℕ) : Type 0 where
   pub tail : List ℕ
@@ -40,7 +37,7 @@ by_three high middle low byte more d =
     record { tail = high ∷ middle ∷ low ∷ []; others = more; whole = refl; spells = rw (h, m, l, d.value) at s }
 
 cut_digits : (bytes : List ℕ) (byte : ℕ) → digits_byte bytes ≡ Some byte → EscapeCut bytes byte
-cut_digits bytes byte e = grind (arith, common_steps, nat_tests, digits_byte-two, by_three, digits_byte-three)
+cut_digits bytes byte e = grind (arith, common_steps, nat_tests, by_three, digits_byte-three)
 
 cut_letter : (bytes : List ℕ) (byte : ℕ) → letter_byte (slice_index bytes 0) ≡ Some byte → EscapeCut bytes byte
 cut_letter [] byte e = absurd cc

@@ -44,16 +44,13 @@ pub undone-marked : (text : List ℕ) (k : ℕ) → BeginsQuoted text → positi
 undone-marked text k quoted e at_quote =
     grind (arith, nat_tests, position-Some is_mark, undone-quoted text quoted, undone_from-front 1 k, drop-cons, append-nil)
 
-find-mark : (text : List ℕ) (k : ℕ) → position is_mark (drop 1 text) ≡ Some k → find is_mark (drop 1 text) ≡ Some (get_or (drop 1 text) k 0)
-find-mark text k e = grind (arith, nat_tests, position-Some, find_at, slice_get-get_or)
-
 -- a first mark that is no quote is a backslash
 pub HoldsEscape-marked : (text : List ℕ) (k : ℕ) → BeginsQuoted text → position is_mark (drop 1 text) ≡ Some k → get_or (drop 1 text) k 0 ≢ quote →
     HoldsEscape text
-HoldsEscape-marked text k quoted e no_quote = grind (arith, nat_tests, position-Some, find-mark)
+HoldsEscape-marked text k quoted e no_quote = grind (arith, nat_tests, position-Some, find_at, slice_get-get_or)
 
 pub no_escape : (text : List ℕ) (k : ℕ) → position is_mark (drop 1 text) ≡ Some k → get_or (drop 1 text) k 0 ≡ quote → HoldsEscape text → ⊥
-no_escape text k e at_quote holds = grind (arith, nat_tests, find-mark)
+no_escape text k e at_quote holds = grind (arith, nat_tests, position-Some, find_at, slice_get-get_or)
 
 Contains-cons : (b : ℕ) (bytes : List ℕ) (x : ℕ) → Contains bytes x → Contains (b ∷ bytes) x
 Contains-cons b bytes x (k, inside, here) = (suc k, omega arith, here)

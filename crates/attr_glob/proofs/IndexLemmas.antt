@@ -1,12 +1,10 @@
 -- Patterns that are read the same, and lists of them.
-use Rattle.std.proofs.lemmas.Grind.{common_steps}
-use Rattle.std.proofs.Common.{◌≡◌, ℕ, suc, ◌+◌, ◌<◌, ◌≤◌, true, ◌&&◌, List, ◌∷◌, length, get_or, take, map, Option}
-use Rattle.std.proofs.Common.{sym, ap, ◌∙◌, arith, nat_eq, eq-eqb}
+use Rattle.std.proofs.Common.{◌≡◌, ℕ, suc, ◌<◌, ◌≤◌, true, ◌&&◌, List, ◌∷◌, length, get_or, take, map, Option, ap, arith, nat_eq, eq-eqb}
 use Rattle.std.specs.Option.{option_eq}
 use Rattle.std.specs.Cmp.Lexicographic.{pointwise, bytes_decides}
 use Rattle.std.proofs.lemmas.Bool.Decides.{nat_tests}
 use Rattle.std.proofs.lemmas.Bool.{eqb-true, and_parts, and_from}
-use Rattle.std.proofs.lemmas.List.{take_all, take_more, map-append}
+use Rattle.std.proofs.lemmas.List.{take_all}
 use Rattle.attr_glob.specs.declared.pattern.Pattern.{Pattern}
 use Rattle.attr_glob.specs.declared.search.pattern.Mapping.{Mapping}
 use Rattle.attr_glob.specs.declared.search.pattern.indexed_line.IndexedLine.{IndexedLine}
@@ -41,12 +39,6 @@ same_read x y e =
 abbrev pub pattern_in : IndexedLine → Reading
 pattern_in line = pattern_view line.pattern
 
--- one more pattern that is read the same
-pub lines_more : {V : Type 0} (xs : List IndexedLine) (ys : List (Mapping V)) (i : ℕ) (d : IndexedLine) (e : Mapping V) →
-    i < length xs → i < length ys → map pattern_in (take i xs) ≡ patterns_of (take i ys) →
-    pattern_in (get_or xs i d) ≡ pattern_view (get_or ys i e).pattern → map pattern_in (take (i + 1) xs) ≡ patterns_of (take (i + 1) ys)
-lines_more xs ys i d e ltx lty same here = grind (arith, common_steps, nat_tests, take_more, map-append)
-
 -- lists that are read the same are so at each index
 pub lines_at : {V : Type 0} (xs : List IndexedLine) (ys : List (Mapping V)) (i : ℕ) (d : IndexedLine) (e : Mapping V) →
     i < length xs → i < length ys → map pattern_in xs ≡ patterns_of ys → pattern_in (get_or xs i d) ≡ pattern_view (get_or ys i e).pattern
@@ -55,8 +47,3 @@ lines_at xs ys i d e ltx lty same = grind (arith, nat_tests)
 
 pub take_whole : {X : Type 0} (xs : List X) (i : ℕ) → length xs ≤ i → take i xs ≡ xs
 take_whole xs i h = take_all i xs h
-
--- all patterns are read the same
-pub lines_all : {V : Type 0} (xs : List IndexedLine) (ys : List (Mapping V)) (i : ℕ) → length xs ≤ i → length ys ≤ i → map pattern_in (take i xs) ≡
-    patterns_of (take i ys) → map pattern_in xs ≡ patterns_of ys
-lines_all xs ys i lx ly e = ap (map pattern_in) (sym (take_whole xs i lx)) ∙ e ∙ ap patterns_of (take_whole ys i ly)

@@ -47,9 +47,6 @@ pointwise-unlike : (case : Case) (text value : List ℕ) → length text ≢ len
 pointwise-unlike case (c ∷ cs) (b ∷ bs) h = grind (arith, nat_tests, and_false, pointwise-unlike case cs bs)
 pointwise-unlike case text value h = grind (arith, nat_tests)
 
-drop-none : (n : ℕ) → drop {A = ℕ} n [] ≡ []
-drop-none n = grind (arith, nat_tests)
-
 and_true : (a : Bool) → a ≡ (a && true)
 and_true a = grind (arith, nat_tests)
 
@@ -57,11 +54,6 @@ and_true a = grind (arith, nat_tests)
 end_longer : (case : Case) (text : List ℕ) (b : ℕ) (bs : List ℕ) → length text ≤ length bs →
     ends_with (same_byte case) (b ∷ bs) text ≡ ends_with (same_byte case) bs text
 end_longer case text b bs l = grind (arith, nat_tests)
-
--- the end of a value that is no longer is all of it
-end_whole : (case : Case) (text value : List ℕ) → length value ≤ length text →
-    ends_with (same_byte case) value text ≡ pointwise (same_byte case) text value
-end_whole case text value l = grind (arith, nat_tests)
 
 -- what is before the end of a longer value has its first byte
 before_longer : (text : List ℕ) (b : ℕ) (bs : List ℕ) → length text ≤ length bs →
@@ -75,10 +67,19 @@ before_none text value l = grind (arith, nat_tests)
 
 -- a star and then bytes that stand for themselves take a value that ends with these, and has no slash before
 star_then-end : (case : Case) (text value : List ℕ) → star_then (matches case (literals text)) value ≡ ends_after_star case value text
-star_then-end case text [] = grind (arith, nat_tests, matches-literals, drop-none, and_true)
-star_then-end case text (b ∷ bs) =
-    let fact = star_then-end case text bs in
-    grind (arith, nat_tests, matches-literals, pointwise-unlike, before_longer, end_longer, end_whole, and_false, and_true, before_none, fact)
+star_then-end case text [] = grind (arith, nat_tests, matches-literals, and_true)
+star_then-end case text (b ∷ bs) = grind (
+  arith,
+  nat_tests,
+  matches-literals,
+  pointwise-unlike,
+  before_longer,
+  end_longer,
+  and_false,
+  and_true,
+  before_none,
+  star_then-end case text bs,
+)
 
 -- one star, and after it no wildcard
 tokens-suffix : (text : List ℕ) → list_any is_wildcard text ≡ false → tokens (asterisk ∷ text) ≡ Some (star ∷ literals text)
@@ -97,11 +98,6 @@ text_matches-suffix case (b ∷ bs) value h =
   where
     no_more : (a : Bool) → not a ≡ true → a ≡ false
     no_more a e = grind (arith, nat_tests)
-
--- so a value that it takes ends with what follows the star
-pub suffix-ends : (case : Case) (text value : List ℕ) → is_suffix text ≡ true → text_matches case text value ≡ true →
-    ends_with (same_byte case) value (drop 1 text) ≡ true
-suffix-ends case text value h m = grind (arith, nat_tests, and_parts, text_matches-suffix)
 
 -- the value begins with the byte, and the tokens after it take the rest
 record Taken (case : Case) (c : ℕ) (o : Option (List Token)) (value : List ℕ) : Type 0 where

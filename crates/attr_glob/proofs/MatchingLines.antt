@@ -1,4 +1,5 @@
 -- A line that matches a path is a candidate for it, so that a search may pass over all others.
+use Rattle.attr_glob.proofs.Literals.{text_matches-suffix, text_matches-literal, no_wildcard}
 use Rattle.std.proofs.Common.{◌≡◌, ℕ, Bool, true, false, cond, not, ◌||◌, List, ◌∷◌, length, drop, Option, Some, refl, arith, nat_eq}
 use Rattle.std.specs.Prelude.{is_none}
 use Rattle.std.specs.List.{ends_with as ends_with_list}
@@ -16,7 +17,6 @@ use Rattle.attr_glob.specs.Paths.{matched_part, is_directory, path_matches}
 use Rattle.attr_glob.specs.Patterns.{Reading, reading, has_flag, ends_with, must_be_dir}
 use Rattle.attr_wildmatch.proofs.ForCallers.{by_test, and_parts}
 use Rattle.attr_glob.proofs.PathLemmas.{reading-wildcard, reading-ends_with}
-use Rattle.attr_glob.proofs.Literals.{text_matches-literal, suffix-ends, no_wildcard}
 
 -- texts are the same byte by byte just if they fold to the same
 pub bytewise : (case : Case) (x y : List ℕ) → pointwise (same_byte case) x y ≡ pointwise nat_eq (folded case x) (folded case y)
@@ -41,7 +41,14 @@ has_key_if_matched : (case : Case) (text : List ℕ) (r : Reading) (base : List 
     has_key case base (cond literal (name r.text) (cond suffix (end (drop 1 r.text)) anything)) ≡ true
 has_key_if_matched case text r base read m true literal suffix flag =
     grind (arith, nat_tests, reading-wildcard text r read, bytewise case r.text base, no_wildcard, text_matches-literal)
-has_key_if_matched case text r base read m false literal true flag = grind (arith, nat_tests, ends_folded, suffix-ends, reading-ends_with)
+has_key_if_matched case text r base read m false literal true flag = grind (
+  arith,
+  nat_tests,
+  ends_folded,
+  and_parts,
+  text_matches-suffix,
+  reading-ends_with,
+)
 has_key_if_matched case text r base read m false literal false flag = refl
 
 -- a line that matches a path is a candidate for its base name

@@ -1,9 +1,9 @@
 -- What a pattern is matched against, and what is known of a pattern that was read.
-use Rattle.std.proofs.Common.{◌≡◌, ℕ, suc, ◌-◌, ◌<◌, ◌≤◌, Bool, true, false, not, ◌||◌, List, [], ◌∷◌, ◌++◌, reverse, length, get_or}
+use Rattle.std.proofs.Common.{◌≡◌, ℕ, suc, ◌-◌, ◌<◌, ◌≤◌, Bool, true, false, not, ◌||◌, List, [], ◌∷◌, length, get_or}
 use Rattle.std.proofs.Common.{position, Option, Some, None, refl, subst, arith}
-use Rattle.std.specs.List.{list_any, prefix_len}
+use Rattle.std.specs.List.{list_any}
 use Rattle.std.proofs.lemmas.Bool.Decides.{nat_tests}
-use Rattle.std.proofs.lemmas.List.{length-reverse, length-drop}
+use Rattle.std.proofs.lemmas.List.{length-drop}
 use Rattle.std.proofs.lemmas.List.Sums.{suffix_len_is}
 use Rattle.attr_wildmatch.specs.declared.case.Case.{Case}
 use Rattle.attr_glob.specs.Patterns.{Reading, reading, read_rest, is_wildcard, is_suffix, is_negated, without_negation}
@@ -11,8 +11,8 @@ use Rattle.attr_glob.specs.Patterns.{has_flag, ends_with, must_be_dir, negative}
 use Rattle.attr_wildmatch.specs.Slashes.{is_slash}
 use Rattle.attr_wildmatch.specs.Deciding.{text_matches}
 use Rattle.attr_glob.specs.Paths.{matched_part, is_directory, PathMatches, path_matches}
-use Rattle.attr_glob.specs.BaseNames.{base_name, base_name_offset}
-use Rattle.attr_wildmatch.proofs.ForCallers.{by_test, and_parts, and_both, or_left, or_right, reverse-cons, text_match_of_test, test_of_text_match}
+use Rattle.attr_glob.specs.BaseNames.{base_name_offset}
+use Rattle.attr_wildmatch.proofs.ForCallers.{and_parts, and_both, or_left, or_right, text_match_of_test, test_of_text_match}
 use Rattle.attr_glob.proofs.Modes.{added-ends_with}
 
 read_is : (text : List ℕ) (r : Reading) → reading text ≡ Some r → read_rest (is_negated text) (without_negation text) ≡ r
@@ -37,23 +37,6 @@ path_match_of_test case r path is_dir h = grind (arith, nat_tests, and_parts, te
 pub test_of_path_match : (case : Case) (r : Reading) (path : List ℕ) (is_dir : Option Bool) → PathMatches case r path is_dir → path_matches case r
     path is_dir ≡ true
 test_of_path_match case r path is_dir m = grind (arith, nat_tests, and_both, test_of_text_match)
-
--- where all pass, the test holds up to the end
-all_pass : (p : ℕ → Bool) (xs : List ℕ) → list_any p xs ≡ false → prefix_len (λ x. not (p x)) xs ≡ length xs
-all_pass p [] h = refl
-all_pass p (x ∷ xs) h = by_test (p x) (λ t. let e = rw t at h in cc) (λ f. rw f (let rest = all_pass p xs (rw f at h) in omega (arith, rest)))
-
-list_any-append : (p : ℕ → Bool) (xs ys : List ℕ) → list_any p xs ≡ false → list_any p ys ≡ false → list_any p (xs ++ ys) ≡ false
-list_any-append p [] ys h k = k
-list_any-append p (x ∷ xs) ys h k = by_test (p x) (λ t. let e = rw t at h in cc) (λ f. rw f (list_any-append p xs ys (rw f at h) k))
-
-list_any-reverse : (p : ℕ → Bool) (xs : List ℕ) → list_any p xs ≡ false → list_any p (reverse xs) ≡ false
-list_any-reverse p [] h = refl
-list_any-reverse p (x ∷ xs) h = grind (arith, nat_tests, reverse-cons, list_any-append, list_any-reverse p xs)
-
--- a path without a slash is its own base name
-pub base_name-whole : (path : List ℕ) → list_any is_slash path ≡ false → base_name path ≡ path
-base_name-whole path h = grind (arith, nat_tests, all_pass, list_any-reverse, length-reverse)
 
 -- where the path's kind fits, an answer for the matched part is that for the path
 pub path_answer : (case : Case) (r : Reading) (path part : List ℕ) (is_dir : Option Bool) (answer : Bool) →

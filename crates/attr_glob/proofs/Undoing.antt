@@ -28,9 +28,6 @@ undone_from-left offset left bytes = grind (arith, nat_tests, add-zero)
 pub with_front-append : (front more : List ℕ) (rest : Undone) → with_front (front ++ more) rest ≡ with_front front (with_front more rest)
 with_front-append front more rest = grind (arith, nat_tests, append_assoc)
 
-piece-plain : (first : ℕ) (tail : List ℕ) → first ≢ quote → first ≢ backslash → piece first tail ≡ spelled first 0
-piece-plain first tail no_quote no_backslash = grind (arith, nat_tests)
-
 -- an escape lies within the bytes
 escaped-length : (tail : List ℕ) (escape : ℕ × ℕ) → escaped tail ≡ Some escape → escape.1 ≤ length tail
 escaped-length tail escape e = grind (arith, nat_tests, get_or_past)
@@ -47,10 +44,17 @@ undone_from-more text plain offset byte left inside e whole so_far =
 pub undone_from-plain : (text plain : List ℕ) (offset : ℕ) → offset < length text → get_or text offset 0 ≢ quote → get_or text offset 0 ≢ backslash →
     (whole : Undone) → whole ≡ with_front plain (undone_from offset 0 (drop offset text)) → whole ≡ with_front (plain ++ get_or text offset 0 ∷ [])
     (undone_from (offset + 1) 0 (drop (offset + 1) text))
-undone_from-plain text plain offset inside no_quote no_backslash whole so_far =
-    let more = undone_from-more text plain offset (get_or text offset 0) 0 inside
-    (piece-plain (get_or text offset 0) (drop (offset + 1) text) no_quote no_backslash) whole so_far in
-    rw add-zero at more
+undone_from-plain text plain offset inside no_quote no_backslash whole so_far = grind (
+  arith,
+  nat_tests,
+  common_steps,
+  drop-cons,
+  undone_from-piece,
+  undone_from-left,
+  drop-drop,
+  with_front-append,
+  add-zero,
+)
 
 pub record EscapeTurn (text plain : List ℕ) (offset : ℕ) (escape : ℕ × ℕ) (whole : Undone) : Type 0 where
   pub inside : offset + (1 + escape.1) ≤ length text
