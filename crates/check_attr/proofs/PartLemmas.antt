@@ -178,10 +178,8 @@ pub number_before-only : (stop : ℕ) (bytes : List ℕ) (n : ℕ) (rest : List 
     → IsHeaderNumber n × (bytes ≡ decimal n ++ stop ∷ rest)
 number_before-only stop bytes n rest e =
     let at = then-some (split_once stop bytes) _ (n, rest) e in
-    let read = if-some (is_number at.0.0) (digits_value at.0.0, at.0.1) (n, rest) at.2 in
     let parted = split_once-only stop bytes at.0.0 at.0.1 at.1 in
-    let number = is_number-only at.0.0 read.0 in
-    grind (arith, nat_tests)
+    grind (arith, nat_tests, if-some, is_number-only)
 
 -- ---- parts of a length
 

@@ -85,9 +85,7 @@ module _ {W : Type 0} (contents : W → Option (List ℕ)) (failed stalled : W �
   pub passes_then : {T : Type 0} (a b c : W) (held held' rest text : List ℕ) (r : Result T Fault) → Holds a b (held ++ rest) text
       → Passes contents failed stalled b c held' held r → Passes contents failed stalled a c (held' ++ rest) text r
   passes_then a b c held held' rest text (Ok x) h p =
-      let joined : (h.0.0 ++ p.0.0) ++ (held' ++ rest) ≡ text =
-      append_assoc h.0.0 p.0.0 (held' ++ rest)
-      ∙ (ap (λ l. h.0.0 ++ l) (sym (append_assoc p.0.0 held' rest) ∙ ap (λ l. l ++ rest) p.0.2) ∙ h.0.2) in
+      let joined : (h.0.0 ++ p.0.0) ++ (held' ++ rest) ≡ text = grind (arith, nat_tests, append_assoc) in
       ((h.0.0 ++ p.0.0, Appends-trans (contents a) (contents b) (contents c) h.0.0 p.0.0 h.0.1 p.0.1, joined), p.1 ∙ h.1, p.2 ∙ h.2)
   passes_then a b c held held' rest text (Err (Record k)) h p = p
   passes_then a b c held held' rest text (Err Read) h p = p
@@ -105,24 +103,14 @@ module _ {W : Type 0} (contents : W → Option (List ℕ)) (failed stalled : W �
 
   pub stops_of : (T : Type 0) (a b : W) (held text : List ℕ) (e : Fault) → Passes {T = T} contents failed stalled a b held text (Err e)
       → Stops a b text e
-  stops_of T a b held text (Record k) p = p
-  stops_of T a b held text Read p = p
-  stops_of T a b held text Write p = p
-  stops_of T a b held text OutOfMemory p = p
+  stops_of T a b held text e p = grind (arith, nat_tests)
 
   pub stops_front : (a b : W) (text : List ℕ) (e : Fault) → Stops a b text e → AppendsFront (contents a) (contents b) text
-  stops_front a b text (Record k) p = absurd p
-  stops_front a b text Read p = absurd p
-  stops_front a b text Write p = p.0
-  stops_front a b text OutOfMemory p = p.0
+  stops_front a b text e p = grind (arith, nat_tests)
 
   pub stops_as : {U : Type 0} (a b : W) (held text : List ℕ) (e : Fault) (r : Result U Fault) → IsErrAnd r (λ x. x ≡ e) → Stops a b text e
       → Passes contents failed stalled a b held text r
-  stops_as a b held text e (Ok x) is p = absurd is
-  stops_as a b held text e (Err (Record k)) is p = subst (Stops a b text) (sym is) p
-  stops_as a b held text e (Err Read) is p = subst (Stops a b text) (sym is) p
-  stops_as a b held text e (Err Write) is p = subst (Stops a b text) (sym is) p
-  stops_as a b held text e (Err OutOfMemory) is p = subst (Stops a b text) (sym is) p
+  stops_as a b held text e r is p = grind (arith, nat_tests)
 
   pub stops_then : (a b c : W) (held rest text : List ℕ) (e : Fault) → Holds a b (held ++ rest) text → Stops b c held e → Stops a c text e
   stops_then a b c held rest text (Record k) h p = p
@@ -136,10 +124,7 @@ module _ {W : Type 0} (contents : W → Option (List ℕ)) (failed stalled : W �
 
   -- what is written is the beginning of a longer text too
   pub stops_longer : (a b : W) (text more : List ℕ) (e : Fault) → Stops a b text e → Stops a b (text ++ more) e
-  stops_longer a b text more (Record k) p = p
-  stops_longer a b text more Read p = p
-  stops_longer a b text more Write p = (Front-longer (contents a) (contents b) text more p.0, p.1)
-  stops_longer a b text more OutOfMemory p = (Front-longer (contents a) (contents b) text more p.0, p.1, p.2)
+  stops_longer a b text more e p = grind (arith, nat_tests, Front-longer)
 
   -- memory was refused
   pub passes_refused : {U : Type 0} (a b : W) (held held' text : List ℕ) (r : Result U Fault) → IsErrAnd r (λ x. x ≡ OutOfMemory)
@@ -153,11 +138,7 @@ module _ {W : Type 0} (contents : W → Option (List ℕ)) (failed stalled : W �
   -- memory was refused before anything was passed on
   pub refused_at_once : {U : Type 0} (a : W) (held text : List ℕ) (r : Result U Fault) → IsErrAnd r (λ x. x ≡ OutOfMemory)
       → Passes contents failed stalled a a held text r
-  refused_at_once a held text (Ok x) is = absurd is
-  refused_at_once a held text (Err (Record k)) is = absurd cc
-  refused_at_once a held text (Err Read) is = absurd cc
-  refused_at_once a held text (Err Write) is = absurd cc
-  refused_at_once a held text (Err OutOfMemory) is = (nothing_written (contents a) text, refl, refl)
+  refused_at_once a held text r is = grind (arith, nat_tests, nothing_written)
 
   -- nothing was passed on
   pub passes_nothing : (a : W) (held : List ℕ) → Holds a a held (held ++ [])
@@ -165,8 +146,7 @@ module _ {W : Type 0} (contents : W → Option (List ℕ)) (failed stalled : W �
 
   -- more is held, and more is the text
   pub holds_more : (a b : W) (held text more : List ℕ) → Holds a b held text → Holds a b (held ++ more) (text ++ more)
-  holds_more a b held text more h =
-      ((h.0.0, h.0.1, sym (append_assoc h.0.0 held more) ∙ ap (λ l. l ++ more) h.0.2), h.1, h.2)
+  holds_more a b held text more h = grind (arith, nat_tests, append_assoc)
 
   pub passes_on : {T : Type 0} (a b c : W) (held held' text : List ℕ) (r : Result T Fault) → Holds a b held text
       → Passes contents failed stalled b c held' held r → Passes contents failed stalled a c held' text r
@@ -179,10 +159,7 @@ module _ {W : Type 0} (contents : W → Option (List ℕ)) (failed stalled : W �
   -- the text of the first thing is held
   pub pushed : {X : Type 0} (f : X → List ℕ) (a b : W) (held held' text : List ℕ) (x : X) (all xs : List X)
       → Holds a b (held ++ flat_map f all) text → all ≡ x ∷ xs → held' ≡ held ++ f x → Holds a b (held' ++ flat_map f xs) text
-  pushed f a b held held' text x all xs h first more =
-      let joined : held ++ flat_map f all ≡ held' ++ flat_map f xs =
-      ap (λ l. held ++ flat_map f l) first ∙ (sym (append_assoc held (f x) (flat_map f xs)) ∙ ap (λ l. l ++ flat_map f xs) (sym more)) in
-      subst (λ l. Holds a b l text) joined h
+  pushed f a b held held' text x all xs h first more = grind (arith, nat_tests, append_assoc)
 
   -- no thing is left
   pub all_passed : {X : Type 0} (f : X → List ℕ) (a b : W) (held text : List ℕ) (all : List X) → Holds a b (held ++ flat_map f all) text → all ≡ []

@@ -2,7 +2,7 @@
 use Rattle.std.proofs.lemmas.Bool.Decides.{nat_tests}
 use Rattle.std.proofs.Common.{◌≡◌, ℕ, ◌-◌, ◌<◌, Bool, true, false, List, [], ◌∷◌, ◌++◌, Option, Some, None, option_map}
 use Rattle.std.proofs.Common.{arith, append_assoc, append-nil}
-use Rattle.std.specs.Prelude.{if◌then◌else◌, Result, Ok, Err, MatchResult}
+use Rattle.std.specs.Prelude.{if◌then◌else◌, Result, MatchResult}
 use Rattle.std.specs.Borrow.{Bor}
 use Rattle.std.specs.Option.{option_copied}
 use Rattle.std.specs.Result.{result_ok}
@@ -55,5 +55,4 @@ not_true b h = grind (arith, nat_tests)
 pub text_is : {E : Type 0} (r : Result (Bor (List ℕ)) E) (bytes : List ℕ) (P : E → Type 0)
     → MatchResult r (λ s. (s.now ≡ bytes) × IsUtf8 bytes) (λ e. ¬ (IsUtf8 bytes) × P e)
     → option_copied (result_ok r) ≡ (if is_utf8 bytes then Some bytes else None)
-text_is (Ok s) bytes P h = grind (arith, nat_tests, is_utf8-from_IsUtf8)
-text_is (Err e) bytes P h = grind (arith, nat_tests, not_true, IsUtf8-from_is_utf8)
+text_is r bytes P h = grind (arith, nat_tests, is_utf8-from_IsUtf8, not_true, IsUtf8-from_is_utf8)

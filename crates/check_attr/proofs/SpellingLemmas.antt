@@ -247,10 +247,7 @@ addition_of-only h bytes after a rest is e =
     let r = root_of-only h.root source.0.1 root.0.0 root.0.1 root.1 in
     let b = split_at-only h.buffer root.0.1 buffer.0.0 buffer.0.1 buffer.1 in
     let n = strip_prefix-only (codes "\n") buffer.0.1 end.0 end.1 in
-    let root_is : length_word h.root ≡ root_word root.0.0 = ap length_word (sym r.0) ∙ root_word-length root.0.0 in
-    let parts : after ≡ source.0.0 ++ (unwrap_or root.0.0 [] ++ (buffer.0.0 ++ line_feed ∷ end.0)) =
-    s.2 ∙ ap (λ xs. source.0.0 ++ xs) (r.2 ∙ ap (λ xs. unwrap_or root.0.0 [] ++ xs) (b.1 ∙ ap (λ xs. buffer.0.0 ++ xs) n)) in
-    grind (arith, nat_tests, short_root)
+    grind (arith, nat_tests, root_word-length, short_root)
 
 ask_header-only : (bytes : List ℕ) (h : AskHeader) (rest : List ℕ) → ask_header bytes ≡ Some (h, rest)
     → bytes ≡ form_word h.form ++ space ∷ (case_word h.case ++ space ∷ (directory_word h.is_dir ++ space ∷ rest))
@@ -269,8 +266,7 @@ question_of-only h bytes q rest e =
     let end = map-some _ (strip_prefix (codes "\n") path.0.1) _ path.2 in
     let c = number_before-only line_feed bytes count.0.0 count.0.1 count.1 in
     let p = split_at-only count.0.0 count.0.1 path.0.0 path.0.1 path.1 in
-    let n = strip_prefix-only (codes "\n") path.0.1 end.0 end.1 in
-    grind (arith, nat_tests, manner_of)
+    grind (arith, nat_tests, strip_prefix-only, codes, manner_of)
 
 text_lines-only : (n : ℕ) (bytes : List ℕ) (lines : List (List ℕ)) (rest : List ℕ) → text_lines n bytes ≡ Some (lines, rest)
     → (length lines ≡ n) × All IsNameLine lines × (bytes ≡ flat_map ended_line lines ++ rest)
@@ -315,8 +311,7 @@ ask_record-only bytes after whole r rest e =
     let h = then-some (ask_header after) _ (r, rest) e in
     let q = map-some _ (question_of h.0.0 h.0.1) (r, rest) h.2 in
     let is = question_of-only h.0.0 h.0.1 q.0.0 q.0.1 q.1 in
-    let words : AskHeader → List ℕ → List ℕ = λ m xs. form_word m.form ++ space ∷ (case_word m.case ++ space ∷
-    (directory_word m.is_dir ++ space ∷ xs)) in grind (arith, nat_tests, codes, ask_header-only)
+    grind (arith, nat_tests, codes, ask_header-only)
 
 pop-only : (bytes after : List ℕ) → bytes ≡ codes "pop\n" ++ after → ReadAs bytes (Some (pop, after))
 unfolding ReadAs text_with onto

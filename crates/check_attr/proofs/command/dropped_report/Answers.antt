@@ -1,12 +1,9 @@
-use Rattle.std.proofs.Common.{rules, ◌∙◌, ◌++◌, None, refl, ap, string_bytes}
+use Rattle.std.proofs.Common.{◌∙◌, ◌++◌, None, refl, ap, string_bytes}
 use Rattle.std.specs.List.{flat_map}
 use Rattle.std.proofs.lemmas.Slice.Zip.{either_empty_from_Zip}
 use Rattle.check_attr.specs.ScriptText.{dropped_text}
 use Rattle.check_attr.proofs.GlobalLemmas.{dropped_report_of, one_reported, all_reported}
 use Rattle.check_attr.proofs.command.dropped_report.Goals as goal
-
-pub loop-name-init : goal.loop-name-init
-loop-name-init c = search rules
 
 pub loop-name-preserved : goal.loop-name-preserved
 loop-name-preserved c =
