@@ -7,7 +7,7 @@ use crate::scenes::Stage;
 use attr_glob::search::Pattern;
 use attr_glob::search::pattern::Mapping;
 use attr_lists::name_table::NameTable;
-use attr_lists::types::{AttributeId, Attributes, TrackedAssignment, Value};
+use attr_lists::types::{Attributes, TrackedAssignment, Value};
 use std::alloc::{AllocError, Global};
 use std::fmt::Write;
 use std::mem;
@@ -137,18 +137,6 @@ fn expect_bodies_copied(alloc: Global, table: &NameTable) -> Result<(), Fault> {
         expect_equal(&metadata.clone(alloc)?, metadata)?;
     }
     Ok(())
-}
-
-/// Whether no line of a list and no item has a number.
-pub(crate) fn are_without_numbers(list: &[Mapping<Value>]) -> bool {
-    let none = AttributeId::default();
-    list.iter().all(|mapping| {
-        let is_without = match &mapping.value {
-            Value::MacroAssignments { id, .. } => *id == none,
-            Value::Assignments(_) => true,
-        };
-        is_without && items_of(&mapping.value).iter().all(|item| item.id == none)
-    })
 }
 
 fn first_number(table: &NameTable, name: &str) -> Option<usize> {

@@ -2,7 +2,6 @@
 
 use crate::engines::addition;
 use crate::fault::Fault;
-use crate::numbers::are_without_numbers;
 use crate::row::Row;
 use crate::scenes::Stage;
 use bstr::BStr;
@@ -348,7 +347,7 @@ fn push_known(collection: &MetadataCollection, out: &mut String) -> Result<(), A
     Ok(())
 }
 
-// A call that finds no memory is made again, and the names before that are reported, too: there are none.
+// A call that finds no memory is made again. It leaves the list as it was, and the names, which are reported, too: there are none.
 fn push_numbered(
     list: &mut List<Attributes>,
     collection: &mut MetadataCollection,
@@ -358,8 +357,9 @@ fn push_numbered(
     if !MetadataCollection::macros_valid(list) {
         return Err(Fault::NotARow);
     }
+    let before = list.clone(alloc).or_else(|_| list.clone(alloc))?;
     if collection.update_from_list(alloc, list).is_err() {
-        if !are_without_numbers(&list.patterns) {
+        if *list != before {
             return Err(Fault::Changed);
         }
         push_known(collection, out)?;
