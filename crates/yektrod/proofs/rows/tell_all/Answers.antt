@@ -42,7 +42,3 @@ returns-clause-rows c =
     let fact = c.num_answers-i-end.ensures in
     let fact2 = c.loop-i.invariant.rows in
     grind (arith, nat_tests, unwrap_or, length-map-range_with_len, laid_in_room_all, fact, c.labelled.ensures, c.loop-i-test.false, fact2)
-
-pub returns-clause-text : goal.returns-clause-text
-returns-clause-text c =
-    grind (arith, nat_tests, unwrap_or, take_all, c.num_answers-i-end.ensures, c.labelled.ensures, c.loop-i-test.false, c.loop-i.invariant.text)

@@ -9,9 +9,6 @@ nowhere = record { ref_ptr = (0, 0); now = [] }
 abbrev IsRead : Bor (List ℕ) → Type 0
 IsRead name = IsUtf8 name.now
 
-pub returns-in_default : goal.returns-in_default
-returns-in_default c = ((λ no. absurd cc), (λ all. absurd (c.in_default.ensures.cases.0 (all c.loop-name.name-index nowhere c.loop-name-test.true))))
-
 pub loop-name-preserved : goal.loop-name-preserved
 loop-name-preserved c =
     All-more IsRead c.args.names.now c.loop-name.name-index nowhere c.loop-name-test.true c.loop-name.invariant c.in-Ok.ensures.cases.1

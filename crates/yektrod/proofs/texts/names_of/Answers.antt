@@ -12,9 +12,6 @@ text_of name = name.now
 abbrev IsRead : Bor (List ℕ) → Type 0
 IsRead name = IsUtf8 name.now
 
-pub returns-in_default : goal.returns-in_default
-returns-in_default c = λ all. c.in_default.ensures.cases.0 (all c.loop-name.name-index nowhere c.loop-name-test.true)
-
 pub loop-name-preserved : goal.loop-name-preserved
 loop-name-preserved c =
     let names = c.args.names.now in let i = c.loop-name.name-index in
