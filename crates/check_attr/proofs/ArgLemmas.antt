@@ -1,4 +1,5 @@
 -- One argument, and the text that it is.
+use Rattle.std.proofs.lemmas.Bool.Decides.{nat_tests}
 use Rattle.std.proofs.Common.{◌≡◌, ℕ, List, [], ◌∷◌, length, get_or, sym, ap, arith}
 
 -- a list of one item
@@ -6,6 +7,3 @@ pub one_item : {A : Type 0} (items : List A) (x : A) → length items ≡ 1 → 
 one_item [] x one is = absurd (omega arith)
 one_item (y ∷ []) x one is = ap (λ z. z ∷ []) (sym is)
 one_item (y ∷ z ∷ zs) x one is = absurd (omega arith)
-
-pub same_item : (xs ys : List ℕ) → xs ∷ [] ≡ ys ∷ [] → xs ≡ ys
-same_item xs ys e = cc

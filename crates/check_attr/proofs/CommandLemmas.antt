@@ -12,14 +12,3 @@ use Rattle.check_attr.specs.declared.fault.Fault.TheVariants.{Record, Read}
 pub returned : {T : Type 0} (P : Result T Fault → Type 0) (r : Result T Fault) (fault : Fault) → IsErrAnd r (λ e. e ≡ fault) → P (Err fault) → P r
 returned P (Ok x) fault is p = absurd is
 returned P (Err e) fault is p = subst (λ f. P (Err f)) (sym is) p
-
--- the lines text that was written
-pub lines_written : {T : Type 0} (input old new : Option (List ℕ)) (r : Result T Fault) → OnOk r (WritesLines input old new)
-    → OnErr r (WritesLinesFront input old new) → (IsErrOf r Read → new ≡ old) → ((k : ℕ) → r ≡ Err (Record k) → ⊥)
-    → WritesLinesOutcome input old new r
-lines_written input old new r ok front unread no_record = grind (arith, nat_tests)
-
--- when the writer is flushed
-pub flushed_after : {T : Type 0} (Flushed : Type 0) (r : Result T Fault) → OnOk r Flushed → ((k : ℕ) → r ≡ Err (Record k) → Flushed)
-    → IsFlushedAfter r Flushed
-flushed_after Flushed r ok malformed = grind (arith, nat_tests)

@@ -69,9 +69,6 @@ is_number-decimal n h =
     (digits_decimal own n (omega arith)))
     (no_zero n h (ltb n 10) refl)
 
-pub digits_value-decimal-short : (n : ℕ) → n < 10 ^ 8 → digits_value (decimal n) ≡ n
-digits_value-decimal-short n h = digits_value-decimal own n (omega arith)
-
 pub is_number-only : (word : List ℕ) → is_number word ≡ true → IsHeaderNumber (digits_value word) × (decimal (digits_value word) ≡ word)
 is_number-only word e =
     let a = both _ _ e in
@@ -102,13 +99,10 @@ found-later : (i : ℕ) (stop b : ℕ) (bytes : List ℕ) → (b == stop) ≡ fa
     → position_from (λ c. c == stop) i (b ∷ bytes) ≡ position_from (λ c. c == stop) (i + 1) bytes
 found-later i stop b bytes e = rw e
 
-not_true-false : (b : Bool) → not b ≡ true → b ≡ false
-not_true-false b e = grind (arith, nat_tests)
-
 found-back : (i : ℕ) (stop : ℕ) (word rest : List ℕ) → Lacks stop word
     → position_from (λ b. b == stop) i (word ++ stop ∷ rest) ≡ Some (i + length word)
 found-back i stop [] rest e = found-here i stop stop rest (eq-eqb stop stop refl) ∙ ap Some (omega arith)
-found-back i stop (b ∷ word) rest e = grind (arith, nat_tests, both, found-later, not_true-false, found-back (i + 1) stop word rest)
+found-back i stop (b ∷ word) rest e = grind (arith, nat_tests, found-back (i + 1) stop word rest)
 
 -- a word, the separator, and the rest
 abbrev Parted : ℕ → List ℕ → List ℕ → List ℕ → Type 0
@@ -148,11 +142,6 @@ pub split_once-only : (stop : ℕ) (bytes word rest : List ℕ) → split_once s
 unfolding at_offset
 split_once-only stop bytes word rest e = grind (arith, nat_tests, found-only 0 stop bytes, at_end stop, map-some, position_from-zero)
 
--- the first byte that is the separator
-pub position_at : (stop : ℕ) (bytes : List ℕ) (i : ℕ) → i < length bytes → ((k : ℕ) → k < i → (get_or bytes k 0 == stop) ≡ false)
-    → (get_or bytes i 0 == stop) ≡ true → Some i ≡ position (λ b. b == stop) bytes
-position_at stop bytes i within before here = grind (arith, nat_tests, position_or_len_is, lt-ltb)
-
 -- no byte is the separator
 pub no_position : (stop : ℕ) (bytes : List ℕ) → ((k : ℕ) → k < length bytes → (get_or bytes k 0 == stop) ≡ false)
     → None ≡ position (λ b. b == stop) bytes
@@ -172,7 +161,7 @@ if-yes b x y e = grind (arith, nat_tests)
 pub number_before-back : (stop n : ℕ) (rest : List ℕ) → is_ascii_digit stop ≡ false → IsHeaderNumber n
     → number_before stop (decimal n ++ stop ∷ rest) ≡ Some (n, rest)
 number_before-back stop n rest other short =
-    grind (arith, nat_tests, split_once-back, no_digit, digits_decimal, own, if-yes, is_number-decimal, digits_value-decimal-short)
+    grind (arith, nat_tests, split_once-back, no_digit, digits_decimal, own, if-yes, is_number-decimal, digits_value-decimal)
 
 pub number_before-only : (stop : ℕ) (bytes : List ℕ) (n : ℕ) (rest : List ℕ) → number_before stop bytes ≡ Some (n, rest)
     → IsHeaderNumber n × (bytes ≡ decimal n ++ stop ∷ rest)
@@ -195,9 +184,6 @@ if_text-back part rest text = if-yes (is_utf8 part) _ _ (is_utf8-from_IsUtf8 par
 pub if_text-only : (p q : List ℕ × List ℕ) → if_text p ≡ Some q → (p ≡ q) × IsUtf8 q.0
 if_text-only p q e = grind (arith, nat_tests, if-some, IsUtf8-from_is_utf8)
 
-pub split_text-back : (n : ℕ) (part rest : List ℕ) → length part ≡ n → IsUtf8 part → (split_at n (part ++ rest) then if_text) ≡ Some (part, rest)
-split_text-back n part rest e text = ap (λ o. o then if_text) (split_at-back n part rest e) ∙ if_text-back part rest text
-
 pub split_text-only : (n : ℕ) (bytes part rest : List ℕ) → (split_at n bytes then if_text) ≡ Some (part, rest)
     → (length part ≡ n) × IsUtf8 part × (bytes ≡ part ++ rest)
 split_text-only n bytes part rest e =
@@ -216,17 +202,10 @@ abbrev AreWords : {X : Type 0} → (X → List ℕ) → List (List ℕ × X) →
 AreWords word [] = ⊤
 AreWords word (choice ∷ choices) = (word choice.1 ≡ choice.0) × AreWords word choices
 
-choice_by : {X : Type 0} (word : X → List ℕ) (choice : List ℕ × X) (choices : List (List ℕ × X)) (bytes : List ℕ) (x : X) (rest : List ℕ)
-    → (b : Bool) → starts_with nat_eq bytes choice.0 ≡ b
-    → (if b then Some (choice.1, drop (length choice.0) bytes) else choice_of choices bytes) ≡ Some (x, rest)
-    → word choice.1 ≡ choice.0 → (choice_of choices bytes ≡ Some (x, rest) → bytes ≡ word x ++ rest) → bytes ≡ word x ++ rest
-choice_by {X = X} word choice choices bytes x rest true is e same others = grind (arith, nat_tests, same_some, starts_with-only)
-choice_by word choice choices bytes x rest false is e same others = others e
-
 pub choice_of-only : {X : Type 0} (word : X → List ℕ) (choices : List (List ℕ × X)) → AreWords word choices
     → (bytes : List ℕ) (x : X) (rest : List ℕ) → choice_of choices bytes ≡ Some (x, rest) → bytes ≡ word x ++ rest
 choice_of-only word [] words bytes x rest e = absurd cc
-choice_of-only word (choice ∷ choices) words bytes x rest e = grind (arith, nat_tests, choice_by, choice_of-only word choices)
+choice_of-only word (choice ∷ choices) words bytes x rest e = grind (arith, nat_tests, same_some, starts_with-only, choice_of-only word choices)
 
 pub strip_prefix-only : (front bytes rest : List ℕ) → strip_prefix front bytes ≡ Some rest → bytes ≡ front ++ rest
 strip_prefix-only front bytes rest e = grind (arith, nat_tests, if-some, starts_with-only)

@@ -77,11 +77,6 @@ module _ {W : Type 0} (contents : W → Option (List ℕ)) (failed stalled : W �
   front_on a b c held text h front =
       front_later a b c held [] text (subst (λ l. Holds a b l text) (sym (append-nil held)) h) front
 
-  -- what was held is written too
-  pub whole_on : (a b c : W) (held text : List ℕ) → Holds a b held text → Appends (contents b) (contents c) held
-      → Appends (contents a) (contents c) text
-  whole_on a b c held text h last = grind (arith, nat_tests, Appends-trans)
-
   pub passes_then : {T : Type 0} (a b c : W) (held held' rest text : List ℕ) (r : Result T Fault) → Holds a b (held ++ rest) text
       → Passes contents failed stalled b c held' held r → Passes contents failed stalled a c (held' ++ rest) text r
   passes_then a b c held held' rest text (Ok x) h p =
@@ -104,9 +99,6 @@ module _ {W : Type 0} (contents : W → Option (List ℕ)) (failed stalled : W �
   pub stops_of : (T : Type 0) (a b : W) (held text : List ℕ) (e : Fault) → Passes {T = T} contents failed stalled a b held text (Err e)
       → Stops a b text e
   stops_of T a b held text e p = grind (arith, nat_tests)
-
-  pub stops_front : (a b : W) (text : List ℕ) (e : Fault) → Stops a b text e → AppendsFront (contents a) (contents b) text
-  stops_front a b text e p = grind (arith, nat_tests)
 
   pub stops_as : {U : Type 0} (a b : W) (held text : List ℕ) (e : Fault) (r : Result U Fault) → IsErrAnd r (λ x. x ≡ e) → Stops a b text e
       → Passes contents failed stalled a b held text r
@@ -140,10 +132,6 @@ module _ {W : Type 0} (contents : W → Option (List ℕ)) (failed stalled : W �
       → Passes contents failed stalled a a held text r
   refused_at_once a held text r is = grind (arith, nat_tests, nothing_written)
 
-  -- nothing was passed on
-  pub passes_nothing : (a : W) (held : List ℕ) → Holds a a held (held ++ [])
-  passes_nothing a held = subst (λ l. Holds a a held l) (sym (append-nil held)) (holds_all a held)
-
   -- more is held, and more is the text
   pub holds_more : (a b : W) (held text more : List ℕ) → Holds a b held text → Holds a b (held ++ more) (text ++ more)
   holds_more a b held text more h = grind (arith, nat_tests, append_assoc)
@@ -160,8 +148,3 @@ module _ {W : Type 0} (contents : W → Option (List ℕ)) (failed stalled : W �
   pub pushed : {X : Type 0} (f : X → List ℕ) (a b : W) (held held' text : List ℕ) (x : X) (all xs : List X)
       → Holds a b (held ++ flat_map f all) text → all ≡ x ∷ xs → held' ≡ held ++ f x → Holds a b (held' ++ flat_map f xs) text
   pushed f a b held held' text x all xs h first more = grind (arith, nat_tests, append_assoc)
-
-  -- no thing is left
-  pub all_passed : {X : Type 0} (f : X → List ℕ) (a b : W) (held text : List ℕ) (all : List X) → Holds a b (held ++ flat_map f all) text → all ≡ []
-      → Holds a b held text
-  all_passed f a b held text all h none = subst (λ l. Holds a b l text) (ap (λ l. held ++ flat_map f l) none ∙ append-nil held) h

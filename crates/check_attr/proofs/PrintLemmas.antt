@@ -10,15 +10,6 @@ use Rattle.check_attr.specs.Program.{Prints}
 use Rattle.check_attr.specs.declared.fault.Fault.{Fault}
 use Rattle.check_attr.specs.declared.fault.Fault.TheVariants.{Write}
 
--- what a call that writes a text returns, as one fact
-pub Prints-written : {T E : Type 0} (contents : E → Option (List ℕ)) (failed stalled : E → ℕ) (Flushed : E → Type 0) (r : Result T Fault)
-    (old new : E)
-    (text : List ℕ) → OnOk r (Appends (contents old) (contents new) text) → OnOk r (Flushed new)
-    → OnErr r (AppendsFront (contents old) (contents new) text)
-    → CountsWrites r (failed old) (failed new) (stalled old) (stalled new) → IfErr r (λ fault. fault ≡ Write)
-    → Prints contents failed stalled Flushed old new text
-Prints-written contents failed stalled Flushed r old new text whole flushed front counts only = grind (arith, nat_tests)
-
 -- a beginning of a text is one of a longer text
 front_fits : (n : ℕ) (xs ys : List ℕ) → (m : ℕ) × (take n xs ≡ take m (xs ++ ys))
 front_fits (suc n) (x ∷ xs) ys = let rest = front_fits n xs ys in (suc rest.0, ap (λ zs. x ∷ zs) rest.1)

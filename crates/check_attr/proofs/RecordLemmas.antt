@@ -36,13 +36,10 @@ pub writes_records : (s : EngineState) (number : ℕ) (script : List ℕ) (malfo
     → WritesRecords s number script malformed text → Writes s number script malformed text
 writes_records s number script malformed text w = writes-from w.0 s number script w.1 malformed text w.2 w.3 w.4 w.5
 
-no_records : All CanBeWritten []
-no_records k d inside = absurd (omega (arith, inside))
-
 pub has_records : (s : EngineState) (number : ℕ) (script : List ℕ) (malformed : Option ℕ) (text : List ℕ)
     → Writes s number script malformed text → WritesRecords s number script malformed text
-has_records s number _ _ _ ends = ([], [], no_records, refl, refl, refl)
-has_records s number script _ _ (breaks some bad) = ([], script, no_records, refl, (some, bad, omega arith), refl)
+has_records s number _ _ _ ends = grind (arith, nat_tests)
+has_records s number script _ _ (breaks some bad) = grind (arith, nat_tests)
 has_records s number script malformed _ (goes_on r rest first others begins is_text left) =
     let o = has_records (next_state r s) (number + 1) rest malformed others left in (
       r ∷ o.0,

@@ -24,35 +24,10 @@ before lines others = (lines ++ others.0, others.1)
 abbrev one_before : List ℕ → List (List ℕ) × List ℕ → List (List ℕ) × List ℕ
 one_before line others = (line ∷ others.0, others.1)
 
-regrouped : (lines : List (List ℕ)) (line : List ℕ) (o : Option (List (List ℕ) × List ℕ)) →
-    option_map (before lines) (option_map (one_before line) o) ≡ option_map (before (lines ++ line ∷ [])) o
-regrouped lines line o = grind (arith, nat_tests, append_assoc)
-
 -- one line more is read
 pub text_lines-more : (whole : Option (List (List ℕ) × List ℕ)) (lines more : List (List ℕ)) (line : List ℕ) (n m : ℕ) (bytes rest : List ℕ) → 0 < n →
     m ≡ n - 1
     → whole ≡ option_map (before lines) (text_lines n bytes)
     → (split_once line_feed bytes then if_text) ≡ Some (line, rest) → more ≡ lines ++ line ∷ []
     → whole ≡ option_map (before more) (text_lines m rest)
-text_lines-more whole lines more line n m bytes rest h m_is whole_is first more_is =
-    grind (arith, nat_tests, text_lines-step n bytes h, regrouped lines line (text_lines m rest))
-
--- all lines are read
-pub text_lines-done : (whole : Option (List (List ℕ) × List ℕ)) (lines : List (List ℕ)) (n : ℕ) (bytes : List ℕ) → n ≡ 0
-    → whole ≡ option_map (before lines) (text_lines n bytes) → Some (lines, bytes) ≡ whole
-text_lines-done whole lines n bytes none whole_is = grind (arith, nat_tests, append-nil)
-
--- no line is left
-pub text_lines-stuck : (whole : Option (List (List ℕ) × List ℕ)) (lines : List (List ℕ)) (n : ℕ) (bytes : List ℕ) → 0 < n
-    → whole ≡ option_map (before lines) (text_lines n bytes)
-    → (split_once line_feed bytes then if_text) ≡ None → whole ≡ None
-text_lines-stuck whole lines n bytes h whole_is none = grind (arith, nat_tests, text_lines-step)
-
-not_true : (b : Bool) → (b ≡ true → ⊥) → b ≡ false
-not_true b h = grind (arith, nat_tests)
-
--- bytes are text if they are UTF-8
-pub text_is : {E : Type 0} (r : Result (Bor (List ℕ)) E) (bytes : List ℕ) (P : E → Type 0)
-    → MatchResult r (λ s. (s.now ≡ bytes) × IsUtf8 bytes) (λ e. ¬ (IsUtf8 bytes) × P e)
-    → option_copied (result_ok r) ≡ (if is_utf8 bytes then Some bytes else None)
-text_is r bytes P h = grind (arith, nat_tests, is_utf8-from_IsUtf8, not_true, IsUtf8-from_is_utf8)
+text_lines-more whole lines more line n m bytes rest h m_is whole_is first more_is = grind (arith, nat_tests, append_assoc)

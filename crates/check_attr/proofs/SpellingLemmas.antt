@@ -1,4 +1,6 @@
 -- The first record of a script is read exactly if it is spelled.
+use Rattle.std.proofs.lemmas.Bool.Decides.{Decides-eqb}
+use Rattle.std.proofs.lemmas.Slice.Eq.{starts_is}
 use Rattle.std.proofs.lemmas.Bool.Decides.{nat_tests}
 use Rattle.std.proofs.Common.{◌≡◌, ℕ, zero, suc, ◌<◌, ◌⊎◌, inl, inr, Bool, true, false, List, [], ◌∷◌, ◌++◌}
 use Rattle.std.proofs.Common.{length, drop, Option, Some, None, option_map, unwrap_or, IfSome, All, flat_map, codes, refl, sym, ap, ◌∙◌, subst, arith}
@@ -21,7 +23,7 @@ use Rattle.check_attr.specs.inner.ScriptParts.{text_lines, ask_header, question_
 use Rattle.check_attr.specs.inner.ScriptParts.{add_record, names_record, ask_record, record_of, IsFirstRecord, IsNumberBefore}
 use Rattle.check_attr.proofs.PartLemmas.{then-some, map-some, same_some, starts_with-only, choice_of-only, strip_prefix-only, number_before-back}
 use Rattle.check_attr.proofs.PartLemmas.{number_before-only}
-use Rattle.check_attr.proofs.PartLemmas.{split_at-back, split_at-only, split_text-back, split_text-only, split_once-back, split_once-only}
+use Rattle.check_attr.proofs.PartLemmas.{split_at-back, split_at-only, split_text-only, split_once-back, split_once-only}
 use Rattle.check_attr.proofs.PartLemmas.{if_text-back, if_text-only, decimal_digits, decimal_some}
 
 -- ---- the text of a record, with the rest behind it
@@ -79,9 +81,6 @@ spelled-text_with (ask q) rest =
 then-step : {X Y : Type 0} (o : Option X) (next : X → Option Y) (x : X) → o ≡ Some x → (o then next) ≡ next x
 then-step o next x e = ap (λ p. p then next) e
 
-macros-back : (b : Bool) (rest : List ℕ) → choice_of macro_flags (macros_word b ++ space ∷ rest) ≡ Some (b, rest)
-macros-back b rest = grind (arith, nat_tests)
-
 forms-back : (f : Form) (rest : List ℕ) → choice_of forms (form_word f ++ space ∷ rest) ≡ Some (f, rest)
 forms-back f rest = grind (arith, nat_tests)
 
@@ -96,27 +95,20 @@ no_minus : (digits rest others : List ℕ) → 0 < length digits → list_all is
 no_minus [] rest others some all e = omega (arith, some)
 no_minus (d ∷ digits) rest others some all e = grind (arith, nat_tests)
 
-if-no : {X : Type 0} (b : Bool) (x y : X) → (b ≡ true → ⊥) → (if b then x else y) ≡ y
-if-no b x y no_way = grind (arith, nat_tests)
-
 root_length-back : (root : Option (List ℕ)) (rest : List ℕ) → IfSome root IsShortText
     → root_length (root_word root ++ space ∷ rest) ≡ Some (option_map length root, rest)
-root_length-back root rest short = grind (arith, nat_tests, if-no, no_minus, decimal_some, decimal_digits, starts_with-only, number_before-back)
-
-root_of-back : (root : Option (List ℕ)) (rest : List ℕ) → IfSome root IsShortText
-    → root_of (option_map length root) (unwrap_or root [] ++ rest) ≡ Some (root, rest)
-root_of-back root rest short = grind (arith, nat_tests, split_text-back)
+root_length-back root rest short = grind (arith, nat_tests, no_minus, decimal_some, decimal_digits, starts_with-only, number_before-back)
 
 lengths_of : AddedFile → AddHeader
 lengths_of a = record { allow_macros = a.allow_macros; source = length a.source; root = option_map length a.root; buffer = length a.buffer }
 
 add_header-back : (a : AddedFile) (rest : List ℕ) → CanBeWritten (add a) → add_header (onto (addition_words a) rest) ≡ Some (lengths_of a, rest)
 unfolding onto addition_words lengths_of
-add_header-back a rest can = grind (arith, nat_tests, then-step, macros-back, number_before-back, root_length-back)
+add_header-back a rest can = grind (arith, nat_tests, then-step, number_before-back, root_length-back)
 
 addition_of-back : (a : AddedFile) (rest : List ℕ) → CanBeWritten (add a) → addition_of (lengths_of a) (addition_parts a rest) ≡ Some (a, rest)
 unfolding lengths_of addition_parts
-addition_of-back a rest can = grind (arith, nat_tests, then-step, split_text-back, root_of-back, split_at-back)
+addition_of-back a rest can = grind (arith, nat_tests, then-step, if_text-back, split_at-back)
 
 -- the facts on all elements are those on the first and on the others
 pub first_of : {X : Type 0} (P : X → Type 0) (x : X) (xs : List X) → All P (x ∷ xs) → P x
@@ -188,27 +180,22 @@ IsAddHeader h bytes rest =
 spaced : {X : Type 0} → (X → List ℕ) → X → List ℕ
 spaced word x = word x ++ space ∷ []
 
-choice-only : {X : Type 0} (word : X → List ℕ) (bytes : List ℕ) (x : X) (rest : List ℕ) → bytes ≡ spaced word x ++ rest
-    → bytes ≡ word x ++ space ∷ rest
-unfolding spaced
-choice-only word bytes x rest e = e ∙ append_assoc (word x) (space ∷ []) rest
-
 macros-only : (bytes : List ℕ) (b : Bool) (rest : List ℕ) → choice_of macro_flags bytes ≡ Some (b, rest) → bytes ≡ macros_word b ++ space ∷ rest
 unfolding spaced
-macros-only bytes b rest e = grind (arith, nat_tests, choice-only, choice_of-only)
+macros-only bytes b rest e = grind (arith, nat_tests, append_assoc)
 
 forms-only : (bytes : List ℕ) (f : Form) (rest : List ℕ) → choice_of forms bytes ≡ Some (f, rest) → bytes ≡ form_word f ++ space ∷ rest
 unfolding spaced
-forms-only bytes f rest e = choice-only form_word bytes f rest (choice_of-only (spaced form_word) forms (refl, (refl, (refl, tt))) bytes f rest e)
+forms-only bytes f rest e = grind (arith, nat_tests, append_assoc)
 
 cases-only : (bytes : List ℕ) (c : Case) (rest : List ℕ) → choice_of cases bytes ≡ Some (c, rest) → bytes ≡ case_word c ++ space ∷ rest
 unfolding spaced
-cases-only bytes c rest e = choice-only case_word bytes c rest (choice_of-only (spaced case_word) cases (refl, (refl, tt)) bytes c rest e)
+cases-only bytes c rest e = grind (arith, nat_tests, append_assoc)
 
 directories-only : (bytes : List ℕ) (d : Option Bool) (rest : List ℕ) → choice_of directory_flags bytes ≡ Some (d, rest)
     → bytes ≡ directory_word d ++ space ∷ rest
 unfolding spaced
-directories-only bytes d rest e = grind (arith, nat_tests, choice-only, choice_of-only)
+directories-only bytes d rest e = grind (arith, nat_tests, append_assoc)
 
 add_header-only : (bytes : List ℕ) (h : AddHeader) (rest : List ℕ) → add_header bytes ≡ Some (h, rest) → IsAddHeader h bytes rest
 unfolding IsAddHeader onto
@@ -353,11 +340,8 @@ one_record script r s rest others begins begins_also =
     ∙ record_of-spelled script r rest begins) in
     (ap (λ (p : Record × List ℕ). p.0) same, ap (λ (p : Record × List ℕ). p.1) same)
 
-pub spelled_some : (r : Record) → 0 < length (spelled r)
-spelled_some r = grind (arith, nat_tests, zero-lt-suc)
-
 pub shorter : (script : List ℕ) (r : Record) (rest : List ℕ) → BeginsWithRecord script r rest → length rest < length script
-shorter script r rest begins = omega (arith, spelled_some r, ap length begins.1, length-append (spelled r) rest)
+shorter script r rest begins = grind (arith, nat_tests, zero-lt-suc, length-append)
 
 -- ---- what the reading functions promise
 
@@ -368,12 +352,6 @@ first_record script (Some read) e = record_of-begins script read.0 read.1 (sym e
 pub number_spelled : (stop : ℕ) (bytes : List ℕ) (read : Option (ℕ × List ℕ)) → read ≡ number_before stop bytes → is_ascii_digit stop ≡ false
     → IsNumberBefore stop bytes read
 number_spelled stop bytes read e other = grind (arith, nat_tests, number_before-back, number_before-only)
-
-if-then : {X : Type 0} (b : Bool) (x y : X) → b ≡ true → (if b then x else y) ≡ x
-if-then b x y e = grind (arith, nat_tests)
-
-if-else : {X : Type 0} (b : Bool) (x y : X) → b ≡ false → (if b then x else y) ≡ y
-if-else b x y e = grind (arith, nat_tests)
 
 number_in : List ℕ × List ℕ → Option (ℕ × List ℕ)
 number_in word = if is_number word.0 then Some (digits_value word.0, word.1) else None
@@ -387,16 +365,16 @@ word_read stop bytes word rest number cut is = grind (arith, nat_tests, number_i
 pub reads_add : (bytes : List ℕ) (read : Option (Record × List ℕ)) → starts_with nat_eq bytes (codes "add ") ≡ true
     → read ≡ add_record (drop 4 bytes)
     → IsFirstRecord bytes read
-reads_add bytes read add_is e = first_record bytes read (e ∙ sym (if-then (starts_with nat_eq bytes (codes "add ")) _ _ add_is))
+reads_add bytes read add_is e = grind (arith, nat_tests, first_record, codes)
 
 pub reads_names : (bytes : List ℕ) (read : Option (Record × List ℕ)) → starts_with nat_eq bytes (codes "add ") ≡ false
     → starts_with nat_eq bytes (codes "pop\n") ≡ false → starts_with nat_eq bytes (codes "names ") ≡ true → read ≡ names_record (drop 6 bytes)
     → IsFirstRecord bytes read
-reads_names bytes read add_is pop_is names_is e = grind (arith, nat_tests, first_record, if-else, if-then)
+reads_names bytes read add_is pop_is names_is e = grind (arith, nat_tests, first_record)
 
 pub reads_ask : (bytes : List ℕ) (read : Option (Record × List ℕ)) → starts_with nat_eq bytes (codes "ask ") ≡ true
     → read ≡ ask_record (drop 4 bytes) → IsFirstRecord bytes read
-reads_ask bytes read ask_is e = grind (arith, nat_tests, starts_with-only, first_record, if-else, if-then)
+reads_ask bytes read ask_is e = grind (arith, nat_tests, starts_is, Decides-eqb, first_record)
 
 pub if_ok : {X E : Type 0} (r : Result X E) (P Q : X → Type 0) → ((x : X) → P x → Q x) → IfOk r P → IfOk r Q
 if_ok r P Q next p = grind (arith, nat_tests)

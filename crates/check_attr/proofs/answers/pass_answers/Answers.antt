@@ -1,8 +1,11 @@
+use Rattle.std.proofs.Common.{arith}
+use Rattle.std.proofs.lemmas.Bool.Decides.{nat_tests}
+use Rattle.std.proofs.Common.{append-nil}
 use Rattle.std.proofs.Common.{rules, ◌≡◌, ◌++◌, [], Ok, subst}
 use Rattle.std.specs.Prelude.{⊤, unwrap_or}
 use Rattle.std.specs.List.{flat_map}
 use Rattle.check_attr.specs.inner.MatchText.{match_entry}
-use Rattle.check_attr.proofs.PieceLemmas.{Holds, all_passed, holds_all, passes_refused, passes_then, pushed, stops_as, stops_of, stops_then}
+use Rattle.check_attr.proofs.PieceLemmas.{Holds, holds_all, passes_refused, passes_then, pushed, stops_as, stops_of, stops_then}
 use Rattle.check_attr.proofs.answers.pass_answers.Goals as goal
 
 pub loop-one-init : goal.loop-one-init
@@ -43,6 +46,4 @@ returns-in_err-write_full-clause-passed g c =
     c.in_err-write_full.ensures.passed))
 
 pub returns-clause-passed : goal.returns-clause-passed
-returns-clause-passed g c =
-    let text = match_entry c.args.question c.args.engine.now in
-    all_passed g.W.Push.contents g.W.Push.failed g.W.Push.stalled text _ _ _ _ _ c.loop-one.invariant.passed c.in-None.ensures.steps.0
+returns-clause-passed g c = grind (arith, nat_tests, append-nil, c.loop-one.invariant.passed, c.in-None.ensures.steps.0)

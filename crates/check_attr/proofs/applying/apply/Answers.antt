@@ -1,4 +1,6 @@
 -- An addition, a pop and a selection write one text each.
+use Rattle.std.proofs.Common.{append-nil}
+use Rattle.check_attr.proofs.PieceLemmas.{holds_all}
 use Rattle.std.proofs.Common.{arith, [], refl, subst, sym}
 use Rattle.std.proofs.lemmas.Bool.Decides.{nat_tests}
 use Rattle.std.specs.List.{flat_map}
@@ -6,7 +8,7 @@ use Rattle.gix_attributes.specs.KeptLists.{dropped_lines}
 use Rattle.gix_attributes.specs.EngineView.{addition_view}
 use Rattle.check_attr.specs.ScriptText.{IsRecordText, dropped_text}
 use Rattle.check_attr.specs.inner.ScriptViews.{record_view}
-use Rattle.check_attr.proofs.PieceLemmas.{passes_nothing, refused_at_once}
+use Rattle.check_attr.proofs.PieceLemmas.{refused_at_once}
 use Rattle.check_attr.proofs.applying.apply.Goals as goal
 
 pub returns-in-Add-clause-text : goal.returns-in-Add-clause-text
@@ -19,18 +21,10 @@ returns-in-Add-clause-text g c =
     )
 
 pub returns-in-Pop-clause-text : goal.returns-in-Pop-clause-text
-returns-in-Pop-clause-text g c = (
-  [],
-  subst (λ r. IsRecordText c.args.engine.now.state (record_view r) []) (sym c.in-Pop.is) refl,
-  passes_nothing g.W.Push.contents g.W.Push.failed g.W.Push.stalled c.args.writer.now c.args.held.now,
-)
+returns-in-Pop-clause-text g c = grind (arith, nat_tests, append-nil, holds_all, c.in-Pop.is)
 
 pub returns-in_ok-select-in-Names-clause-text : goal.returns-in_ok-select-in-Names-clause-text
-returns-in_ok-select-in-Names-clause-text g c = (
-  [],
-  subst (λ r. IsRecordText c.args.engine.now.state (record_view r) []) (sym c.in-Names.is) refl,
-  passes_nothing g.W.Push.contents g.W.Push.failed g.W.Push.stalled c.args.writer.now c.args.held.now,
-)
+returns-in_ok-select-in-Names-clause-text g c = grind (arith, nat_tests, append-nil, holds_all, c.in-Names.is)
 
 pub returns-in_err-select-in-Names-clause-text : goal.returns-in_err-select-in-Names-clause-text
 returns-in_err-select-in-Names-clause-text g c = grind (arith, nat_tests, refused_at_once)

@@ -1,19 +1,20 @@
+use Rattle.std.proofs.Common.{arith}
+use Rattle.std.proofs.lemmas.Bool.Decides.{nat_tests}
+use Rattle.std.proofs.Common.{append_assoc}
 use Rattle.std.proofs.Common.{◌∙◌, ◌++◌, None, refl, ap, string_bytes}
 use Rattle.std.specs.List.{flat_map}
 use Rattle.std.proofs.lemmas.Slice.Zip.{either_empty_from_Zip}
 use Rattle.check_attr.specs.ScriptText.{dropped_text}
-use Rattle.check_attr.proofs.GlobalLemmas.{dropped_report_of, one_reported, all_reported}
+use Rattle.check_attr.proofs.GlobalLemmas.{dropped_report_of, all_reported}
 use Rattle.check_attr.proofs.command.dropped_report.Goals as goal
 
 pub loop-name-preserved : goal.loop-name-preserved
 loop-name-preserved c =
-    let text = c.loop-name.text.items in
-    one_reported text c.push_dropped.new.out.items (dropped_report_of c.args.names.now c.args.dropped.now) c.loop-name.name-iterator.a.rest.now
-    c.next.new.self.a.rest.now c.in-Some.name.now
-    c.loop-name.name-iterator.b.rest.now c.next.new.self.b.rest.now c.in-Some.lines.now c.loop-name.invariant c.in-Some.ensures.steps.0
-    c.in-Some.ensures.steps.1
-    (c.in_ok-push_dropped.ensures ∙ (ap (λ name. text ++ flat_map (dropped_text name) c.deref-in-loop-name.result.now) c.deref.ensures
-    ∙ ap (λ lines. text ++ flat_map (dropped_text (string_bytes c.in-Some.name.now)) lines) c.deref-in-loop-name.ensures.value))
+    let names = c.in-Some.ensures.steps.0 in
+    let lines = c.in-Some.ensures.steps.1 in
+    let pushed = c.in_ok-push_dropped.ensures in
+    let dropped = c.deref-in-loop-name.ensures.value in
+    grind (arith, nat_tests, append_assoc, dropped_report_of, string_bytes, c.loop-name.invariant, names, lines, pushed, c.deref.ensures, dropped)
 
 pub returns : goal.returns
 returns c =

@@ -1,10 +1,9 @@
 use Rattle.std.proofs.Common.{arith, string_bytes}
 use Rattle.std.proofs.lemmas.Bool.Decides.{nat_tests}
-use Rattle.check_attr.proofs.CommandLemmas.{flushed_after, lines_written}
 use Rattle.check_attr.proofs.command.program.Goals as goal
 
 pub returns-then-is_lines_alone-clause-lines : goal.returns-then-is_lines_alone-clause-lines
-returns-then-is_lines_alone-clause-lines g c = grind (arith, nat_tests, lines_written, flushed_after)
+returns-then-is_lines_alone-clause-lines g c = grind (arith, nat_tests)
 
 pub returns-in-Ok-clause-script : goal.returns-in-Ok-clause-script
 returns-in-Ok-clause-script g c = grind (

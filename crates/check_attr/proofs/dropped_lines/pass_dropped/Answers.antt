@@ -1,7 +1,9 @@
+use Rattle.std.proofs.lemmas.Bool.Decides.{nat_tests}
+use Rattle.std.proofs.Common.{append-nil}
 use Rattle.std.proofs.Common.{rules, Ok, arith}
 use Rattle.std.specs.Prelude.{⊤}
 use Rattle.check_attr.specs.ScriptText.{dropped_text}
-use Rattle.check_attr.proofs.PieceLemmas.{all_passed, holds_all, item_left, none_left, passes_refused, passes_then, pushed, stops_as, stops_of}
+use Rattle.check_attr.proofs.PieceLemmas.{holds_all, item_left, none_left, passes_refused, passes_then, pushed, stops_as, stops_of}
 use Rattle.check_attr.proofs.PieceLemmas.{stops_then}
 use Rattle.check_attr.proofs.dropped_lines.pass_dropped.Goals as goal
 
@@ -38,6 +40,4 @@ returns-in_err-write_full-clause-passed g c =
     c.in_err-write_full.ensures.passed))
 
 pub returns-clause-passed : goal.returns-clause-passed
-returns-clause-passed g c =
-    all_passed g.W.Push.contents g.W.Push.failed g.W.Push.stalled (dropped_text c.args.source.now) _ _ _ _ _ c.loop-line.invariant.passed
-    (none_left c.args.dropped.now c.loop-line.line-index (omega arith))
+returns-clause-passed g c = grind (arith, nat_tests, append-nil, none_left, c.loop-line.invariant.passed)

@@ -1,8 +1,10 @@
+use Rattle.std.proofs.Common.{append-nil}
+use Rattle.check_attr.proofs.ScriptLemmas.{text_lines-step}
 use Rattle.std.proofs.lemmas.Bool.Decides.{nat_tests}
 use Rattle.std.proofs.Common.{◌≡◌, ℕ, ◌+◌, ◌-◌, List, [], ◌∷◌, ◌++◌, map, vec_len, sym, arith}
 use Rattle.std.specs.Borrow.{Bor}
 use Rattle.std.proofs.lemmas.List.{map-append}
-use Rattle.check_attr.proofs.ScriptLemmas.{text_lines-more, text_lines-done, text_lines-stuck}
+use Rattle.check_attr.proofs.ScriptLemmas.{text_lines-more}
 use Rattle.check_attr.proofs.script.text_lines.Goals as goal
 
 pub loop-rest-preserved : goal.loop-rest-preserved
@@ -20,7 +22,7 @@ loop-rest-preserved c =
     }
 
 pub returns-in_default : goal.returns-in_default
-returns-in_default c = grind (arith, nat_tests, text_lines-stuck, vec_len)
+returns-in_default c = grind (arith, nat_tests, text_lines-step, vec_len)
 
 pub returns : goal.returns
-returns c = text_lines-done _ _ (c.args.count - vec_len c.loop-rest.lines) _ (omega arith) c.loop-rest.invariant.read
+returns c = grind (arith, nat_tests, append-nil, vec_len, c.loop-rest.invariant.read)

@@ -16,10 +16,5 @@ unread_front : (s : EngineState) (script contents : Option (List ℕ)) → Write
 unread_front s None contents = tt
 unread_front s (Some script) contents = let one = OneText-of s 1 script in (one.0, one.1, one.2, nothing_written contents one.1)
 
--- so it is what a script has written that was not read
-unread : (T : Type 0) (s : EngineState) (script contents : Option (List ℕ)) (fault : Fault) → fault ≢ Write → ((k : ℕ) → fault ≢ Record k)
-    → WritesOutcomeFrom {T = T} s script contents contents (Err fault)
-unread T s script contents fault no_write no_record = grind (arith, nat_tests, unread_front)
-
 pub returns-in_err-script-clause-written : goal.returns-in_err-script-clause-written
-returns-in_err-script-clause-written g c = grind (arith, nat_tests, returned, unread)
+returns-in_err-script-clause-written g c = grind (arith, nat_tests, returned, unread_front)
