@@ -17,15 +17,16 @@ use Rattle.attr_table.proofs.ForCallers.{backwards-append, length-tasks_in, top,
 use Rattle.attr_table.proofs.ForCallers.{left_in-less, left_in-open, tasks_push, tasks_pass}
 use Rattle.attr_search.specs.declared.pending_item.PendingItem.{PendingItem}
 use Rattle.attr_search.specs.Slots.{table_item, table_items, table_state}
-use Rattle.attr_search.specs.shared.SlotContents.{SlotContents, open_slots, wanted_numbers}
+use Rattle.attr_search.specs.SearchContents.{SearchContents}
+use Rattle.attr_search.specs.shared.SlotContents.{open_slots}
 use Rattle.attr_search.proofs.OpenLemmas.{open_needed}
 use Rattle.attr_search.specs.Settings.{HaveSlots}
 use Rattle.attr_lists.specs.Numbers.{AreNamed}
 use Rattle.attr_search.specs.declared.matching_line.MatchingLine.{MatchingLine}
-use Rattle.attr_search.specs.declared.slot_filler.SlotFiller.{SlotFiller}
-use Rattle.attr_search.specs.inner.Filling.{AtLine, FillsNamed, KeepsFiller, Processes, filler_slots, item_task, most_left, stack_tasks}
+use Rattle.attr_search.specs.inner.Filling.{AtLine, FillsBy, FillsItem, FillsTo, Processes, item_task, most_left, stack_tasks, top_item}
+use Rattle.attr_search.specs.inner.Searched.{KeepsState, state_bodies, state_wanted}
 use Rattle.attr_search.specs.inner.Pending.{PushesFree, item_answer, line_origin, items_beside, pending_item, IsInside, task_of, pending_tasks}
-use Rattle.attr_search.specs.inner.Pending.{no_item, table_bodies}
+use Rattle.attr_search.specs.inner.Pending.{no_item}
 
 filled_of : (x : Bool) → false ≡ not x → x ≡ true
 filled_of x e = grind arith
@@ -41,131 +42,114 @@ beside : (P : List TrackedAssignment → Type 0) (line : List TrackedAssignment)
 beside P line bs None none h b = h
 beside P line bs (Some a) none h b = grind (arith, get_or_past, cases_lt)
 
-pub has_slot : (line : MatchingLine) (top : PendingItem) (item : TrackedAssignment) (filler : SlotFiller) → AtLine line filler →
-    IsInside line.items.now filler.slots.bodies top → item ≡ pending_item line.items.now filler.slots.bodies top →
-    item.id.0 < length filler.slots.answers
-has_slot line top item filler at inside is =
-    rw is (beside (HaveSlots (length filler.slots.answers)) line.items.now filler.slots.bodies top.cause (λ k d lt. absurd (omega arith))
-    at.can_fill.in_line at.can_fill.bodies.in_bodies top.index no_item inside)
+pub has_slot : {line : MatchingLine} (top : PendingItem) {item : TrackedAssignment} {state : SearchContents} {stack : List PendingItem} →
+    AtLine line state stack → IsInside line.items.now state.bodies top → item ≡ top_item line top state → item.id.0 < length state.answers
+has_slot {line} top {item} {state} at inside is =
+    rw is (beside (HaveSlots (length state.answers)) line.items.now state.bodies top.cause (λ k d lt. absurd (omega arith))
+    at.in_line at.bodies.in_bodies top.index no_item inside)
 
 is_filled-table : (items : List TrackedAssignment) → not (length items == 0) ≡ is_filled (table_items items)
 is_filled-table [] = refl
 is_filled-table (i ∷ items) = let d = ne_eqb (length (i ∷ items)) 0 (λ (f : length (i ∷ items) ≡ 0). omega arith) in rw d refl
 
--- The free slot of an item that waits was filled by the item.
-pub record FillsItem (line : MatchingLine) (top : PendingItem) (item : TrackedAssignment) (held new : SlotContents) : Type 0 where
-  pub is : item ≡ pending_item line.items.now held.bodies top
-  pub inside : IsInside line.items.now held.bodies top
-  pub within : (pending_item line.items.now held.bodies top).id.0 < length held.answers
-  pub free : is_some (open_slots held (pending_item line.items.now held.bodies top).id.0) ≡ false
-  pub written : new.answers ≡ set held.answers (pending_item line.items.now held.bodies top).id.0
-      (Some (item_answer line held.bodies (pending_item line.items.now held.bodies top) top.cause))
-  pub wanted : new.wanted ≡ held.wanted
-  pub needed : new.needed ≡ held.needed
-  pub bodies : new.bodies ≡ held.bodies
-
-pub fills_item : (line : MatchingLine) (top : PendingItem) (item : TrackedAssignment) (filler : SlotFiller) (new : SlotContents) →
-    AtLine line filler → IsInside line.items.now filler.slots.bodies top → item ≡ pending_item line.items.now filler.slots.bodies top →
-    true ≡ not (is_some (open_slots filler.slots item.id.0)) →
-    new.answers ≡ set filler.slots.answers item.id.0
-    (Some (item_answer line filler.slots.bodies (pending_item line.items.now filler.slots.bodies top) top.cause)) →
-    new.wanted ≡ filler.slots.wanted → new.needed ≡ filler.slots.needed → new.bodies ≡ filler.slots.bodies →
-    FillsItem line top item filler.slots new
-fills_item line top item filler new at inside is free written wanted needed bodies = grind (arith, has_slot, top)
-
-item_opened : {line : MatchingLine} {top : PendingItem} {item : TrackedAssignment} {held new : SlotContents} → FillsItem line top item held new →
-    open_slots new ≡ fill (table_bodies held.bodies) (item_task line held.bodies top) (open_slots held)
-item_opened {line} {top} {item} {held} {new} p =
+item_opened : {line : MatchingLine} {top : PendingItem} {before after : SearchContents} →
+    FillsItem line top before after → open_slots after ≡ fill (state_bodies before) (item_task line before top) (open_slots before)
+item_opened {line} {top} {before} {after} p =
     grind (arith, top, open_needed, is_filled-table, body_table, get_or-set_same, eq-eqb, get_or-set_other, ne_eqb, cases_eq)
 
 -- the rest is kept
-pub fills_kept : {line : MatchingLine} {top : PendingItem} {item : TrackedAssignment} (before after : SlotFiller) →
-    FillsItem line top item before.slots after.slots → KeepsFiller before after
-fills_kept {line} {top} before after p =
-    let held = before.slots in grind (arith, top, length-set, open_needed, false≢true, get_or-set_other)
+pub fills_kept : {line : MatchingLine} {top : PendingItem} (before after : SearchContents) →
+    FillsItem line top before after → KeepsState before after
+fills_kept {line} {top} before after p = grind (arith, top, length-set, open_needed, false≢true, get_or-set_other)
 
-pub fills_named : {line : MatchingLine} {top : PendingItem} {item : TrackedAssignment} (before : SlotFiller) (new : SlotContents) →
-    FillsItem line top item before.slots new → FillsNamed line.items.now before (record before { slots = new })
-fills_named {line} {top} before new p names h b held a =
-    let bs = before.slots.bodies in
-    let own = pending_item line.items.now bs top in
-    let answer = item_answer line bs own top.cause in
-    ⊎_elim
-    (λ (f : a ≡ own.id.0).
-    let g = get_or-set_same before.slots.answers own.id.0 (Some answer) None p.within in
-    let named = beside (AreNamed names) line.items.now bs top.cause (λ k d lt. absurd (omega arith)) h b top.index no_item p.inside in
-    rw (p.written, f, g) named)
-    (λ (ne : a ≡ own.id.0 → ⊥). grind (arith, get_or-set_other))
-    (cases_eq a own.id.0)
+pub fills_by : {line : MatchingLine} {top : PendingItem} (before after : SearchContents) →
+    FillsItem line top before after → FillsBy line.items.now before after
+fills_by {line} {top} before after p = record {
+  named = λ names h b held a.
+      let own = top_item line top before in
+      let answer = item_answer line before.bodies own top.cause in
+      ⊎_elim
+      (λ (f : a ≡ own.id.0).
+      let g = get_or-set_same before.answers own.id.0 (Some answer) None p.within in
+      let named = beside (AreNamed names) line.items.now before.bodies top.cause (λ k d lt. absurd (omega arith)) h b top.index no_item p.inside in
+      rw (p.filled, f, g) named)
+      (λ (ne : a ≡ own.id.0 → ⊥). rw p.filled (grind (arith, get_or-set_other)))
+      (cases_eq a own.id.0);
+  tested = ap (λ state. state.tested) p.filled;
+}
 
 -- the top of the stack is taken where its slot is filled
-pub skips_item : (line : MatchingLine) (top : PendingItem) (item : TrackedAssignment) (filler : SlotFiller) →
-    item ≡ pending_item line.items.now filler.slots.bodies top → false ≡ not (is_some (open_slots filler.slots item.id.0)) →
-    Processes line top filler filler
-skips_item line top item filler is filled undone final earlier later counted q =
-    let bs = filler.slots.bodies in
-    taken_skip (table_bodies bs) (wanted_numbers filler.slots.wanted) (item_task line bs top) (stack_tasks line bs filler.stack.items)
-    (filler_slots filler) final earlier filler.taken later counted (rw (← is) (filled_of (is_some (filler_slots filler item.id.0)) filled)) q
+pub skips_item : (line : MatchingLine) (top : PendingItem) {item : TrackedAssignment} (state : SearchContents) (stack : List PendingItem) →
+    item ≡ top_item line top state → false ≡ not (is_some (open_slots state item.id.0)) → Processes line top state stack state stack
+skips_item line top {item} state stack is filled undone final earlier later counted q =
+    taken_skip (state_bodies state) (state_wanted state) (item_task line state top) (stack_tasks line state stack)
+    (open_slots state) final earlier state.taken later counted (rw (← is) (filled_of (is_some (open_slots state item.id.0)) filled)) q
+
+-- tasks that are gone through from a filled slot on are those of before
+leads_back : {line : MatchingLine} {top : PendingItem} (before after : SearchContents) (stack : List PendingItem)
+    {final : Slots} {later : ℕ} → FillsItem line top before after → FillsTo line after stack final later →
+    Searches (state_bodies before) (state_wanted before) (stack_tasks line before stack) (open_slots after) final before.taken later
+leads_back {line} before after stack {final} {later} p q =
+    let bodies : after.bodies ≡ before.bodies = grind arith in
+    let wanted : after.wanted ≡ before.wanted = grind arith in
+    let taken : after.taken ≡ before.taken = grind arith in
+    rw (bodies, wanted, taken) at q
 
 -- where it fills its slot, and does not set its attribute
-pub closes_item : {line : MatchingLine} {top : PendingItem} {item : TrackedAssignment} (before : SlotFiller) (new : SlotContents) →
-    FillsItem line top item before.slots new → false ≡ expands (table_state item.inner.state) →
-    Processes line top before (record before { slots = new })
-closes_item {line} {top} before new p closed undone final earlier later counted q =
-    let bs = before.slots.bodies in
-    taken_closed (table_bodies bs) (wanted_numbers before.slots.wanted) (item_task line bs top) (stack_tasks line bs before.stack.items)
-    (filler_slots before) (open_slots new) final earlier before.taken later (item_opened p) (sym (rw p.is at closed)) p.free undone counted
-    (rw (p.bodies, p.wanted) at q)
+pub closes_item : {line : MatchingLine} {top : PendingItem} {item : TrackedAssignment} (before after : SearchContents) (stack : List PendingItem) →
+    FillsItem line top before after → item ≡ top_item line top before → false ≡ expands (table_state item.inner.state) →
+    Processes line top before stack after stack
+closes_item {line} {top} before after stack p is closed undone final earlier later counted q =
+    taken_closed (state_bodies before) (state_wanted before) (item_task line before top) (stack_tasks line before stack)
+    (open_slots before) (open_slots after) final earlier before.taken later (item_opened p) (sym (rw is at closed)) p.free undone counted
+    (leads_back before after stack p q)
 
-pub less_closed : {line : MatchingLine} {top : PendingItem} {item : TrackedAssignment} (before : SlotFiller) (new : SlotContents) →
-    FillsItem line top item before.slots new → most_left (record before { slots = new }) ≤ most_left before
-less_closed {line} {top} before new p =
-    let bs = before.slots.bodies in
-    let e = left_in-less (table_bodies bs) (item_task line bs top) (filler_slots before) (open_slots new) (item_opened p) p.free in
-    rw p.bodies (omega arith)
+pub less_closed : {line : MatchingLine} {top : PendingItem} (before after : SearchContents) (stack : List PendingItem) →
+    FillsItem line top before after → most_left after stack ≤ most_left before stack
+less_closed {line} {top} before after stack p =
+    let e = left_in-less (state_bodies before) (item_task line before top) (open_slots before) (open_slots after) (item_opened p) p.free in
+    let bodies : after.bodies ≡ before.bodies = grind arith in
+    rw bodies (omega arith)
 
-body_is : (line : MatchingLine) (top : PendingItem) (item : TrackedAssignment) (held new : SlotContents) (body : List TrackedAssignment) →
-    FillsItem line top item held new → body ≡ slice_index_or held.bodies item.id.0 [] →
-    body_of (table_bodies held.bodies) (pending_item line.items.now held.bodies top).id.0 ≡ table_items body
-body_is line top item held new body p bodied = grind (arith, body_table, top)
+body_is : (line : MatchingLine) (top : PendingItem) (item : TrackedAssignment) (before : SearchContents) (body : List TrackedAssignment) →
+    item ≡ top_item line top before → body ≡ slice_index_or before.bodies item.id.0 [] →
+    body_of (state_bodies before) (top_item line top before).id.0 ≡ table_items body
+body_is line top item before body is bodied = grind (arith, body_table, top)
 
 -- and where it sets it, and the free items of its body are pushed
-pub opens_item : {line : MatchingLine} {top : PendingItem} {item : TrackedAssignment} (before : SlotFiller) (new : SlotContents)
-    (stack : Vec PendingItem Global) (body : List TrackedAssignment) →
-    FillsItem line top item before.slots new → true ≡ expands (table_state item.inner.state) →
-    body ≡ slice_index_or before.slots.bodies item.id.0 [] →
-    PushesFree (open_slots new) (Some item.id.0) body before.stack.items stack.items →
-    Processes line top before (record before { slots = new; stack = stack })
-opens_item {line} {top} {item} before new stack body p set bodied pushed undone final earlier later counted q =
-    let bs = before.slots.bodies in
-    taken_open (table_bodies bs) (wanted_numbers before.slots.wanted) (item_task line bs top) (table_items body)
-    (stack_tasks line bs before.stack.items) (stack_tasks line bs stack.items) (filler_slots before) (open_slots new) final
-    earlier before.taken later (item_opened p) (sym (rw p.is at set)) p.free (body_is line top item before.slots new body p bodied)
-    (rw p.is at (pushed (line_origin line) line.items.now bs (sym bodied))) undone counted (rw (p.bodies, p.wanted) at q)
+pub opens_item : {line : MatchingLine} {top : PendingItem} {item : TrackedAssignment} (before after : SearchContents)
+    (waiting left : List PendingItem) (body : List TrackedAssignment) →
+    FillsItem line top before after → item ≡ top_item line top before → true ≡ expands (table_state item.inner.state) →
+    body ≡ slice_index_or before.bodies item.id.0 [] →
+    PushesFree (open_slots after) (Some item.id.0) body waiting left → Processes line top before waiting after left
+opens_item {line} {top} {item} before after waiting left body p is set bodied pushed undone final earlier later counted q =
+    taken_open (state_bodies before) (state_wanted before) (item_task line before top) (table_items body)
+    (stack_tasks line before waiting) (stack_tasks line before left) (open_slots before) (open_slots after) final
+    earlier before.taken later (item_opened p) (sym (rw is at set)) p.free (body_is line top item before body is bodied)
+    (rw is at (pushed (line_origin line) line.items.now before.bodies (sym bodied))) undone counted (leads_back before after left p q)
 
 length-pending_tasks : (origin : Origin) (line : List TrackedAssignment) (bs : List (List TrackedAssignment)) (stack : List PendingItem) →
     length (pending_tasks origin line bs stack) ≡ length stack
 length-pending_tasks origin line bs [] = refl
 length-pending_tasks origin line bs (w ∷ stack) = grind (arith, length-append, length-pending_tasks origin line bs stack)
 
-pub less_open : {line : MatchingLine} {top : PendingItem} {item : TrackedAssignment} (before : SlotFiller) (new : SlotContents)
-    (stack : Vec PendingItem Global) (body : List TrackedAssignment) →
-    FillsItem line top item before.slots new → body ≡ slice_index_or before.slots.bodies item.id.0 [] →
-    PushesFree (open_slots new) (Some item.id.0) body before.stack.items stack.items →
-    most_left (record before { slots = new; stack = stack }) ≤ most_left before
-less_open {line} {top} {item} before new stack body p bodied pushed =
-    let bs = before.slots.bodies in
+pub less_open : {line : MatchingLine} {top : PendingItem} {item : TrackedAssignment} (before after : SearchContents)
+    (waiting left : List PendingItem) (body : List TrackedAssignment) →
+    FillsItem line top before after → item ≡ top_item line top before → body ≡ slice_index_or before.bodies item.id.0 [] →
+    PushesFree (open_slots after) (Some item.id.0) body waiting left → most_left after left ≤ most_left before waiting
+less_open {line} {top} {item} before after waiting left body p is bodied pushed =
     let origin = line_origin line in
-    let laid = pushed origin line.items.now bs (sym bodied) in
-    let free = free_items (open_slots new) (table_items body) in
-    let e = length-pending_tasks origin line.items.now bs before.stack.items in
-    let f = length-pending_tasks origin line.items.now bs stack.items in
-    let g = length-append (tasks_in origin (Some item.id.0) free) (stack_tasks line bs before.stack.items) in
+    let laid = pushed origin line.items.now before.bodies (sym bodied) in
+    let free = free_items (open_slots after) (table_items body) in
+    let e = length-pending_tasks origin line.items.now before.bodies waiting in
+    let f = length-pending_tasks origin line.items.now before.bodies left in
+    let g = length-append (tasks_in origin (Some item.id.0) free) (stack_tasks line before waiting) in
     let h = length-tasks_in origin (Some item.id.0) free in
-    let k = length-free (open_slots new) (table_items body) in
+    let k = length-free (open_slots after) (table_items body) in
     let l = ap length laid in
-    rw p.bodies (left_in-open (table_bodies bs) (item_task line bs top) (table_items body) (filler_slots before) (open_slots new)
-    (length before.stack.items) (length stack.items) (item_opened p) p.free (body_is line top item before.slots new body p bodied) (omega arith))
+    let bodies : after.bodies ≡ before.bodies = grind arith in
+    rw bodies (left_in-open (state_bodies before) (item_task line before top) (table_items body) (open_slots before) (open_slots after)
+    (length waiting) (length left) (item_opened p) p.free (body_is line top item before body is bodied) (omega arith))
 
 -- one more item is laid on, or left out
 items_more : (items : List TrackedAssignment) (k : ℕ) (i : TrackedAssignment) → k < length items → i ≡ get_or items k i →
@@ -225,16 +209,16 @@ pending_tasks-none origin line bs [] e = refl
 pending_tasks-none origin line bs (w ∷ stack) e = absurd (omega arith)
 
 -- a line whose free items were laid on is gone through as the stack is
-pub line_walked : (bs : List (List TrackedAssignment)) (origin : Origin) (items : List TrackedAssignment) (old fresh : SlotContents) (after : Slots)
-    (stack laid : List PendingItem) (a b : ℕ) →
-    fresh ≡ record old { line = None } → stack ≡ [] →
-    pending_tasks origin items bs laid
-    ≡ tasks_in origin None (free_items (open_slots fresh) (table_items items)) ++ pending_tasks origin items bs stack →
-    Searches (map table_items bs) (wanted_numbers fresh.wanted) (pending_tasks origin items bs laid) (open_slots fresh) after a b →
-    Searches (map table_items bs) (wanted_numbers old.wanted) (tasks_in origin None (table_items items)) (open_slots old) after a b
-line_walked bs origin items old fresh after stack laid a b begun empty is p =
-    let bare : pending_tasks origin items bs laid ≡ tasks_in origin None (free_items (open_slots fresh) (table_items items)) =
+pub line_walked : (line : MatchingLine) (before fresh : SearchContents) (after : Slots) (stack laid : List PendingItem) (later : ℕ) →
+    fresh ≡ record before { line = None } → stack ≡ [] →
+    stack_tasks line fresh laid
+    ≡ tasks_in (line_origin line) None (free_items (open_slots fresh) (table_items line.items.now)) ++ stack_tasks line fresh stack →
+    Searches (state_bodies fresh) (state_wanted fresh) (stack_tasks line fresh laid) (open_slots fresh) after fresh.taken later →
+    Searches (state_bodies before) (state_wanted before) (tasks_in (line_origin line) None (table_items line.items.now)) (open_slots before)
+    after before.taken later
+line_walked line before fresh after stack laid later begun empty is p =
+    let bare : stack_tasks line fresh laid ≡ tasks_in (line_origin line) None (free_items (open_slots fresh) (table_items line.items.now)) =
     grind (arith, append-nil) in
-    let q = row_searched (map table_items bs) (wanted_numbers fresh.wanted) origin None (table_items items)
-    (pending_tasks origin items bs laid) (open_slots fresh) after a b bare p in
-    grind arith
+    let q = row_searched (state_bodies fresh) (state_wanted fresh) (line_origin line) None (table_items line.items.now)
+    (stack_tasks line fresh laid) (open_slots fresh) after fresh.taken later bare p in
+    rw begun at q

@@ -14,9 +14,9 @@ use Rattle.attr_search.specs.ListView.{Listed}
 use Rattle.attr_search.specs.SearchContents.{SearchContents}
 use Rattle.attr_search.specs.declared.path_query.PathQuery.{PathQuery}
 use Rattle.attr_search.specs.inner.Lines.{all_lines}
-use Rattle.attr_search.specs.inner.Searched.{KeepsState, SearchedLists, state_bodies, state_slots, state_wanted}
+use Rattle.attr_search.specs.inner.Searched.{KeepsState, SearchedLists, state_bodies, state_wanted}
 use Rattle.attr_search.proofs.RoundLemmas.{rounds_walked}
-use Rattle.attr_search.specs.shared.SlotContents.{AreFlagsAmong, wanted_numbers, remaining_at, count_remaining}
+use Rattle.attr_search.specs.shared.SlotContents.{AreFlagsAmong, count_remaining, open_slots, remaining_at, wanted_numbers}
 use Rattle.attr_search.specs.Slots.{table_answer, slots_of}
 use Rattle.attr_search.specs.Settings.{is_found}
 use Rattle.attr_search.proofs.OpenLemmas.{flag_needed, narrowed_needed}
@@ -75,19 +75,19 @@ wanted_same (w ∷ flags) p q same = grind (arith, any_wanted, wanted_same flags
 
 -- the slot of a wanted number is seen as it is
 wanted_seen : (state : SearchContents) (a : ℕ) → AreFlagsAmong state.wanted state.needed → get_or state.wanted a false ≡ true →
-    state_slots state a ≡ slots_of state.answers a
+    open_slots state a ≡ slots_of state.answers a
 wanted_seen state a among w = grind (arith, narrowed_needed, flag_needed)
 
 -- the answer of a search
 pub found_is : (bodies : List (List Item)) (wanted : List ℕ) (ts : List Task) (old new : SearchContents) (left left' a b : ℕ) →
-    AreFlagsAmong old.wanted old.needed → Searches bodies wanted ts (state_slots old) (state_slots new) a b → KeepsState old new →
+    AreFlagsAmong old.wanted old.needed → Searches bodies wanted ts (open_slots old) (open_slots new) a b → KeepsState old new →
     left ≡ count_remaining old.wanted old.answers → left' ≡ count_remaining new.wanted new.answers →
-    nat_lt left' left ≡ is_found (state_wanted old) (state_slots old) (state_slots new)
+    nat_lt left' left ≡ is_found (state_wanted old) (open_slots old) (open_slots new)
 found_is bodies wanted ts old new left left' a b among p same e e' =
     let flags = old.wanted in
     let new_among : AreFlagsAmong new.wanted new.needed = rw (same.wanted, same.needed) among in
-    let was : (k : ℕ) → get_or flags k false ≡ true → state_slots old k ≡ slots_of old.answers k = λ k w. wanted_seen old k among w in
-    let is : (k : ℕ) → get_or flags k false ≡ true → state_slots new k ≡ slots_of new.answers k =
+    let was : (k : ℕ) → get_or flags k false ≡ true → open_slots old k ≡ slots_of old.answers k = λ k w. wanted_seen old k among w in
+    let is : (k : ℕ) → get_or flags k false ≡ true → open_slots new k ≡ slots_of new.answers k =
     λ k w. wanted_seen new k new_among (ap (λ f. get_or f k false) same.wanted ∙ w) in
     let some_was : (k : ℕ) → is_some (slots_of old.answers k) ≡ is_some (get_or old.answers k None) =
     λ k. is_some_map (table_answer k) (get_or old.answers k None) in
@@ -113,6 +113,6 @@ counted_from before after taken tested kept = grind arith
 
 -- lists that were searched are searched by the tasks of their setting
 pub searched_as : (query : PathQuery) (lists : List Listed) {before after : SearchContents} → SearchedLists query lists before after →
-    Searches (state_bodies before) (state_wanted before) (tasks_of (all_lines query lists)) (state_slots before) (state_slots after)
+    Searches (state_bodies before) (state_wanted before) (tasks_of (all_lines query lists)) (open_slots before) (open_slots after)
     before.taken after.taken
 searched_as query lists {before} p = rounds_walked (state_bodies before) (state_wanted before) (all_lines query lists) p.rounds

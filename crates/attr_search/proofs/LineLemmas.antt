@@ -26,17 +26,18 @@ use Rattle.attr_search.specs.declared.path_query.PathQuery.{PathQuery}
 use Rattle.attr_search.specs.IndexedLists.{listed_view}
 use Rattle.attr_search.specs.ListView.{Listed}
 use Rattle.attr_search.specs.SearchContents.{SearchContents}
+use Rattle.attr_search.specs.shared.SlotContents.{open_slots}
 use Rattle.attr_search.specs.Settings.{HaveSlots, LinesAreNamed, gives, origin_in}
 use Rattle.attr_search.specs.Slots.{table_items}
 use Rattle.attr_search.specs.inner.EntryAt.{entry_at}
 use Rattle.attr_search.specs.inner.Lines.{listed_tasks}
-use Rattle.attr_search.specs.inner.Searched.{SearchedLine, over, round, state_bodies, state_slots, state_wanted}
+use Rattle.attr_search.specs.inner.Searched.{SearchedLine, over, round, state_bodies, state_wanted}
 use Rattle.attr_search.specs.shared.Slotted.{LinesHaveSlots, indexed_origin, index_origin, origin_of}
 use Rattle.attr_search.proofs.EntryAtLemmas.{entry_is}
 
 -- a line that fills no slot, tested or not
 unfilled : (rest : PathQuery) (listed : Listed) (index tested : ℕ) (state : SearchContents) →
-    Searches (state_bodies state) (state_wanted state) (listed_tasks rest listed index) (state_slots state) (state_slots state)
+    Searches (state_bodies state) (state_wanted state) (listed_tasks rest listed index) (open_slots state) (open_slots state)
     state.taken state.taken →
     state.tested ≤ tested → tested ≤ state.tested + 1 → SearchedLine rest listed index state (record state { tested = tested })
 unfilled rest listed index tested state p le most = record {
@@ -51,7 +52,7 @@ not_given : (rest : PathQuery) (listed : Listed) (index tested : ℕ) (state : S
     state.tested ≤ tested → tested ≤ state.tested + 1 → SearchedLine rest listed index state (record state { tested = tested })
 not_given rest listed index tested state none le most =
     unfilled rest listed index tested state
-    (rw none (nothing_taken (state_bodies state) (state_wanted state) (state_slots state) state.taken)) le most
+    (rw none (nothing_taken (state_bodies state) (state_wanted state) (open_slots state) state.taken)) le most
 
 pub line_defines : (rest : PathQuery) (list : IndexedList) (index : ℕ) (m : Mapping Value) (state : SearchContents) →
     index < length list.list.patterns.items → m ≡ get_or list.list.patterns.items index m → is_none (macro_id m.value) ≡ false →
@@ -73,10 +74,10 @@ none_free slots (i ∷ items) e = grind (arith, or_parts, none_free slots items)
 
 pub line_filled : (rest : PathQuery) (list : IndexedList) (index : ℕ) (m : Mapping Value) (items : List TrackedAssignment) (state : SearchContents) →
     index < length list.list.patterns.items → m ≡ get_or list.list.patterns.items index m → items ≡ items_in m.value →
-    false ≡ list_any (λ i. is_none (state_slots state i.id.0)) items → SearchedLine rest (listed_view list) index state state
+    false ≡ list_any (λ i. is_none (open_slots state i.id.0)) items → SearchedLine rest (listed_view list) index state state
 line_filled rest list index m items state lt is given none =
     let e = entry_is list.list.patterns.items index m lt is in
-    let slots = state_slots state in
+    let slots = open_slots state in
     by_test (gives rest.case rest.is_dir (Some (bstr_bytes rest.path)) (entry_view m))
     (λ t. unfilled rest (listed_view list) index state.tested state
     (rw (e, t) (row_filled (state_bodies state) (state_wanted state) (origin_in (listed_view list).source (entry_view m)) None
@@ -90,9 +91,9 @@ pub line_matched : (rest : PathQuery) (list : IndexedList) (index : ℕ) (m : Ma
     index < length list.list.patterns.items → m ≡ get_or list.list.patterns.items index m → items ≡ items_in m.value → macro_id m.value ≡ None →
     answer ≡ path_matches rest.case (entry_at (listed_view list).lines index).pattern (bstr_bytes rest.path) rest.is_dir → answer ≡ true →
     origin ≡ origin_of (listed_view list).source m →
-    Searches (state_bodies before) (state_wanted before) (tasks_in origin None (table_items items)) (state_slots before) after
+    Searches (state_bodies before) (state_wanted before) (tasks_in origin None (table_items items)) (open_slots before) after
     before.taken taken →
-    Searches (state_bodies before) (state_wanted before) (listed_tasks rest (listed_view list) index) (state_slots before) after
+    Searches (state_bodies before) (state_wanted before) (listed_tasks rest (listed_view list) index) (open_slots before) after
     before.taken taken
 line_matched rest list index m items before after taken answer origin lt is given plain told same there p = grind (arith, entry_is)
 

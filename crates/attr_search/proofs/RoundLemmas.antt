@@ -20,10 +20,11 @@ use Rattle.attr_search.specs.declared.path_query.PathQuery.{PathQuery}
 use Rattle.attr_search.specs.IndexedLists.{listed_view}
 use Rattle.attr_search.specs.ListView.{Listed}
 use Rattle.attr_search.specs.SearchContents.{SearchContents}
+use Rattle.attr_search.specs.shared.SlotContents.{open_slots}
 use Rattle.attr_search.specs.Settings.{line_of}
 use Rattle.attr_search.specs.inner.EntryAt.{entry_at, no_entry}
 use Rattle.attr_search.specs.inner.Lines.{entry_tasks, list_rounds, query_lines, rounds_of}
-use Rattle.attr_search.specs.inner.Searched.{LineDone, Rounds, over, round, state_slots}
+use Rattle.attr_search.specs.inner.Searched.{LineDone, Rounds, over, round}
 use Rattle.attr_search.specs.inner.Trying.{AreTried}
 use Rattle.attr_search.proofs.CandidateLemmas.{backwards-reverse, turned_at, passed_entry, tried_turned}
 use Rattle.attr_search.proofs.EntryAtLemmas.{lines_patterns}
@@ -37,22 +38,22 @@ rounds_append (round line p) q = round line (rounds_append p q)
 -- a line without tasks, and lines once the search is done
 no_tasks : (bodies : List (List Item)) (wanted : List ℕ) (state : SearchContents) → LineDone bodies wanted [] state state
 no_tasks bodies wanted state =
-    record { searches = nothing_taken bodies wanted (state_slots state) state.taken; changed = inl refl; counted = omega arith }
+    record { searches = nothing_taken bodies wanted (open_slots state) state.taken; changed = inl refl; counted = omega arith }
 
 pub rounds_done : (bodies : List (List Item)) (wanted : List ℕ) (lines : List (List Task)) (state : SearchContents) →
-    is_done wanted (state_slots state) ≡ true → Rounds bodies wanted lines state state
+    is_done wanted (open_slots state) ≡ true → Rounds bodies wanted lines state state
 rounds_done bodies wanted [] state done = over
 rounds_done bodies wanted (tasks ∷ lines) state done =
-    round (record { searches = done_taken bodies wanted tasks (state_slots state) state.taken done; changed = inl refl; counted = omega arith })
+    round (record { searches = done_taken bodies wanted tasks (open_slots state) state.taken done; changed = inl refl; counted = omega arith })
     (rounds_done bodies wanted lines state done)
 
 -- the tasks of all lines
 rounds_joined : (bodies : List (List Item)) (wanted : List ℕ) {lines : List (List Task)} {first second : SearchContents} →
     Rounds bodies wanted lines first second →
-    Searches bodies wanted (flat_map (λ tasks. tasks) lines) (state_slots first) (state_slots second) first.taken second.taken
-rounds_joined bodies wanted (over {state = state}) = nothing_taken bodies wanted (state_slots state) state.taken
+    Searches bodies wanted (flat_map (λ tasks. tasks) lines) (open_slots first) (open_slots second) first.taken second.taken
+rounds_joined bodies wanted (over {state = state}) = nothing_taken bodies wanted (open_slots state) state.taken
 rounds_joined bodies wanted (round {tasks = tasks} {lines = lines} {before = first} {middle = second} {after = third} line p) =
-    then_searches bodies wanted tasks (flat_map (λ tasks. tasks) lines) (state_slots first) (state_slots second) (state_slots third)
+    then_searches bodies wanted tasks (flat_map (λ tasks. tasks) lines) (open_slots first) (open_slots second) (open_slots third)
     first.taken second.taken third.taken line.searches (rounds_joined bodies wanted p)
 
 list_joined : (lines : List Line) → flat_map (λ tasks. tasks) (list_rounds lines) ≡ list_tasks lines
@@ -65,7 +66,7 @@ lists_joined (lines ∷ lists) = grind (arith, flat_map-append, list_joined, lis
 
 pub rounds_walked : (bodies : List (List Item)) (wanted : List ℕ) (lists : List (List Line)) {first second : SearchContents} →
     Rounds bodies wanted (rounds_of lists) first second →
-    Searches bodies wanted (tasks_of lists) (state_slots first) (state_slots second) first.taken second.taken
+    Searches bodies wanted (tasks_of lists) (open_slots first) (open_slots second) first.taken second.taken
 rounds_walked bodies wanted lists p = rw (lists_joined lists) at (rounds_joined bodies wanted p)
 
 -- lines that are passed over change nothing

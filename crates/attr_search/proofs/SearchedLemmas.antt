@@ -19,11 +19,12 @@ use Rattle.attr_search.specs.declared.path_query.PathQuery.{PathQuery}
 use Rattle.attr_search.specs.IndexedLists.{listed_view, lists_view}
 use Rattle.attr_search.specs.ListView.{Listed}
 use Rattle.attr_search.specs.SearchContents.{SearchContents}
+use Rattle.attr_search.specs.shared.SlotContents.{open_slots}
 use Rattle.attr_search.specs.Settings.{LinesAreNamed, candidates_in}
 use Rattle.attr_search.specs.shared.Slotted.{LinesHaveSlots, ListsHaveSlots}
 use Rattle.attr_search.specs.inner.FoundLists.{AreListsFor}
 use Rattle.attr_search.specs.inner.Searched.{KeepsState, Rounds, Searched, SearchedLine, SearchedLines, SearchedList, SearchedLists}
-use Rattle.attr_search.specs.inner.Searched.{over, state_bodies, state_slots, state_wanted}
+use Rattle.attr_search.specs.inner.Searched.{over, state_bodies, state_wanted}
 use Rattle.attr_search.specs.inner.Trying.{AreTried}
 use Rattle.attr_search.proofs.CandidateLemmas.{tried_most}
 use Rattle.attr_search.proofs.RoundLemmas.{list_round, list_unasked, rounds_append, rounds_done}
@@ -41,7 +42,7 @@ pub nothing_searched : {Named : List (List ℕ) → Type 0} (most : ℕ) (state 
 nothing_searched most state = record { named = λ names items bodies held. held; tested = omega arith; rounds = over }
 
 pub done_searched : {Named : List (List ℕ) → Type 0} {most : ℕ} {lines : List (List Task)} (state : SearchContents) →
-    is_done (state_wanted state) (state_slots state) ≡ true → Searched Named most lines state state
+    is_done (state_wanted state) (open_slots state) ≡ true → Searched Named most lines state state
 done_searched {lines = lines} state done = grind (arith, rounds_done)
 
 rounds_from : {lines : List (List Task)} (first second third : SearchContents) → KeepsState first second →
@@ -61,7 +62,7 @@ more_indexes rest listed indexes k index first second third kept lt is p q =
     grind (arith, take_more indexes k index lt, indexes_append rest listed (take k indexes) (index ∷ []) first second third kept p q)
 
 pub indexes_done : (rest : PathQuery) (listed : Listed) (indexes : List ℕ) (k : ℕ) (first second : SearchContents) →
-    KeepsState first second → is_done (state_wanted second) (state_slots second) ≡ true →
+    KeepsState first second → is_done (state_wanted second) (open_slots second) ≡ true →
     SearchedLines rest listed (take k indexes) first second → SearchedLines rest listed indexes first second
 indexes_done rest listed indexes k first second kept done p =
     subst (λ xs. SearchedLines rest listed xs first second) (take-append-drop k indexes)
@@ -115,7 +116,7 @@ more_lists query listed lists first second third kept p q =
     }
 
 pub lists_done : (query : PathQuery) (lists : List IndexedList) (k : ℕ) (first second : SearchContents) →
-    KeepsState first second → is_done (state_wanted second) (state_slots second) ≡ true →
+    KeepsState first second → is_done (state_wanted second) (open_slots second) ≡ true →
     SearchedLists query (lists_view (drop k lists)) first second → SearchedLists query (lists_view lists) first second
 lists_done query lists zero first second kept done p = p
 lists_done query [] (suc k) first second kept done p = p

@@ -13,8 +13,9 @@ use Rattle.attr_table.specs.Cut.{is_done, origin_at, answer_at, IsCut, IsCutAt}
 use Rattle.attr_table.specs.shared.Walk.{Task, Walks, ends, stops, skips, fills, tasks_in, line_tasks, list_tasks, tasks_of, opened, fill}
 use Rattle.attr_table.proofs.ForCallers.{some_or_none, entry_is, none_value, fill_other, then_walks, walked_searched, OneTable-of}
 use Rattle.attr_search.specs.SearchContents.{SearchContents}
+use Rattle.attr_search.specs.shared.SlotContents.{open_slots}
 use Rattle.attr_search.specs.inner.Lines.{list_rounds, rounds_of}
-use Rattle.attr_search.specs.inner.Searched.{Rounds, over, round, state_slots}
+use Rattle.attr_search.specs.inner.Searched.{Rounds, over, round}
 use Rattle.attr_search.specs.Roots.{root_line, RootsAtMost}
 
 -- a task with a tag
@@ -109,8 +110,8 @@ record Chained (bodies : List (List Item)) (wanted : List ℕ) (gs : List ((ℕ 
       (t : ℕ × ℕ) × Contains lines t × MatchOption (final x) ⊤ (λ v. v.origin ≡ tag_of t)
 
 chained : (bodies : List (List Item)) (wanted : List ℕ) (gs : List ((ℕ × ℕ) × List Task)) {first second : SearchContents} →
-    Rounds bodies wanted (map (λ g. g.1) gs) first second → (before : Slots) → Alike before (state_slots first) →
-    Chained bodies wanted gs before (state_slots second) first.tested second.tested
+    Rounds bodies wanted (map (λ g. g.1) gs) first second → (before : Slots) → Alike before (open_slots first) →
+    Chained bodies wanted gs before (open_slots second) first.tested second.tested
 chained bodies wanted [] over before same =
     record {
       final = before;
@@ -129,7 +130,7 @@ chained bodies wanted (g ∷ gs) (round {before = first} {middle = middle} line 
     let kept : (x : ℕ) → is_some (before x) ≡ true → s.final x ≡ before x =
     λ x e. let h = r.kept x e in s.kept x (ap (λ v. is_some v) h ∙ e) ∙ h in
     ⊎_elim
-    (λ (unchanged : state_slots middle ≡ state_slots first). record {
+    (λ (unchanged : open_slots middle ≡ open_slots first). record {
       final = s.final;
       walks = walks;
       alike = s.alike;
@@ -268,12 +269,12 @@ root_is s start final table wanted a o t stable cut e free some tagged =
 pair_is : (t u : ℕ × ℕ) → t.0 ≡ u.0 → t.1 ≡ u.1 → t ≡ u
 pair_is t u e f = ap (λ (x : ℕ). (x, t.1)) e ∙ ap (λ (y : ℕ). (u.0, y)) f
 
-pub roots_most : (s : Setting) (wanted : List ℕ) (before after : SearchContents) (table : Table) → IsStable s (state_slots before) table →
+pub roots_most : (s : Setting) (wanted : List ℕ) (before after : SearchContents) (table : Table) → IsStable s (open_slots before) table →
     before.tested ≡ 0 → Rounds s.bodies wanted (rounds_of s.lists) before after →
-    RootsAtMost table (state_slots before) (state_slots after) after.tested
+    RootsAtMost table (open_slots before) (open_slots after) after.tested
 unfolding tagged_setting
 roots_most s wanted before after table stable none rounds =
-    let start = state_slots before in
+    let start = open_slots before in
     let gs = list_groups 0 s.lists in
     let c = chained s.bodies wanted gs
     (rw (← lists_plain 0 s.lists) at rounds) start (λ a. refl) in

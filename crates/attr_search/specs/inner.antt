@@ -6,7 +6,6 @@ pub mod Lines
 pub mod PartsContents
 pub mod PartsView
 pub mod Pending
-pub mod SearchView
 pub mod Searched
 pub mod SlotsView
 pub mod WantedView

@@ -15,6 +15,5 @@ pub mod numbers_by_key;
 pub mod path_query;
 pub mod pending_item;
 pub mod search_state;
-pub mod slot_filler;
 pub mod slots;
 pub mod wanted;

@@ -1,7 +1,7 @@
 //! What a search fills: a slot for each attribute. A slot has the answer for its attribute, or none. The wanted slots are
 //! those that a search looks for. It fills the needed slots alone, and skips the others.
 
-ghost use Rattle.std.specs.Prelude.{◌≡◌, Bool, List, ◌<◌, ◌≤◌, ◌*◌, ◌&&◌, ⊤, All, false, None, Some, [], IfOk, IfSome, OnErr, OnOk, MatchOption, is_none, is_some, length, map, not, option_map, set, slice_index_or};
+ghost use Rattle.std.specs.Prelude.{◌≡◌, Bool, List, ◌<◌, ◌≤◌, ◌*◌, ◌+◌, ◌-◌, ◌^◌, ◌&&◌, min, ⊤, All, false, None, Some, [], IfOk, IfSome, OnErr, OnOk, MatchOption, is_none, is_some, length, map, not, option_map, set, slice_index_or};
 ghost use Rattle.std.specs.List.{list_any};
 ghost use Rattle.attr_table.specs.Cut.{is_done};
 ghost use Rattle.attr_search.specs.Matches.{match_view};
@@ -10,22 +10,23 @@ ghost use Rattle.std.specs.List.Sorted.{IsNonDecreasing};
 ghost use Rattle.std.specs.Option.{option_copied};
 ghost use Rattle.attr_search.specs.Slots.{AreFreeFrom, IsNextFilled, filled_in, slots_of};
 ghost use Rattle.attr_search.specs.shared.BodyChanges.{changed_bodies, sized_bodies};
-ghost use Rattle.attr_search.specs.inner.Pending.{IsInside, item_answer, line_origin, pending_item};
-ghost use Rattle.attr_search.specs.shared.Slotted.{bodies_view};
-ghost use Rattle.attr_search.specs.shared.SlotContents.{AreFlagsAmong, AreListed, SlotContents, count_remaining, empty_slots, open_slots, wanted_numbers};
+ghost use Rattle.attr_search.specs.inner.Searched.{state_wanted};
+ghost use Rattle.attr_search.specs.shared.Slotted.{BodiesHaveSlots, bodies_view};
+ghost use Rattle.attr_search.specs.shared.SlotContents.{AreFlagsAmong, AreListed, count_remaining, empty_slots, open_slots};
 ghost use Rattle.attr_search.specs.inner.SlotsView.{AllAreNeeded, AreOpen, GrowsTo};
+
+mod filling;
 
 use crate::answer_parts::{AnswerParts, MatchRef};
 use crate::bodies::BodyChange;
-use crate::matching_line::MatchingLine;
-use crate::pending_item::{PendingItem, body_of};
 use crate::wanted::WantedFlags;
 use attr_lists::types::{Match, TrackedAssignment};
 use attr_text::Assignment;
 use std::alloc::{AllocError, Global};
 use std::marker::Model;
 
-/// A slot and a body for each attribute, and which slots are wanted and which are needed. A wanted one is needed.
+/// A slot and a body for each attribute, which slots are wanted and which are needed, and the counts of the last search. A wanted slot
+/// is needed.
 #[derive(Drop)]
 pub struct AnswerSlots {
     slots: Vec<Option<MatchRef>>,
@@ -43,12 +44,15 @@ pub struct AnswerSlots {
     remaining: usize,
     // What the answers in slots refer to.
     parts: AnswerParts,
+    // How many items the last search popped from its stack, and how many lines it tested. They stop at `u128::MAX`.
+    taken: u128,
+    tested: u128,
 }
 
 impl Model for AnswerSlots {
-    ghost use Rattle.attr_search.specs.shared.SlotContents.{SlotContents};
+    ghost use Rattle.attr_search.specs.SearchContents.{SearchContents};
 
-    ghost Value = { SlotContents };
+    ghost Value = { SearchContents };
 
     ghost use Rattle.attr_search.specs.inner.SlotsView.{AreSoundSlots, slots_view};
 
@@ -58,10 +62,9 @@ impl Model for AnswerSlots {
 }
 
 impl AnswerSlots {
-    /// No slots.
+    /// No slots. It takes no memory.
     pub fn new(alloc: Global) -> AnswerSlots
-        ensures { result ≡ record
-            { answers = []; wanted = []; needed = []; line = None; bodies = []; kept = 0 } }
+        ensures { result ≡ empty_slots [] [] [] }
     {
         AnswerSlots {
             slots: Vec::new(alloc),
@@ -73,11 +76,13 @@ impl AnswerSlots {
             is_wanted: Vec::new(alloc),
             remaining: 0,
             parts: AnswerParts::new(alloc),
+            taken: 0,
+            tested: 0,
         }
     }
 
-    /// Makes an empty slot for each flag in place of its own, keeps or makes a body for each, and changes some of these. It
-    /// costs what was filled and what is changed.
+    /// Makes an empty slot for each flag in place of its own, keeps or makes a body for each, and changes some of these. A search
+    /// fills the needed slots alone. It costs what was filled and what is changed, and takes memory for more slots only.
     ///
     /// # Errors
     ///
@@ -92,6 +97,8 @@ impl AnswerSlots {
         requires numbers { All (λ change. change.number < length wanted) changes.items }
         requires needed { length needed ≡ length wanted }
         requires among { AreFlagsAmong wanted needed }
+        requires within { BodiesHaveSlots (length wanted)
+            (changed_bodies changes.items (sized_bodies (length wanted) self.old.bodies)) }
         ensures ok { OnOk result (self.new ≡ empty_slots wanted needed
             (changed_bodies changes.items (sized_bodies (length wanted) self.old.bodies))) }
         ensures refused { OnErr result (self.new ≡ self.old) }
@@ -120,24 +127,27 @@ impl AnswerSlots {
         self.remaining = wanted.count();
         self.wanted = wanted;
         self.needed = needed;
+        self.begin_counts();
         Ok(())
     }
 
     /// The body of each attribute, by number: empty if it is no macro.
     pub fn bodies(&self) -> &[Vec<TrackedAssignment>]
-        ensures { bodies_view result.now ≡ self.now.bodies }
+        ensures bodies { bodies_view result.now ≡ self.now.bodies }
+        ensures len { length result.now ≡ length self.now.answers }
     {
         self.parts.bodies()
     }
 
     /// How many wanted slots are free.
     pub fn remaining(&self) -> usize
-        ensures { result ≡ count_remaining self.now.wanted self.now.answers }
+        ensures count { result ≡ count_remaining self.now.wanted self.now.answers }
+        ensures among { AreFlagsAmong self.now.wanted self.now.needed }
     {
         self.remaining
     }
 
-    /// A copy of the slots and the bodies, with other slots wanted. Those that are needed here have to be needed there.
+    /// A copy of the slots and the bodies, with other slots wanted and no counts. Those that are needed here have to be needed there.
     ///
     /// # Errors
     ///
@@ -153,7 +163,7 @@ impl AnswerSlots {
         requires among { AreFlagsAmong wanted needed }
         requires more { AreFlagsAmong self.now.needed needed }
         ensures { IfOk result (λ slots. slots
-            ≡ record self.now { wanted = wanted; needed = needed }) }
+            ≡ record self.now { wanted = wanted; needed = needed; taken = 0; tested = 0 }) }
     {
         let is_open = open_ones(alloc, &self.slots, &needed)?;
         let is_wanted = wanted.to_vec(alloc)?;
@@ -171,10 +181,12 @@ impl AnswerSlots {
             is_wanted,
             remaining,
             parts,
+            taken: 0,
+            tested: 0,
         })
     }
 
-    /// A copy of the slots, of which the same are wanted and needed, and of the bodies.
+    /// A copy of the slots, of which the same are wanted and needed, of the bodies and of the counts.
     ///
     /// # Errors
     ///
@@ -182,7 +194,10 @@ impl AnswerSlots {
     pub fn clone(&self, alloc: Global) -> Result<AnswerSlots, AllocError>
         ensures { IfOk result (λ slots. slots ≡ self.now) }
     {
-        self.copy(alloc, self.wanted.clone()?, self.needed.clone()?)
+        let mut slots = self.copy(alloc, self.wanted.clone()?, self.needed.clone()?)?;
+        slots.taken = self.taken;
+        slots.tested = self.tested;
+        Ok(slots)
     }
 
     /// How many slots there are.
@@ -217,56 +232,9 @@ impl AnswerSlots {
 
     /// Whether each wanted slot is filled.
     pub fn is_done(&self) -> bool
-        ensures { result ≡ is_done (wanted_numbers self.now.wanted) (open_slots self.now) }
+        ensures { result ≡ is_done (state_wanted self.now) (open_slots self.now) }
     {
         self.remaining == 0
-    }
-
-    /// Begins another line: what is filled from now on comes from that line.
-    pub fn begin_line(&mut self)
-        ensures { self.new ≡ record self.old { line = None } }
-    {
-        self.parts.begin_line();
-    }
-
-    /// Fills the free slot of an attribute with an item of the line, or of a macro's body to which the line expands.
-    ///
-    /// # Errors
-    ///
-    /// If memory runs out. The answers are unchanged then.
-    pub fn fill(
-        &mut self,
-        alloc: Global,
-        line: MatchingLine<'_>,
-        top: PendingItem,
-        attribute: usize,
-    ) -> Result<(), AllocError>
-        requires inside { IsInside line.items.now self.old.bodies top }
-        requires own { attribute ≡ (pending_item line.items.now self.old.bodies top).id.0 }
-        requires within { attribute < length self.old.answers }
-        requires bodies { length self.old.bodies ≡ length self.old.answers }
-        requires free { is_some (open_slots self.old attribute) ≡ false }
-        requires line { MatchOption self.old.line ⊤ (λ o. o ≡ line_origin line) }
-        ensures answers { OnOk result (
-            let item = pending_item line.entry.items.now self.old.bodies top in
-            self.new.answers ≡ set self.old.answers attribute
-            (Some (item_answer line.entry self.old.bodies item top.cause))) }
-        ensures refused { OnErr result (self.new.answers ≡ self.old.answers) }
-        ensures wanted { self.new.wanted ≡ self.old.wanted }
-        ensures needed { self.new.needed ≡ self.old.needed }
-        ensures bodies { self.new.bodies ≡ self.old.bodies }
-        ensures line { MatchOption self.new.line ⊤ (λ o. o ≡ line_origin line.entry) }
-    {
-        let is_macro = !body_of(self.parts.bodies(), attribute).is_empty();
-        let kind = top.kind(is_macro);
-        self.filled.reserve(1)?;
-        let found = self.parts.keep(alloc, line, top, kind)?;
-        self.is_ordered = false;
-        self.filled.push_reserved(attribute);
-        self.remaining -= usize::from(self.is_wanted[attribute]);
-        self.slots[attribute] = Some(found);
-        self.is_open[attribute] = false;
-        Ok(())
     }
 
     /// How many lines and assignments are kept for the answers: at most one of each for an answer.
@@ -275,6 +243,37 @@ impl AnswerSlots {
         ensures few { self.now.kept ≤ 2 * length (filled_in self.now.answers) }
     {
         self.parts.kept()
+    }
+
+    /// How many items the last search popped from its stack.
+    pub fn taken(&self) -> u128
+        ensures { result ≡ self.now.taken }
+    {
+        self.taken
+    }
+
+    /// How many lines the last search tested.
+    pub fn tested(&self) -> u128
+        ensures { result ≡ self.now.tested }
+    {
+        self.tested
+    }
+
+    /// Counts one more line that is tested.
+    pub fn count_line(&mut self)
+        ensures counted { self.new
+            ≡ record self.old { tested = min (self.old.tested + 1) (2 ^ 128 - 1) } }
+        ensures rises { self.old.tested ≤ self.new.tested }
+    {
+        self.tested = self.tested.saturating_add(1);
+    }
+
+    /// Sets the counts to zero, as each search does first.
+    pub fn begin_counts(&mut self)
+        ensures { self.new ≡ record self.old { taken = 0; tested = 0 } }
+    {
+        self.taken = 0;
+        self.tested = 0;
     }
 
     /// Puts the numbers of the filled slots in their order if all are wanted, so that the next one is found by halving.
@@ -287,7 +286,7 @@ impl AnswerSlots {
         }
     }
 
-    /// The first number from this one on whose slot has an answer.
+    /// The first number from this one on whose slot has an answer. After a search for all attributes it is found by halving.
     pub fn next_filled(&self, from: usize) -> Option<usize>
         ensures { MatchOption result
             (AreFreeFrom self.now.answers from) (IsNextFilled self.now.answers from) }
@@ -322,16 +321,22 @@ impl AnswerSlots {
         }
     }
 
-    /// Empties the slots, which costs what was filled. Nothing of the answers is kept.
+    /// Empties the slots, which costs what was filled, and sets the counts to 0. Nothing of the answers is kept. It takes no memory.
     pub fn reset(&mut self)
-        ensures { self.new ≡ record self.old
-            { answers = map (λ a. None) self.old.answers; line = None; kept = 0 } }
+        ensures { self.new ≡ record self.old {
+          answers = map (λ a. None) self.old.answers;
+          line = None;
+          kept = 0;
+          taken = 0;
+          tested = 0;
+        } }
     {
         empty(&mut self.slots, &mut self.is_open, &self.filled);
         self.filled.clear();
         self.is_ordered = true;
         self.remaining = self.wanted.count();
         self.parts.keep_none();
+        self.begin_counts();
     }
 
     /// The answer for the attribute with this number. None if its slot is free, or if there is no such slot.

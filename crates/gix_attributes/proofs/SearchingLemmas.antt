@@ -25,10 +25,10 @@ use Rattle.gix_attributes.proofs.OutcomeLemmas.{same_empty, wanted_by_flags}
 -- What holds of lists, of an outcome's own state and of a query holds of what is seen of them.
 pub as_seen : (o : Inside) (held : Content) (lists searched : List IndexedList) (query : PathQuery) (path : List ℕ) (case : Case)
     (is_dir : Option Bool) →
-    outcome_view o ≡ held → o.state.wanted ≡ flags_of (selection_view o.selected.items) (length o.state.answers) → searched ≡ lists →
+    outcome_view o ≡ held → o.state.slots.wanted ≡ flags_of (selection_view o.selected.items) (length o.state.slots.answers) → searched ≡ lists →
     bstr_bytes query.path ≡ path → query.case ≡ case → query.is_dir ≡ is_dir →
     (P : List Listed → List (List TrackedAssignment) → List ℕ → List Bool → List (Option Matched) → List ℕ → Case → Option Bool → Type 0) →
-    P (lists_view searched) o.state.bodies (wanted_numbers o.state.wanted) o.state.needed o.state.answers
+    P (lists_view searched) o.state.slots.bodies (wanted_numbers o.state.slots.wanted) o.state.slots.needed o.state.slots.answers
     (bstr_bytes query.path) query.case query.is_dir →
     P (lists_view lists) held.bodies (wanted_of held) held.needed held.slots path case is_dir
 as_seen o held lists searched query path case is_dir view wanted e p c d P known = grind (arith, nat_tests, wanted_by_flags)
@@ -44,12 +44,12 @@ with_state held state =
     { slots = state.answers; bodies = state.bodies; needed = state.needed; kept = state.kept; taken = state.taken; tested = state.tested }
 
 -- with the same state it is the same outcome
-pub same_state : (o : Inside) (state : SearchContents) → state ≡ o.state → with_state (outcome_view o) state ≡ outcome_view o
+pub same_state : (o : Inside) (state : SearchContents) → state ≡ o.state.slots → with_state (outcome_view o) state ≡ outcome_view o
 same_state o state e = ap (with_state (outcome_view o)) e
 
 -- what is left of an outcome that is reset does not depend on its answers
-pub emptied_alike : (o : Inside) (state : SearchContents) → state.bodies ≡ o.state.bodies → state.needed ≡ o.state.needed →
-    length state.answers ≡ length o.state.answers →
+pub emptied_alike : (o : Inside) (state : SearchContents) → state.bodies ≡ o.state.slots.bodies → state.needed ≡ o.state.slots.needed →
+    length state.answers ≡ length o.state.slots.answers →
     reset_content (with_state (outcome_view o) state) ≡ reset_content (outcome_view o)
 emptied_alike o state same f e =
     let Emptied : List (List TrackedAssignment) → List Bool → Content = λ bodies needed. record (outcome_view o) {
@@ -61,9 +61,9 @@ emptied_alike o state same f e =
       taken = 0;
       tested = 0;
     } in
-    ap (λ bodies. Emptied bodies state.needed) same ∙ ap (Emptied o.state.bodies) f
+    ap (λ bodies. Emptied bodies state.needed) same ∙ ap (Emptied o.state.slots.bodies) f
     ∙ ap (λ slots. record (outcome_view o) { is_initialized = true; slots = slots; kept = 0; taken = 0; tested = 0 })
-    (same_empty None state.answers o.state.answers e)
+    (same_empty None state.answers o.state.slots.answers e)
 
 pub not_both : {E : Type 0} (r : Result Bool E) → r ≡ Ok false → is_err r ≡ true → ⊥
 not_both r e f = let h : false ≡ true = sym (ap is_err e) ∙ f in absurd cc

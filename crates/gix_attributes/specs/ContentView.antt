@@ -7,11 +7,11 @@ abbrev pub outcome_view : Inside → Content
 outcome_view o =
     record {
       is_initialized = o.is_initialized;
-      slots = o.state.answers;
-      bodies = o.state.bodies;
-      needed = o.state.needed;
+      slots = o.state.slots.answers;
+      bodies = o.state.slots.bodies;
+      needed = o.state.slots.needed;
       selection = selection_view o.selected.items;
-      kept = o.state.kept;
-      taken = o.state.taken;
-      tested = o.state.tested;
+      kept = o.state.slots.kept;
+      taken = o.state.slots.taken;
+      tested = o.state.slots.tested;
     }

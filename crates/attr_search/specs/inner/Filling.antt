@@ -1,84 +1,77 @@
 -- What contracts of functions name that fill slots by the items of a line (own). Nothing here has to be believed.
-use Rattle.std.specs.Prelude.{◌≡◌, ℕ, ◌+◌, ◌-◌, ◌^◌, min, false, List, ◌∷◌, length, All, MatchOption, ⊤}
+use Rattle.std.specs.Prelude.{◌≡◌, ℕ, ◌+◌, ◌-◌, ◌^◌, ◌<◌, Some, is_some, min, false, List, ◌∷◌, length, set, All, MatchOption, ⊤}
 use Rattle.attr_lists.specs.declared.types.TrackedAssignment.{TrackedAssignment}
 use Rattle.attr_table.specs.Table.{Slots}
 use Rattle.attr_table.specs.Cut.{is_done}
 use Rattle.attr_table.specs.shared.Walk.{Task, Searches, left_in}
-use Rattle.attr_search.specs.Slots.{SkipsSlots}
 use Rattle.attr_search.specs.declared.matching_line.MatchingLine.{MatchingLine}
 use Rattle.attr_search.specs.declared.pending_item.PendingItem.{PendingItem}
-use Rattle.attr_search.specs.declared.slot_filler.SlotFiller.{SlotFiller}
-use Rattle.attr_search.specs.Settings.{BodiesAreNamed, HaveSlots, HeldAreNamed}
+use Rattle.attr_search.specs.SearchContents.{SearchContents}
+use Rattle.attr_search.specs.Settings.{HaveSlots}
 use Rattle.attr_lists.specs.Numbers.{AreNamed}
-use Rattle.attr_search.specs.shared.Slotted.{BodiesHaveSlots}
-use Rattle.attr_search.specs.inner.Pending.{IsInside, line_origin, pending_tasks, table_bodies, task_of}
-use Rattle.attr_search.specs.shared.SlotContents.{open_slots, wanted_numbers}
-
--- there is a body for each slot, and each item of a body has a slot
-pub record BodiesFit (slots : ℕ) (bodies : List (List TrackedAssignment)) : Type 0 where
-  pub same_length : length bodies ≡ slots
-  pub in_bodies : BodiesHaveSlots slots bodies
-
--- and so has each item of a line
-pub record CanFill (filler : SlotFiller) (items : List TrackedAssignment) : Type 0 where
-  pub bodies : BodiesFit (length filler.slots.answers) filler.slots.bodies
-  pub in_line : HaveSlots (length filler.slots.answers) items
+use Rattle.attr_search.specs.inner.Pending.{IsInside, item_answer, line_origin, pending_item, pending_tasks, task_of}
+use Rattle.attr_search.specs.inner.Searched.{KeepsNamedFor, state_bodies, state_wanted}
+use Rattle.attr_search.specs.inner.SlotsView.{BodiesFit}
+use Rattle.attr_search.specs.shared.SlotContents.{open_slots}
 
 -- the items of a line are being filled in: what waits is an item, and what was stored last is this line
-pub record AtLine (line : MatchingLine) (filler : SlotFiller) : Type 0 where
-  pub can_fill : CanFill filler line.items.now
-  pub inside : All (IsInside line.items.now filler.slots.bodies) filler.stack.items
-  pub origin : MatchOption filler.slots.line ⊤ (λ o. o ≡ line_origin line)
+pub record AtLine (line : MatchingLine) (state : SearchContents) (stack : List PendingItem) : Type 0 where
+  pub bodies : BodiesFit (length state.answers) state.bodies
+  pub in_line : HaveSlots (length state.answers) line.items.now
+  pub inside : All (IsInside line.items.now state.bodies) stack
+  pub origin : MatchOption state.line ⊤ (λ o. o ≡ line_origin line)
 
--- what filling leaves as it is
-pub record KeepsFiller (before after : SlotFiller) : Type 0 where
-  pub wanted : after.slots.wanted ≡ before.slots.wanted
-  pub needed : after.slots.needed ≡ before.slots.needed
-  pub len : length after.slots.answers ≡ length before.slots.answers
-  pub bodies : after.slots.bodies ≡ before.slots.bodies
-  pub skipped : SkipsSlots before.slots.needed before.slots.answers after.slots.answers
-
--- answers have the names of their numbers, if the items and the answers before have them
-abbrev pub FillsNamed : List TrackedAssignment → SlotFiller → SlotFiller → Type 0
-FillsNamed items before after =
-    (names : List (List ℕ)) → AreNamed names items → BodiesAreNamed names before.slots.bodies →
-    HeldAreNamed names before.slots.answers → HeldAreNamed names after.slots.answers
+-- some items filled slots: answers have the names of their numbers, if the items and the answers before have them, and no line was tested
+pub record FillsBy (items : List TrackedAssignment) (before after : SearchContents) : Type 0 where
+  pub named : KeepsNamedFor (λ names. AreNamed names items) before after
+  pub tested : after.tested ≡ before.tested
 
 -- the tasks of what waits, and the task of one item
-abbrev pub stack_tasks : MatchingLine → List (List TrackedAssignment) → List PendingItem → List Task
-stack_tasks line bodies stack = pending_tasks (line_origin line) line.items.now bodies stack
+abbrev pub stack_tasks : MatchingLine → SearchContents → List PendingItem → List Task
+stack_tasks line state stack = pending_tasks (line_origin line) line.items.now state.bodies stack
 
-abbrev pub item_task : MatchingLine → List (List TrackedAssignment) → PendingItem → Task
-item_task line bodies w = task_of (line_origin line) line.items.now bodies w
-
-abbrev pub filler_slots : SlotFiller → Slots
-filler_slots filler = open_slots filler.slots
+abbrev pub item_task : MatchingLine → SearchContents → PendingItem → Task
+item_task line state w = task_of (line_origin line) line.items.now state.bodies w
 
 -- some tasks of a line with these items were gone through
-pub record Fills (items : List TrackedAssignment) (tasks : List Task) (before after : SlotFiller) : Type 0 where
-  pub named : FillsNamed items before after
-  pub searches : Searches (table_bodies before.slots.bodies) (wanted_numbers before.slots.wanted) tasks
-      (filler_slots before) (filler_slots after) before.taken after.taken
+pub record Fills (items : List TrackedAssignment) (tasks : List Task) (before after : SearchContents) : Type 0 where
+  pub by : FillsBy items before after
+  pub searches : Searches (state_bodies before) (state_wanted before) tasks (open_slots before) (open_slots after) before.taken after.taken
+
+-- the item that waits at the top of the stack
+abbrev pub top_item : MatchingLine → PendingItem → SearchContents → TrackedAssignment
+top_item line top state = pending_item line.items.now state.bodies top
+
+-- it filled its slot, which was free
+pub record FillsItem (line : MatchingLine) (top : PendingItem) (before after : SearchContents) : Type 0 where
+  pub inside : IsInside line.items.now before.bodies top
+  pub within : (top_item line top before).id.0 < length before.answers
+  pub free : is_some (open_slots before (top_item line top before).id.0) ≡ false
+  pub filled : after ≡ record before {
+    answers = set before.answers (top_item line top before).id.0
+        (Some (item_answer line before.bodies (top_item line top before) top.cause));
+    line = after.line;
+    kept = after.kept;
+  }
 
 -- how many items may still be taken
-abbrev pub most_left : SlotFiller → ℕ
-most_left filler = length filler.stack.items + left_in (table_bodies filler.slots.bodies) (filler_slots filler)
+abbrev pub most_left : SearchContents → List PendingItem → ℕ
+most_left state stack = length stack + left_in (state_bodies state) (open_slots state)
 
 -- what waits is gone through
-abbrev pub FillsTo : MatchingLine → SlotFiller → Slots → ℕ → Type 0
-FillsTo line filler final later =
-    Searches (table_bodies filler.slots.bodies) (wanted_numbers filler.slots.wanted)
-    (stack_tasks line filler.slots.bodies filler.stack.items) (filler_slots filler) final filler.taken later
+abbrev pub FillsTo : MatchingLine → SearchContents → List PendingItem → Slots → ℕ → Type 0
+FillsTo line state stack final later =
+    Searches (state_bodies state) (state_wanted state) (stack_tasks line state stack) (open_slots state) final state.taken later
 
 -- what is gone through from the slots after on is gone through from those before on
-abbrev pub LeadsTo : MatchingLine → SlotFiller → SlotFiller → Type 0
-LeadsTo line before after = (final : Slots) (later : ℕ) → FillsTo line after final later → FillsTo line before final later
+abbrev pub LeadsTo : MatchingLine → SearchContents → List PendingItem → SearchContents → List PendingItem → Type 0
+LeadsTo line before waiting after left =
+    (final : Slots) (later : ℕ) → FillsTo line after left final later → FillsTo line before waiting final later
 
 -- an item that was taken off the stack was processed
-abbrev pub Processes : MatchingLine → PendingItem → SlotFiller → SlotFiller → Type 0
-Processes line top before after =
-    is_done (wanted_numbers before.slots.wanted) (filler_slots before) ≡ false →
-    (final : Slots) (earlier later : ℕ) → before.taken ≡ min (earlier + 1) (2 ^ 128 - 1) → FillsTo line after final later →
-    Searches (table_bodies before.slots.bodies) (wanted_numbers before.slots.wanted)
-    (item_task line before.slots.bodies top ∷ stack_tasks line before.slots.bodies before.stack.items)
-    (filler_slots before) final earlier later
+abbrev pub Processes : MatchingLine → PendingItem → SearchContents → List PendingItem → SearchContents → List PendingItem → Type 0
+Processes line top before waiting after left =
+    is_done (state_wanted before) (open_slots before) ≡ false →
+    (final : Slots) (earlier later : ℕ) → before.taken ≡ min (earlier + 1) (2 ^ 128 - 1) → FillsTo line after left final later →
+    Searches (state_bodies before) (state_wanted before) (item_task line before top ∷ stack_tasks line before waiting)
+    (open_slots before) final earlier later

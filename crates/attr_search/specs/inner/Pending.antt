@@ -3,7 +3,7 @@ use Rattle.std.specs.Prelude.{◌≡◌, ◌==◌, ℕ, ◌<◌, not, List, [], 
 use Rattle.attr_text.specs.declared.state.State.TheVariants.{Unspecified}
 use Rattle.attr_lists.specs.declared.types.MatchKind.{MatchKind}
 use Rattle.attr_lists.specs.declared.types.TrackedAssignment.{TrackedAssignment}
-use Rattle.attr_table.specs.Setting.{Origin, Item}
+use Rattle.attr_table.specs.Setting.{Origin}
 use Rattle.attr_table.specs.Table.{Slots}
 use Rattle.attr_table.specs.shared.Walk.{Task, backwards, tasks_in, free_items}
 use Rattle.attr_search.specs.declared.pending_item.PendingItem.{PendingItem}
@@ -30,10 +30,6 @@ item_answer line bodies item cause =
       is_macro = not (length (slice_index_or bodies item.id.0 []) == 0);
       cause = cause;
     }
-
--- the bodies, as the table knows them
-abbrev pub table_bodies : List (List TrackedAssignment) → List (List Item)
-table_bodies bodies = map table_items bodies
 
 -- the items of the line, or of its cause's body
 abbrev pub items_beside : List TrackedAssignment → List (List TrackedAssignment) → Option ℕ → List TrackedAssignment

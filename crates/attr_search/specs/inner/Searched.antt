@@ -2,23 +2,18 @@
 use Rattle.std.specs.Prelude.{◌≡◌, ℕ, ◌+◌, ◌-◌, ◌^◌, ◌≤◌, ◌⊎◌, min, List, ◌∷◌, [], map, length, OnOk, Result}
 use Rattle.bstr.specs.BStr.{bstr_bytes}
 use Rattle.attr_table.specs.Setting.{Item, Setting}
-use Rattle.attr_table.specs.Skipped.{narrowed}
-use Rattle.attr_table.specs.Table.{IsStable, Slots, Table}
+use Rattle.attr_table.specs.Table.{IsStable, Table}
 use Rattle.attr_table.specs.shared.Walk.{Searches, Task}
 use Rattle.attr_search.specs.declared.path_query.PathQuery.{PathQuery}
 use Rattle.attr_search.specs.ListView.{Listed}
 use Rattle.attr_search.specs.Roots.{RootsAtMost}
 use Rattle.attr_search.specs.SearchContents.{SearchContents}
 use Rattle.attr_search.specs.Settings.{BodiesAreNamed, HeldAreNamed, LinesAreNamed, ListsAreNamed, candidate_lines, candidates_in, setting_of}
-use Rattle.attr_search.specs.Slots.{SkipsSlots, is_needed, slots_of, table_items}
+use Rattle.attr_search.specs.Slots.{SkipsSlots, table_items}
 use Rattle.attr_search.specs.inner.Lines.{all_lines, list_rounds, listed_tasks, query_lines, rounds_of}
-use Rattle.attr_search.specs.shared.SlotContents.{wanted_numbers}
+use Rattle.attr_search.specs.shared.SlotContents.{open_slots, wanted_numbers}
 
--- the table's slots, of which those that are not needed count as filled, the numbers that are looked for, and the bodies as the table
--- knows them
-abbrev pub state_slots : SearchContents → Slots
-state_slots state = narrowed (is_needed state.needed) (slots_of state.answers)
-
+-- the numbers that are looked for, and the bodies as the table knows them
 abbrev pub state_wanted : SearchContents → List ℕ
 state_wanted state = wanted_numbers state.wanted
 
@@ -55,8 +50,8 @@ ListsKeepNamed lists = KeepsNamedFor (λ names. ListsAreNamed names lists)
 
 -- a search went through the tasks of a line, and counted the line if slots changed
 pub record LineDone (bodies : List (List Item)) (wanted : List ℕ) (tasks : List Task) (before after : SearchContents) : Type 0 where
-  pub searches : Searches bodies wanted tasks (state_slots before) (state_slots after) before.taken after.taken
-  pub changed : (state_slots after ≡ state_slots before) ⊎ (min (before.tested + 1) (2 ^ 128 - 1) ≤ after.tested)
+  pub searches : Searches bodies wanted tasks (open_slots before) (open_slots after) before.taken after.taken
+  pub changed : (open_slots after ≡ open_slots before) ⊎ (min (before.tested + 1) (2 ^ 128 - 1) ≤ after.tested)
   pub counted : before.tested ≤ after.tested
 
 -- it went through lines one by one
@@ -96,5 +91,5 @@ pub record SearchesPart {T E : Type 0} (result : Result T E) (Done : SearchConte
 -- the lines at which the roots are of the answers found are no more than those that were tested
 abbrev pub TestsRoots : Setting → SearchContents → SearchContents → Type 0
 TestsRoots setting before after =
-    (table : Table) → IsStable setting (state_slots before) table →
-    RootsAtMost table (state_slots before) (state_slots after) after.tested
+    (table : Table) → IsStable setting (open_slots before) table →
+    RootsAtMost table (open_slots before) (open_slots after) after.tested

@@ -1,13 +1,17 @@
--- The answers in slots and the bodies, that the indexes they refer to are in use, and that the numbers of filled slots are listed (own).
+-- The answers in slots and the bodies, that the indexes they refer to are in use, that the numbers of filled slots are listed, and that
+-- bodies fit (own).
 use Rattle.std.specs.Prelude.{◌≡◌, ⊤, ℕ, ◌<◌, ◌≤◌, ◌+◌, ◌&&◌, Bool, true, false, List, length, All, Option, None, is_none, MatchOption, option_map}
 use Rattle.std.specs.Prelude.{◌-◌, ◌++◌, OnErr, OnOk, Result, replicate, slice_index_or}
 use Rattle.std.specs.List.Sorted.{IsNonDecreasing}
+use Rattle.attr_search.specs.SearchContents.{SearchContents}
 use Rattle.attr_search.specs.Slots.{filled_in}
-use Rattle.attr_search.specs.shared.SlotContents.{AreFlagsAmong, AreListed, SlotContents, count_remaining}
+use Rattle.attr_search.specs.shared.SlotContents.{AreFlagsAmong, AreListed, count_remaining}
+use Rattle.attr_lists.specs.declared.types.TrackedAssignment.{TrackedAssignment}
+use Rattle.attr_search.specs.shared.Slotted.{BodiesHaveSlots}
 use Rattle.attr_search.specs.inner.AnswerRefs.{AreMatchRefs, line_by_ref, matches_by_ref}
 use Rattle.attr_search.specs.declared.slots.AnswerSlots.TheInside.{Inside}
 
-abbrev pub slots_view : Inside → SlotContents
+abbrev pub slots_view : Inside → SearchContents
 slots_view b =
     record {
       answers = matches_by_ref b.parts b.slots.items;
@@ -16,6 +20,8 @@ slots_view b =
       line = option_map (line_by_ref b.parts) b.parts.line;
       bodies = b.parts.bodies;
       kept = length b.parts.lines + length b.parts.assignments;
+      taken = b.taken;
+      tested = b.tested;
     }
 
 -- a list is as long as a count, by more of one value if it was shorter; where memory ran out it is as it was
@@ -33,10 +39,16 @@ AreOpen needed slots is_open =
     (length is_open ≡ length slots) × ((number : ℕ) →
     slice_index_or is_open number false ≡ (slice_index_or needed number false && is_none (slice_index_or slots number None)))
 
+-- there is a body for each slot, and each item of a body has a slot
+pub record BodiesFit (slots : ℕ) (bodies : List (List TrackedAssignment)) : Type 0 where
+  pub same_length : length bodies ≡ slots
+  pub in_bodies : BodiesHaveSlots slots bodies
+
 pub record AreSoundSlots (b : Inside) : Type 0 where
   pub same_length : length b.wanted ≡ length b.slots.items
   pub needed_length : length b.needed ≡ length b.slots.items
   pub among : AreFlagsAmong b.wanted b.needed
+  pub bodies : BodiesFit (length b.slots.items) b.parts.bodies
   pub opened : AreOpen b.needed b.slots.items b.is_open.items
   pub flagged : b.is_wanted.items ≡ b.wanted
   pub filled_needed : AllAreNeeded b.needed b.filled.items

@@ -1,30 +1,28 @@
--- What a search fills (own).
+-- Slots that are empty, open, wanted or listed (own).
 use Rattle.std.specs.Prelude.{◌≡◌, ℕ, suc, ◌+◌, ◌<◌, nat_eq, Bool, true, false, cond, List, [], ◌∷◌, length, map, sum_by, slice_index_or, All, Option, None, is_none, ◌&&◌}
 use Rattle.std.specs.List.{list_any}
 use Rattle.attr_lists.specs.declared.types.TrackedAssignment.{TrackedAssignment}
-use Rattle.attr_table.specs.Setting.{Origin}
 use Rattle.attr_table.specs.Skipped.{narrowed}
 use Rattle.attr_table.specs.Table.{Slots}
-use Rattle.attr_search.specs.Slots.{Matched, is_needed, slots_of}
-
--- the answers by number, which numbers are wanted and which are needed, the line at hand if it has answered, the bodies by number,
--- and how many lines and assignments are kept for the answers
-pub record SlotContents : Type 0 where
-  pub answers : List (Option Matched)
-  pub wanted : List Bool
-  pub needed : List Bool
-  pub line : Option Origin
-  pub bodies : List (List TrackedAssignment)
-  pub kept : ℕ
+use Rattle.attr_search.specs.SearchContents.{SearchContents}
+use Rattle.attr_search.specs.Slots.{is_needed, slots_of}
 
 -- empty slots, of which some are wanted, with bodies
-abbrev pub empty_slots : List Bool → List Bool → List (List TrackedAssignment) → SlotContents
-empty_slots wanted needed bodies =
-    record { answers = map (λ w. None) wanted; wanted = wanted; needed = needed; line = None; bodies = bodies; kept = 0 }
+abbrev pub empty_slots : List Bool → List Bool → List (List TrackedAssignment) → SearchContents
+empty_slots wanted needed bodies = record {
+  answers = map (λ flag. None) wanted;
+  wanted = wanted;
+  needed = needed;
+  line = None;
+  bodies = bodies;
+  kept = 0;
+  taken = 0;
+  tested = 0;
+}
 
 -- the table's slots: those that are not needed count as filled
-abbrev pub open_slots : SlotContents → Slots
-open_slots b = narrowed (is_needed b.needed) (slots_of b.answers)
+abbrev pub open_slots : SearchContents → Slots
+open_slots state = narrowed (is_needed state.needed) (slots_of state.answers)
 
 -- each number whose flag is set here has its flag set there
 abbrev pub AreFlagsAmong : List Bool → List Bool → Type 0

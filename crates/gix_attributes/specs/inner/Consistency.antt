@@ -15,9 +15,9 @@ abbrev pub AreEmptyElsewhere : BTreeSet ℕ → List (List TrackedAssignment) �
 AreEmptyElsewhere numbers bodies = (number : ℕ) → contains nat_cmp numbers number ≡ false → slice_index_or bodies number [] ≡ []
 
 pub record IsConsistent (o : Inside) : Type 0 where
-  pub wanted : o.state.wanted ≡ flags_of (selection_view o.selected.items) (length o.state.answers)
-  pub macros : AreEmptyElsewhere o.macros o.state.bodies
-  pub owners : MatchOption o.owners ⊤ (λ owners. AreOwnersOf o.state.bodies owners.items.items)
+  pub wanted : o.state.slots.wanted ≡ flags_of (selection_view o.selected.items) (length o.state.slots.answers)
+  pub macros : AreEmptyElsewhere o.macros o.state.slots.bodies
+  pub owners : MatchOption o.owners ⊤ (λ owners. AreOwnersOf o.state.slots.bodies owners.items.items)
   pub no_pattern : pattern_view o.no_pattern ≡ no_pattern
 
 -- the default of an index past the last selected name

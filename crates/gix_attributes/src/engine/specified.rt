@@ -18,7 +18,7 @@ pub(crate) fn number_answers(outcome: &Outcome, numbers: &mut Vec<usize>) -> Res
     if outcome.selected_len() > 0 {
         return Ok(());
     }
-    match outcome.state.listed() {
+    match outcome.state.slots.listed() {
         Some(listed) => number_listed(outcome, listed, numbers),
         None => number_all(outcome, numbers),
     }
@@ -82,7 +82,7 @@ fn push_specified(
 fn is_specified(outcome: &Outcome, number: usize) -> bool
     ensures { result ≡ is_slot_specified (slice_index_or outcome.now.slots number None) }
 {
-    match outcome.state.assigned(number) {
+    match outcome.state.slots.assigned(number) {
         Some(assignment) => !assignment.state.as_ref().is_unspecified(),
         None => false,
     }

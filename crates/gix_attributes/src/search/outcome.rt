@@ -154,11 +154,11 @@ impl Outcome {
         let macros = collection.macros().clone()?;
         let changes = selection::body_changes(
             alloc,
-            self.state.bodies(),
+            self.state.slots.bodies(),
             &self.macros,
             collection,
         )?;
-        self.state.set_up(alloc, wanted, needed, changes)?;
+        self.state.slots.set_up(alloc, wanted, needed, changes)?;
         self.macros = macros;
         self.owners = None;
         self.selected = selected;
@@ -188,7 +188,9 @@ impl Outcome {
         let count = collection.len();
         let wanted = selection::flags(alloc, &names, count)?;
         let needed = self.needed(alloc, &names, &wanted)?;
-        self.state.set_up(alloc, wanted, needed, Vec::new(alloc))?;
+        self.state
+            .slots
+            .set_up(alloc, wanted, needed, Vec::new(alloc))?;
         self.selected = names;
         self.is_initialized = true;
         Ok(())
@@ -230,7 +232,7 @@ impl Outcome {
     {
         match self.owners.take() {
             Some(owners) => Ok(owners),
-            None => Owners::of(alloc, self.state.bodies(), &self.macros),
+            None => Owners::of(alloc, self.state.slots.bodies(), &self.macros),
         }
     }
 
@@ -238,7 +240,7 @@ impl Outcome {
     pub fn reset(&mut self)
         ensures { self.new ≡ reset_content self.old }
     {
-        self.state.reset();
+        self.state.slots.reset();
         self.is_initialized = true;
     }
 
@@ -262,8 +264,9 @@ impl Outcome {
     {
         let selected = selection::look_up_again(alloc, collection, &dest.selected)?;
         let wanted = selection::flags(alloc, &selected, collection.len())?;
+        let needed = WantedFlags::all_or_none(alloc, self.state.slots.len(), true);
         let macros = self.macros.clone()?;
-        dest.state.copy_from(alloc, &self.state, wanted)?;
+        dest.state.slots = self.state.slots.copy(alloc, wanted, needed)?;
         dest.macros = macros;
         dest.owners = None;
         dest.selected = selected;
@@ -294,7 +297,7 @@ impl Outcome {
     pub fn match_by_id(&self, id: AttributeId) -> Option<Match<'_>>
         ensures { option_map match_view result ≡ slice_index_or self.now.slots id.0 None }
     {
-        self.state.get(id.0)
+        self.state.slots.get(id.0)
     }
 
     /// Whether each attribute that is looked for has an answer. A search of such an outcome changes nothing.
@@ -302,7 +305,7 @@ impl Outcome {
         requires { IsTrue self.now.is_initialized }
         ensures { result ≡ is_complete self.now }
     {
-        self.state.is_done()
+        self.state.slots.is_done()
     }
 
     /// Whether each number in the lists of a search has a slot, so that the search may fill this outcome.
@@ -323,10 +326,10 @@ impl Outcome {
     pub fn is_current(&self, collection: &MetadataCollection) -> bool
         ensures { IsTrue result ↔ IsCurrent self.now collection.now }
     {
-        if self.state.len() != collection.len() {
+        if self.state.slots.len() != collection.len() {
             return false;
         }
-        selection::are_bodies_of(self.state.bodies(), collection)
+        selection::are_bodies_of(self.state.slots.bodies(), collection)
     }
 
     /// How many lines and assignments are kept for the answers (own): at most one of each for an answer, so none after
@@ -335,21 +338,21 @@ impl Outcome {
         ensures kept { result ≡ self.now.kept }
         ensures few { self.now.kept ≤ 2 * length (found_in self.now.slots) }
     {
-        self.state.kept()
+        self.state.slots.kept()
     }
 
     /// How many items the last search popped from its stack. It stops at `u128::MAX`.
     pub fn taken(&self) -> u128
         ensures { result ≡ self.now.taken }
     {
-        self.state.taken()
+        self.state.slots.taken()
     }
 
     /// How many lines the last search tested: it compared their patterns with the path. It stops at `u128::MAX`.
     pub fn tested(&self) -> u128
         ensures { result ≡ self.now.tested }
     {
-        self.state.tested()
+        self.state.slots.tested()
     }
 
     /// The first attribute with an answer, from this number on. After a search without a selection it is found by halving.
@@ -357,7 +360,7 @@ impl Outcome {
         ensures { MatchOption result (found_in (drop from.0 self.now.slots) ≡ [])
             (λ id. IsNextFound self.now.slots from.0 id.0) }
     {
-        match self.state.next_filled(from.0) {
+        match self.state.slots.next_filled(from.0) {
             Some(number) => Some(AttributeId(number)),
             None => None,
         }
@@ -418,7 +421,7 @@ impl Outcome {
     {
         let selected = &self.selected[index];
         let found = match selected.number {
-            Some(number) => self.state.get(number),
+            Some(number) => self.state.slots.get(number),
             None => None,
         };
         match found {
@@ -431,7 +434,7 @@ impl Outcome {
     pub fn len(&self) -> usize
         ensures { result ≡ length self.now.slots }
     {
-        self.state.len()
+        self.state.slots.len()
     }
 }
 

@@ -5,17 +5,17 @@ use Rattle.attr_search.proofs.SearchedLemmas.{indexes_done, more_indexes, nothin
 use Rattle.attr_search.proofs.search_state.SearchState.search_lines.Goals as goal
 
 pub loop-line-init : goal.loop-line-init
-loop-line-init c = record { kept = state_kept c.args.self.now; searched = nothing_searched 0 c.args.self.now }
+loop-line-init c = record { kept = state_kept c.args.self.now.slots; searched = nothing_searched 0 c.args.self.now.slots }
 
 pub returns-then-is_done : goal.returns-then-is_done
 returns-then-is_done c = grind (arith, indexes_done)
 
 pub loop-line-preserved : goal.loop-line-preserved
 loop-line-preserved c = record {
-  kept = then_kept c.args.self.now c.loop-line.self c.search_line.new.self c.loop-line.invariant.kept c.search_line.ensures.kept;
+  kept = then_kept c.args.self.now.slots c.loop-line.self.slots c.search_line.new.self.slots c.loop-line.invariant.kept c.search_line.ensures.kept;
   searched =
       more_indexes c.args.rest (listed_view c.args.list.now) c.args.indexes.now c.loop-line.line-index _
-      c.args.self.now c.loop-line.self c.search_line.new.self c.loop-line.invariant.kept c.loop-line-test.true
+      c.args.self.now.slots c.loop-line.self.slots c.search_line.new.self.slots c.loop-line.invariant.kept c.loop-line-test.true
       (get_or_default c.args.indexes.now c.loop-line.line-index 0 _ c.loop-line-test.true)
       c.loop-line.invariant.searched c.in_ok-search_line.ensures.done;
 }

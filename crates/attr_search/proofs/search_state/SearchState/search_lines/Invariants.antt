@@ -5,6 +5,6 @@ use Rattle.attr_search.proofs.search_state.SearchState.search_lines.Given as goa
 
 abbrev pub invariant-loop-line : goal.invariant-loop-line
 invariant-loop-line l = record {
-  kept : KeepsState l.initial.self l.self;
-  searched : SearchedLines l.rest (listed_view l.list) (take l.line-index l.indexes) l.initial.self l.self;
+  kept : KeepsState l.initial.self.slots l.self.slots;
+  searched : SearchedLines l.rest (listed_view l.list) (take l.line-index l.indexes) l.initial.self.slots l.self.slots;
 }

@@ -10,8 +10,8 @@ pub loop-k-init : goal.loop-k-init
 loop-k-init c = record {
   bound = omega arith;
   left = all_left c.args.query c.args.lists.now (length c.args.lists.now) c.args.numbers.now c.requires.numbers;
-  kept = state_kept c.args.self.now;
-  searched = rw (drop_all (length c.args.lists.now) c.args.lists.now (omega arith)) (nothing_searched _ c.args.self.now);
+  kept = state_kept c.args.self.now.slots;
+  searched = rw (drop_all (length c.args.lists.now) c.args.lists.now (omega arith)) (nothing_searched _ c.args.self.now.slots);
 }
 
 pub returns-then-is_done : goal.returns-then-is_done
@@ -22,7 +22,7 @@ search_list-requires c =
     let lt = c.if-number-bound.true in
     let le = c.loop-k.invariant.bound in
     record {
-      in_lines = list_slots (length c.args.self.now.answers) (length c.loop-k.self.answers) c.args.lists.now
+      in_lines = list_slots (length c.args.self.now.slots.answers) (length c.loop-k.self.slots.answers) c.args.lists.now
           (get_or c.args.numbers.now (c.loop-k.k - 1) 0) c.index-lists-number.result c.loop-k.invariant.kept.len (omega (arith, lt, le))
           c.index-lists-number.is c.requires.in_lists;
     }
@@ -43,15 +43,15 @@ loop-k-preserved-then-number-bound c =
     let back : c.loop-k.k ≡ c.loop-k.k - 1 + 1 = omega (arith, more) in
     let left = subst (λ n. AreLeft query lists c.loop-k.bound n numbers) back inv.left in
     let apart = apart_above query lists c.loop-k.bound (c.loop-k.k - 1) numbers (omega (arith, more, most)) c.requires.numbers.rising left in
-    let after = skip_lists query lists (number + 1) c.loop-k.bound c.args.self.now c.loop-k.self inv.kept (omega (arith, lt)) apart inv.searched in
+    let after = skip_lists query lists (number + 1) c.loop-k.bound c.args.self.now.slots c.loop-k.self.slots inv.kept (omega (arith, lt)) apart inv.searched in
     let from : drop number lists ≡ list ∷ drop (number + 1) lists =
     drop_more lists number list below ∙ ap (λ l. l ∷ drop (number + 1) lists) (sym c.index-lists-number.is) in
     record {
       bound = omega (arith, below);
       left = left_less query lists c.loop-k.bound number (c.loop-k.k - 1) numbers (omega (arith, lt)) (omega arith) left;
-      kept = then_kept c.args.self.now c.loop-k.self c.search_list.new.self inv.kept c.search_list.ensures.kept;
-      searched = subst (λ ls. SearchedLists query (lists_view ls) c.args.self.now c.search_list.new.self) (sym from)
-          (more_lists query (listed_view list) (lists_view (drop (number + 1) lists)) c.args.self.now c.loop-k.self c.search_list.new.self inv.kept
+      kept = then_kept c.args.self.now.slots c.loop-k.self.slots c.search_list.new.self.slots inv.kept c.search_list.ensures.kept;
+      searched = subst (λ ls. SearchedLists query (lists_view ls) c.args.self.now.slots c.search_list.new.self.slots) (sym from)
+          (more_lists query (listed_view list) (lists_view (drop (number + 1) lists)) c.args.self.now.slots c.loop-k.self.slots c.search_list.new.self.slots inv.kept
           after c.in_ok-search_list.ensures.done);
     }
 
@@ -61,5 +61,5 @@ returns c =
     let apart = apart_below c.args.query c.args.lists.now c.loop-k.bound c.loop-k.k c.args.numbers.now c.loop-k-test.false inv.left in
     record {
       kept = inv.kept;
-      done = skip_lists c.args.query c.args.lists.now 0 c.loop-k.bound c.args.self.now c.loop-k.self inv.kept (omega arith) apart inv.searched;
+      done = skip_lists c.args.query c.args.lists.now 0 c.loop-k.bound c.args.self.now.slots c.loop-k.self.slots inv.kept (omega arith) apart inv.searched;
     }

@@ -8,6 +8,6 @@ abbrev pub invariant-loop-k : goal.invariant-loop-k
 invariant-loop-k l = record {
   bound : l.bound ≤ length l.lists;
   left : AreLeft l.query l.lists l.bound l.k l.numbers;
-  kept : KeepsState l.initial.self l.self;
-  searched : SearchedLists l.query (lists_view (drop l.bound l.lists)) l.initial.self l.self;
+  kept : KeepsState l.initial.self.slots l.self.slots;
+  searched : SearchedLists l.query (lists_view (drop l.bound l.lists)) l.initial.self.slots l.self.slots;
 }

@@ -41,6 +41,7 @@ invariant_of-self-2 c =
       same_length = c.self.invariant.same_length ∙ sym (length-set b.slots.items number (Some c.in_ok-found.found));
       needed_length = c.self.invariant.needed_length ∙ sym (length-set b.slots.items number (Some c.in_ok-found.found));
       among = c.self.invariant.among;
+      bodies = rw (length-set b.slots.items number (Some c.in_ok-found.found), c.in_ok-found.ensures.kept.extends.bodies) c.self.invariant.bodies;
       opened = open_filled b.needed b.slots.items b.is_open.items number c.in_ok-found.found within c.self.invariant.opened;
       flagged = c.self.invariant.flagged;
       filled_needed = rw pushed (All-push (λ n. get_or b.needed n false ≡ true) b.filled.items number c.self.invariant.filled_needed own);
@@ -55,5 +56,10 @@ invariant_of-self-2 c =
       few_assignments = grind (arith, filled_set);
     }
 
-pub returns-clause-answers : goal.returns-clause-answers
-returns-clause-answers c = grind (arith, matches_filled)
+pub returns-clause-filled : goal.returns-clause-filled
+returns-clause-filled c = record {
+  inside = c.requires.inside;
+  within = rw c.requires.own at c.requires.within;
+  free = rw c.requires.own at c.requires.free;
+  filled = grind (arith, matches_filled);
+}

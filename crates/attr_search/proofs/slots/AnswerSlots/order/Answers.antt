@@ -11,6 +11,7 @@ invariant_of-self c =
       same_length = c.self.invariant.same_length;
       needed_length = c.self.invariant.needed_length;
       among = c.self.invariant.among;
+      bodies = c.self.invariant.bodies;
       opened = c.self.invariant.opened;
       flagged = c.self.invariant.flagged;
       filled_needed = All-permutation (λ n. slice_index_or b.needed n false ≡ true) b.filled.items sorted c.sort_unstable.ensures.permutation

@@ -16,6 +16,7 @@ invariant_of-self c =
       same_length = same ∙ sym c.empty.ensures.len;
       needed_length = c.self.invariant.needed_length ∙ sym c.empty.ensures.len;
       among = c.self.invariant.among;
+      bodies = rw (c.empty.ensures.len, c.keep_none.ensures) c.self.invariant.bodies;
       opened = open_all b.needed c.empty.new.is_open.items c.empty.new.slots.items b.slots.items
           (c.empty.ensures.opened b.needed c.self.invariant.needed_length c.self.invariant.opened
           (rw c.deref.ensures.value c.self.invariant.filled_needed))

@@ -3,12 +3,28 @@ use Rattle.attr_search.specs.declared.answer_parts.MatchRef.{MatchRef}
 use Rattle.std.proofs.Common.{None, ap, get_or, length, refl, sym, true, ◌∙◌, ◌≡◌, arith, false, ◌-◌}
 use Rattle.attr_search.specs.shared.SlotContents.{count_remaining}
 use Rattle.std.proofs.lemmas.List.{length-map}
-use Rattle.attr_search.proofs.BodyLemmas.{told_ok}
+use Rattle.std.proofs.Common.{Bool, List, Option, map}
+use Rattle.attr_lists.specs.declared.types.TrackedAssignment.{TrackedAssignment}
+use Rattle.attr_search.specs.declared.bodies.BodyChange.{BodyChange}
+use Rattle.attr_search.specs.inner.SlotsView.{BodiesFit}
+use Rattle.attr_search.specs.shared.BodyChanges.{changed_bodies, sized_bodies}
+use Rattle.attr_search.specs.shared.Slotted.{BodiesHaveSlots}
+use Rattle.attr_search.proofs.BodyLemmas.{length_changed, length_sized, told_ok}
 use Rattle.attr_search.proofs.OpenLemmas.{flag_cut, flags_cut, length_cut, open_all}
 use Rattle.attr_search.proofs.SlotLemmas.{empty_cut, empty_listed, empty_seen, empty_within}
 use Rattle.attr_search.proofs.ListedLemmas.{rising_nothing}
 use Rattle.attr_search.proofs.WantedLemmas.{count_empty}
 use Rattle.attr_search.proofs.slots.AnswerSlots.set_up.Goals as goal
+
+-- bodies that have a slot for each of their items, as many as there are flags
+fitting : (bodies : List (List TrackedAssignment)) (slots : List (Option MatchRef)) (wanted : List Bool) (changes : List BodyChange)
+    (old : List (List TrackedAssignment)) →
+    bodies ≡ changed_bodies changes (sized_bodies (length wanted) old) → slots ≡ map (λ flag. None) wanted →
+    BodiesHaveSlots (length wanted) (changed_bodies changes (sized_bodies (length wanted) old)) → BodiesFit (length slots) bodies
+fitting bodies slots wanted changes old is cut within = record {
+  same_length = grind (arith, length-map, length_changed, length_sized);
+  in_bodies = rw (is, cut, length-map {B = Option MatchRef} wanted (λ flag. None)) within;
+}
 
 pub write-requires-clause-len : goal.write-requires-clause-len
 write-requires-clause-len c =
@@ -39,6 +55,8 @@ invariant_of-self-2 c =
       same_length = sym (ap length cut ∙ length-map wanted (λ flag. None));
       needed_length = c.requires.needed ∙ sym (ap length cut ∙ length-map wanted (λ flag. None));
       among = c.requires.among;
+      bodies = fitting c.set_up.new.self.bodies slots wanted c.args.changes.items c.self.inside.parts.bodies (rw c.len-count.ensures at (ap (λ parts. parts.bodies) made)) cut
+          (rw (← c.self.view_is) at c.requires.within);
       opened = open_all c.args.needed c.write.new.flags.items slots wanted c.write.ensures
           (c.requires.needed ∙ sym (ap length cut ∙ length-map wanted (λ flag. None))) cut;
       flagged = c.write-2.ensures;

@@ -23,8 +23,8 @@ use Rattle.gix_attributes.proofs.search.attributes.Search.pattern_matching_relat
 -- what holds of the lists, of the outcome's own state and of the query holds of what is seen of them
 seen : (c : After-is_err) →
     (P : List Listed → List (List TrackedAssignment) → List ℕ → List Bool → List (Option Matched) → List ℕ → Case → Option Bool → Type 0) →
-    P (lists_view c.args.self.now.patterns.lists.items) c.out.inside.state.bodies (wanted_numbers c.out.inside.state.wanted)
-    c.out.inside.state.needed c.out.inside.state.answers (bstr_bytes c.new-query.result.path) c.new-query.result.case c.new-query.result.is_dir →
+    P (lists_view c.args.self.now.patterns.lists.items) c.out.inside.state.slots.bodies (wanted_numbers c.out.inside.state.slots.wanted)
+    c.out.inside.state.slots.needed c.out.inside.state.slots.answers (bstr_bytes c.new-query.result.path) c.new-query.result.case c.new-query.result.is_dir →
     P (lists_view c.args.self.now.patterns.lists.items) c.args.out.now.bodies (wanted_of c.args.out.now) c.args.out.now.needed
     c.args.out.now.slots (bstr_bytes c.args.path) c.args.case c.args.is_dir
 seen c =
@@ -59,14 +59,14 @@ pub returns-else-is_err-clause-searched : goal.returns-else-is_err-clause-search
 returns-else-is_err-clause-searched c =
     seen (goal.at.returns-else-is_err-clause-searched c).After-is_err
     (λ lists bodies wanted needed slots path case is_dir. OnOk c.search-found.result (IsSearched (setting_of lists bodies path case is_dir)
-    wanted (narrowed (is_needed needed) (slots_of slots)) (slots_seen c.search-found.new.self)))
+    wanted (narrowed (is_needed needed) (slots_of slots)) (slots_seen c.search-found.new.self.slots)))
     c.search-found.ensures.searched
 
 pub returns-else-is_err-clause-joined : goal.returns-else-is_err-clause-joined
 returns-else-is_err-clause-joined c =
     seen (goal.at.returns-else-is_err-clause-joined c).After-is_err
     (λ lists bodies wanted needed slots path case is_dir. OnOk c.search-found.result (let s = setting_of lists bodies path case is_dir in
-    ExtendsCuts s.lists s.bodies wanted (narrowed (is_needed needed) (slots_of slots)) (slots_seen c.search-found.new.self)))
+    ExtendsCuts s.lists s.bodies wanted (narrowed (is_needed needed) (slots_of slots)) (slots_seen c.search-found.new.self.slots)))
     c.search-found.ensures.joined
 
 pub returns-else-is_err-clause-found : goal.returns-else-is_err-clause-found
@@ -74,21 +74,21 @@ returns-else-is_err-clause-found c =
     seen (goal.at.returns-else-is_err-clause-found c).After-is_err
     (λ lists bodies wanted needed slots path case is_dir. IfOk c.search-found.result (λ found. found ≡ is_found wanted (narrowed
     (is_needed needed) (slots_of slots))
-    (slots_seen c.search-found.new.self)))
+    (slots_seen c.search-found.new.self.slots)))
     c.search-found.ensures.found
 
 pub returns-else-is_err-clause-named : goal.returns-else-is_err-clause-named
 returns-else-is_err-clause-named c =
     seen (goal.at.returns-else-is_err-clause-named c).After-is_err (λ lists bodies wanted needed slots path case is_dir. OnOk c.search-found.result
     ((names : List (List ℕ)) → ListsAreNamed names lists → BodiesAreNamed names bodies →
-    HeldAreNamed names slots → HeldAreNamed names c.search-found.new.self.answers))
+    HeldAreNamed names slots → HeldAreNamed names c.search-found.new.self.slots.answers))
     c.search-found.ensures.named
 
 pub returns-else-is_err-clause-most : goal.returns-else-is_err-clause-most
 returns-else-is_err-clause-most c =
     seen (goal.at.returns-else-is_err-clause-most c).After-is_err
     (λ lists bodies wanted needed slots path case is_dir. is_done wanted (narrowed (is_needed needed) (slots_of slots)) ≡ false →
-    OnOk c.search-found.result (c.search-found.new.self.taken
+    OnOk c.search-found.result (c.search-found.new.self.slots.taken
     ≤ work_of (setting_of lists bodies path case is_dir)))
     c.search-found.ensures.most
 
@@ -97,7 +97,7 @@ returns-else-is_err-clause-least c =
     seen (goal.at.returns-else-is_err-clause-least c).After-is_err
     (λ lists bodies wanted needed slots path case is_dir. is_done wanted (narrowed (is_needed needed) (slots_of slots)) ≡ false →
     OnOk c.search-found.result (newly_filled (narrowed (is_needed needed) (slots_of slots))
-    (slots_seen c.search-found.new.self) (length c.search-found.new.self.answers) ≤ c.search-found.new.self.taken))
+    (slots_seen c.search-found.new.self.slots) (length c.search-found.new.self.slots.answers) ≤ c.search-found.new.self.slots.taken))
     c.search-found.ensures.least
 
 pub returns-else-is_err-clause-tested : goal.returns-else-is_err-clause-tested
@@ -105,7 +105,7 @@ returns-else-is_err-clause-tested c =
     seen (goal.at.returns-else-is_err-clause-tested c).After-is_err
     (λ lists bodies wanted needed slots path case is_dir. is_done wanted (narrowed (is_needed needed) (slots_of slots)) ≡ false →
     OnOk c.search-found.result
-    (c.search-found.new.self.tested
+    (c.search-found.new.self.slots.tested
     ≤ candidate_lines lists path case))
     c.search-found.ensures.tested
 
@@ -115,7 +115,7 @@ returns-else-is_err-clause-roots c =
     (λ lists bodies wanted needed slots path case is_dir. is_done wanted (narrowed (is_needed needed) (slots_of slots)) ≡ false →
     OnOk c.search-found.result ((table : Table) →
     IsStable (setting_of lists bodies path case is_dir) (narrowed (is_needed needed) (slots_of slots)) table →
-    RootsAtMost table (narrowed (is_needed needed) (slots_of slots)) (slots_seen c.search-found.new.self) c.search-found.new.self.tested))
+    RootsAtMost table (narrowed (is_needed needed) (slots_of slots)) (slots_seen c.search-found.new.self.slots) c.search-found.new.self.slots.tested))
     c.search-found.ensures.roots
 
 pub returns-else-is_err-clause-complete : goal.returns-else-is_err-clause-complete
@@ -123,9 +123,9 @@ returns-else-is_err-clause-complete c = grind (arith, wanted_by_flags, c.search-
 
 pub returns-else-is_err-clause-unchanged : goal.returns-else-is_err-clause-unchanged
 returns-else-is_err-clause-unchanged c = λ complete.
-    let same : c.search-found.new.self ≡ c.out.inside.state =
+    let same : c.search-found.new.self.slots ≡ c.out.inside.state.slots =
     seen (goal.at.returns-else-is_err-clause-unchanged c).After-is_err
     (λ lists bodies wanted needed slots path case is_dir. is_done wanted (narrowed (is_needed needed) (slots_of slots)) ≡ true →
-    c.search-found.new.self ≡ c.out.inside.state)
+    c.search-found.new.self.slots ≡ c.out.inside.state.slots)
     c.search-found.ensures.unchanged complete in
-    same_state c.out.inside c.search-found.new.self same ∙ c.out.view_is
+    same_state c.out.inside c.search-found.new.self.slots same ∙ c.out.view_is

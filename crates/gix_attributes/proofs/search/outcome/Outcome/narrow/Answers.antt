@@ -37,7 +37,7 @@ invariant_of-self-2 c = grind (arith, nat_tests, length_flags, kept_as, length-m
 pub returns-clause-ok : goal.returns-clause-ok
 returns-clause-ok c =
     let known = c.args.collection.now in
-    let own = c.self.inside.state.bodies in
+    let own = c.self.inside.state.slots.bodies in
     let wanted = c.in_ok-wanted.wanted in
     let needed = c.in_ok-needed.needed in
     let seen = selection_view c.args.names.items in

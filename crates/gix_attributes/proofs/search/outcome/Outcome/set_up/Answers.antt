@@ -36,7 +36,7 @@ invariant_of-self-2 c = grind (arith, nat_tests, length_flags, changed_to, copie
 pub returns-clause-ok : goal.returns-clause-ok
 returns-clause-ok c =
     let known = c.args.collection.now in
-    let own = c.self.inside.state.bodies in
+    let own = c.self.inside.state.slots.bodies in
     let changes = c.in_ok-changes.changes.items in
     let wanted = c.in_ok-wanted.wanted in
     let seen = selection_view c.args.selected.items in

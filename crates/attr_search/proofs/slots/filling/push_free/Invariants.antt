@@ -5,7 +5,7 @@ use Rattle.attr_table.specs.shared.Walk.{tasks_in, free_items}
 use Rattle.attr_search.specs.Slots.{table_items}
 use Rattle.attr_search.specs.shared.SlotContents.{open_slots}
 use Rattle.attr_search.specs.inner.Pending.{items_beside, IsInside, pending_tasks}
-use Rattle.attr_search.proofs.slot_filler.push_free.Given as goal
+use Rattle.attr_search.proofs.slots.filling.push_free.Given as goal
 
 abbrev pub invariant-loop-index : goal.invariant-loop-index
 invariant-loop-index l = record {
