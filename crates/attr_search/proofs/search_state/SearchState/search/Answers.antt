@@ -19,7 +19,8 @@ returns-then-is_done-clause-one c =
 pub returns-then-is_done-clause-searched : goal.returns-then-is_done-clause-searched
 returns-then-is_done-clause-searched c =
     let slots = open_slots c.args.self.now.slots in
-    walked_searched (query_setting c.args.self.now.slots (lists_view c.args.lists.now.lists.items) c.args.query) (state_wanted c.args.self.now.slots) slots slots
+    walked_searched (query_setting c.args.self.now.slots (lists_view c.args.lists.now.lists.items) c.args.query)
+    (state_wanted c.args.self.now.slots) slots slots
     (stops (sym c.if-is_done.ensures))
 
 pub returns-then-is_done-clause-joined : goal.returns-then-is_done-clause-joined
@@ -78,7 +79,8 @@ returns-clause-least c = λ undone.
     let part = rw c.begin_counts.ensures at c.in_ok-search_lists.ensures in
     let long = part.kept.len in
     taken_least (query_setting c.args.self.now.slots (lists_view c.args.lists.now.lists.items) c.args.query) (state_wanted c.args.self.now.slots)
-    (open_slots c.args.self.now.slots) (open_slots c.search_lists.new.self.slots) c.search_lists.new.self.slots.taken (length c.search_lists.new.self.slots.answers)
+    (open_slots c.args.self.now.slots) (open_slots c.search_lists.new.self.slots) c.search_lists.new.self.slots.taken
+    (length c.search_lists.new.self.slots.answers)
     (omega (arith, long, c.len.ensures)) (searched_as c.args.query (lists_view c.args.lists.now.lists.items) part.done)
 
 pub returns-clause-roots : goal.returns-clause-roots

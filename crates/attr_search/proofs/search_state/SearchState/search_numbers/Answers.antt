@@ -43,7 +43,8 @@ loop-k-preserved-then-number-bound c =
     let back : c.loop-k.k ≡ c.loop-k.k - 1 + 1 = omega (arith, more) in
     let left = subst (λ n. AreLeft query lists c.loop-k.bound n numbers) back inv.left in
     let apart = apart_above query lists c.loop-k.bound (c.loop-k.k - 1) numbers (omega (arith, more, most)) c.requires.numbers.rising left in
-    let after = skip_lists query lists (number + 1) c.loop-k.bound c.args.self.now.slots c.loop-k.self.slots inv.kept (omega (arith, lt)) apart inv.searched in
+    let after = skip_lists query lists (number + 1) c.loop-k.bound c.args.self.now.slots c.loop-k.self.slots inv.kept (omega (arith, lt)) apart
+    inv.searched in
     let from : drop number lists ≡ list ∷ drop (number + 1) lists =
     drop_more lists number list below ∙ ap (λ l. l ∷ drop (number + 1) lists) (sym c.index-lists-number.is) in
     record {
@@ -51,8 +52,8 @@ loop-k-preserved-then-number-bound c =
       left = left_less query lists c.loop-k.bound number (c.loop-k.k - 1) numbers (omega (arith, lt)) (omega arith) left;
       kept = then_kept c.args.self.now.slots c.loop-k.self.slots c.search_list.new.self.slots inv.kept c.search_list.ensures.kept;
       searched = subst (λ ls. SearchedLists query (lists_view ls) c.args.self.now.slots c.search_list.new.self.slots) (sym from)
-          (more_lists query (listed_view list) (lists_view (drop (number + 1) lists)) c.args.self.now.slots c.loop-k.self.slots c.search_list.new.self.slots inv.kept
-          after c.in_ok-search_list.ensures.done);
+          (more_lists query (listed_view list) (lists_view (drop (number + 1) lists)) c.args.self.now.slots c.loop-k.self.slots
+          c.search_list.new.self.slots inv.kept after c.in_ok-search_list.ensures.done);
     }
 
 pub returns : goal.returns
@@ -61,5 +62,6 @@ returns c =
     let apart = apart_below c.args.query c.args.lists.now c.loop-k.bound c.loop-k.k c.args.numbers.now c.loop-k-test.false inv.left in
     record {
       kept = inv.kept;
-      done = skip_lists c.args.query c.args.lists.now 0 c.loop-k.bound c.args.self.now.slots c.loop-k.self.slots inv.kept (omega arith) apart inv.searched;
+      done = skip_lists c.args.query c.args.lists.now 0 c.loop-k.bound c.args.self.now.slots c.loop-k.self.slots inv.kept (omega arith) apart
+          inv.searched;
     }

@@ -55,7 +55,8 @@ invariant_of-self-2 c =
       same_length = sym (ap length cut ∙ length-map wanted (λ flag. None));
       needed_length = c.requires.needed ∙ sym (ap length cut ∙ length-map wanted (λ flag. None));
       among = c.requires.among;
-      bodies = fitting c.set_up.new.self.bodies slots wanted c.args.changes.items c.self.inside.parts.bodies (rw c.len-count.ensures at (ap (λ parts. parts.bodies) made)) cut
+      bodies = fitting c.set_up.new.self.bodies slots wanted c.args.changes.items c.self.inside.parts.bodies
+          (rw c.len-count.ensures at (ap (λ parts. parts.bodies) made)) cut
           (rw (← c.self.view_is) at c.requires.within);
       opened = open_all c.args.needed c.write.new.flags.items slots wanted c.write.ensures
           (c.requires.needed ∙ sym (ap length cut ∙ length-map wanted (λ flag. None))) cut;

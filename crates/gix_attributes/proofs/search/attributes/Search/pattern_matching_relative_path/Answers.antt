@@ -24,7 +24,8 @@ use Rattle.gix_attributes.proofs.search.attributes.Search.pattern_matching_relat
 seen : (c : After-is_err) →
     (P : List Listed → List (List TrackedAssignment) → List ℕ → List Bool → List (Option Matched) → List ℕ → Case → Option Bool → Type 0) →
     P (lists_view c.args.self.now.patterns.lists.items) c.out.inside.state.slots.bodies (wanted_numbers c.out.inside.state.slots.wanted)
-    c.out.inside.state.slots.needed c.out.inside.state.slots.answers (bstr_bytes c.new-query.result.path) c.new-query.result.case c.new-query.result.is_dir →
+    c.out.inside.state.slots.needed c.out.inside.state.slots.answers (bstr_bytes c.new-query.result.path) c.new-query.result.case
+    c.new-query.result.is_dir →
     P (lists_view c.args.self.now.patterns.lists.items) c.args.out.now.bodies (wanted_of c.args.out.now) c.args.out.now.needed
     c.args.out.now.slots (bstr_bytes c.args.path) c.args.case c.args.is_dir
 seen c =
