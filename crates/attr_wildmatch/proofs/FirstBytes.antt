@@ -1,8 +1,9 @@
 -- Directories that begin with a byte, and where tokens that begin with it may match.
 use Rattle.std.proofs.lemmas.Grind.{common_steps}
-use Rattle.std.proofs.Common.{◌≡◌, ◌≤◌, ◌+◌, ◌-◌, ℕ, suc, Bool, false, ◌&&◌, ◌||◌, List, [], ◌∷◌, length, drop, take, None, refl, ap, ◌∙◌, arith}
+use Rattle.std.proofs.Common.{◌≡◌, ◌≤◌, ◌<◌, ◌+◌, ◌-◌, ℕ, zero, suc, Bool, slice_index, true, false, ◌==◌, ◌&&◌, ◌||◌, sym, subst, List, [], ◌∷◌, length, drop, take, None, refl, ap, ◌∙◌, arith}
 use Rattle.std.proofs.lemmas.Bool.Decides.{nat_tests}
 use Rattle.std.proofs.lemmas.List.{take_all, length-drop, drop-drop}
+use Rattle.memchr.specs.Find.{is_byte, Passes, Nowhere, NoneBefore}
 use Rattle.attr_wildmatch.specs.declared.case.Case.{Case}
 use Rattle.attr_wildmatch.specs.declared.case.Case.TheVariants.{Sensitive}
 use Rattle.attr_wildmatch.specs.Brackets.{begins}
@@ -56,9 +57,6 @@ none_in_end test size v rest short fewer' many within is same passed =
     grind (arith, nat_tests, take_all, length-drop 8 (drop (length v - size) v), length-drop (length v - size) v, fact2, fact, passed)
 
 -- too few bytes
-pub no_byte : (c : ℕ) (w : List ℕ) → length w + 8 ≡ 8 → from_first (begins c) w ≡ []
-no_byte c w l = grind (arith, common_steps, nat_tests)
-
 pub no_pair : (a c : ℕ) (w : List ℕ) → length w + 8 ≡ 9 → from_first (begins_with_pair a c) w ≡ []
 no_pair a c [] l = refl
 no_pair a c w l = grind (arith, nat_tests, by_test)
@@ -92,3 +90,40 @@ no_start case c ts v h e = rw (h.sensitive, h.tokens) (no_next_start c h.others 
 
 pub no_bytes : (v : List ℕ) → length v ≡ 0 → v ≡ []
 no_bytes v l = grind (arith, common_steps, nat_tests)
+
+first_at : (c : ℕ) (v : List ℕ) (k : ℕ) → k < length v → (slice_index v k == c) ≡ true →
+    ((i : ℕ) → i < k → (slice_index v i == c) ≡ true → ⊥) → drop k v ≡ from_first (begins c) v
+first_at c [] k inside here before = absurd (omega arith)
+first_at c (b ∷ bs) zero inside here before = grind (arith, nat_tests)
+first_at c (b ∷ bs) (suc k) inside here before =
+    let later = first_at c bs k (omega arith) here (λ i l. before (suc i) (omega arith)) in
+    grind (arith, nat_tests, later, before 0)
+
+absent : (c : ℕ) (v : List ℕ) → ((i : ℕ) → i < length v → (slice_index v i == c) ≡ true → ⊥) → [] ≡ from_first (begins c) v
+absent c [] nowhere = refl
+absent c (b ∷ bs) nowhere =
+    let later = absent c bs (λ i l. nowhere (suc i) (omega arith)) in
+    grind (arith, nat_tests, later, nowhere 0)
+
+-- a search for a byte finds the first offset at which the value begins with it
+pub found_byte : (c : ℕ) (v : List ℕ) (test : ℕ → Bool) (k : ℕ) → test ≡ is_byte c → NoneBefore (Passes test v) 0 (length v) k →
+    Passes test v k → take (length v - k) (drop k v) ≡ from_first (begins c) v
+found_byte c v test k e first here =
+    take_all (length v - k) (drop k v) (omega (arith, length-drop k v))
+    ∙ first_at c v k first.high (subst (λ t. t (slice_index v k) ≡ true) e here)
+    (λ i l passes. first.before i (omega arith) l (subst (λ t. t (slice_index v i) ≡ true) (sym e) passes))
+
+pub absent_byte : (c : ℕ) (v : List ℕ) (test : ℕ → Bool) → test ≡ is_byte c → Nowhere (Passes test v) 0 (length v) →
+    [] ≡ from_first (begins c) v
+absent_byte c v test e nowhere =
+    absent c v (λ i l passes. nowhere i (omega arith) l (subst (λ t. t (slice_index v i) ≡ true) (sym e) passes))
+
+-- what follows the first slash is the next directory
+pub found_slash : (f : List ℕ → Bool) (v next : List ℕ) (s : ℕ) → from_first (begins slash) v ≡ s ∷ next →
+    slash_then f v ≡ (f next || slash_then f next)
+found_slash f [] next s h = absurd cc
+found_slash f (b ∷ bs) next s h = grind (arith, nat_tests, found_slash f bs next s)
+
+pub no_slash : (f : List ℕ → Bool) (v : List ℕ) → from_first (begins slash) v ≡ [] → slash_then f v ≡ false
+no_slash f [] h = refl
+no_slash f (b ∷ bs) h = grind (arith, nat_tests, no_slash f bs)

@@ -10,7 +10,7 @@ ghost use Rattle.attr_wildmatch.specs.Deciding.{slash_then, matches};
 use crate::case::Case;
 use crate::slashes;
 use crate::token::Token;
-use crate::wildmatch::first_bytes::{first_byte, from_pair, may_begin};
+use crate::wildmatch::first_bytes::{first_byte, from_byte, from_pair, may_begin};
 use crate::wildmatch::stretches::match_stretches;
 use crate::wildmatch::{MatchBuffers, run, skip_front};
 
@@ -54,24 +54,6 @@ fn answer_front(tokens: &[Token], value: &[u8], case: Case) -> Option<bool>
     answer_alone(tokens, value)
 }
 
-// The offset of the first slash.
-fn first_slash(value: &[u8]) -> Option<usize>
-    ensures { result ≡ position is_slash value.now }
-{
-    value.iter().position(|byte| *byte == b'/')
-}
-
-// What follows the first slash, in the next directory.
-fn after_slash(value: &[u8]) -> Option<&[u8]>
-    ensures next { IfSome result (λ next. (f : List ℕ → Bool) →
-        slash_then f value.now ≡ (f next.now || slash_then f next.now)) }
-    ensures none { IfNone result ((f : List ℕ → Bool) → slash_then f value.now ≡ false) }
-    ensures shorter { IfSome result (λ next. length next.now < length value.now) }
-{
-    let offset = first_slash(value)?;
-    Some(&value[offset + 1..])
-}
-
 // The next directory in which the tokens may match: if they begin with a byte whose case matters, one that begins with it.
 fn next_directory<'v>(tokens: &[Token], value: &'v [u8], case: Case) -> Option<&'v [u8]>
     ensures next { IfSome result (λ next. let f = matches case (tokens_of tokens.now) in
@@ -80,10 +62,11 @@ fn next_directory<'v>(tokens: &[Token], value: &'v [u8], case: Case) -> Option<&
         slash_then (matches case (tokens_of tokens.now)) value.now ≡ false) }
     ensures shorter { IfSome result (λ next. length next.now < length value.now) }
 {
-    let Some(byte) = first_byte(tokens, case) else {
-        return after_slash(value);
+    let below = match first_byte(tokens, case) {
+        Some(byte) => from_pair(value, b'/', byte),
+        None => from_byte(value, b'/'),
     };
-    let (_, next) = from_pair(value, b'/', byte).split_first()?;
+    let (_, next) = below.split_first()?;
     Some(next)
 }
 

@@ -1,4 +1,4 @@
-//! Where tokens that begin with a byte or two may match: eight offsets are looked at together.
+//! Where tokens that begin with a byte or two may match.
 
 ghost use Rattle.std.specs.Prelude.{◌≡◌, ◌≤◌, ◌∷◌, IfSome, IsFalse, false, drop, length};
 ghost use Rattle.attr_wildmatch.specs.Brackets.{begins};
@@ -9,27 +9,16 @@ ghost use Rattle.attr_wildmatch.specs.inner.FirstBytes.{BeginWith, BeginWithPair
 
 use crate::case::Case;
 use crate::token::Token;
-
-// The byte that the first token stands for, if it is a byte, and the tokens after it.
-fn first_literal(tokens: &[Token]) -> Option<(u8, &[Token])>
-    ensures { IfSome result (λ first.
-        tokens_of tokens.now ≡ lit first.0 ∷ tokens_of first.1.now) }
-{
-    match tokens {
-        [Token::Lit(byte), others @ ..] => Some((*byte, others)),
-        _ => None,
-    }
-}
+use memchr::arch::all::memchr::One;
 
 // The byte that the tokens begin with, if its case matters.
 pub(crate) fn first_byte(tokens: &[Token], case: Case) -> Option<u8>
     ensures { IfSome result (λ byte. BeginWith case byte (tokens_of tokens.now)) }
 {
-    if let Case::Fold = case {
-        return None;
+    match (case, tokens) {
+        (Case::Sensitive, [Token::Lit(byte), ..]) => Some(*byte),
+        _ => None,
     }
-    let (byte, _) = first_literal(tokens)?;
-    Some(byte)
 }
 
 // The two bytes that the tokens begin with, if their case matters.
@@ -37,47 +26,10 @@ pub(crate) fn first_pair(tokens: &[Token], case: Case) -> Option<(u8, u8)>
     ensures { IfSome result (λ pair.
         BeginWithPair case pair.0 pair.1 (tokens_of tokens.now)) }
 {
-    let first = first_byte(tokens, case)?;
-    let (_, others) = first_literal(tokens)?;
-    let (second, _) = first_literal(others)?;
-    Some((first, second))
-}
-
-// Whether the byte may be one of the first eight: these are compared together. True for fewer bytes.
-fn may_hold_byte(value: &[u8], byte: u8) -> bool
-    ensures enough { IsFalse result → 8 ≤ length value.now }
-    ensures passed { IsFalse result →
-        from_first (begins byte) (drop 8 value.now) ≡ from_first (begins byte) value.now }
-{
-    match value {
-        [a, b, c, d, e, f, g, h, ..] => {
-            (*a == byte)
-                | (*b == byte)
-                | (*c == byte)
-                | (*d == byte)
-                | (*e == byte)
-                | (*f == byte)
-                | (*g == byte)
-                | (*h == byte)
-        }
-        _ => true,
+    match (case, tokens) {
+        (Case::Sensitive, [Token::Lit(first), Token::Lit(second), ..]) => Some((*first, *second)),
+        _ => None,
     }
-}
-
-// The value from a byte on before which none is this byte. The last eight bytes are compared together too, some of them
-// again, rather than one by one.
-fn skip_others(value: &[u8], byte: u8) -> &[u8]
-    ensures same { from_first (begins byte) result.now ≡ from_first (begins byte) value.now }
-    ensures shorter { length result.now ≤ length value.now }
-{
-    let mut rest = value;
-    while !may_hold_byte(rest, byte) {
-        rest = &rest[8..];
-    }
-    if rest.len() < 8 && value.len() >= 8 && !may_hold_byte(&value[value.len() - 8..], byte) {
-        return &[];
-    }
-    rest
 }
 
 // The value from the first such byte on, and nothing if it has none. It isn't inlined, so that its callers are small enough
@@ -87,14 +39,10 @@ pub(crate) fn from_byte(value: &[u8], byte: u8) -> &[u8]
     ensures found { result.now ≡ from_first (begins byte) value.now }
     ensures shorter { length result.now ≤ length value.now }
 {
-    let mut rest = skip_others(value, byte);
-    while let Some((first, others)) = rest.split_first() {
-        if *first == byte {
-            return rest;
-        }
-        rest = others;
+    match One::new(byte).find(value) {
+        Some(offset) => &value[offset..],
+        None => &[],
     }
-    rest
 }
 
 // Whether the pair may stand at one of the first eight offsets: these are compared together. True for fewer bytes.
