@@ -1,11 +1,13 @@
 -- Tokens that take one byte each, taken off at either end with their bytes, and the tokens that then take any rest.
 use Rattle.std.proofs.lemmas.Grind.{common_steps}
-use Rattle.std.proofs.Common.{◌≡◌, ℕ, Bool, true, false, ◌&&◌, List, [], ◌∷◌, ◌++◌, length, refl, ap, ◌∙◌, arith}
+use Rattle.std.proofs.Common.{◌≡◌, ℕ, Bool, true, false, ◌&&◌, List, [], ◌∷◌, ◌++◌, length, Option, None, Some, if◌then◌else◌, refl, sym, subst, ap, ◌∙◌, arith}
 use Rattle.std.proofs.lemmas.Bool.Decides.{nat_tests}
 use Rattle.std.proofs.lemmas.Bool.{and_from, and_parts}
 use Rattle.attr_wildmatch.specs.declared.case.Case.{Case}
 use Rattle.attr_wildmatch.specs.Tokens.{Token, lit, one, set, star, dirs, rest, token_ends_in_slash}
 use Rattle.attr_wildmatch.specs.inner.Bordered.{is_bordered}
+use Rattle.attr_wildmatch.specs.inner.Left.{IsLeft, AreTakenOff}
+use Rattle.attr_wildmatch.specs.inner.Stretches.{front_left}
 use Rattle.attr_wildmatch.specs.Matching.{Match}
 use Rattle.attr_wildmatch.specs.Deciding.{takes_byte, matches}
 use Rattle.attr_wildmatch.specs.inner.RowIndexes.{may_be_nothing}
@@ -73,3 +75,46 @@ pub exact_answer : (case : Case) (ts : List Token) (v : List ℕ) (answer : Bool
     (Match case ts v → answer ≡ true) →
     answer ≡ matches case ts v
 exact_answer case ts v answer so back = grind (arith, nat_tests, same_answer, test_of_match, match_of_test)
+
+pub all_left : (case : Case) (ts : List Token) (v : List ℕ) → IsLeft case ts v ts v
+all_left case ts v = record { matched = refl; bordered = λ h. h; fewer = omega arith }
+
+-- what is taken off what is left is taken off all
+pub taken_off_then : (case : Case) (ts left : List Token) (v bytes : List ℕ) (more : Option (List Token × List ℕ)) →
+    IsLeft case ts v left bytes → AreTakenOff case left bytes more → AreTakenOff case ts v more
+taken_off_then case ts left v bytes None h k = h.matched ∙ k
+taken_off_then case ts left v bytes (Some more) h k =
+    record { matched = h.matched ∙ k.matched; bordered = λ b. k.bordered (h.bordered b); fewer = omega (arith, h.fewer, k.fewer) }
+
+one_off : (case : Case) (t : Token) (ts : List Token) (b : ℕ) (bs : List ℕ) (more : Option (List Token × List ℕ)) →
+    matches case (t ∷ ts) (b ∷ bs) ≡ (takes_byte case t b && matches case ts bs) → AreTakenOff case ts bs more →
+    AreTakenOff case (t ∷ ts) (b ∷ bs) (if takes_byte case t b then more else None)
+one_off case t ts b bs more e k =
+    by_test (takes_byte case t b)
+    (λ yes. rw yes (taken_off_then case (t ∷ ts) ts (b ∷ bs) bs more
+    (record { matched = e ∙ rw yes refl; bordered = bordered-tail t ts; fewer = omega arith }) k))
+    (λ no. rw no (e ∙ rw no refl))
+
+-- the tokens of one byte at the front are taken off
+pub front_taken_off : (case : Case) (ts : List Token) (v : List ℕ) → AreTakenOff case ts v (front_left case ts v)
+front_taken_off case [] v = all_left case [] v
+front_taken_off case (star ∷ ts) [] = all_left case (star ∷ ts) []
+front_taken_off case (star ∷ ts) (b ∷ bs) = all_left case (star ∷ ts) (b ∷ bs)
+front_taken_off case (dirs ∷ ts) [] = all_left case (dirs ∷ ts) []
+front_taken_off case (dirs ∷ ts) (b ∷ bs) = all_left case (dirs ∷ ts) (b ∷ bs)
+front_taken_off case (rest ∷ ts) [] = all_left case (rest ∷ ts) []
+front_taken_off case (rest ∷ ts) (b ∷ bs) = all_left case (rest ∷ ts) (b ∷ bs)
+front_taken_off case (lit c ∷ ts) [] = refl
+front_taken_off case (lit c ∷ ts) (b ∷ bs) = one_off case (lit c) ts b bs (front_left case ts bs) refl (front_taken_off case ts bs)
+front_taken_off case (one ∷ ts) [] = refl
+front_taken_off case (one ∷ ts) (b ∷ bs) = one_off case one ts b bs (front_left case ts bs) refl (front_taken_off case ts bs)
+front_taken_off case (set negated ms ∷ ts) [] = refl
+front_taken_off case (set negated ms ∷ ts) (b ∷ bs) =
+    one_off case (set negated ms) ts b bs (front_left case ts bs) refl (front_taken_off case ts bs)
+
+pub front_left-none : (case : Case) (ts : List Token) (v : List ℕ) → None ≡ front_left case ts v → matches case ts v ≡ false
+front_left-none case ts v e = subst (AreTakenOff case ts v) (sym e) (front_taken_off case ts v)
+
+pub front_left-some : (case : Case) (ts : List Token) (v : List ℕ) (left : List Token × List ℕ) → Some left ≡ front_left case ts v →
+    IsLeft case ts v left.0 left.1
+front_left-some case ts v left e = subst (AreTakenOff case ts v) (sym e) (front_taken_off case ts v)

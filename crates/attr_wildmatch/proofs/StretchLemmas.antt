@@ -1,5 +1,5 @@
 -- The first offset at which a stretch fits between two stars is the best one: the later star takes what others would take.
-use Rattle.std.proofs.Common.{arith, ◌≡◌, ℕ, zero, suc, Bool, true, false, not, ◌&&◌, List, [], ◌∷◌, ◌++◌, length, drop, Option, Some}
+use Rattle.std.proofs.Common.{arith, ◌≡◌, ◌≤◌, ℕ, zero, suc, Bool, true, false, not, ◌&&◌, List, [], ◌∷◌, ◌++◌, length, drop, Option, Some}
 use Rattle.std.proofs.Common.{None, option_map, if◌then◌else◌, refl, sym, ap, ◌∙◌}
 use Rattle.std.proofs.lemmas.Bool.Decides.{nat_tests}
 use Rattle.std.specs.List.{list_any}
@@ -128,3 +128,12 @@ pub first_here : (case : Case) (ts : List Token) (v : List ℕ) (left : List Tok
     first_left case ts v ≡ Some left
 first_here case ts [] left h = sym h
 first_here case ts (b ∷ bs) left h = ap (λ l. or_else l (first_left case ts bs)) (sym h)
+
+after_stretch-fewer : (ts : List Token) → length (after_stretch ts) ≤ length ts
+after_stretch-fewer [] = omega arith
+after_stretch-fewer (t ∷ ts) = grind (arith, nat_tests, after_stretch-fewer ts)
+
+-- no more tokens are left than there were
+pub first_left-fewer : (case : Case) (ts : List Token) (v : List ℕ) (left : List Token × List ℕ) → Some left ≡ first_left case ts v →
+    length left.0 ≤ length ts
+first_left-fewer case ts v left e = grind (arith, nat_tests, first_by_fit case ts v, after_stretch-fewer ts)

@@ -59,20 +59,7 @@ impl Token {
     pub(crate) fn may_be_empty(&self) -> bool
         ensures { result ≡ may_be_nothing (token_of self.now) }
     {
-        match self {
-            Token::Star | Token::Dirs | Token::Rest => true,
-            Token::Lit(_) | Token::One | Token::Set { .. } => false,
-        }
-    }
-
-    // Whether the token is a directory star.
-    pub(crate) fn is_directory_star(&self) -> bool
-        ensures { result ≡ is_dirs (token_of self.now) }
-    {
-        match self {
-            Token::Dirs => true,
-            Token::Lit(_) | Token::One | Token::Set { .. } | Token::Star | Token::Rest => false,
-        }
+        matches!(self, Token::Star | Token::Dirs | Token::Rest)
     }
 
     // Whether a token that takes any number of bytes goes on to take this one.

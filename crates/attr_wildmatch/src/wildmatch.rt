@@ -11,7 +11,7 @@ ghost use Rattle.attr_wildmatch.specs.inner.Bordered.{is_bordered};
 ghost use Rattle.attr_wildmatch.specs.Spelling.{AreTokens};
 ghost use Rattle.attr_wildmatch.specs.Matching.{Match, ReachedAtMost, TextMatches};
 ghost use Rattle.attr_wildmatch.specs.Deciding.{matches, text_matches};
-ghost use Rattle.attr_wildmatch.specs.inner.Left.{IsLeft};
+ghost use Rattle.attr_wildmatch.specs.inner.Left.{AreTakenOff};
 ghost use Rattle.attr_wildmatch.specs.inner.Stretches.{front_left};
 ghost use Rattle.attr_wildmatch.specs.inner.RowIndexes.{may_skip, is_dirs_at, stays_on, advances_on, token_before, indexes_below, IsGrowing, IsStep, IsRow, IsUnderway, NoneAlive, HasStayed, HasRoom, IsExtended, KeepsCapacity};
 
@@ -122,10 +122,7 @@ impl Step<'_> {
         ensures directory { result ≡ is_dirs_at (slice_get (tokens_of self.now.tokens.now) index) }
         ensures inside { IsTrue result → index < length self.now.tokens.now }
     {
-        match token_at(self.tokens, index) {
-            None => false,
-            Some(token) => token.is_directory_star(),
-        }
+        matches!(token_at(self.tokens, index), Some(Token::Dirs))
     }
 
     // Whether the token of the index ends with the byte, so that the next index is reached.
@@ -261,12 +258,8 @@ fn skip_front<'t, 'v>(
     value: &'v [u8],
     case: Case,
 ) -> Option<(&'t [Token], &'v [u8])>
-    ensures left { IfSome result (λ r.
-        IsLeft case (tokens_of tokens.now) value.now (tokens_of r.0.now) r.1.now) }
-    ensures missed { IfNone result (matches case (tokens_of tokens.now) value.now ≡ false) }
-    ensures value { option_map (λ r. (tokens_of r.0.now, r.1.now)) result
+    ensures { option_map (λ r. (tokens_of r.0.now, r.1.now)) result
         ≡ front_left case (tokens_of tokens.now) value.now }
-    ensures shorter { IfSome result (λ r. length r.0.now ≤ length tokens.now) }
 {
     let mut left = tokens;
     let mut rest = value;
@@ -290,10 +283,8 @@ fn skip_end<'t, 'v>(
     value: &'v [u8],
     case: Case,
 ) -> Option<(&'t [Token], &'v [u8])>
-    ensures left { IfSome result (λ r.
-        IsLeft case (tokens_of tokens.now) value.now (tokens_of r.0.now) r.1.now) }
-    ensures missed { IfNone result (matches case (tokens_of tokens.now) value.now ≡ false) }
-    ensures shorter { IfSome result (λ r. length r.0.now ≤ length tokens.now) }
+    ensures { AreTakenOff case (tokens_of tokens.now) value.now
+        (option_map (λ r. (tokens_of r.0.now, r.1.now)) result) }
 {
     let mut left = tokens;
     let mut rest = value;
@@ -326,10 +317,8 @@ fn skip_ends<'t, 'v>(
     value: &'v [u8],
     case: Case,
 ) -> Option<(&'t [Token], &'v [u8])>
-    ensures left { IfSome result (λ r.
-        IsLeft case (tokens_of tokens.now) value.now (tokens_of r.0.now) r.1.now) }
-    ensures missed { IfNone result (matches case (tokens_of tokens.now) value.now ≡ false) }
-    ensures shorter { IfSome result (λ r. length r.0.now ≤ length tokens.now) }
+    ensures { AreTakenOff case (tokens_of tokens.now) value.now
+        (option_map (λ r. (tokens_of r.0.now, r.1.now)) result) }
 {
     if is_open(tokens) {
         return Some((tokens, value));

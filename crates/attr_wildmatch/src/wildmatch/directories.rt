@@ -4,7 +4,7 @@ ghost use Rattle.std.specs.Prelude.{◌≡◌, ◌≤◌, ◌<◌, ◌^◌, ◌|
 ghost use Rattle.attr_wildmatch.specs.Slashes.{is_slash};
 ghost use Rattle.attr_wildmatch.specs.Tokens.{dirs};
 ghost use Rattle.attr_wildmatch.specs.TokenList.{token_of, tokens_of};
-ghost use Rattle.attr_wildmatch.specs.inner.Bordered.{is_bordered};
+ghost use Rattle.attr_wildmatch.specs.inner.Bordered.{IsReady};
 ghost use Rattle.attr_wildmatch.specs.Deciding.{slash_then, matches};
 
 use crate::case::Case;
@@ -80,9 +80,7 @@ fn match_directories(
     rows: &mut MatchBuffers,
 ) -> bool
     requires directory { tokens_of tokens.now ≡ dirs ∷ tokens_of others.now }
-    requires few { length tokens.now < 2 ^ 63 }
-    requires bordered { is_bordered true (tokens_of tokens.now) ≡ true }
-    requires room { length tokens.now < rows.old }
+    requires ready { IsReady tokens.now rows.old }
     ensures matched { result ≡ matches case (tokens_of tokens.now) value.now }
     ensures room { rows.old ≤ rows.new }
 {
@@ -107,9 +105,7 @@ pub(crate) fn match_early(
     case: Case,
     rows: &mut MatchBuffers,
 ) -> bool
-    requires few { length tokens.now < 2 ^ 63 }
-    requires bordered { is_bordered true (tokens_of tokens.now) ≡ true }
-    requires room { length tokens.now < rows.old }
+    requires ready { IsReady tokens.now rows.old }
     ensures matched { result ≡ matches case (tokens_of tokens.now) value.now }
     ensures room { rows.old ≤ rows.new }
 {

@@ -36,8 +36,7 @@ pub(crate) fn first_pair(tokens: &[Token], case: Case) -> Option<(u8, u8)>
 // to be.
 #[inline(never)]
 pub(crate) fn from_byte(value: &[u8], byte: u8) -> &[u8]
-    ensures found { result.now ≡ from_first (begins byte) value.now }
-    ensures shorter { length result.now ≤ length value.now }
+    ensures { result.now ≡ from_first (begins byte) value.now }
 {
     match One::new(byte).find(value) {
         Some(offset) => &value[offset..],
@@ -100,8 +99,7 @@ fn begins_with_pair(value: &[u8], first: u8, second: u8) -> bool
 // for the same reason.
 #[inline(never)]
 pub(crate) fn from_pair(value: &[u8], first: u8, second: u8) -> &[u8]
-    ensures found { result.now ≡ from_first (begins_with_pair first second) value.now }
-    ensures shorter { length result.now ≤ length value.now }
+    ensures { result.now ≡ from_first (begins_with_pair first second) value.now }
 {
     let mut rest = skip_pairs(value, first, second);
     while let Some((_, others)) = rest.split_first() {

@@ -1,7 +1,7 @@
 //! Matching of stars with stretches of tokens of one byte between them: in a value without a slash, each stretch is looked
 //! for from the left to the right, and no row is moved.
 
-ghost use Rattle.std.specs.Prelude.{◌≡◌, ◌≤◌, ◌<◌, [], ◌∷◌, IfSome, IfNone, None, Some, false, length};
+ghost use Rattle.std.specs.Prelude.{◌≡◌, ◌≤◌, ◌<◌, [], ◌∷◌, IfSome, IfNone, None, false, length, option_map};
 ghost use Rattle.std.specs.List.{list_any};
 ghost use Rattle.attr_wildmatch.specs.Slashes.{is_slash};
 ghost use Rattle.attr_wildmatch.specs.Tokens.{star};
@@ -51,10 +51,8 @@ fn first_fit_from<'t, 'v>(
     value: &'v [u8],
     case: Case,
 ) -> Option<(&'t [Token], &'v [u8])>
-    ensures left { IfSome result (λ r. first_left case (tokens_of tokens.now) value.now
-        ≡ Some (tokens_of r.0.now, r.1.now)) }
-    ensures none { IfNone result (first_left case (tokens_of tokens.now) value.now ≡ None) }
-    ensures shorter { IfSome result (λ r. length r.0.now ≤ length tokens.now) }
+    ensures { option_map (λ r. (tokens_of r.0.now, r.1.now)) result
+        ≡ first_left case (tokens_of tokens.now) value.now }
 {
     let mut rest = value;
     loop {
@@ -73,10 +71,8 @@ fn first_fit<'t, 'v>(
     value: &'v [u8],
     case: Case,
 ) -> Option<(&'t [Token], &'v [u8])>
-    ensures left { IfSome result (λ r. first_left case (tokens_of tokens.now) value.now
-        ≡ Some (tokens_of r.0.now, r.1.now)) }
-    ensures none { IfNone result (first_left case (tokens_of tokens.now) value.now ≡ None) }
-    ensures shorter { IfSome result (λ r. length r.0.now ≤ length tokens.now) }
+    ensures { option_map (λ r. (tokens_of r.0.now, r.1.now)) result
+        ≡ first_left case (tokens_of tokens.now) value.now }
 {
     let start = from_literal(tokens, value, case)?;
     first_fit_from(tokens, start, case)

@@ -2,16 +2,16 @@ use Rattle.std.proofs.Common.{arith, sym, ap, ◌∙◌}
 use Rattle.std.proofs.lemmas.Bool.Decides.{nat_tests}
 use Rattle.attr_wildmatch.specs.TokenList.{tokens_of}
 use Rattle.attr_wildmatch.specs.Deciding.{matches}
-use Rattle.attr_wildmatch.proofs.FirstBytes.{found_start, found_slash, no_bytes, no_slash, no_start}
+use Rattle.attr_wildmatch.proofs.FirstBytes.{found_start, found_slash, from_first-shorter, no_bytes, no_slash, no_start}
 use Rattle.attr_wildmatch.proofs.wildmatch.directories.next_directory.Goals.{in-Some, in-None}
 use Rattle.attr_wildmatch.proofs.wildmatch.directories.next_directory.Goals as goal
 
 pub returns-clause-next : goal.returns-clause-next
 returns-clause-next c = elim c.match-first_byte.branch [
   | in-Some w ↦ found_start c.args.case w.in-Some.byte (tokens_of c.args.tokens.now) c.args.value.now c.in_ok-next.next.now _ w.in-Some.ensures
-      (sym w.from_pair-below.ensures.found ∙ (ap (λ b. b.now) (sym w.below-is) ∙ c.in_ok-next.ensures.cases.0))
+      (sym w.from_pair-below.ensures ∙ (ap (λ b. b.now) (sym w.below-is) ∙ c.in_ok-next.ensures.cases.0))
   | in-None w ↦ found_slash (matches c.args.case (tokens_of c.args.tokens.now)) c.args.value.now c.in_ok-next.next.now _
-      (sym w.from_byte-below.ensures.found ∙ (ap (λ b. b.now) (sym w.below-is) ∙ c.in_ok-next.ensures.cases.0))
+      (sym w.from_byte-below.ensures ∙ (ap (λ b. b.now) (sym w.below-is) ∙ c.in_ok-next.ensures.cases.0))
 ]
 
 pub returns-in_err-next-clause-none : goal.returns-in_err-next-clause-none
@@ -19,3 +19,8 @@ returns-in_err-next-clause-none c = elim c.match-first_byte.branch [
   | in-Some w ↦ grind (arith, nat_tests, no_start, no_bytes)
   | in-None w ↦ grind (arith, nat_tests, no_slash, no_bytes)
 ]
+
+pub returns-clause-shorter : goal.returns-clause-shorter
+returns-clause-shorter c = elim c.match-first_byte.branch [
+    in-Some w ↦ grind (arith, nat_tests, from_first-shorter)
+  | in-None w ↦ grind (arith, nat_tests, from_first-shorter) ]

@@ -1,4 +1,4 @@
-use Rattle.std.proofs.Common.{◌≡◌, [], ◌∷◌, ℕ, List, length, arith, true, Some}
+use Rattle.std.proofs.Common.{◌≡◌, [], ◌∷◌, ℕ, List, length, arith, true, Some, sym}
 use Rattle.std.proofs.lemmas.Bool.Decides.{nat_tests}
 use Rattle.std.proofs.lemmas.Bool.{eqb-true}
 use Rattle.attr_wildmatch.specs.declared.case.Case.{Case}
@@ -8,7 +8,8 @@ use Rattle.attr_wildmatch.specs.Tokens.{Token, star}
 use Rattle.attr_wildmatch.specs.TokenList.{tokens_of}
 use Rattle.attr_wildmatch.specs.inner.Stretches.{first_left}
 use Rattle.attr_wildmatch.proofs.Directories.{star_alone}
-use Rattle.attr_wildmatch.proofs.StretchLemmas.{Plain, star_found, star_missed}
+use Rattle.attr_wildmatch.proofs.StretchLemmas.{Plain, first_left-fewer, star_found, star_missed}
+use Rattle.attr_wildmatch.proofs.TokenLemmas.{length-tokens_of}
 use Rattle.attr_wildmatch.proofs.wildmatch.stretches.match_plain.Goals as goal
 
 found : (case : Case) (all left others next ts : List Token) (value v after : List ℕ) →
@@ -34,4 +35,9 @@ loop-others-preserved c =
     (tokens_of c.in-Some-first_fit.next.now) (tokens_of c.in_ok-after_star.field-0.now) c.args.value.now c.loop-others.rest.now
     c.in-Some-first_fit.after.now
     c.loop-others.invariant.0 c.loop-others.invariant.1 c.in-Some.ensures.star c.in_ok-after_star.ensures.star
-    c.in-Some-first_fit.ensures.left
+    (sym c.in-Some-first_fit.ensures)
+
+pub loop-others-smaller : goal.loop-others-smaller
+loop-others-smaller c =
+    let fewer = first_left-fewer c.args.case (tokens_of c.in-Some.others.now) c.loop-others.rest.now _ c.in-Some-first_fit.ensures in
+    omega (arith, fewer, length-tokens_of c.in-Some-first_fit.next.now, length-tokens_of c.in-Some.others.now, c.in-Some.ensures.shorter)
