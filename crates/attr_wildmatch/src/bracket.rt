@@ -239,8 +239,7 @@ fn range_end(bytes: &[u8]) -> Option<(u8, &[u8])>
 
 // The single byte, or the range that it begins, given the bytes after it, and what follows.
 fn single_or_range(byte: u8, bytes: &[u8]) -> (Member, &[u8])
-    ensures member { (result.0, result.1.now) ≡ from_single byte bytes.now }
-    ensures shorter { length result.1.now ≤ length bytes.now }
+    ensures { (result.0, result.1.now) ≡ from_single byte bytes.now }
 {
     if let [b'-', ends @ ..] = bytes {
         if let Some((end, rest)) = range_end(ends) {
@@ -252,8 +251,7 @@ fn single_or_range(byte: u8, bytes: &[u8]) -> (Member, &[u8])
 
 // The member that a backslash begins, given the bytes after the backslash, and what follows the member.
 fn escaped(bytes: &[u8]) -> Option<(Member, &[u8])>
-    ensures member { option_map (λ r. (r.0, r.1.now)) result ≡ from_escape bytes.now }
-    ensures shorter { IfSome result (λ r. length r.1.now ≤ length bytes.now) }
+    ensures { option_map (λ r. (r.0, r.1.now)) result ≡ from_escape bytes.now }
 {
     let (byte, rest) = bytes.split_first()?;
     Some(single_or_range(*byte, rest))
@@ -264,8 +262,7 @@ fn escaped(bytes: &[u8]) -> Option<(Member, &[u8])>
 fn class_or_single(bytes: &[u8], close: usize) -> Option<(Member, &[u8])>
     requires colon { begins colon bytes.now ≡ true }
     requires close { close ≡ from_close bytes.now }
-    ensures member { option_map (λ r. (r.0, r.1.now)) result ≡ from_class bytes.now }
-    ensures shorter { IfSome result (λ r. length r.1.now ≤ length bytes.now) }
+    ensures { option_map (λ r. (r.0, r.1.now)) result ≡ from_class bytes.now }
 {
     match class_name(&bytes[1..], close) {
         None => Some(single_or_range(b'[', bytes)),
@@ -280,8 +277,7 @@ fn class_or_single(bytes: &[u8], close: usize) -> Option<(Member, &[u8])>
 // there are from the first `]` on.
 fn read_member(byte: u8, bytes: &[u8], close: usize) -> Option<(Member, &[u8])>
     requires { close ≡ from_close bytes.now }
-    ensures member { option_map (λ r. (r.0, r.1.now)) result ≡ member_at byte bytes.now }
-    ensures shorter { IfSome result (λ r. length r.1.now ≤ length bytes.now) }
+    ensures { option_map (λ r. (r.0, r.1.now)) result ≡ member_at byte bytes.now }
 {
     if byte == b'\\' {
         return escaped(bytes);

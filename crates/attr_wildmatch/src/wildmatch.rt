@@ -140,7 +140,6 @@ impl Step<'_> {
     // Adds an index of the row before to the next row, if the byte leaves it there.
     fn stay(&self, row: &mut Vec<usize>, free: usize, index: usize) -> usize
         requires room { HasRoom (length self.now.tokens.now) row.old free }
-        requires bound { free ≤ length self.now.tokens.now + 1 }
         ensures extended { let n = length self.now.tokens.now in
             IsExtended n index row.old row.new free result }
         ensures row { let ts = tokens_of self.now.tokens.now in (fresh alive before : ℕ → Bool) →
@@ -161,7 +160,6 @@ impl Step<'_> {
     // Adds the index after one of the row before to the next row, if the byte leads to it.
     fn advance(&self, row: &mut Vec<usize>, free: usize, index: usize) -> usize
         requires room { HasRoom (length self.now.tokens.now) row.old free }
-        requires bound { free ≤ length self.now.tokens.now + 1 }
         ensures extended { let n = length self.now.tokens.now in
             IsExtended n (index + 1) row.old row.new free result }
         ensures row { let ts = tokens_of self.now.tokens.now in (fresh alive before : ℕ → Bool) →

@@ -108,11 +108,12 @@ pub record HasStayed (ts : List Token) (b p free : ℕ) : Type 0 where
   pub stay : stays_on (token_before ts p) b ≡ true → p < free
   pub directory : is_dirs_at (slice_get ts p) ≡ true → p < free
 
--- a row has room for all indexes among n tokens, and has at most `free` of them
+-- a row has room for all indexes among n tokens, and has at most `free` of them, which lie below `free`
 pub record HasRoom {A : Type 0} (n : ℕ) (row : Vec ℕ A) (free : ℕ) : Type 0 where
   pub few : n < 2 ^ 63
   pub capacity : n < vec_capacity row
   pub room : length row.items ≤ free
+  pub bound : free ≤ n + 1
 
 -- a row among n tokens, from `old` to `new`, got no index but this one and further ones without a gap, if any
 pub record IsExtended {A : Type 0} (n index : ℕ) (old new : Vec ℕ A) (free free' : ℕ) : Type 0 where

@@ -1,5 +1,6 @@
 use Rattle.std.proofs.Common.{◌≡◌, ◌≤◌, ◌&&◌, not, suc, ◌==◌, ℕ, List, length, drop, Some, false, ◌∷◌, arith, ap, sym}
 use Rattle.std.proofs.lemmas.Bool.Decides.{nat_tests}
+use Rattle.std.proofs.lemmas.List.{length-drop}
 use Rattle.attr_wildmatch.specs.Bytes.{close_bracket}
 use Rattle.attr_wildmatch.specs.Brackets.{member_at}
 use Rattle.attr_wildmatch.specs.inner.Closing.{from_close}
@@ -25,14 +26,21 @@ loop-byte-preserved c =
     let before = c.loop-byte.invariant in
     let split : c.loop-byte.rest.now ≡ b ∷ bs = c.in-Some.ensures.cases.0 in
     let whole : length c.loop-byte.rest.now ≡ suc (length bs) = ap length split in
-    let shorter : length rest ≤ length bs = c.in-Some-read_member.ensures.shorter in
     let open_still : (b == close_bracket && not c.loop-byte.first) ≡ false = sym c.if-closes.ensures in
-    let read : member_at b bs ≡ Some (c.in-Some-read_member.member, rest) = sym c.in-Some-read_member.ensures.member in
-    let next = members_more list before.1 c.loop-byte.first b bs c.in-Some-read_member.member rest open_still read (omega arith) shorter in
-    let left = member-rest b bs c.in-Some-read_member.member rest read in (
+    let read : member_at b bs ≡ Some (c.in-Some-read_member.member, rest) = sym c.in-Some-read_member.ensures in
+    let left = member-rest b bs c.in-Some-read_member.member rest read in
+    let shorter : length rest ≤ length bs = omega (arith, ap length left.1, length-drop left.0 bs) in
+    let next = members_more list before.1 c.loop-byte.first b bs c.in-Some-read_member.member rest open_still read (omega arith) shorter in (
       omega arith,
       next.0,
       next.1,
       grind (arith, nat_tests, after, c.in_ok-push-in-Some-read_member.ensures.items),
       ends c.next_close-close.result left.0 bs rest left.1 (λ le. c.next_close-close.ensures),
     )
+
+pub loop-byte-smaller : goal.loop-byte-smaller
+loop-byte-smaller c =
+    let bs = c.in-Some.tail.now in
+    let rest = c.in-Some-read_member.tail.now in
+    let left = member-rest c.in-Some.byte.now bs c.in-Some-read_member.member rest (sym c.in-Some-read_member.ensures) in
+    omega (arith, ap length c.in-Some.ensures.cases.0, ap length left.1, length-drop left.0 bs)
