@@ -13,7 +13,7 @@ ghost use Rattle.attr_wildmatch.specs.Matching.{Match, ReachedAtMost, TextMatche
 ghost use Rattle.attr_wildmatch.specs.Deciding.{matches, text_matches};
 ghost use Rattle.attr_wildmatch.specs.inner.Left.{AreTakenOff};
 ghost use Rattle.attr_wildmatch.specs.inner.Stretches.{front_left};
-ghost use Rattle.attr_wildmatch.specs.inner.RowIndexes.{may_skip, is_dirs_at, stays_on, advances_on, token_before, indexes_below, IsGrowing, IsStep, IsRow, IsUnderway, NoneAlive, HasStayed, HasRoom, IsExtended, KeepsCapacity};
+ghost use Rattle.attr_wildmatch.specs.inner.RowIndexes.{may_skip, is_dirs_at, stays_on, advances_on, token_before, indexes_below, IsGrowing, IsStep, IsRow, IsUnderway, NoneAlive, HasStayed, HasRoom, IsExtended, MayInsert, IsInserted, KeepsCapacity};
 
 use crate::case::Case;
 use crate::token::{Token, Tokens};
@@ -55,10 +55,8 @@ fn push(row: &mut Vec<usize>, index: usize)
 // index is fresh if the tokens before it match exactly the bytes so far. `free` is one more than the row's last index,
 // before and after.
 fn insert(tokens: &[Token], row: &mut Vec<usize>, free: usize, index: usize) -> usize
-    requires inside { index ≤ length tokens.now }
-    requires room { HasRoom (length tokens.now) row.old free }
-    ensures added { index < result }
-    ensures extended { IsExtended (length tokens.now) index row.old row.new free result }
+    requires { MayInsert (length tokens.now) index row.old free }
+    ensures inserted { IsInserted (length tokens.now) index row.old row.new free result }
     ensures row { (fresh alive : ℕ → Bool) → IsGrowing (tokens_of tokens.now) fresh alive →
         IsRow (tokens_of tokens.now) fresh alive row.old.items free → fresh index ≡ true →
         NoneAlive alive free index → IsRow (tokens_of tokens.now) fresh alive row.new.items result }
@@ -77,10 +75,8 @@ fn insert(tokens: &[Token], row: &mut Vec<usize>, free: usize, index: usize) -> 
 
 // Adds the index of a directory star to the row, unless the row has it. It stays in the row, and need not be fresh.
 fn insert_directory(tokens: &[Token], row: &mut Vec<usize>, free: usize, index: usize) -> usize
-    requires inside { index ≤ length tokens.now }
-    requires room { HasRoom (length tokens.now) row.old free }
-    ensures added { index < result }
-    ensures extended { IsExtended (length tokens.now) index row.old row.new free result }
+    requires { MayInsert (length tokens.now) index row.old free }
+    ensures inserted { IsInserted (length tokens.now) index row.old row.new free result }
     ensures row { (fresh alive : ℕ → Bool) →
         IsRow (tokens_of tokens.now) fresh alive row.old.items free →
         alive index ≡ true → (free ≤ index → fresh index ≡ false) →

@@ -123,6 +123,16 @@ pub record IsExtended {A : Type 0} (n index : ℕ) (old new : Vec ℕ A) (free f
   pub capacity : vec_capacity old ≤ vec_capacity new
   pub reached : (most : ℕ) → index ≤ most → free ≤ most + length old.items → free' ≤ most + length new.items
 
+-- an index among n tokens, or the one after them, may be added to a row that has room
+pub record MayInsert {A : Type 0} (n index : ℕ) (row : Vec ℕ A) (free : ℕ) : Type 0 where
+  pub inside : index ≤ n
+  pub room : HasRoom n row free
+
+-- the row was extended, and has the index
+pub record IsInserted {A : Type 0} (n index : ℕ) (old new : Vec ℕ A) (free free' : ℕ) : Type 0 where
+  pub added : index < free'
+  pub extended : IsExtended n index old new free free'
+
 -- two rows keep the capacity that both had
 abbrev pub KeepsCapacity : {A : Type 0} → Vec ℕ A → Vec ℕ A → Vec ℕ A → Vec ℕ A → Type 0
 KeepsCapacity row next row' next' =
