@@ -3,6 +3,7 @@
 pub mod Bordered
 pub mod ByteSets
 pub mod Closing
+pub mod Decided
 pub mod FirstBytes
 pub mod Left
 pub mod RowIndexes

@@ -4,7 +4,7 @@ ghost use Rattle.std.specs.Prelude.{◌≡◌, ◌≤◌, ◌<◌, ◌^◌, ◌|
 ghost use Rattle.attr_wildmatch.specs.Slashes.{is_slash};
 ghost use Rattle.attr_wildmatch.specs.Tokens.{dirs};
 ghost use Rattle.attr_wildmatch.specs.TokenList.{token_of, tokens_of};
-ghost use Rattle.attr_wildmatch.specs.inner.Bordered.{IsReady};
+ghost use Rattle.attr_wildmatch.specs.inner.Decided.{IsReady, IsDecided};
 ghost use Rattle.attr_wildmatch.specs.Deciding.{slash_then, matches};
 
 use crate::case::Case;
@@ -81,8 +81,7 @@ fn match_directories(
 ) -> bool
     requires directory { tokens_of tokens.now ≡ dirs ∷ tokens_of others.now }
     requires ready { IsReady tokens.now rows.old }
-    ensures matched { result ≡ matches case (tokens_of tokens.now) value.now }
-    ensures room { rows.old ≤ rows.new }
+    ensures { IsDecided case (tokens_of tokens.now) value.now result rows.old rows.new }
 {
     let mut rest = value;
     loop {
@@ -106,8 +105,7 @@ pub(crate) fn match_early(
     rows: &mut MatchBuffers,
 ) -> bool
     requires ready { IsReady tokens.now rows.old }
-    ensures matched { result ≡ matches case (tokens_of tokens.now) value.now }
-    ensures room { rows.old ≤ rows.new }
+    ensures { IsDecided case (tokens_of tokens.now) value.now result rows.old rows.new }
 {
     if let Some(answer) = answer_alone(tokens, value) {
         return answer;

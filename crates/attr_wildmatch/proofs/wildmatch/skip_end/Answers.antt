@@ -38,5 +38,5 @@ loop-token-preserved c =
           (sym c.may_be_empty.ensures ∙ c.if-may_be_empty.false) left c.in_ok-byte.ensures.cases.0 c.loop-token.invariant.matched
           ∙ ap (λ x. x && matches c.args.case before c.in_ok-byte.others.now) (sym c.takes.ensures ∙ c.if-not-takes.false);
       bordered = λ h. bordered-init true before t (subst (λ x. is_bordered true x ≡ true) left (c.loop-token.invariant.bordered h));
-      fewer = omega (arith, longer, c.loop-token.invariant.fewer)
+      fewer = omega (arith, longer, c.loop-token.invariant.fewer);
     }

@@ -1,5 +1,5 @@
 -- What is taken off at the ends leaves the answer as it is, and no more tokens than before.
-use Rattle.std.proofs.Common.{◌≡◌, true, length, ap, ◌∙◌, arith}
+use Rattle.std.proofs.Common.{true, length, ap, ◌∙◌, arith}
 use Rattle.std.proofs.lemmas.Bool.Decides.{nat_tests}
 use Rattle.attr_wildmatch.specs.inner.Bordered.{is_bordered}
 use Rattle.attr_wildmatch.proofs.TokenLemmas.{length-tokens_of}
@@ -20,8 +20,8 @@ match_early-requires c =
           record {
             few = omega (arith, left.fewer, same, before, c.as_slice.ensures.few);
             bordered = left.bordered (ap (is_bordered true) c.as_slice.ensures.tokens ∙ c.as_slice.ensures.bordered);
-            room = omega (arith, left.fewer, same, all, c.requires.room)
-          }
+            room = omega (arith, left.fewer, same, all, c.requires.room);
+          };
     }
 
 pub returns-clause-matched : goal.returns-clause-matched

@@ -1,7 +1,12 @@
+use Rattle.std.proofs.Common.{arith}
+use Rattle.std.proofs.lemmas.Bool.Decides.{nat_tests}
 use Rattle.attr_wildmatch.specs.TokenList.{tokens_of}
 use Rattle.attr_wildmatch.proofs.Ends.{exact_answer}
 use Rattle.attr_wildmatch.proofs.wildmatch.directories.match_early.Goals as goal
 
-pub returns-clause-matched : goal.returns-clause-matched
-returns-clause-matched c = exact_answer c.args.case (tokens_of c.args.tokens.now) c.args.value.now c.run.result.is_match
-    c.run.ensures.matched.0 c.run.ensures.matched.1
+pub returns : goal.returns
+returns c = record {
+  matched =
+      exact_answer c.args.case (tokens_of c.args.tokens.now) c.args.value.now c.run.result.is_match c.run.ensures.matched.0 c.run.ensures.matched.1;
+  room = grind (arith, nat_tests);
+}

@@ -22,5 +22,6 @@ returns-in_err-next-clause-none c = elim c.match-first_byte.branch [
 
 pub returns-clause-shorter : goal.returns-clause-shorter
 returns-clause-shorter c = elim c.match-first_byte.branch [
-    in-Some w ↦ grind (arith, nat_tests, from_first-shorter)
-  | in-None w ↦ grind (arith, nat_tests, from_first-shorter) ]
+  | in-Some w ↦ grind (arith, nat_tests, from_first-shorter)
+  | in-None w ↦ grind (arith, nat_tests, from_first-shorter)
+]
