@@ -1,5 +1,5 @@
 -- Names by number: a list that takes names grows at its end, and its names differ and are valid.
-use Rattle.std.proofs.Common.{◌≡◌, ℕ, ◌+◌, ◌-◌, ◌<◌, true, false, List, [], ◌∷◌, ◌++◌, length, get_or, drop, map, IsTrue, bytes_eq}
+use Rattle.std.proofs.Common.{◌≡◌, ℕ, ◌+◌, ◌<◌, true, false, List, [], ◌∷◌, ◌++◌, length, get_or, drop, map, IsTrue, bytes_eq}
 use Rattle.std.proofs.Common.{refl, sym, ap, subst, ◌∙◌, ⊎_elim, arith}
 use Rattle.std.specs.List.{list_any, IsDistinct}
 use Rattle.std.specs.Cmp.Lexicographic.{nat_list_eq_equiv}
@@ -40,6 +40,13 @@ with_names-extends known (name ∷ names) =
     let one = with_name-extends known name in
     let rest = with_names-extends (with_name known name) names in
     extends_again known (with_name known name) one.0 (with_names known (name ∷ names)) rest.0 one.1 rest.1
+
+-- names that are taken after others that were appended
+pub inserted_after : (start now next names : List (List ℕ)) → (more : List (List ℕ)) × (now ≡ start ++ more) → next ≡ with_names now names
+    → (more : List (List ℕ)) × (next ≡ start ++ more)
+inserted_after start now next names appended e =
+    let rest = with_names-extends now names in
+    extends_again start now appended.0 next rest.0 appended.1 (e ∙ rest.1)
 
 -- names differ
 with_name-distinct : (known : List (List ℕ)) (name : List ℕ) → IsDistinct bytes_eq known → IsDistinct bytes_eq (with_name known name)

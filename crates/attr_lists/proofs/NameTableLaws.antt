@@ -1,5 +1,5 @@
 -- What the addition and the removal of a list do to a collection, and to its other lists.
-use Rattle.std.proofs.Common.{◌≡◌, ◌≢◌, ℕ, zero, suc, ◌+◌, ◌-◌, ◌<◌, ◌≤◌, true, false, not, eqb, List, [], ◌∷◌, ◌++◌, length}
+use Rattle.std.proofs.Common.{◌≡◌, ◌≢◌, ℕ, zero, suc, ◌<◌, ◌≤◌, true, false, not, eqb, List, [], ◌∷◌, ◌++◌, length}
 use Rattle.std.proofs.Common.{get_or, map, filter, All, slice_get, bytes_eq, Option, Some, None, IfSome, unwrap_or, option_map, refl}
 use Rattle.std.proofs.Common.{sym, ap, subst, ◌∙◌, ⊎_elim, arith, true≢false, ne_eqb, eq-eqb}
 use Rattle.std.specs.Prelude.{◌==◌, ◌||◌}

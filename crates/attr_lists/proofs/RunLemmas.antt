@@ -1,5 +1,5 @@
 -- Elements of one number, in a list whose numbers don't fall: halving finds where they begin and end.
-use Rattle.std.proofs.Common.{◌≡◌, ℕ, ◌+◌, ◌-◌, ◌<◌, ◌≤◌, Bool, true, false, not, List, [], ◌∷◌, ◌++◌, length, take, drop, get_or, filter, All}
+use Rattle.std.proofs.Common.{◌≡◌, ℕ, ◌-◌, ◌<◌, ◌≤◌, Bool, true, false, not, List, [], ◌∷◌, ◌++◌, length, take, drop, get_or, filter, All}
 use Rattle.std.proofs.Common.{eqb, leb, ltb, refl, sym, ap, ◌∙◌, ⊎_elim, arith}
 use Rattle.std.specs.List.{remove_range}
 use Rattle.std.specs.List.Sorted.{IsPartitionPoint}

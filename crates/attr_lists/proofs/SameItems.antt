@@ -3,7 +3,6 @@ use Rattle.std.proofs.Common.{◌≡◌, List, arith}
 use Rattle.std.specs.Bool.{Decides}
 use Rattle.std.specs.Cmp.Lexicographic.{pointwise, pointwise_decides, bytes_decides}
 use Rattle.attr_text.specs.declared.assignment.Assignment.{Assignment}
-use Rattle.attr_text.specs.contracts.state.StatePartialEq.TheImpl as state
 use Rattle.attr_text.specs.contracts.assignment.AssignmentPartialEq.TheImpl as assignment
 use Rattle.attr_lists.specs.declared.types.TrackedAssignment.{TrackedAssignment}
 use Rattle.attr_lists.specs.contracts.types.TrackedAssignmentPartialEq.TheImpl as tracked

@@ -1,25 +1,29 @@
-//! Names by number, and the numbers in the lines of a list.
+//! Names by number, the numbers in the lines of a list, and the macros that the lines define.
 ghost use Rattle.std.specs.Prelude.{◌≡◌, true, [], ◌∷◌, map, option_map, option_copied, slice_get, bytes_eq, IfOk, OnOk, OnErr, IsTrue};
 ghost use Rattle.std.specs.List.{IsDistinct};
+ghost use Rattle.std.specs.Option.{option_to_list};
 ghost use Rattle.std.specs.Rc.{rc_str_bytes};
 ghost use Rattle.attr_text.specs.Names.{is_valid_name};
 ghost use Rattle.attr_lists.specs.KeptLists.{macro_valid, macros_valid};
+ghost use Rattle.attr_lists.specs.Definitions.{macro_defined, macros_defined};
 ghost use Rattle.attr_lists.specs.inner.EntryViews.{numbered_view, AreValid};
+ghost use Rattle.attr_lists.specs.inner.Registered.{numbered_body};
 ghost use Rattle.attr_lists.specs.inner.NameSteps.{InsertsNames};
 ghost use Rattle.attr_lists.specs.ListViews.{entry_view, entries_view, macro_id, items_in};
 ghost use Rattle.attr_lists.specs.Numbers.{AppendsNames, macro_names, names_of, names_in, number_of, id_of, numbered_item, numbered};
 
 use crate::name_table::name_set::NameSet;
 use crate::name_table::recent_numbers::RecentNumbers;
-use crate::types::{AttributeId, TrackedAssignment, Value};
+use crate::types::{Assignments, AttributeId, Metadata, TrackedAssignment, Value, cloned};
 use attr_glob::Pattern;
 use attr_glob::search::pattern::Mapping;
 use attr_text::Name;
 use bstr::ByteSlice;
 use std::alloc::{AllocError, Global};
-use std::rc::RcStr;
+use std::rc::{Rc, RcStr};
 
-/// Numbers the lines of a list: its items, and the macros that it defines. New names are inserted, and get the next numbers.
+/// Numbers the lines of a list: its items, and the macros that it defines, which are returned, line by line, with copies of their
+/// bodies. New names are inserted, and get the next numbers.
 ///
 /// # Errors
 ///
@@ -27,35 +31,42 @@ use std::rc::RcStr;
 pub(super) fn number_list(
     alloc: Global,
     names: &mut NameSet,
-    recent: &mut RecentNumbers,
     mappings: &mut [Mapping<Value>],
-) -> Result<(), AllocError>
+) -> Result<Vec<Rc<Metadata>>, AllocError>
     requires { macros_valid (entries_view mappings.old) ≡ true }
     ensures inserted { OnOk result
         (InsertsNames (names_in (entries_view mappings.old)) names.old names.new) }
     ensures numbered { OnOk result
         (entries_view mappings.new ≡ numbered_view names.new mappings.old) }
+    ensures macros { IfOk result (λ macros.
+        map numbered_body macros.items ≡ macros_defined (entries_view mappings.new)) }
     ensures valid { OnOk result (AreValid names.old → AreValid names.new) }
     ensures err { OnErr result (AppendsNames names.old names.new) }
 {
+    let mut recent = RecentNumbers::new();
+    let mut macros = Vec::new(alloc);
     for mapping in mappings.iter_mut() {
-        number_line(alloc, names, recent, mapping)?;
+        if let Some(defined) = number_line(alloc, names, &mut recent, mapping)? {
+            macros.push(defined)?;
+        }
     }
-    Ok(())
+    Ok(macros)
 }
 
-// Numbers the macro that a line defines before its items.
+// Numbers the macro that a line defines before its items. The macro is returned, with a copy of its body.
 fn number_line(
     alloc: Global,
     names: &mut NameSet,
     recent: &mut RecentNumbers,
     mapping: &mut Mapping<Value>,
-) -> Result<(), AllocError>
+) -> Result<Option<Rc<Metadata>>, AllocError>
     requires { macro_valid (entry_view mapping.old) ≡ true }
     ensures inserted { OnOk result
         (InsertsNames (names_of (entry_view mapping.old)) names.old names.new) }
     ensures numbered { OnOk result
         (entry_view mapping.new ≡ numbered names.new (entry_view mapping.old)) }
+    ensures defined { IfOk result (λ defined. map numbered_body (option_to_list defined)
+        ≡ macro_defined (entry_view mapping.new)) }
     ensures valid { OnOk result (AreValid names.old → AreValid names.new) }
     ensures err { OnErr result (AppendsNames names.old names.new) }
 {
@@ -63,10 +74,31 @@ fn number_line(
         Value::MacroAssignments { id, assignments } => {
             let name = macro_name(&mapping.pattern);
             *id = AttributeId(number_of(alloc, names, recent, name)?);
-            number_items(alloc, names, recent, assignments)
+            number_items(alloc, names, recent, assignments)?;
+            Ok(Some(shared_macro(alloc, *id, assignments)?))
         }
-        Value::Assignments(assignments) => number_items(alloc, names, recent, assignments),
+        Value::Assignments(assignments) => {
+            number_items(alloc, names, recent, assignments)?;
+            Ok(None)
+        }
     }
+}
+
+// The macro with this number and a copy of this body, which its definition and the list share.
+fn shared_macro(
+    alloc: Global,
+    id: AttributeId,
+    body: &Assignments,
+) -> Result<Rc<Metadata>, AllocError>
+    ensures id { IfOk result (λ defined. defined.value.id ≡ id) }
+    ensures body { IfOk result (λ defined.
+        defined.value.macro_attributes.items ≡ body.now.items) }
+{
+    let metadata = Metadata {
+        id,
+        macro_attributes: cloned(body)?,
+    };
+    Ok(Rc::new(alloc, metadata)?)
 }
 
 fn number_items(

@@ -10,8 +10,7 @@ ghost use Rattle.attr_lists.specs.declared.name_table.parts.Parts.{Parts};
 
 use crate::name_table::entry::NameEntry;
 use crate::name_table::name_set::NameSet;
-use crate::name_table::recent_numbers::RecentNumbers;
-use crate::name_table::registered::{ListMacros, has_lines, index_of, macros_of};
+use crate::name_table::registered::{ListMacros, has_lines, index_of};
 use crate::name_table::{entry, macros, numbers};
 use crate::types::Value;
 use attr_glob::search::pattern::Mapping;
@@ -66,10 +65,8 @@ impl Parts {
         ensures whole { OnOk result (AreWhole self.new) }
         ensures err { OnErr result (IsPartlyAdded list_id self.old self.new) }
     {
-        let mut recent = RecentNumbers::new();
-        numbers::number_list(alloc, &mut self.names, &mut recent, mappings)?;
+        let macros = numbers::number_list(alloc, &mut self.names, mappings)?;
         entry::extend(alloc, &mut self.entries, self.names.len())?;
-        let macros = macros_of(alloc, mappings)?;
         macros::insert_macros(&mut self.macros, &macros)?;
         entry::define_list(&mut self.entries, list_id, &macros)?;
         self.lists.push(ListMacros { list_id, macros })?;

@@ -2,7 +2,7 @@
 ghost use Rattle.std.specs.Prelude.{◌≡◌, [], ◌≢◌, ◌↔◌, true, ◌∷◌, ◌++◌, ℕ, List, map, slice_get, Some, All, MatchOption, OnOk, IfOk, IfSome, IsTrue, bytes_eq, option_map};
 ghost use Rattle.std.specs.List.{IsDistinct};
 ghost use Rattle.std.specs.Option.{option_to_list};
-ghost use Rattle.attr_lists.specs.Definitions.{bodies_named, bodies_of_number, macro_defined, macros_defined};
+ghost use Rattle.attr_lists.specs.Definitions.{bodies_named, bodies_of_number};
 ghost use Rattle.attr_lists.specs.Numbers.{numbered};
 ghost use Rattle.attr_lists.specs.KeptLists.{macro_valid, macros_valid};
 ghost use Rattle.attr_lists.specs.ListViews.{entry_view, entries_view};
@@ -11,7 +11,7 @@ ghost use Rattle.attr_lists.specs.inner.Registered.{AgreesAt, AgreesOn, AreAscen
 
 use crate::name_table::name_set::NameSet;
 use crate::name_table::numbers::number_of_text;
-use crate::types::{Assignments, Metadata, TrackedAssignment, Value, cloned};
+use crate::types::{Assignments, Metadata, TrackedAssignment, Value};
 use attr_glob::search::pattern::Mapping;
 use std::alloc::{AllocError, Global};
 use std::rc::Rc;
@@ -63,31 +63,6 @@ pub(super) fn next_id(lists: &[ListMacros]) -> Option<usize>
         Some(list) => list.list_id.checked_add(1),
         None => Some(0),
     }
-}
-
-/// The macros that numbered lines define, with copies of their bodies.
-///
-/// # Errors
-///
-/// If memory runs out.
-pub(super) fn macros_of(
-    alloc: Global,
-    mappings: &[Mapping<Value>],
-) -> Result<Vec<Rc<Metadata>>, AllocError>
-    ensures { IfOk result (λ list. map numbered_body list.items
-        ≡ macros_defined (entries_view mappings.now)) }
-{
-    let mut list = Vec::new(alloc);
-    for mapping in mappings {
-        if let Value::MacroAssignments { id, assignments } = &mapping.value {
-            let metadata = Metadata {
-                id: *id,
-                macro_attributes: cloned(assignments)?,
-            };
-            list.push(Rc::new(alloc, metadata)?)?;
-        }
-    }
-    Ok(list)
 }
 
 /// Whether, for each name, the macros are those that the lines define, in their order. Lines that are as registered take a step each.
