@@ -1,21 +1,20 @@
 -- Names by number: a list that takes names grows at its end, and its names differ and are valid.
-use Rattle.std.proofs.Common.{◌≡◌, ℕ, ◌+◌, ◌<◌, true, false, List, [], ◌∷◌, ◌++◌, length, get_or, drop, map, IsTrue, bytes_eq}
-use Rattle.std.proofs.Common.{refl, sym, ap, subst, ◌∙◌, ⊎_elim, arith}
+use Rattle.std.proofs.Common.{◌≡◌, ℕ, ◌+◌, ◌<◌, true, false, List, [], ◌∷◌, ◌++◌, length, get_or, drop, map, bytes_eq}
+use Rattle.std.specs.Prelude.{IsErr}
+use Rattle.std.proofs.Common.{Result, refl, sym, ap, subst, ◌∙◌, ⊎_elim, arith}
 use Rattle.std.specs.List.{list_any, IsDistinct}
 use Rattle.std.specs.Cmp.Lexicographic.{nat_list_eq_equiv}
 use Rattle.std.proofs.lemmas.Bool.{cases_Bool, cond-true, cond-false}
 use Rattle.std.proofs.lemmas.List.{append-nil, append_assoc, at_drop_more, length-append, get_or_at, get_or_default, get_or_append_left}
-use Rattle.std.proofs.lemmas.List.Elements.{All-push}
 use Rattle.std.proofs.lemmas.List.Folds.{list_any_none}
 use Rattle.std.proofs.lemmas.List.Sums.{fold-append}
 use Rattle.std.proofs.lemmas.Map.Keys.{IsDistinct-push, apart_from_distinct}
-use Rattle.attr_text.specs.Names.{is_valid_name}
 use Rattle.attr_glob.specs.declared.search.pattern.Mapping.{Mapping}
 use Rattle.attr_lists.specs.declared.types.TrackedAssignment.{TrackedAssignment}
 use Rattle.attr_lists.specs.declared.types.Value.{Value}
-use Rattle.attr_lists.specs.inner.EntryViews.{AreValid}
 use Rattle.attr_lists.specs.ListViews.{entry_view, entries_view}
-use Rattle.attr_lists.specs.Numbers.{names_of, names_in, with_name, with_names}
+use Rattle.attr_lists.specs.inner.NameSteps.{InsertsNames}
+use Rattle.attr_lists.specs.Numbers.{AppendsNames, names_of, names_in, with_name, with_names}
 
 -- a name that is there is not inserted again
 pub with_name-known : (known : List (List ℕ)) (name : List ℕ) → list_any (bytes_eq name) known ≡ true → with_name known name ≡ known
@@ -48,6 +47,11 @@ inserted_after start now next names appended e =
     let rest = with_names-extends now names in
     extends_again start now appended.0 next rest.0 appended.1 (e ∙ rest.1)
 
+-- some of the names were inserted before memory ran out
+pub not_inserted : {X E : Type 0} (result : Result X E) (names old new : List (List ℕ)) → IsErr result → AppendsNames old new
+    → InsertsNames result names old new
+not_inserted result names old new err appended = grind arith
+
 -- names differ
 with_name-distinct : (known : List (List ℕ)) (name : List ℕ) → IsDistinct bytes_eq known → IsDistinct bytes_eq (with_name known name)
 with_name-distinct known name d =
@@ -58,13 +62,6 @@ with_name-distinct known name d =
 pub with_names-distinct : (known names : List (List ℕ)) → IsDistinct bytes_eq known → IsDistinct bytes_eq (with_names known names)
 with_names-distinct known [] d = d
 with_names-distinct known (name ∷ names) d = with_names-distinct (with_name known name) names (with_name-distinct known name d)
-
--- names are valid
-pub with_name-valid : (known : List (List ℕ)) (name : List ℕ) → IsTrue (is_valid_name name) → AreValid known → AreValid (with_name known name)
-with_name-valid known name v all =
-    ⊎_elim (λ e. subst AreValid (sym (with_name-known known name e)) all)
-    (λ e. subst AreValid (sym (with_name-new known name e)) (All-push (λ n. IsTrue (is_valid_name n)) known name all v))
-    (cases_Bool (list_any (bytes_eq name) known))
 
 -- names that differ are none of those before them
 pub not_before : (front : List (List ℕ)) (name : List ℕ) (rest : List (List ℕ)) → IsDistinct bytes_eq (front ++ name ∷ rest) →

@@ -1,6 +1,6 @@
 -- A set of names: what an appended name and a removed one leave of the numbers.
 use Rattle.std.proofs.Common.{◌≡◌, ℕ, ◌+◌, ◌<◌, Bool, true, false, List, [], ◌∷◌, ◌++◌, length, get_or, map, drop, bytes_eq, Option, Some, None}
-use Rattle.std.proofs.Common.{refl, sym, ap, subst, ◌∙◌, ⊎_elim, true≢false, arith}
+use Rattle.std.proofs.Common.{IsTrue, refl, sym, ap, subst, ◌∙◌, ⊎_elim, true≢false, arith}
 use Rattle.std.specs.BTreeMap.{BTreeMap, UpdatesBy}
 use Rattle.std.specs.Cmp.{eq_by_cmp_equiv}
 use Rattle.std.specs.Cmp.Lexicographic.{bytes_decides, slice_cmp, nat_list_cmp_total, nat_list_eq_equiv}
@@ -11,11 +11,15 @@ use Rattle.std.specs.Rc.{rc_str_bytes}
 use Rattle.std.specs.declared.rc.RcStr.{RcStr}
 use Rattle.std.proofs.lemmas.Bool.{cases_Bool, cases_lt, cond-true, lt-ltb}
 use Rattle.std.proofs.lemmas.List.{at_drop_more, get_or_append_left, get_or_at, length-append}
+use Rattle.std.proofs.Math.Seq.{take-append_seam}
+use Rattle.std.proofs.lemmas.List.Elements.{All-push, All-take}
 use Rattle.std.proofs.lemmas.List.Folds.{list_any_at}
 use Rattle.std.proofs.lemmas.List.Quantifiers.{position-Some}
 use Rattle.std.proofs.lemmas.Map.Keys.{apart_from_distinct, IsDistinct-from_apart, IsDistinct-push}
 use Rattle.std.proofs.lemmas.Map.Text.{is_eq-slice_cmp}
+use Rattle.attr_text.specs.Names.{is_valid_name}
 use Rattle.attr_lists.specs.Numbers.{number_of}
+use Rattle.attr_lists.specs.inner.EntryViews.{AreValid}
 use Rattle.attr_lists.specs.declared.name_table.name_set.NameSet.TheInside.{Inside}
 use Rattle.attr_lists.specs.inner.NameSets.{texts_of, number_under, IsNameSet}
 use Rattle.attr_lists.proofs.NameLemmas.{not_before}
@@ -107,12 +111,13 @@ unfolding IsDistinct
 name_set_empty set texts numbers = grind (arith, bytes_eq)
 
 module _ (old new : Inside) (text : List ℕ) (is : IsNameSet old) where
-  pub name_set_pushed : texts_of new ≡ texts_of old ++ text ∷ [] → number_of (texts_of old) text ≡ None →
+  pub name_set_pushed : texts_of new ≡ texts_of old ++ text ∷ [] → number_of (texts_of old) text ≡ None → IsTrue (is_valid_name text) →
       Changes text old.numbers new.numbers (Some (length (texts_of old))) → IsNameSet new
-  name_set_pushed texts none changes =
+  name_set_pushed texts none valid changes =
       let distinct = IsDistinct-push nat_list_eq_equiv (texts_of old) text is.distinct (absent (texts_of old) text none) in
       let number = Some (length (texts_of old)) in
       record {
+        valid = subst AreValid (sym texts) (All-push (λ n. IsTrue (is_valid_name n)) (texts_of old) text is.valid valid);
         distinct = subst (IsDistinct bytes_eq) (sym texts) distinct;
         numbers = λ other. ⊎_elim
             (λ yes. under_text text old.numbers new.numbers number changes other yes
@@ -127,6 +132,8 @@ module _ (old new : Inside) (text : List ℕ) (is : IsNameSet old) where
       let distinct = subst (IsDistinct bytes_eq) texts is.distinct in
       let gone = without_number (texts_of new) text (not_before (texts_of new) text [] distinct) in
       record {
+        valid = subst AreValid (take-append_seam (texts_of new) (text ∷ []))
+            (All-take (λ n. IsTrue (is_valid_name n)) (length (texts_of new)) (texts_of new ++ text ∷ []) (subst AreValid texts is.valid));
         distinct = distinct_front (texts_of new) (text ∷ []) distinct;
         numbers = λ other. ⊎_elim
             (λ yes. under_text text old.numbers new.numbers None changes other yes
@@ -135,6 +142,11 @@ module _ (old new : Inside) (text : List ℕ) (is : IsNameSet old) where
             ∙ number_of_other (texts_of new) text distinct other no)
             (cases_Bool (bytes_eq text other));
       }
+
+-- a name among valid ones
+pub valid_next : (front : List (List ℕ)) (name : List ℕ) (rest : List (List ℕ)) → AreValid (front ++ name ∷ rest) → IsTrue (is_valid_name name)
+valid_next front name rest all = subst (λ n. IsTrue (is_valid_name n)) (get_or_at front name rest name (length front) refl)
+    (all (length front) name (omega (arith, length-append front (name ∷ rest))))
 
 -- one more name of those that are left to copy
 pub copy_step : {Z : Type 0} (names copy : List (List ℕ)) (items : List (RcStr Z)) (i : ℕ) (item : RcStr Z) (text : List ℕ) → i < length items →

@@ -179,7 +179,7 @@ module _ (p q : Parts) (list_id : ℕ) (entries : List Entry) (list : List Numbe
   abbrev lines : List Entry
   lines = numbered_lines (with_names p.names (names_in entries)) entries
 
-  pub added_whole : list ≡ macros_defined lines → (AreValid p.names → AreValid q.names) → length q.entries.items ≡ length q.names
+  pub added_whole : list ≡ macros_defined lines → AreValid q.names → length q.entries.items ≡ length q.names
       → AreEntries q.entries.items
       → ((n : ℕ) → n < length q.entries.items
       → definitions_at q.entries.items n ≡ definitions_at p.entries.items n ++ map (definition_of list_id) (bodies_of_number n list))
@@ -188,7 +188,7 @@ module _ (p q : Parts) (list_id : ℕ) (entries : List Entry) (list : List Numbe
       let fresh = lack_registered list_id (registered_views p.lists.items) (above_lacks list_id (registered_views p.lists.items) above) in
       let names_are : q.names ≡ with_names p.names (names_in entries) = ap (λ (v : Collection). v.names) added in
       let sound : IsSoundCollection (parts_view q) = subst IsSoundCollection (sym added)
-      (added_sound (parts_view p) list_id entries whole.sound fresh (subst AreValid names_are (valid whole.sound.valid))) in
+      (added_sound (parts_view p) list_id entries whole.sound fresh (subst AreValid names_are valid)) in
       let bodies : (n : ℕ) → bodies_of_number n list ≡ bodies_defined n lines =
       λ n. ap (bodies_of_number n) macros ∙ bodies_of_lines n lines in
       record {

@@ -7,7 +7,7 @@ use Rattle.std.specs.Option.{SomeIff}
 use Rattle.std.specs.List.{IsDistinct}
 use Rattle.std.specs.List.Sorted.{IsNonDecreasingBy, IsPartitionPoint}
 use Rattle.std.specs.Cmp.Lexicographic.{bytes_decides}
-use Rattle.std.proofs.lemmas.Bool.{cases_Bool, cases_eq, cases_lt, cond-false}
+use Rattle.std.proofs.lemmas.Bool.{cases_Bool, cases_eq, cases_lt, cond-false, eq-eqb, true≢false}
 use Rattle.std.proofs.lemmas.Bool.Decides.{nat_tests}
 use Rattle.std.proofs.lemmas.List.{at_drop_more, get_or_default, length-map}
 use Rattle.std.proofs.lemmas.List.Elements.{All-nil, All-cons, All-head, All-tail, All-map}
@@ -25,29 +25,39 @@ use Rattle.attr_lists.specs.declared.types.TrackedAssignment.{TrackedAssignment}
 use Rattle.attr_lists.specs.declared.types.Value.{Value}
 use Rattle.attr_lists.proofs.DefinitionLemmas.{bodies_named-cons, bodies_named-none, bodies_named-one}
 use Rattle.attr_lists.proofs.ListLemmas.{get_or-map, slice_get-within}
-use Rattle.attr_lists.proofs.NamedDefinitions.{defines_same, defines_none, number_name, number_where}
+use Rattle.attr_lists.proofs.NamedDefinitions.{number_name, number_where}
 
 -- the bodies of a name by its number, if it has one
 abbrev by : List NumberedBody → Option ℕ → List (List TrackedAssignment)
 by list o = unwrap_or (option_map (λ number. bodies_of_number number list) o) []
 
--- a line that defines a macro by its name and its body
-module _ (names : List (List ℕ)) (distinct : IsDistinct bytes_eq names) (line : Entry) (id : AttributeId) (known : NumberedBody)
-    (rest : List NumberedBody) (is : line.macro ≡ Some id) (named : slice_get names known.number ≡ Some line.pattern.text)
-    (same : known.body ≡ line.items) (name : List ℕ) where
-  abbrev own : AttributeId
-  own = record { 0 = known.number }
+-- names have the same number where they are the same
+same_number : (names : List (List ℕ)) (name text : List ℕ) (n m : ℕ) → number_of names name ≡ Some n → number_of names text ≡ Some m
+    → eqb m n ≡ bytes_eq name text
+same_number names name text n m e f =
+    ⊎_elim
+    (λ yes. let is : m ≡ n = grind (arith, bytes_decides) in eq-eqb m n is ∙ sym yes)
+    (λ no. ne_eqb m n (λ is. true≢false (sym ((bytes_decides name text).1 (sym (number_name names name n e).1
+    ∙ sym (ap (λ k. get_or names k []) is) ∙ (number_name names text m f).1)) ∙ no)) ∙ sym no)
+    (cases_Bool (bytes_eq name text))
 
+-- a line that defines a macro by its name and its body
+module _ (names : List (List ℕ)) (line : Entry) (id : AttributeId) (known : NumberedBody) (rest : List NumberedBody)
+    (is : line.macro ≡ Some id) (named : number_of names line.pattern.text ≡ Some known.number)
+    (same : known.body ≡ line.items) (name : List ℕ) where
   defined : defines_name name line ≡ (true && bytes_eq name line.pattern.text)
   defined = ap (λ (m : Option AttributeId). is_some m && bytes_eq name line.pattern.text) is
 
   at : (o : Option ℕ) → number_of names name ≡ o
       → by (known ∷ rest) o ≡ bodies_named name (line ∷ []) ++ by rest o
-  at None e = sym (ap (λ l. l ++ []) (bodies_named-none name line (defined ∙ defines_none names distinct name e line.pattern.text (Some own) named)))
+  at None e = sym (ap (λ l. l ++ []) (bodies_named-none name line (defined ∙ unlike)))
+    where
+      unlike : bytes_eq name line.pattern.text ≡ false
+      unlike = grind (arith, bytes_decides, cases_Bool)
   at (Some n) e =
       let others = filter (λ (b : NumberedBody). eqb b.number n) rest in
       let alike : eqb known.number n ≡ defines_name name line =
-      defines_same names distinct name n e line.pattern.text (Some own) named ∙ sym defined in
+      same_number names name line.pattern.text n known.number e named ∙ sym defined in
       ⊎_elim
       (λ yes. ap (λ b. map (λ (b : NumberedBody). b.body) (cond b (known ∷ others) others)) (alike ∙ yes)
       ∙ ap (λ b. b ∷ bodies_of_number n rest) same

@@ -11,7 +11,7 @@ ghost use Rattle.attr_lists.specs.LineResults.{byte_order_marks, without_front, 
 ghost use Rattle.attr_text.specs.Names.{is_reserved_name};
 ghost use Rattle.attr_text.specs.TextViews.{name_text, state_view};
 ghost use Rattle.attr_lists.specs.LineViews.{refusal_view, item_view, target_view, line_view, IsOver, Yields};
-ghost use Rattle.attr_lists.specs.inner.ParseSteps.{Reports, ReportsKind, ReadsLine, ReadsFirst};
+ghost use Rattle.attr_lists.specs.inner.ParseSteps.{IsFirst, Reports, ReportsKind, ReadsLine, ReadsFirst};
 
 use attr_glob::Pattern;
 use attr_glob::quote::ansi_c::{UndoError, undo};
@@ -201,8 +201,7 @@ fn position_of_stop(text: &[u8]) -> Option<usize>
 
 #[tactic(auto, using(attr_text::proofs::ForCallers::offset_of_first, attr_text::proofs::ForCallers::offset_in_text))]
 fn first_stop(text: &[u8]) -> usize
-    ensures offset { result ≡ position_or_len (λ b. is_blank b || is_equals b) text.now }
-    ensures inside { result ≤ length text.now }
+    ensures { IsFirst (λ b. is_blank b || is_equals b) text.now result }
 {
     position_of_stop(text).unwrap_or(text.len())
 }
@@ -228,16 +227,14 @@ fn position_of_blank(text: &[u8]) -> Option<usize>
 
 #[tactic(auto, using(attr_text::proofs::ForCallers::offset_of_first, attr_text::proofs::ForCallers::offset_in_text))]
 fn first_not_blank(text: &[u8]) -> usize
-    ensures offset { result ≡ position_or_len (λ b. not (is_blank b)) text.now }
-    ensures inside { result ≤ length text.now }
+    ensures { IsFirst (λ b. not (is_blank b)) text.now result }
 {
     position_of_other(text).unwrap_or(text.len())
 }
 
 #[tactic(auto, using(attr_text::proofs::ForCallers::offset_of_first, attr_text::proofs::ForCallers::offset_in_text))]
 fn first_blank(text: &[u8]) -> usize
-    ensures offset { result ≡ position_or_len is_blank text.now }
-    ensures inside { result ≤ length text.now }
+    ensures { IsFirst is_blank text.now result }
 {
     position_of_blank(text).unwrap_or(text.len())
 }

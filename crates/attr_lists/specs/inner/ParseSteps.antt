@@ -1,12 +1,18 @@
 -- Steps that read a line (own).
-use Rattle.std.specs.Prelude.{◌≡◌, List, [], ◌∷◌, ◌++◌, Option, Some, None, MatchOption, option_map, Result, Ok, Err}
+use Rattle.std.specs.Prelude.{◌≡◌, ◌≤◌, ℕ, Bool, length, List, [], ◌∷◌, ◌++◌, Option, Some, None, MatchOption, option_map, Result, Ok, Err}
 use Rattle.std.specs.Bool.{⊤}
+use Rattle.std.specs.List.{position_or_len}
 use Rattle.std.specs.Option.{option_to_list}
 use Rattle.attr_lists.specs.declared.parse.Kind.{Kind}
 use Rattle.attr_lists.specs.declared.parse.Error.{Error}
 use Rattle.attr_lists.specs.declared.parse.Error.TheVariants as errors
 use Rattle.attr_lists.specs.LineResults.{Target, RefusedLine, LineResult, macro_name, negative_pattern}
 use Rattle.attr_lists.specs.LineViews.{target_view, ParsedLine, line_view}
+
+-- the offset of the first byte that passes the test, or the length if none does
+pub record IsFirst (test : ℕ → Bool) (bytes : List ℕ) (at : ℕ) : Type 0 where
+  pub offset : at ≡ position_or_len test bytes
+  pub inside : at ≤ length bytes
 
 -- the kind is that of the expected target, unless memory ran out
 abbrev pub ReportsKind : Result (Option Kind) Error → Option (Result Target RefusedLine) → Type 0

@@ -1,10 +1,10 @@
 //! The entries of names: their definitions as macros.
-ghost use Rattle.std.specs.Prelude.{◌≡◌, ◌≢◌, ◌≤◌, ◌==◌, not, filter, ◌++◌, [], ◌∷◌, ℕ, length, map, IfOk, OnOk, OnErr};
+ghost use Rattle.std.specs.Prelude.{◌≡◌, ◌≤◌, ◌==◌, not, filter, ◌++◌, [], ◌∷◌, ℕ, length, map, IfOk, OnOk, OnErr};
 ghost use Rattle.std.specs.Bool.{OnFalse};
 ghost use Rattle.std.specs.List.{remove_range};
 ghost use Rattle.std.specs.List.Sorted.{IsNonDecreasingBy};
 ghost use Rattle.attr_lists.specs.Definitions.{definition_of, of_other_lists, last_body};
-ghost use Rattle.attr_lists.specs.inner.EntrySteps.{AddsDefinitions, KeepsOtherDefinitions, RemovesListed};
+ghost use Rattle.attr_lists.specs.inner.EntrySteps.{DefinesMacros, RemovesAt, RemovesFrom, RemovesListed};
 ghost use Rattle.attr_lists.specs.inner.EntryViews.{definition_view, definitions_view, all_definitions, definitions_at, AreAllInOrder, AreEntries, AreInListOrder, IsEntry};
 ghost use Rattle.attr_lists.specs.inner.Registered.{numbered_body};
 
@@ -76,18 +76,14 @@ impl NameEntry {
     // Removes the definitions of a list. They stand next to one another, since definitions are in the order of list ids.
     fn remove(&mut self, list_id: usize)
         requires { AreInListOrder (definitions_view self.old) }
-        ensures definitions { definitions_view self.new
-            ≡ of_other_lists list_id (definitions_view self.old) }
-        ensures entry { (number : ℕ) → IsEntry number self.old → IsEntry number self.new }
+        ensures { RemovesFrom list_id self.old self.new }
     {
         remove_run(&mut self.definitions, list_id);
     }
 
     // Removes the definitions of a list, in any order. This looks at each definition.
     fn retain_others(&mut self, list_id: usize)
-        ensures definitions { definitions_view self.new
-            ≡ of_other_lists list_id (definitions_view self.old) }
-        ensures entry { (number : ℕ) → IsEntry number self.old → IsEntry number self.new }
+        ensures { RemovesFrom list_id self.old self.new }
     {
         retain_others(&mut self.definitions, list_id);
     }
@@ -195,10 +191,8 @@ pub(super) fn define_list(
     list_id: usize,
     list: &[Rc<Metadata>],
 ) -> Result<(), AllocError>
-    ensures ok { OnOk result (AddsDefinitions list_id
-        (map numbered_body list.now) entries.old entries.new) }
-    ensures others { KeepsOtherDefinitions list_id entries.old entries.new }
-    ensures entries { AreEntries entries.old → AreEntries entries.new }
+    ensures { DefinesMacros result list_id
+        (map numbered_body list.now) entries.old entries.new }
 {
     for known in list {
         define(entries, list_id, known)?;
@@ -207,10 +201,8 @@ pub(super) fn define_list(
 }
 
 fn define(entries: &mut [NameEntry], list_id: usize, known: &Rc<Metadata>) -> Result<(), AllocError>
-    ensures ok { OnOk result (AddsDefinitions list_id
-        (numbered_body known.now ∷ []) entries.old entries.new) }
-    ensures others { KeepsOtherDefinitions list_id entries.old entries.new }
-    ensures entries { AreEntries entries.old → AreEntries entries.new }
+    ensures { DefinesMacros result list_id
+        (numbered_body known.now ∷ []) entries.old entries.new }
 {
     let own = known.id.0;
     if own >= entries.len() {
@@ -247,11 +239,7 @@ pub(super) fn remove_list(entries: &mut [NameEntry], list_id: usize, list: &[Rc<
 // Removes the definitions that a list has of the name with this number, if there is one.
 fn remove_at(entries: &mut [NameEntry], list_id: usize, number: usize)
     requires { AreAllInOrder entries.old }
-    ensures here { definitions_at entries.new number
-        ≡ of_other_lists list_id (definitions_at entries.old number) }
-    ensures others { (other : ℕ) → other ≢ number →
-        definitions_at entries.new other ≡ definitions_at entries.old other }
-    ensures entries { AreEntries entries.old → AreEntries entries.new }
+    ensures { RemovesAt list_id number entries.old entries.new }
 {
     if number < entries.len() {
         entries[number].remove(list_id);

@@ -1,10 +1,13 @@
 //! Names by number, and their numbers by name.
 
-ghost use Rattle.std.specs.Prelude.{◌≡◌, [], ◌∷◌, ◌++◌, ◌-◌, length, map, take, slice_get, bytes_eq, None, Some, option_copied, IfOk, OnOk, OnErr, IfSome};
+ghost use Rattle.std.specs.Prelude.{◌≡◌, [], ◌∷◌, ◌++◌, ◌-◌, length, take, slice_get, bytes_eq, None, Some, option_copied, IfOk, OnOk, OnErr, IfSome, IsTrue};
 ghost use Rattle.std.specs.List.{IsDistinct};
 ghost use Rattle.std.specs.Rc.{rc_str_bytes};
+ghost use Rattle.attr_text.specs.Names.{is_valid_name};
 ghost use Rattle.attr_lists.specs.Numbers.{number_of};
+ghost use Rattle.attr_lists.specs.inner.EntryViews.{AreValid};
 
+use bstr::ByteSlice;
 use std::alloc::{AllocError, Global};
 use std::collections::BTreeMap;
 use std::marker::Model;
@@ -45,7 +48,8 @@ impl NameSet {
 
     /// The count of names.
     pub(super) fn len(&self) -> usize
-        ensures { result ≡ length self.now }
+        ensures count { result ≡ length self.now }
+        ensures valid { AreValid self.now }
     {
         self.texts.len()
     }
@@ -55,6 +59,17 @@ impl NameSet {
         ensures { result ≡ number_of self.now name.now }
     {
         self.numbers.get(name).copied()
+    }
+
+    /// The number of the name that a text is, if it is one of the names.
+    pub(super) fn number_of_text(&self, text: &[u8]) -> Option<usize>
+        ensures { result ≡ number_of self.now text.now }
+    {
+        let numbers = &self.numbers;
+        match text.to_str() {
+            Ok(name) => numbers.get(name).copied(),
+            Err(_) => None,
+        }
     }
 
     /// The name with this number, if there is one.
@@ -78,7 +93,8 @@ impl NameSet {
     ///
     /// If memory runs out. The names are then as they were.
     pub(super) fn push(&mut self, text: RcStr) -> Result<(), AllocError>
-        requires { number_of self.old (rc_str_bytes text) ≡ None }
+        requires new { number_of self.old (rc_str_bytes text) ≡ None }
+        requires valid { IsTrue (is_valid_name (rc_str_bytes text)) }
         ensures ok { OnOk result (self.new ≡ self.old ++ rc_str_bytes text ∷ []) }
         ensures err { OnErr result (self.new ≡ self.old) }
     {

@@ -1,16 +1,14 @@
 //! Names by number, the numbers in the lines of a list, and the macros that the lines define.
-ghost use Rattle.std.specs.Prelude.{◌≡◌, true, [], ◌∷◌, map, option_map, option_copied, slice_get, bytes_eq, IfOk, OnOk, OnErr, IsTrue};
-ghost use Rattle.std.specs.List.{IsDistinct};
+ghost use Rattle.std.specs.Prelude.{◌≡◌, true, [], ◌∷◌, map, IfOk, OnOk, IsTrue};
 ghost use Rattle.std.specs.Option.{option_to_list};
-ghost use Rattle.std.specs.Rc.{rc_str_bytes};
 ghost use Rattle.attr_text.specs.Names.{is_valid_name};
 ghost use Rattle.attr_lists.specs.KeptLists.{macro_valid, macros_valid};
 ghost use Rattle.attr_lists.specs.Definitions.{macro_defined, macros_defined};
-ghost use Rattle.attr_lists.specs.inner.EntryViews.{numbered_view, AreValid};
+ghost use Rattle.attr_lists.specs.inner.EntryViews.{numbered_view};
 ghost use Rattle.attr_lists.specs.inner.Registered.{numbered_body};
 ghost use Rattle.attr_lists.specs.inner.NameSteps.{InsertsNames};
-ghost use Rattle.attr_lists.specs.ListViews.{entry_view, entries_view, macro_id, items_in};
-ghost use Rattle.attr_lists.specs.Numbers.{AppendsNames, macro_names, names_of, names_in, number_of, id_of, numbered_item, numbered};
+ghost use Rattle.attr_lists.specs.ListViews.{entry_view, entries_view};
+ghost use Rattle.attr_lists.specs.Numbers.{names_of, names_in, number_of, numbered_item, numbered};
 
 use crate::name_table::name_set::NameSet;
 use crate::name_table::recent_numbers::RecentNumbers;
@@ -34,14 +32,12 @@ pub(super) fn number_list(
     mappings: &mut [Mapping<Value>],
 ) -> Result<Vec<Rc<Metadata>>, AllocError>
     requires { macros_valid (entries_view mappings.old) ≡ true }
-    ensures inserted { OnOk result
-        (InsertsNames (names_in (entries_view mappings.old)) names.old names.new) }
+    ensures inserted { InsertsNames result
+        (names_in (entries_view mappings.old)) names.old names.new }
     ensures numbered { OnOk result
         (entries_view mappings.new ≡ numbered_view names.new mappings.old) }
     ensures macros { IfOk result (λ macros.
         map numbered_body macros.items ≡ macros_defined (entries_view mappings.new)) }
-    ensures valid { OnOk result (AreValid names.old → AreValid names.new) }
-    ensures err { OnErr result (AppendsNames names.old names.new) }
 {
     let mut recent = RecentNumbers::new();
     let mut macros = Vec::new(alloc);
@@ -61,14 +57,12 @@ fn number_line(
     mapping: &mut Mapping<Value>,
 ) -> Result<Option<Rc<Metadata>>, AllocError>
     requires { macro_valid (entry_view mapping.old) ≡ true }
-    ensures inserted { OnOk result
-        (InsertsNames (names_of (entry_view mapping.old)) names.old names.new) }
+    ensures inserted { InsertsNames result
+        (names_of (entry_view mapping.old)) names.old names.new }
     ensures numbered { OnOk result
         (entry_view mapping.new ≡ numbered names.new (entry_view mapping.old)) }
     ensures defined { IfOk result (λ defined. map numbered_body (option_to_list defined)
         ≡ macro_defined (entry_view mapping.new)) }
-    ensures valid { OnOk result (AreValid names.old → AreValid names.new) }
-    ensures err { OnErr result (AppendsNames names.old names.new) }
 {
     match &mut mapping.value {
         Value::MacroAssignments { id, assignments } => {
@@ -107,11 +101,9 @@ fn number_items(
     recent: &mut RecentNumbers,
     items: &mut [TrackedAssignment],
 ) -> Result<(), AllocError>
-    ensures inserted { OnOk result
-        (InsertsNames (map (λ item. item.inner.name) items.old) names.old names.new) }
+    ensures inserted { InsertsNames result
+        (map (λ item. item.inner.name) items.old) names.old names.new }
     ensures numbered { OnOk result (items.new ≡ map (numbered_item names.new) items.old) }
-    ensures valid { OnOk result (AreValid names.old → AreValid names.new) }
-    ensures err { OnErr result (AppendsNames names.old names.new) }
 {
     for item in items.iter_mut() {
         let number = number_of(alloc, names, recent, item.inner.name.as_str())?;
@@ -128,10 +120,8 @@ fn number_of(
     name: &str,
 ) -> Result<usize, AllocError>
     requires { IsTrue (is_valid_name name.now) }
-    ensures inserted { OnOk result (InsertsNames (name.now ∷ []) names.old names.new) }
+    ensures inserted { InsertsNames result (name.now ∷ []) names.old names.new }
     ensures number { IfOk result (λ number. number_of names.new name.now ≡ Some number) }
-    ensures valid { OnOk result (AreValid names.old → AreValid names.new) }
-    ensures err { OnErr result (names.new ≡ names.old) }
 {
     if let Some(number) = recent.number_of(names, name) {
         return Ok(number);
@@ -162,16 +152,5 @@ pub(super) fn macro_name(pattern: &Pattern) -> &str
     match pattern.text.as_slice().to_str() {
         Ok(name) => name,
         Err(_) => unreachable!(),
-    }
-}
-
-/// The number of the name that a text is, if it is one of the names.
-pub(super) fn number_of_text(names: &NameSet, text: &[u8]) -> Option<usize>
-    requires { AreValid names.now }
-    ensures { result ≡ number_of names.now text.now }
-{
-    match text.to_str() {
-        Ok(name) => names.number_of(name),
-        Err(_) => None,
     }
 }

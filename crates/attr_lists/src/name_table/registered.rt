@@ -1,16 +1,12 @@
 //! The lists that are registered, each with the macros that it defines, line by line.
-ghost use Rattle.std.specs.Prelude.{◌≡◌, [], ◌≢◌, ◌↔◌, true, ◌∷◌, ◌++◌, ℕ, List, map, slice_get, Some, All, MatchOption, OnOk, IfOk, IfSome, IsTrue, bytes_eq, option_map};
-ghost use Rattle.std.specs.List.{IsDistinct};
+ghost use Rattle.std.specs.Prelude.{◌≡◌, [], ◌≢◌, ◌↔◌, true, ◌∷◌, ℕ, List, map, Some, All, MatchOption, IfOk, IfSome, IsTrue, option_map};
 ghost use Rattle.std.specs.Option.{option_to_list};
 ghost use Rattle.attr_lists.specs.Definitions.{bodies_named, bodies_of_number};
-ghost use Rattle.attr_lists.specs.Numbers.{numbered};
-ghost use Rattle.attr_lists.specs.KeptLists.{macro_valid, macros_valid};
+ghost use Rattle.attr_lists.specs.Numbers.{number_of};
 ghost use Rattle.attr_lists.specs.ListViews.{entry_view, entries_view};
-ghost use Rattle.attr_lists.specs.inner.EntryViews.{AreValid, numbered_view};
 ghost use Rattle.attr_lists.specs.inner.Registered.{AgreesAt, AgreesOn, AreAscending, IsAbove, IsIndexOf, LineAgrees, numbered_body, registered_views, registered_view};
 
 use crate::name_table::name_set::NameSet;
-use crate::name_table::numbers::number_of_text;
 use crate::types::{Assignments, Metadata, TrackedAssignment, Value};
 use attr_glob::search::pattern::Mapping;
 use std::alloc::{AllocError, Global};
@@ -68,8 +64,6 @@ pub(super) fn next_id(lists: &[ListMacros]) -> Option<usize>
 /// Whether, for each name, the macros are those that the lines define, in their order. Lines that are as registered take a step each.
 /// Others take, for each macro and each line that defines one, a step for each macro and each line.
 pub(super) fn has_lines(names: &NameSet, list: &[Rc<Metadata>], mappings: &[Mapping<Value>]) -> bool
-    requires valid { AreValid names.now }
-    requires distinct { IsDistinct bytes_eq names.now }
     ensures { IsTrue result ↔ ((name : List ℕ) →
         AgreesOn names.now (map numbered_body list.now) (entries_view mappings.now) name) }
 {
@@ -79,7 +73,6 @@ pub(super) fn has_lines(names: &NameSet, list: &[Rc<Metadata>], mappings: &[Mapp
 
 // Whether the lines define these macros, in their order and with their bodies. This takes a step for each line.
 fn are_lines_of(names: &NameSet, list: &[Rc<Metadata>], mappings: &[Mapping<Value>]) -> bool
-    requires distinct { IsDistinct bytes_eq names.now }
     ensures { IsTrue result → (name : List ℕ) →
         AgreesOn names.now (map numbered_body list.now) (entries_view mappings.now) name }
 {
@@ -109,15 +102,15 @@ fn is_definition(
     body: &[TrackedAssignment],
 ) -> bool
     ensures { IsTrue result →
-        (slice_get names.now known.now.value.id.0 ≡ Some name.now)
+        (number_of names.now name.now ≡ Some known.now.value.id.0)
         × (known.now.value.macro_attributes.items ≡ body.now) }
 {
     has_name(names, known.id.0, name) && is_same(&known.macro_attributes, body)
 }
 
-// Whether the name with this number is the text.
+// Whether the text is the name with this number. It has no other number then.
 fn has_name(names: &NameSet, number: usize, text: &[u8]) -> bool
-    ensures { IsTrue result → slice_get names.now number ≡ Some text.now }
+    ensures { IsTrue result → number_of names.now text.now ≡ Some number }
 {
     match names.name(number) {
         Some(name) => name.as_bytes() == text,
@@ -127,7 +120,6 @@ fn has_name(names: &NameSet, number: usize, text: &[u8]) -> bool
 
 // Whether each macro's name has the same bodies in the list and in the lines.
 fn macros_agree(names: &NameSet, list: &[Rc<Metadata>], mappings: &[Mapping<Value>]) -> bool
-    requires distinct { IsDistinct bytes_eq names.now }
     ensures { IsTrue result ↔ All (λ known. AgreesAt names.now (map numbered_body list.now)
         (entries_view mappings.now) known.value.id.0) list.now }
 {
@@ -146,7 +138,6 @@ fn agrees_at(
     number: usize,
     mappings: &[Mapping<Value>],
 ) -> bool
-    requires distinct { IsDistinct bytes_eq names.now }
     ensures { IsTrue result ↔ AgreesAt names.now (map numbered_body list.now)
         (entries_view mappings.now) number }
 {
@@ -158,7 +149,6 @@ fn agrees_at(
 
 // Whether the name of each macro that the lines define has the same bodies in the list and in the lines.
 fn lines_agree(names: &NameSet, list: &[Rc<Metadata>], mappings: &[Mapping<Value>]) -> bool
-    requires valid { AreValid names.now }
     ensures { IsTrue result ↔ All (λ m. LineAgrees names.now (map numbered_body list.now)
         (entries_view mappings.now) (entry_view m)) mappings.now }
 {
@@ -177,7 +167,6 @@ fn line_agrees(
     line: &Mapping<Value>,
     mappings: &[Mapping<Value>],
 ) -> bool
-    requires valid { AreValid names.now }
     ensures { IsTrue result ↔ LineAgrees names.now (map numbered_body list.now)
         (entries_view mappings.now) (entry_view line.now) }
 {
@@ -194,11 +183,10 @@ fn text_agrees(
     text: &[u8],
     mappings: &[Mapping<Value>],
 ) -> bool
-    requires valid { AreValid names.now }
     ensures { IsTrue result ↔ AgreesOn names.now (map numbered_body list.now)
         (entries_view mappings.now) text.now }
 {
-    match number_of_text(names, text) {
+    match names.number_of_text(text) {
         Some(number) => has_bodies(list, number, text, mappings),
         None => first_body(text, mappings).is_none(),
     }

@@ -15,5 +15,5 @@ invariant_of-self-in_default c =
     name_set_pushed old _ text c.self.invariant
     (ap (map rc_str_bytes) c.in_ok-push.ensures.items ∙ map-append rc_str_bytes old.texts.items (c.in_ok-clone.field-0 ∷ [])
     ∙ ap (λ t. texts_of old ++ t ∷ []) c.in_ok-clone.ensures.cases)
-    (ap (λ l. number_of l text) c.self.view_is ∙ c.requires)
+    (ap (λ l. number_of l text) c.self.view_is ∙ c.requires.new) c.requires.valid
     (subst (λ n. Changes text old.numbers c.insert.new.self (Some n)) number c.in_default.ensures.updates)

@@ -19,7 +19,7 @@ pub returns-in_err-extend-clause-err : goal.returns-in_err-extend-clause-err
 returns-in_err-extend-clause-err c =
     on_err c.from_residual-in_err-extend.result _
     (partly_added c.args.self.now c.number_list.new.names (names_in (entries_view c.args.mappings.now))
-    c.extend.new.entries c.args.self.now.lists c.args.self.now.macros c.args.list_id c.in_ok-macros.ensures.inserted c.extend.ensures.more
+    c.extend.new.entries c.args.self.now.lists c.args.self.now.macros c.args.list_id c.in_ok-macros.ensures.inserted.ok c.extend.ensures.more
     (c.extend.ensures.entries c.requires.whole.entries) (λ n. ap (of_other_lists c.args.list_id) (c.extend.ensures.definitions n)) refl
     (λ n h. h))
 
@@ -27,7 +27,7 @@ pub returns-in_err-insert_macros-clause-err : goal.returns-in_err-insert_macros-
 returns-in_err-insert_macros-clause-err c =
     on_err c.from_residual-in_err-insert_macros.result _
     (partly_added c.args.self.now c.number_list.new.names (names_in (entries_view c.args.mappings.now))
-    c.extend.new.entries c.args.self.now.lists c.insert_macros.new.macros c.args.list_id c.in_ok-macros.ensures.inserted c.extend.ensures.more
+    c.extend.new.entries c.args.self.now.lists c.insert_macros.new.macros c.args.list_id c.in_ok-macros.ensures.inserted.ok c.extend.ensures.more
     (c.extend.ensures.entries c.requires.whole.entries) (λ n. ap (of_other_lists c.args.list_id) (c.extend.ensures.definitions n)) refl
     c.insert_macros.ensures.kept)
 
@@ -39,7 +39,7 @@ returns-in_err-define_list-clause-err c =
     on_err c.from_residual-in_err-define_list.result _
     (partly_added c.args.self.now c.number_list.new.names (names_in (entries_view c.args.mappings.now))
     (with_items c.extend.new.entries c.define_list.new.entries) c.args.self.now.lists c.insert_macros.new.macros c.args.list_id
-    c.in_ok-macros.ensures.inserted (omega (arith, ap length items, kept, c.extend.new.entries.ok.0, c.extend.ensures.more))
+    c.in_ok-macros.ensures.inserted.ok (omega (arith, ap length items, kept, c.extend.new.entries.ok.0, c.extend.ensures.more))
     (subst AreEntries (sym items) (c.define_list.ensures.entries (subst AreEntries (sym c.deref_mut.ensures.value)
     (c.extend.ensures.entries c.requires.whole.entries))))
     (others_kept_on c.args.list_id c.args.self.now.entries.items c.extend.new.entries.items c.deref_mut.result.now c.define_list.new.entries _
@@ -53,7 +53,7 @@ returns-in_err-push-clause-err c =
     on_err c.from_residual-in_err-push.result _
     (partly_added c.args.self.now c.number_list.new.names (names_in (entries_view c.args.mappings.now))
     (with_items c.extend.new.entries c.define_list.new.entries) c.push.new.self c.insert_macros.new.macros c.args.list_id
-    c.in_ok-macros.ensures.inserted (omega (arith, ap length items, kept, c.extend.new.entries.ok.0, c.extend.ensures.more))
+    c.in_ok-macros.ensures.inserted.ok (omega (arith, ap length items, kept, c.extend.new.entries.ok.0, c.extend.ensures.more))
     (subst AreEntries (sym items) (c.define_list.ensures.entries (subst AreEntries (sym c.deref_mut.ensures.value)
     (c.extend.ensures.entries c.requires.whole.entries))))
     (others_kept_on c.args.list_id c.args.self.now.entries.items c.extend.new.entries.items c.deref_mut.result.now c.define_list.new.entries _
@@ -77,9 +77,9 @@ returns-clause-whole c =
     λ n. ap (λ l. definitions_at l n) c.deref_mut.ensures.value ∙ c.extend.ensures.definitions n in
     added_whole p q c.args.list_id lines list c.requires.whole c.requires.above (returns-clause-added c)
     (c.in_ok-macros.ensures.macros ∙ ap macros_defined c.in_ok-macros.ensures.numbered
-    ∙ ap (λ ns. macros_defined (numbered_lines ns lines)) c.in_ok-macros.ensures.inserted)
-    c.in_ok-macros.ensures.valid
-    (omega (arith, ap length items, kept, c.extend.new.entries.ok.0, c.in_ok-extend.ensures.ok, c.len.ensures))
+    ∙ ap (λ ns. macros_defined (numbered_lines ns lines)) c.in_ok-macros.ensures.inserted.ok)
+    c.len.ensures.valid
+    (omega (arith, ap length items, kept, c.extend.new.entries.ok.0, c.in_ok-extend.ensures.ok, c.len.ensures.count))
     (subst AreEntries (sym items) (c.define_list.ensures.entries (subst AreEntries (sym c.deref_mut.ensures.value)
     (c.extend.ensures.entries c.requires.whole.entries))))
     (λ n lt. grind arith)
