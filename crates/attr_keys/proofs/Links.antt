@@ -1,5 +1,5 @@
 -- Rows in the order of their keys, of which those are sought that a text begins with.
-use Rattle.std.proofs.Common.{◌≡◌, ◌≢◌, ℕ, zero, suc, ◌+◌, ◌-◌, ◌<◌, ◌≤◌, ◌⊎◌, Bool, true, false, not, ◌&&◌, ◌||◌, List, [], ◌∷◌, ◌++◌}
+use Rattle.std.proofs.Common.{◌≡◌, ◌≢◌, ℕ, zero, suc, ◌-◌, ◌<◌, ◌≤◌, ◌⊎◌, Bool, true, false, not, ◌&&◌, ◌||◌, List, [], ◌∷◌, ◌++◌}
 use Rattle.std.proofs.Common.{length, drop, take, get_or, refl, sym, ap, ◌∙◌, arith, eqb, leb, nat_eq}
 use Rattle.std.specs.Cmp.Lexicographic.{slice_cmp, nat_list_cmp_total}
 use Rattle.std.specs.List.{starts_with}
@@ -13,7 +13,7 @@ use Rattle.std.proofs.lemmas.List.Folds.{list_any-append}
 use Rattle.std.proofs.lemmas.List.Sorted.{ranks_by, sorted_far}
 use Rattle.attr_keys.specs.shared.KeyContents.{KeyContent}
 use Rattle.attr_keys.specs.shared.Codes.{codes_of, row_codes}
-use Rattle.attr_keys.specs.shared.Rows.{AreInOrder, IsCommon, IsLink, has_row, is_up_to}
+use Rattle.attr_keys.specs.shared.Rows.{AreAllLinked, AreInOrder, IsCommon, IsLink, has_row, is_up_to}
 use Rattle.attr_keys.proofs.RowLemmas.{and_none, by_test}
 
 -- what a text begins with is not after it
@@ -96,34 +96,86 @@ last_row : (has : ℕ → Bool) (rows : List ℕ) (index end row : ℕ) → inde
     has_row (drop end rows) row && has row ≡ (eqb (get_or rows index 0) row || has_row (drop (suc index) rows) row) && has row
 last_row has rows index end row lt le none = grind (arith, nat_tests, skipped has rows end index row le none, drop-cons rows index 0 lt)
 
--- a row that passes the test was found
-pub linked_more : (has : ℕ → Bool) (old found rows : List ℕ) (index end row : ℕ) → index < length rows → end ≤ index →
-    ((k : ℕ) → end ≤ k → k < index → has (get_or rows k 0) ≡ false) → has (get_or rows index 0) ≡ true →
-    has_row found row ≡ has_row old row || (has_row (drop (suc index) rows) row && has row) →
-    has_row (found ++ get_or rows index 0 ∷ []) row ≡ has_row old row || (has_row (drop end rows) row && has row)
-linked_more has old found rows index end row lt le none passes known =
-    list_any-append (λ n. eqb n row) found (get_or rows index 0 ∷ [])
-    ∙ (ap (λ b. b || (eqb (get_or rows index 0) row || false)) known
-    ∙ (merge (has_row old row) (has_row (drop (suc index) rows) row) (has row) (eqb (get_or rows index 0) row)
-    (λ t. ap has (sym (eqb-true _ row t)) ∙ passes)
-    ∙ ap (λ b. has_row old row || b) (sym (last_row has rows index end row lt le none))))
-  where
-    merge : (o d h b : Bool) → (b ≡ true → h ≡ true) → (o || (d && h)) || (b || false) ≡ o || ((b || d) && h)
-    merge o d h b p = grind arith
+-- no row between the lesser of two ends and a row
+none_lesser : (has : ℕ → Bool) (rows : List ℕ) (index end other least : ℕ) → (least ≡ end) ⊎ (least ≡ other) →
+    ((k : ℕ) → end ≤ k → k < index → has (get_or rows k 0) ≡ false) → ((k : ℕ) → other ≤ k → k < index → has (get_or rows k 0) ≡ false) →
+    (k : ℕ) → least ≤ k → k < index → has (get_or rows k 0) ≡ false
+none_lesser has rows index end other least h one two k le lt = grind (arith, nat_tests)
 
--- a row that fails it was not
-pub linked_less : (has : ℕ → Bool) (old found rows : List ℕ) (index end row : ℕ) → index < length rows → end ≤ index →
-    ((k : ℕ) → end ≤ k → k < index → has (get_or rows k 0) ≡ false) → has (get_or rows index 0) ≡ false →
-    has_row found row ≡ has_row old row || (has_row (drop (suc index) rows) row && has row) →
-    has_row found row ≡ has_row old row || (has_row (drop end rows) row && has row)
-linked_less has old found rows index end row lt le none fails known =
-    known
-    ∙ (merge (has_row old row) (has_row (drop (suc index) rows) row) (has row) (eqb (get_or rows index 0) row)
-    (λ t. ap has (sym (eqb-true _ row t)) ∙ fails)
-    ∙ ap (λ b. has_row old row || b) (sym (last_row has rows index end row lt le none)))
-  where
-    merge : (o d h b : Bool) → (b ≡ true → h ≡ false) → o || (d && h) ≡ o || ((b || d) && h)
-    merge o d h b p = grind arith
+-- the rows from an end on whose keys a text has were appended, and no row before the end is after the text
+pub record IsAppended (keys : List KeyContent) (rows text old : List ℕ) (end : ℕ) (now : List ℕ) : Type 0 where
+  pub bound : end ≤ length rows
+  pub up_to : (k : ℕ) → k < end → is_up_to text (row_codes keys (get_or rows k 0)) ≡ true
+  pub found : (row : ℕ) → has_row now row ≡ has_row old row || (has_row (drop end rows) row && starts_with nat_eq text (row_codes keys row))
+
+-- the row before the end, whose link is known
+module _ (keys : List KeyContent) (rows links text old : List ℕ) (end : ℕ) (found : List ℕ) (linked : AreAllLinked keys rows links)
+    (some : 0 < end) (so_far : IsAppended keys rows text old end found) where
+  abbrev has : ℕ → Bool
+  has row = starts_with nat_eq text (row_codes keys row)
+
+  abbrev last : ℕ
+  last = get_or rows (end - 1) 0
+
+  abbrev next : ℕ
+  next = get_or links (end - 1) 0
+
+  within : end - 1 < length rows
+  within = omega (arith, some, so_far.bound)
+
+  link : IsLink keys rows (end - 1) next
+  link = linked.each (end - 1) (omega (arith, some, so_far.bound, linked.all))
+
+  abbrev NoneFrom : ℕ → Type 0
+  NoneFrom from = (k : ℕ) → from ≤ k → k < end - 1 → has (get_or rows k 0) ≡ false
+
+  none : NoneFrom next
+  none = none_between keys rows text (end - 1) next linked.order within (so_far.up_to (end - 1) (omega (arith, some))) link
+
+  before : (row : ℕ) → has_row found row ≡ has_row old row || (has_row (drop (suc (end - 1)) rows) row && has row)
+  before row =
+      let is : end ≡ suc (end - 1) = omega (arith, some) in
+      so_far.found row ∙ ap (λ n. has_row old row || (has_row (drop n rows) row && has row)) is
+
+  skips : (from : ℕ) → from ≤ next → (found' : List ℕ)
+      → ((row : ℕ) → has_row found' row ≡ has_row old row || (has_row (drop from rows) row && has row)) → IsAppended keys rows text old from found'
+  skips from le found' is = record {
+    bound = omega (arith, le, link.bound, within);
+    up_to = λ k lt. so_far.up_to k (omega (arith, lt, le, link.bound, some));
+    found = is;
+  }
+
+  -- it passes the test
+  pub appended_more : has last ≡ true → IsAppended keys rows text old next (found ++ last ∷ [])
+  appended_more passes = skips next (omega arith) (found ++ last ∷ []) (λ row.
+      list_any-append (λ n. eqb n row) found (last ∷ [])
+      ∙ (ap (λ b. b || (eqb last row || false)) (before row)
+      ∙ (merge (has_row old row) (has_row (drop (suc (end - 1)) rows) row) (has row) (eqb last row)
+      (λ t. ap has (sym (eqb-true _ row t)) ∙ passes)
+      ∙ ap (λ b. has_row old row || b) (sym (last_row has rows (end - 1) next row within link.bound none)))))
+    where
+      merge : (o d h b : Bool) → (b ≡ true → h ≡ true) → (o || (d && h)) || (b || false) ≡ o || ((b || d) && h)
+      merge o d h b p = grind arith
+
+  -- it fails it
+  pub appended_less : has last ≡ false → (from : ℕ) → from ≤ next → NoneFrom from → IsAppended keys rows text old from found
+  appended_less fails from le none' = skips from le found (λ row.
+      before row
+      ∙ (merge (has_row old row) (has_row (drop (suc (end - 1)) rows) row) (has row) (eqb last row)
+      (λ t. ap has (sym (eqb-true _ row t)) ∙ fails)
+      ∙ ap (λ b. has_row old row || b) (sym (last_row has rows (end - 1) from row within (omega (arith, le, link.bound)) none'))))
+    where
+      merge : (o d h b : Bool) → (b ≡ true → h ≡ false) → o || (d && h) ≡ o || ((b || d) && h)
+      merge o d h b p = grind arith
+
+  pub appended_none : has last ≡ false → IsAppended keys rows text old next found
+  appended_none fails = appended_less fails next (omega arith) none
+
+  -- it fails it, and so do those from another end on
+  pub appended_lesser : has last ≡ false → (other least : ℕ) → NoneFrom other → least ≤ next → (least ≡ next) ⊎ (least ≡ other)
+      → IsAppended keys rows text old least found
+  appended_lesser fails other least none' le is = appended_less fails least le
+      (λ k from lt. none_lesser has rows (end - 1) next other least is none none' k from lt)
 
 -- the keys that are not after a text come first
 pub up_to_first : (keys : List KeyContent) (rows : List ℕ) (text : List ℕ) → AreInOrder keys rows →
@@ -169,9 +221,3 @@ pub none_common : (keys : List KeyContent) (rows : List ℕ) (text common : List
     (k : ℕ) → end ≤ k → k < index → starts_with nat_eq (codes_of false text true) (row_codes keys (get_or rows k 0)) ≡ false
 none_common keys rows text common index end order within up is after k le lt =
     grind (arith, nat_tests, between_begins, far, not-true, no_longer, begins_short, begun_before)
-
--- no row between the lesser of two ends and a row
-pub none_lesser : (has : ℕ → Bool) (rows : List ℕ) (index end other least : ℕ) → (least ≡ end) ⊎ (least ≡ other) →
-    ((k : ℕ) → end ≤ k → k < index → has (get_or rows k 0) ≡ false) → ((k : ℕ) → other ≤ k → k < index → has (get_or rows k 0) ≡ false) →
-    (k : ℕ) → least ≤ k → k < index → has (get_or rows k 0) ≡ false
-none_lesser has rows index end other least h one two k le lt = grind (arith, nat_tests)

@@ -1,10 +1,10 @@
 //! Whole keys and extensions, found by the hashes of their texts.
 
-ghost use Rattle.std.specs.Prelude.{◌≡◌, ◌<◌, ◌&&◌, ◌||◌, ℕ, All, IfOk, IfSome, None, OnOk, Some, length, reverse, true, slice_get};
+ghost use Rattle.std.specs.Prelude.{◌≡◌, ◌<◌, ◌||◌, ℕ, All, IfOk, IfSome, None, OnOk, Some, length, reverse, true, slice_get};
 ghost use Rattle.attr_keys.specs.inner.Cases.{in_case, keys_seen, seen_text};
 ghost use Rattle.attr_keys.specs.inner.Extensions.{extension, is_hashed, is_reversed_extension};
 ghost use Rattle.attr_keys.specs.inner.Hashes.{AreAmong, AreNoLonger, IsHashOfKey, IsLonger, hash_of_row, hashed_part, hashed_rows, quick_hash, rows_of_hash};
-ghost use Rattle.attr_keys.specs.shared.Meeting.{text_has};
+ghost use Rattle.attr_keys.specs.inner.MetRows.{AppendsRows};
 ghost use Rattle.attr_keys.specs.shared.Rows.{has_row};
 
 use crate::hashed::{HashedRow, HashedRows, quick_hash};
@@ -208,11 +208,9 @@ pub fn append_of_hash<K: Keyed>(
     text: &[u8],
     found: &mut Vec<usize>,
 ) -> Result<(), AllocError>
-    ensures { OnOk result ((row : ℕ) → has_row found.new.items row
-        ≡ (has_row found.old.items row
-        || (has_row (hashed_rows (rows_of_hash hash rows.now)) row
-        && text_has (seen_text keys.entry.view text.now)
-        (slice_get (keys_seen K.content keys.entry) row)))) }
+    ensures { OnOk result (AppendsRows (has_row (hashed_rows (rows_of_hash hash rows.now)))
+        (keys_seen K.content keys.entry) (seen_text keys.entry.view text.now)
+        found.old.items found.new.items) }
 {
     for hashed in rows {
         if hashed.hash == hash && has_row_key(keys, hashed.row, text) {

@@ -3,7 +3,7 @@
 ghost use Rattle.std.specs.Prelude.{◌≡◌, ◌==◌, ◌-◌, ◌/◌, ◌<◌, ◌≤◌, [], IfOk, OnOk, drop, length, take};
 ghost use Rattle.std.specs.List.{AllWithin};
 ghost use Rattle.std.specs.List.Sorted.{IsNonDecreasingBy, IsPermutation};
-ghost use Rattle.attr_keys.specs.inner.Hashes.{AreStarts, IsBucketStart, eights_hash, mixed, packed, quick_hash, rows_of_hash};
+ghost use Rattle.attr_keys.specs.inner.Hashes.{AreInBuckets, AreStarts, IsBucketStart, eights_hash, mixed, packed, quick_hash, rows_of_hash};
 
 use std::alloc::{AllocError, Global};
 use std::marker::Model;
@@ -142,8 +142,7 @@ impl HashedRows {
 
 // Appends where each bucket starts, and the number of rows.
 fn push_starts(rows: &[HashedRow], width: u64, starts: &mut Vec<usize>) -> Result<(), AllocError>
-    requires width { 2 ≤ width }
-    requires order { IsNonDecreasingBy (λ h. h.hash) rows.now }
+    requires buckets { AreInBuckets width rows.now }
     requires starts { starts.old.items ≡ [] }
     ensures { OnOk result (AreStarts width rows.now starts.new.items) }
 {
@@ -174,8 +173,7 @@ fn bucket(hash: u64, width: u64) -> usize
 
 // Where a bucket starts, if it does not start before `from` and the hashes don't fall.
 fn bucket_start(rows: &[HashedRow], width: u64, index: usize, from: usize) -> usize
-    requires width { 2 ≤ width }
-    requires order { IsNonDecreasingBy (λ h. h.hash) rows.now }
+    requires buckets { AreInBuckets width rows.now }
     requires from { from ≤ length rows.now }
     requires before { AllWithin (λ h. h.hash / width < index) rows.now 0 from }
     ensures { IsBucketStart width rows.now index result }

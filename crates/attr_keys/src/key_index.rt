@@ -1,15 +1,15 @@
 //! The index of lines by their keys: it finds the lines that a path may match. Few lines have no tables: each one is tried.
 
-ghost use Rattle.std.specs.Prelude.{◌≡◌, ◌&&◌, ◌||◌, ◌++◌, [], ℕ, List, IfOk, OnOk, map, false, true, slice_get};
+ghost use Rattle.std.specs.Prelude.{◌≡◌, ◌||◌, ◌++◌, [], ℕ, List, IfOk, OnOk, map, false, true, slice_get};
 ghost use Rattle.std.specs.Bool.{OnFalse, OnTrue};
 ghost use Rattle.attr_keys.specs.inner.Cases.{content_in_case, in_case, keys_seen, seen_text};
 ghost use Rattle.attr_keys.specs.inner.Extensions.{is_hashed};
 ghost use Rattle.attr_keys.specs.inner.Hashes.{hashed_rows};
-ghost use Rattle.attr_keys.specs.inner.MetRows.{AreMetRows};
+ghost use Rattle.attr_keys.specs.inner.MetRows.{AppendsRows, AreMetRows};
 ghost use Rattle.attr_keys.specs.shared.KeyContents.{KeyContent};
 ghost use Rattle.attr_keys.specs.shared.KeyIndexes.{AreKeyTables, IsKeyIndex};
 ghost use Rattle.attr_keys.specs.inner.Kinds.{AreKinds};
-ghost use Rattle.attr_keys.specs.shared.Meeting.{content_met, content_met_at, key_content, text_has};
+ghost use Rattle.attr_keys.specs.shared.Meeting.{content_met, content_met_at, key_content};
 ghost use Rattle.attr_keys.specs.inner.Orders.{AreFindable, AreSorted, gathered, has_subject_row};
 ghost use Rattle.attr_keys.specs.shared.Rows.{IsFalling, has_row};
 
@@ -257,10 +257,9 @@ impl SubjectRows {
         found: &mut Vec<usize>,
     ) -> Result<(), AllocError>
         requires { AreFindable keys.view.from_end (keys_seen K.content keys) self.now }
-        ensures { OnOk result ((row : ℕ) → has_row found.new.items row
-            ≡ (has_row found.old.items row || (has_subject_row self.now row
-            && text_has (seen_text keys.entry.view text.now)
-            (slice_get (keys_seen K.content keys.entry) row)))) }
+        ensures { OnOk result (AppendsRows (has_subject_row self.now)
+            (keys_seen K.content keys.entry) (seen_text keys.entry.view text.now)
+            found.old.items found.new.items) }
     {
         if self.is_empty() {
             return Ok(());
@@ -278,10 +277,9 @@ impl SubjectRows {
         found: &mut Vec<usize>,
     ) -> Result<(), AllocError>
         requires { AreFindable keys.view.from_end (keys_seen K.content keys) self.now }
-        ensures { OnOk result ((row : ℕ) → has_row found.new.items row
-            ≡ (has_row found.old.items row || (has_subject_row self.now row
-            && text_has (seen_text keys.entry.view text.now)
-            (slice_get (keys_seen K.content keys.entry) row)))) }
+        ensures { OnOk result (AppendsRows (has_subject_row self.now)
+            (keys_seen K.content keys.entry) (seen_text keys.entry.view text.now)
+            found.old.items found.new.items) }
     {
         if !self.hashed.all().is_empty() {
             self.append_by_hash(keys, text, buffer, found)?;
@@ -299,10 +297,9 @@ impl SubjectRows {
         found: &mut Vec<usize>,
     ) -> Result<(), AllocError>
         requires { AreFindable keys.view.from_end (keys_seen K.content keys) self.now }
-        ensures { OnOk result ((row : ℕ) → has_row found.new.items row
-            ≡ (has_row found.old.items row || (has_row (hashed_rows self.now.hashed) row
-            && text_has (seen_text keys.entry.view text.now)
-            (slice_get (keys_seen K.content keys.entry) row)))) }
+        ensures { OnOk result (AppendsRows (has_row (hashed_rows self.now.hashed))
+            (keys_seen K.content keys.entry) (seen_text keys.entry.view text.now)
+            found.old.items found.new.items) }
     {
         let Some(part) = hashed_part(keys.view.from_end, text, self.longest) else {
             return Ok(());

@@ -1,11 +1,12 @@
 //! Prefixes and ends, in the order of their codes. Few are compared one by one, by their first codes before their texts. Of
 //! others the last one is sought that is not after a text, and from there on the shorter ones that it begins with.
 
-ghost use Rattle.std.specs.Prelude.{◌≡◌, ◌<◌, ◌≤◌, ◌&&◌, ◌||◌, [], ℕ, IfOk, OnOk, false, length, true, slice_get, slice_index};
+ghost use Rattle.std.specs.Prelude.{◌≡◌, ◌<◌, ◌≤◌, [], ℕ, IfOk, OnOk, false, length, true, slice_get, slice_index};
 ghost use Rattle.attr_keys.specs.inner.Cases.{keys_seen, seen_text};
+ghost use Rattle.attr_keys.specs.inner.MetRows.{AppendsRows};
 ghost use Rattle.attr_keys.specs.shared.Codes.{codes_of, row_codes};
 ghost use Rattle.attr_keys.specs.shared.Meeting.{text_has};
-ghost use Rattle.attr_keys.specs.shared.Rows.{AreFirsts, AreInOrder, AreLinks, ArePrefixes, IsLink, has_row, is_up_to};
+ghost use Rattle.attr_keys.specs.shared.Rows.{AreFirsts, AreInOrder, AreAllLinked, AreLinkedBefore, ArePrefixes, IsLink, has_row, is_up_to};
 
 use crate::key::{
     Keyed, Keys, common, first_code, first_row_code, has_row_key, is_row_up_to, may_begin_with,
@@ -71,10 +72,9 @@ impl Prefixes {
         found: &mut Vec<usize>,
     ) -> Result<(), AllocError>
         requires { ArePrefixes (keys_seen K.content keys) self.now }
-        ensures { OnOk result ((row : ℕ) → has_row found.new.items row
-            ≡ (has_row found.old.items row || (has_row self.now.rows.items row
-            && text_has (seen_text keys.entry.view text.now)
-            (slice_get (keys_seen K.content keys.entry) row)))) }
+        ensures { OnOk result (AppendsRows (has_row self.now.rows.items)
+            (keys_seen K.content keys.entry) (seen_text keys.entry.view text.now)
+            found.old.items found.new.items) }
     {
         if self.rows.len() <= FEW {
             append_few(keys, &self.rows, &self.firsts, text, found)
@@ -107,9 +107,8 @@ fn push_links<K: Keyed>(
 ) -> Result<(), AllocError>
     requires order { AreInOrder (keys_seen K.content keys) rows.now }
     requires links { links.old.items ≡ [] }
-    ensures links { OnOk result (
-        AreLinks (keys_seen K.content keys.entry) rows.now links.new.items) }
-    ensures all { OnOk result (length links.new.items ≡ length rows.now) }
+    ensures { OnOk result (
+        AreAllLinked (keys_seen K.content keys.entry) rows.now links.new.items) }
 {
     for index in 0..rows.len() {
         let end = link(keys, rows, links, index);
@@ -120,10 +119,7 @@ fn push_links<K: Keyed>(
 
 // The number of rows up to the last one before this one that its key begins with.
 fn link<K: Keyed>(keys: Keys<'_, K>, rows: &[usize], links: &[usize], index: usize) -> usize
-    requires order { AreInOrder (keys_seen K.content keys) rows.now }
-    requires links { AreLinks (keys_seen K.content keys) rows.now links.now }
-    requires index { index ≡ length links.now }
-    requires within { index < length rows.now }
+    requires { AreLinkedBefore (keys_seen K.content keys) index rows.now links.now }
     ensures { IsLink (keys_seen K.content keys.entry) rows.now index result }
 {
     let mut end = index;
@@ -142,10 +138,9 @@ fn append_few<K: Keyed>(
     found: &mut Vec<usize>,
 ) -> Result<(), AllocError>
     requires { AreFirsts (keys_seen K.content keys) rows.now firsts.now }
-    ensures { OnOk result ((row : ℕ) → has_row found.new.items row
-        ≡ (has_row found.old.items row || (has_row rows.now row
-        && text_has (seen_text keys.entry.view text.now)
-        (slice_get (keys_seen K.content keys.entry) row)))) }
+    ensures { OnOk result (AppendsRows (has_row rows.now)
+        (keys_seen K.content keys.entry) (seen_text keys.entry.view text.now)
+        found.old.items found.new.items) }
 {
     let text_first = first_code(keys.view, text, true);
     for (index, first) in firsts.iter().enumerate() {
@@ -165,13 +160,10 @@ fn append_linked<K: Keyed>(
     text: &[u8],
     found: &mut Vec<usize>,
 ) -> Result<(), AllocError>
-    requires order { AreInOrder (keys_seen K.content keys) rows.now }
-    requires links { AreLinks (keys_seen K.content keys) rows.now links.now }
-    requires all { length links.now ≡ length rows.now }
-    ensures { OnOk result ((row : ℕ) → has_row found.new.items row
-        ≡ (has_row found.old.items row || (has_row rows.now row
-        && text_has (seen_text keys.entry.view text.now)
-        (slice_get (keys_seen K.content keys.entry) row)))) }
+    requires { AreAllLinked (keys_seen K.content keys) rows.now links.now }
+    ensures { OnOk result (AppendsRows (has_row rows.now)
+        (keys_seen K.content keys.entry) (seen_text keys.entry.view text.now)
+        found.old.items found.new.items) }
 {
     let mut end = rows.partition_point(|row| is_row_up_to(keys, *row, text, true));
     while end > 0 {

@@ -53,6 +53,11 @@ pub record IsBucketStart (width : ℕ) (rows : List HashedRow) (bucket start : �
   pub bound : start ≤ length rows
   pub point : IsPartitionPoint (λ h. h.hash / width < bucket) (λ h. bucket ≤ h.hash / width) rows start
 
+-- buckets have two hashes or more, and the hashes of the rows don't fall
+pub record AreInBuckets (width : ℕ) (rows : List HashedRow) : Type 0 where
+  pub wide : 2 ≤ width
+  pub order : IsNonDecreasingBy (λ h. h.hash) rows
+
 -- Each bucket, of so many hashes, has its start. One more start is the end of the last bucket.
 pub record AreStarts (width : ℕ) (rows : List HashedRow) (starts : List ℕ) : Type 0 where
   pub count : length starts ≡ (2 ^ 64 - 1) / width + 2

@@ -36,8 +36,22 @@ pub record IsLink (keys : List KeyContent) (rows : List ℕ) (index end : ℕ) :
   pub none : (k : ℕ) → end ≤ k → k < index →
       starts_with nat_eq (row_codes keys (slice_index rows index)) (row_codes keys (slice_index rows k)) ≡ false
 
+-- each of these is the link of its row
 abbrev pub AreLinks : List KeyContent → List ℕ → List ℕ → Type 0
 AreLinks keys rows links = (index : ℕ) → index < length links → IsLink keys rows index (slice_index links index)
+
+-- rows in the order of their keys, and the links of those before an index, which is one of theirs
+pub record AreLinkedBefore (keys : List KeyContent) (index : ℕ) (rows links : List ℕ) : Type 0 where
+  pub order : AreInOrder keys rows
+  pub each : AreLinks keys rows links
+  pub next : index ≡ length links
+  pub within : index < length rows
+
+-- rows in the order of their keys, each with its link
+pub record AreAllLinked (keys : List KeyContent) (rows links : List ℕ) : Type 0 where
+  pub order : AreInOrder keys rows
+  pub each : AreLinks keys rows links
+  pub all : length links ≡ length rows
 
 -- rows in the order of their keys, with the first codes of few, and links between many
 pub record ArePrefixes (keys : List KeyContent) (prefixes : Prefixes) : Type 0 where

@@ -7,7 +7,7 @@ use Rattle.std.proofs.lemmas.List.Folds.{list_any-append}
 use Rattle.attr_keys.proofs.RowLemmas.{or_none}
 use Rattle.std.proofs.lemmas.Option.{slice_get-map, slice_get_read}
 use Rattle.std.proofs.lemmas.Bool.Decides.{nat_tests}
-use Rattle.std.proofs.Common.{◌-◌, arith}
+use Rattle.std.proofs.Common.{arith}
 use Rattle.attr_keys.proofs.key_index.find_each.Goals as goal
 
 pub loop-row-preserved-in-Continue-1 : goal.loop-row-preserved-in-Continue-1

@@ -7,7 +7,7 @@ pub loop-end-preserved : goal.loop-end-preserved
 loop-end-preserved g c =
     let bound = c.loop-end.invariant.bound in
     let some = c.loop-end-test.true in
-    let count = c.requires.index in
+    let count = c.requires.next in
     link_less (keys_seen g.K.Keyed.content c.args.keys) c.args.rows.now c.args.index c.loop-end.end _ c.requires.order c.requires.within
     c.loop-end-test.true c.loop-end.invariant c.if-not-may_begin_with.ensures
-    (c.requires.links (c.loop-end.end - 1) (omega (arith, bound, some, count)))
+    (c.requires.each (c.loop-end.end - 1) (omega (arith, bound, some, count)))

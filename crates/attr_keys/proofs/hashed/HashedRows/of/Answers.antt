@@ -5,10 +5,12 @@ use Rattle.attr_keys.specs.declared.hashed.HashedRow.{HashedRow}
 use Rattle.attr_keys.specs.inner.Hashes.{AreStarts}
 use Rattle.attr_keys.proofs.hashed.HashedRows.of.Goals as goal
 
-pub push_starts-requires-clause-order : goal.push_starts-requires-clause-order
-push_starts-requires-clause-order c =
-    subst (λ l. IsNonDecreasingBy (λ (h : HashedRow). h.hash) l) (sym c.deref-2.ensures.value)
-    (IsNonDecreasingBy-from_sort_by_key (λ (h : HashedRow). h.hash) _ c.sort_unstable_by_key.ensures.sorted (λ a r q k. search rules))
+pub push_starts-requires-clause-buckets : goal.push_starts-requires-clause-buckets
+push_starts-requires-clause-buckets c = record {
+  wide = c.bucket_width-width.ensures;
+  order = subst (λ l. IsNonDecreasingBy (λ (h : HashedRow). h.hash) l) (sym c.deref-2.ensures.value)
+      (IsNonDecreasingBy-from_sort_by_key (λ (h : HashedRow). h.hash) _ c.sort_unstable_by_key.ensures.sorted (λ a r q k. search rules));
+}
 
 pub invariant_of-result-2 : goal.invariant_of-result-2
 invariant_of-result-2 c =

@@ -1,5 +1,5 @@
 -- The candidates that were found are those from an index on.
-use Rattle.std.proofs.Common.{◌≡◌, ◌-◌, arith}
+use Rattle.std.proofs.Common.{◌≡◌, arith}
 use Rattle.std.proofs.lemmas.Bool.Decides.{nat_tests}
 use Rattle.std.proofs.lemmas.List.{append-nil}
 use Rattle.attr_glob.proofs.search.pattern.index.Index.candidates.Goals as goal
