@@ -3,10 +3,10 @@
 
 ghost use Rattle.std.specs.Prelude.{◌≡◌, ◌<◌, ◌≤◌, [], ℕ, IfOk, OnOk, false, length, true, slice_get, slice_index};
 ghost use Rattle.attr_keys.specs.inner.Cases.{keys_seen, seen_text};
-ghost use Rattle.attr_keys.specs.inner.MetRows.{AppendsRows};
+ghost use Rattle.attr_keys.specs.inner.MetRows.{AppendsRows, IsMissed};
 ghost use Rattle.attr_keys.specs.shared.Codes.{codes_of, row_codes};
 ghost use Rattle.attr_keys.specs.shared.Meeting.{text_has};
-ghost use Rattle.attr_keys.specs.shared.Rows.{AreFirsts, AreInOrder, AreAllLinked, AreLinkedBefore, ArePrefixes, IsLink, has_row, is_up_to};
+ghost use Rattle.attr_keys.specs.shared.Rows.{AreFirsts, AreInOrder, AreAllLinked, AreLinkedBefore, ArePrefixes, IsLink, has_row};
 
 use crate::key::{
     Keyed, Keys, common, first_code, first_row_code, has_row_key, is_row_up_to, may_begin_with,
@@ -181,12 +181,8 @@ fn append_linked<K: Keyed>(
 // The number of rows that are not after what the text has in common with the key of this row, which it doesn't have. So no row
 // between the two has a key that the text has.
 fn common_end<K: Keyed>(keys: Keys<'_, K>, rows: &[usize], text: &[u8], index: usize) -> usize
-    requires order { AreInOrder (keys_seen K.content keys) rows.now }
-    requires within { index < length rows.now }
-    requires up_to { is_up_to (codes_of false (seen_text keys.view text.now) true)
-        (row_codes (keys_seen K.content keys) (slice_index rows.now index)) ≡ true }
-    requires lacks { text_has (seen_text keys.view text.now)
-        (slice_get (keys_seen K.content keys) (slice_index rows.now index)) ≡ false }
+    requires { IsMissed
+        (keys_seen K.content keys) rows.now (seen_text keys.view text.now) index }
     ensures { (k : ℕ) → result ≤ k → k < index →
         text_has (seen_text keys.entry.view text.now)
         (slice_get (keys_seen K.content keys.entry) (slice_index rows.now k)) ≡ false }

@@ -9,10 +9,11 @@ use Rattle.std.proofs.lemmas.List.Elements.{All-nil, All-cons, All-head, All-tai
 use Rattle.std.proofs.lemmas.List.Kept.{IsNonDecreasingBy-filter}
 use Rattle.attr_lists.specs.declared.name_table.entry.Definition.{Definition}
 use Rattle.attr_lists.specs.declared.name_table.entry.NameEntry.{NameEntry}
+use Rattle.attr_lists.specs.declared.types.Metadata.{Metadata}
 use Rattle.attr_lists.specs.declared.types.TrackedAssignment.{TrackedAssignment}
 use Rattle.attr_lists.specs.Collections.{MacroDefinition, NumberedBody}
 use Rattle.attr_lists.specs.Definitions.{bodies_of_number, definition_of, is_of_list, of_other_lists}
-use Rattle.attr_lists.specs.inner.EntrySteps.{RemovesListed}
+use Rattle.attr_lists.specs.inner.EntrySteps.{RemovesFrom, RemovesListed}
 use Rattle.attr_lists.specs.inner.EntryViews.{definition_view, definitions_view, all_definitions, definitions_at, AreAllInOrder, AreInListOrder}
 use Rattle.attr_lists.specs.inner.EntryViews.{IsEntry, AreEntries}
 use Rattle.attr_lists.specs.inner.Registered.{SharedMacro, numbered_body}
@@ -25,15 +26,17 @@ filter-map p f [] = refl
 filter-map p f (x ∷ xs) = grind (arith, cond-true, filter, cond-false, cases_Bool, filter-map p f xs)
 
 -- the definitions that are left
-pub others_kept : (list_id : ℕ) (old new : List Definition) → new ≡ filter (λ d. not (eqb d.list_id list_id)) old → map definition_view new ≡
-    of_other_lists list_id (map definition_view old)
-others_kept list_id old new e = ap (map definition_view) e ∙ filter-map (λ d. not (is_of_list list_id d)) definition_view old
-
-pub ids_kept : (list_id number : ℕ) (old new : List Definition) → new ≡ filter (λ d. not (eqb d.list_id list_id)) old → All
-    (λ d. d.metadata.value.id.0 ≡ number) old → All (λ d. d.metadata.value.id.0 ≡ number) new
-ids_kept list_id number old new e h =
-    subst (All (λ (d : Definition). d.metadata.value.id.0 ≡ number)) (sym e)
-    (All-filter (λ d. not (eqb d.list_id list_id)) (λ (d : Definition). d.metadata.value.id.0 ≡ number) old h)
+pub removed_from : (list_id : ℕ) (old new : NameEntry) → new.undefined ≡ old.undefined
+    → new.definitions.items ≡ filter (λ d. not (eqb d.list_id list_id)) old.definitions.items → RemovesFrom list_id old new
+removed_from list_id old new same e = record {
+  definitions = ap (map definition_view) e ∙ filter-map (λ d. not (is_of_list list_id d)) definition_view old.definitions.items;
+  entry = λ number is. record {
+    id = ap (λ (m : Metadata). m.id.0) same ∙ is.id;
+    empty = ap (λ (m : Metadata). m.macro_attributes.items) same ∙ is.empty;
+    ids = subst (All (λ (d : Definition). d.metadata.value.id.0 ≡ number)) (sym e)
+        (All-filter (λ d. not (eqb d.list_id list_id)) (λ (d : Definition). d.metadata.value.id.0 ≡ number) old.definitions.items is.ids);
+  };
+}
 
 push_nothing : {X : Type 0} (xs : List (List X)) (n : ℕ) → get_or (xs ++ [] ∷ []) n [] ≡ get_or xs n []
 push_nothing (x ∷ xs) (suc n) = push_nothing xs n

@@ -1,13 +1,21 @@
 -- What is found of lines by their keys (own).
-use Rattle.std.specs.Prelude.{◌≡◌, ◌&&◌, ◌||◌, ℕ, Bool, List, slice_get}
+use Rattle.std.specs.Prelude.{◌≡◌, ◌<◌, ◌&&◌, ◌||◌, ℕ, Bool, true, false, List, length, slice_get, slice_index}
 use Rattle.attr_keys.specs.shared.KeyContents.{KeyContent}
+use Rattle.attr_keys.specs.shared.Codes.{codes_of, row_codes}
 use Rattle.attr_keys.specs.shared.Meeting.{content_met_at, text_has}
-use Rattle.attr_keys.specs.shared.Rows.{IsFalling, has_row}
+use Rattle.attr_keys.specs.shared.Rows.{AreInOrder, IsFalling, has_row, is_up_to}
 
 -- those of the rows that pass the test were appended whose keys the text has
 abbrev pub AppendsRows : (ℕ → Bool) → List KeyContent → List ℕ → List ℕ → List ℕ → Type 0
 AppendsRows test keys text old new =
     (row : ℕ) → has_row new row ≡ (has_row old row || (test row && text_has text (slice_get keys row)))
+
+-- of rows in order, the one at this index is not after the text, which does not have its key
+pub record IsMissed (keys : List KeyContent) (rows text : List ℕ) (index : ℕ) : Type 0 where
+  pub order : AreInOrder keys rows
+  pub within : index < length rows
+  pub up_to : is_up_to (codes_of false text true) (row_codes keys (slice_index rows index)) ≡ true
+  pub lacks : text_has text (slice_get keys (slice_index rows index)) ≡ false
 
 -- the rows of the keys that the texts have, the greatest first
 pub record AreMetRows (fold : Bool) (name path : List ℕ) (keys : List KeyContent) (found : List ℕ) : Type 0 where
