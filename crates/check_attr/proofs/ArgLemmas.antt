@@ -1,6 +1,5 @@
 -- One argument, and the text that it is.
-use Rattle.std.proofs.lemmas.Bool.Decides.{nat_tests}
-use Rattle.std.proofs.Common.{◌≡◌, ℕ, List, [], ◌∷◌, length, get_or, sym, ap, arith}
+use Rattle.std.proofs.Common.{◌≡◌, List, [], ◌∷◌, length, get_or, sym, ap, arith}
 
 -- a list of one item
 pub one_item : {A : Type 0} (items : List A) (x : A) → length items ≡ 1 → x ≡ get_or items 0 x → items ≡ x ∷ []

@@ -1,12 +1,7 @@
 -- What the outcome of a run says, as one fact.
-use Rattle.std.proofs.Common.{arith, ◌≡◌, ℕ, List, Option, Result, Ok, Err, subst, sym}
-use Rattle.std.proofs.lemmas.Bool.Decides.{nat_tests}
-use Rattle.std.specs.Prelude.{IsErrAnd, IsErrOf, OnOk, OnErr}
-use Rattle.check_attr.specs.LinesText.{WritesLines, WritesLinesFront}
-use Rattle.check_attr.specs.Outcomes.{IsFlushedAfter}
-use Rattle.check_attr.specs.Program.{WritesLinesOutcome}
+use Rattle.std.proofs.Common.{◌≡◌, Result, Ok, Err, subst, sym}
+use Rattle.std.specs.Prelude.{IsErrAnd}
 use Rattle.check_attr.specs.declared.fault.Fault.{Fault}
-use Rattle.check_attr.specs.declared.fault.Fault.TheVariants.{Record, Read}
 
 -- what holds of a fault holds of the result that has it
 pub returned : {T : Type 0} (P : Result T Fault → Type 0) (r : Result T Fault) (fault : Fault) → IsErrAnd r (λ e. e ≡ fault) → P (Err fault) → P r

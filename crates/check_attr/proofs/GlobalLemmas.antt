@@ -1,11 +1,9 @@
 -- The lines that global files drop.
-use Rattle.std.proofs.Common.{arith, ◌≡◌, ◌∙◌, ◌⊎◌, ℕ, List, [], ◌∷◌, ◌++◌, map, sym, append_assoc, Vec, String, Global, string_bytes}
+use Rattle.std.proofs.Common.{arith, ◌≡◌, ◌∙◌, ◌⊎◌, ℕ, List, [], ◌++◌, map, sym, Vec, String, Global, string_bytes}
 use Rattle.std.proofs.lemmas.Bool.Decides.{nat_tests}
-use Rattle.std.specs.List.{flat_map}
 use Rattle.std.proofs.lemmas.List.{append-nil}
 use Rattle.gix_attributes.specs.declared.search.Dropped.{Dropped}
 use Rattle.check_attr.specs.GlobalFiles.{all_dropped_text}
-use Rattle.check_attr.specs.ScriptText.{dropped_text}
 
 -- the lines that files drop, for names and lines that are texts and vectors
 abbrev pub dropped_report_of : List (String Global) → List (Vec Dropped Global) → List ℕ

@@ -2,12 +2,12 @@
 use Rattle.std.proofs.lemmas.Bool.Decides.{nat_tests}
 use Rattle.std.proofs.Common.{◌≡◌, ◌≤◌, ◌<◌, ℕ, zero, suc, List, [], ◌∷◌, ◌++◌, length, take, Option, Some, None, Result, Ok, Err}
 use Rattle.std.proofs.Common.{refl, sym, ap, ◌∙◌, subst, arith, append_assoc, append-nil, ◌+◌, drop, get_or}
-use Rattle.std.specs.Prelude.{IfOk, IsErrAnd}
+use Rattle.std.specs.Prelude.{IfOk, IsErrAnd, OnOk}
 use Rattle.std.specs.List.{flat_map}
 use Rattle.std.proofs.KnownBytes.{Appends-nil, Appends-trans}
 use Rattle.std.specs.Io.KnownBytes.{Appends, Keeps}
 use Rattle.check_attr.specs.Failures.{AppendsFront, CountsOneEnd}
-use Rattle.check_attr.specs.inner.Pieces.{IsWrittenOrHeld, Passes}
+use Rattle.check_attr.specs.inner.Pieces.{IsWrittenOrHeld, Passes, PassesOn}
 use Rattle.check_attr.specs.declared.fault.Fault.{Fault}
 use Rattle.check_attr.specs.declared.fault.Fault.TheVariants.{Record, Read, Write, OutOfMemory}
 use Rattle.check_attr.proofs.PrintLemmas.{Front-later, Front-longer}
@@ -40,6 +40,9 @@ nothing_written a text = (0, Appends-nil a)
 -- a refusal has no value
 pub no_value : {T E : Type 0} (r : Result T E) (P : E → Type 0) (Q : T → Type 0) → IsErrAnd r P → IfOk r Q
 no_value r P Q is = grind (arith, nat_tests)
+
+pub not_ok : {T E : Type 0} (r : Result T E) (P : E → Type 0) (Q : Type 0) → IsErrAnd r P → OnOk r Q
+not_ok r P Q is = grind (arith, nat_tests)
 
 -- ---- the things that are left of a list
 
@@ -127,10 +130,19 @@ module _ {W : Type 0} (contents : W → Option (List ℕ)) (failed stalled : W �
   passes_refused a b held held' text (Err Write) is h = absurd cc
   passes_refused a b held held' text (Err OutOfMemory) is h = no_memory a b held text h
 
-  -- memory was refused before anything was passed on
+  -- no more was passed on, since memory or a call of the writer was refused
+  pub on_refused : {U : Type 0} (a b : W) (held held' text : List ℕ) (r : Result U Fault) → IsErrAnd r (λ x. x ≡ OutOfMemory)
+      → Holds a b held text → PassesOn contents failed stalled a b held' text r
+  on_refused a b held held' text r is h =
+      record { passed = passes_refused a b held held' text r is h; unfilled = not_ok r (λ x. x ≡ OutOfMemory) _ is }
+
   pub refused_at_once : {U : Type 0} (a : W) (held text : List ℕ) (r : Result U Fault) → IsErrAnd r (λ x. x ≡ OutOfMemory)
-      → Passes contents failed stalled a a held text r
-  refused_at_once a held text r is = grind (arith, nat_tests, nothing_written)
+      → PassesOn contents failed stalled a a held text r
+  refused_at_once a held text r is = on_refused a a text held text r is (holds_all a text)
+
+  pub on_stopped : {U : Type 0} (a b : W) (held text : List ℕ) (e : Fault) (r : Result U Fault) → IsErrAnd r (λ x. x ≡ e) → Stops a b text e
+      → PassesOn contents failed stalled a b held text r
+  on_stopped a b held text e r is p = record { passed = stops_as a b held text e r is p; unfilled = not_ok r (λ x. x ≡ e) _ is }
 
   -- more is held, and more is the text
   pub holds_more : (a b : W) (held text more : List ℕ) → Holds a b held text → Holds a b (held ++ more) (text ++ more)

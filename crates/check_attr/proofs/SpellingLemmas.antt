@@ -21,7 +21,7 @@ use Rattle.check_attr.specs.inner.ScriptParts.{split_once, split_at}
 use Rattle.check_attr.specs.inner.ScriptParts.{if_text, is_number, digits_value, number_before, root_length, root_of, add_header, addition_of}
 use Rattle.check_attr.specs.inner.ScriptParts.{text_lines, ask_header, question_of}
 use Rattle.check_attr.specs.inner.ScriptParts.{add_record, names_record, ask_record, record_of, IsFirstRecord, IsNumberBefore}
-use Rattle.check_attr.proofs.PartLemmas.{then-some, map-some, same_some, starts_with-only, choice_of-only, strip_prefix-only, number_before-back}
+use Rattle.check_attr.proofs.PartLemmas.{then-some, map-some, same_some, starts_with-only, strip_prefix-only, number_before-back}
 use Rattle.check_attr.proofs.PartLemmas.{number_before-only}
 use Rattle.check_attr.proofs.PartLemmas.{split_at-back, split_at-only, split_text-only, split_once-back, split_once-only}
 use Rattle.check_attr.proofs.PartLemmas.{if_text-back, if_text-only, decimal_digits, decimal_some}

@@ -1,12 +1,13 @@
 -- The lists that a script starts from, as they are read from the files of these names (own).
-use Rattle.std.specs.Prelude.{◌≡◌, ◌⊎◌, ℕ, List, map}
+use Rattle.std.specs.Prelude.{◌≡◌, ◌≤◌, ◌⊎◌, ℕ, List, map, Result, IfErr}
 use Rattle.std.specs.List.{flat_map, zip}
-use Rattle.gix_attributes.specs.Additions.{dropped_of}
+use Rattle.gix_attributes.specs.Additions.{IsIo, dropped_of}
 use Rattle.gix_attributes.specs.Answers.{ReadAnswer}
 use Rattle.gix_attributes.specs.Collections.{Collection, empty_collection}
 use Rattle.gix_attributes.specs.declared.search.Dropped.{Dropped}
 use Rattle.gix_attributes.specs.FileReads.{AreAnswered, FileRead, ReadInOrder, names_read}
 use Rattle.gix_attributes.specs.EngineView.{started_with}
+use Rattle.gix_attributes.specs.Failures.{Fails}
 use Rattle.gix_attributes.specs.Globals.{RefusesGlobals}
 use Rattle.gix_attributes.specs.declared.search.files.AddError.{AddError}
 use Rattle.gix_attributes.specs.declared.search.files.AddError.TheVariants.{OutOfMemory}
@@ -40,3 +41,8 @@ RefusesNames reads names old new error =
 -- a line for each line that the file of one of these names drops, file by file
 abbrev pub all_dropped_text : List (List ℕ) → List (List Dropped) → List ℕ
 all_dropped_text names dropped = flat_map (λ file. flat_map (dropped_text file.0) file.1) (zip names dropped)
+
+-- the count of failures of the device does not fall, and if the device is to blame, it rose or was full
+pub record CountsDevice {T : Type 0} (failed failed' : ℕ) (result : Result T AddError) : Type 0 where
+  pub device : IfErr result (λ e. IsIo e → Fails failed failed')
+  pub count : failed ≤ failed'

@@ -1,5 +1,5 @@
 -- What the outcome of a run says of its reader and its writer (own).
-use Rattle.std.specs.Prelude.{◌≡◌, ◌⊎◌, ⊤, ℕ, List, Option, Result, Ok, Err, OnOk, IsErrOf}
+use Rattle.std.specs.Prelude.{◌≡◌, ◌⊎◌, ⊤, ℕ, List, Option, Result, Ok, Err, IsErrOf}
 use Rattle.std.specs.Io.KnownBytes.{IsAtEnd}
 use Rattle.check_attr.specs.Failures.{CountsOne, CountsOneEnd}
 use Rattle.check_attr.specs.declared.fault.Fault.{Fault}
@@ -33,10 +33,18 @@ IsFlushedAfter (Err OutOfMemory) Flushed = ⊤
 abbrev pub ReadsInputFirst : {W : Type 0} → Option (List ℕ) → W → W → Type 0
 ReadsInputFirst left old new = (new ≡ old) ⊎ IsAtEnd left
 
+-- a reader is at its end after a run, and before a malformed record is returned
+abbrev pub IsReadAfter : {T : Type 0} → Result T Fault → Option (List ℕ) → Type 0
+IsReadAfter (Ok x) left = IsAtEnd left
+IsReadAfter (Err (Record k)) left = IsAtEnd left
+IsReadAfter (Err Read) left = ⊤
+IsReadAfter (Err Write) left = ⊤
+IsReadAfter (Err OutOfMemory) left = ⊤
+
 -- what a run says of its reader, which is seen by the bytes that it has left and its count of failures
-pub record UsesReader {R : Type 0} (remaining : R → Option (List ℕ)) (failed : R → ℕ) (old new : R) (outcome : Result ⊤ Fault) : Type 0 where
+pub record UsesReader {T R : Type 0} (remaining : R → Option (List ℕ)) (failed : R → ℕ) (old new : R) (outcome : Result T Fault) : Type 0 where
   pub counts : CountsReads outcome (failed old) (failed new)
-  pub end : OnOk outcome (IsAtEnd (remaining new))
+  pub end : IsReadAfter outcome (remaining new)
 
 -- what a run says of its writer, which is seen by its counts of failures and of stalls and whether it is flushed
 pub record UsesWriter {W : Type 0} (failed stalled : W → ℕ) (Flushed : W → Type 0) (old new : W) (outcome : Result ⊤ Fault) : Type 0 where

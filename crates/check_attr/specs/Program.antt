@@ -1,10 +1,11 @@
 -- The program `check_attr`: its arguments, its statuses, and its lines on standard error (own).
-use Rattle.std.specs.Prelude.{◌≡◌, ◌⊎◌, ℕ, List, [], ◌∷◌, ◌++◌, map, String, string_bytes, codes}
+use Rattle.std.specs.Prelude.{◌≡◌, ◌⊎◌, ⊤, ℕ, List, [], ◌∷◌, ◌++◌, map, String, string_bytes, codes}
 use Rattle.std.specs.Prelude.{Option, Some, None, Result, Ok, Err}
 use Rattle.std.specs.Global.{Global}
 use Rattle.std.specs.Fmt.{decimal}
 use Rattle.std.specs.Io.KnownBytes.{Appends}
 use Rattle.check_attr.specs.Failures.{AppendsFront, CountsOneEnd}
+use Rattle.check_attr.specs.Outcomes.{UsesWriter}
 use Rattle.check_attr.specs.LinesText.{WritesLines, WritesLinesFront}
 use Rattle.gix_attributes.specs.declared.search.files.AddError.{AddError}
 use Rattle.gix_attributes.specs.declared.search.files.AddError.TheVariants.{Io, OutOfMemory as NoMemory}
@@ -76,3 +77,9 @@ WritesOutcomeFrom s script old new (Err OutOfMemory) = WritesFrontFrom s script 
 abbrev pub WritesOutcome : {T : Type 0} → GlobalLists → Option (List ℕ) → Option (List ℕ) → Option (List ℕ) → Result T Fault
     → Type 0
 WritesOutcome globals = WritesOutcomeFrom (initial_state globals)
+
+-- what a script from this state does with its writer: what it writes, and what it says of the writer
+pub record Plays {W : Type 0} (contents : W → Option (List ℕ)) (failed stalled : W → ℕ) (Flushed : W → Type 0) (s : EngineState)
+    (script : Option (List ℕ)) (old new : W) (outcome : Result ⊤ Fault) : Type 0 where
+  pub written : WritesOutcomeFrom s script (contents old) (contents new) outcome
+  pub writer : UsesWriter failed stalled Flushed old new outcome

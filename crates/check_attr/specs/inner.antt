@@ -5,3 +5,4 @@ pub mod PassedText
 pub mod Pieces
 pub mod ScriptParts
 pub mod ScriptViews
+pub mod Whole

@@ -4,11 +4,10 @@ ghost use Rattle.std.specs.Prelude.{◌≡◌, ◌≢◌, ◌++◌, OnOk, [], co
 ghost use Rattle.std.specs.List.{flat_map};
 ghost use Rattle.gix_attributes.specs.TextViews.{state_view};
 ghost use Rattle.gix_attributes.specs.Matches.{match_view, cause_of};
-ghost use Rattle.check_attr.specs.inner.Pieces.{FillsNoPiece, Passes};
+ghost use Rattle.check_attr.specs.inner.Pieces.{FillsNoPiece, PassesOn};
 ghost use Rattle.check_attr.specs.inner.MatchText.{match_entry};
 ghost use Rattle.check_attr.specs.ScriptText.{info, cause_text, origin_text, answer_text};
 
-use crate::buffer::{push_bytes, push_number, push_text};
 use crate::fault::Fault;
 use crate::held::Held;
 use crate::pieces::write_full;
@@ -32,10 +31,9 @@ pub fn pass_answers<W: Push>(
     engine: &Engine,
 ) -> Result<(), Fault>
     requires { FillsNoPiece held.old }
-    ensures passed { Passes W.contents W.failed W.stalled writer.old writer.new held.new
+    ensures { PassesOn W.contents W.failed W.stalled writer.old writer.new held.new
         (held.old ++ flat_map (match_entry question.entry engine.now)
         (unwrap_or engine.now.answers [])) result }
-    ensures unfilled { OnOk result (FillsNoPiece held.new) }
 {
     for one in engine.answers() {
         push_entry(held, question, engine, one)?;
@@ -58,32 +56,29 @@ fn push_entry(
     if let Form::Line = question.form {
         return push_line(held, question.path, one.assignment);
     }
-    let mut out = held.take();
-    push_fields(&mut out, question, engine, one)?;
-    held.hold(out);
-    Ok(())
+    push_fields(held, question, engine, one)
 }
 
 // An entry in one of the other forms.
 #[inline(never)]
 fn push_fields(
-    out: &mut Vec<u8>,
+    held: &mut Held,
     question: Question<'_>,
     engine: &Engine,
     one: Match<'_>,
 ) -> Result<(), AllocError>
     requires { question.form ≢ Form.Line }
-    ensures { OnOk result (out.new.items
-        ≡ out.old.items ++ match_entry question.entry engine.now (match_view one.entry)) }
+    ensures { OnOk result (held.new
+        ≡ held.old ++ match_entry question.entry engine.now (match_view one.entry)) }
 {
     if let Form::Origin = question.form {
-        push_answer(out, question.path, ": ", one.assignment)?;
-        push_text(out, "\t")?;
-        push_origin(out, engine, one)?;
-        return push_text(out, "\n");
+        push_answer(held, question.path, b": ", one.assignment)?;
+        held.push(b"\t")?;
+        push_origin(held, engine, one)?;
+        return held.push(b"\n");
     }
-    push_answer(out, question.path, "\0", one.assignment)?;
-    push_text(out, "\0")
+    push_answer(held, question.path, b"\0", one.assignment)?;
+    held.push(b"\0")
 }
 
 // The path, the name and the state as a line. What follows the name is appended at once if it is one of few texts.
@@ -113,60 +108,59 @@ fn push_value(held: &mut Held, value: &[u8]) -> Result<(), AllocError>
 
 // The path, the name and the state.
 fn push_answer(
-    out: &mut Vec<u8>,
+    held: &mut Held,
     path: &[u8],
-    separator: &str,
+    separator: &[u8],
     assignment: AssignmentRef<'_>,
 ) -> Result<(), AllocError>
-    ensures { OnOk result (out.new.items
-        ≡ out.old.items ++ answer_text path.now separator.now assignment.entry.name.text.now
+    ensures { OnOk result (held.new
+        ≡ held.old ++ answer_text path.now separator.now assignment.entry.name.text.now
         (state_view assignment.entry.state)) }
 {
-    push_bytes(out, path)?;
-    push_text(out, separator)?;
-    push_text(out, assignment.name.as_str())?;
-    push_text(out, separator)?;
-    push_info(out, assignment.state)
+    held.push(path)?;
+    held.push(separator)?;
+    held.push(assignment.name.as_str().as_bytes())?;
+    held.push(separator)?;
+    push_info(held, assignment.state)
 }
 
-fn push_info(out: &mut Vec<u8>, state: StateRef<'_>) -> Result<(), AllocError>
-    ensures { OnOk result (out.new.items
-        ≡ out.old.items ++ info (state_view state.entry)) }
+fn push_info(held: &mut Held, state: StateRef<'_>) -> Result<(), AllocError>
+    ensures { OnOk result (held.new ≡ held.old ++ info (state_view state.entry)) }
 {
     match state {
-        StateRef::Set => push_text(out, "set"),
-        StateRef::Unset => push_text(out, "unset"),
-        StateRef::Value(value) => push_bytes(out, value.as_bstr().as_bytes()),
-        StateRef::Unspecified => push_text(out, "unspecified"),
+        StateRef::Set => held.push(b"set"),
+        StateRef::Unset => held.push(b"unset"),
+        StateRef::Value(value) => held.push(value.as_bstr().as_bytes()),
+        StateRef::Unspecified => held.push(b"unspecified"),
     }
 }
 
 // The source, line and pattern that decided, and the macro. An attribute that no line assigns has none of these.
-fn push_origin(out: &mut Vec<u8>, engine: &Engine, one: Match<'_>) -> Result<(), AllocError>
-    ensures { let m = match_view one.entry in OnOk result (out.new.items
-        ≡ out.old.items ++ origin_text engine.now.state.names m.origin m.cause m.origin.source) }
+fn push_origin(held: &mut Held, engine: &Engine, one: Match<'_>) -> Result<(), AllocError>
+    ensures { let m = match_view one.entry in OnOk result (held.new
+        ≡ held.old ++ origin_text engine.now.state.names m.origin m.cause m.origin.source) }
 {
     let Some(source) = one.location.source else {
-        return push_text(out, "-\t-\t-");
+        return held.push(b"-\t-\t-");
     };
     let line = one.location.sequence_number;
-    push_text(out, source)?;
-    push_text(out, ":")?;
-    push_number(out, line)?;
-    push_text(out, "\t")?;
-    let pattern = one.pattern.write_text(*out.allocator())?;
-    push_bytes(out, &pattern)?;
-    push_text(out, "\t")?;
-    push_cause(out, engine, one.kind)
+    held.push(source.as_bytes())?;
+    held.push(b":")?;
+    held.push_number(line)?;
+    held.push(b"\t")?;
+    let pattern = one.pattern.write_text(held.allocator())?;
+    held.push(&pattern)?;
+    held.push(b"\t")?;
+    push_cause(held, engine, one.kind)
 }
 
-fn push_cause(out: &mut Vec<u8>, engine: &Engine, kind: MatchKind) -> Result<(), AllocError>
-    ensures { OnOk result (out.new.items
-        ≡ out.old.items ++ cause_text engine.now.state.names (cause_of kind)) }
+fn push_cause(held: &mut Held, engine: &Engine, kind: MatchKind) -> Result<(), AllocError>
+    ensures { OnOk result (held.new
+        ≡ held.old ++ cause_text engine.now.state.names (cause_of kind)) }
 {
     match kind.source_id() {
-        None => push_text(out, "-"),
-        Some(id) => push_text(out, name_of(engine, id)),
+        None => held.push(b"-"),
+        Some(id) => held.push(name_of(engine, id).as_bytes()),
     }
 }
 

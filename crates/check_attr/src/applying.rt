@@ -1,14 +1,9 @@
 //! The records of a script are applied to an engine, and the text that they write is passed on.
 
-ghost use Rattle.std.specs.Prelude.{◌≡◌, ◌++◌, OnOk};
-ghost use Rattle.std.specs.List.{flat_map};
-ghost use Rattle.gix_attributes.specs.KeptLists.{dropped_lines};
-ghost use Rattle.gix_attributes.specs.EngineStates.{state_with_list};
-ghost use Rattle.gix_attributes.specs.EngineView.{addition_view};
-ghost use Rattle.check_attr.specs.inner.PassedText.{PassesAnswers, PassesRecord};
-ghost use Rattle.check_attr.specs.inner.Pieces.{FillsNoPiece, Passes};
-ghost use Rattle.check_attr.specs.ScriptText.{dropped_text};
-ghost use Rattle.check_attr.specs.inner.ScriptViews.{question_view, record_view};
+ghost use Rattle.std.specs.Prelude.{◌≡◌, OnOk};
+ghost use Rattle.check_attr.specs.inner.PassedText.{PassesRecord};
+ghost use Rattle.check_attr.specs.inner.Pieces.{FillsNoPiece};
+ghost use Rattle.check_attr.specs.inner.ScriptViews.{record_view};
 ghost use Rattle.check_attr.specs.ScriptStates.{next_state};
 
 use crate::answers::pass_answers;
@@ -18,7 +13,8 @@ use crate::held::Held;
 use crate::script::{Question, Record};
 use crate::writing::Push;
 use bstr::BStr;
-use gix_attributes::engine::{Addition, Engine};
+use gix_attributes::engine;
+use gix_attributes::engine::Engine;
 use std::alloc::Global;
 
 /// Applies a record, and passes on the text that it writes, after what is held.
@@ -37,12 +33,14 @@ pub fn apply<W: Push>(
     requires { FillsNoPiece held.old }
     ensures state { OnOk result (engine.new.state
         ≡ next_state (record_view next.entry) engine.old.state) }
-    ensures unfilled { OnOk result (FillsNoPiece held.new) }
     ensures text { PassesRecord W.contents W.failed W.stalled engine.old.state
         (record_view next.entry) writer.old writer.new held.old held.new result }
 {
     match next {
-        Record::Add(addition) => add(engine, alloc, addition, writer, held),
+        Record::Add(addition) => {
+            engine.add(alloc, addition)?;
+            pass_dropped(writer, held, addition.source, engine.dropped())
+        }
         Record::Pop => {
             engine.pop();
             Ok(())
@@ -51,48 +49,22 @@ pub fn apply<W: Push>(
             engine.select(alloc, &names)?;
             Ok(())
         }
-        Record::Ask(question) => ask(engine, alloc, question, writer, held),
+        Record::Ask(question) => {
+            engine.ask(alloc, asked_by(question))?;
+            pass_answers(writer, held, question, engine)
+        }
     }
 }
 
-fn add<W: Push>(
-    engine: &mut Engine,
-    alloc: Global,
-    addition: Addition<'_>,
-    writer: &mut W,
-    held: &mut Held,
-) -> Result<(), Fault>
-    requires { FillsNoPiece held.old }
-    ensures state { OnOk result (engine.new.state
-        ≡ state_with_list (addition_view addition.entry) engine.old.state) }
-    ensures unfilled { OnOk result (FillsNoPiece held.new) }
-    ensures text { Passes W.contents W.failed W.stalled writer.old writer.new held.new
-        (held.old ++ flat_map (dropped_text addition.entry.source.now)
-        (dropped_lines addition.entry.buffer.now)) result }
+// What the engine is asked.
+fn asked_by(question: Question<'_>) -> engine::Question<'_>
+    ensures path { result.path.bytes.now ≡ question.entry.path.now }
+    ensures case { result.case ≡ question.entry.case }
+    ensures is_dir { result.is_dir ≡ question.entry.is_dir }
 {
-    engine.add(alloc, addition)?;
-    pass_dropped(writer, held, addition.source, engine.dropped())
-}
-
-fn ask<W: Push>(
-    engine: &mut Engine,
-    alloc: Global,
-    question: Question<'_>,
-    writer: &mut W,
-    held: &mut Held,
-) -> Result<(), Fault>
-    requires { FillsNoPiece held.old }
-    ensures state { OnOk result (engine.new.state ≡ engine.old.state) }
-    ensures unfilled { OnOk result (FillsNoPiece held.new) }
-    ensures text { PassesAnswers W.contents W.failed W.stalled engine.old.state
-        (question_view question.entry) writer.old writer.new
-        held.old held.new result }
-{
-    let asked = gix_attributes::engine::Question {
+    engine::Question {
         path: BStr::from(question.path),
         case: question.case,
         is_dir: question.is_dir,
-    };
-    engine.ask(alloc, asked)?;
-    pass_answers(writer, held, question, engine)
+    }
 }

@@ -1,21 +1,21 @@
 //! The program `check_attr`: its arguments, its statuses, and its texts on standard error.
-ghost use Rattle.std.specs.Prelude.{◌≡◌, ◌≤◌, ◌⊎◌, ⊤, List, Result, IfOk, IfErr, IfSome, IsTrue, OnOk, OnErr, ◌↔◌, map, string_bytes};
-ghost use Rattle.std.specs.Io.KnownBytes.{Appends};
+ghost use Rattle.std.specs.Prelude.{◌≡◌, ◌≤◌, ◌⊎◌, ⊤, List, Result, IfOk, IfErr, IsTrue, ◌↔◌, map, string_bytes};
 ghost use Rattle.gix_attributes.specs.Additions.{IsIo};
 ghost use Rattle.gix_attributes.specs.Failures.{Fails};
 ghost use Rattle.gix_attributes.specs.FileReads.{FileRead, names_read};
-ghost use Rattle.check_attr.specs.Failures.{AppendsFront};
-ghost use Rattle.check_attr.specs.GlobalFiles.{ReadsNames, RefusesNames, all_dropped_text, loaded_from};
-ghost use Rattle.check_attr.specs.Outcomes.{CountsWrites, ReadsInputFirst, UsesReader, UsesWriter};
+ghost use Rattle.check_attr.specs.GlobalFiles.{CountsDevice, ReadsNames, RefusesNames, all_dropped_text, loaded_from};
+ghost use Rattle.check_attr.specs.Outcomes.{ReadsInputFirst, UsesReader, UsesWriter};
+ghost use Rattle.check_attr.specs.inner.Whole.{WritesFlushed};
 ghost use Rattle.check_attr.specs.Program.{IsLinesAlone, Prints, PrintsOutcome, WritesLinesOutcome, WritesOutcome, fault_line, refusal_line, status_after, status_of};
 
 use crate::dropped_lines::push_dropped;
 use crate::fault::Fault;
 use crate::global_lists::{Globals, read_globals};
+use crate::held::Held;
 use crate::line_report::lines;
 use crate::reading::Pull;
 use crate::script_run::run_over;
-use crate::writing::{Push, write_all};
+use crate::writing::{Push, write_all, write_bytes};
 use gix_attributes::files::Files;
 use gix_attributes::search::{AddError, Dropped};
 use itoa::Buffer;
@@ -72,8 +72,8 @@ pub fn program<F: Files, R: Pull, W: Push, E: Push>(
         return finish(errors, &outcome);
     }
     match load(alloc, files, args) {
-        Ok((globals, text)) => {
-            print(errors, &text);
+        Ok((globals, report)) => {
+            print(errors, report.text());
             let mut engine = globals.into_engine(alloc);
             let outcome = run_over(alloc, reader, writer, &mut engine);
 
@@ -93,19 +93,18 @@ fn load<F: Files>(
     alloc: Global,
     files: &mut F,
     names: &[String],
-) -> Result<(Globals, Vec<u8>), AddError>
+) -> Result<(Globals, Held), AddError>
     ensures loaded { IfOk result (λ r. (read : List FileRead)
         × ReadsNames F.reads (map string_bytes names.now) files.old read files.new
         × (r.0 ≡ loaded_from read)
-        × (r.1.items ≡ all_dropped_text (map string_bytes names.now) r.0.dropped)) }
+        × (r.1 ≡ all_dropped_text (map string_bytes names.now) r.0.dropped)) }
     ensures refused { IfErr result (λ e.
         RefusesNames F.reads (map string_bytes names.now) files.old files.new e) }
-    ensures device { IfErr result (λ e. IsIo e → Fails (F.failed files.old) (F.failed files.new)) }
-    ensures count { F.failed files.old ≤ F.failed files.new }
+    ensures counts { CountsDevice (F.failed files.old) (F.failed files.new) result }
 {
     let globals = read_globals(alloc, files, names)?;
-    let text = dropped_report(alloc, names, globals.dropped())?;
-    Ok((globals, text))
+    let report = dropped_report(alloc, names, globals.dropped())?;
+    Ok((globals, report))
 }
 
 // A line for each line that the file of one of these names drops.
@@ -113,15 +112,15 @@ fn dropped_report(
     alloc: Global,
     names: &[String],
     dropped: &[Vec<Dropped>],
-) -> Result<Vec<u8>, AllocError>
-    ensures { IfOk result (λ text. text.items
+) -> Result<Held, AllocError>
+    ensures { IfOk result (λ held. held
         ≡ all_dropped_text (map string_bytes names.now) (map (λ lines. lines.items) dropped.now)) }
 {
-    let mut text = Vec::new(alloc);
+    let mut held = Held::new(alloc);
     for (name, lines) in names.iter().zip(dropped) {
-        push_dropped(&mut text, name, lines)?;
+        push_dropped(&mut held, name, lines)?;
     }
-    Ok(text)
+    Ok(held)
 }
 
 fn is_lines_alone(args: &[String]) -> bool
@@ -163,33 +162,22 @@ fn print_fault<E: Push>(errors: &mut E, fault: &Fault)
         (fault_line fault.now) }
 {
     match fault {
-        Fault::Record(number) => print_malformed(errors, *number),
+        Fault::Record(number) => {
+            let _ = write_malformed(errors, *number);
+        }
         Fault::Read => print(errors, b"check_attr: reading failed\n"),
         Fault::Write => print(errors, b"check_attr: writing failed\n"),
         Fault::OutOfMemory => print(errors, b"check_attr: out of memory\n"),
     }
 }
 
-fn print_malformed<E: Push>(errors: &mut E, number: usize)
-    ensures { Prints E.contents E.failed E.stalled E.Flushed errors.old errors.new
-        (fault_line (Fault.Record number)) }
-{
-    let _ = write_malformed(errors, number);
-}
-
 fn write_malformed<E: Push>(errors: &mut E, number: usize) -> Result<(), Fault>
-    ensures ok { OnOk result (Appends (E.contents errors.old) (E.contents errors.new)
-        (fault_line (Fault.Record number))) }
-    ensures flushed { OnOk result (E.Flushed errors.new) }
-    ensures front { OnErr result (AppendsFront (E.contents errors.old) (E.contents errors.new)
-        (fault_line (Fault.Record number))) }
-    ensures writes { CountsWrites result (E.failed errors.old) (E.failed errors.new)
-        (E.stalled errors.old) (E.stalled errors.new) }
-    ensures only { IfErr result (λ fault. fault ≡ Fault.Write) }
+    ensures { WritesFlushed E.contents E.failed E.stalled E.Flushed errors.old errors.new
+        (fault_line (Fault.Record number)) result }
 {
     let mut digits = Buffer::new();
-    write_all(errors, b"check_attr: malformed record ")?;
-    write_all(errors, digits.format(number).as_bytes())?;
+    write_bytes(errors, b"check_attr: malformed record ")?;
+    write_bytes(errors, digits.format(number).as_bytes())?;
     write_all(errors, b"\n")
 }
 

@@ -2,10 +2,9 @@
 
 ghost use Rattle.std.specs.Prelude.{◌≡◌, ◌++◌, OnOk};
 ghost use Rattle.std.specs.List.{flat_map};
-ghost use Rattle.check_attr.specs.inner.Pieces.{FillsNoPiece, Passes};
+ghost use Rattle.check_attr.specs.inner.Pieces.{FillsNoPiece, PassesOn};
 ghost use Rattle.check_attr.specs.ScriptText.{dropped_text, reason_word};
 
-use crate::buffer::{push_number, push_text};
 use crate::fault::Fault;
 use crate::held::Held;
 use crate::pieces::write_full;
@@ -17,13 +16,13 @@ use std::alloc::AllocError;
 ///
 /// # Errors
 ///
-/// `AllocError` if `out` could not grow.
-pub fn push_dropped(out: &mut Vec<u8>, source: &str, dropped: &[Dropped]) -> Result<(), AllocError>
-    ensures { OnOk result (out.new.items
-        ≡ out.old.items ++ flat_map (dropped_text source.now) dropped.now) }
+/// `AllocError` if `held` could not grow.
+pub fn push_dropped(held: &mut Held, source: &str, dropped: &[Dropped]) -> Result<(), AllocError>
+    ensures { OnOk result (held.new
+        ≡ held.old ++ flat_map (dropped_text source.now) dropped.now) }
 {
     for line in dropped {
-        push_line(out, source, *line)?;
+        push_line(held, source, *line)?;
     }
     Ok(())
 }
@@ -42,38 +41,40 @@ pub fn pass_dropped<W: Push>(
     dropped: &[Dropped],
 ) -> Result<(), Fault>
     requires { FillsNoPiece held.old }
-    ensures passed { Passes W.contents W.failed W.stalled writer.old writer.new held.new
+    ensures { PassesOn W.contents W.failed W.stalled writer.old writer.new held.new
         (held.old ++ flat_map (dropped_text source.now) dropped.now) result }
-    ensures unfilled { OnOk result (FillsNoPiece held.new) }
 {
     for line in dropped {
-        hold_line(held, source, *line)?;
-        write_full(writer, held)?;
+        pass_line(writer, held, source, *line)?;
     }
     Ok(())
 }
 
-// Appends a line, before which less than a piece is held.
-fn hold_line(held: &mut Held, source: &str, dropped: Dropped) -> Result<(), AllocError>
+// Passes a line on. Less than a piece is held before it, so no more is held at any time than a piece and one line.
+fn pass_line<W: Push>(
+    writer: &mut W,
+    held: &mut Held,
+    source: &str,
+    dropped: Dropped,
+) -> Result<(), Fault>
     requires { FillsNoPiece held.old }
-    ensures { OnOk result (held.new ≡ held.old ++ dropped_text source.now dropped) }
+    ensures { PassesOn W.contents W.failed W.stalled writer.old writer.new held.new
+        (held.old ++ dropped_text source.now dropped) result }
 {
-    let mut out = held.take();
-    push_line(&mut out, source, dropped)?;
-    held.hold(out);
-    Ok(())
+    push_line(held, source, dropped)?;
+    write_full(writer, held)
 }
 
-fn push_line(out: &mut Vec<u8>, source: &str, dropped: Dropped) -> Result<(), AllocError>
-    ensures { OnOk result (out.new.items ≡ out.old.items ++ dropped_text source.now dropped) }
+fn push_line(held: &mut Held, source: &str, dropped: Dropped) -> Result<(), AllocError>
+    ensures { OnOk result (held.new ≡ held.old ++ dropped_text source.now dropped) }
 {
-    push_text(out, "dropped: ")?;
-    push_text(out, source)?;
-    push_text(out, ":")?;
-    push_number(out, dropped.line)?;
-    push_text(out, ": ")?;
-    push_text(out, reason_word(dropped.reason))?;
-    push_text(out, "\n")
+    held.push(b"dropped: ")?;
+    held.push(source.as_bytes())?;
+    held.push(b":")?;
+    held.push_number(dropped.line)?;
+    held.push(b": ")?;
+    held.push(reason_word(dropped.reason).as_bytes())?;
+    held.push(b"\n")
 }
 
 fn reason_word<'a>(reason: DropReason) -> &'a str

@@ -3,9 +3,7 @@
 ghost use Rattle.std.specs.Prelude.{◌≡◌, ◌≤◌, List, IfErr, IfOk, map, string_bytes};
 ghost use Rattle.gix_attributes.specs.Additions.{IsIo};
 ghost use Rattle.gix_attributes.specs.Failures.{Fails};
-ghost use Rattle.gix_attributes.specs.SearchViews.{Holds, lists_in, list_ids_in};
 ghost use Rattle.gix_attributes.specs.FileReads.{FileRead, ReadInOrder};
-ghost use Rattle.gix_attributes.specs.Registration.{RegistersAlone};
 ghost use Rattle.check_attr.specs.ScriptStates.{initial_state};
 ghost use Rattle.check_attr.specs.GlobalFiles.{ReadsNames, RefusedAt, loaded_from};
 
@@ -38,25 +36,6 @@ impl Model for Globals {
 }
 
 impl Globals {
-    // The collection registers the lists of the search, and no others.
-    pub(crate) fn of(
-        search: Search,
-        collection: MetadataCollection,
-        dropped: Vec<Vec<Dropped>>,
-    ) -> Globals
-        requires held { Holds collection search }
-        requires known { RegistersAlone collection (list_ids_in search) (lists_in search) }
-        ensures names { result.names ≡ collection.names }
-        ensures lists { result.lists ≡ lists_in search }
-        ensures dropped { result.dropped ≡ map (λ lines. lines.items) dropped.items }
-    {
-        Globals {
-            search,
-            collection,
-            dropped,
-        }
-    }
-
     /// The dropped lines of the global files, a list for each file name.
     pub fn dropped(&self) -> &[Vec<Dropped>]
         ensures { map (λ lines. lines.items) result.now ≡ self.now.dropped }
@@ -102,5 +81,9 @@ pub fn read_globals<F: Files>(
         &mut buf,
         &mut collection,
     )?;
-    Ok(Globals::of(search, collection, dropped))
+    Ok(Globals {
+        search,
+        collection,
+        dropped,
+    })
 }

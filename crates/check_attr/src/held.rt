@@ -1,10 +1,11 @@
-//! Text that is held in memory before it is written.
+//! Text that is held in memory before it is written. If the buffer can't grow, what it holds is not specified.
 
 ghost use Rattle.std.specs.Prelude.{◌≡◌, ◌+◌, ◌≤◌, ◌++◌, OnOk, [], length, take};
+ghost use Rattle.std.specs.Fmt.{decimal};
 
-use std::alloc::AllocError;
+use itoa::Buffer;
+use std::alloc::{AllocError, Global};
 use std::marker::Model;
-use std::mem;
 
 // So many bytes of room are made at once.
 const ROOM: usize = 4096;
@@ -28,12 +29,19 @@ impl Model for Held {
 }
 
 impl Held {
-    /// Holds a text.
-    pub fn of(text: Vec<u8>) -> Held
-        ensures { result ≡ text.items }
+    /// Holds nothing so far.
+    pub fn new(alloc: Global) -> Held
+        ensures { result ≡ [] }
     {
-        let len = text.len();
-        Held { buffer: text, len }
+        Held {
+            buffer: Vec::new(alloc),
+            len: 0,
+        }
+    }
+
+    /// What the buffer grows by.
+    pub fn allocator(&self) -> Global {
+        *self.buffer.allocator()
     }
 
     /// The text that is held.
@@ -41,25 +49,6 @@ impl Held {
         ensures { result.now ≡ self.now }
     {
         &self.buffer[..self.len]
-    }
-
-    /// Returns the text that is held, to be appended to and held again.
-    pub fn take(&mut self) -> Vec<u8>
-        ensures { result.items ≡ self.old }
-    {
-        let alloc = *self.buffer.allocator();
-        let mut text = mem::replace(&mut self.buffer, Vec::new(alloc));
-        text.truncate(self.len);
-        self.len = 0;
-        text
-    }
-
-    /// Holds a text in place of the one before.
-    pub fn hold(&mut self, text: Vec<u8>)
-        ensures { self.new ≡ text.items }
-    {
-        self.len = text.len();
-        self.buffer = text;
     }
 
     /// Holds nothing. The buffer is kept.
@@ -85,6 +74,17 @@ impl Held {
         self.buffer[start..end].copy_from_slice(bytes);
         self.len = end;
         Ok(())
+    }
+
+    /// Appends the decimal digits of a number.
+    ///
+    /// # Errors
+    ///
+    /// `AllocError` if the buffer could not grow.
+    pub fn push_number(&mut self, number: usize) -> Result<(), AllocError>
+        ensures { OnOk result (self.new ≡ self.old ++ decimal number) }
+    {
+        self.push(Buffer::new().format(number).as_bytes())
     }
 }
 

@@ -4,7 +4,6 @@
 
 mod answers;
 mod applying;
-mod buffer;
 mod command;
 mod dropped_lines;
 mod failure_count;

@@ -7,8 +7,8 @@ ghost use Rattle.gix_attributes.specs.LineViews.{item_view, line_view};
 ghost use Rattle.check_attr.specs.Outcomes.{CountsReads, CountsWrites, ReadsInputFirst};
 ghost use Rattle.check_attr.specs.LinesText.{WritesLines, WritesLinesFront, item_text, line_text, lines_text};
 
-use crate::buffer::{push_bytes, push_number, push_text};
 use crate::fault::Fault;
+use crate::held::Held;
 use crate::reading::{Pull, read_all};
 use crate::writing::{Push, write_all};
 use gix_attributes::parse::{AttrError, Iter, Kind};
@@ -39,91 +39,87 @@ pub fn lines<R: Pull, W: Push>(alloc: Global, reader: &mut R, writer: &mut W) ->
     ensures no_record { (k : ℕ) → result ≢ Err (Fault.Record k) }
 {
     let input = read_all(alloc, reader)?;
-    let text = report(alloc, &input)?;
-    write_all(writer, &text)
+    let report = report(alloc, &input)?;
+    write_all(writer, report.text())
 }
 
 // The text for a whole attributes file.
-fn report(alloc: Global, input: &[u8]) -> Result<Vec<u8>, AllocError>
-    ensures { IfOk result (λ text. text.items ≡ lines_text input.now) }
+fn report(alloc: Global, input: &[u8]) -> Result<Held, AllocError>
+    ensures { IfOk result (λ held. held ≡ lines_text input.now) }
 {
-    let mut out = Vec::new(alloc);
+    let mut held = Held::new(alloc);
     for line in parse::parse(alloc, input) {
-        push_line(alloc, &mut out, line)?;
+        push_line(&mut held, line)?;
     }
-    Ok(out)
+    Ok(held)
 }
 
 fn push_line(
-    alloc: Global,
-    out: &mut Vec<u8>,
+    held: &mut Held,
     line: Result<(Kind, Iter<'_>, usize), parse::Error>,
 ) -> Result<(), AllocError>
     ensures { OnOk result (MatchOption (line_view line.entry) ⊥
-        (λ x. out.new.items ≡ out.old.items ++ line_text x)) }
+        (λ x. held.new ≡ held.old ++ line_text x)) }
 {
     match line {
-        Ok((_kind, items, number)) => push_parsed(alloc, out, items, number),
+        Ok((_kind, items, number)) => push_parsed(held, items, number),
         Err(
             parse::Error::MacroName {
                 line,
                 input: _input,
             },
-        ) => push_refused(out, line, "! macro-name\n"),
+        ) => push_refused(held, line, b"! macro-name\n"),
         Err(
             parse::Error::NegativePattern {
                 line,
                 input: _input,
             },
-        ) => push_refused(out, line, "! negative\n"),
+        ) => push_refused(held, line, b"! negative\n"),
         Err(parse::Error::OutOfMemory) => Err(AllocError),
     }
 }
 
-fn push_parsed(
-    alloc: Global,
-    out: &mut Vec<u8>,
-    items: Iter<'_>,
-    number: usize,
-) -> Result<(), AllocError>
-    ensures { OnOk result (out.new.items ≡ out.old.items
+fn push_parsed(held: &mut Held, items: Iter<'_>, number: usize) -> Result<(), AllocError>
+    ensures { OnOk result (held.new ≡ held.old
         ++ (decimal number ++ codes ":" ++ flat_map item_text items.entry ++ codes "\n")) }
 {
-    push_number(out, number)?;
-    push_text(out, ":")?;
-    push_items(alloc, out, items)?;
-    push_text(out, "\n")
+    held.push_number(number)?;
+    held.push(b":")?;
+    push_items(held, items)?;
+    held.push(b"\n")
 }
 
-fn push_items(alloc: Global, out: &mut Vec<u8>, items: Iter<'_>) -> Result<(), AllocError>
-    ensures { OnOk result (out.new.items ≡ out.old.items ++ flat_map item_text items.entry) }
+fn push_items(held: &mut Held, items: Iter<'_>) -> Result<(), AllocError>
+    ensures { OnOk result (held.new ≡ held.old ++ flat_map item_text items.entry) }
 {
     for item in items {
-        push_item(alloc, out, item)?;
+        push_item(held, item)?;
     }
     Ok(())
 }
 
-fn push_refused(out: &mut Vec<u8>, number: usize, why: &str) -> Result<(), AllocError>
-    ensures { OnOk result (out.new.items ≡ out.old.items ++ (decimal number ++ why.now)) }
+fn push_refused(held: &mut Held, number: usize, why: &[u8]) -> Result<(), AllocError>
+    ensures { OnOk result (held.new ≡ held.old ++ (decimal number ++ why.now)) }
 {
-    push_number(out, number)?;
-    push_text(out, why)
+    held.push_number(number)?;
+    held.push(why)
 }
 
 // An item, or the refused name as its bytes.
 fn push_item(
-    alloc: Global,
-    out: &mut Vec<u8>,
+    held: &mut Held,
     item: Result<AssignmentRef<'_>, AttrError<'_>>,
 ) -> Result<(), AllocError>
-    ensures { OnOk result (out.new.items ≡ out.old.items ++ item_text (item_view item.entry)) }
+    ensures { OnOk result (held.new ≡ held.old ++ item_text (item_view item.entry)) }
 {
     match item {
-        Ok(assignment) => push_text(out, &format!(in alloc; " {assignment}")?),
+        Ok(assignment) => {
+            let text = format!(in held.allocator(); " {assignment}")?;
+            held.push(text.as_bytes())
+        }
         Err(AttrError::InvalidName(name) | AttrError::Reserved(name)) => {
-            push_text(out, " ?")?;
-            push_bytes(out, name.as_bytes())
+            held.push(b" ?")?;
+            held.push(name.as_bytes())
         }
     }
 }

@@ -1,7 +1,6 @@
 //! Text that is written in pieces: it is held until a piece is full.
 
-ghost use Rattle.std.specs.Prelude.{OnOk};
-ghost use Rattle.check_attr.specs.inner.Pieces.{FillsNoPiece, Passes};
+ghost use Rattle.check_attr.specs.inner.Pieces.{PassesOn};
 
 use crate::fault::Fault;
 use crate::held::Held;
@@ -16,9 +15,8 @@ const PIECE: usize = 1 << 16;
 ///
 /// `Write` if a write failed or took no byte.
 pub fn write_full<W: Push>(writer: &mut W, held: &mut Held) -> Result<(), Fault>
-    ensures passed { Passes W.contents W.failed W.stalled writer.old writer.new
+    ensures { PassesOn W.contents W.failed W.stalled writer.old writer.new
         held.new held.old result }
-    ensures unfilled { OnOk result (FillsNoPiece held.new) }
 {
     if held.text().len() < PIECE {
         return Ok(());

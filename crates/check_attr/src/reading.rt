@@ -1,9 +1,9 @@
 //! Readers that count their failures, and a read to the end.
-ghost use Rattle.std.specs.Prelude.{◌≡◌, ◌≢◌, ℕ, List, Option, Err, IfOk, IfSome, OnOk, OnErr};
+ghost use Rattle.std.specs.Prelude.{◌≡◌, ℕ, List, Option};
 ghost use Rattle.std.specs.Io.{ReadsAtMost};
-ghost use Rattle.std.specs.Io.KnownBytes.{IsAtEnd, ReadConsumes};
-ghost use Rattle.check_attr.specs.Failures.{CountsFailure, LosesFront};
-ghost use Rattle.check_attr.specs.Outcomes.{CountsReads};
+ghost use Rattle.std.specs.Io.KnownBytes.{ReadConsumes};
+ghost use Rattle.check_attr.specs.Failures.{CountsFailure};
+ghost use Rattle.check_attr.specs.inner.Whole.{ReadsWhole};
 
 use crate::failure_count::counted;
 use crate::fault::Fault;
@@ -75,13 +75,7 @@ const CHUNK: usize = 8192;
 ///
 /// `Read` if a read failed, and `OutOfMemory` if the buffer could not grow.
 pub(crate) fn read_all<R: Pull>(alloc: Global, reader: &mut R) -> Result<Vec<u8>, Fault>
-    ensures ok { IfOk result (λ input.
-        IfSome (R.remaining reader.old) (λ left. input.items ≡ left)) }
-    ensures end { OnOk result (IsAtEnd (R.remaining reader.new)) }
-    ensures rest { OnErr result (LosesFront (R.remaining reader.old) (R.remaining reader.new)) }
-    ensures reads { CountsReads result (R.failed reader.old) (R.failed reader.new) }
-    ensures no_write { result ≢ Err Fault.Write }
-    ensures no_record { (k : ℕ) → result ≢ Err (Fault.Record k) }
+    ensures { ReadsWhole R.remaining R.failed reader.old reader.new result }
 {
     let mut input = Vec::new(alloc);
     let mut chunk = [0u8; CHUNK];

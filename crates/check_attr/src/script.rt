@@ -147,13 +147,11 @@ fn add_header(bytes: &[u8]) -> Option<(AddHeader, &[u8])>
 fn macro_flag(bytes: &[u8]) -> Option<(bool, &[u8])>
     ensures { option_map (with_rest (λ b. b)) result ≡ choice_of macro_flags bytes.now }
 {
-    if let Some(rest) = strip_prefix(b"m ", bytes) {
-        return Some((true, rest));
+    match bytes {
+        [b'm', b' ', rest @ ..] => Some((true, rest)),
+        [b'-', b' ', rest @ ..] => Some((false, rest)),
+        _ => None,
     }
-    if let Some(rest) = strip_prefix(b"- ", bytes) {
-        return Some((false, rest));
-    }
-    None
 }
 
 fn root_length(bytes: &[u8]) -> Option<(Option<usize>, &[u8])>
@@ -173,7 +171,9 @@ fn addition_of(header: AddHeader, bytes: &[u8]) -> Option<(Addition<'_>, &[u8])>
     let (source, rest) = split_text(header.source, bytes)?;
     let (root, rest) = root_of(header.root, rest)?;
     let (buffer, rest) = split_at(header.buffer, rest)?;
-    let rest = strip_prefix(b"\n", rest)?;
+    let [b'\n', rest @ ..] = rest else {
+        return None;
+    };
     let addition = Addition {
         allow_macros: header.allow_macros,
         source,
@@ -280,12 +280,6 @@ fn question_of(header: AskHeader, bytes: &[u8]) -> Option<(Question<'_>, &[u8])>
         path,
     };
     Some((question, rest))
-}
-
-fn strip_prefix<'a>(prefix: &[u8], bytes: &'a [u8]) -> Option<&'a [u8]>
-    ensures { option_copied result ≡ strip_prefix prefix.now bytes.now }
-{
-    bytes.strip_prefix(prefix)
 }
 
 // The bytes before the first separator, and those after it.

@@ -1,9 +1,9 @@
 //! Writers that count their failures, and a write of a whole text.
-ghost use Rattle.std.specs.Prelude.{◌≡◌, ◌⊎◌, ◌↔◌, ℕ, IsTrue, List, Option, IfOk, IfErr, OnOk, OnErr, IsOk};
+ghost use Rattle.std.specs.Prelude.{◌≡◌, ◌⊎◌, ◌↔◌, ℕ, IsTrue, List, Option, IfOk, OnOk, IsOk};
 ghost use Rattle.std.specs.Io.{WritesAtMost};
-ghost use Rattle.std.specs.Io.KnownBytes.{Appends, Keeps, WriteAppends};
-ghost use Rattle.check_attr.specs.Failures.{AppendsFront, CountsFailure, CountsStall};
-ghost use Rattle.check_attr.specs.Outcomes.{CountsWrites};
+ghost use Rattle.std.specs.Io.KnownBytes.{Keeps, WriteAppends};
+ghost use Rattle.check_attr.specs.Failures.{CountsFailure, CountsStall};
+ghost use Rattle.check_attr.specs.inner.Whole.{WritesFlushed, WritesWhole};
 
 use crate::failure_count::counted;
 use crate::fault::Fault;
@@ -130,13 +130,8 @@ impl<W: Write> Push for Writer<W> {
 ///
 /// `Write` if a call failed, or if a write took no byte.
 pub(crate) fn write_all<W: Push>(writer: &mut W, text: &[u8]) -> Result<(), Fault>
-    ensures ok { OnOk result (Appends (W.contents writer.old) (W.contents writer.new) text.now) }
-    ensures flushed { OnOk result (W.Flushed writer.new) }
-    ensures front { OnErr result
-        (AppendsFront (W.contents writer.old) (W.contents writer.new) text.now) }
-    ensures writes { CountsWrites result (W.failed writer.old) (W.failed writer.new)
-        (W.stalled writer.old) (W.stalled writer.new) }
-    ensures only { IfErr result (λ fault. fault ≡ Fault.Write) }
+    ensures { WritesFlushed W.contents W.failed W.stalled W.Flushed writer.old writer.new
+        text.now result }
 {
     write_bytes(writer, text)?;
     match writer.flush() {
@@ -151,12 +146,7 @@ pub(crate) fn write_all<W: Push>(writer: &mut W, text: &[u8]) -> Result<(), Faul
 ///
 /// `Write` if a write failed or took no byte.
 pub(crate) fn write_bytes<W: Push>(writer: &mut W, text: &[u8]) -> Result<(), Fault>
-    ensures ok { OnOk result (Appends (W.contents writer.old) (W.contents writer.new) text.now) }
-    ensures front { OnErr result
-        (AppendsFront (W.contents writer.old) (W.contents writer.new) text.now) }
-    ensures writes { CountsWrites result (W.failed writer.old) (W.failed writer.new)
-        (W.stalled writer.old) (W.stalled writer.new) }
-    ensures only { IfErr result (λ fault. fault ≡ Fault.Write) }
+    ensures { WritesWhole W.contents W.failed W.stalled writer.old writer.new text.now result }
 {
     let mut written = 0;
     while written < text.len() {

@@ -5,7 +5,7 @@ use Rattle.std.proofs.Common.{rules, ◌≡◌, ◌++◌, [], Ok, subst}
 use Rattle.std.specs.Prelude.{⊤, unwrap_or}
 use Rattle.std.specs.List.{flat_map}
 use Rattle.check_attr.specs.inner.MatchText.{match_entry}
-use Rattle.check_attr.proofs.PieceLemmas.{Holds, holds_all, passes_refused, passes_then, pushed, stops_as, stops_of, stops_then}
+use Rattle.check_attr.proofs.PieceLemmas.{Holds, holds_all, on_refused, on_stopped, passes_then, pushed, stops_of, stops_then}
 use Rattle.check_attr.proofs.answers.pass_answers.Goals as goal
 
 pub loop-one-init : goal.loop-one-init
@@ -29,15 +29,15 @@ loop-one-preserved g c =
       unfilled = c.in_ok-write_full.ensures.unfilled;
     }
 
-pub returns-in_err-push_entry-clause-passed : goal.returns-in_err-push_entry-clause-passed
-returns-in_err-push_entry-clause-passed g c =
-    passes_refused g.W.Push.contents g.W.Push.failed g.W.Push.stalled _ _ _ _ _ c.from_residual.result c.from_residual.ensures.1
+pub returns-in_err-push_entry : goal.returns-in_err-push_entry
+returns-in_err-push_entry g c =
+    on_refused g.W.Push.contents g.W.Push.failed g.W.Push.stalled _ _ _ _ _ c.from_residual.result c.from_residual.ensures.1
     c.loop-one.invariant.passed
 
-pub returns-in_err-write_full-clause-passed : goal.returns-in_err-write_full-clause-passed
-returns-in_err-write_full-clause-passed g c =
+pub returns-in_err-write_full : goal.returns-in_err-write_full
+returns-in_err-write_full g c =
     let text = match_entry c.args.question c.args.engine.now in
-    stops_as g.W.Push.contents g.W.Push.failed g.W.Push.stalled _ _ _ _ _ c.from_residual-in_err-write_full.result
+    on_stopped g.W.Push.contents g.W.Push.failed g.W.Push.stalled _ _ _ _ _ c.from_residual-in_err-write_full.result
     c.from_residual-in_err-write_full.ensures.1
     (stops_then g.W.Push.contents g.W.Push.failed g.W.Push.stalled _ _ _ _ _ _ c.in_err-write_full.field-0.0
     (pushed g.W.Push.contents g.W.Push.failed g.W.Push.stalled text _ _ _ _ _ _ _ _ c.loop-one.invariant.passed c.in-Some.ensures.steps
@@ -45,5 +45,8 @@ returns-in_err-write_full-clause-passed g c =
     (stops_of g.W.Push.contents g.W.Push.failed g.W.Push.stalled ⊤ _ _ c.write_full.new.held _ c.in_err-write_full.field-0.0
     c.in_err-write_full.ensures.passed))
 
-pub returns-clause-passed : goal.returns-clause-passed
-returns-clause-passed g c = grind (arith, nat_tests, append-nil, c.loop-one.invariant.passed, c.in-None.ensures.steps.0)
+pub returns : goal.returns
+returns g c = record {
+  passed = grind (arith, nat_tests, append-nil, c.loop-one.invariant.passed, c.in-None.ensures.steps.0);
+  unfilled = c.loop-one.invariant.unfilled;
+}

@@ -1,10 +1,8 @@
 use Rattle.std.proofs.Common.{arith}
 use Rattle.std.proofs.lemmas.Bool.Decides.{nat_tests}
 use Rattle.std.proofs.Common.{append_assoc}
-use Rattle.std.proofs.Common.{◌∙◌, ◌++◌, None, refl, ap, string_bytes}
-use Rattle.std.specs.List.{flat_map}
+use Rattle.std.proofs.Common.{None, refl, string_bytes}
 use Rattle.std.proofs.lemmas.Slice.Zip.{either_empty_from_Zip}
-use Rattle.check_attr.specs.ScriptText.{dropped_text}
 use Rattle.check_attr.proofs.GlobalLemmas.{dropped_report_of, all_reported}
 use Rattle.check_attr.proofs.command.dropped_report.Goals as goal
 
@@ -18,6 +16,6 @@ loop-name-preserved c =
 
 pub returns : goal.returns
 returns c =
-    all_reported c.loop-name.text.items (dropped_report_of c.args.names.now c.args.dropped.now) c.loop-name.name-iterator.a.rest.now
+    all_reported c.loop-name.held (dropped_report_of c.args.names.now c.args.dropped.now) c.loop-name.name-iterator.a.rest.now
     c.loop-name.name-iterator.b.rest.now c.loop-name.invariant
     (either_empty_from_Zip c.loop-name.name-iterator c.next.new.self None refl c.in-None.ensures.steps)

@@ -1,12 +1,14 @@
 -- The line that was printed is that of the fault.
 use Rattle.std.proofs.Common.{sym, ap, subst}
 use Rattle.check_attr.specs.Program.{Prints, fault_line}
+use Rattle.check_attr.proofs.PrintLemmas.{printed}
 use Rattle.check_attr.proofs.command.print_fault.Goals as goal
 
 pub returns-in-Record : goal.returns-in-Record
 returns-in-Record g c =
-    subst (Prints g.E.Push.contents g.E.Push.failed g.E.Push.stalled g.E.Push.Flushed c.args.errors.now c.print_malformed.new.errors)
-    (ap fault_line (sym c.in-Record.is)) c.print_malformed.ensures
+    subst (Prints g.E.Push.contents g.E.Push.failed g.E.Push.stalled g.E.Push.Flushed c.args.errors.now c.write_malformed.new.errors)
+    (ap fault_line (sym c.in-Record.is))
+    (printed g.E.Push.contents g.E.Push.failed g.E.Push.stalled g.E.Push.Flushed _ _ _ _ c.write_malformed.ensures)
 
 pub returns-in-Read : goal.returns-in-Read
 returns-in-Read g c =

@@ -15,6 +15,6 @@ returns-in-Ok-clause-script g c = grind (
   c.into_engine-engine.ensures,
   c.finish-in-Ok.ensures.printed,
   c.in-Ok.ensures.loaded,
-  c.deref.ensures.value,
+  c.text.ensures,
   c.print.ensures,
 )

@@ -8,14 +8,13 @@ use Rattle.gix_attributes.proofs.ForCallers.{alone_first, globals_state, state_o
 use Rattle.check_attr.specs.ScriptStates.{GlobalLists}
 use Rattle.check_attr.proofs.global_lists.read_globals.Goals as goal
 
-pub of-requires-clause-known : goal.of-requires-clause-known
-of-requires-clause-known g c = grind (arith, nat_tests, alone_first)
+pub invariant_of-result : goal.invariant_of-result
+invariant_of-result g c = record { held = grind (arith, nat_tests); known = grind (arith, nat_tests, alone_first) }
 
 pub returns-clause-loaded : goal.returns-clause-loaded
 returns-clause-loaded g c =
     let made = c.in_ok-search.ensures.globals in
     let read = made.0 in
-    let of = c.of.ensures in
     let loaded = registered_lists c.in_ok-search.search c.new_globals_from.new.collection in
     let state = globals_state c.new-collection.result read loaded
     (ap (λ (k : Collection). k.names) c.new-collection.ensures.empty) made.4.loaded in

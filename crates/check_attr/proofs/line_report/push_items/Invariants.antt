@@ -5,4 +5,4 @@ use Rattle.check_attr.specs.LinesText.{item_text}
 use Rattle.check_attr.proofs.line_report.push_items.Given as goal
 
 abbrev pub invariant-loop-item : goal.invariant-loop-item
-invariant-loop-item l = l.out.items ++ flat_map item_text l.item-iterator ≡ l.fn.out.items ++ flat_map item_text l.fn.items
+invariant-loop-item l = l.held ++ flat_map item_text l.item-iterator ≡ l.fn.held ++ flat_map item_text l.fn.items

@@ -5,4 +5,4 @@ use Rattle.check_attr.specs.LinesText.{line_text, lines_text}
 use Rattle.check_attr.proofs.line_report.report.Given as goal
 
 abbrev pub invariant-loop-line : goal.invariant-loop-line
-invariant-loop-line l = l.out.items ++ flat_map line_text l.line-iterator.results ≡ lines_text l.input
+invariant-loop-line l = l.held ++ flat_map line_text l.line-iterator.results ≡ lines_text l.input

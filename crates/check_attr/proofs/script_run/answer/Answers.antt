@@ -34,11 +34,11 @@ loop-rest-preserved g c =
     let so_far = c.loop-rest.invariant.passed in
     record {
       counted = omega (arith, less, c.loop-rest.invariant.counted);
-      unfilled = applied.unfilled;
+      unfilled = applied.text.2.unfilled;
       passed = (
         so_far.0 ++ applied.text.0,
         passes_on g.W.Push.contents g.W.Push.failed g.W.Push.stalled _ _ _ _ _ _ (Ok c.in_ok-apply.field-0)
-            (holds_more g.W.Push.contents g.W.Push.failed g.W.Push.stalled _ _ _ _ applied.text.0 so_far.1) applied.text.2,
+            (holds_more g.W.Push.contents g.W.Push.failed g.W.Push.stalled _ _ _ _ applied.text.0 so_far.1) applied.text.2.passed,
         step c.args.engine.now.state c.loop-rest.engine.state c.apply.new.engine.state c.args.script.now
             c.loop-rest.rest.now c.in-Some.others.now
             c.loop-rest.number (record_view c.in-Some.next) applied.text.0 so_far.0 (so_far.0 ++ applied.text.0)
@@ -81,7 +81,7 @@ returns-in_err-apply g c =
           (stops_longer g.W.Push.contents g.W.Push.failed g.W.Push.stalled _ _ _ others.1 _
           (stops_on g.W.Push.contents g.W.Push.failed g.W.Push.stalled _ _ _ _ _ c.in_err-apply.field-0.0
           (holds_more g.W.Push.contents g.W.Push.failed g.W.Push.stalled _ _ _ _ applied.text.0 so_far.1)
-          (stops_of g.W.Push.contents g.W.Push.failed g.W.Push.stalled ⊤ _ _ c.apply.new.held _ c.in_err-apply.field-0.0 applied.text.2))),
+          (stops_of g.W.Push.contents g.W.Push.failed g.W.Push.stalled ⊤ _ _ c.apply.new.held _ c.in_err-apply.field-0.0 applied.text.2.passed))),
     )
 
 pub returns-in_default : goal.returns-in_default
