@@ -8,6 +8,10 @@ use Rattle.std.proofs.KnownBytes.{Appends-nil, Appends-trans}
 use Rattle.std.specs.Io.KnownBytes.{Appends, Keeps}
 use Rattle.check_attr.specs.Failures.{AppendsFront, CountsOneEnd}
 use Rattle.check_attr.specs.inner.Pieces.{IsWrittenOrHeld, Passes, PassesOn}
+use Rattle.check_attr.specs.inner.PassedText.{PassesRecord}
+use Rattle.gix_attributes.specs.EngineStates.{EngineState}
+use Rattle.check_attr.specs.Script.{Record as ReadRecord}
+use Rattle.check_attr.proofs.TextLemmas.{some_record_text}
 use Rattle.check_attr.specs.declared.fault.Fault.{Fault}
 use Rattle.check_attr.specs.declared.fault.Fault.TheVariants.{Record, Read, Write, OutOfMemory}
 use Rattle.check_attr.proofs.PrintLemmas.{Front-later, Front-longer}
@@ -139,6 +143,11 @@ module _ {W : Type 0} (contents : W → Option (List ℕ)) (failed stalled : W �
   pub refused_at_once : {U : Type 0} (a : W) (held text : List ℕ) (r : Result U Fault) → IsErrAnd r (λ x. x ≡ OutOfMemory)
       → PassesOn contents failed stalled a a held text r
   refused_at_once a held text r is = on_refused a a text held text r is (holds_all a text)
+
+  pub refused_record : {U : Type 0} (s : EngineState) (r : ReadRecord) (a : W) (held : List ℕ) (result : Result U Fault)
+      → IsErrAnd result (λ x. x ≡ OutOfMemory) → PassesRecord contents failed stalled s r a a held held result
+  refused_record s r a held result is =
+      let some = some_record_text s r in (some.0, some.1, refused_at_once a held (held ++ some.0) result is)
 
   pub on_stopped : {U : Type 0} (a b : W) (held text : List ℕ) (e : Fault) (r : Result U Fault) → IsErrAnd r (λ x. x ≡ e) → Stops a b text e
       → PassesOn contents failed stalled a b held text r

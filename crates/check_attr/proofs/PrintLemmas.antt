@@ -29,9 +29,6 @@ front_after (x ∷ xs) ys n =
 pub Front-later : (old mid new : Option (List ℕ)) (xs ys : List ℕ) → Appends old mid xs → AppendsFront mid new ys → AppendsFront old new (xs ++ ys)
 Front-later old mid new xs ys first front = grind (arith, nat_tests, front_after, Appends-trans)
 
-pub on_err : {T E : Type 0} (r : Result T E) (P : Type 0) → P → OnErr r P
-on_err r P p = grind (arith, nat_tests)
-
 pub still_ok : {T E : Type 0} (r : Result T E) (P Q : Type 0) → OnOk r P → (P → Q) → OnOk r Q
 still_ok r P Q p from = grind (arith, nat_tests)
 

@@ -1,9 +1,9 @@
 //! The records of a script are applied to an engine, and the text that they write is passed on.
 
 ghost use Rattle.std.specs.Prelude.{◌≡◌, OnOk};
-ghost use Rattle.check_attr.specs.inner.PassedText.{PassesRecord};
+ghost use Rattle.check_attr.specs.inner.PassedText.{PassesAnswers, PassesRecord};
 ghost use Rattle.check_attr.specs.inner.Pieces.{FillsNoPiece};
-ghost use Rattle.check_attr.specs.inner.ScriptViews.{record_view};
+ghost use Rattle.check_attr.specs.inner.ScriptViews.{question_view, record_view};
 ghost use Rattle.check_attr.specs.ScriptStates.{next_state};
 
 use crate::answers::pass_answers;
@@ -49,22 +49,27 @@ pub fn apply<W: Push>(
             engine.select(alloc, &names)?;
             Ok(())
         }
-        Record::Ask(question) => {
-            engine.ask(alloc, asked_by(question))?;
-            pass_answers(writer, held, question, engine)
-        }
+        Record::Ask(question) => ask(engine, alloc, question, writer, held),
     }
 }
 
-// What the engine is asked.
-fn asked_by(question: Question<'_>) -> engine::Question<'_>
-    ensures path { result.path.bytes.now ≡ question.entry.path.now }
-    ensures case { result.case ≡ question.entry.case }
-    ensures is_dir { result.is_dir ≡ question.entry.is_dir }
+fn ask<W: Push>(
+    engine: &mut Engine,
+    alloc: Global,
+    question: Question<'_>,
+    writer: &mut W,
+    held: &mut Held,
+) -> Result<(), Fault>
+    requires { FillsNoPiece held.old }
+    ensures state { OnOk result (engine.new.state ≡ engine.old.state) }
+    ensures text { PassesAnswers W.contents W.failed W.stalled engine.old.state
+        (question_view question.entry) writer.old writer.new held.old held.new result }
 {
-    engine::Question {
+    let asked = engine::Question {
         path: BStr::from(question.path),
         case: question.case,
         is_dir: question.is_dir,
-    }
+    };
+    engine.ask(alloc, asked)?;
+    pass_answers(writer, held, question, engine)
 }

@@ -1,7 +1,7 @@
 -- What records and scripts pass on (own).
 use Rattle.std.specs.Prelude.{◌≡◌, ℕ, List, ◌++◌, Option, Result, IfOk}
 use Rattle.gix_attributes.specs.EngineStates.{EngineState}
-use Rattle.check_attr.specs.Script.{Record}
+use Rattle.check_attr.specs.Script.{Question, Record, ask}
 use Rattle.check_attr.specs.ScriptText.{IsRecordText, Writes}
 use Rattle.check_attr.specs.inner.Pieces.{Passes, PassesOn}
 use Rattle.check_attr.specs.declared.fault.Fault.{Fault}
@@ -11,6 +11,11 @@ abbrev pub PassesRecord : {T W : Type 0} → (W → Option (List ℕ)) → (W �
     → Result T Fault → Type 0
 PassesRecord contents failed stalled s r old new held held' result =
     (text : List ℕ) × IsRecordText s r text × PassesOn contents failed stalled old new held' (held ++ text) result
+
+-- a text of the answers to this question was passed on after what was held
+abbrev pub PassesAnswers : {T W : Type 0} → (W → Option (List ℕ)) → (W → ℕ) → (W → ℕ) → EngineState → Question → W → W → List ℕ → List ℕ
+    → Result T Fault → Type 0
+PassesAnswers contents failed stalled s q = PassesRecord contents failed stalled s (ask q)
 
 -- a text of this script was passed on, and its first malformed record is the one that is returned
 abbrev pub PassesScript : {W : Type 0} → (W → Option (List ℕ)) → (W → ℕ) → (W → ℕ) → EngineState → List ℕ → W → W → List ℕ

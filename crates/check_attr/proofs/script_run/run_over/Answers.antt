@@ -14,7 +14,4 @@ unread_front s None contents = tt
 unread_front s (Some script) contents = let one = OneText-of s 1 script in (one.0, one.1, one.2, nothing_written contents one.1)
 
 pub returns-in_err-script-clause-plays : goal.returns-in_err-script-clause-plays
-returns-in_err-script-clause-plays g c = record {
-  written = grind (arith, nat_tests, returned, unread_front);
-  writer = grind (arith, nat_tests);
-}
+returns-in_err-script-clause-plays g c = grind (arith, nat_tests, returned, unread_front)
