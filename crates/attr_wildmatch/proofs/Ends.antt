@@ -97,20 +97,11 @@ one_off case t ts b bs more e k =
 
 -- the tokens of one byte at the front are taken off
 pub front_taken_off : (case : Case) (ts : List Token) (v : List ℕ) → AreTakenOff case ts v (front_left case ts v)
-front_taken_off case [] v = all_left case [] v
-front_taken_off case (star ∷ ts) [] = all_left case (star ∷ ts) []
-front_taken_off case (star ∷ ts) (b ∷ bs) = all_left case (star ∷ ts) (b ∷ bs)
-front_taken_off case (dirs ∷ ts) [] = all_left case (dirs ∷ ts) []
-front_taken_off case (dirs ∷ ts) (b ∷ bs) = all_left case (dirs ∷ ts) (b ∷ bs)
-front_taken_off case (rest ∷ ts) [] = all_left case (rest ∷ ts) []
-front_taken_off case (rest ∷ ts) (b ∷ bs) = all_left case (rest ∷ ts) (b ∷ bs)
-front_taken_off case (lit c ∷ ts) [] = refl
 front_taken_off case (lit c ∷ ts) (b ∷ bs) = one_off case (lit c) ts b bs (front_left case ts bs) refl (front_taken_off case ts bs)
-front_taken_off case (one ∷ ts) [] = refl
 front_taken_off case (one ∷ ts) (b ∷ bs) = one_off case one ts b bs (front_left case ts bs) refl (front_taken_off case ts bs)
-front_taken_off case (set negated ms ∷ ts) [] = refl
 front_taken_off case (set negated ms ∷ ts) (b ∷ bs) =
     one_off case (set negated ms) ts b bs (front_left case ts bs) refl (front_taken_off case ts bs)
+front_taken_off case ts v = grind (arith, nat_tests, all_left)
 
 pub front_left-none : (case : Case) (ts : List Token) (v : List ℕ) → None ≡ front_left case ts v → matches case ts v ≡ false
 front_left-none case ts v e = subst (AreTakenOff case ts v) (sym e) (front_taken_off case ts v)

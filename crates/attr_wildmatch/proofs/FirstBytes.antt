@@ -118,9 +118,9 @@ pub absent_byte : (c : ℕ) (v : List ℕ) (test : ℕ → Bool) → test ≡ is
 absent_byte c v test e nowhere =
     absent c v (λ i l passes. nowhere i (omega arith) l (subst (λ t. t (slice_index v i) ≡ true) (sym e) passes))
 
-pub from_first-shorter : (test : List ℕ → Bool) (v : List ℕ) → length (from_first test v) ≤ length v
-from_first-shorter test [] = omega arith
-from_first-shorter test (b ∷ bs) = grind (arith, nat_tests, from_first-shorter test bs)
+pub from_first_shorter : (test : List ℕ → Bool) (v : List ℕ) → length (from_first test v) ≤ length v
+from_first_shorter test [] = omega arith
+from_first_shorter test (b ∷ bs) = grind (arith, nat_tests, from_first_shorter test bs)
 
 -- what follows the first slash is the next directory
 pub found_slash : (f : List ℕ → Bool) (v next : List ℕ) (s : ℕ) → from_first (begins slash) v ≡ s ∷ next →

@@ -33,9 +33,9 @@ pub tokens_of-push : (ts : List written.Token) (t : written.Token) → tokens_of
 tokens_of-push [] t = refl
 tokens_of-push (u ∷ ts) t = ap (λ x. token_of u ∷ x) (tokens_of-push ts t)
 
-pub length-tokens_of : (ts : List written.Token) → length (tokens_of ts) ≡ length ts
-length-tokens_of [] = refl
-length-tokens_of (t ∷ ts) = ap suc (length-tokens_of ts)
+pub length_of_tokens : (ts : List written.Token) → length (tokens_of ts) ≡ length ts
+length_of_tokens [] = refl
+length_of_tokens (t ∷ ts) = ap suc (length_of_tokens ts)
 
 pub slice_get_tokens_of : (ts : List written.Token) (k : ℕ) → slice_get (tokens_of ts) k ≡ option_map token_of (slice_get ts k)
 slice_get_tokens_of (t ∷ ts) (suc k) = slice_get_tokens_of ts k

@@ -117,6 +117,7 @@ fn insert_member(set: &mut ByteSet, member: Member)
 }
 
 // Adds the byte to the set if the member holds it.
+#[tactic(auto, using(crate::proofs::ByteSetLemmas::one_held))]
 fn insert_held(set: &mut ByteSet, member: Member, byte: u8)
     ensures { (b : ℕ) → has set.new b ≡ (has set.old b || (member_holds member b && b == byte)) }
 {

@@ -219,6 +219,7 @@ impl Tokens {
     }
 
     /// How many tokens there are.
+    #[tactic(auto, using(crate::proofs::TokenLemmas::length_of_tokens))]
     pub fn len(&self) -> usize
         ensures len { result ≡ length self.now }
         ensures few { result < 2 ^ 63 }
@@ -227,6 +228,7 @@ impl Tokens {
     }
 
     /// Whether there are no tokens, as of the empty text.
+    #[tactic(auto, using(crate::proofs::TokenLemmas::length_of_tokens))]
     pub fn is_empty(&self) -> bool
         ensures { IsTrue result ↔ (length self.now ≡ 0) }
     {

@@ -373,6 +373,7 @@ impl MatchBuffers {
 impl Tokens {
     /// Whether the tokens match the whole value, and how many pairs (index among the tokens, offset in the
     /// value) were visited. Takes no memory.
+    #[tactic(auto, using(crate::proofs::TokenLemmas::length_of_tokens))]
     pub fn count(&self, value: &[u8], case: Case, rows: &mut MatchBuffers) -> (bool, u128)
         requires room { length self.now < rows.old }
         ensures matched { IsTrue result.0 ↔ Match case self.now value.now }

@@ -28,6 +28,7 @@ fn unless_empty(value: &[u8]) -> Option<&[u8]>
 
 // The value from the first offset on at which the tokens may match. They begin there with the same two bytes as the value,
 // or the same byte, if the case of these matters. None if there is no such offset.
+#[tactic(auto, using(crate::proofs::FirstBytes::from_first_byte, crate::proofs::FirstBytes::from_first_pair, crate::proofs::FirstBytes::no_first_pair, crate::proofs::FirstBytes::from_first_shorter))]
 fn from_literal<'v>(tokens: &[Token], value: &'v [u8], case: Case) -> Option<&'v [u8]>
     ensures found { IfSome result (λ rest. first_left case (tokens_of tokens.now) value.now
         ≡ first_left case (tokens_of tokens.now) rest.now) }
@@ -46,6 +47,7 @@ fn from_literal<'v>(tokens: &[Token], value: &'v [u8], case: Case) -> Option<&'v
 // The same as `first_fit`, for a value that begins where the tokens may match. It isn't inlined, so that `first_fit` is small
 // enough to be: most values have no such offset.
 #[inline(never)]
+#[tactic(auto, using(crate::proofs::StretchLemmas::first_here))]
 fn first_fit_from<'t, 'v>(
     tokens: &'t [Token],
     value: &'v [u8],

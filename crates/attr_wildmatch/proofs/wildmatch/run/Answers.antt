@@ -5,7 +5,7 @@ use Rattle.std.proofs.lemmas.Bool.Decides.{nat_tests}
 use Rattle.std.proofs.lemmas.Bool.{eq-eqb, eqb-true}
 use Rattle.attr_wildmatch.specs.TokenList.{tokens_of}
 use Rattle.attr_wildmatch.specs.inner.RowIndexes.{IsRow, indexes_below}
-use Rattle.attr_wildmatch.proofs.TokenLemmas.{length-tokens_of}
+use Rattle.attr_wildmatch.proofs.TokenLemmas.{length_of_tokens}
 use Rattle.attr_wildmatch.proofs.RowLemmas.{empty_row}
 use Rattle.attr_wildmatch.proofs.Reached.{fresh, alive}
 use Rattle.attr_wildmatch.proofs.ReachedSteps.{growing}
@@ -16,7 +16,7 @@ use Rattle.attr_wildmatch.proofs.wildmatch.run.Goals as goal
 pub loop-byte-init : goal.loop-byte-init
 loop-byte-init c =
     let ts = tokens_of c.args.tokens.now in
-    let same = length-tokens_of c.args.tokens.now in
+    let same = length_of_tokens c.args.tokens.now in
     let cleared : c.clear.new.self.items ≡ [] = c.clear.ensures.items in
     let none : length c.clear.new.self.items ≡ 0 = ap length cleared in
     let row : IsRow ts (fresh c.args.case ts []) (alive c.args.case ts []) c.insert-free.new.row.items c.insert-free.result =
@@ -43,7 +43,7 @@ returns-then-free-eq0-clause-matched c =
     )
 
 pub returns-then-free-eq0-clause-at_most : goal.returns-then-free-eq0-clause-at_most
-returns-then-free-eq0-clause-at_most c = grind (arith, common_steps, nat_tests, length-tokens_of, c.loop-byte.invariant.0.most)
+returns-then-free-eq0-clause-at_most c = grind (arith, common_steps, nat_tests, length_of_tokens, c.loop-byte.invariant.0.most)
 
 pub returns-then-free-eq0-clause-missed : goal.returns-then-free-eq0-clause-missed
 returns-then-free-eq0-clause-missed c =
@@ -62,7 +62,7 @@ next_at : (c : goal.After-len) →
     (c.loop-byte.visits + length c.next_row-free.new.next.items) (c.loop-byte.byte-index + 1)
 next_at c =
     let ts = tokens_of c.args.tokens.now in
-    let same = length-tokens_of c.args.tokens.now in
+    let same = length_of_tokens c.args.tokens.now in
     let a = c.loop-byte.invariant.0 in
     let value = c.args.value.now in
     let i = c.loop-byte.byte-index in
@@ -80,7 +80,7 @@ next_at c =
     (c.next_row-free.ensures.reached c.loop-byte.free below)
 
 pub overflow_add-visits : goal.overflow_add-visits
-overflow_add-visits c = grind (arith, nat_tests, length-tokens_of, next_at, mul-le-mul)
+overflow_add-visits c = grind (arith, nat_tests, length_of_tokens, next_at, mul-le-mul)
 
 pub loop-byte-preserved : goal.loop-byte-preserved
 loop-byte-preserved c =
@@ -96,10 +96,10 @@ pub returns-clause-matched : goal.returns-clause-matched
 returns-clause-matched c =
     let m = matched_at_end c.args.case (tokens_of c.args.tokens.now) c.args.value.now c.loop-byte.row.items c.loop-byte.free c.loop-byte.visits
     (ended c) in
-    grind (arith, nat_tests, length-tokens_of, eqb-true, eq-eqb)
+    grind (arith, nat_tests, length_of_tokens, eqb-true, eq-eqb)
 
 pub returns-clause-at_most : goal.returns-clause-at_most
-returns-clause-at_most c = grind (arith, nat_tests, length-tokens_of, ended)
+returns-clause-at_most c = grind (arith, nat_tests, length_of_tokens, ended)
 
 pub returns-clause-missed : goal.returns-clause-missed
 returns-clause-missed c =

@@ -4,7 +4,7 @@ use Rattle.std.proofs.lemmas.List.{length_push}
 use Rattle.attr_wildmatch.specs.Tokens.{tokens_from, token_at, token_ends_in_slash}
 use Rattle.attr_wildmatch.specs.TokenList.{token_of, tokens_of}
 use Rattle.attr_wildmatch.specs.inner.Bordered.{is_bordered}
-use Rattle.attr_wildmatch.proofs.TokenLemmas.{after, after-nil, tokens_more, tokens_of-push, length-tokens_of, bordered-push, border_after}
+use Rattle.attr_wildmatch.proofs.TokenLemmas.{after, after-nil, tokens_more, tokens_of-push, length_of_tokens, bordered-push, border_after}
 use Rattle.attr_wildmatch.proofs.TokenLemmas.{border_after-push, token_at-fits, fits_border}
 use Rattle.attr_wildmatch.proofs.token.Tokens.read.Goals as goal
 
@@ -14,7 +14,7 @@ loop-byte-init c =
     (omega arith, length c.args.text.now, omega arith, after-nil (tokens_from (length c.args.text.now) true c.args.text.now), refl, refl)
 
 pub returns-clause-few : goal.returns-clause-few
-returns-clause-few c = rw length-tokens_of (omega (arith, c.loop-byte.invariant.0))
+returns-clause-few c = rw length_of_tokens (omega (arith, c.loop-byte.invariant.0))
 
 pub loop-byte-preserved : goal.loop-byte-preserved
 loop-byte-preserved c =

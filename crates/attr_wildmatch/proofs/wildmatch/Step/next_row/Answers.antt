@@ -3,7 +3,7 @@ use Rattle.std.proofs.Common.{◌≡◌, ◌≤◌, ◌<◌, ◌+◌, ℕ, false
 use Rattle.std.proofs.lemmas.List.{drop_all}
 use Rattle.attr_wildmatch.specs.TokenList.{tokens_of}
 use Rattle.attr_wildmatch.specs.inner.RowIndexes.{IsSettled}
-use Rattle.attr_wildmatch.proofs.TokenLemmas.{length-tokens_of}
+use Rattle.attr_wildmatch.proofs.TokenLemmas.{length_of_tokens}
 use Rattle.attr_wildmatch.proofs.RowLemmas.{silent, empty_row, settled-none, settled-grown, settled-skip, settled-next, first_of_indexes, FirstOf}
 use Rattle.attr_wildmatch.proofs.RowLemmas.{none_of_indexes}
 use Rattle.attr_wildmatch.proofs.wildmatch.Step.next_row.Goals as goal
@@ -64,7 +64,7 @@ pub returns-clause-row : goal.returns-clause-row
 returns-clause-row c =
     λ fresh alive before steps first e.
     let known = c.loop-reached.invariant.4 fresh alive before steps first e in
-    let same = length-tokens_of c.args.self.now.tokens.now in
+    let same = length_of_tokens c.args.self.now.tokens.now in
     let nothing : drop c.loop-reached.reached-index c.args.row.now ≡ [] = drop_all c.loop-reached.reached-index c.args.row.now (omega arith) in
     let none : (k : ℕ) → known.0 ≤ k → k < known.0 + known.1 → before k ≡ false =
     none_of_indexes before known.1 known.0 (sym nothing ∙ known.3) in

@@ -2,7 +2,7 @@ use Rattle.std.proofs.Common.{arith, sym, ap, ◌∙◌}
 use Rattle.std.proofs.lemmas.Bool.Decides.{nat_tests}
 use Rattle.attr_wildmatch.specs.TokenList.{tokens_of}
 use Rattle.attr_wildmatch.specs.Deciding.{matches}
-use Rattle.attr_wildmatch.proofs.FirstBytes.{found_start, found_slash, from_first-shorter, no_bytes, no_slash, no_start}
+use Rattle.attr_wildmatch.proofs.FirstBytes.{found_start, found_slash, from_first_shorter, no_bytes, no_slash, no_start}
 use Rattle.attr_wildmatch.proofs.wildmatch.directories.next_directory.Goals.{in-Some, in-None}
 use Rattle.attr_wildmatch.proofs.wildmatch.directories.next_directory.Goals as goal
 
@@ -22,6 +22,6 @@ returns-in_err-next-clause-none c = elim c.match-first_byte.branch [
 
 pub returns-clause-shorter : goal.returns-clause-shorter
 returns-clause-shorter c = elim c.match-first_byte.branch [
-  | in-Some w ↦ grind (arith, nat_tests, from_first-shorter)
-  | in-None w ↦ grind (arith, nat_tests, from_first-shorter)
+  | in-Some w ↦ grind (arith, nat_tests, from_first_shorter)
+  | in-None w ↦ grind (arith, nat_tests, from_first_shorter)
 ]

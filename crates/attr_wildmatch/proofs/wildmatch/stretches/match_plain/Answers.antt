@@ -9,7 +9,7 @@ use Rattle.attr_wildmatch.specs.TokenList.{tokens_of}
 use Rattle.attr_wildmatch.specs.inner.Stretches.{first_left}
 use Rattle.attr_wildmatch.proofs.Directories.{star_alone}
 use Rattle.attr_wildmatch.proofs.StretchLemmas.{Plain, first_left-fewer, star_found, star_missed}
-use Rattle.attr_wildmatch.proofs.TokenLemmas.{length-tokens_of}
+use Rattle.attr_wildmatch.proofs.TokenLemmas.{length_of_tokens}
 use Rattle.attr_wildmatch.proofs.wildmatch.stretches.match_plain.Goals as goal
 
 found : (case : Case) (all left others next ts : List Token) (value v after : List ℕ) →
@@ -40,4 +40,4 @@ loop-others-preserved c =
 pub loop-others-smaller : goal.loop-others-smaller
 loop-others-smaller c =
     let fewer = first_left-fewer c.args.case (tokens_of c.in-Some.others.now) c.loop-others.rest.now _ c.in-Some-first_fit.ensures in
-    omega (arith, fewer, length-tokens_of c.in-Some-first_fit.next.now, length-tokens_of c.in-Some.others.now, c.in-Some.ensures.shorter)
+    omega (arith, fewer, length_of_tokens c.in-Some-first_fit.next.now, length_of_tokens c.in-Some.others.now, c.in-Some.ensures.shorter)

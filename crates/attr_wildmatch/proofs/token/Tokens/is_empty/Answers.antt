@@ -1,7 +1,0 @@
-use Rattle.std.proofs.Common.{arith}
-use Rattle.std.proofs.lemmas.Bool.Decides.{nat_tests}
-use Rattle.attr_wildmatch.proofs.TokenLemmas.{length-tokens_of}
-use Rattle.attr_wildmatch.proofs.token.Tokens.is_empty.Goals as goal
-
-pub returns : goal.returns
-returns c = grind (arith, nat_tests, length-tokens_of)
