@@ -24,18 +24,18 @@ from_close-some : (i : ℕ) (bs : List ℕ) (j : ℕ) → position_from closes i
 from_close-some i [] j h = cc
 from_close-some i (b ∷ bs) j h = grind (arith, nat_tests, by_test, from_close-some (i + 1) bs j)
 
-pub position-none : (bs : List ℕ) → position closes bs ≡ None → from_close bs ≡ 0
-position-none bs h = from_close-none 0 bs (sym (position_from-zero closes bs) ∙ h)
+pub position_none : (bs : List ℕ) → position closes bs ≡ None → from_close bs ≡ 0
+position_none bs h = from_close-none 0 bs (sym (position_from-zero closes bs) ∙ h)
 
-pub position-some : (bs : List ℕ) (j : ℕ) → position closes bs ≡ Some j → (from_close bs + j ≡ length bs) × (0 < from_close bs)
-position-some bs j h = grind (arith, nat_tests, from_close-some, position_from-zero, closes)
+pub position_some : (bs : List ℕ) (j : ℕ) → position closes bs ≡ Some j → (from_close bs + j ≡ length bs) × (0 < from_close bs)
+position_some bs j h = grind (arith, nat_tests, from_close-some, position_from-zero, closes)
 
 -- the first `]`, by how many bytes there are from it on
 pub close-position : (bs : List ℕ) → from_close bs ≢ 0 → position closes bs ≡ Some (length bs - from_close bs)
-close-position bs h = grind (arith, nat_tests, closes, position-none, position-some)
+close-position bs h = grind (arith, nat_tests, closes, position_none, position_some)
 
 pub no-close : (bs : List ℕ) → from_close bs ≡ 0 → position closes bs ≡ None
-no-close bs h = grind (arith, nat_tests, closes, position-some)
+no-close bs h = grind (arith, nat_tests, closes, position_some)
 
 -- what is left of the bytes has the same first `]`, unless that is passed
 pub close-tail : (n b : ℕ) (bs : List ℕ) → (n ≤ length (b ∷ bs) → n ≡ from_close (b ∷ bs)) → n ≤ length bs → n ≡ from_close bs

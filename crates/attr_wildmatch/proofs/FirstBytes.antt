@@ -1,6 +1,7 @@
 -- Directories that begin with a byte, and where tokens that begin with it may match.
 use Rattle.std.proofs.lemmas.Grind.{common_steps}
-use Rattle.std.proofs.Common.{◌≡◌, ◌≤◌, ◌<◌, ◌+◌, ◌-◌, ℕ, zero, suc, Bool, slice_index, true, false, ◌==◌, ◌&&◌, ◌||◌, sym, subst, List, [], ◌∷◌, length, drop, take, None, refl, ap, ◌∙◌, arith}
+use Rattle.std.proofs.Common.{◌≡◌, ◌≤◌, ◌<◌, ◌+◌, ◌-◌, ℕ, zero, suc, Bool, slice_index, true, false, ◌==◌, ◌&&◌, ◌||◌, List, [], ◌∷◌, length}
+use Rattle.std.proofs.Common.{drop, take, None, refl, sym, subst, ap, ◌∙◌, arith}
 use Rattle.std.proofs.lemmas.Bool.Decides.{nat_tests}
 use Rattle.std.proofs.lemmas.List.{take_all, length-drop, drop-drop}
 use Rattle.memchr.specs.Find.{is_byte, Passes, Nowhere, NoneBefore}

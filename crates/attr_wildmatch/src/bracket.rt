@@ -187,6 +187,7 @@ fn first_close(bytes: &[u8]) -> Option<usize>
 }
 
 // How many bytes there are from the first `]` on, 0 without one.
+#[tactic(auto, using(crate::proofs::ClosingLemmas::position_none, crate::proofs::ClosingLemmas::position_some))]
 fn bytes_from_close(bytes: &[u8]) -> usize
     ensures { result ≡ from_close bytes.now }
 {

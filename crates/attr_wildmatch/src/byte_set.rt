@@ -18,6 +18,7 @@ impl ByteSet {
     }
 
     // Puts the byte in.
+    #[tactic(auto, using(crate::proofs::ByteSetLemmas::marked, crate::proofs::ByteSetLemmas::with_word))]
     pub(crate) fn insert(&mut self, byte: u8)
         ensures { (b : ℕ) → has self.new b ≡ (has self.old b || b == byte) }
     {

@@ -252,6 +252,7 @@ impl Tokens {
 }
 
 /// A law: the tokens that are computed of a text are those that it spells.
+#[tactic(auto, using(crate::proofs::SpellTokens::spelled, crate::proofs::SpellTokens::read_back))]
 pub fn tokens_are_spelled(text: &[u8])
     ensures { (ts : List Meaning) →
         (meaning_of_text text.now ≡ Some ts) ↔ AreTokens true text.now ts }

@@ -406,6 +406,7 @@ impl Tokens {
 /// # Errors
 ///
 /// If memory runs out.
+#[tactic(auto, using(crate::proofs::SpellTokens::spelled, crate::proofs::SpellTokens::read_back))]
 pub fn count(
     alloc: Global,
     text: &[u8],
@@ -430,6 +431,7 @@ pub fn count(
 }
 
 /// A law: the tests that compute whether tokens or a text match a value decide the relations.
+#[tactic(auto, using(crate::proofs::DecidingLemmas::match_of_test, crate::proofs::DecidingLemmas::test_of_match, crate::proofs::DecidingLemmas::text_match_of_test, crate::proofs::DecidingLemmas::test_of_text_match))]
 pub fn tests_tell_match(case: Case, text: &[u8], value: &[u8])
     ensures tokens { (ts : List Meaning) →
         IsTrue (matches case ts value.now) ↔ Match case ts value.now }

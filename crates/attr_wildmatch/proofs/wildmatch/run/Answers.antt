@@ -24,7 +24,8 @@ loop-byte-init c =
     (empty_row ts (fresh c.args.case ts []) (alive c.args.case ts []) c.clear.new.self.items cleared) refl (λ k l m. absurd (omega arith)) in
     let some : 0 < c.insert-free.result = c.insert-free.ensures.inserted.added in
     let bound : c.insert-free.result ≤ length c.args.tokens.now + 1 = c.insert-free.ensures.inserted.extended.bound (omega arith) in
-    let paid : c.insert-free.result ≤ 0 + length c.insert-free.new.row.items = c.insert-free.ensures.inserted.extended.reached 0 (omega arith) (omega arith) in
+    let paid : c.insert-free.result ≤ 0 + length c.insert-free.new.row.items =
+    c.insert-free.ensures.inserted.extended.reached 0 (omega arith) (omega arith) in
     let counted : length c.insert-free.new.row.items ≡ c.len-visits.result = omega (arith, c.len-visits.ensures, c.insert-free.new.row.ok) in (
       subst (λ x. IsAt c.args.case ts c.args.value.now c.insert-free.new.row.items c.insert-free.result x 0) counted
           (at_start c.args.case ts c.args.value.now c.insert-free.new.row.items c.insert-free.result row some (omega arith) (omega arith)),

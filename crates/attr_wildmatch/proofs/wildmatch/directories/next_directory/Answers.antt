@@ -1,8 +1,7 @@
-use Rattle.std.proofs.Common.{arith, sym, ap, ◌∙◌}
-use Rattle.std.proofs.lemmas.Bool.Decides.{nat_tests}
+use Rattle.std.proofs.Common.{sym, ap, ◌∙◌}
 use Rattle.attr_wildmatch.specs.TokenList.{tokens_of}
 use Rattle.attr_wildmatch.specs.Deciding.{matches}
-use Rattle.attr_wildmatch.proofs.FirstBytes.{found_start, found_slash, from_first_shorter, no_bytes, no_slash, no_start}
+use Rattle.attr_wildmatch.proofs.FirstBytes.{found_start, found_slash}
 use Rattle.attr_wildmatch.proofs.wildmatch.directories.next_directory.Goals.{in-Some, in-None}
 use Rattle.attr_wildmatch.proofs.wildmatch.directories.next_directory.Goals as goal
 
@@ -12,16 +11,4 @@ returns-clause-next c = elim c.match-first_byte.branch [
       (sym w.from_pair-below.ensures ∙ (ap (λ b. b.now) (sym w.below-is) ∙ c.in_ok-next.ensures.cases.0))
   | in-None w ↦ found_slash (matches c.args.case (tokens_of c.args.tokens.now)) c.args.value.now c.in_ok-next.next.now _
       (sym w.from_byte-below.ensures ∙ (ap (λ b. b.now) (sym w.below-is) ∙ c.in_ok-next.ensures.cases.0))
-]
-
-pub returns-in_err-next-clause-none : goal.returns-in_err-next-clause-none
-returns-in_err-next-clause-none c = elim c.match-first_byte.branch [
-  | in-Some w ↦ grind (arith, nat_tests, no_start, no_bytes)
-  | in-None w ↦ grind (arith, nat_tests, no_slash, no_bytes)
-]
-
-pub returns-clause-shorter : goal.returns-clause-shorter
-returns-clause-shorter c = elim c.match-first_byte.branch [
-  | in-Some w ↦ grind (arith, nat_tests, from_first_shorter)
-  | in-None w ↦ grind (arith, nat_tests, from_first_shorter)
 ]
