@@ -8,7 +8,7 @@ ghost use Rattle.attr_search.specs.Slots.{table_items, table_state};
 ghost use Rattle.attr_search.specs.shared.SlotContents.{open_slots};
 ghost use Rattle.attr_search.specs.inner.Filling.{AtLine, Fills, FillsBy, FillsItem, Processes, most_left, stack_tasks, top_item};
 ghost use Rattle.attr_search.specs.inner.Pending.{IsInside, PushesFree, PushesInside, line_origin};
-ghost use Rattle.attr_search.specs.inner.Searched.{KeepsState};
+ghost use Rattle.attr_search.specs.inner.Searched.{KeepsState, SearchesPart};
 ghost use Rattle.attr_search.specs.inner.SlotsView.{BodiesFit};
 
 use crate::matching_line::MatchingLine;
@@ -32,10 +32,9 @@ impl AnswerSlots {
         stack: &mut Vec<PendingItem>,
     ) -> Result<(), AllocError>
         requires { HaveSlots (length self.old.answers) line.items.now }
-        ensures kept { KeepsState self.old self.new }
-        ensures filled { OnOk result (Fills line.entry.items.now
-            (tasks_in (line_origin line.entry) None (table_items line.entry.items.now))
-            self.old self.new) }
+        ensures { SearchesPart result (Fills line.entry.items.now
+            (tasks_in (line_origin line.entry) None (table_items line.entry.items.now)))
+            self.old self.new }
     {
         self.begin_line();
 
@@ -53,9 +52,8 @@ impl AnswerSlots {
         stack: &mut Vec<PendingItem>,
     ) -> Result<(), AllocError>
         requires at_line { AtLine line self.old stack.old.items }
-        ensures kept { KeepsState self.old self.new }
-        ensures filled { OnOk result (Fills line.entry.items.now
-            (stack_tasks line.entry self.old stack.old.items) self.old self.new) }
+        ensures { SearchesPart result (Fills line.entry.items.now
+            (stack_tasks line.entry self.old stack.old.items)) self.old self.new }
     {
         while !self.is_done() {
             let Some(top) = stack.pop() else {

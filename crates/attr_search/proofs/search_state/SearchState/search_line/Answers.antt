@@ -66,5 +66,5 @@ returns c =
               changed = inr (omega (arith, tested, counted));
               counted = omega (arith, tested, rises);
             }) over;
-          }) c.fill_line.ensures.filled;
+          }) c.fill_line.ensures.done;
     }

@@ -21,19 +21,23 @@ run_stack-requires c =
           };
     }
 
-pub returns-clause-filled : goal.returns-clause-filled
-returns-clause-filled c =
+pub returns : goal.returns
+returns c =
     let line = c.args.line in
     let before = c.args.self.now in
-    on_ok_weaker c.run_stack.result
-    (λ filled. record {
-      by =
-          record {
-            named = rw c.begin_line.ensures.begun at filled.by.named;
-            tested = rw c.begin_line.ensures.begun at filled.by.tested;
-          };
-      searches = line_walked line before c.begin_line.new.self (open_slots c.run_stack.new.self) c.clear.new.self.items
-          c.push_free.new.stack.items c.run_stack.new.self.taken c.begin_line.ensures.begun c.clear.ensures.items
-          (c.in_ok-push_free.ensures.pushed (line_origin line) line.items.now c.begin_line.new.self.bodies refl) filled.searches;
-    })
-    c.run_stack.ensures.filled
+    let kept = rw c.begin_line.ensures.begun at c.run_stack.ensures.kept in
+    record {
+      kept = record { wanted = kept.wanted; needed = kept.needed; bodies = kept.bodies; len = kept.len; skipped = kept.skipped };
+      done = on_ok_weaker c.run_stack.result
+          (λ filled. record {
+            by =
+                record {
+                  named = rw c.begin_line.ensures.begun at filled.by.named;
+                  tested = rw c.begin_line.ensures.begun at filled.by.tested;
+                };
+            searches = line_walked line before c.begin_line.new.self (open_slots c.run_stack.new.self) c.clear.new.self.items
+                c.push_free.new.stack.items c.run_stack.new.self.taken c.begin_line.ensures.begun c.clear.ensures.items
+                (c.in_ok-push_free.ensures.pushed (line_origin line) line.items.now c.begin_line.new.self.bodies refl) filled.searches;
+          })
+          c.run_stack.ensures.done;
+    }

@@ -7,15 +7,18 @@ use Rattle.attr_table.proofs.ForCallers.{nothing_taken, done_taken}
 use Rattle.attr_search.proofs.FillingLemmas.{pending_tasks-none, pending_tasks-top}
 use Rattle.attr_search.proofs.slots.AnswerSlots.run_stack.Goals as goal
 
-pub returns-in_default-clause-filled : goal.returns-in_default-clause-filled
-returns-in_default-clause-filled c =
+pub returns-in_default : goal.returns-in_default
+returns-in_default c =
     let now = c.loop-alloc.self in
     let x = c.in_default.ensures.cases in
     let none = pending_tasks-none (line_origin c.args.line) c.args.line.items.now now.bodies c.loop-alloc.stack.items (omega arith) in
     record {
-      by = c.loop-alloc.invariant.by;
-      searches = c.loop-alloc.invariant.filled (open_slots now) now.taken
-          (rw none (nothing_taken (state_bodies now) (state_wanted now) (open_slots now) now.taken));
+      kept = c.loop-alloc.invariant.kept;
+      done = record {
+        by = c.loop-alloc.invariant.by;
+        searches = c.loop-alloc.invariant.filled (open_slots now) now.taken
+            (rw none (nothing_taken (state_bodies now) (state_wanted now) (open_slots now) now.taken));
+      };
     }
 
 pub loop-alloc-preserved : goal.loop-alloc-preserved
@@ -33,12 +36,15 @@ loop-alloc-preserved c = record {
       c.loop-alloc.invariant.filled final later (rw top (processed (sym c.loop-alloc-test.ensures) final now.taken later refl p));
 }
 
-pub returns-clause-filled : goal.returns-clause-filled
-returns-clause-filled c =
+pub returns : goal.returns
+returns c =
     let now = c.loop-alloc.self in
     record {
-      by = c.loop-alloc.invariant.by;
-      searches = c.loop-alloc.invariant.filled (open_slots now) now.taken
-          (done_taken (state_bodies now) (state_wanted now) (stack_tasks c.args.line now c.loop-alloc.stack.items) (open_slots now) now.taken
-          (sym c.loop-alloc-test.ensures));
+      kept = c.loop-alloc.invariant.kept;
+      done = record {
+        by = c.loop-alloc.invariant.by;
+        searches = c.loop-alloc.invariant.filled (open_slots now) now.taken
+            (done_taken (state_bodies now) (state_wanted now) (stack_tasks c.args.line now c.loop-alloc.stack.items) (open_slots now) now.taken
+            (sym c.loop-alloc-test.ensures));
+      };
     }
