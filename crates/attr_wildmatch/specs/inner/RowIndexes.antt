@@ -108,7 +108,7 @@ pub record HasStayed (ts : List Token) (b p free : ℕ) : Type 0 where
   pub stay : stays_on (token_before ts p) b ≡ true → p < free
   pub directory : is_dirs_at (slice_get ts p) ≡ true → p < free
 
--- a row has room for all indexes among n tokens, and has at most `free` of them, which lie below `free`
+-- a row has room for all indexes among n tokens, and has at most `free` of them; `free` is at most one past the last index
 pub record HasRoom {A : Type 0} (n : ℕ) (row : Vec ℕ A) (free : ℕ) : Type 0 where
   pub few : n < 2 ^ 63
   pub capacity : n < vec_capacity row
