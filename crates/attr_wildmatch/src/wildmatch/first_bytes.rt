@@ -32,12 +32,15 @@ pub(crate) fn first_pair(tokens: &[Token], case: Case) -> Option<(u8, u8)>
     }
 }
 
-// The value from the first such byte on, and nothing if it has none. It isn't inlined, so that its callers are small enough
-// to be.
+// The value from the first such byte on, and nothing if it has none. A search that begins at the byte costs more than a look.
+// It isn't inlined, so that its callers are small enough to be.
 #[inline(never)]
 pub(crate) fn from_byte(value: &[u8], byte: u8) -> &[u8]
     ensures { result.now ≡ from_first (begins byte) value.now }
 {
+    if value.first() == Some(&byte) {
+        return value;
+    }
     match One::new(byte).find(value) {
         Some(offset) => &value[offset..],
         None => &[],
