@@ -442,8 +442,14 @@ def long_lines_asked(n):
 
 @case(2 ** 18)
 def stars_asked(n):
-    """lines `*b*a x`, n bytes together, and ten paths of 4,095 bytes"""
+    """lines `*b*a x`, n bytes together, and ten paths of 4,095 bytes `a`"""
     return add(b"*b*a x\n" * (n // 7)) + ask("a" * 4_095) * 10
+
+
+@case(2 ** 18)
+def stretches_asked(n):
+    """lines `*a?b*a x`, n bytes together, and ten paths of 4,095 bytes `a`"""
+    return add(b"*a?b*a x\n" * (n // 9)) + ask("a" * 4_095) * 10
 
 
 # Products: both factors grow with n.
