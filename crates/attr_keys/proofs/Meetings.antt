@@ -1,10 +1,9 @@
 -- Which numbers are those of a subject's keys, and which keys the texts have.
-use Rattle.std.proofs.Common.{◌≡◌, ◌≢◌, ℕ, zero, suc, ◌+◌, ◌<◌, Bool, true, false, ◌||◌, List, [], ◌∷◌, ◌++◌, length, take, get_or, reverse, map}
-use Rattle.std.proofs.Common.{refl, sym, ap, ◌∙◌, arith, nat_eq, add-one, Option, Some, None}
+use Rattle.std.proofs.Common.{◌≡◌, ◌≢◌, ℕ, zero, suc, Bool, true, false, ◌||◌, List, [], ◌∷◌, ◌++◌, length, reverse, map}
+use Rattle.std.proofs.Common.{refl, sym, ap, ◌∙◌, arith, nat_eq, Option, Some, None}
 use Rattle.std.specs.List.{starts_with}
 use Rattle.std.specs.Prelude.{slice_get}
-use Rattle.std.proofs.lemmas.Grind.{common_steps}
-use Rattle.std.proofs.lemmas.List.{take_more}
+use Rattle.std.proofs.lemmas.Option.{slice_get_past}
 use Rattle.std.proofs.lemmas.Bool.{eqb-false, eqb-true}
 use Rattle.std.proofs.lemmas.Bool.Decides.{nat_tests}
 use Rattle.std.proofs.lemmas.List.Folds.{list_any-append}
@@ -14,63 +13,48 @@ use Rattle.attr_keys.specs.shared.KeyContents.{KeyContent}
 use Rattle.attr_keys.specs.shared.Codes.{codes_of}
 use Rattle.attr_keys.specs.inner.Cases.{in_case, content_in_case}
 use Rattle.attr_keys.specs.declared.kinds.Kind.{Kind}
-use Rattle.attr_keys.specs.inner.Kinds.{is_of, kind_of, rows_with, same_kind}
+use Rattle.attr_keys.specs.declared.kinds.Kinds.{Kinds}
+use Rattle.attr_keys.specs.inner.Kinds.{is_of, kind_of, kind_rows, rows_with, same_kind}
 use Rattle.attr_keys.specs.shared.Meeting.{directed, is_end, is_about, has_content, key_content, content_met_at}
 use Rattle.attr_keys.specs.inner.Orders.{gathered}
 use Rattle.attr_keys.specs.shared.Rows.{has_row}
 use Rattle.attr_keys.proofs.SeenTexts.{codes_in_case, directed_in_case}
 use Rattle.attr_keys.proofs.RowLemmas.{by_test, or_none}
 
-get_here : {K : Type 0} (content : K → KeyContent) (lines : List K) (i : ℕ) (d : K) → i < length lines →
-    slice_get (map content (take (suc i) lines)) i ≡ Some (content (get_or lines i d))
-get_here content (l ∷ ls) (suc i) d lt = get_here content ls i d (omega arith)
-get_here content lines i d lt = grind (arith, nat_tests)
+get_more : (keys : List KeyContent) (key : KeyContent) (r : ℕ) → r ≢ length keys → slice_get (keys ++ key ∷ []) r ≡ slice_get keys r
+get_more [] key zero apart = absurd (apart refl)
+get_more [] key (suc r) apart = refl
+get_more (k ∷ keys) key zero apart = refl
+get_more (k ∷ keys) key (suc r) apart = get_more keys key r (λ e. apart (ap suc e))
 
-get_past : {K : Type 0} (content : K → KeyContent) (lines : List K) (i : ℕ) → slice_get (map content (take i lines)) i ≡ None
-get_past content [] zero = refl
-get_past content [] (suc i) = refl
-get_past content (l ∷ ls) zero = refl
-get_past content (l ∷ ls) (suc i) = get_past content ls i
-
-get_other : {K : Type 0} (content : K → KeyContent) (lines : List K) (i r : ℕ) → i ≢ r →
-    slice_get (map content (take (suc i) lines)) r ≡ slice_get (map content (take i lines)) r
-get_other content [] zero r apart = refl
-get_other content [] (suc i) r apart = refl
-get_other content (l ∷ ls) zero zero apart = absurd (apart refl)
-get_other content (l ∷ ls) zero (suc r) apart = refl
-get_other content (l ∷ ls) (suc i) zero apart = refl
-get_other content (l ∷ ls) (suc i) (suc r) apart = get_other content ls i r (λ e. apart (ap suc e))
+get_last : (keys : List KeyContent) (key : KeyContent) → slice_get (keys ++ key ∷ []) (length keys) ≡ Some key
+get_last [] key = refl
+get_last (k ∷ keys) key = get_last keys key
 
 -- one more key passes a test
-about_more : {K : Type 0} (content : K → KeyContent) (test : Option KeyContent → Bool) (lines : List K) (rows : List ℕ) (i : ℕ) (line : K) →
-    i < length lines → line ≡ get_or lines i line → test (Some (content line)) ≡ true →
-    ((r : ℕ) → has_row rows r ≡ test (slice_get (map content (take i lines)) r)) →
-    (r : ℕ) → has_row (rows ++ i ∷ []) r ≡ test (slice_get (map content (take (i + 1) lines)) r)
-about_more content test lines rows i line lt at passes known r =
-    grind (arith, nat_tests, list_any-append, eqb-true, add-one, get_here, or_none, get_other, eqb-false)
+about_more : (test : Option KeyContent → Bool) (keys : List KeyContent) (rows : List ℕ) (key : KeyContent) → test (Some key) ≡ true →
+    ((r : ℕ) → has_row rows r ≡ test (slice_get keys r)) →
+    (r : ℕ) → has_row (rows ++ length keys ∷ []) r ≡ test (slice_get (keys ++ key ∷ []) r)
+about_more test keys rows key passes known r =
+    grind (arith, nat_tests, list_any-append, eqb-true, get_last, or_none, get_more, eqb-false)
 
 -- one more key doesn't
-about_less : {K : Type 0} (content : K → KeyContent) (test : Option KeyContent → Bool) (lines : List K) (rows : List ℕ) (i : ℕ) (line : K) →
-    i < length lines → line ≡ get_or lines i line → test None ≡ false → test (Some (content line)) ≡ false →
-    ((r : ℕ) → has_row rows r ≡ test (slice_get (map content (take i lines)) r)) →
-    (r : ℕ) → has_row rows r ≡ test (slice_get (map content (take (i + 1) lines)) r)
-about_less content test lines rows i line lt at nothing fails known r = grind (arith, nat_tests, eqb-true, get_past, get_here, get_other, eqb-false)
+about_less : (test : Option KeyContent → Bool) (keys : List KeyContent) (rows : List ℕ) (key : KeyContent) → test None ≡ false →
+    test (Some key) ≡ false → ((r : ℕ) → has_row rows r ≡ test (slice_get keys r)) →
+    (r : ℕ) → has_row rows r ≡ test (slice_get (keys ++ key ∷ []) r)
+about_less test keys rows key nothing fails known r = grind (arith, nat_tests, eqb-true, slice_get_past, get_last, get_more, eqb-false)
 
 -- one more line among those of a kind
-pub kinds_more : {K : Type 0} (content : K → KeyContent) (k : Kind) (lines : List K) (rows : List ℕ) (i : ℕ) (line : K) →
-    i < length lines → line ≡ get_or lines i line → ((r : ℕ) → has_row rows r ≡ is_of k (slice_get (map content (take i lines)) r)) →
-    (r : ℕ) → has_row (rows_with (kind_of (content line)) i k rows) r ≡ is_of k (slice_get (map content (take (i + 1) lines)) r)
-kinds_more content k lines rows i line lt at known r =
-    by_test (same_kind k (kind_of (content line)))
-    (λ t. rw t (about_more content (is_of k) lines rows i line lt at t known r))
-    (λ f. rw f (about_less content (is_of k) lines rows i line lt at refl f known r))
+pub kinds_more : (k : Kind) (keys : List KeyContent) (rows : List ℕ) (key : KeyContent) →
+    ((r : ℕ) → has_row rows r ≡ is_of k (slice_get keys r)) →
+    (r : ℕ) → has_row (rows_with (kind_of key) (length keys) k rows) r ≡ is_of k (slice_get (keys ++ key ∷ []) r)
+kinds_more k keys rows key known r =
+    by_test (same_kind k (kind_of key)) (λ t. rw t (about_more (is_of k) keys rows key t known r))
+    (λ f. rw f (about_less (is_of k) keys rows key refl f known r))
 
--- one more key without a capital letter
-pub lower_more : {K : Type 0} (content : K → KeyContent) (lines : List K) (i : ℕ) (line : K) → i < length lines → line ≡ get_or lines i line →
-    content_in_case true (content line) ≡ content line →
-    map (content_in_case true) (map content (take i lines)) ≡ map content (take i lines) →
-    map (content_in_case true) (map content (take (i + 1) lines)) ≡ map content (take (i + 1) lines)
-lower_more content lines i line lt at lower known = grind (arith, common_steps, take_more)
+-- the rows of a kind stay where a capital letter is noted
+pub rows_noted : (k : Kind) (sorted : Kinds) (noted : Bool) → kind_rows k (record sorted { has_capitals = noted }) ≡ kind_rows k sorted
+rows_noted k sorted noted = grind arith
 
 -- a key's text without a capital letter
 pub lower_content : (key : Key) → in_case true key.text.now ≡ key.text.now → content_in_case true (key_content key) ≡ key_content key

@@ -6,3 +6,4 @@ pub mod KeyIndexes
 pub mod LineKeys
 pub mod Meeting
 pub mod Rows
+pub mod SortedLines

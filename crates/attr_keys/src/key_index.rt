@@ -1,7 +1,7 @@
 //! The index of lines by their keys: it finds the lines that a path may match. Few lines have no tables: each one is tried.
 
-ghost use Rattle.std.specs.Prelude.{◌≡◌, ◌||◌, ◌++◌, [], ℕ, List, IfOk, OnOk, map, false, true, slice_get};
-ghost use Rattle.std.specs.Bool.{OnFalse, OnTrue};
+ghost use Rattle.std.specs.Prelude.{◌≡◌, ◌||◌, ◌++◌, [], ℕ, List, IfOk, IsTrue, OnOk, map, false, true, slice_get};
+ghost use Rattle.std.specs.Bool.{OnTrue};
 ghost use Rattle.attr_keys.specs.inner.Cases.{content_in_case, in_case, keys_seen, seen_text};
 ghost use Rattle.attr_keys.specs.inner.Extensions.{is_hashed};
 ghost use Rattle.attr_keys.specs.inner.Hashes.{hashed_rows};
@@ -12,6 +12,7 @@ ghost use Rattle.attr_keys.specs.inner.Kinds.{AreKinds};
 ghost use Rattle.attr_keys.specs.shared.Meeting.{content_met, content_met_at, key_content};
 ghost use Rattle.attr_keys.specs.inner.Orders.{AreFindable, AreSorted, gathered, has_subject_row};
 ghost use Rattle.attr_keys.specs.shared.Rows.{IsFalling, has_row};
+ghost use Rattle.attr_keys.specs.shared.SortedLines.{SortsLines};
 
 use crate::by_hash::{append_of_hash, by_hash, hash_in_case, hashed_part, longest_key};
 use crate::hashed::HashedRows;
@@ -20,9 +21,6 @@ use crate::kinds::Kinds;
 use crate::order::fall;
 use crate::prefixes::Prefixes;
 use std::alloc::{AllocError, Global};
-
-// So few lines are tried one by one: to make tables of them costs more than some hundred look-ups save.
-const FEW: usize = 8;
 
 /// Where lines are found by their keys. It has the indexes of lines, and no texts: each look-up is given the lines.
 #[derive(Debug, Drop)]
@@ -70,18 +68,19 @@ pub struct Texts<'a> {
 }
 
 impl KeyIndex {
-    /// The index of these lines.
+    /// The index of these lines, which were pushed to `kinds`.
     ///
     /// # Errors
     ///
     /// If memory runs out.
-    pub fn of<K: Keyed>(alloc: Global, lines: &[K]) -> Result<KeyIndex, AllocError>
+    pub fn of<K: Keyed>(alloc: Global, lines: &[K], kinds: &Kinds) -> Result<KeyIndex, AllocError>
+        requires { SortsLines (map K.content lines.now) kinds.now }
         ensures { IfOk result (IsKeyIndex (map K.content lines.now)) }
     {
-        if lines.len() <= FEW {
+        if !kinds.are_many {
             return Ok(KeyIndex { tables: None });
         }
-        let tables = Box::new(alloc, KeyTables::of(alloc, lines)?)?;
+        let tables = Box::new(alloc, KeyTables::of(alloc, lines, kinds)?)?;
         Ok(KeyIndex {
             tables: Some(tables),
         })
@@ -115,29 +114,15 @@ impl KeyIndex {
 }
 
 impl KeyTables {
-    fn of<K: Keyed>(alloc: Global, lines: &[K]) -> Result<KeyTables, AllocError>
-        ensures { IfOk result (AreKeyTables (map K.content lines.now)) }
-    {
-        let mut kinds = Kinds::new(alloc);
-        let capitals = kinds.sort(lines)?;
-        KeyTables::of_kinds(alloc, lines, &kinds, capitals)
-    }
-
-    fn of_kinds<K: Keyed>(
-        alloc: Global,
-        lines: &[K],
-        kinds: &Kinds,
-        capitals: bool,
-    ) -> Result<KeyTables, AllocError>
-        requires kinds { AreKinds (map K.content lines.now) kinds.now }
-        requires capitals { OnFalse capitals (
-            map (content_in_case true) (map K.content lines.now) ≡ map K.content lines.now) }
+    fn of<K: Keyed>(alloc: Global, lines: &[K], kinds: &Kinds) -> Result<KeyTables, AllocError>
+        requires sorted { SortsLines (map K.content lines.now) kinds.now }
+        requires many { IsTrue kinds.now.are_many }
         ensures { IfOk result (AreKeyTables (map K.content lines.now)) }
     {
         let mut others = Vec::from_slice(alloc, &kinds.anything)?;
         others.reverse();
         let exact = KeyRows::of(alloc, lines, false, kinds)?;
-        let folded = if capitals {
+        let folded = if kinds.has_capitals {
             Some(KeyRows::of(alloc, lines, true, kinds)?)
         } else {
             None

@@ -1,14 +1,19 @@
-//! Lines by the kinds of their keys, in one pass.
+//! Lines by the kinds of their keys.
 
-ghost use Rattle.std.specs.Prelude.{◌≡◌, [], IfOk, OnOk, map, true};
+ghost use Rattle.std.specs.Prelude.{◌≡◌, [], ◌∷◌, ◌++◌, List, OnOk, length, true};
 ghost use Rattle.std.specs.Bool.{OnFalse};
-ghost use Rattle.attr_keys.specs.inner.Cases.{content_in_case, in_case};
-ghost use Rattle.attr_keys.specs.inner.Kinds.{AreKinds, is_kept, kind_of, kind_rows, rows_with};
+ghost use Rattle.attr_keys.specs.inner.Cases.{in_case};
+ghost use Rattle.attr_keys.specs.inner.Kinds.{is_kept, kind_of, kind_rows, rows_with};
+ghost use Rattle.attr_keys.specs.shared.KeyContents.{KeyContent};
 ghost use Rattle.attr_keys.specs.shared.Meeting.{key_content};
+ghost use Rattle.attr_keys.specs.shared.SortedLines.{SortsLines};
 
 use crate::by_hash::is_extension;
 use crate::key::{Key, Keyed, Subject};
 use std::alloc::{AllocError, Global};
+
+// So few lines are tried one by one: to make tables of them costs more than some hundred look-ups save.
+const FEW: usize = 8;
 
 /// How a line is found.
 #[derive(Clone, Copy)]
@@ -31,9 +36,13 @@ pub enum Kind {
     Nothing,
 }
 
-/// The indexes of lines by the kinds of their keys.
+/// The indexes of lines by the kinds of their keys. The lines are pushed one by one.
 #[derive(Drop)]
 pub struct Kinds {
+    /// Whether the lines are so many that tables are made of them. Otherwise nothing is kept of them.
+    pub are_many: bool,
+    /// Whether a key has a capital letter.
+    pub has_capitals: bool,
     pub names: Vec<usize>,
     pub name_prefixes: Vec<usize>,
     pub extensions: Vec<usize>,
@@ -44,11 +53,13 @@ pub struct Kinds {
 }
 
 impl Kinds {
-    /// No lines. It takes no memory.
-    pub fn new(alloc: Global) -> Kinds
-        ensures { AreKinds [] result }
+    /// No lines yet, of so many. It takes no memory.
+    pub fn new(alloc: Global, count: usize) -> Kinds
+        ensures { SortsLines [] result }
     {
         Kinds {
+            are_many: count > FEW,
+            has_capitals: false,
             names: Vec::new(alloc),
             name_prefixes: Vec::new(alloc),
             extensions: Vec::new(alloc),
@@ -59,30 +70,30 @@ impl Kinds {
         }
     }
 
-    /// Sorts lines into their kinds, and returns whether a key has a capital letter.
+    /// Adds the line after the last one. `row` is its index.
     ///
     /// # Errors
     ///
     /// If memory runs out.
-    pub fn sort<K: Keyed>(&mut self, lines: &[K]) -> Result<bool, AllocError>
-        requires { AreKinds [] self.old }
-        ensures kinds { OnOk result (AreKinds (map K.content lines.now) self.new) }
-        ensures capitals { IfOk result (λ capitals. OnFalse capitals (
-            map (content_in_case true) (map K.content lines.now) ≡ map K.content lines.now)) }
+    pub fn push<K: Keyed>(&mut self, line: &K, row: usize) -> Result<(), AllocError>
+        ensures { OnOk result ((keys : List KeyContent) → row ≡ length keys →
+            SortsLines keys self.old → SortsLines (keys ++ K.content line.now ∷ []) self.new) }
     {
-        let mut capitals = false;
-        for (row, line) in lines.iter().enumerate() {
-            let key = line.key();
-            capitals = capitals || has_capital(key.text);
-            self.add(kind_of(key), row)?;
+        if !self.are_many {
+            return Ok(());
         }
-        Ok(capitals)
+        let key = line.key();
+        self.has_capitals = self.has_capitals || has_capital(key.text);
+        self.add(kind_of(key), row)?;
+        Ok(())
     }
 
     // Appends a line of this kind.
     fn add(&mut self, kind: Kind, row: usize) -> Result<(), AllocError>
-        ensures { OnOk result ((k : Kind) → is_kept k ≡ true →
+        ensures rows { OnOk result ((k : Kind) → is_kept k ≡ true →
             kind_rows k self.new ≡ rows_with kind row k (kind_rows k self.old)) }
+        ensures same { OnOk result (
+            (self.new.are_many ≡ self.old.are_many) × (self.new.has_capitals ≡ self.old.has_capitals)) }
     {
         match kind {
             Kind::Name => self.names.push(row)?,

@@ -10,7 +10,7 @@ mod by_hash;
 mod hashed;
 pub mod key;
 pub mod key_index;
-mod kinds;
+pub mod kinds;
 pub mod line_key;
 mod order;
 mod prefixes;

@@ -1,6 +1,6 @@
 -- Definitions of macros (own). A list id is the number under which a list is registered in a collection. A definition belongs to a
 -- list, and is removed with it.
-use Rattle.std.specs.Prelude.{◌≡◌, ◌≢◌, ℕ, ◌-◌, ◌<◌, ◌≤◌, Bool, true, false, not, ◌==◌, ◌&&◌, List, [], ◌∷◌, ◌++◌, length, map, filter}
+use Rattle.std.specs.Prelude.{◌≡◌, ◌≢◌, ℕ, ◌-◌, ◌<◌, ◌≤◌, Bool, true, false, not, ◌==◌, ◌&&◌, Option, List, [], ◌∷◌, ◌++◌, length, map, filter}
 use Rattle.std.specs.Prelude.{slice_get, is_some, unwrap_or, option_map, All, IsTrue, bytes_eq}
 use Rattle.std.specs.List.{flat_map, list_any, AllPairs, IsDistinct}
 use Rattle.attr_text.specs.Names.{is_valid_name}
@@ -57,9 +57,13 @@ definitions_of collection number = flat_map (definitions_by number) collection.l
 abbrev pub definitions_for : Collection → List ℕ → List MacroDefinition
 definitions_for collection name = unwrap_or (option_map (definitions_of collection) (number_of collection.names name)) []
 
--- the body of the last of these definitions, empty if there is none
+-- the body of the last of these definitions, if there is one
+abbrev pub last_defined : List MacroDefinition → Option (List TrackedAssignment)
+last_defined definitions = option_map (λ d. d.body) (slice_get definitions (length definitions - 1))
+
+-- the same, empty if there is none
 abbrev pub last_body : List MacroDefinition → List TrackedAssignment
-last_body definitions = unwrap_or (option_map (λ d. d.body) (slice_get definitions (length definitions - 1))) []
+last_body definitions = unwrap_or (last_defined definitions) []
 
 -- the items that the name with this number expands to, none if it is no macro
 abbrev pub macro_body : Collection → ℕ → List TrackedAssignment

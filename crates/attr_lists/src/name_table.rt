@@ -4,7 +4,7 @@
 //! Each list is registered under a list id that no other registered list has. A definition belongs to a list, and is
 //! removed with it.
 ghost use Rattle.std.specs.Prelude.{◌≡◌, true, false, ◌<◌, ◌↔◌, length, All, Some, None, nat_lt, if◌then◌else◌, option_map, IfOk, OnOk, OnErr, IfSome, IsSome, IsTrue, slice_get, option_copied};
-ghost use Rattle.attr_lists.specs.Definitions.{macro_body, is_registered, with_list, without_list, HoldsList, IsSoundCollection};
+ghost use Rattle.attr_lists.specs.Definitions.{definitions_of, last_defined, macro_body, is_registered, with_list, without_list, HoldsList, IsSoundCollection};
 ghost use Rattle.attr_lists.specs.shared.Keeping.{StayRegistered, OthersStayRegistered, IsNumbered};
 ghost use Rattle.attr_lists.specs.shared.MacroNumbers.{ListsMacros};
 ghost use Rattle.std.specs.Iterator.{YieldsFirstBy, item_count};
@@ -29,6 +29,7 @@ use attr_glob::search::pattern::Mapping;
 use std::alloc::{AllocError, Global};
 use std::collections::BTreeSet;
 use std::marker::Model;
+use std::rc::Rc;
 
 /// Attribute names by number, and the definitions of macros, each under the list id of its list.
 #[derive(Debug, Drop)]
@@ -96,6 +97,16 @@ impl NameTable {
     {
         let entry = self.parts.entries.get(number)?;
         Some(entry.metadata())
+    }
+
+    /// The last definition of the name with this number, which is shared with the list that has it. None if there is none.
+    pub fn definition(&self, number: usize) -> Option<&Rc<Metadata>>
+        ensures id { IfSome result (λ known. known.now.value.id.0 ≡ number) }
+        ensures body { option_map (λ known. known.now.value.macro_attributes.items) result
+            ≡ last_defined (definitions_of self.now number) }
+    {
+        let entry = self.parts.entries.get(number)?;
+        entry.definition()
     }
 
     /// The numbers of the names that have definitions. The other names are no macros.

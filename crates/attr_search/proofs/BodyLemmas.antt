@@ -1,31 +1,30 @@
 -- How bodies grow and change.
-use Rattle.std.proofs.Common.{◌≡◌, ℕ, ◌+◌, ◌-◌, ◌<◌, List, [], ◌∷◌, ◌++◌, length, length-take, set, take, replicate, All, Vec, append_assoc}
+use Rattle.std.proofs.Common.{◌≡◌, ℕ, ◌+◌, ◌-◌, ◌<◌, List, [], ◌∷◌, ◌++◌, length, length-take, set, take, replicate, All, None, append_assoc}
 use Rattle.std.proofs.Common.{Bool, false, Result, Ok, Err, is_err, length-append, refl, sym, arith}
-use Rattle.std.specs.Global.{Global}
 use Rattle.std.specs.Result.{OnOk}
 use Rattle.std.proofs.lemmas.List.{length-replicate, take-map, length-map, length-set, map_push, map-set, replicate_more, take-append-le}
 use Rattle.std.proofs.lemmas.List.Elements.{All-same, All-tail}
 use Rattle.attr_lists.specs.declared.types.TrackedAssignment.{TrackedAssignment}
 use Rattle.attr_search.specs.declared.bodies.BodyChange.{BodyChange}
 use Rattle.attr_search.specs.shared.BodyChanges.{changed_bodies, sized_bodies}
-use Rattle.attr_search.specs.shared.Slotted.{bodies_view}
+use Rattle.attr_search.specs.shared.Slotted.{SharedBody, bodies_view}
 
 -- one more empty body
-pub grown_more : (old now after : List (Vec TrackedAssignment Global)) (body : Vec TrackedAssignment Global) (n : ℕ) → body.items ≡ [] →
-    after ≡ now ++ body ∷ [] → bodies_view now ≡ bodies_view old ++ replicate n [] → bodies_view after ≡ bodies_view old ++ replicate (n + 1) []
-grown_more old now after body n empty pushed so_far = grind (arith, map_push, append_assoc, replicate_more)
+pub grown_more : (old now after : List SharedBody) (n : ℕ) →
+    after ≡ now ++ None ∷ [] → bodies_view now ≡ bodies_view old ++ replicate n [] → bodies_view after ≡ bodies_view old ++ replicate (n + 1) []
+grown_more old now after n pushed so_far = grind (arith, map_push, append_assoc, replicate_more)
 
 -- what there was stays in front
 pub kept_more : {X : Type 0} (old now after : List X) (x : X) → after ≡ now ++ x ∷ [] → take (length old) now ≡ old → take (length old) after ≡ old
 kept_more old now after x pushed kept = grind (arith, length-take, take-append-le)
 
 -- one change is made, and the others are left
-pub change_made : (left rest : List BodyChange) (change : BodyChange) (bodies : List (Vec TrackedAssignment Global))
+pub change_made : (left rest : List BodyChange) (change : BodyChange) (bodies : List SharedBody)
     (made : List (List TrackedAssignment)) → left ≡ change ∷ rest → changed_bodies left (bodies_view bodies) ≡ made →
     changed_bodies rest (bodies_view (set bodies change.number change.body)) ≡ made
 change_made left rest change bodies made e told = grind (arith, map-set)
 
-pub change_below : (left rest : List BodyChange) (change : BodyChange) (bodies : List (Vec TrackedAssignment Global)) → left ≡ change ∷ rest →
+pub change_below : (left rest : List BodyChange) (change : BodyChange) (bodies : List SharedBody) → left ≡ change ∷ rest →
     All (λ c. c.number < length bodies) left → All (λ c. c.number < length (set bodies change.number change.body)) rest
 change_below left rest change bodies e below =
     let all = All-same (λ c. c.number < length bodies) (change ∷ rest) left (sym e) below in
@@ -37,7 +36,7 @@ told_ok (Ok x) b e is h = h
 told_ok (Err x) b e is h = absurd cc
 
 -- and to as many as wanted
-pub cut_sized : (old grown cut : List (Vec TrackedAssignment Global)) (bodies : List (List TrackedAssignment)) (count n : ℕ) → count ≡ n →
+pub cut_sized : (old grown cut : List SharedBody) (bodies : List (List TrackedAssignment)) (count n : ℕ) → count ≡ n →
     bodies_view old ≡ bodies → bodies_view grown ≡ bodies_view old ++ replicate (count - length old) [] → cut ≡ take count grown →
     bodies_view cut ≡ sized_bodies n bodies
 cut_sized old grown cut bodies count n counted same grows is = grind (arith, length-map, take-map)

@@ -1,8 +1,7 @@
 -- What filling slots by numbered items reads and writes, in the terms of the table.
 use Rattle.std.proofs.Common.{◌≡◌, ℕ, ◌+◌, ◌<◌, ◌≤◌, List, [], ◌∷◌, ◌++◌, length, get_or, set, take, map, Option, Some, None, refl, sym, ap}
 use Rattle.std.proofs.Common.{⊎_elim, arith, Bool, true, false}
-use Rattle.std.specs.Prelude.{is_some, not, ◌==◌, All, Vec, slice_index_or}
-use Rattle.std.specs.Global.{Global}
+use Rattle.std.specs.Prelude.{is_some, not, ◌==◌, All, slice_index_or}
 use Rattle.std.proofs.Math.ListN
 use Rattle.std.proofs.lemmas.Bool.{false≢true, cases_eq, eq-eqb, ne_eqb, cases_lt}
 use Rattle.std.proofs.lemmas.List.{map-append, take_more, append-nil, length-append, get_or_past, get_or-set_same, get_or-set_other, length-set}
@@ -25,7 +24,7 @@ use Rattle.attr_lists.specs.Numbers.{AreNamed}
 use Rattle.attr_search.specs.declared.matching_line.MatchingLine.{MatchingLine}
 use Rattle.attr_search.specs.inner.Filling.{AtLine, FillsBy, FillsItem, FillsTo, Processes, item_task, most_left, stack_tasks, top_item}
 use Rattle.attr_search.specs.inner.Searched.{KeepsState, state_bodies, state_wanted}
-use Rattle.attr_search.specs.inner.Pending.{PushesFree, item_answer, line_origin, items_beside, pending_item, IsInside, task_of, pending_tasks}
+use Rattle.attr_search.specs.inner.Pending.{PushesFree, item_answer, line_origin, items_beside, IsInside, task_of, pending_tasks}
 use Rattle.attr_search.specs.inner.Pending.{no_item}
 
 filled_of : (x : Bool) → false ≡ not x → x ≡ true

@@ -1,6 +1,6 @@
 -- Slots that are open: needed, and without an answer.
 use Rattle.std.proofs.Common.{◌≡◌, ℕ, suc, ◌<◌, Bool, true, false, ◌&&◌, List, ◌∷◌, length, get_or, set, map, take, replicate}
-use Rattle.std.proofs.Common.{nat_eq, ◌++◌, ◌-◌, ◌+◌, Option, Some, None, is_some, is_none, sym, ap, ◌∙◌, arith}
+use Rattle.std.proofs.Common.{nat_eq, ◌++◌, ◌-◌, Option, Some, None, is_some, is_none, sym, ap, ◌∙◌, arith}
 use Rattle.std.specs.Prelude.{if◌then◌else◌}
 use Rattle.std.proofs.lemmas.Bool.{cases_eq, cases_lt}
 use Rattle.std.proofs.lemmas.List.Elements.{All-weaker}

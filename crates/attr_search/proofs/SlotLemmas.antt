@@ -14,14 +14,11 @@ use Rattle.std.proofs.lemmas.List.Folds.{list_all-map, list_any-append}
 use mathlib.Core.List.{map-map}
 use Rattle.attr_table.specs.Setting.{Origin}
 use Rattle.attr_search.specs.shared.SlotContents.{AreListed, count_remaining, remaining_at, wanted_numbers}
-use Rattle.attr_search.specs.Matches.{cause_of}
-use Rattle.attr_search.specs.inner.AnswerRefs.{HasAssignment, KeepsAnswer, RefersTo, IsMatchRef, AreMatchRefs, assignment_at, line_by_ref}
+use Rattle.attr_search.specs.inner.AnswerRefs.{HasItem, KeepsAnswer, RefersTo, IsMatchRef, AreMatchRefs, item_at, line_by_ref}
 use Rattle.attr_search.specs.inner.AnswerRefs.{match_by_ref, matches_by_ref}
 use Rattle.attr_search.specs.Slots.{Matched, filled_in, slots_of}
 use Rattle.attr_search.specs.inner.PartsContents.{PartsContent, KeepsOneMore, KeepsParts}
 use Rattle.attr_lists.specs.declared.types.TrackedAssignment.{TrackedAssignment}
-use Rattle.attr_text.specs.declared.assignment.Assignment.{Assignment}
-use Rattle.attr_lists.specs.declared.types.MatchKind.{MatchKind}
 use Rattle.attr_search.specs.declared.matching_line.MatchingLine.{MatchingLine}
 use Rattle.attr_search.specs.declared.pending_item.PendingItem.{PendingItem}
 use Rattle.attr_search.specs.inner.Pending.{items_beside, line_origin, no_item, pending_item}
@@ -222,24 +219,24 @@ pub filled_seen : (store : PartsContent) (slots : List (Option MatchRef)) → le
 filled_seen store (t ∷ slots) = grind (arith, filled_seen store slots)
 filled_seen store [] = refl
 
--- an answer is kept whose line and assignment are
-pub answer_kept : (line : MatchingLine) (top : PendingItem) (kind : MatchKind) (before after : PartsContent) (l i : ℕ) →
-    cause_of kind ≡ top.cause → KeepsParts before after → KeepsOneMore before after → after.line ≡ Some l →
-    slice_get after.lines l ≡ Some (line_origin line) → HasAssignment after top.cause i →
-    assignment_at after top.cause i ≡ (pending_item line.items.now before.bodies top).inner →
-    KeepsAnswer line top kind before after (record { line = l; assignment = i; kind = kind })
-answer_kept line top kind before after l i cause extends more handed found has same = grind (arith, get_or_from_slice_get, slice_get_within)
+-- an answer is kept whose line and item are
+pub answer_kept : (line : MatchingLine) (top : PendingItem) (before after : PartsContent) (l i : ℕ) →
+    KeepsParts before after → KeepsOneMore before after → after.line ≡ Some l →
+    slice_get after.lines l ≡ Some (line_origin line) → HasItem after top.cause i →
+    item_at after top.cause i ≡ pending_item line.items.now before.bodies top →
+    KeepsAnswer line top before after (record { line = l; cause = top.cause; item = i })
+answer_kept line top before after l i extends more handed found has same = grind (arith, get_or_from_slice_get, slice_get_within)
 
 -- an item of a body is there
 pub body_has : (items : List TrackedAssignment) (after : PartsContent) (cause : Option ℕ) (index : ℕ) → is_some cause ≡ true →
-    index < length (items_beside items after.bodies cause) → HasAssignment after cause index ×
-    (assignment_at after cause index ≡ (get_or (items_beside items after.bodies cause) index no_item).inner)
+    index < length (items_beside items after.bodies cause) → HasItem after cause index ×
+    (item_at after cause index ≡ get_or (items_beside items after.bodies cause) index no_item)
 body_has items after cause index some inside = grind arith
 
 -- and an item of the line that was kept
 pub own_has : (items : List TrackedAssignment) (bodies : List (List TrackedAssignment)) (after : PartsContent) (cause : Option ℕ) (index : ℕ)
-    (item : TrackedAssignment) (own : Assignment) (before : List Assignment) → is_some cause ≡ false →
-    index < length (items_beside items bodies cause) → item ≡ get_or items index item → own ≡ item.inner →
-    after.assignments ≡ before ++ own ∷ [] → HasAssignment after cause (length before) ×
-    (assignment_at after cause (length before) ≡ (get_or (items_beside items bodies cause) index no_item).inner)
+    (item own : TrackedAssignment) (before : List TrackedAssignment) → is_some cause ≡ false →
+    index < length (items_beside items bodies cause) → item ≡ get_or items index item → own ≡ item →
+    after.items ≡ before ++ own ∷ [] → HasItem after cause (length before) ×
+    (item_at after cause (length before) ≡ get_or (items_beside items bodies cause) index no_item)
 own_has items bodies after cause index item own before none inside is same pushed = grind (arith, length-append, get_or-append_seam, get_or_default)

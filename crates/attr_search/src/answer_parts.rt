@@ -1,46 +1,49 @@
-//! The parts of answers: the lines that have answered, the assignments of their items, and the bodies of macros. What is kept
-//! has an index among those of its kind, from 0.
+//! The parts of answers: the lines that have answered, their items, and the bodies of macros. What is kept has an index
+//! among those of its kind, from 0.
 
 ghost use Rattle.std.specs.Prelude.{◌≡◌, ◌<◌, ◌≤◌, ◌+◌, [], ⊤, All, None, Some, IfOk, MatchOption, OnErr, OnOk, length, option_map, slice_get, string_bytes};
 ghost use Rattle.std.specs.Option.{option_copied};
-ghost use Rattle.attr_search.specs.Matches.{cause_of, match_view};
-ghost use Rattle.attr_search.specs.inner.AnswerRefs.{HasAssignment, IsMatchRef, KeepsAnswer, RefersTo, assignment_at, match_by_ref};
+ghost use Rattle.attr_search.specs.Matches.{cause_of, is_macro_kind, match_view};
+ghost use Rattle.attr_search.specs.inner.AnswerRefs.{HasItem, IsMatchRef, KeepsAnswer, RefersTo, item_at, match_by_ref};
 ghost use Rattle.attr_search.specs.shared.BodyChanges.{changed_bodies, sized_bodies};
 ghost use Rattle.attr_search.specs.inner.PartsContents.{Grows};
 ghost use Rattle.attr_search.specs.inner.PartsView.{origins};
 ghost use Rattle.attr_search.specs.inner.Pending.{IsInside, line_origin};
 ghost use Rattle.attr_search.specs.shared.Slotted.{bodies_view};
 
-use crate::bodies::{self, BodyChange};
+use crate::bodies::{self, BodyChange, body_at, body_of};
 use crate::matching_line::{AnsweringLine, MatchingLine};
-use crate::pending_item::{PendingItem, body_of};
-use attr_lists::types::{Match, MatchKind, MatchLocation, TrackedAssignment};
+use crate::pending_item::PendingItem;
+use attr_lists::types::{
+    AttributeId, Match, MatchKind, MatchLocation, Metadata, TrackedAssignment,
+};
 use attr_text::Assignment;
 use std::alloc::{AllocError, Global};
 use std::marker::Model;
+use std::rc::Rc;
 
-/// Where the parts of an answer are in [`AnswerParts`], and whether it is of a macro and caused by one.
+/// Where the parts of an answer are in [`AnswerParts`].
 #[derive(Clone, Copy)]
 pub struct MatchRef {
     /// The index of the line.
     pub line: usize,
-    /// The index of the assignment: among those that are kept, or in the body of the macro that expanded to it.
-    pub assignment: usize,
-    /// Whether the attribute is a macro, and which macro expanded to it.
-    pub kind: MatchKind,
+    /// The number of the macro that expanded to the item, none if the line itself has it.
+    pub cause: Option<usize>,
+    /// The index of the item: in the body of that macro, or among those that are kept.
+    pub item: usize,
 }
 
-/// The lines that have answered, the assignments of their items, and the bodies of macros. A line is kept once, whatever
-/// it answers. An item of a body is there already, so an answer by it keeps no assignment. An answer by an item of a line
-/// keeps its own, which shares its texts with the item.
+/// The lines that have answered, their items, and the bodies of macros. A line is kept once, whatever it answers. An item
+/// of a body is there already, so an answer by it keeps no item. An answer by an item of a line keeps a copy, which shares its texts
+/// with that one.
 #[derive(Drop)]
 pub struct AnswerParts {
     lines: Vec<AnsweringLine>,
     // The index of the line at hand. None until it has answered.
     line: Option<usize>,
-    assignments: Vec<Assignment>,
-    // The body of each attribute, by number: empty if it is no macro.
-    bodies: Vec<Vec<TrackedAssignment>>,
+    items: Vec<TrackedAssignment>,
+    // The definition of each attribute as a macro, by number.
+    bodies: Vec<Option<Rc<Metadata>>>,
 }
 
 impl Model for AnswerParts {
@@ -54,56 +57,51 @@ impl Model for AnswerParts {
 }
 
 impl AnswerParts {
-    /// No lines, assignments and bodies. It takes no memory.
+    /// No lines, items and bodies. It takes no memory.
     pub fn new(alloc: Global) -> AnswerParts
-        ensures { result ≡ record { lines = []; line = None; assignments = []; bodies = [] } }
+        ensures { result ≡ record { lines = []; line = None; items = []; bodies = [] } }
     {
         AnswerParts {
             lines: Vec::new(alloc),
             line: None,
-            assignments: Vec::new(alloc),
+            items: Vec::new(alloc),
             bodies: Vec::new(alloc),
         }
     }
 
-    /// Keeps or makes a body for each number below a count, and changes some of these. Forgets lines and assignments.
+    /// Keeps or makes a body for each number below a count, and changes some of these. Forgets lines and items.
     ///
     /// # Errors
     ///
     /// If memory runs out. Nothing changes then.
-    pub fn set_up(
-        &mut self,
-        alloc: Global,
-        count: usize,
-        changes: Vec<BodyChange>,
-    ) -> Result<(), AllocError>
+    pub fn set_up(&mut self, count: usize, changes: Vec<BodyChange>) -> Result<(), AllocError>
         requires { All (λ change. change.number < count) changes.items }
         ensures ok { OnOk result (self.new ≡ record {
           lines = [];
           line = None;
-          assignments = [];
+          items = [];
           bodies = changed_bodies changes.items (sized_bodies count self.old.bodies);
         }) }
         ensures refused { OnErr result (self.new ≡ self.old) }
     {
-        bodies::grow(alloc, &mut self.bodies, count)?;
+        bodies::grow(&mut self.bodies, count)?;
         self.bodies.truncate(count);
         bodies::change(&mut self.bodies, changes);
         self.keep_none();
         Ok(())
     }
 
-    /// Forgets lines and assignments: no answer refers to them any more. It takes no memory.
+    /// Forgets lines and items: no answer refers to them any more. It takes no memory.
     pub fn keep_none(&mut self)
-        ensures { self.new ≡ record self.old { lines = []; line = None; assignments = [] } }
+        ensures { self.new ≡ record self.old { lines = []; line = None; items = [] } }
     {
         self.lines.clear();
         self.line = None;
-        self.assignments.clear();
+        self.items.clear();
     }
 
-    /// The body of each attribute, by number: empty if it is no macro.
-    pub fn bodies(&self) -> &[Vec<TrackedAssignment>]
+    /// The definition of each attribute as a macro, by number.
+    pub fn bodies(&self) -> &[Option<Rc<Metadata>>]
         ensures { bodies_view result.now ≡ self.now.bodies }
     {
         &self.bodies
@@ -117,7 +115,7 @@ impl AnswerParts {
     }
 
     /// Keeps the parts of an answer by an item of the line at hand, or of a body to which that line leads, and tells where
-    /// they are. It keeps at most one line and one assignment more.
+    /// they are. It keeps at most one line and one item more.
     ///
     /// # Errors
     ///
@@ -127,12 +125,10 @@ impl AnswerParts {
         alloc: Global,
         line: MatchingLine<'_>,
         top: PendingItem,
-        kind: MatchKind,
     ) -> Result<MatchRef, AllocError>
         requires inside { IsInside line.items.now self.old.bodies top }
-        requires cause { cause_of kind ≡ top.cause }
         requires line { MatchOption self.old.line ⊤ (λ l. RefersTo self.old l (line_origin line)) }
-        ensures kept { IfOk result (KeepsAnswer line.entry top kind self.old self.new) }
+        ensures kept { IfOk result (KeepsAnswer line.entry top self.old self.new) }
         ensures refused { OnErr result (self.new ≡ self.old) }
     {
         if top.cause.is_some() {
@@ -140,28 +136,28 @@ impl AnswerParts {
             self.line = Some(kept);
             return Ok(MatchRef {
                 line: kept,
-                assignment: top.index,
-                kind,
+                cause: top.cause,
+                item: top.index,
             });
         }
-        let own = line.items[top.index].inner.clone(alloc)?;
-        self.assignments.reserve(1)?;
+        let own = line.items[top.index].clone(alloc)?;
+        self.items.reserve(1)?;
         let kept = keep_line(&mut self.lines, self.line, line)?;
         self.line = Some(kept);
-        let assignment = self.assignments.len();
-        self.assignments.push_reserved(own);
+        let item = self.items.len();
+        self.items.push_reserved(own);
         Ok(MatchRef {
             line: kept,
-            assignment,
-            kind,
+            cause: top.cause,
+            item,
         })
     }
 
-    /// How many lines and assignments are kept.
+    /// How many lines and items are kept.
     pub fn kept(&self) -> usize
-        ensures { result ≡ length self.now.lines + length self.now.assignments }
+        ensures { result ≡ length self.now.lines + length self.now.items }
     {
-        self.lines.len() + self.assignments.len()
+        self.lines.len() + self.items.len()
     }
 
     /// A copy, which shares the indexes of the lines. Each part has the same index in it.
@@ -175,7 +171,7 @@ impl AnswerParts {
         Ok(AnswerParts {
             lines: copy_of_lines(alloc, &self.lines)?,
             line: self.line,
-            assignments: copy_of_assignments(alloc, &self.assignments)?,
+            items: copy_of_items(alloc, &self.items)?,
             bodies: bodies::copy_of_bodies(alloc, &self.bodies)?,
         })
     }
@@ -189,10 +185,12 @@ impl AnswerParts {
         let answered = &self.lines[found.line];
         let index = answered.index.as_ref();
         let line = &index.lines[answered.line];
+        let item = self.item(found);
+        let is_macro = !body_at(&self.bodies, item.id.0).is_empty();
         Match {
             pattern: &line.pattern,
-            assignment: self.assignment_at(found.kind, found.assignment).as_ref(),
-            kind: found.kind,
+            assignment: item.inner.as_ref(),
+            kind: kind_of(is_macro, found.cause),
             location: MatchLocation {
                 source: text_of(&index.source),
                 sequence_number: line.number,
@@ -205,17 +203,36 @@ impl AnswerParts {
         requires { IsMatchRef self.now found }
         ensures { result.now ≡ (match_by_ref self.now found).assignment }
     {
-        self.assignment_at(found.kind, found.assignment)
+        &self.item(found).inner
     }
 
-    fn assignment_at(&self, kind: MatchKind, index: usize) -> &Assignment
-        requires { HasAssignment self.now (cause_of kind) index }
-        ensures { result.now ≡ assignment_at self.now (cause_of kind) index }
+    // The item that answers.
+    fn item(&self, found: MatchRef) -> &TrackedAssignment
+        requires { HasItem self.now found.cause found.item }
+        ensures { result.now ≡ item_at self.now found.cause found.item }
     {
-        match kind.source_id() {
-            None => &self.assignments[index],
-            Some(id) => &body_of(&self.bodies, id.0)[index].inner,
+        match found.cause {
+            None => &self.items[found.item],
+            Some(number) => &body_of(&self.bodies, number)[found.item],
         }
+    }
+}
+
+// Whether a matched attribute is a macro, and which macro expanded to it.
+fn kind_of(is_macro: bool, cause: Option<usize>) -> MatchKind
+    ensures kind { is_macro_kind result ≡ is_macro }
+    ensures cause { cause_of result ≡ cause }
+{
+    let cause = match cause {
+        Some(number) => Some(AttributeId(number)),
+        None => None,
+    };
+    if is_macro {
+        MatchKind::Macro {
+            parent_macro_id: cause,
+        }
+    } else {
+        MatchKind::Attribute { macro_id: cause }
     }
 }
 
@@ -266,15 +283,15 @@ fn copy_of_lines(alloc: Global, lines: &[AnsweringLine]) -> Result<Vec<Answering
     Ok(copy)
 }
 
-fn copy_of_assignments(
+fn copy_of_items(
     alloc: Global,
-    assignments: &[Assignment],
-) -> Result<Vec<Assignment>, AllocError>
-    ensures { IfOk result (λ copy. copy.items ≡ assignments.now) }
+    items: &[TrackedAssignment],
+) -> Result<Vec<TrackedAssignment>, AllocError>
+    ensures { IfOk result (λ copy. copy.items ≡ items.now) }
 {
-    let mut copy = Vec::with_capacity(alloc, assignments.len())?;
-    for assignment in assignments {
-        copy.push(assignment.clone(alloc)?)?;
+    let mut copy = Vec::with_capacity(alloc, items.len())?;
+    for item in items {
+        copy.push(item.clone(alloc)?)?;
     }
     Ok(copy)
 }

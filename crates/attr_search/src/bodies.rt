@@ -1,72 +1,75 @@
-//! What attributes are as macros: their bodies, by number.
+//! What attributes are as macros: their definitions, by number. A definition is shared with the collection by a count.
 
-ghost use Rattle.std.specs.Prelude.{◌≡◌, ◌<◌, ◌-◌, ◌++◌, [], All, IfOk, OnErr, OnOk, length, replicate};
-ghost use Rattle.attr_search.specs.shared.BodyChanges.{changed_bodies, sized_bodies};
+ghost use Rattle.std.specs.Prelude.{◌≡◌, ◌<◌, ◌-◌, ◌++◌, [], All, IfOk, OnErr, OnOk, length, replicate, slice_index_or};
+ghost use Rattle.attr_search.specs.shared.BodyChanges.{changed_bodies};
 ghost use Rattle.attr_search.specs.shared.Slotted.{bodies_view};
 
-use attr_lists::types::TrackedAssignment;
+use attr_lists::types::{Metadata, TrackedAssignment};
 use std::alloc::{AllocError, Global};
+use std::rc::Rc;
 
-/// The body that an attribute gets in place of its own, which may be empty.
+/// The definition that an attribute gets in place of its own, if it gets one.
 #[derive(Drop)]
 pub struct BodyChange {
     pub number: usize,
-    pub body: Vec<TrackedAssignment>,
+    pub body: Option<Rc<Metadata>>,
 }
 
-/// A copy of a body.
-///
-/// # Errors
-///
-/// If memory runs out.
-pub fn copy_of_body(
-    alloc: Global,
-    body: &[TrackedAssignment],
-) -> Result<Vec<TrackedAssignment>, AllocError>
-    ensures { IfOk result (λ copy. copy.items ≡ body.now) }
+/// The body of the attribute with this number, which is empty if it is no macro.
+pub fn body_of(bodies: &[Option<Rc<Metadata>>], number: usize) -> &[TrackedAssignment]
+    requires { number < length bodies.now }
+    ensures { result.now ≡ slice_index_or (bodies_view bodies.now) number [] }
 {
-    let mut copy = Vec::new(alloc);
-    for item in body {
-        copy.push(item.clone(alloc)?)?;
+    match &bodies[number] {
+        Some(known) => known.macro_attributes.as_slice(),
+        None => &[],
     }
-    Ok(copy)
 }
 
-/// Copies of bodies, of which the empty ones take no memory of their own.
+/// The same, and empty past the last attribute.
+pub fn body_at(bodies: &[Option<Rc<Metadata>>], number: usize) -> &[TrackedAssignment]
+    ensures { result.now ≡ slice_index_or (bodies_view bodies.now) number [] }
+{
+    match bodies.get(number) {
+        Some(_) => body_of(bodies, number),
+        None => &[],
+    }
+}
+
+/// The same definitions, of which each is shared once more.
 ///
 /// # Errors
 ///
 /// If memory runs out.
 pub fn copy_of_bodies(
     alloc: Global,
-    bodies: &[Vec<TrackedAssignment>],
-) -> Result<Vec<Vec<TrackedAssignment>>, AllocError>
+    bodies: &[Option<Rc<Metadata>>],
+) -> Result<Vec<Option<Rc<Metadata>>>, AllocError>
     ensures { IfOk result (λ copy. bodies_view copy.items ≡ bodies_view bodies.now) }
 {
-    let mut copy = Vec::new(alloc);
+    let mut copy = Vec::with_capacity(alloc, bodies.len())?;
     for body in bodies {
-        copy.push(copy_of_body(alloc, body)?)?;
+        match body {
+            Some(known) => copy.push(Some(known.clone()?))?,
+            None => copy.push(None)?,
+        }
     }
     Ok(copy)
 }
 
-/// Appends empty bodies, until there are as many as the count if there were fewer.
+/// Appends places without a definition, until there are as many as the count if there were fewer.
 ///
 /// # Errors
 ///
 /// If memory runs out. The bodies are as they were then.
-pub fn grow(
-    alloc: Global,
-    bodies: &mut Vec<Vec<TrackedAssignment>>,
-    count: usize,
-) -> Result<(), AllocError>
+pub fn grow(bodies: &mut Vec<Option<Rc<Metadata>>>, count: usize) -> Result<(), AllocError>
     ensures ok { OnOk result (bodies_view bodies.new.items
         ≡ bodies_view bodies.old.items ++ replicate (count - length bodies.old.items) []) }
     ensures refused { OnErr result (bodies.new.items ≡ bodies.old.items) }
 {
     let before = bodies.len();
     for _ in before..count {
-        if bodies.push(Vec::new(alloc)).is_err() {
+        if bodies.push(None).is_err() {
             bodies.truncate(before);
             return Err(AllocError);
         }
@@ -75,7 +78,7 @@ pub fn grow(
 }
 
 /// Changes bodies, one after the other.
-pub fn change(bodies: &mut Vec<Vec<TrackedAssignment>>, changes: Vec<BodyChange>)
+pub fn change(bodies: &mut Vec<Option<Rc<Metadata>>>, changes: Vec<BodyChange>)
     requires { All (λ change. change.number < length bodies.old.items) changes.items }
     ensures { bodies_view bodies.new.items
         ≡ changed_bodies changes.items (bodies_view bodies.old.items) }

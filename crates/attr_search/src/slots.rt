@@ -20,10 +20,11 @@ mod filling;
 use crate::answer_parts::{AnswerParts, MatchRef};
 use crate::bodies::BodyChange;
 use crate::wanted::WantedFlags;
-use attr_lists::types::{Match, TrackedAssignment};
+use attr_lists::types::{Match, Metadata, TrackedAssignment};
 use attr_text::Assignment;
 use std::alloc::{AllocError, Global};
 use std::marker::Model;
+use std::rc::Rc;
 
 /// A slot and a body for each attribute, which slots are wanted and which are needed, and the counts of the last search. A wanted slot
 /// is needed.
@@ -89,7 +90,6 @@ impl AnswerSlots {
     /// If memory runs out. Nothing changes then.
     pub fn set_up(
         &mut self,
-        alloc: Global,
         wanted: WantedFlags,
         needed: WantedFlags,
         changes: Vec<BodyChange>,
@@ -110,7 +110,7 @@ impl AnswerSlots {
             &mut self.is_wanted,
             count,
         )?;
-        if self.parts.set_up(alloc, count, changes).is_err() {
+        if self.parts.set_up(count, changes).is_err() {
             self.slots.truncate(before);
             self.is_open.truncate(before);
             self.is_wanted.truncate(before);
@@ -131,8 +131,8 @@ impl AnswerSlots {
         Ok(())
     }
 
-    /// The body of each attribute, by number: empty if it is no macro.
-    pub fn bodies(&self) -> &[Vec<TrackedAssignment>]
+    /// The definition of each attribute as a macro, by number.
+    pub fn bodies(&self) -> &[Option<Rc<Metadata>>]
         ensures bodies { bodies_view result.now ≡ self.now.bodies }
         ensures len { length result.now ≡ length self.now.answers }
     {
@@ -237,7 +237,7 @@ impl AnswerSlots {
         self.remaining == 0
     }
 
-    /// How many lines and assignments are kept for the answers: at most one of each for an answer.
+    /// How many lines and items are kept for the answers: at most one of each for an answer.
     pub fn kept(&self) -> usize
         ensures kept { result ≡ self.now.kept }
         ensures few { self.now.kept ≤ 2 * length (filled_in self.now.answers) }

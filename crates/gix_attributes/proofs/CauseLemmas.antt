@@ -1,6 +1,6 @@
 -- After a search from nothing, the macro whose body has the item of an answer has its answer too.
 use Rattle.std.proofs.lemmas.Bool.Decides.{nat_tests}
-use Rattle.std.proofs.Common.{arith, ◌≡◌, Bool, get_or, slice_get, true, ℕ, ◌⊎◌, List, Option, Some, None, refl, ⊎_elim, sym, ap, ◌∙◌, subst}
+use Rattle.std.proofs.Common.{arith, ◌≡◌, Bool, get_or, slice_get, true, ℕ, List, Option, Some, None, refl, ⊎_elim, sym, ap, ◌∙◌, subst}
 use Rattle.std.specs.Prelude.{option_and_then, option_map}
 use Rattle.std.proofs.lemmas.Option.{get_or_from_slice_get, slice_get_within}
 use Rattle.attr_table.specs.Setting.{Answer, Item, Setting, body_of}

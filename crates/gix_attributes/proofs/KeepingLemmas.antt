@@ -1,6 +1,6 @@
 -- What additions and removals keep, and what a collection registers after them.
 use Rattle.std.proofs.lemmas.Bool.Decides.{nat_tests}
-use Rattle.std.proofs.Common.{◌≡◌, ◌≢◌, ◌∙◌, ℕ, suc, ◌+◌, ◌-◌, ◌<◌, true, false, eqb, List, [], ◌∷◌, ◌++◌, length, get_or, map, All}
+use Rattle.std.proofs.Common.{◌≡◌, ◌≢◌, ◌∙◌, ℕ, suc, ◌-◌, ◌<◌, false, eqb, List, [], ◌∷◌, ◌++◌, length, get_or, map, All}
 use Rattle.std.proofs.Common.{nat_eq, eq-eqb, slice_get, Option, Some, option_map, unwrap_or, refl, sym, ap, subst, append_assoc, arith}
 use Rattle.std.specs.List.{IsDistinct, range_with_len}
 use Rattle.std.proofs.lemmas.Bool.{cases_Bool, cond-true, cond-false, true≢false}

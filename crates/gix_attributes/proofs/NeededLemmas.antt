@@ -1,6 +1,6 @@
 -- Marks of attributes, and the items of one attribute.
 use Rattle.std.proofs.lemmas.Grind.{common_steps}
-use Rattle.std.proofs.Common.{◌≡◌, ◌≢◌, ◌⊎◌, ◌==◌, ◌||◌, ℕ, suc, ◌+◌, ◌-◌, ◌<◌, ◌≤◌, Bool, true, false, not, cond}
+use Rattle.std.proofs.Common.{◌≡◌, ◌≢◌, ◌==◌, ◌||◌, ℕ, suc, ◌+◌, ◌-◌, ◌<◌, ◌≤◌, Bool, true, false, not, cond}
 use Rattle.std.proofs.Common.{List, [], ◌∷◌, ◌++◌, length, get_or, set, take, drop, replicate, BTreeSet}
 use Rattle.std.proofs.Common.{Option, Some, None, ⊎_elim, inl, inr, sym, ap, ◌∙◌, subst, leb, ltb, arith}
 use Rattle.std.specs.Prelude.{All, MatchOption, ⊤, option_map, unwrap_or}

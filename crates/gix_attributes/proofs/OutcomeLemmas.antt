@@ -1,6 +1,6 @@
 -- What initialising leaves is consistent, and what is wanted of it.
 use Rattle.std.proofs.lemmas.Bool.Decides.{nat_tests}
-use Rattle.std.proofs.Common.{◌≡◌, ℕ, zero, suc, ◌+◌, ◌<◌, ◌≤◌, Bool, true, false, cond, List, [], ◌∷◌, length, get_or, drop, map, filter}
+use Rattle.std.proofs.Common.{◌≡◌, ℕ, zero, suc, ◌+◌, ◌<◌, ◌≤◌, Bool, true, cond, List, [], ◌∷◌, length, get_or, drop, map, filter}
 use Rattle.std.proofs.Common.{is_some, All, Option, None, MatchOption, refl, sym, ap, ◌∙◌, ◌-◌, arith}
 use Rattle.std.specs.Bool.{⊤}
 use Rattle.std.specs.List.{range_with_len}

@@ -13,7 +13,6 @@ use crate::pattern::{Case, same_text, without_end};
 use crate::search;
 pub use crate::search::pattern::index::Index;
 pub use crate::search::pattern::indexed_line::IndexedLine;
-use attr_keys::key::{Key, Keyed};
 use bstr::BStr;
 use std::alloc::{AllocError, Global};
 
@@ -46,17 +45,6 @@ impl<V: Clone> Mapping<V> {
             value: self.value.clone()?,
             sequence_number: self.sequence_number,
         })
-    }
-}
-
-impl<V> Keyed for Mapping<V> {
-    ghost use Rattle.attr_glob.specs.shared.LineShapes.{key_of_pattern};
-
-    ghost content = { λ mapping. key_of_pattern mapping.pattern };
-
-    #[inline]
-    fn key(&self) -> Key<'_> {
-        self.pattern.key()
     }
 }
 

@@ -1,9 +1,9 @@
 //! The entries of names: their definitions as macros.
-ghost use Rattle.std.specs.Prelude.{◌≡◌, ◌≤◌, ◌==◌, not, filter, ◌++◌, [], ◌∷◌, ℕ, length, map, IfOk, OnOk, OnErr};
+ghost use Rattle.std.specs.Prelude.{◌≡◌, ◌≤◌, ◌==◌, not, filter, ◌++◌, [], ◌∷◌, ℕ, length, map, option_map, IfOk, IfSome, OnOk, OnErr};
 ghost use Rattle.std.specs.Bool.{OnFalse};
 ghost use Rattle.std.specs.List.{remove_range};
 ghost use Rattle.std.specs.List.Sorted.{IsNonDecreasingBy};
-ghost use Rattle.attr_lists.specs.Definitions.{definition_of, of_other_lists, last_body};
+ghost use Rattle.attr_lists.specs.Definitions.{definition_of, of_other_lists, last_body, last_defined};
 ghost use Rattle.attr_lists.specs.inner.EntrySteps.{DefinesMacros, RemovesAt, RemovesFrom, RemovesListed};
 ghost use Rattle.attr_lists.specs.inner.EntryViews.{definition_view, definitions_view, all_definitions, definitions_at, AreAllInOrder, AreEntries, AreInListOrder, IsEntry};
 ghost use Rattle.attr_lists.specs.inner.Registered.{numbered_body};
@@ -51,6 +51,17 @@ impl NameEntry {
             Some(definition) => definition.metadata.as_ref(),
             None => &self.undefined,
         }
+    }
+
+    /// The last definition, if there is one.
+    pub(super) fn definition(&self) -> Option<&Rc<Metadata>>
+        ensures id { (number : ℕ) → IsEntry number self.now →
+            IfSome result (λ known. known.now.value.id.0 ≡ number) }
+        ensures body { option_map (λ known. known.now.value.macro_attributes.items) result
+            ≡ last_defined (definitions_view self.now) }
+    {
+        let definition = self.definitions.last()?;
+        Some(&definition.metadata)
     }
 
     /// Whether there is a definition.

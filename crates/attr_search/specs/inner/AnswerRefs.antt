@@ -1,14 +1,13 @@
 -- Answers by the indexes of their parts in what is kept (own).
-use Rattle.std.specs.Prelude.{◌≡◌, ℕ, ⊤, ◌<◌, length, List, [], map, All, Option, None, Some, MatchOption, option_map, slice_get, slice_index_or}
-use Rattle.attr_text.specs.declared.assignment.Assignment.{Assignment}
+use Rattle.std.specs.Prelude.{◌≡◌, ◌==◌, ℕ, ⊤, ◌<◌, not, length, List, [], map, All, Option, None, Some, MatchOption, option_map, slice_get}
+use Rattle.std.specs.Prelude.{slice_index_or}
+use Rattle.attr_lists.specs.declared.types.TrackedAssignment.{TrackedAssignment}
 use Rattle.attr_table.specs.Setting.{Origin}
 use Rattle.attr_search.specs.Slots.{Matched}
-use Rattle.attr_search.specs.Matches.{is_macro_kind, cause_of}
-use Rattle.attr_lists.specs.declared.types.MatchKind.{MatchKind}
 use Rattle.attr_search.specs.declared.matching_line.MatchingLine.{MatchingLine}
 use Rattle.attr_search.specs.declared.pending_item.PendingItem.{PendingItem}
-use Rattle.attr_search.specs.inner.Pending.{item_match, line_origin, no_item, pending_item}
-use Rattle.attr_search.specs.inner.PartsContents.{KeepsOneMore, KeepsParts, PartsContent, no_assignment}
+use Rattle.attr_search.specs.inner.Pending.{item_answer, line_origin, no_item, pending_item}
+use Rattle.attr_search.specs.inner.PartsContents.{KeepsOneMore, KeepsParts, PartsContent}
 use Rattle.attr_search.specs.shared.Slotted.{no_origin}
 use Rattle.attr_search.specs.declared.answer_parts.MatchRef.{MatchRef}
 
@@ -16,30 +15,34 @@ use Rattle.attr_search.specs.declared.answer_parts.MatchRef.{MatchRef}
 abbrev pub line_by_ref : PartsContent → ℕ → Origin
 line_by_ref parts l = slice_index_or parts.lines l no_origin
 
--- the assignment with an index: a kept one, or that of an item in the body of the macro that expanded to it
-abbrev pub assignment_at : PartsContent → Option ℕ → ℕ → Assignment
-assignment_at parts None index = slice_index_or parts.assignments index no_assignment
-assignment_at parts (Some cause) index = (slice_index_or (slice_index_or parts.bodies cause []) index no_item).inner
+-- the item with an index: a kept one, or one in the body of the macro that expanded to it
+abbrev pub item_at : PartsContent → Option ℕ → ℕ → TrackedAssignment
+item_at parts None index = slice_index_or parts.items index no_item
+item_at parts (Some cause) index = slice_index_or (slice_index_or parts.bodies cause []) index no_item
 
 -- there is one
-abbrev pub HasAssignment : PartsContent → Option ℕ → ℕ → Type 0
-HasAssignment parts None index = index < length parts.assignments
-HasAssignment parts (Some cause) index = index < length (slice_index_or parts.bodies cause [])
+abbrev pub HasItem : PartsContent → Option ℕ → ℕ → Type 0
+HasItem parts None index = index < length parts.items
+HasItem parts (Some cause) index = index < length (slice_index_or parts.bodies cause [])
+
+-- the answer by an item: its attribute is a macro if it has a body
+abbrev pub answer_by : PartsContent → Origin → Option ℕ → TrackedAssignment → Matched
+answer_by parts origin cause item =
+    record {
+      origin = origin;
+      assignment = item.inner;
+      is_macro = not (length (slice_index_or parts.bodies item.id.0 []) == 0);
+      cause = cause;
+    }
 
 -- what is kept of an answer
 abbrev pub match_by_ref : PartsContent → MatchRef → Matched
-match_by_ref parts m =
-    record {
-      origin = line_by_ref parts m.line;
-      assignment = assignment_at parts (cause_of m.kind) m.assignment;
-      is_macro = is_macro_kind m.kind;
-      cause = cause_of m.kind;
-    }
+match_by_ref parts m = answer_by parts (line_by_ref parts m.line) m.cause (item_at parts m.cause m.item)
 
 -- the indexes of an answer are in use
 pub record IsMatchRef (parts : PartsContent) (m : MatchRef) : Type 0 where
   pub line : m.line < length parts.lines
-  pub assignment : HasAssignment parts (cause_of m.kind) m.assignment
+  pub item : HasItem parts m.cause m.item
 
 -- a line is kept as this one
 abbrev pub RefersTo : PartsContent → ℕ → Origin → Type 0
@@ -53,9 +56,9 @@ abbrev pub AreMatchRefs : PartsContent → List (Option MatchRef) → Type 0
 AreMatchRefs parts slots = All (λ slot. MatchOption slot ⊤ (IsMatchRef parts)) slots
 
 -- the parts of an answer are kept, beside what was kept before
-pub record KeepsAnswer (line : MatchingLine) (top : PendingItem) (kind : MatchKind) (before after : PartsContent) (m : MatchRef) : Type 0 where
+pub record KeepsAnswer (line : MatchingLine) (top : PendingItem) (before after : PartsContent) (m : MatchRef) : Type 0 where
   pub extends : KeepsParts before after
   pub more : KeepsOneMore before after
   pub at_hand : MatchOption after.line ⊤ (λ l. RefersTo after l (line_origin line))
   pub within : IsMatchRef after m
-  pub found : match_by_ref after m ≡ item_match line (pending_item line.items.now before.bodies top) kind
+  pub found : match_by_ref after m ≡ item_answer line before.bodies (pending_item line.items.now before.bodies top) top.cause

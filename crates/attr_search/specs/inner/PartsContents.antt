@@ -1,16 +1,13 @@
--- What an outcome keeps for its answers: lines and assignments, by index, and the bodies of macros (own).
-use Rattle.std.specs.Prelude.{◌≡◌, ◌≤◌, ◌+◌, ℕ, List, [], ◌++◌, length, Option}
-use Rattle.attr_text.specs.declared.assignment.Assignment.{Assignment}
-use Rattle.attr_text.specs.declared.state.State.TheVariants.{Unspecified}
+-- What an outcome keeps for its answers: lines and items, by index, and the bodies of macros (own).
+use Rattle.std.specs.Prelude.{◌≡◌, ◌≤◌, ◌+◌, ℕ, List, ◌++◌, length, Option}
 use Rattle.attr_lists.specs.declared.types.TrackedAssignment.{TrackedAssignment}
 use Rattle.attr_table.specs.Setting.{Origin}
 
--- where the lines are that have answered, the index of the line at hand if it has, the assignments of lines' items, and the
--- bodies by number
+-- where the lines are that have answered, the index of the line at hand if it has, the items of lines, and the bodies by number
 pub record PartsContent : Type 0 where
   pub lines : List Origin
   pub line : Option ℕ
-  pub assignments : List Assignment
+  pub items : List TrackedAssignment
   pub bodies : List (List TrackedAssignment)
 
 -- a list may have more after what it had
@@ -20,14 +17,10 @@ Grows {X} old new = (more : List X) × (new ≡ old ++ more)
 -- what was kept keeps its index, and bodies stay
 pub record KeepsParts (old new : PartsContent) : Type 0 where
   pub lines : Grows old.lines new.lines
-  pub assignments : Grows old.assignments new.assignments
+  pub items : Grows old.items new.items
   pub bodies : new.bodies ≡ old.bodies
 
--- at most one line and one assignment more are kept
+-- at most one line and one item more are kept
 pub record KeepsOneMore (old new : PartsContent) : Type 0 where
   pub lines : length new.lines ≤ length old.lines + 1
-  pub assignments : length new.assignments ≤ length old.assignments + 1
-
--- the assignment past the last one
-abbrev pub no_assignment : Assignment
-no_assignment = record { name = []; state = Unspecified }
+  pub items : length new.items ≤ length old.items + 1

@@ -17,6 +17,6 @@ abbrev pub answer_parts_view : Inside → PartsContent
 answer_parts_view s = record {
   lines = origins s.lines.items;
   line = s.line;
-  assignments = s.assignments.items;
+  items = s.items.items;
   bodies = bodies_view s.bodies.items;
 }

@@ -1,25 +1,18 @@
 -- What waits on the stack of a search (own). Nothing here has to be believed.
-use Rattle.std.specs.Prelude.{◌≡◌, ◌==◌, ℕ, ◌<◌, not, List, [], ◌∷◌, ◌++◌, map, length, All, Option, Some, None, slice_index_or}
+use Rattle.std.specs.Prelude.{◌≡◌, ◌==◌, ℕ, ◌<◌, not, List, [], ◌∷◌, ◌++◌, length, All, Option, Some, None, slice_index_or}
 use Rattle.attr_text.specs.declared.state.State.TheVariants.{Unspecified}
-use Rattle.attr_lists.specs.declared.types.MatchKind.{MatchKind}
 use Rattle.attr_lists.specs.declared.types.TrackedAssignment.{TrackedAssignment}
 use Rattle.attr_table.specs.Setting.{Origin}
 use Rattle.attr_table.specs.Table.{Slots}
 use Rattle.attr_table.specs.shared.Walk.{Task, backwards, tasks_in, free_items}
 use Rattle.attr_search.specs.declared.pending_item.PendingItem.{PendingItem}
 use Rattle.attr_search.specs.declared.matching_line.MatchingLine.{MatchingLine}
-use Rattle.attr_search.specs.Matches.{is_macro_kind, cause_of}
 use Rattle.attr_search.specs.Slots.{Matched, table_item, table_items}
 use Rattle.attr_search.specs.shared.Slotted.{index_origin}
 
 -- the line that a match refers to
 abbrev pub line_origin : MatchingLine → Origin
 line_origin line = index_origin line.index.now.value line.line
-
--- the match by an item of a line, or of a body that the line leads to
-abbrev pub item_match : MatchingLine → TrackedAssignment → MatchKind → Matched
-item_match line item kind =
-    record { origin = line_origin line; assignment = item.inner; is_macro = is_macro_kind kind; cause = cause_of kind }
 
 -- the answer by an item of a line, or of a cause's body: its attribute is a macro if it has a body
 abbrev pub item_answer : MatchingLine → List (List TrackedAssignment) → TrackedAssignment → Option ℕ → Matched

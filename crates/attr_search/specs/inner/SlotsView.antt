@@ -19,7 +19,7 @@ slots_view b =
       needed = b.needed;
       line = option_map (line_by_ref b.parts) b.parts.line;
       bodies = b.parts.bodies;
-      kept = length b.parts.lines + length b.parts.assignments;
+      kept = length b.parts.lines + length b.parts.items;
       taken = b.taken;
       tested = b.tested;
     }
@@ -57,6 +57,6 @@ pub record AreSoundSlots (b : Inside) : Type 0 where
   pub counted : b.remaining ≡ count_remaining b.wanted b.slots.items
   pub listed : AreListed b.slots.items b.filled.items
   pub ordered : b.is_ordered ≡ true → IsNonDecreasing b.filled.items
-  -- there are no more lines and assignments than answers
+  -- there are no more lines and items than answers
   pub few_lines : length b.parts.lines ≤ length (filled_in b.slots.items)
-  pub few_assignments : length b.parts.assignments ≤ length (filled_in b.slots.items)
+  pub few_items : length b.parts.items ≤ length (filled_in b.slots.items)

@@ -1,9 +1,11 @@
 -- Which attributes have slots, and views of lines and of bodies (own).
-use Rattle.std.specs.Prelude.{ℕ, List, [], map, All, Option, None, Vec, option_map, slice_index_or, string_bytes}
+use Rattle.std.specs.Prelude.{ℕ, List, [], map, All, Option, None, Some, option_map, slice_index_or, string_bytes}
 use Rattle.std.specs.Global.{Global}
+use Rattle.std.specs.declared.rc.Rc.{Rc}
 use Rattle.attr_glob.specs.declared.search.pattern.Mapping.{Mapping}
 use Rattle.attr_glob.specs.Views.{pattern_view}
 use Rattle.attr_lists.specs.ListViews.{Entry}
+use Rattle.attr_lists.specs.declared.types.Metadata.{Metadata}
 use Rattle.attr_lists.specs.declared.types.TrackedAssignment.{TrackedAssignment}
 use Rattle.attr_lists.specs.declared.types.Value.{Value as LineValue}
 use Rattle.attr_table.specs.Setting.{Origin}
@@ -52,6 +54,15 @@ abbrev pub index_origin : Index → ℕ → Origin
 index_origin index line =
     slice_index_or (map (indexed_origin (option_map string_bytes index.source)) index.lines.items) line no_origin
 
+-- what an attribute is as a macro, if it is one, shared by a count
+abbrev pub SharedBody : Type 0
+SharedBody = Option (Rc Metadata Global)
+
+-- its items
+abbrev pub defined_items : SharedBody → List TrackedAssignment
+defined_items None = []
+defined_items (Some known) = known.value.macro_attributes.items
+
 -- the bodies by number
-abbrev pub bodies_view : List (Vec TrackedAssignment Global) → List (List TrackedAssignment)
-bodies_view bodies = map (λ body. body.items) bodies
+abbrev pub bodies_view : List SharedBody → List (List TrackedAssignment)
+bodies_view bodies = map defined_items bodies

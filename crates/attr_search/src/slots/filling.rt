@@ -11,8 +11,9 @@ ghost use Rattle.attr_search.specs.inner.Pending.{IsInside, PushesFree, PushesIn
 ghost use Rattle.attr_search.specs.inner.Searched.{KeepsState, SearchesPart};
 ghost use Rattle.attr_search.specs.inner.SlotsView.{BodiesFit};
 
+use crate::bodies::body_of;
 use crate::matching_line::MatchingLine;
-use crate::pending_item::{PendingItem, body_of};
+use crate::pending_item::PendingItem;
 use crate::slots::AnswerSlots;
 use attr_lists::types::TrackedAssignment;
 use attr_text::State;
@@ -130,10 +131,8 @@ impl AnswerSlots {
         ensures refused { OnErr result (self.new ≡ self.old) }
         ensures line { MatchOption self.new.line ⊤ (λ o. o ≡ line_origin line.entry) }
     {
-        let is_macro = !body_of(self.parts.bodies(), attribute).is_empty();
-        let kind = top.kind(is_macro);
         self.filled.reserve(1)?;
-        let found = self.parts.keep(alloc, line, top, kind)?;
+        let found = self.parts.keep(alloc, line, top)?;
         self.is_ordered = false;
         self.filled.push_reserved(attribute);
         self.remaining -= usize::from(self.is_wanted[attribute]);

@@ -11,6 +11,7 @@ ghost use Rattle.std.specs.List.{IsDistinct, list_any};
 ghost use Rattle.gix_attributes.specs.SearchViews.{Holds};
 ghost use Rattle.attr_search.specs.IndexedLists.{list_ids_of};
 ghost use Rattle.attr_search.specs.shared.ReadLines.{AreRead};
+ghost use Rattle.attr_search.specs.shared.Slotted.{defined_items};
 ghost use Rattle.attr_search.specs.ListView.{list_view};
 ghost use Rattle.attr_search.specs.Settings.{LinesAreNamed};
 ghost use Rattle.gix_attributes.specs.Keeping.{KeepsSearches, RegistersLast};
@@ -25,13 +26,14 @@ use attr_glob::search::pattern::{List, Mapping};
 use attr_lists::known_texts::KnownTexts;
 use attr_lists::name_table::{NameTable, Names};
 use attr_lists::parser::{macros_valid, read_buffer};
-use attr_lists::types::{Assignments, AttributeId, Attributes, Dropped, Value};
+use attr_lists::types::{Assignments, AttributeId, Attributes, Dropped, Metadata, Value};
 use attr_search::indexed_list::IndexedList;
 use attr_search::indexed_lists::IndexedLists;
 use std::alloc::{AllocError, Global};
 use std::collections::BTreeSet;
 use std::marker::Model;
 use std::mem;
+use std::rc::Rc;
 
 /// The attributes of the lists of searches: each name with its number, and the definitions of macros.
 ///
@@ -96,6 +98,16 @@ impl MetadataCollection {
         match self.numbering.metadata(number) {
             Some(metadata) => &metadata.macro_attributes,
             None => unreachable!(),
+        }
+    }
+
+    // The last definition of the name with this number, shared once more. None if there is none.
+    pub(crate) fn share_definition(&self, number: usize) -> Result<Option<Rc<Metadata>>, AllocError>
+        ensures { IfOk result (λ known. defined_items known ≡ macro_body self.now number) }
+    {
+        match self.numbering.definition(number) {
+            Some(known) => Ok(Some(known.clone()?)),
+            None => Ok(None),
         }
     }
 

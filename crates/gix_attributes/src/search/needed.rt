@@ -7,11 +7,12 @@ ghost use Rattle.gix_attributes.specs.inner.Consistency.{AreEmptyElsewhere};
 ghost use Rattle.gix_attributes.specs.inner.Needed.{AreClosedBut, AreOwnersOf, AreOwnersSet, HasOwners, IsClosedOver, IsFlagSet, IsMarked, SetsOnly, body_item, items_with};
 ghost use Rattle.attr_search.specs.shared.Slotted.{bodies_view};
 
-use crate::search::TrackedAssignment;
-use crate::search::selection::body_at;
+use crate::search::{Metadata, TrackedAssignment};
+use attr_search::bodies::body_at;
 use attr_search::wanted::WantedFlags;
 use std::alloc::{AllocError, Global};
 use std::collections::BTreeSet;
+use std::rc::Rc;
 
 /// An item of a macro's body: its attribute, and the macro.
 #[derive(Clone, Copy)]
@@ -35,7 +36,7 @@ impl Owners {
     /// If memory runs out.
     pub(crate) fn of(
         alloc: Global,
-        bodies: &[Vec<TrackedAssignment>],
+        bodies: &[Option<Rc<Metadata>>],
         macros: &BTreeSet<usize>,
     ) -> Result<Owners, AllocError>
         requires { AreEmptyElsewhere macros.now (bodies_view bodies.now) }
@@ -78,7 +79,7 @@ impl Owners {
 
 // Pushes the items of the bodies of macros.
 fn push_bodies(
-    bodies: &[Vec<TrackedAssignment>],
+    bodies: &[Option<Rc<Metadata>>],
     macros: &BTreeSet<usize>,
     items: &mut Vec<BodyItem>,
 ) -> Result<(), AllocError>

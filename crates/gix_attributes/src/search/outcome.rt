@@ -95,8 +95,8 @@ impl Outcome {
     }
 
     /// Makes an empty slot for each name of a collection, and looks the selected names up again. It has to be called
-    /// whenever the collection has other names or macros. Of the bodies only those that have changed are copied; the selection and
-    /// the set of macros are made anew.
+    /// whenever the collection has other names or macros. Bodies are shared with the
+    /// collection; the selection and the set of macros are made anew.
     ///
     /// # Errors
     ///
@@ -158,7 +158,7 @@ impl Outcome {
             &self.macros,
             collection,
         )?;
-        self.state.slots.set_up(alloc, wanted, needed, changes)?;
+        self.state.slots.set_up(wanted, needed, changes)?;
         self.macros = macros;
         self.owners = None;
         self.selected = selected;
@@ -188,9 +188,7 @@ impl Outcome {
         let count = collection.len();
         let wanted = selection::flags(alloc, &names, count)?;
         let needed = self.needed(alloc, &names, &wanted)?;
-        self.state
-            .slots
-            .set_up(alloc, wanted, needed, Vec::new(alloc))?;
+        self.state.slots.set_up(wanted, needed, Vec::new(alloc))?;
         self.selected = names;
         self.is_initialized = true;
         Ok(())
@@ -332,7 +330,7 @@ impl Outcome {
         selection::are_bodies_of(self.state.slots.bodies(), collection)
     }
 
-    /// How many lines and assignments are kept for the answers (own): at most one of each for an answer, so none after
+    /// How many lines and items are kept for the answers (own): at most one of each for an answer, so none after
     /// [`Outcome::reset`]. A line keeps the index of its list, which a removed list's answers outlive.
     pub fn kept(&self) -> usize
         ensures kept { result ≡ self.now.kept }

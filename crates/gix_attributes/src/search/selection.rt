@@ -9,13 +9,14 @@ ghost use Rattle.gix_attributes.specs.Selection.{selection_view};
 ghost use Rattle.attr_search.specs.shared.BodyChanges.{changed_bodies, sized_bodies};
 ghost use Rattle.attr_search.specs.shared.Slotted.{bodies_view};
 
-use crate::search::TrackedAssignment;
 use crate::search::collection::MetadataCollection;
 use crate::search::selected_name::SelectedName;
-use attr_search::bodies::{BodyChange, copy_of_body};
+use crate::search::{Metadata, TrackedAssignment};
+use attr_search::bodies::{BodyChange, body_at};
 use attr_search::wanted::WantedFlags;
 use std::alloc::{AllocError, Global};
 use std::collections::BTreeSet;
+use std::rc::Rc;
 
 /// Looks up the numbers of names.
 pub(crate) fn look_up(
@@ -97,10 +98,10 @@ pub(crate) fn numbers(alloc: Global, selected: &[SelectedName]) -> Result<Vec<us
 }
 
 /// The changes that make bodies those of a collection, if there are as many. The bodies of other numbers than these are empty, so
-/// that macros alone are compared.
+/// that macros alone are changed.
 pub(crate) fn body_changes(
     alloc: Global,
-    bodies: &[Vec<TrackedAssignment>],
+    bodies: &[Option<Rc<Metadata>>],
     macros: &BTreeSet<usize>,
     collection: &MetadataCollection,
 ) -> Result<Vec<BodyChange>, AllocError>
@@ -112,15 +113,13 @@ pub(crate) fn body_changes(
         ≡ bodies_of collection.now) }
 {
     let mut changes = Vec::new(alloc);
-    push_changes(alloc, bodies, macros, collection, &mut changes)?;
-    push_changes(alloc, bodies, collection.macros(), collection, &mut changes)?;
+    push_changes(macros, collection, &mut changes)?;
+    push_changes(collection.macros(), collection, &mut changes)?;
     Ok(changes)
 }
 
-// Pushes the changes of the bodies with these numbers.
+// Pushes changes to the collection's bodies of these numbers, of those that it has.
 fn push_changes(
-    alloc: Global,
-    bodies: &[Vec<TrackedAssignment>],
     numbers: &BTreeSet<usize>,
     collection: &MetadataCollection,
     changes: &mut Vec<BodyChange>,
@@ -128,61 +127,31 @@ fn push_changes(
     ensures numbers { OnOk result (
         All (λ change. change.number < length collection.now.names) changes.old.items →
         All (λ change. change.number < length collection.now.names) changes.new.items) }
-    ensures made { OnOk result ((done : List ℕ) →
-        AreMade collection.now bodies.now done changes.old.items →
-        AreMade collection.now bodies.now (done ++ numbers.now.keys) changes.new.items) }
+    ensures made { OnOk result ((bodies : List (List TrackedAssignment)) (done : List ℕ) →
+        AreMade collection.now bodies done changes.old.items →
+        AreMade collection.now bodies (done ++ numbers.now.keys) changes.new.items) }
 {
     for number in numbers.iter() {
-        push_change(alloc, bodies, *number, collection, changes)?;
+        if *number < collection.len() {
+            changes.push(BodyChange {
+                number: *number,
+                body: collection.share_definition(*number)?,
+            })?;
+        }
     }
     Ok(())
-}
-
-fn push_change(
-    alloc: Global,
-    bodies: &[Vec<TrackedAssignment>],
-    number: usize,
-    collection: &MetadataCollection,
-    changes: &mut Vec<BodyChange>,
-) -> Result<(), AllocError>
-    ensures numbers { OnOk result (
-        All (λ change. change.number < length collection.now.names) changes.old.items →
-        All (λ change. change.number < length collection.now.names) changes.new.items) }
-    ensures made { OnOk result ((done : List ℕ) →
-        AreMade collection.now bodies.now done changes.old.items →
-        AreMade collection.now bodies.now (done ++ number ∷ []) changes.new.items) }
-{
-    if number >= collection.len() {
-        return Ok(());
-    }
-    let body = collection.body(number).as_slice();
-    if !is_same(body_at(bodies, number), body) {
-        let body = copy_of_body(alloc, body)?;
-        changes.push(BodyChange { number, body })?;
-    }
-    Ok(())
-}
-
-/// The body with a number, which is empty past the last one.
-pub(crate) fn body_at(bodies: &[Vec<TrackedAssignment>], number: usize) -> &[TrackedAssignment]
-    ensures { result.now ≡ slice_index_or (bodies_view bodies.now) number [] }
-{
-    match bodies.get(number) {
-        Some(body) => body.as_slice(),
-        None => &[],
-    }
 }
 
 /// Whether the bodies are those of a collection.
 pub(crate) fn are_bodies_of(
-    bodies: &[Vec<TrackedAssignment>],
+    bodies: &[Option<Rc<Metadata>>],
     collection: &MetadataCollection,
 ) -> bool
     requires { length bodies.now ≡ length collection.now.names }
     ensures { IsTrue result ↔ (bodies_view bodies.now ≡ bodies_of collection.now) }
 {
-    for (number, body) in bodies.iter().enumerate() {
-        if !is_same(body, collection.body(number).as_slice()) {
+    for number in 0..bodies.len() {
+        if !is_same(body_at(bodies, number), collection.body(number).as_slice()) {
             return false;
         }
     }

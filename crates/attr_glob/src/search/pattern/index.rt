@@ -6,17 +6,17 @@ ghost use Rattle.attr_glob.specs.BaseNames.{base_name, base_name_offset};
 ghost use Rattle.attr_glob.specs.Candidates.{candidates};
 ghost use Rattle.attr_glob.specs.Views.{pattern_view, patterns_of};
 ghost use Rattle.attr_glob.specs.Indexed.{indexed_lines, indexed_patterns, listed_lines};
-ghost use Rattle.attr_glob.specs.shared.LineShapes.{indexed_keys};
+ghost use Rattle.attr_glob.specs.shared.LineShapes.{indexed_keys, shape_reading};
 ghost use Rattle.attr_keys.specs.shared.KeyIndexes.{IsKeyIndex};
 ghost use Rattle.attr_keys.specs.shared.LineKeys.{shape_content};
-ghost use Rattle.attr_glob.specs.shared.LineShapes.{shape_reading};
 
 use crate::pattern::{Case, Mode, base_name};
 use crate::search::pattern::indexed_line::IndexedLine;
-use crate::search::pattern::{List, Mapping, copy_of_text};
+use crate::search::pattern::{List, copy_of_text};
 use crate::{Pattern, search};
 use attr_keys::key::{Key, Keyed};
 use attr_keys::key_index::KeyIndex;
+use attr_keys::kinds::Kinds;
 use attr_keys::line_key::{Shape, line_key};
 use bitflags::Flags;
 use bstr::BStr;
@@ -51,8 +51,14 @@ impl Index {
         ensures source { IfOk result (λ index.
             option_map string_bytes index.source ≡ option_map string_bytes list.now.source) }
     {
-        let keys = KeyIndex::of(alloc, &list.patterns)?;
-        let lines = index_lines(alloc, &list.patterns)?;
+        let mut kinds = Kinds::new(alloc, list.patterns.len());
+        let mut lines = Vec::with_capacity(alloc, list.patterns.len())?;
+        for mapping in &list.patterns {
+            let line = IndexedLine::of(alloc, mapping)?;
+            kinds.push(&line, lines.len())?;
+            lines.push(line)?;
+        }
+        let keys = KeyIndex::of(alloc, &lines, &kinds)?;
         let source = copy_of_text(alloc, &list.source)?;
         Ok(Index {
             lines,
@@ -107,31 +113,20 @@ impl Index {
     }
 }
 
-// The mappings' lines, in their order.
-fn index_lines<V>(alloc: Global, mappings: &[Mapping<V>]) -> Result<Vec<IndexedLine>, AllocError>
-    ensures { IfOk result (λ lines. indexed_lines lines.items ≡ listed_lines mappings.now) }
-{
-    let mut lines = Vec::with_capacity(alloc, mappings.len())?;
-    for mapping in mappings {
-        lines.push(IndexedLine::of(alloc, mapping)?)?;
-    }
-    Ok(lines)
-}
-
 fn is_same_pattern(x: &Pattern, y: &Pattern) -> bool
     ensures { IsTrue result ↔ (pattern_view x.now ≡ pattern_view y.now) }
 {
     x == y
 }
 
-impl Keyed for Pattern {
+impl Keyed for IndexedLine {
     ghost use Rattle.attr_glob.specs.shared.LineShapes.{key_of_pattern};
 
-    ghost content = { key_of_pattern };
+    ghost content = { λ line. key_of_pattern line.pattern };
 
     #[inline]
     fn key(&self) -> Key<'_> {
-        line_key(shape_of(self))
+        line_key(shape_of(&self.pattern))
     }
 }
 

@@ -9,7 +9,6 @@ ghost use Rattle.attr_glob.specs.inner.LineTokens.{unboxed};
 use crate::Pattern;
 use crate::search::pattern::Mapping;
 use crate::token::Tokens;
-use attr_keys::key::{Key, Keyed};
 use std::alloc::{AllocError, Global};
 
 /// A line as searches read it and as answers lend it.
@@ -61,16 +60,5 @@ fn boxed(alloc: Global, tokens: Option<Tokens>) -> Result<Option<Box<Tokens>>, A
     match tokens {
         Some(tokens) => Ok(Some(Box::new(alloc, tokens)?)),
         None => Ok(None),
-    }
-}
-
-impl Keyed for IndexedLine {
-    ghost use Rattle.attr_glob.specs.shared.LineShapes.{key_of_pattern};
-
-    ghost content = { λ line. key_of_pattern line.pattern };
-
-    #[inline]
-    fn key(&self) -> Key<'_> {
-        self.pattern.key()
     }
 }

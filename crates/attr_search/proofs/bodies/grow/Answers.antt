@@ -1,4 +1,4 @@
-use Rattle.std.proofs.Common.{◌-◌, arith}
+use Rattle.std.proofs.Common.{arith}
 use Rattle.attr_search.proofs.BodyLemmas.{grown_more, kept_more}
 use Rattle.attr_search.proofs.bodies.grow.Goals as goal
 

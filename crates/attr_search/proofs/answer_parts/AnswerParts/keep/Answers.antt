@@ -1,6 +1,5 @@
 use Rattle.std.proofs.Common.{◌≡◌, ◌<◌, ◌++◌, [], ◌∷◌, length, Some, refl, sym, ap, ◌∙◌, arith, length-append}
 use Rattle.std.proofs.lemmas.List.{length-map}
-use Rattle.attr_lists.specs.declared.types.TrackedAssignment.{TrackedAssignment}
 use Rattle.attr_search.specs.inner.PartsContents.{PartsContent}
 use Rattle.attr_search.specs.inner.PartsView.{origin_of_line, origins, answer_parts_view}
 use Rattle.attr_search.specs.inner.Pending.{items_beside}
@@ -17,14 +16,14 @@ returns-then-is_some-clause-kept c =
     let top = c.args.top in
     let lines = c.keep_line.new.lines.items in
     let after : PartsContent = record
-    { lines = origins lines; line = Some c.in_ok-kept.kept; assignments = b.assignments.items; bodies = bodies } in
+    { lines = origins lines; line = Some c.in_ok-kept.kept; items = b.items.items; bodies = bodies } in
     let inside : top.index < length (items_beside items bodies top.cause) = rw (← c.self.view_is) at c.requires.inside in
     let has = body_has items after top.cause top.index (sym c.is_some.ensures ∙ c.if-is_some.true) inside in
-    rw (← c.self.view_is) (answer_kept c.args.line top c.args.kind (answer_parts_view b) after c.in_ok-kept.kept top.index c.requires.cause
-    (record { lines = c.in_ok-kept.ensures.extends; assignments = grows_same _; bodies = refl })
+    rw (← c.self.view_is) (answer_kept c.args.line top (answer_parts_view b) after c.in_ok-kept.kept top.index
+    (record { lines = c.in_ok-kept.ensures.extends; items = grows_same _; bodies = refl })
     (record {
       lines = omega (arith, c.in_ok-kept.ensures.more, length-map b.lines.items origin_of_line, length-map lines origin_of_line);
-      assignments = omega arith;
+      items = omega arith;
     })
     refl c.in_ok-kept.ensures.found has.0 has.1)
 
@@ -35,21 +34,20 @@ returns-clause-kept c =
     let bodies = bodies_view b.bodies.items in
     let top = c.args.top in
     let own = c.in_ok-own.own in
-    let before = b.assignments.items in
+    let before = b.items.items in
     let lines = c.keep_line-2.new.lines.items in
     let after : PartsContent = record
-    { lines = origins lines; line = Some c.in_ok-kept-2.kept; assignments = c.push_reserved.new.self.items; bodies = bodies } in
+    { lines = origins lines; line = Some c.in_ok-kept-2.kept; items = c.push_reserved.new.self.items; bodies = bodies } in
     let inside : top.index < length (items_beside items bodies top.cause) = rw (← c.self.view_is) at c.requires.inside in
     let pushed : c.push_reserved.new.self.items ≡ before ++ own ∷ [] =
     c.push_reserved.ensures.items ∙ ap (λ l. l ++ own ∷ []) c.reserve.ensures.items in
-    let index : c.len-assignment.result ≡ length before = omega (arith, c.len-assignment.ensures, ap length c.reserve.ensures.items) in
+    let index : c.len-item.result ≡ length before = omega (arith, c.len-item.ensures, ap length c.reserve.ensures.items) in
     let has = own_has items bodies after top.cause top.index c.index-line-top.result own before (sym c.is_some.ensures ∙ c.if-is_some.false)
-    inside c.index-line-top.is (c.in_ok-own.ensures ∙ ap (λ (t : TrackedAssignment). t.inner) (sym c.index-line-top.is)) pushed in
-    rw (← c.self.view_is) (answer_kept c.args.line top c.args.kind (answer_parts_view b) after c.in_ok-kept-2.kept c.len-assignment.result
-    c.requires.cause
-    (record { lines = c.in_ok-kept-2.ensures.extends; assignments = (own ∷ [], pushed); bodies = refl })
+    inside c.index-line-top.is (c.in_ok-own.ensures ∙ sym c.index-line-top.is) pushed in
+    rw (← c.self.view_is) (answer_kept c.args.line top (answer_parts_view b) after c.in_ok-kept-2.kept c.len-item.result
+    (record { lines = c.in_ok-kept-2.ensures.extends; items = (own ∷ [], pushed); bodies = refl })
     (record {
       lines = omega (arith, c.in_ok-kept-2.ensures.more, length-map b.lines.items origin_of_line, length-map lines origin_of_line);
-      assignments = omega (arith, ap length pushed, length-append before (own ∷ []));
+      items = omega (arith, ap length pushed, length-append before (own ∷ []));
     })
     refl c.in_ok-kept-2.ensures.found (rw index has.0) (rw index has.1))

@@ -1,5 +1,4 @@
-use Rattle.std.proofs.Common.{◌-◌, arith}
-use Rattle.std.specs.Hash.DefaultHasher as sip
+use Rattle.std.proofs.Common.{arith}
 use Rattle.std.proofs.lemmas.List.{length-take}
 use Rattle.attr_search.proofs.DirectoryLemmas.{hashed_on}
 use Rattle.attr_search.proofs.directory_keys.FrontHasher.key.Goals as goal

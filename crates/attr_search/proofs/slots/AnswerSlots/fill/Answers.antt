@@ -53,7 +53,7 @@ invariant_of-self-2 c =
           (listed_more b.slots.items b.filled.items number within c.self.invariant.listed));
       ordered = λ t. absurd (false≢true t);
       few_lines = grind (arith, filled_set);
-      few_assignments = grind (arith, filled_set);
+      few_items = grind (arith, filled_set);
     }
 
 pub returns-clause-filled : goal.returns-clause-filled

@@ -22,5 +22,5 @@ invariant_of-self c =
       listed = listed_permuted b.slots.items b.filled.items sorted c.sort_unstable.ensures.permutation c.self.invariant.listed;
       ordered = λ t. IsNonDecreasingBy-from_sort (λ n. n) sorted c.sort_unstable.ensures.sorted;
       few_lines = c.self.invariant.few_lines;
-      few_assignments = c.self.invariant.few_assignments;
+      few_items = c.self.invariant.few_items;
     }

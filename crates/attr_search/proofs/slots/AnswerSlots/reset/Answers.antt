@@ -30,7 +30,7 @@ invariant_of-self c =
       listed = rw c.clear.ensures.items (empty_listed c.empty.new.slots.items b.slots.items c.empty.ensures.items);
       ordered = λ t. rising_nothing c.clear.new.self.items c.clear.ensures.items;
       few_lines = rw c.keep_none.ensures (omega arith);
-      few_assignments = rw c.keep_none.ensures (omega arith);
+      few_items = rw c.keep_none.ensures (omega arith);
     }
 
 pub returns : goal.returns

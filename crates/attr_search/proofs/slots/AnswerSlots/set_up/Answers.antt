@@ -1,6 +1,6 @@
 use Rattle.std.proofs.lemmas.List.Elements.{All-nil}
 use Rattle.attr_search.specs.declared.answer_parts.MatchRef.{MatchRef}
-use Rattle.std.proofs.Common.{None, ap, get_or, length, refl, sym, true, ◌∙◌, ◌≡◌, arith, false, ◌-◌}
+use Rattle.std.proofs.Common.{None, ap, get_or, length, refl, sym, true, ◌∙◌, ◌≡◌, arith, false}
 use Rattle.attr_search.specs.shared.SlotContents.{count_remaining}
 use Rattle.std.proofs.lemmas.List.{length-map}
 use Rattle.std.proofs.Common.{Bool, List, Option, map}
@@ -68,7 +68,7 @@ invariant_of-self-2 c =
       listed = rw c.clear.ensures.items (empty_listed slots wanted cut);
       ordered = λ t. rising_nothing c.clear.new.self.items c.clear.ensures.items;
       few_lines = rw made (omega arith);
-      few_assignments = rw made (omega arith);
+      few_items = rw made (omega arith);
     }
 
 pub returns-clause-ok : goal.returns-clause-ok

@@ -1,9 +1,5 @@
 use Rattle.std.proofs.lemmas.Bool.Decides.{nat_tests}
-use Rattle.std.proofs.Common.{arith, List, [], ℕ, None, map, ap, ◌∙◌}
-use Rattle.gix_attributes.specs.Contents.{Content, names_selected}
-use Rattle.gix_attributes.specs.Selection.{selection_view}
-use Rattle.gix_attributes.specs.SearchViews.{lists_in}
-use Rattle.gix_attributes.specs.EngineStates.{EngineContent, with_selection}
+use Rattle.std.proofs.Common.{arith}
 use Rattle.gix_attributes.proofs.AnswerLemmas.{current_at_first}
 use Rattle.gix_attributes.proofs.OutcomeLemmas.{looked_up_again, names_looked_up}
 use Rattle.gix_attributes.proofs.engine.Engine.select.Goals as goal

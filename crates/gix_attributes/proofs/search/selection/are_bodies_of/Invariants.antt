@@ -4,4 +4,4 @@ use Rattle.attr_search.specs.shared.Slotted.{bodies_view}
 use Rattle.gix_attributes.proofs.search.selection.are_bodies_of.Given as goal
 
 abbrev pub invariant-loop-number : goal.invariant-loop-number
-invariant-loop-number l = bodies_view (take l.number l.bodies) ≡ take l.number (bodies_of l.collection)
+invariant-loop-number l = take l.number (bodies_view l.bodies) ≡ take l.number (bodies_of l.collection)

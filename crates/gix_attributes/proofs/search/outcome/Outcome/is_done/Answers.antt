@@ -1,6 +1,5 @@
 use Rattle.std.proofs.Common.{arith}
 use Rattle.std.proofs.lemmas.Bool.Decides.{nat_tests}
-use Rattle.attr_table.specs.Cut.{is_done}
 use Rattle.gix_attributes.proofs.OutcomeLemmas.{wanted_by_flags}
 use Rattle.gix_attributes.proofs.search.outcome.Outcome.is_done.Goals as goal
 
