@@ -215,6 +215,9 @@ impl Tokens {
                 }
             }
         }
+
+        // A bracket, an escape or a directory star is one token of several bytes.
+        list.shrink_to_fit();
         Ok(Some(Tokens { list }))
     }
 
