@@ -1,4 +1,3 @@
-pub mod Bytes
 mod ReportLemmas
 mod PrintLemmas
 mod PieceLemmas

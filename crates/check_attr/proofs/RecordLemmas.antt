@@ -2,16 +2,17 @@
 use Rattle.std.proofs.lemmas.Bool.Decides.{nat_tests}
 use Rattle.std.proofs.Common.{◌≡◌, ℕ, ◌+◌, List, [], ◌∷◌, ◌++◌, length, All, Option, Some, None, refl, sym, ap, ◌∙◌, subst, arith, append_assoc}
 use Rattle.std.proofs.lemmas.List.{append-nil}
+use Rattle.std.proofs.lemmas.List.Elements.{All-cons, All-head, All-tail}
 use Rattle.check_attr.specs.Script.{Record, spelled, script_of, CanBeWritten, BeginsWithRecord}
 use Rattle.check_attr.specs.ScriptText.{IsTextOfRecords, EndsAt, Writes, WritesRecords, ends, breaks, goes_on}
 use Rattle.gix_attributes.specs.EngineStates.{EngineState}
 use Rattle.check_attr.specs.ScriptStates.{next_state}
-use Rattle.check_attr.proofs.SpellingLemmas.{first_of, others_of, all_with, one_record, shorter}
+use Rattle.check_attr.proofs.SpellingLemmas.{one_record, shorter}
 
 -- the script of records has the text of the first one in front
 begins_of : (r : Record) (records : List Record) (script rest : List ℕ) → All CanBeWritten (r ∷ records)
     → script ≡ script_of (r ∷ records) ++ rest → BeginsWithRecord script r (script_of records ++ rest)
-begins_of r records script rest can e = (first_of CanBeWritten r records can, e ∙ append_assoc (spelled r) (script_of records) rest)
+begins_of r records script rest can e = (All-head CanBeWritten r records can, e ∙ append_assoc (spelled r) (script_of records) rest)
 
 at_end : (s : EngineState) (number : ℕ) (script : List ℕ) (malformed : Option ℕ) (text : List ℕ) → EndsAt (number + 0) script malformed
     → text ≡ []
@@ -28,7 +29,7 @@ writes-from : (records : List Record) (s : EngineState) (number : ℕ) (script r
 writes-from [] s number script rest malformed text can e end is_text = grind (arith, nat_tests, at_end)
 writes-from (r ∷ records) s number script rest malformed text can e end is_text =
     let left = writes-from records (next_state r s) (number + 1) (script_of records ++ rest) rest malformed is_text.1
-    (others_of CanBeWritten r records can) refl (subst (λ n. EndsAt n rest malformed) (omega arith) end) is_text.4 in
+    (All-tail CanBeWritten r records can) refl (subst (λ n. EndsAt n rest malformed) (omega arith) end) is_text.4 in
     subst (Writes s number script malformed) (sym is_text.2)
     (goes_on r (script_of records ++ rest) is_text.0 is_text.1 (begins_of r records script rest can e) is_text.3 left)
 
@@ -44,7 +45,7 @@ has_records s number script malformed _ (goes_on r rest first others begins is_t
     let o = has_records (next_state r s) (number + 1) rest malformed others left in (
       r ∷ o.0,
       o.1,
-      all_with CanBeWritten r o.0 begins.0 o.2,
+      All-cons CanBeWritten r o.0 begins.0 o.2,
       begins.1 ∙ (ap (λ xs. spelled r ++ xs) o.3 ∙ sym (append_assoc (spelled r) (script_of o.0) o.1)),
       subst (λ n. EndsAt n o.1 malformed) (omega arith) o.4,
       (first, others, refl, is_text, o.5),
@@ -64,8 +65,8 @@ read_back (r ∷ records) s number _ _ _ can e ends = grind (arith, nat_tests, s
 read_back (r ∷ records) s number script _ _ can e (breaks some bad) = grind (arith, nat_tests, begins_of r records script)
 read_back (r ∷ records) s number script malformed _ can e (goes_on q rest first others begins is_text left) =
     let fact2 = one_record script r q (script_of records ++ []) rest (begins_of r records script [] can e) begins in
-    let fact = read_back records (next_state r s) (number + 1) rest malformed others (others_of CanBeWritten r records can) in
-    grind (arith, nat_tests, fact2, begins_of r records script, others_of CanBeWritten r records can, fact)
+    let fact = read_back records (next_state r s) (number + 1) rest malformed others (All-tail CanBeWritten r records can) in
+    grind (arith, nat_tests, fact2, begins_of r records script, All-tail CanBeWritten r records can, fact)
 
 pub records_read_back : (s : EngineState) (number : ℕ) (records : List Record) (malformed : Option ℕ) (text : List ℕ) → All CanBeWritten records
     → Writes s number (script_of records) malformed text → (malformed ≡ None) × IsTextOfRecords s records text

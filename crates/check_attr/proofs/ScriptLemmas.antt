@@ -1,7 +1,6 @@
 -- Parts of a script.
 use Rattle.std.proofs.lemmas.Bool.Decides.{nat_tests}
-use Rattle.std.proofs.Common.{◌≡◌, ℕ, ◌-◌, ◌<◌, List, [], ◌∷◌, ◌++◌, Option, Some, option_map}
-use Rattle.std.proofs.Common.{arith, append_assoc}
+use Rattle.std.proofs.Common.{◌≡◌, ℕ, ◌-◌, ◌<◌, List, [], ◌∷◌, ◌++◌, Option, Some, option_map, arith, append_assoc}
 use Rattle.std.specs.Prelude.{if◌then◌else◌}
 use Rattle.gix_attributes.specs.LinesJoined.{line_feed}
 use Rattle.check_attr.specs.inner.ScriptParts.{◌then◌, split_once, if_text, text_lines}
@@ -15,9 +14,6 @@ text_lines-step n bytes h = grind (arith, nat_tests)
 -- these lines before others
 abbrev pub before : List (List ℕ) → List (List ℕ) × List ℕ → List (List ℕ) × List ℕ
 before lines others = (lines ++ others.0, others.1)
-
-abbrev one_before : List ℕ → List (List ℕ) × List ℕ → List (List ℕ) × List ℕ
-one_before line others = (line ∷ others.0, others.1)
 
 -- one line more is read
 pub text_lines-more : (whole : Option (List (List ℕ) × List ℕ)) (lines more : List (List ℕ)) (line : List ℕ) (n m : ℕ) (bytes rest : List ℕ) → 0 < n →

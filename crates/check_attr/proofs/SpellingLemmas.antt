@@ -1,10 +1,10 @@
 -- The first record of a script is read exactly if it is spelled.
-use Rattle.std.proofs.lemmas.Bool.Decides.{Decides-eqb}
+use Rattle.std.proofs.lemmas.Bool.Decides.{Decides-eqb, nat_tests}
+use Rattle.std.proofs.lemmas.List.Elements.{All-cons, All-head, All-tail}
 use Rattle.std.proofs.lemmas.Slice.Eq.{starts_is}
-use Rattle.std.proofs.lemmas.Bool.Decides.{nat_tests}
 use Rattle.std.proofs.Common.{◌≡◌, ℕ, zero, suc, ◌<◌, ◌⊎◌, inl, inr, Bool, true, false, List, [], ◌∷◌, ◌++◌}
 use Rattle.std.proofs.Common.{length, drop, Option, Some, None, option_map, unwrap_or, IfSome, All, flat_map, codes, refl, sym, ap, ◌∙◌, subst, arith}
-use Rattle.std.proofs.Common.{append_assoc, length-append, true≢false, is_some, zero-lt-suc}
+use Rattle.std.proofs.Common.{append_assoc, length-append, zero-lt-suc}
 use Rattle.std.specs.Prelude.{nat_eq, decimal, if◌then◌else◌, Result, IfOk}
 use Rattle.std.specs.Char.{is_ascii_digit}
 use Rattle.std.specs.List.{list_all, starts_with}
@@ -16,15 +16,12 @@ use Rattle.gix_attributes.specs.EngineStates.{AddedFile}
 use Rattle.check_attr.specs.Script.{Question, Record, add, pop, names, ask, space, header, macros_word, root_word, form_word, case_word}
 use Rattle.check_attr.specs.Script.{directory_word}
 use Rattle.check_attr.specs.Script.{ended_line, spelled, IsHeaderNumber, IsShortText, IsNameLine, CanBeWritten, BeginsWithRecord, IsMalformed}
-use Rattle.check_attr.specs.inner.ScriptParts.{◌then◌, AddHeader, AskHeader, choice_of, macro_flags, forms, cases, directory_flags, strip_prefix}
-use Rattle.check_attr.specs.inner.ScriptParts.{split_once, split_at}
-use Rattle.check_attr.specs.inner.ScriptParts.{if_text, is_number, digits_value, number_before, root_length, root_of, add_header, addition_of}
-use Rattle.check_attr.specs.inner.ScriptParts.{text_lines, ask_header, question_of}
-use Rattle.check_attr.specs.inner.ScriptParts.{add_record, names_record, ask_record, record_of, IsFirstRecord, IsNumberBefore}
-use Rattle.check_attr.proofs.PartLemmas.{then-some, map-some, same_some, starts_with-only, strip_prefix-only, number_before-back}
-use Rattle.check_attr.proofs.PartLemmas.{number_before-only}
-use Rattle.check_attr.proofs.PartLemmas.{split_at-back, split_at-only, split_text-only, split_once-back, split_once-only}
-use Rattle.check_attr.proofs.PartLemmas.{if_text-back, if_text-only, decimal_digits, decimal_some}
+use Rattle.check_attr.specs.inner.ScriptParts.{◌then◌, choice_of, macro_flags, forms, cases, directory_flags, strip_prefix, split_once, split_at}
+use Rattle.check_attr.specs.inner.ScriptParts.{if_text, is_number, digits_value, number_before, root_length, root_of, text_lines, add_record}
+use Rattle.check_attr.specs.inner.ScriptParts.{names_record, ask_record, record_of, IsFirstRecord, IsNumberBefore}
+use Rattle.check_attr.proofs.PartLemmas.{then-some, map-some, same_some, starts_with-only, strip_prefix-only, number_before-back, number_before-only}
+use Rattle.check_attr.proofs.PartLemmas.{split_at-back, split_at-only, split_text-only, split_once-back, split_once-only, if_text-back, if_text-only}
+use Rattle.check_attr.proofs.PartLemmas.{decimal_digits, decimal_some}
 
 -- ---- the text of a record, with the rest behind it
 
@@ -99,26 +96,10 @@ root_length-back : (root : Option (List ℕ)) (rest : List ℕ) → IfSome root 
     → root_length (root_word root ++ space ∷ rest) ≡ Some (option_map length root, rest)
 root_length-back root rest short = grind (arith, nat_tests, no_minus, decimal_some, decimal_digits, starts_with-only, number_before-back)
 
-lengths_of : AddedFile → AddHeader
-lengths_of a = record { allow_macros = a.allow_macros; source = length a.source; root = option_map length a.root; buffer = length a.buffer }
-
-add_header-back : (a : AddedFile) (rest : List ℕ) → CanBeWritten (add a) → add_header (onto (addition_words a) rest) ≡ Some (lengths_of a, rest)
-unfolding onto addition_words lengths_of
-add_header-back a rest can = grind (arith, nat_tests, then-step, number_before-back, root_length-back)
-
-addition_of-back : (a : AddedFile) (rest : List ℕ) → CanBeWritten (add a) → addition_of (lengths_of a) (addition_parts a rest) ≡ Some (a, rest)
-unfolding lengths_of addition_parts
-addition_of-back a rest can = grind (arith, nat_tests, then-step, if_text-back, split_at-back)
-
--- the facts on all elements are those on the first and on the others
-pub first_of : {X : Type 0} (P : X → Type 0) (x : X) (xs : List X) → All P (x ∷ xs) → P x
-first_of P x xs all = all 0 x (omega arith)
-
-pub others_of : {X : Type 0} (P : X → Type 0) (x : X) (xs : List X) → All P (x ∷ xs) → All P xs
-others_of P x xs all = λ k d inside. all (suc k) d (omega (arith, inside))
-
-pub all_with : {X : Type 0} (P : X → Type 0) (x : X) (xs : List X) → P x → All P xs → All P (x ∷ xs)
-all_with P x xs first others h d inside = grind (arith, nat_tests)
+add_record-back : (a : AddedFile) (rest : List ℕ) → CanBeWritten (add a)
+    → add_record (onto (addition_words a) (addition_parts a rest)) ≡ Some (add a, rest)
+unfolding onto addition_words addition_parts
+add_record-back a rest can = grind (arith, nat_tests, then-step, number_before-back, root_length-back, if_text-back, split_at-back)
 
 lines-onto : (line : List ℕ) (lines : List (List ℕ)) (rest : List ℕ)
     → flat_map ended_line (line ∷ lines) ++ rest ≡ line ++ line_feed ∷ (flat_map ended_line lines ++ rest)
@@ -128,16 +109,13 @@ text_lines-back : (lines : List (List ℕ)) (rest : List ℕ) → All IsNameLine
     → text_lines (length lines) (flat_map ended_line lines ++ rest) ≡ Some (lines, rest)
 text_lines-back [] rest all = refl
 text_lines-back (line ∷ lines) rest all =
-    let first = first_of IsNameLine line lines all in
-    let fact = text_lines-back lines rest (others_of IsNameLine line lines all) in
-    grind (arith, nat_tests, lines-onto, then-step, split_once-back, if_text-back, others_of, fact)
-
-manner_of : Question → AskHeader
-manner_of q = record { form = q.form; case = q.case; is_dir = q.is_dir }
+    let first = All-head IsNameLine line lines all in
+    let fact = text_lines-back lines rest (All-tail IsNameLine line lines all) in
+    grind (arith, nat_tests, lines-onto, then-step, split_once-back, if_text-back, All-tail, fact)
 
 record_of-text_with : (r : Record) (rest : List ℕ) → CanBeWritten r → record_of (text_with r rest) ≡ Some (r, rest)
-unfolding text_with onto addition_words question_words manner_of
-record_of-text_with (add a) rest can = grind (arith, nat_tests, then-step, add_header-back, addition_parts, addition_of-back)
+unfolding text_with onto addition_words question_words
+record_of-text_with (add a) rest can = grind (arith, nat_tests, add_record-back)
 record_of-text_with pop rest can = refl
 record_of-text_with (names lines) rest can = grind (arith, nat_tests, then-step, number_before-back, text_lines-back)
 record_of-text_with (ask q) rest can =
@@ -171,43 +149,18 @@ root_length-only bytes n rest e =
           (number_before-only space bytes read.0.0 read.0.1 read.1)
     ]
 
--- the texts of a header, and the numbers in it
-IsAddHeader : AddHeader → List ℕ → List ℕ → Type 0
-IsAddHeader h bytes rest =
-    IsHeaderNumber h.source × IfSome h.root IsHeaderNumber × IsHeaderNumber h.buffer
-    × (bytes ≡ onto (macros_word h.allow_macros ∷ decimal h.source ∷ length_word h.root ∷ decimal h.buffer ∷ []) rest)
-
-spaced : {X : Type 0} → (X → List ℕ) → X → List ℕ
-spaced word x = word x ++ space ∷ []
-
 macros-only : (bytes : List ℕ) (b : Bool) (rest : List ℕ) → choice_of macro_flags bytes ≡ Some (b, rest) → bytes ≡ macros_word b ++ space ∷ rest
-unfolding spaced
 macros-only bytes b rest e = grind (arith, nat_tests, append_assoc)
 
 forms-only : (bytes : List ℕ) (f : Form) (rest : List ℕ) → choice_of forms bytes ≡ Some (f, rest) → bytes ≡ form_word f ++ space ∷ rest
-unfolding spaced
 forms-only bytes f rest e = grind (arith, nat_tests, append_assoc)
 
 cases-only : (bytes : List ℕ) (c : Case) (rest : List ℕ) → choice_of cases bytes ≡ Some (c, rest) → bytes ≡ case_word c ++ space ∷ rest
-unfolding spaced
 cases-only bytes c rest e = grind (arith, nat_tests, append_assoc)
 
 directories-only : (bytes : List ℕ) (d : Option Bool) (rest : List ℕ) → choice_of directory_flags bytes ≡ Some (d, rest)
     → bytes ≡ directory_word d ++ space ∷ rest
-unfolding spaced
 directories-only bytes d rest e = grind (arith, nat_tests, append_assoc)
-
-add_header-only : (bytes : List ℕ) (h : AddHeader) (rest : List ℕ) → add_header bytes ≡ Some (h, rest) → IsAddHeader h bytes rest
-unfolding IsAddHeader onto
-add_header-only bytes h rest e =
-    let allow = then-some (choice_of macro_flags bytes) _ _ e in
-    let source = then-some (number_before space allow.0.1) _ _ allow.2 in
-    let root = then-some (root_length source.0.1) _ _ source.2 in
-    let buffer = map-some _ (number_before line_feed root.0.1) _ root.2 in
-    let s = number_before-only space allow.0.1 source.0.0 source.0.1 source.1 in
-    let r = root_length-only source.0.1 root.0.0 root.0.1 root.1 in
-    let b = number_before-only line_feed root.0.1 buffer.0.0 buffer.0.1 buffer.1 in
-    grind (arith, nat_tests, macros-only)
 
 root_of-only : (n : Option ℕ) (bytes : List ℕ) (root : Option (List ℕ)) (rest : List ℕ) → root_of n bytes ≡ Some (root, rest)
     → (option_map length root ≡ n) × IfSome root IsUtf8 × (bytes ≡ unwrap_or root [] ++ rest)
@@ -221,40 +174,6 @@ short_root : (root : Option (List ℕ)) (n : Option ℕ) → option_map length r
     → IfSome root IsShortText
 short_root root n e short text = grind (arith, nat_tests)
 
-addition_of-only : (h : AddHeader) (bytes after : List ℕ) (a : AddedFile) (rest : List ℕ) → IsAddHeader h bytes after
-    → addition_of h after ≡ Some (a, rest)
-    → CanBeWritten (add a) × (bytes ≡ onto (addition_words a) (addition_parts a rest))
-unfolding IsAddHeader onto addition_words addition_parts
-addition_of-only h bytes after a rest is e =
-    let source = then-some (split_at h.source after then if_text) _ _ e in
-    let root = then-some (root_of h.root source.0.1) _ _ source.2 in
-    let buffer = then-some (split_at h.buffer root.0.1) _ _ root.2 in
-    let end = map-some _ (strip_prefix (codes "\n") buffer.0.1) _ buffer.2 in
-    let s = split_text-only h.source after source.0.0 source.0.1 source.1 in
-    let r = root_of-only h.root source.0.1 root.0.0 root.0.1 root.1 in
-    let b = split_at-only h.buffer root.0.1 buffer.0.0 buffer.0.1 buffer.1 in
-    let n = strip_prefix-only (codes "\n") buffer.0.1 end.0 end.1 in
-    grind (arith, nat_tests, root_word-length, short_root)
-
-ask_header-only : (bytes : List ℕ) (h : AskHeader) (rest : List ℕ) → ask_header bytes ≡ Some (h, rest)
-    → bytes ≡ form_word h.form ++ space ∷ (case_word h.case ++ space ∷ (directory_word h.is_dir ++ space ∷ rest))
-ask_header-only bytes h rest e =
-    let form = then-some (choice_of forms bytes) _ _ e in
-    let case = then-some (choice_of cases form.0.1) _ _ form.2 in
-    let is_dir = map-some _ (choice_of directory_flags case.0.1) _ case.2 in
-    grind (arith, nat_tests, forms-only, cases-only, directories-only)
-
-question_of-only : (h : AskHeader) (bytes : List ℕ) (q : Question) (rest : List ℕ) → question_of h bytes ≡ Some (q, rest)
-    → (manner_of q ≡ h) × CanBeWritten (ask q) × (bytes ≡ decimal (length q.path) ++ line_feed ∷ (q.path ++ line_feed ∷ rest))
-unfolding manner_of
-question_of-only h bytes q rest e =
-    let count = then-some (number_before line_feed bytes) _ _ e in
-    let path = then-some (split_at count.0.0 count.0.1) _ _ count.2 in
-    let end = map-some _ (strip_prefix (codes "\n") path.0.1) _ path.2 in
-    let c = number_before-only line_feed bytes count.0.0 count.0.1 count.1 in
-    let p = split_at-only count.0.0 count.0.1 path.0.0 path.0.1 path.1 in
-    grind (arith, nat_tests, strip_prefix-only, codes, manner_of)
-
 text_lines-only : (n : ℕ) (bytes : List ℕ) (lines : List (List ℕ)) (rest : List ℕ) → text_lines n bytes ≡ Some (lines, rest)
     → (length lines ≡ n) × All IsNameLine lines × (bytes ≡ flat_map ended_line lines ++ rest)
 text_lines-only zero bytes lines rest e = grind (arith, nat_tests, same_some)
@@ -267,7 +186,7 @@ text_lines-only (suc n) bytes lines rest e =
     let o = text_lines-only n line.0.1 others.0.0 others.0.1 others.1 in
     subst (λ (p : List (List ℕ) × List ℕ). (length p.0 ≡ suc n) × All IsNameLine p.0 × (bytes ≡ flat_map ended_line p.0 ++ p.1)) others.2 (
       omega (arith, o.0),
-      all_with IsNameLine line.0.0 others.0.0 (text.1, l.0) o.1,
+      All-cons IsNameLine line.0.0 others.0.0 (text.1, l.0) o.1,
       l.1 ∙ (ap (λ xs. line.0.0 ++ line_feed ∷ xs) o.2 ∙ sym (lines-onto line.0.0 others.0.0 others.0.1)),
     )
 
@@ -276,12 +195,24 @@ ReadAs : List ℕ → Option (Record × List ℕ) → Type 0
 ReadAs bytes read = (r : Record) (rest : List ℕ) → read ≡ Some (r, rest) → CanBeWritten r × (bytes ≡ text_with r rest)
 
 add_record-only : (bytes after : List ℕ) → bytes ≡ codes "add " ++ after → ReadAs bytes (add_record after)
-unfolding ReadAs text_with onto IsAddHeader addition_words
+unfolding ReadAs text_with onto addition_words addition_parts
 add_record-only bytes after whole r rest e =
-    let h = then-some (add_header after) _ (r, rest) e in
-    let a = map-some _ (addition_of h.0.0 h.0.1) (r, rest) h.2 in
-    let is = addition_of-only h.0.0 after h.0.1 a.0.0 a.0.1 (add_header-only after h.0.0 h.0.1 h.1) a.1 in
-    grind (arith, nat_tests, codes)
+    let allow = then-some (choice_of macro_flags after) _ _ e in
+    let source_len = then-some (number_before space allow.0.1) _ _ allow.2 in
+    let root_len = then-some (root_length source_len.0.1) _ _ source_len.2 in
+    let buffer_len = then-some (number_before line_feed root_len.0.1) _ _ root_len.2 in
+    let source = then-some (split_at source_len.0.0 buffer_len.0.1 then if_text) _ _ buffer_len.2 in
+    let root = then-some (root_of root_len.0.0 source.0.1) _ _ source.2 in
+    let buffer = then-some (split_at buffer_len.0.0 root.0.1) _ _ root.2 in
+    let end = map-some _ (strip_prefix (codes "\n") buffer.0.1) _ buffer.2 in
+    let sl = number_before-only space allow.0.1 source_len.0.0 source_len.0.1 source_len.1 in
+    let rl = root_length-only source_len.0.1 root_len.0.0 root_len.0.1 root_len.1 in
+    let bl = number_before-only line_feed root_len.0.1 buffer_len.0.0 buffer_len.0.1 buffer_len.1 in
+    let s = split_text-only source_len.0.0 buffer_len.0.1 source.0.0 source.0.1 source.1 in
+    let t = root_of-only root_len.0.0 source.0.1 root.0.0 root.0.1 root.1 in
+    let b = split_at-only buffer_len.0.0 root.0.1 buffer.0.0 buffer.0.1 buffer.1 in
+    let n = strip_prefix-only (codes "\n") buffer.0.1 end.0 end.1 in
+    grind (arith, nat_tests, codes, macros-only, root_word-length, short_root)
 
 names_record-only : (bytes after : List ℕ) → bytes ≡ codes "names " ++ after → ReadAs bytes (names_record after)
 unfolding ReadAs text_with onto
@@ -293,12 +224,17 @@ names_record-only bytes after whole r rest e =
     grind (arith, nat_tests, codes)
 
 ask_record-only : (bytes after : List ℕ) → bytes ≡ codes "ask " ++ after → ReadAs bytes (ask_record after)
-unfolding ReadAs text_with onto question_words manner_of
+unfolding ReadAs text_with onto question_words
 ask_record-only bytes after whole r rest e =
-    let h = then-some (ask_header after) _ (r, rest) e in
-    let q = map-some _ (question_of h.0.0 h.0.1) (r, rest) h.2 in
-    let is = question_of-only h.0.0 h.0.1 q.0.0 q.0.1 q.1 in
-    grind (arith, nat_tests, codes, ask_header-only)
+    let form = then-some (choice_of forms after) _ _ e in
+    let case = then-some (choice_of cases form.0.1) _ _ form.2 in
+    let is_dir = then-some (choice_of directory_flags case.0.1) _ _ case.2 in
+    let count = then-some (number_before line_feed is_dir.0.1) _ _ is_dir.2 in
+    let path = then-some (split_at count.0.0 count.0.1) _ _ count.2 in
+    let end = map-some _ (strip_prefix (codes "\n") path.0.1) _ path.2 in
+    let c = number_before-only line_feed is_dir.0.1 count.0.0 count.0.1 count.1 in
+    let p = split_at-only count.0.0 count.0.1 path.0.0 path.0.1 path.1 in
+    grind (arith, nat_tests, forms-only, cases-only, directories-only, strip_prefix-only, codes)
 
 pop-only : (bytes after : List ℕ) → bytes ≡ codes "pop\n" ++ after → ReadAs bytes (Some (pop, after))
 unfolding ReadAs text_with onto
@@ -324,21 +260,17 @@ record_of-only bytes = grind (arith, nat_tests, kind-only, add_record-only, pop-
 
 pub record_of-begins : (script : List ℕ) (r : Record) (rest : List ℕ) → record_of script ≡ Some (r, rest) → BeginsWithRecord script r rest
 unfolding ReadAs
-record_of-begins script r rest e =
-    let is = record_of-only script r rest e in
-    (is.0, is.1 ∙ sym (spelled-text_with r rest))
+record_of-begins script r rest e = grind (arith, nat_tests, record_of-only script r rest e, spelled-text_with)
 
 pub record_of-malformed : (script : List ℕ) → record_of script ≡ None → IsMalformed script
-record_of-malformed script e r rest begins = true≢false (sym (ap is_some (record_of-spelled script r rest begins)) ∙ ap is_some e)
+record_of-malformed script e r rest begins = grind (arith, nat_tests, e, record_of-spelled script r rest begins)
 
 -- ---- what follows for scripts
 
 pub one_record : (script : List ℕ) (r s : Record) (rest others : List ℕ) → BeginsWithRecord script r rest → BeginsWithRecord script s others
     → (s ≡ r) × (others ≡ rest)
 one_record script r s rest others begins begins_also =
-    let same : (s, others) ≡ (r, rest) = same_some (s, others) (r, rest) (sym (record_of-spelled script s others begins_also)
-    ∙ record_of-spelled script r rest begins) in
-    (ap (λ (p : Record × List ℕ). p.0) same, ap (λ (p : Record × List ℕ). p.1) same)
+    grind (arith, nat_tests, record_of-spelled script r rest begins, record_of-spelled script s others begins_also)
 
 pub shorter : (script : List ℕ) (r : Record) (rest : List ℕ) → BeginsWithRecord script r rest → length rest < length script
 shorter script r rest begins = grind (arith, nat_tests, zero-lt-suc, length-append)

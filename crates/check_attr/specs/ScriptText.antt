@@ -15,8 +15,7 @@ use Rattle.gix_attributes.specs.Setting.{Origin}
 use Rattle.gix_attributes.specs.Slots.{Matched}
 use Rattle.gix_attributes.specs.Lookups.{OfTheOnlyTable}
 use Rattle.gix_attributes.specs.EngineStates.{EngineState, path_setting, returned_answers}
-use Rattle.check_attr.specs.Script.{Question, Record, add, pop, names, ask, CanBeWritten, BeginsWithRecord, IsMalformed}
-use Rattle.check_attr.specs.Script.{script_of}
+use Rattle.check_attr.specs.Script.{Question, Record, add, pop, names, ask, CanBeWritten, BeginsWithRecord, IsMalformed, script_of}
 use Rattle.check_attr.specs.Failures.{AppendsFront}
 use Rattle.check_attr.specs.ScriptStates.{GlobalLists, next_state, initial_state}
 use Rattle.check_attr.specs.declared.script.Form.{Form}

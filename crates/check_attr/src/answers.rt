@@ -1,49 +1,49 @@
 //! The text of the answers for a path, in the form of its question. It is written in pieces.
 
-ghost use Rattle.std.specs.Prelude.{◌≡◌, ◌≢◌, ◌++◌, OnOk, [], codes, slice_index_or, unwrap_or};
+ghost use Rattle.std.specs.Prelude.{◌≡◌, ◌++◌, OnOk, [], codes, unwrap_or};
 ghost use Rattle.std.specs.List.{flat_map};
 ghost use Rattle.gix_attributes.specs.TextViews.{state_view};
 ghost use Rattle.gix_attributes.specs.Matches.{match_view, cause_of};
-ghost use Rattle.check_attr.specs.inner.Pieces.{FillsNoPiece, PassesOn};
+ghost use Rattle.check_attr.specs.inner.Pieces.{FillsNoPiece, Passes};
 ghost use Rattle.check_attr.specs.inner.MatchText.{match_entry};
-ghost use Rattle.check_attr.specs.ScriptText.{info, cause_text, origin_text, answer_text};
+ghost use Rattle.check_attr.specs.ScriptText.{info, cause_text, origin_text, answer_text, entry_text};
 
 use crate::fault::Fault;
 use crate::held::Held;
-use crate::pieces::write_full;
 use crate::script::{Form, Question};
 use crate::writing::Push;
 use gix_attributes::engine::Engine;
-use gix_attributes::search::{AttributeId, Match, MatchKind};
+use gix_attributes::search::{Match, MatchKind};
 use gix_attributes::{AssignmentRef, StateRef};
-use std::alloc::AllocError;
+use std::alloc::{AllocError, Global};
 
-/// Appends an entry to `held` for each answer to the last question, and writes `held` whenever it fills a piece.
+/// Appends an entry to `held` for each answer to the last question, and writes `held` before each if it fills a piece.
 ///
 /// # Errors
 ///
 /// `Write` if a write failed or took no byte, and `OutOfMemory` if a buffer could not grow. A beginning of the text
 /// may be written then.
 pub fn pass_answers<W: Push>(
+    alloc: Global,
     writer: &mut W,
     held: &mut Held,
     question: Question<'_>,
     engine: &Engine,
 ) -> Result<(), Fault>
-    requires { FillsNoPiece held.old }
-    ensures { PassesOn W.contents W.failed W.stalled writer.old writer.new held.new
+    ensures { Passes W.contents W.failed W.stalled writer.old writer.new held.new
         (held.old ++ flat_map (match_entry question.entry engine.now)
         (unwrap_or engine.now.answers [])) result }
 {
     for one in engine.answers() {
-        push_entry(held, question, engine, one)?;
-        write_full(writer, held)?;
+        held.write_full(writer)?;
+        push_entry(alloc, held, question, engine, one)?;
     }
     Ok(())
 }
 
 // Appends an entry, before which less than a piece is held. So no more is held at any time than a piece and one entry.
 fn push_entry(
+    alloc: Global,
     held: &mut Held,
     question: Question<'_>,
     engine: &Engine,
@@ -53,32 +53,11 @@ fn push_entry(
     ensures { OnOk result (held.new
         ≡ held.old ++ match_entry question.entry engine.now (match_view one.entry)) }
 {
-    if let Form::Line = question.form {
-        return push_line(held, question.path, one.assignment);
+    match question.form {
+        Form::Line => push_line(held, question.path, one.assignment),
+        Form::Zero => push_fields(held, question.path, one.assignment),
+        Form::Origin => push_line_with_origin(alloc, held, question.path, engine, one),
     }
-    push_fields(held, question, engine, one)
-}
-
-// An entry in one of the other forms.
-#[inline(never)]
-fn push_fields(
-    held: &mut Held,
-    question: Question<'_>,
-    engine: &Engine,
-    one: Match<'_>,
-) -> Result<(), AllocError>
-    requires { question.form ≢ Form.Line }
-    ensures { OnOk result (held.new
-        ≡ held.old ++ match_entry question.entry engine.now (match_view one.entry)) }
-{
-    if let Form::Origin = question.form {
-        push_answer(held, question.path, b": ", one.assignment)?;
-        held.push(b"\t")?;
-        push_origin(held, engine, one)?;
-        return held.push(b"\n");
-    }
-    push_answer(held, question.path, b"\0", one.assignment)?;
-    held.push(b"\0")
 }
 
 // The path, the name and the state as a line. What follows the name is appended at once if it is one of few texts.
@@ -103,6 +82,39 @@ fn push_value(held: &mut Held, value: &[u8]) -> Result<(), AllocError>
 {
     held.push(b": ")?;
     held.push(value)?;
+    held.push(b"\n")
+}
+
+// The path, the name and the state, each with NUL behind it.
+#[inline(never)]
+fn push_fields(
+    held: &mut Held,
+    path: &[u8],
+    assignment: AssignmentRef<'_>,
+) -> Result<(), AllocError>
+    ensures { OnOk result (held.new
+        ≡ held.old ++ answer_text path.now (codes "\0") assignment.entry.name.text.now
+        (state_view assignment.entry.state) ++ codes "\0") }
+{
+    push_answer(held, path, b"\0", assignment)?;
+    held.push(b"\0")
+}
+
+// The path, the name and the state as a line, with what decided.
+#[inline(never)]
+fn push_line_with_origin(
+    alloc: Global,
+    held: &mut Held,
+    path: &[u8],
+    engine: &Engine,
+    one: Match<'_>,
+) -> Result<(), AllocError>
+    ensures { let m = match_view one.entry in OnOk result (held.new
+        ≡ held.old ++ entry_text Form.Origin engine.now.state.names path.now m) }
+{
+    push_answer(held, path, b": ", one.assignment)?;
+    held.push(b"\t")?;
+    push_origin(alloc, held, engine, one)?;
     held.push(b"\n")
 }
 
@@ -136,7 +148,12 @@ fn push_info(held: &mut Held, state: StateRef<'_>) -> Result<(), AllocError>
 }
 
 // The source, line and pattern that decided, and the macro. An attribute that no line assigns has none of these.
-fn push_origin(held: &mut Held, engine: &Engine, one: Match<'_>) -> Result<(), AllocError>
+fn push_origin(
+    alloc: Global,
+    held: &mut Held,
+    engine: &Engine,
+    one: Match<'_>,
+) -> Result<(), AllocError>
     ensures { let m = match_view one.entry in OnOk result (held.new
         ≡ held.old ++ origin_text engine.now.state.names m.origin m.cause m.origin.source) }
 {
@@ -148,7 +165,7 @@ fn push_origin(held: &mut Held, engine: &Engine, one: Match<'_>) -> Result<(), A
     held.push(b":")?;
     held.push_number(line)?;
     held.push(b"\t")?;
-    let pattern = one.pattern.write_text(held.allocator())?;
+    let pattern = one.pattern.write_text(alloc)?;
     held.push(&pattern)?;
     held.push(b"\t")?;
     push_cause(held, engine, one.kind)
@@ -160,15 +177,6 @@ fn push_cause(held: &mut Held, engine: &Engine, kind: MatchKind) -> Result<(), A
 {
     match kind.source_id() {
         None => held.push(b"-"),
-        Some(id) => held.push(name_of(engine, id).as_bytes()),
-    }
-}
-
-fn name_of(engine: &Engine, id: AttributeId) -> &str
-    ensures { result.now ≡ slice_index_or engine.now.state.names id.0 [] }
-{
-    match engine.name_of(id) {
-        Some(name) => name,
-        None => "",
+        Some(id) => held.push(engine.name_of(id).unwrap_or("").as_bytes()),
     }
 }

@@ -2,7 +2,6 @@
 
 ghost use Rattle.std.specs.Prelude.{◌≡◌, OnOk};
 ghost use Rattle.check_attr.specs.inner.PassedText.{PassesAnswers, PassesRecord};
-ghost use Rattle.check_attr.specs.inner.Pieces.{FillsNoPiece};
 ghost use Rattle.check_attr.specs.inner.ScriptViews.{question_view, record_view};
 ghost use Rattle.check_attr.specs.ScriptStates.{next_state};
 
@@ -30,7 +29,6 @@ pub fn apply<W: Push>(
     writer: &mut W,
     held: &mut Held,
 ) -> Result<(), Fault>
-    requires { FillsNoPiece held.old }
     ensures state { OnOk result (engine.new.state
         ≡ next_state (record_view next.entry) engine.old.state) }
     ensures text { PassesRecord W.contents W.failed W.stalled engine.old.state
@@ -60,7 +58,6 @@ fn ask<W: Push>(
     writer: &mut W,
     held: &mut Held,
 ) -> Result<(), Fault>
-    requires { FillsNoPiece held.old }
     ensures state { OnOk result (engine.new.state ≡ engine.old.state) }
     ensures text { PassesAnswers W.contents W.failed W.stalled engine.old.state
         (question_view question.entry) writer.old writer.new held.old held.new result }
@@ -71,5 +68,5 @@ fn ask<W: Push>(
         is_dir: question.is_dir,
     };
     engine.ask(alloc, asked)?;
-    pass_answers(writer, held, question, engine)
+    pass_answers(alloc, writer, held, question, engine)
 }

@@ -82,7 +82,7 @@ pub fn program<F: Files, R: Pull, W: Push, E: Push>(
             finish(errors, &outcome)
         }
         Err(error) => {
-            print_refusal(errors, &error);
+            print(errors, refusal_line(&error).as_bytes());
             1
         }
     }
@@ -181,14 +181,13 @@ fn write_malformed<E: Push>(errors: &mut E, number: usize) -> Result<(), Fault>
     write_all(errors, b"\n")
 }
 
-// Prints why the global files are not read.
-fn print_refusal<E: Push>(errors: &mut E, error: &AddError)
-    ensures { Prints E.contents E.failed E.stalled E.Flushed errors.old errors.new
-        (refusal_line error.now) }
+// Why the global files are not read.
+fn refusal_line<'a>(error: &AddError) -> &'a str
+    ensures { result.now ≡ refusal_line error.now }
 {
     match error {
-        AddError::Io(_) => print(errors, b"check_attr: cannot read a global file\n"),
-        AddError::OutOfMemory => print(errors, b"check_attr: out of memory\n"),
+        AddError::Io(_) => "check_attr: cannot read a global file\n",
+        AddError::OutOfMemory => "check_attr: out of memory\n",
     }
 }
 

@@ -1,13 +1,12 @@
 //! The text that reports the lines that lists drop.
 
-ghost use Rattle.std.specs.Prelude.{◌≡◌, ◌++◌, OnOk};
+ghost use Rattle.std.specs.Prelude.{◌≡◌, ◌<◌, ◌+◌, ◌++◌, OnOk, length};
 ghost use Rattle.std.specs.List.{flat_map};
-ghost use Rattle.check_attr.specs.inner.Pieces.{FillsNoPiece, PassesOn};
+ghost use Rattle.check_attr.specs.inner.Pieces.{Passes};
 ghost use Rattle.check_attr.specs.ScriptText.{dropped_text, reason_word};
 
 use crate::fault::Fault;
 use crate::held::Held;
-use crate::pieces::write_full;
 use crate::writing::Push;
 use gix_attributes::search::{DropReason, Dropped};
 use std::alloc::AllocError;
@@ -27,8 +26,8 @@ pub fn push_dropped(held: &mut Held, source: &str, dropped: &[Dropped]) -> Resul
     Ok(())
 }
 
-/// Appends a line of text to `held` for each dropped line of a list of this source, and writes `held` whenever it
-/// fills a piece.
+/// Appends a line of text to `held` for each dropped line of a list of this source, and writes `held` before each if
+/// it fills a piece.
 ///
 /// # Errors
 ///
@@ -40,8 +39,7 @@ pub fn pass_dropped<W: Push>(
     source: &str,
     dropped: &[Dropped],
 ) -> Result<(), Fault>
-    requires { FillsNoPiece held.old }
-    ensures { PassesOn W.contents W.failed W.stalled writer.old writer.new held.new
+    ensures { Passes W.contents W.failed W.stalled writer.old writer.new held.new
         (held.old ++ flat_map (dropped_text source.now) dropped.now) result }
 {
     for line in dropped {
@@ -50,19 +48,21 @@ pub fn pass_dropped<W: Push>(
     Ok(())
 }
 
-// Passes a line on. Less than a piece is held before it, so no more is held at any time than a piece and one line.
+// Passes a line on. No more is held after it than a piece and this line.
 fn pass_line<W: Push>(
     writer: &mut W,
     held: &mut Held,
     source: &str,
     dropped: Dropped,
 ) -> Result<(), Fault>
-    requires { FillsNoPiece held.old }
-    ensures { PassesOn W.contents W.failed W.stalled writer.old writer.new held.new
+    ensures passed { Passes W.contents W.failed W.stalled writer.old writer.new held.new
         (held.old ++ dropped_text source.now dropped) result }
+    ensures bound { OnOk result (length held.new
+        < 65536 + length (dropped_text source.now dropped)) }
 {
+    held.write_full(writer)?;
     push_line(held, source, dropped)?;
-    write_full(writer, held)
+    Ok(())
 }
 
 fn push_line(held: &mut Held, source: &str, dropped: Dropped) -> Result<(), AllocError>

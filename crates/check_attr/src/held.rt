@@ -1,14 +1,20 @@
-//! Text that is held in memory before it is written. If the buffer can't grow, what it holds is not specified.
+//! Text that is held in memory before it is written, in pieces. If the buffer can't grow, what it holds is not specified.
 
 ghost use Rattle.std.specs.Prelude.{◌≡◌, ◌+◌, ◌≤◌, ◌++◌, OnOk, [], length, take};
 ghost use Rattle.std.specs.Fmt.{decimal};
+ghost use Rattle.check_attr.specs.inner.Pieces.{FillsNoPiece, Passes};
 
+use crate::fault::Fault;
+use crate::writing::{Push, write_bytes};
 use itoa::Buffer;
 use std::alloc::{AllocError, Global};
 use std::marker::Model;
 
 // So many bytes of room are made at once.
 const ROOM: usize = 4096;
+
+// The length of a piece in bytes: so many are held before they are written.
+const PIECE: usize = 1 << 16;
 
 /// Text that is held: the first bytes of a buffer. What follows them is room for more, so that most texts are appended by
 /// a copy alone.
@@ -37,11 +43,6 @@ impl Held {
             buffer: Vec::new(alloc),
             len: 0,
         }
-    }
-
-    /// What the buffer grows by.
-    pub fn allocator(&self) -> Global {
-        *self.buffer.allocator()
     }
 
     /// The text that is held.
@@ -85,6 +86,24 @@ impl Held {
         ensures { OnOk result (self.new ≡ self.old ++ decimal number) }
     {
         self.push(Buffer::new().format(number).as_bytes())
+    }
+
+    /// Writes what is held if it fills a piece, and then holds nothing.
+    ///
+    /// # Errors
+    ///
+    /// `Write` if a write failed or took no byte.
+    pub fn write_full<W: Push>(&mut self, writer: &mut W) -> Result<(), Fault>
+        ensures passed { Passes W.contents W.failed W.stalled writer.old writer.new
+            self.new self.old result }
+        ensures unfilled { OnOk result (FillsNoPiece self.new) }
+    {
+        if self.text().len() < PIECE {
+            return Ok(());
+        }
+        write_bytes(writer, self.text())?;
+        self.clear();
+        Ok(())
     }
 }
 

@@ -12,7 +12,6 @@ mod global_lists;
 mod held;
 pub mod laws;
 mod line_report;
-mod pieces;
 mod reading;
 mod script;
 mod script_run;

@@ -49,12 +49,13 @@ fn report(alloc: Global, input: &[u8]) -> Result<Held, AllocError>
 {
     let mut held = Held::new(alloc);
     for line in parse::parse(alloc, input) {
-        push_line(&mut held, line)?;
+        push_line(alloc, &mut held, line)?;
     }
     Ok(held)
 }
 
 fn push_line(
+    alloc: Global,
     held: &mut Held,
     line: Result<(Kind, Iter<'_>, usize), parse::Error>,
 ) -> Result<(), AllocError>
@@ -62,7 +63,7 @@ fn push_line(
         (λ x. held.new ≡ held.old ++ line_text x)) }
 {
     match line {
-        Ok((_kind, items, number)) => push_parsed(held, items, number),
+        Ok((_kind, items, number)) => push_parsed(alloc, held, items, number),
         Err(
             parse::Error::MacroName {
                 line,
@@ -79,21 +80,26 @@ fn push_line(
     }
 }
 
-fn push_parsed(held: &mut Held, items: Iter<'_>, number: usize) -> Result<(), AllocError>
+fn push_parsed(
+    alloc: Global,
+    held: &mut Held,
+    items: Iter<'_>,
+    number: usize,
+) -> Result<(), AllocError>
     ensures { OnOk result (held.new ≡ held.old
         ++ (decimal number ++ codes ":" ++ flat_map item_text items.entry ++ codes "\n")) }
 {
     held.push_number(number)?;
     held.push(b":")?;
-    push_items(held, items)?;
+    push_items(alloc, held, items)?;
     held.push(b"\n")
 }
 
-fn push_items(held: &mut Held, items: Iter<'_>) -> Result<(), AllocError>
+fn push_items(alloc: Global, held: &mut Held, items: Iter<'_>) -> Result<(), AllocError>
     ensures { OnOk result (held.new ≡ held.old ++ flat_map item_text items.entry) }
 {
     for item in items {
-        push_item(held, item)?;
+        push_item(alloc, held, item)?;
     }
     Ok(())
 }
@@ -107,6 +113,7 @@ fn push_refused(held: &mut Held, number: usize, why: &[u8]) -> Result<(), AllocE
 
 // An item, or the refused name as its bytes.
 fn push_item(
+    alloc: Global,
     held: &mut Held,
     item: Result<AssignmentRef<'_>, AttrError<'_>>,
 ) -> Result<(), AllocError>
@@ -114,7 +121,7 @@ fn push_item(
 {
     match item {
         Ok(assignment) => {
-            let text = format!(in held.allocator(); " {assignment}")?;
+            let text = format!(in alloc; " {assignment}")?;
             held.push(text.as_bytes())
         }
         Err(AttrError::InvalidName(name) | AttrError::Reserved(name)) => {

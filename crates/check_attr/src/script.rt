@@ -1,14 +1,13 @@
 //! The parser of scripts: the records `add`, `pop`, `names` and `ask`, one after the other.
 
-ghost use Rattle.std.specs.Prelude.{◌≡◌, ◌<◌, ◌≤◌, ◌==◌, ◌||◌, not, slice_index, ◌∷◌, [], true, false, Some, None, IfOk, length, position, option_map, map, codes, if◌then◌else◌};
+ghost use Rattle.std.specs.Prelude.{◌≡◌, ◌≤◌, ◌==◌, ◌∷◌, [], true, false, Some, None, IfOk, length, position, option_map, map, codes, if◌then◌else◌};
 ghost use Rattle.std.specs.Char.{is_ascii_digit};
 ghost use Rattle.std.specs.List.{list_all};
 ghost use Rattle.std.specs.Option.{option_copied};
 ghost use Rattle.std.specs.Str.{is_utf8};
 ghost use Rattle.gix_attributes.specs.LinesJoined.{line_feed};
-ghost use Rattle.check_attr.specs.inner.ScriptParts.{IsFirstRecord, IsNumberBefore, strip_prefix, choice_of, cases, directory_flags, forms, macro_flags, split_once, split_at, if_text, is_number, digits_value, digit_zero, most_digits, number_before, root_length, root_of, add_header, addition_of, add_record, names_record, ask_record, text_lines, ask_header, question_of, ◌then◌};
-ghost use Rattle.gix_attributes.specs.EngineView.{addition_view};
-ghost use Rattle.check_attr.specs.inner.ScriptViews.{add_header_view, ask_header_view, lines_view, part_view, question_view, record_view, with_rest};
+ghost use Rattle.check_attr.specs.inner.ScriptParts.{IsFirstRecord, IsNumberBefore, strip_prefix, choice_of, cases, directory_flags, forms, macro_flags, split_once, split_at, if_text, is_number, digits_value, most_digits, number_before, root_length, root_of, addition_of, add_record, names_record, ask_record, text_lines, ◌then◌};
+ghost use Rattle.check_attr.specs.inner.ScriptViews.{lines_view, part_view, record_view, with_rest};
 
 use gix_attributes::engine::Addition;
 use gix_attributes::glob::pattern::Case;
@@ -55,23 +54,6 @@ pub struct Question<'a> {
     pub path: &'a [u8],
 }
 
-// What comes before the parts of an addition: their lengths in bytes.
-#[derive(Clone, Copy)]
-struct AddHeader {
-    allow_macros: bool,
-    source: usize,
-    root: Option<usize>,
-    buffer: usize,
-}
-
-// What comes before the path of a question.
-#[derive(Clone, Copy)]
-struct AskHeader {
-    form: Form,
-    case: Case,
-    is_dir: Option<bool>,
-}
-
 /// Parses the first record, and returns it with the bytes after it, or none if it is malformed.
 ///
 /// A count of lines or bytes in the record reserves no memory.
@@ -102,16 +84,56 @@ pub fn record_of(alloc: Global, bytes: &[u8]) -> Result<Option<(Record<'_>, &[u8
 fn add_record(bytes: &[u8]) -> Option<(Record<'_>, &[u8])>
     ensures { option_map (with_rest record_view) result ≡ add_record bytes.now }
 {
-    let (header, rest) = add_header(bytes)?;
-    let (addition, rest) = addition_of(header, rest)?;
+    let (allow_macros, rest) = macro_flag(bytes)?;
+    let (source_len, rest) = number_before(b' ', rest)?;
+    let (root_len, rest) = root_length(rest)?;
+    let (buffer_len, rest) = number_before(b'\n', rest)?;
+    addition_of(allow_macros, source_len, root_len, buffer_len, rest)
+}
+
+// An addition whose parts have these lengths in bytes.
+fn addition_of(
+    allow_macros: bool,
+    source_len: usize,
+    root_len: Option<usize>,
+    buffer_len: usize,
+    bytes: &[u8],
+) -> Option<(Record<'_>, &[u8])>
+    ensures { option_map (with_rest record_view) result
+        ≡ addition_of allow_macros source_len root_len buffer_len bytes.now }
+{
+    let (source, rest) = split_text(source_len, bytes)?;
+    let (root, rest) = root_of(root_len, rest)?;
+    let (buffer, rest) = split_at(buffer_len, rest)?;
+    let [b'\n', rest @ ..] = rest else {
+        return None;
+    };
+    let addition = Addition {
+        allow_macros,
+        source,
+        root,
+        buffer,
+    };
     Some((Record::Add(addition), rest))
 }
 
 fn ask_record(bytes: &[u8]) -> Option<(Record<'_>, &[u8])>
     ensures { option_map (with_rest record_view) result ≡ ask_record bytes.now }
 {
-    let (header, rest) = ask_header(bytes)?;
-    let (question, rest) = question_of(header, rest)?;
+    let (form, rest) = form_of(bytes)?;
+    let (case, rest) = case_of(rest)?;
+    let (is_dir, rest) = directory_flag(rest)?;
+    let (path_len, rest) = number_before(b'\n', rest)?;
+    let (path, rest) = split_at(path_len, rest)?;
+    let [b'\n', rest @ ..] = rest else {
+        return None;
+    };
+    let question = Question {
+        form,
+        case,
+        is_dir,
+        path,
+    };
     Some((Record::Ask(question), rest))
 }
 
@@ -126,22 +148,6 @@ fn names_record(alloc: Global, bytes: &[u8]) -> Result<Option<(Record<'_>, &[u8]
         Some((lines, rest)) => Ok(Some((Record::Names(lines), rest))),
         None => Ok(None),
     }
-}
-
-fn add_header(bytes: &[u8]) -> Option<(AddHeader, &[u8])>
-    ensures { option_map (with_rest add_header_view) result ≡ add_header bytes.now }
-{
-    let (allow_macros, rest) = macro_flag(bytes)?;
-    let (source, rest) = number_before(b' ', rest)?;
-    let (root, rest) = root_length(rest)?;
-    let (buffer, rest) = number_before(b'\n', rest)?;
-    let header = AddHeader {
-        allow_macros,
-        source,
-        root,
-        buffer,
-    };
-    Some((header, rest))
 }
 
 fn macro_flag(bytes: &[u8]) -> Option<(bool, &[u8])>
@@ -162,25 +168,6 @@ fn root_length(bytes: &[u8]) -> Option<(Option<usize>, &[u8])>
     }
     let (length, rest) = number_before(b' ', bytes)?;
     Some((Some(length), rest))
-}
-
-fn addition_of(header: AddHeader, bytes: &[u8]) -> Option<(Addition<'_>, &[u8])>
-    ensures { option_map (with_rest addition_view) result
-        ≡ addition_of (add_header_view header) bytes.now }
-{
-    let (source, rest) = split_text(header.source, bytes)?;
-    let (root, rest) = root_of(header.root, rest)?;
-    let (buffer, rest) = split_at(header.buffer, rest)?;
-    let [b'\n', rest @ ..] = rest else {
-        return None;
-    };
-    let addition = Addition {
-        allow_macros: header.allow_macros,
-        source,
-        root,
-        buffer,
-    };
-    Some((addition, rest))
 }
 
 fn root_of(length: Option<usize>, bytes: &[u8]) -> Option<(Option<&str>, &[u8])>
@@ -223,15 +210,6 @@ fn text_line(bytes: &[u8]) -> Option<(&str, &[u8])>
     Some((as_text(line)?, rest))
 }
 
-fn ask_header(bytes: &[u8]) -> Option<(AskHeader, &[u8])>
-    ensures { option_map (with_rest ask_header_view) result ≡ ask_header bytes.now }
-{
-    let (form, rest) = form_of(bytes)?;
-    let (case, rest) = case_of(rest)?;
-    let (is_dir, rest) = directory_flag(rest)?;
-    Some((AskHeader { form, case, is_dir }, rest))
-}
-
 fn form_of(bytes: &[u8]) -> Option<(Form, &[u8])>
     ensures { option_map (with_rest (λ f. f)) result ≡ choice_of forms bytes.now }
 {
@@ -264,24 +242,6 @@ fn directory_flag(bytes: &[u8]) -> Option<(Option<bool>, &[u8])>
     }
 }
 
-fn question_of(header: AskHeader, bytes: &[u8]) -> Option<(Question<'_>, &[u8])>
-    ensures { option_map (with_rest question_view) result
-        ≡ question_of (ask_header_view header) bytes.now }
-{
-    let (count, rest) = number_before(b'\n', bytes)?;
-    let (path, rest) = split_at(count, rest)?;
-    let [b'\n', rest @ ..] = rest else {
-        return None;
-    };
-    let question = Question {
-        form: header.form,
-        case: header.case,
-        is_dir: header.is_dir,
-        path,
-    };
-    Some((question, rest))
-}
-
 // The bytes before the first separator, and those after it.
 fn split_once(separator: u8, bytes: &[u8]) -> Option<(&[u8], &[u8])>
     ensures { option_map (with_rest part_view) result ≡ split_once separator bytes.now }
@@ -293,12 +253,7 @@ fn split_once(separator: u8, bytes: &[u8]) -> Option<(&[u8], &[u8])>
 fn position_of(separator: u8, bytes: &[u8]) -> Option<usize>
     ensures { result ≡ position (λ b. b == separator) bytes.now }
 {
-    for (offset, byte) in bytes.iter().enumerate() {
-        if *byte == separator {
-            return Some(offset);
-        }
-    }
-    None
+    bytes.iter().position(|byte| *byte == separator)
 }
 
 fn split_at(count: usize, bytes: &[u8]) -> Option<(&[u8], &[u8])>
@@ -338,17 +293,11 @@ fn number_before(separator: u8, bytes: &[u8]) -> Option<(usize, &[u8])>
 fn number_of(word: &[u8]) -> Option<usize>
     ensures { result ≡ if is_number word.now then Some (digits_value word.now) else None }
 {
-    if word.is_empty() || word.len() > MOST_DIGITS || !has_no_leading_zero(word) {
-        return None;
+    match word {
+        [] | [b'0', _, ..] => None,
+        _ if word.len() > MOST_DIGITS => None,
+        _ => digits_value(word),
     }
-    digits_value(word)
-}
-
-fn has_no_leading_zero(word: &[u8]) -> bool
-    requires { 0 < length word.now }
-    ensures { result ≡ (length word.now == 1 || not (slice_index word.now 0 == digit_zero)) }
-{
-    word.len() == 1 || word[0] != b'0'
 }
 
 fn digits_value(word: &[u8]) -> Option<usize>

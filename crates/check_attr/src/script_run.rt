@@ -2,10 +2,11 @@
 
 ghost use Rattle.std.specs.Prelude.{◌≡◌, ◌≢◌, ◌⊎◌, ℕ, [], None, Some, Err, OnOk, IsErrOf};
 ghost use Rattle.std.specs.Io.KnownBytes.{IsAtEnd};
-ghost use Rattle.check_attr.specs.Outcomes.{CountsReads, CountsWrites, ReadsInputFirst, UsesReader};
+ghost use Rattle.check_attr.specs.Outcomes.{CountsReads, CountsWrites, ReadsInputFirst};
 ghost use Rattle.check_attr.specs.Program.{Plays};
 ghost use Rattle.check_attr.specs.ScriptText.{AppendsFrontFrom, AppendsTextFrom, WritesText, WritesTextFront};
-ghost use Rattle.check_attr.specs.inner.PassedText.{PassesScript};
+ghost use Rattle.check_attr.specs.inner.Whole.{ReadsFirst};
+ghost use Rattle.check_attr.specs.inner.PassedText.{PassesScript, PlaysInMemory};
 
 use crate::applying::apply;
 use crate::fault::Fault;
@@ -65,8 +66,8 @@ pub(crate) fn run_over<R: Pull, W: Push>(
 ) -> Result<(), Fault>
     ensures plays { Plays W.contents W.failed W.stalled W.Flushed engine.old.state
         (R.remaining reader.old) writer.old writer.new result }
-    ensures reader { UsesReader R.remaining R.failed reader.old reader.new result }
-    ensures first { ReadsInputFirst (R.remaining reader.new) writer.old writer.new }
+    ensures reader { ReadsFirst R.remaining R.failed reader.old reader.new
+        writer.old writer.new result }
 {
     let script = read_all(alloc, reader)?;
     play_over(alloc, &script, engine, writer)
@@ -111,9 +112,8 @@ fn play_over<W: Push>(
     engine: &mut Engine,
     writer: &mut W,
 ) -> Result<(), Fault>
-    ensures plays { Plays W.contents W.failed W.stalled W.Flushed engine.old.state
-        (Some script.now) writer.old writer.new result }
-    ensures read { result ≢ Err Fault.Read }
+    ensures { PlaysInMemory W.contents W.failed W.stalled W.Flushed engine.old.state
+        script.now writer.old writer.new result }
 {
     let mut held = Held::new(alloc);
     let malformed = answer(alloc, script, engine, writer, &mut held)?;

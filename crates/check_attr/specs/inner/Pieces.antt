@@ -1,5 +1,5 @@
 -- What is written of a text, and what is held of it to be written later (own).
-use Rattle.std.specs.Prelude.{◌≡◌, ◌<◌, ℕ, List, ◌++◌, length, Option, Result, Ok, Err, OnOk}
+use Rattle.std.specs.Prelude.{◌≡◌, ◌<◌, ℕ, List, ◌++◌, length, Option, Result, Ok, Err}
 use Rattle.std.specs.Io.KnownBytes.{Appends}
 use Rattle.check_attr.specs.Failures.{AppendsFront, CountsOneEnd}
 use Rattle.check_attr.specs.declared.fault.Fault.{Fault}
@@ -24,9 +24,3 @@ Passes contents failed stalled old new held text (Err Write) =
     AppendsFront (contents old) (contents new) text × CountsOneEnd (failed old) (failed new) (stalled old) (stalled new)
 Passes contents failed stalled old new held text (Err OutOfMemory) =
     AppendsFront (contents old) (contents new) text × (failed new ≡ failed old) × (stalled new ≡ stalled old)
-
--- the same, and if it went well, less than a piece is held
-pub record PassesOn {T W : Type 0} (contents : W → Option (List ℕ)) (failed stalled : W → ℕ) (old new : W) (held text : List ℕ)
-    (result : Result T Fault) : Type 0 where
-  pub passed : Passes contents failed stalled old new held text result
-  pub unfilled : OnOk result (FillsNoPiece held)

@@ -1,17 +1,14 @@
 -- How a script is read, part after part (own).
-use Rattle.std.specs.Prelude.{◌≡◌, ◌≢◌, ◌++◌, decimal, ℕ, zero, suc, ◌+◌, ◌-◌, ◌*◌, Bool, true, false, not, ◌&&◌, ◌||◌, ◌==◌}
-use Rattle.std.specs.Prelude.{nat_eq, nat_lt, nat_le}
-use Rattle.std.specs.Prelude.{List, [], ◌∷◌, length, take, drop, fold, position, slice_index, Option, Some, None, option_map}
-use Rattle.std.specs.Prelude.{option_and_then, codes, if◌then◌else◌}
+use Rattle.std.specs.Prelude.{◌≡◌, ◌≢◌, ◌++◌, decimal, ℕ, zero, suc, ◌+◌, ◌-◌, ◌*◌, Bool, true, false, not, ◌&&◌, ◌||◌, ◌==◌, nat_eq, nat_lt, nat_le}
+use Rattle.std.specs.Prelude.{List, [], ◌∷◌, length, take, drop, fold, position, slice_index, Option, Some, None, option_map, option_and_then, codes}
+use Rattle.std.specs.Prelude.{if◌then◌else◌}
 use Rattle.std.specs.Char.{is_ascii_digit}
 use Rattle.std.specs.List.{list_all, starts_with}
 use Rattle.std.specs.Str.{is_utf8}
 use Rattle.gix_attributes.specs.declared.glob.pattern.Case.{Case}
 use Rattle.gix_attributes.specs.declared.glob.pattern.Case.TheVariants.{Sensitive, Fold}
 use Rattle.gix_attributes.specs.LinesJoined.{line_feed}
-use Rattle.gix_attributes.specs.EngineStates.{AddedFile}
-use Rattle.check_attr.specs.Script.{Question, Record, add, pop, names, ask, space, IsHeaderNumber, BeginsWithRecord}
-use Rattle.check_attr.specs.Script.{IsMalformed}
+use Rattle.check_attr.specs.Script.{Record, add, pop, names, ask, space, IsHeaderNumber, BeginsWithRecord, IsMalformed}
 use Rattle.check_attr.specs.declared.script.Form.{Form}
 use Rattle.check_attr.specs.declared.script.Form.TheVariants.{Line, Zero, Origin}
 
@@ -91,33 +88,6 @@ cases = (codes "s ", Sensitive) ∷ (codes "i ", Fold) ∷ []
 abbrev pub directory_flags : List (List ℕ × Option Bool)
 directory_flags = (codes "d ", Some true) ∷ (codes "f ", Some false) ∷ (codes "u ", None) ∷ []
 
--- the header of an `add` record: whether the file may define macros, and the lengths of the parts in bytes
-pub record AddHeader : Type 0 where
-  pub allow_macros : Bool
-  pub source : ℕ
-  pub root : Option ℕ
-  pub buffer : ℕ
-
--- `A S R N` and a line feed: the letter of macros, and three lengths
-abbrev pub add_header : List ℕ → Option (AddHeader × List ℕ)
-add_header bytes =
-    choice_of macro_flags bytes then λ allow_macros.
-    number_before space allow_macros.1 then λ source.
-    root_length source.1 then λ root.
-    option_map
-    (λ buffer. (record { allow_macros = allow_macros.0; source = source.0; root = root.0; buffer = buffer.0 }, buffer.1))
-    (number_before line_feed root.1)
-
--- the parts of an addition, and a line feed
-abbrev pub addition_of : AddHeader → List ℕ → Option (AddedFile × List ℕ)
-addition_of header bytes =
-    (split_at header.source bytes then if_text) then λ source.
-    root_of header.root source.1 then λ root.
-    split_at header.buffer root.1 then λ buffer.
-    option_map
-    (λ rest. (record { allow_macros = header.allow_macros; source = source.0; root = root.0; buffer = buffer.0 }, rest))
-    (strip_prefix (codes "\n") buffer.1)
-
 -- this many lines, each of them UTF-8
 abbrev pub text_lines : ℕ → List ℕ → Option (List (List ℕ) × List ℕ)
 text_lines zero bytes = Some ([], bytes)
@@ -125,42 +95,40 @@ text_lines (suc count) bytes =
     (split_once line_feed bytes then if_text) then λ line.
     option_map (λ others. (line.0 ∷ others.0, others.1)) (text_lines count line.1)
 
--- the header of an `ask` record: `F C D`, the form, the case rule and whether the path is a directory
-pub record AskHeader : Type 0 where
-  pub form : Form
-  pub case : Case
-  pub is_dir : Option Bool
+-- the parts of an addition, which have these lengths in bytes, and a line feed
+abbrev pub addition_of : Bool → ℕ → Option ℕ → ℕ → List ℕ → Option (Record × List ℕ)
+addition_of allow_macros source_len root_len buffer_len bytes =
+    (split_at source_len bytes then if_text) then λ source.
+    root_of root_len source.1 then λ root.
+    split_at buffer_len root.1 then λ buffer.
+    option_map (λ rest. (add (record { allow_macros = allow_macros; source = source.0; root = root.0; buffer = buffer.0 }), rest))
+    (strip_prefix (codes "\n") buffer.1)
 
-abbrev pub ask_header : List ℕ → Option (AskHeader × List ℕ)
-ask_header bytes =
-    choice_of forms bytes then λ form.
-    choice_of cases form.1 then λ case.
-    option_map (λ is_dir. (record { form = form.0; case = case.0; is_dir = is_dir.0 }, is_dir.1))
-    (choice_of directory_flags case.1)
-
--- the length of a path, the path, and a line feed
-abbrev pub question_of : AskHeader → List ℕ → Option (Question × List ℕ)
-question_of header bytes =
-    number_before line_feed bytes then λ count.
-    split_at count.0 count.1 then λ path.
-    option_map (λ rest. (record { form = header.form; case = header.case; is_dir = header.is_dir; path = path.0 }, rest))
-    (strip_prefix (codes "\n") path.1)
-
--- what follows `add `, `names ` and `ask `
+-- what follows `add `: the letter of macros and three lengths, and then the parts
 abbrev pub add_record : List ℕ → Option (Record × List ℕ)
 add_record bytes =
-    add_header bytes then λ header.
-    option_map (λ addition. (add addition.0, addition.1)) (addition_of header.0 header.1)
+    choice_of macro_flags bytes then λ allow_macros.
+    number_before space allow_macros.1 then λ source_len.
+    root_length source_len.1 then λ root_len.
+    number_before line_feed root_len.1 then λ buffer_len.
+    addition_of allow_macros.0 source_len.0 root_len.0 buffer_len.0 buffer_len.1
 
+-- what follows `names `: the number of names, and each as a line
 abbrev pub names_record : List ℕ → Option (Record × List ℕ)
 names_record bytes =
     number_before line_feed bytes then λ count.
     option_map (λ lines. (names lines.0, lines.1)) (text_lines count.0 count.1)
 
+-- what follows `ask `: the form, the case rule and whether the path is a directory, its length, and then the path and a line feed
 abbrev pub ask_record : List ℕ → Option (Record × List ℕ)
 ask_record bytes =
-    ask_header bytes then λ header.
-    option_map (λ question. (ask question.0, question.1)) (question_of header.0 header.1)
+    choice_of forms bytes then λ form.
+    choice_of cases form.1 then λ case.
+    choice_of directory_flags case.1 then λ is_dir.
+    number_before line_feed is_dir.1 then λ path_len.
+    split_at path_len.0 path_len.1 then λ path.
+    option_map (λ rest. (ask (record { form = form.0; case = case.0; is_dir = is_dir.0; path = path.0 }), rest))
+    (strip_prefix (codes "\n") path.1)
 
 -- the first record, and the bytes after it; none if the record is malformed
 abbrev pub record_of : List ℕ → Option (Record × List ℕ)

@@ -3,7 +3,7 @@ use Rattle.std.specs.Prelude.{◌≡◌, ◌⊎◌, ℕ, List, Vec, Option, IfSo
 use Rattle.std.specs.Global.{Global}
 use Rattle.std.specs.Io.KnownBytes.{Appends}
 use Rattle.check_attr.specs.Failures.{AppendsFront, LosesFront}
-use Rattle.check_attr.specs.Outcomes.{CountsWrites, UsesReader}
+use Rattle.check_attr.specs.Outcomes.{CountsWrites, ReadsInputFirst, UsesReader}
 use Rattle.check_attr.specs.declared.fault.Fault.{Fault}
 use Rattle.check_attr.specs.declared.fault.Fault.TheVariants.{Read, Write, OutOfMemory}
 
@@ -14,6 +14,12 @@ pub record ReadsWhole {R : Type 0} (remaining : R → Option (List ℕ)) (failed
   pub rest : OnErr result (LosesFront (remaining old) (remaining new))
   pub reader : UsesReader remaining failed old new result
   pub only : IfErr result (λ fault. (fault ≡ Read) ⊎ (fault ≡ OutOfMemory))
+
+-- what a run says of its reader, and that nothing was written, or the whole input was read before
+pub record ReadsFirst {T R W : Type 0} (remaining : R → Option (List ℕ)) (failed : R → ℕ) (old new : R) (before after : W)
+    (outcome : Result T Fault) : Type 0 where
+  pub reader : UsesReader remaining failed old new outcome
+  pub first : ReadsInputFirst (remaining new) before after
 
 -- a text was written whole; or a beginning of it, and then a write failed or took no byte
 pub record WritesWhole {T W : Type 0} (contents : W → Option (List ℕ)) (failed stalled : W → ℕ) (old new : W) (text : List ℕ)

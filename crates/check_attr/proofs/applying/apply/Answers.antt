@@ -1,13 +1,12 @@
 -- Each record writes one text.
-use Rattle.std.proofs.Common.{append-nil}
-use Rattle.std.proofs.Common.{arith, [], ◌++◌, refl, ap, ◌∙◌, subst, sym}
+use Rattle.std.proofs.Common.{append-nil, arith, [], ◌++◌, refl, ap, ◌∙◌, subst, sym}
 use Rattle.std.proofs.lemmas.Bool.Decides.{nat_tests}
 use Rattle.std.specs.List.{flat_map}
 use Rattle.gix_attributes.specs.EngineStates.{EngineContent}
 use Rattle.gix_attributes.specs.KeptLists.{dropped_lines}
 use Rattle.gix_attributes.specs.EngineView.{addition_view}
 use Rattle.check_attr.specs.ScriptText.{IsRecordText, dropped_text}
-use Rattle.check_attr.specs.inner.Pieces.{PassesOn}
+use Rattle.check_attr.specs.inner.Pieces.{Passes}
 use Rattle.check_attr.specs.inner.ScriptViews.{record_view}
 use Rattle.check_attr.proofs.PieceLemmas.{holds_all, refused_record}
 use Rattle.check_attr.proofs.applying.apply.Goals as goal
@@ -19,7 +18,7 @@ returns-in_ok-add-in-Add-clause-text g c =
       text,
       subst (λ r. IsRecordText c.args.engine.now.state (record_view r) text) (sym c.in-Add.is) refl,
       subst
-          (λ lines. PassesOn g.W.Push.contents g.W.Push.failed g.W.Push.stalled c.args.writer.now c.pass_dropped.new.writer
+          (λ lines. Passes g.W.Push.contents g.W.Push.failed g.W.Push.stalled c.args.writer.now c.pass_dropped.new.writer
           c.pass_dropped.new.held (c.args.held.now ++ flat_map (dropped_text a.source) lines) c.pass_dropped.result)
           (c.dropped.ensures ∙ ap (λ (held : EngineContent). held.dropped) c.in_ok-add-in-Add.ensures.added) c.pass_dropped.ensures,
     )

@@ -1,7 +1,5 @@
-use Rattle.std.proofs.Common.{arith}
+use Rattle.std.proofs.Common.{arith, append_assoc, None, refl, string_bytes}
 use Rattle.std.proofs.lemmas.Bool.Decides.{nat_tests}
-use Rattle.std.proofs.Common.{append_assoc}
-use Rattle.std.proofs.Common.{None, refl, string_bytes}
 use Rattle.std.proofs.lemmas.Slice.Zip.{either_empty_from_Zip}
 use Rattle.check_attr.proofs.GlobalLemmas.{dropped_report_of, all_reported}
 use Rattle.check_attr.proofs.command.dropped_report.Goals as goal

@@ -1,6 +1,5 @@
-use Rattle.std.proofs.Common.{arith}
+use Rattle.std.proofs.Common.{arith, append_assoc}
 use Rattle.std.proofs.lemmas.Bool.Decides.{nat_tests}
-use Rattle.std.proofs.Common.{append_assoc}
 use Rattle.check_attr.proofs.line_report.push_items.Goals as goal
 
 pub loop-item-preserved : goal.loop-item-preserved

@@ -1,10 +1,8 @@
-use Rattle.std.proofs.Common.{append-nil}
-use Rattle.check_attr.proofs.ScriptLemmas.{text_lines-step}
+use Rattle.std.proofs.Common.{append-nil, ◌≡◌, ℕ, ◌+◌, ◌-◌, List, [], ◌∷◌, ◌++◌, map, vec_len, sym, arith}
+use Rattle.check_attr.proofs.ScriptLemmas.{text_lines-step, text_lines-more}
 use Rattle.std.proofs.lemmas.Bool.Decides.{nat_tests}
-use Rattle.std.proofs.Common.{◌≡◌, ℕ, ◌+◌, ◌-◌, List, [], ◌∷◌, ◌++◌, map, vec_len, sym, arith}
 use Rattle.std.specs.Borrow.{Bor}
 use Rattle.std.proofs.lemmas.List.{map-append}
-use Rattle.check_attr.proofs.ScriptLemmas.{text_lines-more}
 use Rattle.check_attr.proofs.script.text_lines.Goals as goal
 
 pub loop-rest-preserved : goal.loop-rest-preserved

@@ -1,14 +1,15 @@
 use Rattle.std.proofs.lemmas.Bool.Decides.{nat_tests}
 use Rattle.std.proofs.Common.{◌≡◌, ◌<◌, ◌+◌, Some, None, Ok, ◌++◌, length, option_map, refl, sym, ap, ◌∙◌, subst, arith, eqb-true}
-use Rattle.std.specs.Prelude.{◌==◌, ⊤}
+use Rattle.std.proofs.lemmas.List.{nil_from_length}
+use Rattle.std.specs.Prelude.{⊤}
 use Rattle.check_attr.specs.Script.{BeginsWithRecord}
 use Rattle.check_attr.specs.inner.ScriptParts.{IsFirstRecord}
 use Rattle.check_attr.specs.ScriptText.{Writes}
 use Rattle.check_attr.specs.inner.ScriptViews.{record_view, with_rest}
 use Rattle.check_attr.specs.ScriptStates.{next_state}
-use Rattle.check_attr.proofs.RunLemmas.{clash, step, broken, done, no_bytes, some_bytes}
+use Rattle.check_attr.proofs.RunLemmas.{step, broken, done}
 use Rattle.check_attr.proofs.SpellingLemmas.{shorter}
-use Rattle.check_attr.proofs.PieceLemmas.{holds_all, holds_more, no_value, passes_on, passes_refused, stops_as, stops_longer, stops_of, stops_on}
+use Rattle.check_attr.proofs.PieceLemmas.{holds_all, holds_more, no_value, passes_on, passes_refused, stopped}
 use Rattle.check_attr.proofs.TextLemmas.{OneText-of}
 use Rattle.check_attr.proofs.script_run.answer.Goals as goal
 
@@ -16,7 +17,6 @@ pub loop-rest-init : goal.loop-rest-init
 loop-rest-init g c =
     let nothing : length c.args.held.now ≡ 0 = ap length c.requires in record {
       counted = omega arith;
-      unfilled = omega arith;
       passed = (
         c.args.held.now,
         holds_all g.W.Push.contents g.W.Push.failed g.W.Push.stalled c.args.writer.now c.args.held.now,
@@ -34,15 +34,14 @@ loop-rest-preserved g c =
     let so_far = c.loop-rest.invariant.passed in
     record {
       counted = omega (arith, less, c.loop-rest.invariant.counted);
-      unfilled = applied.text.2.unfilled;
       passed = (
         so_far.0 ++ applied.text.0,
         passes_on g.W.Push.contents g.W.Push.failed g.W.Push.stalled _ _ _ _ _ _ (Ok c.in_ok-apply.field-0)
-            (holds_more g.W.Push.contents g.W.Push.failed g.W.Push.stalled _ _ _ _ applied.text.0 so_far.1) applied.text.2.passed,
+            (holds_more g.W.Push.contents g.W.Push.failed g.W.Push.stalled _ _ _ _ applied.text.0 so_far.1)
+            applied.text.2,
         step c.args.engine.now.state c.loop-rest.engine.state c.apply.new.engine.state c.args.script.now
             c.loop-rest.rest.now c.in-Some.others.now
-            c.loop-rest.number (record_view c.in-Some.next) applied.text.0 so_far.0 (so_far.0 ++ applied.text.0)
-            so_far.2 read applied.text.1 applied.state refl,
+            c.loop-rest.number (record_view c.in-Some.next) so_far.0 applied.text.0 so_far.2 read applied.text.1 applied.state,
       );
     }
 
@@ -73,15 +72,13 @@ returns-in_err-apply g c =
       others.0,
       (so_far.0 ++ applied.text.0) ++ others.1,
       step c.args.engine.now.state c.loop-rest.engine.state next c.args.script.now c.loop-rest.rest.now c.in-Some.others.now
-          c.loop-rest.number (record_view c.in-Some.next) applied.text.0 so_far.0 (so_far.0 ++ applied.text.0)
-          so_far.2 read applied.text.1 refl refl others.0 others.1 others.2,
+          c.loop-rest.number (record_view c.in-Some.next) so_far.0 applied.text.0 so_far.2 read applied.text.1 refl others.0 others.1 others.2,
       no_value c.from_residual-in_err-apply.result _ _ c.from_residual-in_err-apply.ensures.1,
-      stops_as g.W.Push.contents g.W.Push.failed g.W.Push.stalled _ _ _ _ _ c.from_residual-in_err-apply.result
+      stopped g.W.Push.contents g.W.Push.failed g.W.Push.stalled ⊤ _ _ _ _ c.apply.new.held _ others.1 _ _ c.from_residual-in_err-apply.result
           c.from_residual-in_err-apply.ensures.1
-          (stops_longer g.W.Push.contents g.W.Push.failed g.W.Push.stalled _ _ _ others.1 _
-          (stops_on g.W.Push.contents g.W.Push.failed g.W.Push.stalled _ _ _ _ _ c.in_err-apply.field-0.0
-          (holds_more g.W.Push.contents g.W.Push.failed g.W.Push.stalled _ _ _ _ applied.text.0 so_far.1)
-          (stops_of g.W.Push.contents g.W.Push.failed g.W.Push.stalled ⊤ _ _ c.apply.new.held _ c.in_err-apply.field-0.0 applied.text.2.passed))),
+          (holds_more g.W.Push.contents g.W.Push.failed g.W.Push.stalled _ _ _ _ others.1
+          (holds_more g.W.Push.contents g.W.Push.failed g.W.Push.stalled _ _ _ _ applied.text.0 so_far.1))
+          applied.text.2,
     )
 
 pub returns-in_default : goal.returns-in_default
@@ -90,8 +87,7 @@ returns-in_default g c =
       Some c.loop-rest.number,
       so_far.0,
       broken c.args.engine.now.state c.loop-rest.engine.state c.args.script.now c.loop-rest.rest.now c.loop-rest.number
-          so_far.0 so_far.2
-          (some_bytes c.loop-rest.rest.now (λ e. clash c.is_empty.result (c.is_empty.ensures ∙ ap (λ n. n == 0) e) c.loop-rest-test.true))
+          so_far.0 so_far.2 (λ e. grind (arith, nat_tests, e, c.is_empty.ensures, c.loop-rest-test.true))
           (subst (λ o. IsFirstRecord c.loop-rest.rest.now (option_map (with_rest record_view) o)) c.in_default.is c.in_ok-next.ensures),
       refl,
       so_far.1,
@@ -104,7 +100,7 @@ returns g c =
       so_far.0,
       done c.args.engine.now.state c.loop-rest.engine.state c.args.script.now c.loop-rest.rest.now c.loop-rest.number
           so_far.0 so_far.2
-          (no_bytes c.loop-rest.rest.now (eqb-true (length c.loop-rest.rest.now) 0 (sym c.is_empty.ensures ∙ c.loop-rest-test.false))),
+          (nil_from_length c.loop-rest.rest.now (eqb-true (length c.loop-rest.rest.now) 0 (sym c.is_empty.ensures ∙ c.loop-rest-test.false))),
       refl,
       so_far.1,
     )

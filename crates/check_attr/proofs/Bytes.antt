@@ -1,1 +1,0 @@
--- Lemmas on what a reader gave, and on what a writer took, in several calls.
