@@ -1,21 +1,18 @@
 -- Definitions of macros, by list.
-use Rattle.std.proofs.Common.{◌≡◌, ℕ, Bool, true, false, not, List, [], ◌∷◌, ◌++◌, map, filter, refl, ap, arith}
+use Rattle.std.proofs.Common.{◌≡◌, ℕ, false, not, List, [], ◌∷◌, ◌++◌, map, filter, refl, ap, arith}
 use Rattle.std.proofs.lemmas.Bool.{cases_Bool, cond-true, cond-false}
 use Rattle.std.proofs.lemmas.List.{append-nil, map-append}
 use Rattle.std.proofs.lemmas.List.Elements.{filter-append}
 use Rattle.attr_lists.specs.declared.types.TrackedAssignment.{TrackedAssignment}
-use Rattle.attr_lists.specs.Definitions.{is_definition, bodies_defined, defines_name, bodies_named, bodies_of_list, definition_of}
+use Rattle.attr_lists.specs.Definitions.{is_definition, bodies_defined, bodies_named, bodies_of_list, definition_of}
 use Rattle.attr_lists.specs.Definitions.{is_of_list, of_other_lists}
 use Rattle.attr_lists.specs.ListViews.{Entry}
 use Rattle.attr_lists.specs.Collections.{MacroDefinition}
 
-filter-same : {X : Type 0} (p q : X → Bool) → ((x : X) → p x ≡ true → q x ≡ true) → (xs : List X) → filter q (filter p xs) ≡ filter p xs
-filter-same p q both [] = refl
-filter-same p q both (x ∷ xs) = grind (arith, filter, cond-true, cond-false, cases_Bool, filter-same p q both xs)
-
 -- what is not under a list id stays so
 pub of_other_lists-again : (list_id : ℕ) (ds : List MacroDefinition) → of_other_lists list_id (of_other_lists list_id ds) ≡ of_other_lists list_id ds
-of_other_lists-again list_id ds = filter-same (λ d. not (is_of_list list_id d)) (λ d. not (is_of_list list_id d)) (λ x h. h) ds
+of_other_lists-again list_id [] = refl
+of_other_lists-again list_id (d ∷ ds) = grind (arith, filter, cond-true, cond-false, cases_Bool, of_other_lists-again list_id ds)
 
 pub of_other_lists-append : (list_id : ℕ) (xs ys : List MacroDefinition) → of_other_lists list_id (xs ++ ys) ≡ of_other_lists list_id xs ++
     of_other_lists
@@ -44,12 +41,6 @@ bodies_defined-none number entry e = ap (map (λ (x : Entry). x.items)) (cond-fa
 pub bodies_named-cons : (name : List ℕ) (entry : Entry) (entries : List Entry) → bodies_named name (entry ∷ entries) ≡ bodies_named name
     (entry ∷ []) ++ bodies_named name entries
 bodies_named-cons name entry entries = grind (arith, filter-append, map-append, filter)
-
-pub bodies_named-one : (name : List ℕ) (entry : Entry) → defines_name name entry ≡ true → bodies_named name (entry ∷ []) ≡ entry.items ∷ []
-bodies_named-one name entry e = ap (map (λ (x : Entry). x.items)) (cond-true (defines_name name entry) (entry ∷ []) [] e)
-
-pub bodies_named-none : (name : List ℕ) (entry : Entry) → defines_name name entry ≡ false → bodies_named name (entry ∷ []) ≡ []
-bodies_named-none name entry e = ap (map (λ (x : Entry). x.items)) (cond-false (defines_name name entry) (entry ∷ []) [] e)
 
 -- the bodies of a list in two parts
 pub bodies_of_list-append : (list_id : ℕ) (xs ys : List MacroDefinition)

@@ -1,12 +1,14 @@
 -- What is entries of names, by number.
-use Rattle.std.proofs.Common.{◌≡◌, ◌≢◌, ℕ, suc, ◌+◌, ◌<◌, Bool, not, eqb, List, [], ◌∷◌, ◌++◌, length, get_or, set}
+use Rattle.std.proofs.Common.{◌≡◌, ◌≢◌, ℕ, suc, ◌+◌, ◌<◌, ◌≤◌, not, eqb, List, [], ◌∷◌, ◌++◌, length, get_or, set}
 use Rattle.std.proofs.Common.{take, drop, map, filter, All, refl, sym, ap, subst, ◌∙◌, ⊎_elim, inl, inr, arith, ne_eqb, eq-eqb}
+use Rattle.std.specs.List.{AllZip}
 use Rattle.std.specs.List.Sorted.{IsNonDecreasingBy}
-use Rattle.std.proofs.lemmas.Bool.{cases_Bool, cases_eq, cond-true, cond-false}
+use Rattle.std.proofs.lemmas.Bool.{cases_eq, cond-true, cond-false}
 use Rattle.std.proofs.lemmas.List.{append-nil, append_assoc, map-append, map-set, length-map, length-append, length-set, get_or_push}
-use Rattle.std.proofs.lemmas.List.{get_or_append_left, get_or_default, get_or-set_same, get_or-set_other, at_drop_more, take_more}
-use Rattle.std.proofs.lemmas.List.Elements.{All-nil, All-cons, All-head, All-tail, All-map, All-push, All-filter}
+use Rattle.std.proofs.lemmas.List.{get_or_append_left, get_or_default, get_or_past, get_or-set_same, get_or-set_other, at_drop_more, take_more}
+use Rattle.std.proofs.lemmas.List.Elements.{All-map, All-filter}
 use Rattle.std.proofs.lemmas.List.Kept.{IsNonDecreasingBy-filter}
+use Rattle.attr_lists.specs.contracts.name_table.entry.DefinitionClone.TheImpl as clone
 use Rattle.attr_lists.specs.declared.name_table.entry.Definition.{Definition}
 use Rattle.attr_lists.specs.declared.name_table.entry.NameEntry.{NameEntry}
 use Rattle.attr_lists.specs.declared.types.Metadata.{Metadata}
@@ -18,12 +20,8 @@ use Rattle.attr_lists.specs.inner.EntryViews.{definition_view, definitions_view,
 use Rattle.attr_lists.specs.inner.EntryViews.{IsEntry, AreEntries}
 use Rattle.attr_lists.specs.inner.Registered.{SharedMacro, numbered_body}
 use Rattle.attr_lists.proofs.DefinitionLemmas.{of_other_lists-again, of_other_lists-more}
-use Rattle.attr_lists.proofs.ListLemmas.{front, front-more, get_or-map}
-use Rattle.attr_lists.proofs.NameTableLaws.{bodies_of_number-append}
-
-filter-map : {X Y : Type 0} (p : Y → Bool) (f : X → Y) (xs : List X) → map f (filter (λ x. p (f x)) xs) ≡ filter p (map f xs)
-filter-map p f [] = refl
-filter-map p f (x ∷ xs) = grind (arith, cond-true, filter, cond-false, cases_Bool, filter-map p f xs)
+use Rattle.attr_lists.proofs.ListLemmas.{filter-map, front, front-more, get_or-map, map_copied}
+use Rattle.attr_lists.proofs.NameTableLaws.{all_of_map, bodies_of_number-append}
 
 -- the definitions that are left
 pub removed_from : (list_id : ℕ) (old new : NameEntry) → new.undefined ≡ old.undefined
@@ -113,12 +111,24 @@ definitions_at-cases P entries i n d x lt here there =
     (λ other. subst P (sym (definitions_at-other entries i n x (λ e. other (sym e)))) (there other))
     (cases_eq i n)
 
--- the definitions of the list are removed from a name
-module _ (list_id i : ℕ) (entries : List NameEntry) (d x : NameEntry) (lt : i < length entries)
-    (is : definitions_view x ≡ of_other_lists list_id (definitions_view (get_or entries i d))) where
-  pub removed_here : definitions_at (set entries i x) i ≡ of_other_lists list_id (definitions_at entries i)
-  removed_here =
-      definitions_at-same entries i x lt ∙ (is ∙ ap (of_other_lists list_id) (sym (definitions_at-within entries i d lt)))
+-- a list's definitions of the name with this number were removed; those of other names stay
+pub record RemovesAt (list_id number : ℕ) (old new : List NameEntry) : Type 0 where
+  pub here : definitions_at new number ≡ of_other_lists list_id (definitions_at old number)
+  pub others : (other : ℕ) → other ≢ number → definitions_at new other ≡ definitions_at old other
+  pub entries : AreEntries old → AreEntries new
+
+pub removed_one : (list_id i : ℕ) (entries : List NameEntry) (d x : NameEntry) → i < length entries → RemovesFrom list_id (get_or entries i d) x
+    → RemovesAt list_id i entries (set entries i x)
+removed_one list_id i entries d x lt removed = record {
+  here = definitions_at-same entries i x lt ∙ removed.definitions ∙ ap (of_other_lists list_id) (sym (definitions_at-within entries i d lt));
+  others = λ other apart. definitions_at-other entries i other x apart;
+  entries = AreEntries-set-element entries i d x refl lt (removed.entry i);
+}
+
+pub removed_nothing : (list_id i : ℕ) (entries : List NameEntry) → length entries ≤ i → RemovesAt list_id i entries entries
+removed_nothing list_id i entries past =
+    let none = get_or_past (all_definitions entries) i [] (omega (arith, past, length-map entries definitions_view)) in
+    record { here = none ∙ ap (of_other_lists list_id) (sym none); others = λ other apart. refl; entries = λ all. all }
 
 -- the list ids of a name don't fall
 pub in_order : (ds : List Definition) → AreInListOrder (map definition_view ds) → IsNonDecreasingBy (λ d. d.list_id) ds
@@ -131,37 +141,37 @@ order_at entries i d lt all = subst AreInListOrder (definitions_at-within entrie
 pub others_in_order : (list_id : ℕ) (ds : List MacroDefinition) → AreInListOrder ds → AreInListOrder (of_other_lists list_id ds)
 others_in_order list_id ds h = IsNonDecreasingBy-filter (λ d. d.list_id) (λ d. not (is_of_list list_id d)) ds h
 
+bodies_of_number-other : (number : ℕ) (b : NumberedBody) → b.number ≢ number → bodies_of_number number (b ∷ []) ≡ []
+bodies_of_number-other number b other = grind (arith, cond-false, ne_eqb)
+
 -- the definitions of a list are removed from one more name
-module _ (list_id at : ℕ) (old new : List NameEntry) (here : definitions_at new at ≡ of_other_lists list_id (definitions_at old at))
-    (others : (other : ℕ) → other ≢ at → definitions_at new other ≡ definitions_at old other) where
+module _ (list_id at : ℕ) (old new : List NameEntry) (removed : RemovesAt list_id at old new) where
   pub order_kept : AreAllInOrder old → AreAllInOrder new
   order_kept all n =
       ⊎_elim
-      (λ same. subst AreInListOrder (sym (ap (definitions_at new) same ∙ here)) (others_in_order list_id (definitions_at old at) (all at)))
-      (λ apart. subst AreInListOrder (sym (others n apart)) (all n))
+      (λ same. subst AreInListOrder (sym (ap (definitions_at new) same ∙ removed.here)) (others_in_order list_id (definitions_at old at) (all at)))
+      (λ apart. subst AreInListOrder (sym (removed.others n apart)) (all n))
       (cases_eq n at)
 
   pub removed_step : (start : List NameEntry) (list : List SharedMacro) (i : ℕ) (known : SharedMacro) → i < length list → known ≡ get_or list i known
       → at ≡ known.value.id.0 → RemovesListed list_id (map numbered_body (take i list)) start old
       → RemovesListed list_id (map numbered_body (take (i + 1) list)) start new
-  removed_step start list i known lt is at_is before n =
-      ⊎_elim
-      (λ (same : n ≡ at).
-      let now : definitions_at new n ≡ of_other_lists list_id (definitions_at old n) =
-      ap (definitions_at new) same ∙ here ∙ ap (λ k. of_other_lists list_id (definitions_at old k)) (sym same) in
-      inl (now ∙ ⊎_elim (λ e. ap (of_other_lists list_id) e ∙ of_other_lists-again list_id (definitions_at start n))
-      (λ e. ap (of_other_lists list_id) e.1) (before n)))
-      (λ (apart : n ≢ at).
-      ⊎_elim (λ e. inl (others n apart ∙ e))
-      (λ e. inr (
-        subst (All (λ (b : NumberedBody). b.number ≢ n)) (sym (ap (map numbered_body) (take_more list i known lt)
-            ∙ map-append numbered_body (take i list) (get_or list i known ∷ [])))
-            (All-push (λ (b : NumberedBody). b.number ≢ n) (map numbered_body (take i list)) (numbered_body (get_or list i known)) e.0
-            (λ same. apart (sym same ∙ ap (λ (m : SharedMacro). m.value.id.0) (sym is) ∙ sym at_is))),
-        others n apart ∙ e.1,
-      ))
-      (before n))
-      (cases_eq n at)
+  removed_step start list i known lt is at_is before = record {
+    definitions = λ n. ⊎_elim
+        (λ (same : n ≡ at).
+        let now : definitions_at new n ≡ of_other_lists list_id (definitions_at old n) =
+        ap (definitions_at new) same ∙ removed.here ∙ ap (λ k. of_other_lists list_id (definitions_at old k)) (sym same) in
+        inl (now ∙ ⊎_elim (λ e. ap (of_other_lists list_id) e ∙ of_other_lists-again list_id (definitions_at start n))
+        (λ e. ap (of_other_lists list_id) e.1) (before.definitions n)))
+        (λ (apart : n ≢ at).
+        ⊎_elim (λ e. inl (removed.others n apart ∙ e))
+        (λ e. let own = get_or list i known in
+        let none = bodies_of_number-other n (numbered_body own) (λ same. apart (sym same ∙ ap (λ (m : SharedMacro). m.value.id.0) (sym is) ∙ sym at_is)) in
+        inr (grind (arith, take_more list i known lt, map-append, bodies_of_number-append, none), removed.others n apart ∙ e.1))
+        (before.definitions n))
+        (cases_eq n at);
+    entries = λ all. removed.entries (before.entries all);
+  }
 
 -- a name has one more definition
 pub defined_at : (list_id n : ℕ) (entries : List NameEntry) (b : NumberedBody) (d x : NameEntry) → b.number < length entries
@@ -190,16 +200,16 @@ pub same_at : (i n : ℕ) (entries : List NameEntry) (d x : NameEntry) → i < l
     definitions_at (set entries i x) n ≡ definitions_at entries n
 same_at i n entries d x lt e = definitions_at-cases (λ ds. ds ≡ definitions_at entries n) entries i n d x lt (λ at same. e ∙ at) (λ other. refl)
 
-all_of_map : {X Y : Type 0} (P : Y → Type 0) (f : X → Y) (xs : List X) → All P (map f xs) → All (λ x. P (f x)) xs
-all_of_map P f [] h = All-nil (λ x. P (f x))
-all_of_map P f (x ∷ xs) h = All-cons (λ y. P (f y)) x xs (All-head P (f x) (map f xs) h) (all_of_map P f xs (All-tail P (f x) (map f xs) h))
+-- copies of definitions
+pub definitions_copied : (ds copies : List Definition) → AllZip clone.ghosts.is_clone ds copies → map definition_view copies ≡ map definition_view ds
+definitions_copied ds copies same = map_copied definition_view clone.ghosts.is_clone (λ x y h. grind arith) ds copies same
 
-pub ids_copied : (number : ℕ) (old new : List Definition)
-    → map (λ (d : Definition). d.metadata.value.id.0) new ≡ map (λ (d : Definition). d.metadata.value.id.0) old → All
-    (λ d. d.metadata.value.id.0 ≡ number) old → All (λ d. d.metadata.value.id.0 ≡ number) new
-ids_copied number old new e h =
-    all_of_map (λ id. id ≡ number) (λ (d : Definition). d.metadata.value.id.0) new
-    (subst (All (λ id. id ≡ number)) (sym e) (All-map (λ id. id ≡ number) (λ (d : Definition). d.metadata.value.id.0) old h))
+pub ids_copied : (number : ℕ) (ds copies : List Definition) → AllZip clone.ghosts.is_clone ds copies → All (λ d. d.metadata.value.id.0 ≡ number) ds
+    → All (λ d. d.metadata.value.id.0 ≡ number) copies
+ids_copied number ds copies same ids =
+    let id = λ (d : Definition). d.metadata.value.id.0 in
+    all_of_map (λ k. k ≡ number) id copies
+    (subst (All (λ k. k ≡ number)) (sym (map_copied id clone.ghosts.is_clone (λ x y h. grind arith) ds copies same)) (All-map (λ k. k ≡ number) id ds ids))
 
 -- one more name is copied
 pub copied_step : (entries copy now : List NameEntry) (i : ℕ) (item x : NameEntry) → i < length entries → item ≡ get_or entries i item → now ≡ copy ++

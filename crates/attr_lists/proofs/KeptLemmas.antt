@@ -1,25 +1,16 @@
 -- The entries so far, and those of the lines that are left.
-use Rattle.std.proofs.Common.{◌≡◌, ℕ, not, if◌then◌else◌, Bool, List, [], ◌∷◌, ◌++◌, map, filter, Option, MatchOption, Result, Ok, Err, refl}
+use Rattle.std.proofs.Common.{◌≡◌, ℕ, not, if◌then◌else◌, Bool, List, [], ◌∷◌, ◌++◌, map, Option, MatchOption, Result, Ok, Err}
 use Rattle.std.proofs.Common.{append-nil, arith}
 use Rattle.std.proofs.lemmas.Grind.{common_steps}
 use Rattle.std.specs.List.{filter_map}
 use Rattle.std.specs.Option.{option_to_list}
 use Rattle.std.specs.Result.{result_ok, result_err, result_map_both}
-use Rattle.attr_glob.specs.declared.search.pattern.Mapping.{Mapping}
 use Rattle.attr_text.specs.Items.{Refusal, checked_name, invalid_name, reserved}
 use Rattle.attr_text.specs.Names.{is_valid_name, is_reserved_name}
 use Rattle.attr_text.specs.declared.assignment.Assignment.{Assignment}
 use Rattle.attr_lists.specs.declared.types.TrackedAssignment.{TrackedAssignment}
-use Rattle.attr_lists.specs.declared.types.Value.{Value}
 use Rattle.attr_lists.specs.declared.types.DropReason.{DropReason}
-use Rattle.attr_lists.specs.ListViews.{entry_view, entries_view}
-use Rattle.attr_lists.specs.KeptLists.{tracked, reason_of, unless_refused, defines_no_macro}
-
--- mappings that define no macro are kept as entries that define none
-pub entries_without_macros : (mappings : List (Mapping Value)) → entries_view (filter (λ m. defines_no_macro (entry_view m)) mappings) ≡ filter
-    defines_no_macro (entries_view mappings)
-entries_without_macros [] = refl
-entries_without_macros (m ∷ ms) = grind (arith, entries_without_macros ms)
+use Rattle.attr_lists.specs.KeptLists.{tracked, reason_of, unless_refused}
 
 -- the result of items after these assignments
 abbrev pub read_after : List TrackedAssignment → List (Result Assignment Refusal) → Result (List TrackedAssignment) DropReason
@@ -39,8 +30,8 @@ pub read-refused : (before : List TrackedAssignment) (items : List (Result Assig
 read-refused before items whole one others reason so_far first is = grind arith
 
 -- a name that passes its check is the one that was checked
-pub checked-again : (text name : List ℕ) → Ok name ≡ checked_name text → checked_name name ≡ Ok name
-checked-again text name is = again is_valid_name is_reserved_name invalid_name reserved is
+pub checked_again : (text name : List ℕ) → Ok name ≡ checked_name text → checked_name name ≡ Ok name
+checked_again text name is = again is_valid_name is_reserved_name invalid_name reserved is
   where
     again : (valid taken : List ℕ → Bool) (f g : List ℕ → Refusal)
         → Ok name ≡ (if not (valid text) then Err (f text) else if taken text then Err (g text) else Ok text)

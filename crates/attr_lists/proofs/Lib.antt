@@ -16,4 +16,5 @@ pub mod RegisteredLemmas
 pub mod RegistersLemmas
 pub mod RunLemmas
 pub mod SameItems
+pub mod WordRules
 pub mod ForCallers

@@ -1,13 +1,11 @@
 -- Lists and their images under a function.
-use Rattle.std.proofs.Common.{◌≡◌, ℕ, ◌+◌, ◌<◌, Bool, true, List, [], ◌∷◌, ◌++◌, length, get_or, map, slice_get, take}
-use Rattle.std.proofs.Common.{drop, set, Some, Result, OnOk, OnErr, refl, ap, arith, suc}
-use Rattle.std.specs.List.{list_all, refill}
-use Rattle.std.proofs.lemmas.Bool.{and_parts}
-
--- the element at an index within the list
-pub slice_get-within : {X : Type 0} (xs : List X) (i : ℕ) (d : X) → i < length xs → slice_get xs i ≡ Some (get_or xs i d)
-slice_get-within (x ∷ xs) (suc i) d h = slice_get-within xs i d (omega arith)
-slice_get-within xs i d h = grind arith
+use Rattle.std.proofs.Common.{◌≡◌, ℕ, ◌+◌, ◌<◌, Bool, true, List, [], ◌∷◌, ◌++◌, length, get_or, map, take}
+use Rattle.std.proofs.Common.{drop, set, Result, OnErr, refl, ap, arith, suc}
+use Rattle.std.specs.List.{AllZip, list_all, refill}
+use Rattle.std.specs.Option.{ForSome}
+use Rattle.std.specs.Prelude.{position}
+use Rattle.std.proofs.Common.{filter}
+use Rattle.std.proofs.lemmas.Bool.{and_parts, cases_Bool, cond-false, cond-true}
 
 -- the element at an index of a mapped list
 pub get_or-map : {X Y : Type 0} (f : X → Y) (xs : List X) (i : ℕ) (d : X) → get_or (map f xs) i (f d) ≡ f (get_or xs i d)
@@ -38,9 +36,6 @@ refill_whole [] (w ∷ ws) e = absurd (omega (arith, e))
 refill_whole (x ∷ xs) [] e = absurd (omega (arith, e))
 refill_whole (x ∷ xs) (w ∷ ws) e = ap (λ l. w ∷ l) (refill_whole xs ws (omega (arith, e)))
 
-pub on_ok : {T E : Type 0} (r : Result T E) (P Q : Type 0) → (P → Q) → OnOk r P → OnOk r Q
-on_ok r P Q f h = grind arith
-
 pub on_err : {T E : Type 0} (r : Result T E) (P : Type 0) → P → OnErr r P
 on_err r P h = grind arith
 
@@ -48,3 +43,19 @@ on_err r P h = grind arith
 pub list_all-within : {X : Type 0} (p : X → Bool) (xs : List X) (i : ℕ) (d : X) → i < length xs → list_all p xs ≡ true → p (get_or xs i d) ≡ true
 list_all-within p (x ∷ xs) (suc i) d lt h = list_all-within p xs i d (omega arith) (and_parts (p x) (list_all p xs) h).1
 list_all-within p xs i d lt h = grind (arith, and_parts)
+
+-- the offset of the first element that passes
+pub position_inside : {X : Type 0} (p : X → Bool) (xs : List X) → ForSome (position p xs) (λ i. i < length xs)
+position_inside p xs = grind arith
+
+-- a test of what f gives
+pub filter-map : {X Y : Type 0} (p : Y → Bool) (f : X → Y) (xs : List X) → map f (filter (λ x. p (f x)) xs) ≡ filter p (map f xs)
+filter-map p f [] = refl
+filter-map p f (x ∷ xs) = grind (arith, cond-true, filter, cond-false, cases_Bool, filter-map p f xs)
+
+-- what copies have that each has of its original
+pub map_copied : {X Y : Type 0} (f : X → Y) (R : X → X → Type 0) → ((x y : X) → R x y → f y ≡ f x) → (xs ys : List X) → AllZip R xs ys
+    → map f ys ≡ map f xs
+map_copied f R same [] [] h = refl
+map_copied f R same (x ∷ xs) (y ∷ ys) h = grind (arith, map_copied f R same xs ys, same x y)
+map_copied f R same xs ys h = grind arith

@@ -1,16 +1,16 @@
 -- A set of names: what an appended name and a removed one leave of the numbers.
-use Rattle.std.proofs.Common.{◌≡◌, ℕ, ◌+◌, ◌<◌, Bool, true, false, List, [], ◌∷◌, ◌++◌, length, get_or, map, drop, bytes_eq, Option, Some, None}
+use Rattle.std.proofs.Common.{◌≡◌, ℕ, ◌+◌, ◌<◌, Bool, true, false, List, [], ◌∷◌, ◌++◌, length, get_or, map, bytes_eq, Option, Some, None}
 use Rattle.std.proofs.Common.{IsTrue, refl, sym, ap, subst, ◌∙◌, ⊎_elim, true≢false, arith}
 use Rattle.std.specs.BTreeMap.{BTreeMap, UpdatesBy}
 use Rattle.std.specs.Cmp.{eq_by_cmp_equiv}
 use Rattle.std.specs.Cmp.Lexicographic.{bytes_decides, slice_cmp, nat_list_cmp_total, nat_list_eq_equiv}
-use Rattle.std.specs.List.{list_any, IsDistinct}
+use Rattle.std.specs.List.{list_any, AllZip, IsDistinct}
 use Rattle.std.specs.Map.{lookup, IsKeyTest, AreApart, KeepsOthers}
 use Rattle.std.specs.Ordering.{is_eq, nat_cmp}
 use Rattle.std.specs.Rc.{rc_str_bytes}
 use Rattle.std.specs.declared.rc.RcStr.{RcStr}
 use Rattle.std.proofs.lemmas.Bool.{cases_Bool, cases_lt, cond-true, lt-ltb}
-use Rattle.std.proofs.lemmas.List.{at_drop_more, get_or_append_left, get_or_at, length-append}
+use Rattle.std.proofs.lemmas.List.{get_or_append_left, get_or_at, length-append}
 use Rattle.std.proofs.Math.Seq.{take-append_seam}
 use Rattle.std.proofs.lemmas.List.Elements.{All-push, All-take}
 use Rattle.std.proofs.lemmas.List.Folds.{list_any_at}
@@ -22,6 +22,7 @@ use Rattle.attr_lists.specs.Numbers.{number_of}
 use Rattle.attr_lists.specs.inner.EntryViews.{AreValid}
 use Rattle.attr_lists.specs.declared.name_table.name_set.NameSet.TheInside.{Inside}
 use Rattle.attr_lists.specs.inner.NameSets.{texts_of, number_under, IsNameSet}
+use Rattle.attr_lists.proofs.ListLemmas.{map_copied}
 use Rattle.attr_lists.proofs.NameLemmas.{not_before}
 use Rattle.attr_lists.proofs.NamedDefinitions.{has_at, index_of, number_at, number_name}
 
@@ -143,15 +144,25 @@ module _ (old new : Inside) (text : List ℕ) (is : IsNameSet old) where
             (cases_Bool (bytes_eq text other));
       }
 
--- a name among valid ones
-pub valid_next : (front : List (List ℕ)) (name : List ℕ) (rest : List (List ℕ)) → AreValid (front ++ name ∷ rest) → IsTrue (is_valid_name name)
-valid_next front name rest all = subst (λ n. IsTrue (is_valid_name n)) (get_or_at front name rest name (length front) refl)
-    (all (length front) name (omega (arith, length-append front (name ∷ rest))))
+-- copies of the texts and of their numbers
+pub texts_copied : {Z : Type 0} (texts copies : List (RcStr Z)) → AllZip (λ s copy. rc_str_bytes copy ≡ rc_str_bytes s) texts copies
+    → map rc_str_bytes copies ≡ map rc_str_bytes texts
+texts_copied texts copies same = map_copied rc_str_bytes _ (λ x y h. h) texts copies same
 
--- one more name of those that are left to copy
-pub copy_step : {Z : Type 0} (names copy : List (List ℕ)) (items : List (RcStr Z)) (i : ℕ) (item : RcStr Z) (text : List ℕ) → i < length items →
-    item ≡ get_or items i item → text ≡ rc_str_bytes item → copy ++ map rc_str_bytes (drop i items) ≡ names → copy ++ text ∷ map rc_str_bytes
-    (drop (i + 1) items) ≡ names
-copy_step names copy items i item text lt at is left =
-    ap (λ t. copy ++ t ∷ map rc_str_bytes (drop (i + 1) items)) (is ∙ ap rc_str_bytes at)
-    ∙ sym (at_drop_more (λ l. copy ++ map rc_str_bytes l) items i item lt) ∙ left
+numbers_copied : {Z : Type 0} (text : List ℕ) (es copies : List (RcStr Z × ℕ))
+    → AllZip (λ e copy. (rc_str_bytes copy.0 ≡ rc_str_bytes e.0) × (copy.1 ≡ e.1)) es copies
+    → lookup (λ key. is_eq (slice_cmp nat_cmp text (rc_str_bytes key))) copies ≡ lookup (λ key. is_eq (slice_cmp nat_cmp text (rc_str_bytes key))) es
+numbers_copied text [] [] same = refl
+numbers_copied text (e ∷ es) (copy ∷ copies) same = grind (arith, numbers_copied text es copies)
+numbers_copied text es copies same = grind arith
+
+pub name_set_copied : (set copy : Inside) → IsNameSet set
+    → AllZip (λ s copy. rc_str_bytes copy ≡ rc_str_bytes s) set.texts.items copy.texts.items
+    → AllZip (λ e copy. (rc_str_bytes copy.0 ≡ rc_str_bytes e.0) × (copy.1 ≡ e.1)) set.numbers.entries copy.numbers.entries → IsNameSet copy
+name_set_copied set copy is same numbers =
+    let texts = sym (texts_copied set.texts.items copy.texts.items same) in
+    record {
+      valid = subst AreValid texts is.valid;
+      distinct = subst (IsDistinct bytes_eq) texts is.distinct;
+      numbers = λ text. numbers_copied text set.numbers.entries copy.numbers.entries numbers ∙ is.numbers text ∙ ap (λ l. number_of l text) texts;
+    }

@@ -13,7 +13,7 @@ use Rattle.std.proofs.lemmas.List.Folds.{list_any-append, prefix_len-append}
 use Rattle.std.proofs.lemmas.List.Kept.{AllPairs-filter}
 use Rattle.std.proofs.lemmas.List.Quantifiers.{all_pairs_push}
 use Rattle.std.proofs.lemmas.List.Sums.{passes_at_first}
-use Rattle.std.proofs.lemmas.Option.{get_or_from_slice_get}
+use Rattle.std.proofs.lemmas.Option.{get_or_from_slice_get, slice_get_within}
 use Rattle.attr_lists.specs.declared.types.AttributeId.{AttributeId}
 use Rattle.attr_lists.specs.declared.types.TrackedAssignment.{TrackedAssignment}
 use Rattle.attr_lists.specs.Definitions.{is_definition, bodies_defined, bodies_named, definition_of, is_of_list, bodies_of_list, of_other_lists}
@@ -28,7 +28,7 @@ use Rattle.attr_lists.specs.Numbers.{macro_names, names_of, names_in, with_name,
 use Rattle.attr_lists.specs.Numbers.{numbered_lines, AreNamed, IsNumberOf}
 use Rattle.attr_lists.proofs.DefinitionLemmas.{bodies_defined-cons, bodies_defined-none, bodies_of_list-append}
 use Rattle.attr_lists.proofs.DefinitionLemmas.{of_other_lists-append, of_other_lists-own}
-use Rattle.attr_lists.proofs.ListLemmas.{slice_get-within}
+use Rattle.std.proofs.lemmas.Option.{slice_get-get_or}
 use Rattle.attr_lists.proofs.NameLemmas.{with_name-known, with_name-new, with_names-extends, with_names-distinct}
 
 -- ---- numbers
@@ -57,7 +57,7 @@ all_right : {X : Type 0} (P : X → Type 0) (xs ys : List X) → All P (xs ++ ys
 all_right P [] ys h = h
 all_right P (x ∷ xs) ys h = all_right P xs ys (All-tail P x (xs ++ ys) h)
 
-all_of_map : {X Y : Type 0} (P : Y → Type 0) (f : X → Y) (xs : List X) → All P (map f xs) → All (λ x. P (f x)) xs
+pub all_of_map : {X Y : Type 0} (P : Y → Type 0) (f : X → Y) (xs : List X) → All P (map f xs) → All (λ x. P (f x)) xs
 all_of_map P f [] h = All-nil (λ x. P (f x))
 all_of_map P f (x ∷ xs) h = All-cons (λ y. P (f y)) x xs (All-head P (f x) (map f xs) h) (all_of_map P f xs (All-tail P (f x) (map f xs) h))
 
@@ -67,12 +67,8 @@ number_is names name h =
     let lt = index_of names name h in
     let at : index ≡ (id_of names name).0 = grind (arith, unwrap_or, cond-true, lt-ltb) in
     subst (λ k. slice_get names k ≡ Some name) at
-    (slice_get-within names index name lt ∙ ap Some (sym ((bytes_decides name (get_or names index name)).0
+    (slice_get-get_or names index name lt ∙ ap Some (sym ((bytes_decides name (get_or names index name)).0
     (passes_at_first (bytes_eq name) names name lt))))
-
-below : {X : Type 0} (xs : List X) (i : ℕ) (x : X) → slice_get xs i ≡ Some x → i < length xs
-below (y ∷ ys) (suc i) x h = let rest = below ys i x h in omega arith
-below xs i x h = grind arith
 
 line_numbered : (names : List (List ℕ)) (pattern : List ℕ) (entry : Entry) → All (Has names) (names_of entry) → IsNumbered names
     (numbered names entry)
@@ -179,7 +175,7 @@ bodies_past names (line ∷ lines) number past h =
   where
     none : (m : Option AttributeId) → IfSome m (IsNumberOf names line.pattern.text) → unwrap_or (option_map (λ (id : AttributeId). eqb id.0 number) m)
         false ≡ false
-    none m i = grind (arith, below, ne_eqb)
+    none m i = grind (arith, slice_get_within, ne_eqb)
 
 -- the bodies of numbered lines have numbers of names
 bodies_within : (names : List (List ℕ)) (list_id number : ℕ) (lines : List Entry) → All (IsNumbered names) lines → All (IsWithin (length names))
@@ -189,7 +185,7 @@ bodies_within names list_id number lines h =
     All-map (IsWithin (length names)) (definition_of list_id) (bodies_defined number lines)
     (All-map IsIn (λ (e : Entry). e.items) (filter (is_definition number) lines)
     (All-filter (is_definition number) (λ (e : Entry). IsIn e.items) lines
-    (All-weaker (IsNumbered names) (λ (e : Entry). IsIn e.items) (λ e is. grind (arith, below)) lines h)))
+    (All-weaker (IsNumbered names) (λ (e : Entry). IsIn e.items) (λ e is. grind (arith, slice_get_within)) lines h)))
 
 -- and they are named
 bodies_named_by : (names : List (List ℕ)) (list_id number : ℕ) (lines : List Entry) → All (IsNumbered names) lines → All
@@ -283,7 +279,7 @@ own_bodies number (l ∷ lists) zero own pairs at =
     ∙ append-nil (bodies_of_list l.list_id (definitions_by number l))
     ∙ bodies_of_list-own l.list_id (bodies_of_number number l.macros))
 own_bodies number (l ∷ lists) (suc i) own pairs at =
-    let apart : own.list_id ≢ l.list_id = λ e. differ_head l lists pairs i own (below lists i own at)
+    let apart : own.list_id ≢ l.list_id = λ e. differ_head l lists pairs i own (slice_get_within lists i own at)
     (ap (λ (o : RegisteredList). o.list_id) (get_or_from_slice_get lists i own own at) ∙ e) in
     bodies_of_list-append own.list_id (definitions_by number l) (definitions_in number lists)
     ∙ ap (λ bs. bs ++ bodies_of_list own.list_id (definitions_in number lists))

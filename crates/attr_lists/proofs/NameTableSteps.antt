@@ -33,7 +33,7 @@ use Rattle.attr_lists.proofs.MacroLemmas.{added_listed, removed_listed, still_li
 use Rattle.attr_lists.proofs.NameLemmas.{with_names-extends}
 use Rattle.attr_lists.proofs.NameTableLaws.{added_at, added_holds, added_keeps, added_sound, bodies_of_lines, definitions_in, lack_registered}
 use Rattle.attr_lists.proofs.NameTableLaws.{none_of_list, of_other_lists-free, list_numbered, own_bodies, removed_at, removed_sound, Lack}
-use Rattle.attr_lists.proofs.RegisteredLemmas.{bodies_none}
+use Rattle.attr_lists.proofs.NamedDefinitions.{bodies_by_number}
 
 -- ---- ids
 
@@ -85,15 +85,27 @@ definitions_in_order number (l ∷ lists) ascend =
 pub all_in_order : (p : Parts) → AreWhole p → AreAllInOrder p.entries.items
 all_in_order p whole = grind (arith, definitions_in_order)
 
+-- parts with the same content are whole too
+pub still_whole : (p q : Parts) → AreWhole p → parts_view q ≡ parts_view p → length q.entries.items ≡ length p.names → AreEntries q.entries.items
+    → ((n : ℕ) → definitions_at q.entries.items n ≡ definitions_of (parts_view p) n) → KeepsNumbers p.macros q.macros → AreWhole q
+still_whole p q whole same count are defined kept = record {
+  sound = subst IsSoundCollection (sym same) whole.sound;
+  counted = count ∙ ap (λ (v : Collection). length v.names) (sym same);
+  entries = are;
+  defined = λ n. defined n ∙ ap (λ v. definitions_of v n) (sym same);
+  ascending = subst (λ (v : Collection). AreAscending v.lists) (sym same) whole.ascending;
+  macros = subst (ListsMacros q.macros) (sym same) (still_listed (parts_view p) p.macros q.macros whole.macros kept);
+}
+
 -- ---- a list is removed
 
 -- the other lists, and no definition of this one
 module _ (lists : List RegisteredList) (at : ℕ) (own : RegisteredList) (ascend : AreAscending lists) (here : slice_get lists at ≡ Some own) where
-  pub no_other : (number : ℕ) → All (λ b. b.number ≢ number) own.macros
+  pub no_other : (number : ℕ) → bodies_of_number number own.macros ≡ []
       → of_other_lists own.list_id (definitions_in number lists) ≡ definitions_in number lists
   no_other number none =
       of_other_lists-free own.list_id (definitions_in number lists)
-      (own_bodies number lists at own (ids_differ lists ascend) here ∙ bodies_none number own.macros none)
+      (own_bodies number lists at own (ids_differ lists ascend) here ∙ none)
 
 pub others_all : (list_id : ℕ) (lists : List RegisteredList) → Lack list_id lists → filter (λ l. not (l.list_id == list_id)) lists ≡ lists
 others_all list_id [] h = refl
@@ -145,9 +157,9 @@ module _ (p q : Parts) (list_id at : ℕ) (own : RegisteredList) (whole : AreWho
       ∙ ap (λ id. filter (λ (l : RegisteredList). not (l.list_id == id)) (registered_views p.lists.items)) own_id in
       λ j. record { names = names j; lists = others j }
 
-  pub left_whole : length q.entries.items ≡ length p.entries.items → AreEntries q.entries.items
+  pub left_whole : length q.entries.items ≡ length p.entries.items
       → RemovesListed list_id own.macros p.entries.items q.entries.items → RemovesUndefined q.entries.items p.macros q.macros → AreWhole q
-  left_whole count entries removed undefined =
+  left_whole count removed undefined =
       let gone = removed_at (parts_view p) list_id in
       let defined : (n : ℕ) → definitions_at q.entries.items n ≡ definitions_of (without_list list_id (parts_view p)) n =
       λ n. ⊎_elim
@@ -155,11 +167,11 @@ module _ (p q : Parts) (list_id at : ℕ) (own : RegisteredList) (whole : AreWho
       (λ none. none.1 ∙ whole.defined n
       ∙ sym (gone n ∙ ap (λ id. of_other_lists id (definitions_of (parts_view p) n)) (sym own_id)
       ∙ no_other (registered_views p.lists.items) at own whole.ascending here n none.0))
-      (removed n) in
+      (removed.definitions n) in
       record {
         sound = subst IsSoundCollection (sym left) (removed_sound (parts_view p) list_id whole.sound);
         counted = count ∙ whole.counted ∙ ap length (sym names);
-        entries = entries;
+        entries = removed.entries whole.entries;
         defined = λ n. defined n ∙ ap (λ v. definitions_of v n) (sym left);
         ascending = subst (λ (v : Collection). AreAscending v.lists) (sym left)
             (AllPairs-filter (λ x y. x.list_id < y.list_id) (λ l. not (l.list_id == list_id)) (registered_views p.lists.items) whole.ascending);
@@ -270,15 +282,8 @@ module _ (start mid now : Parts) (list_id count : ℕ) (part : IsPartlyAdded lis
     pub rolled_back : (parts_view now ≡ parts_view start) × AreWhole now
     rolled_back = (
       same_view,
-      record {
-        sound = subst IsSoundCollection (sym same_view) whole.sound;
-        counted = counted_now ∙ count_is ∙ ap length (sym same_names);
-        entries = entries part.entries;
-        defined = λ n. defined_now n ∙ ap (λ v. definitions_of v n) (sym same_view);
-        ascending = subst (λ (v : Collection). AreAscending v.lists) (sym same_view) whole.ascending;
-        macros = subst (ListsMacros now.macros) (sym same_view) (still_listed (parts_view start) start.macros now.macros whole.macros
-            (subst (KeepsNumbers start.macros) (sym macros) part.macros));
-      },
+      still_whole start now whole same_view (counted_now ∙ count_is) (entries part.entries) defined_now
+          (subst (KeepsNumbers start.macros) (sym macros) part.macros),
     )
 
 -- ---- a list is held
@@ -287,7 +292,7 @@ module _ (start mid now : Parts) (list_id count : ℕ) (part : IsPartlyAdded lis
 module _ (table : Collection) (at : ℕ) (own : RegisteredList) (sound : IsSoundCollection table) (here : slice_get table.lists at ≡ Some own) where
   pub held_for : (name : List ℕ)
       → bodies_of_list own.list_id (definitions_for table name) ≡ bodies_of_name table.names own.macros name
-  held_for name = by_number (number_of table.names name)
+  held_for name = by_number (number_of table.names name) ∙ sym (bodies_by_number table.names name sound.distinct _ refl own.macros)
     where
       by_number : (o : Option ℕ) → bodies_of_list own.list_id (unwrap_or (option_map (definitions_of table) o) [])
           ≡ unwrap_or (option_map (λ number. bodies_of_number number own.macros) o) []

@@ -5,20 +5,23 @@ use Rattle.std.proofs.Common.{true≢false, eq-eqb}
 use Rattle.std.specs.Prelude.{is_some, ◌&&◌}
 use Rattle.std.specs.List.{list_any, position_or_len, IsDistinct}
 use Rattle.std.specs.Cmp.Lexicographic.{bytes_decides}
-use Rattle.std.proofs.lemmas.Bool.{cases_Bool, cases_eq, cases_lt, cond-true, lt-ltb, eqb-true, or_left, or_right}
+use Rattle.std.proofs.lemmas.Bool.{cases_Bool, cases_eq, cases_lt, cond-true, cond-false, lt-ltb, eqb-true, or_left, or_right}
 use Rattle.std.proofs.lemmas.List.Elements.{All-head, All-tail}
 use Rattle.std.proofs.lemmas.List.Folds.{list_any_none}
 use Rattle.std.proofs.lemmas.List.Quantifiers.{position-Some}
 use Rattle.std.proofs.lemmas.List.Sums.{fails_before_first}
 use Rattle.std.proofs.lemmas.Map.Keys.{apart_from_distinct}
-use Rattle.attr_lists.specs.Definitions.{is_definition, bodies_defined, defines_name, bodies_named}
+use Rattle.std.proofs.lemmas.Option.{get_or_from_slice_get, slice_get_within}
+use Rattle.std.proofs.lemmas.Option.{slice_get-get_or}
+use Rattle.attr_lists.specs.Definitions.{is_definition, bodies_defined, bodies_of_number, defines_name, bodies_named}
+use Rattle.attr_lists.specs.Collections.{NumberedBody}
 use Rattle.attr_lists.specs.ListViews.{Entry}
 use Rattle.attr_lists.specs.Numbers.{number_of, IsNumberOf}
 use Rattle.attr_lists.specs.shared.Keeping.{HasMacroNumber}
 use Rattle.attr_lists.specs.declared.types.AttributeId.{AttributeId}
 use Rattle.attr_lists.specs.declared.types.TrackedAssignment.{TrackedAssignment}
-use Rattle.attr_text.specs.Names.{is_valid_name}
-use Rattle.attr_lists.specs.inner.EntryViews.{AreValid}
+use Rattle.attr_lists.specs.inner.NameSteps.{has_number}
+use Rattle.attr_lists.specs.inner.Registered.{bodies_of_name}
 
 -- the name is among the names
 abbrev pub Has : List (List ℕ) → List ℕ → Type 0
@@ -64,32 +67,41 @@ pub number_name : (names : List (List ℕ)) (name : List ℕ) (n : ℕ) → numb
 number_name names name n e =
     let first = position-Some (bytes_eq name) names n [] e in (first.0, sym ((bytes_decides name (get_or names n [])).0 first.1))
 
-get_below : {X : Type 0} (xs : List X) (i : ℕ) (x : X) → slice_get xs i ≡ Some x → i < length xs
-get_below (y ∷ ys) (suc i) x h = let rest = get_below ys i x h in omega arith
-get_below xs i x h = grind arith
-
-get_at : {X : Type 0} (xs : List X) (i : ℕ) (x d : X) → slice_get xs i ≡ Some x → get_or xs i d ≡ x
-get_at (y ∷ ys) (suc i) x d h = get_at ys i x d h
-get_at xs i x d h = grind arith
-
 -- of names that differ, each has the number at which it stands
 pub number_where : (names : List (List ℕ)) (name : List ℕ) (n : ℕ) → IsDistinct bytes_eq names → slice_get names n ≡ Some name
     → number_of names name ≡ Some n
 number_where names name n distinct h =
-    ap (number_of names) (sym (get_at names n name [] h)) ∙ number_at names n distinct (get_below names n name h)
+    ap (number_of names) (sym (get_or_from_slice_get names n name [] h)) ∙ number_at names n distinct (slice_get_within names n name h)
+
+-- of names that differ, each has no number but the one at which it stands
+pub has_only : (names : List (List ℕ)) (name : List ℕ) (k : ℕ) → IsDistinct bytes_eq names → has_number names name k ≡ true
+    → number_of names name ≡ Some k
+has_only names name k distinct has = at (slice_get names k) refl
+  where
+    at : (o : Option (List ℕ)) → slice_get names k ≡ o → number_of names name ≡ Some k
+    at None e = absurd (true≢false (sym has ∙ ap (λ o. unwrap_or (option_map (bytes_eq name) o) false) e))
+    at (Some text) e =
+        let same : name ≡ text = (bytes_decides name text).0 (sym (ap (λ o. unwrap_or (option_map (bytes_eq name) o) false) e) ∙ has) in
+        number_where names name k distinct (e ∙ ap Some (sym same))
+
+has_own : (names : List (List ℕ)) (name : List ℕ) (n : ℕ) → number_of names name ≡ Some n → has_number names name n ≡ true
+has_own names name n e =
+    let here = number_name names name n e in
+    ap (λ o. unwrap_or (option_map (bytes_eq name) o) false) (slice_get-get_or names n [] here.0) ∙ (bytes_decides name (get_or names n [])).1 (sym here.1)
+
+-- so the bodies of a name are those of its number
+pub bodies_by_number : (names : List (List ℕ)) (name : List ℕ) → IsDistinct bytes_eq names → (o : Option ℕ) → number_of names name ≡ o
+    → (list : List NumberedBody) → bodies_of_name names list name ≡ unwrap_or (option_map (λ n. bodies_of_number n list) o) []
+bodies_by_number names name distinct o e [] = grind arith
+bodies_by_number names name distinct None e (b ∷ list) =
+    grind (arith, cond-false, cases_Bool, has_only, bodies_by_number names name distinct None e list)
+bodies_by_number names name distinct (Some n) e (b ∷ list) =
+    grind (arith, cond-true, cond-false, cases_Bool, has_only, has_own, bodies_by_number names name distinct (Some n) e list)
 
 -- the name at the number of a name is that name
 pub named_at : (names : List (List ℕ)) (name : List ℕ) (n : ℕ) (text : List ℕ) → number_of names name ≡ Some n → slice_get names n ≡ Some text →
     text ≡ name
-named_at names name n text is at = sym (get_at names n text [] at) ∙ (number_name names name n is).1
-
--- a text that is no valid name is none of valid names
-pub no_number : (names : List (List ℕ)) (text : List ℕ) → AreValid names → (is_valid_name text ≡ true → ⊥) → number_of names text ≡ None
-no_number names text valid bad = at (number_of names text) refl
-  where
-    at : (o : Option ℕ) → number_of names text ≡ o → number_of names text ≡ None
-    at None e = e
-    at (Some n) e = let here = number_name names text n e in absurd (bad (sym (ap is_valid_name here.1) ∙ valid n [] here.0))
+named_at names name n text is at = sym (get_or_from_slice_get names n text [] at) ∙ (number_name names name n is).1
 
 abbrev bodies : List Entry → List (List TrackedAssignment)
 bodies entries = map (λ entry. entry.items) entries
@@ -103,7 +115,7 @@ module _ (names : List (List ℕ)) (distinct : IsDistinct bytes_eq names) where
       ⊎_elim
       (λ (yes : eqb id.0 n ≡ true).
       let at : slice_get names n ≡ Some text = subst (λ k. slice_get names k ≡ Some text) (eqb-true id.0 n yes) h in
-      let same : name ≡ text = sym (number_name names name n e).1 ∙ get_at names n text [] at in
+      let same : name ≡ text = sym (number_name names name n e).1 ∙ get_or_from_slice_get names n text [] at in
       yes ∙ sym ((bytes_decides name text).1 same))
       (λ (no : eqb id.0 n ≡ false).
       ⊎_elim

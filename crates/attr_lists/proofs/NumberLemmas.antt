@@ -1,7 +1,6 @@
 -- Lines whose items have the numbers of their names.
 use Rattle.std.proofs.Common.{◌≡◌, ℕ, ◌+◌, ◌<◌, ◌≤◌, true, false, ltb, List, [], ◌∷◌, ◌++◌, length, get_or, set, map, drop, take, bytes_eq}
-use Rattle.std.proofs.Common.{Option, Some, None, refl, sym, ap, subst, ◌∙◌, ⊎_elim, true≢false, arith}
-use Rattle.std.specs.Prelude.{is_some}
+use Rattle.std.proofs.Common.{Some, None, sym, ap, subst, ◌∙◌, ⊎_elim, true≢false, arith}
 use Rattle.std.specs.List.{list_any, position_or_len}
 use Rattle.std.specs.Cmp.Lexicographic.{bytes_decides}
 use Rattle.std.proofs.lemmas.Bool.{cases_lt, cond-true, lt-ltb}
@@ -112,11 +111,7 @@ number_of_new known name new =
     (cases_lt n (length known))
 
 -- a name that has a number is not taken again
-pub numbered_known : (names : List (List ℕ)) (name : List ℕ) → is_some (number_of names name) ≡ true → names ≡ with_name names name
-numbered_known names name numbered = at (number_of names name) refl numbered
-  where
-    at : (o : Option ℕ) → number_of names name ≡ o → is_some o ≡ true → names ≡ with_name names name
-    at None e is = absurd (true≢false (sym is))
-    at (Some n) e is =
-        let here = position-Some (bytes_eq name) names n [] e in
-        sym (with_name-known names name (list_any_at (bytes_eq name) names n [] here.0 here.1))
+pub numbered_known : (names : List (List ℕ)) (name : List ℕ) (n : ℕ) → number_of names name ≡ Some n → names ≡ with_name names name
+numbered_known names name n e =
+    let here = position-Some (bytes_eq name) names n [] e in
+    sym (with_name-known names name (list_any_at (bytes_eq name) names n [] here.0 here.1))

@@ -1,13 +1,13 @@
 //! Names and values that were read lately, so that items share the texts of their names and values.
 
-ghost use Rattle.std.specs.Prelude.{◌≡◌, ◌<◌, Ok, IfOk};
+ghost use Rattle.std.specs.Prelude.{◌≡◌, Ok, IfOk};
 ghost use Rattle.std.specs.Result.{result_map_both};
 ghost use Rattle.attr_text.specs.Items.{checked_name};
 ghost use Rattle.attr_text.specs.TextViews.{name_text, state_view, value_bytes};
 ghost use Rattle.attr_lists.specs.LineViews.{refusal_view};
 
+use crate::last_read::LastRead;
 use crate::parse::{AttrError, check_attr};
-use crate::text_bucket::{BUCKETS, text_bucket};
 use attr_text::state::{Value, ValueRef};
 use attr_text::{Name, NameRef, State, StateRef};
 use std::alloc::{AllocError, Global};
@@ -15,9 +15,7 @@ use std::alloc::{AllocError, Global};
 // Longer names and values are not kept, so that what is known takes no more than some hundred KB.
 const LONGEST: usize = 1_024;
 
-/// For each bucket of texts, the name and the value that were read there last. Files have few names and values, most of them in
-/// many lines and in many files, so most items find theirs. Only what is in the bucket is compared, so that an item takes no longer
-/// if a file has many names and values.
+/// Names and values that were read lately. Files have few of them, most in many lines and in many files, so most items find theirs.
 #[derive(Debug, Drop)]
 pub struct KnownTexts {
     names: LastRead<KnownName>,
@@ -39,6 +37,7 @@ impl KnownTexts {
     /// # Errors
     ///
     /// If memory runs out, or if there are `usize::MAX` copies of the known name.
+    #[tactic(auto, using(crate::proofs::KeptLemmas::checked_again))]
     pub(crate) fn name<'a>(
         &mut self,
         alloc: Global,
@@ -47,35 +46,29 @@ impl KnownTexts {
         ensures { IfOk result (λ own.
             result_map_both (λ name. name) refusal_view own ≡ checked_name name.now) }
     {
-        let bucket = text_bucket(name);
-        if let Some(known) = self.names.get(bucket)
+        if let Some(known) = self.names.get(name)
             && known.name.as_str().as_bytes() == name
         {
             return Ok(Ok(known.name.clone(alloc)?));
         }
         match check_attr(name) {
-            Ok(name) => Ok(Ok(self.keep_name(alloc, bucket, name)?)),
+            Ok(name) => Ok(Ok(self.keep_name(alloc, name)?)),
             Err(error) => Ok(Err(error)),
         }
     }
 
     // The name, which is known from then on.
-    fn keep_name(
-        &mut self,
-        alloc: Global,
-        bucket: usize,
-        name: NameRef<'_>,
-    ) -> Result<Name, AllocError>
-        requires bucket { bucket < 64 }
-        requires checked { checked_name (name_text name) ≡ Ok (name_text name) }
+    fn keep_name(&mut self, alloc: Global, name: NameRef<'_>) -> Result<Name, AllocError>
+        requires { checked_name (name_text name) ≡ Ok (name_text name) }
         ensures { IfOk result (λ own. own ≡ name_text name.entry) }
     {
         let own = name.to_owned(alloc)?;
-        if name.as_str().len() <= LONGEST {
+        let text = name.as_str().as_bytes();
+        if text.len() <= LONGEST {
             let known = KnownName {
                 name: own.clone(alloc)?,
             };
-            self.names.keep(bucket, known)?;
+            self.names.keep(text, known)?;
         }
         Ok(own)
     }
@@ -99,15 +92,15 @@ impl KnownTexts {
     fn value(&mut self, alloc: Global, value: ValueRef<'_>) -> Result<Value, AllocError>
         ensures { IfOk result (λ own. own ≡ value_bytes value.entry) }
     {
-        let bucket = text_bucket(value.as_bstr().as_bytes());
-        if let Some(known) = self.values.get(bucket)
+        let bytes = value.as_bstr().as_bytes();
+        if let Some(known) = self.values.get(bytes)
             && known.as_ref() == value
         {
             return known.clone(alloc);
         }
         let own = value.to_owned(alloc)?;
-        if value.as_bstr().as_bytes().len() <= LONGEST {
-            self.values.keep(bucket, own.clone(alloc)?)?;
+        if bytes.len() <= LONGEST {
+            self.values.keep(bytes, own.clone(alloc)?)?;
         }
         Ok(own)
     }
@@ -118,43 +111,4 @@ impl KnownTexts {
 struct KnownName {
     name: Name,
     ghost checked: { checked_name name ≡ Ok name },
-}
-
-// What was read last in each bucket of texts. It takes room for those that were read, so that small files cost little.
-#[derive(Debug, Drop)]
-struct LastRead<T> {
-    // For each bucket the index of its text: past the end if none was read there.
-    indexes: [usize; BUCKETS],
-    texts: Vec<T>,
-}
-
-impl<T: Drop> LastRead<T> {
-    // Nothing was read. It takes no memory.
-    fn new(alloc: Global) -> LastRead<T> {
-        LastRead {
-            indexes: [BUCKETS; BUCKETS],
-            texts: Vec::new(alloc),
-        }
-    }
-
-    // The text that was read last in the bucket, if one was.
-    fn get(&self, bucket: usize) -> Option<&T>
-        requires { bucket < 64 }
-    {
-        self.texts.get(self.indexes[bucket])
-    }
-
-    // Keeps a text in its bucket.
-    fn keep(&mut self, bucket: usize, text: T) -> Result<(), AllocError>
-        requires { bucket < 64 }
-    {
-        let index = self.indexes[bucket];
-        if index < self.texts.len() {
-            self.texts[index] = text;
-        } else {
-            self.indexes[bucket] = self.texts.len();
-            self.texts.push(text)?;
-        }
-        Ok(())
-    }
 }

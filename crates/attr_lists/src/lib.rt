@@ -2,9 +2,9 @@
 #![tactic(auto)]
 
 pub mod known_texts;
+mod last_read;
 pub mod laws;
 pub mod name_table;
 pub mod parse;
 pub mod parser;
-mod text_bucket;
 pub mod types;

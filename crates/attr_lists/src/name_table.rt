@@ -19,7 +19,6 @@ mod macros;
 mod name_set;
 mod numbers;
 mod parts;
-mod recent_numbers;
 mod registered;
 
 use crate::name_table::name_set::NameSet;
@@ -51,6 +50,7 @@ impl Model for NameTable {
 
 impl NameTable {
     /// A table without names and lists. It takes no memory.
+    #[tactic(auto, using(crate::proofs::NameTableLaws::definitions_in))]
     pub fn new(alloc: Global) -> NameTable
         ensures empty { result ≡ empty_collection }
         ensures sound { IsSoundCollection result }
@@ -205,9 +205,9 @@ impl NameTable {
         ensures content { IfOk result (λ copy. copy ≡ self.now) }
         ensures sound { IsSoundCollection self.now }
     {
-        let names = self.parts.names.clone(alloc)?;
+        let names = self.parts.names.clone()?;
         let entries = entry::clone_entries(alloc, &self.parts.entries)?;
-        let lists = registered::clone_lists(alloc, &self.parts.lists)?;
+        let lists = self.parts.lists.clone()?;
         let macros = self.parts.macros.clone()?;
         Ok(NameTable {
             parts: Parts {

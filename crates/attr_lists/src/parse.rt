@@ -161,11 +161,11 @@ impl<'a> Iterator for Iter<'a> {
 }
 
 // The first word of a text, the offset of the first `=` in the word, and the text after it.
+#[tactic(auto, using(crate::proofs::WordRules::words))]
 fn first_word<'a>(text: &'a [u8]) -> Option<(&'a [u8], Option<usize>, &'a [u8])>
     ensures word { MatchOption result (words text.now ≡ []) (λ p. words text.now
         ≡ p.0.now ∷ words p.2.now) }
     ensures equals { IfSome result (λ p. p.1 ≡ position is_equals p.0.now) }
-    ensures inside { IfSome result (λ p. ForSome p.1 (λ i. i < length p.0.now)) }
 {
     let text = after_blanks(text);
     if text.is_empty() {
@@ -177,11 +177,11 @@ fn first_word<'a>(text: &'a [u8]) -> Option<(&'a [u8], Option<usize>, &'a [u8])>
 }
 
 // The offset of the first blank, and that of the first `=` before it. Each byte is looked at once.
+#[tactic(auto, using(crate::proofs::WordRules::word_ends))]
 fn first_end(text: &[u8]) -> (usize, Option<usize>)
     ensures end { result.0 ≡ position_or_len is_blank text.now }
     ensures equals { result.1 ≡ position is_equals (take result.0 text.now) }
     ensures inside { result.0 ≤ length text.now }
-    ensures before { ForSome result.1 (λ i. i < result.0) }
 {
     let stop = first_stop(text);
     let end = stop + first_blank(&text[stop..]);
@@ -246,9 +246,9 @@ fn after_blanks(text: &[u8]) -> &[u8]
 }
 
 // The name, which is not checked, and the state of a word whose first `=` has this offset.
+#[tactic(auto, using(crate::proofs::ListLemmas::position_inside))]
 fn parts_of<'a>(word: &'a [u8], equals: Option<usize>) -> (&'a [u8], StateRef<'a>)
-    requires offset { equals ≡ position is_equals word.now }
-    requires inside { ForSome equals (λ i. i < length word.now) }
+    requires { equals ≡ position is_equals word.now }
     ensures { with_state (checked_name result.0.now) (state_view result.1) ≡ item_of word.now }
 {
     let name = &word[..equals.unwrap_or(word.len())];
@@ -337,8 +337,8 @@ impl<'a> Lines<'a> {
     // The result of the next line that is not skipped.
     fn next_result(&mut self) -> Option<Result<(Kind, Iter<'a>, usize), Error>>
         ensures read { ReadsFirst self.old.results result self.new.results }
-        ensures end { IfNone result (self.new.lines ≡ 0) }
-        ensures fewer { OnSome result (self.new.lines < self.old.lines) }
+        ensures fewer { MatchOption result (self.new.lines ≡ 0)
+            (λ _. self.new.lines < self.old.lines) }
     {
         while let Some(found) = self.read_line() {
             if let Some(found) = found {

@@ -1,5 +1,5 @@
 -- Steps that change the entries of names (own).
-use Rattle.std.specs.Prelude.{◌≡◌, ◌≢◌, ℕ, ◌<◌, ◌⊎◌, List, ◌++◌, length, map, All, Result, OnOk}
+use Rattle.std.specs.Prelude.{◌≡◌, ℕ, ◌<◌, ◌⊎◌, List, [], ◌++◌, length, map, Result, OnOk}
 use Rattle.attr_lists.specs.declared.name_table.entry.NameEntry.{NameEntry}
 use Rattle.attr_lists.specs.Collections.{NumberedBody}
 use Rattle.attr_lists.specs.Definitions.{bodies_of_number, definition_of, of_other_lists}
@@ -27,14 +27,8 @@ pub record RemovesFrom (list_id : ℕ) (old new : NameEntry) : Type 0 where
   pub definitions : definitions_view new ≡ of_other_lists list_id (definitions_view old)
   pub entry : (number : ℕ) → IsEntry number old → IsEntry number new
 
--- a list's definitions of the name with this number were removed; those of other names stay
-pub record RemovesAt (list_id number : ℕ) (old new : List NameEntry) : Type 0 where
-  pub here : definitions_at new number ≡ of_other_lists list_id (definitions_at old number)
-  pub others : (other : ℕ) → other ≢ number → definitions_at new other ≡ definitions_at old other
+-- the list's definitions of a name were removed, or the list has no body of it, and its definitions stay
+pub record RemovesListed (list_id : ℕ) (list : List NumberedBody) (old new : List NameEntry) : Type 0 where
+  pub definitions : (number : ℕ) → (definitions_at new number ≡ of_other_lists list_id (definitions_at old number))
+      ⊎ ((bodies_of_number number list ≡ []) × (definitions_at new number ≡ definitions_at old number))
   pub entries : AreEntries old → AreEntries new
-
--- the list's definitions of a name were removed, or these macros have another name, and its definitions stay
-abbrev pub RemovesListed : ℕ → List NumberedBody → List NameEntry → List NameEntry → Type 0
-RemovesListed list_id list old new =
-    (number : ℕ) → (definitions_at new number ≡ of_other_lists list_id (definitions_at old number))
-    ⊎ (All (λ b. b.number ≢ number) list × (definitions_at new number ≡ definitions_at old number))

@@ -1,5 +1,5 @@
 -- The lists that are registered, each with the macros that its lines define (own).
-use Rattle.std.specs.Prelude.{◌≡◌, ◌<◌, ℕ, false, List, [], map, slice_get, Some, All, IfSome, unwrap_or, option_map}
+use Rattle.std.specs.Prelude.{◌≡◌, ◌<◌, ℕ, false, List, [], map, filter, slice_get, Some, All, IsSome}
 use Rattle.std.specs.List.{AllPairs}
 use Rattle.std.specs.BTreeSet.{BTreeSet, contains}
 use Rattle.std.specs.Global.{Global}
@@ -8,7 +8,7 @@ use Rattle.std.specs.declared.rc.Rc.{Rc}
 use Rattle.attr_lists.specs.Collections.{NumberedBody, RegisteredList}
 use Rattle.attr_lists.specs.Definitions.{bodies_named, bodies_of_number}
 use Rattle.attr_lists.specs.ListViews.{Entry}
-use Rattle.attr_lists.specs.Numbers.{number_of}
+use Rattle.attr_lists.specs.inner.NameSteps.{has_number}
 use Rattle.attr_lists.specs.declared.name_table.registered.ListMacros.{ListMacros}
 use Rattle.attr_lists.specs.declared.types.Metadata.{Metadata}
 use Rattle.attr_lists.specs.declared.types.TrackedAssignment.{TrackedAssignment}
@@ -43,18 +43,16 @@ IsIndexOf list_id lists index = (list : RegisteredList) × (slice_get lists inde
 abbrev pub ListsBodies : BTreeSet ℕ → List NumberedBody → Type 0
 ListsBodies numbers list = (number : ℕ) → contains nat_cmp numbers number ≡ false → bodies_of_number number list ≡ []
 
--- the bodies of the name, line by line, none if it is not among the names
+-- the bodies of the name, line by line
 abbrev pub bodies_of_name : List (List ℕ) → List NumberedBody → List ℕ → List (List TrackedAssignment)
-bodies_of_name names list name = unwrap_or (option_map (λ number. bodies_of_number number list) (number_of names name)) []
+bodies_of_name names list name = map (λ b. b.body) (filter (λ b. has_number names name b.number) list)
 
 -- the name has the same bodies in the list and in the lines
 abbrev pub AgreesOn : List (List ℕ) → List NumberedBody → List Entry → List ℕ → Type 0
 AgreesOn names list lines name = bodies_of_name names list name ≡ bodies_named name lines
 
--- so does the name with this number, if there is one
-abbrev pub AgreesAt : List (List ℕ) → List NumberedBody → List Entry → ℕ → Type 0
-AgreesAt names list lines number = (name : List ℕ) → slice_get names number ≡ Some name → AgreesOn names list lines name
-
--- so does the macro that the line defines, if it defines one
-abbrev pub LineAgrees : List (List ℕ) → List NumberedBody → List Entry → Entry → Type 0
-LineAgrees names list lines line = IfSome line.macro (λ _. AgreesOn names list lines line.pattern.text)
+-- the line defines the macro of this name with this body
+pub record Defines (line : Entry) (name : List ℕ) (body : List TrackedAssignment) : Type 0 where
+  pub macro : IsSome line.macro
+  pub named : name ≡ line.pattern.text
+  pub items : body ≡ line.items

@@ -4,8 +4,8 @@ ghost use Rattle.std.specs.Bool.{OnFalse};
 ghost use Rattle.std.specs.List.{remove_range};
 ghost use Rattle.std.specs.List.Sorted.{IsNonDecreasingBy};
 ghost use Rattle.attr_lists.specs.Definitions.{definition_of, of_other_lists, last_body, last_defined};
-ghost use Rattle.attr_lists.specs.inner.EntrySteps.{DefinesMacros, RemovesAt, RemovesFrom, RemovesListed};
-ghost use Rattle.attr_lists.specs.inner.EntryViews.{definition_view, definitions_view, all_definitions, definitions_at, AreAllInOrder, AreEntries, AreInListOrder, IsEntry};
+ghost use Rattle.attr_lists.specs.inner.EntrySteps.{DefinesMacros, RemovesFrom, RemovesListed};
+ghost use Rattle.attr_lists.specs.inner.EntryViews.{definitions_view, all_definitions, definitions_at, AreAllInOrder, AreEntries, AreInListOrder, IsEntry};
 ghost use Rattle.attr_lists.specs.inner.Registered.{numbered_body};
 
 use crate::types::{AttributeId, Metadata};
@@ -22,7 +22,7 @@ pub(super) struct NameEntry {
 }
 
 /// A definition of a macro.
-#[derive(Debug, Drop)]
+#[derive(Clone, Debug, Drop)]
 struct Definition {
     // The list id of its list.
     list_id: usize,
@@ -89,14 +89,8 @@ impl NameEntry {
         requires { AreInListOrder (definitions_view self.old) }
         ensures { RemovesFrom list_id self.old self.new }
     {
-        remove_run(&mut self.definitions, list_id);
-    }
-
-    // Removes the definitions of a list, in any order. This looks at each definition.
-    fn retain_others(&mut self, list_id: usize)
-        ensures { RemovesFrom list_id self.old self.new }
-    {
-        retain_others(&mut self.definitions, list_id);
+        let (start, end) = run_of(&self.definitions, list_id);
+        self.definitions.drain(start..end);
     }
 
     fn clone(&self, alloc: Global) -> Result<NameEntry, AllocError>
@@ -105,42 +99,11 @@ impl NameEntry {
         ensures entry { IfOk result (λ copy.
             (number : ℕ) → IsEntry number self.now → IsEntry number copy) }
     {
-        let undefined = self.undefined.clone(alloc)?;
-        let definitions = clone_definitions(alloc, &self.definitions)?;
         Ok(NameEntry {
-            undefined,
-            definitions,
+            undefined: self.undefined.clone(alloc)?,
+            definitions: self.definitions.clone()?,
         })
     }
-}
-
-fn clone_definitions(
-    alloc: Global,
-    definitions: &[Definition],
-) -> Result<Vec<Definition>, AllocError>
-    ensures definitions { IfOk result (λ copy. map definition_view copy.items
-        ≡ map definition_view definitions.now) }
-    ensures ids { IfOk result (λ copy. map (λ d. d.metadata.value.id.0) copy.items
-        ≡ map (λ d. d.metadata.value.id.0) definitions.now) }
-{
-    let mut copy = Vec::new(alloc);
-    for definition in definitions {
-        copy.push(Definition {
-            list_id: definition.list_id,
-            metadata: definition.metadata.clone()?,
-        })?;
-    }
-    Ok(copy)
-}
-
-// Removes the definitions of a list, if list ids don't fall.
-fn remove_run(definitions: &mut Vec<Definition>, list_id: usize)
-    requires { IsNonDecreasingBy (λ d. d.list_id) definitions.old.items }
-    ensures { definitions.new.items
-        ≡ filter (λ d. not (d.list_id == list_id)) definitions.old.items }
-{
-    let (start, end) = run_of(definitions, list_id);
-    remove_between(definitions, start, end);
 }
 
 // The indices where the definitions of a list begin and end, if list ids don't fall.
@@ -154,27 +117,6 @@ fn run_of(definitions: &[Definition], list_id: usize) -> (usize, usize)
     let start = definitions.partition_point(|definition| definition.list_id < list_id);
     let end = definitions.partition_point(|definition| definition.list_id <= list_id);
     (start, end)
-}
-
-// Removes the definitions from an index to another one.
-fn remove_between(definitions: &mut Vec<Definition>, start: usize, end: usize)
-    requires start { start ≤ end }
-    requires end { end ≤ length definitions.old.items }
-    ensures { definitions.new.items ≡ remove_range definitions.old.items start end }
-{
-    if end == definitions.len() {
-        definitions.truncate(start);
-    } else {
-        definitions.drain(start..end);
-    }
-}
-
-// Retains the definitions of all other lists.
-fn retain_others(definitions: &mut Vec<Definition>, list_id: usize)
-    ensures { definitions.new.items
-        ≡ filter (λ d. not (d.list_id == list_id)) definitions.old.items }
-{
-    definitions.retain(|definition| definition.list_id != list_id);
 }
 
 /// Appends entries without a definition, until there are `count`.
@@ -197,6 +139,7 @@ pub(super) fn extend(
 }
 
 /// Adds the macros of a list to the definitions of their names.
+#[tactic(auto, using(crate::proofs::EntryLemmas::define_list_step))]
 pub(super) fn define_list(
     entries: &mut [NameEntry],
     list_id: usize,
@@ -231,7 +174,9 @@ pub(super) fn take_back(entries: &mut [NameEntry], list_id: usize)
     ensures entries { AreEntries entries.old → AreEntries entries.new }
 {
     for entry in entries.iter_mut() {
-        entry.retain_others(list_id);
+        entry
+            .definitions
+            .retain(|definition| definition.list_id != list_id);
     }
 }
 
@@ -239,21 +184,13 @@ pub(super) fn take_back(entries: &mut [NameEntry], list_id: usize)
 /// definitions of later lists.
 pub(super) fn remove_list(entries: &mut [NameEntry], list_id: usize, list: &[Rc<Metadata>])
     requires { AreAllInOrder entries.old }
-    ensures removed { RemovesListed list_id (map numbered_body list.now) entries.old entries.new }
-    ensures entries { AreEntries entries.old → AreEntries entries.new }
+    ensures { RemovesListed list_id (map numbered_body list.now) entries.old entries.new }
 {
     for known in list {
-        remove_at(entries, list_id, known.id.0);
-    }
-}
-
-// Removes the definitions that a list has of the name with this number, if there is one.
-fn remove_at(entries: &mut [NameEntry], list_id: usize, number: usize)
-    requires { AreAllInOrder entries.old }
-    ensures { RemovesAt list_id number entries.old entries.new }
-{
-    if number < entries.len() {
-        entries[number].remove(list_id);
+        let number = known.id.0;
+        if number < entries.len() {
+            entries[number].remove(list_id);
+        }
     }
 }
 

@@ -39,15 +39,10 @@ pub(super) fn remove_macros(
     ensures { RemovesUndefined entries.now macros.old macros.new }
 {
     for known in list {
-        remove_macro(entries, macros, known.id.0);
-    }
-}
-
-fn remove_macro(entries: &[NameEntry], macros: &mut BTreeSet<usize>, number: usize)
-    ensures { RemovesUndefined entries.now macros.old macros.new }
-{
-    if !is_defined(entries, number) {
-        macros.remove(&number);
+        let number = known.id.0;
+        if !is_defined(entries, number) {
+            macros.remove(&number);
+        }
     }
 }
 

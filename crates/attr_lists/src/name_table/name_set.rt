@@ -6,8 +6,8 @@ ghost use Rattle.std.specs.Rc.{rc_str_bytes};
 ghost use Rattle.attr_text.specs.Names.{is_valid_name};
 ghost use Rattle.attr_lists.specs.Numbers.{number_of};
 ghost use Rattle.attr_lists.specs.inner.EntryViews.{AreValid};
+ghost use Rattle.attr_lists.specs.inner.NameSteps.{AppendsName};
 
-use bstr::ByteSlice;
 use std::alloc::{AllocError, Global};
 use std::collections::BTreeMap;
 use std::marker::Model;
@@ -61,17 +61,6 @@ impl NameSet {
         self.numbers.get(name).copied()
     }
 
-    /// The number of the name that a text is, if it is one of the names.
-    pub(super) fn number_of_text(&self, text: &[u8]) -> Option<usize>
-        ensures { result ≡ number_of self.now text.now }
-    {
-        let numbers = &self.numbers;
-        match text.to_str() {
-            Ok(name) => numbers.get(name).copied(),
-            Err(_) => None,
-        }
-    }
-
     /// The name with this number, if there is one.
     pub(super) fn name(&self, number: usize) -> Option<&str>
         ensures name { option_copied result ≡ slice_get self.now number }
@@ -95,8 +84,7 @@ impl NameSet {
     pub(super) fn push(&mut self, text: RcStr) -> Result<(), AllocError>
         requires new { number_of self.old (rc_str_bytes text) ≡ None }
         requires valid { IsTrue (is_valid_name (rc_str_bytes text)) }
-        ensures ok { OnOk result (self.new ≡ self.old ++ rc_str_bytes text ∷ []) }
-        ensures err { OnErr result (self.new ≡ self.old) }
+        ensures { AppendsName result (rc_str_bytes text) self.old self.new }
     {
         let number = self.texts.len();
         self.texts.push(text.clone()?)?;
@@ -124,19 +112,15 @@ impl NameSet {
             self.numbers.remove(text.as_str());
         }
     }
+}
 
-    /// A copy of the names, in their order.
-    ///
-    /// # Errors
-    ///
-    /// If memory runs out.
-    pub(super) fn clone(&self, alloc: Global) -> Result<NameSet, AllocError>
-        ensures { IfOk result (λ copy. copy ≡ self.now) }
-    {
-        let mut copy = NameSet::new(alloc);
-        for text in self.texts.as_slice() {
-            copy.push(text.clone()?)?;
-        }
-        Ok(copy)
+impl Clone for NameSet {
+    ghost is_clone = { λ names copy. copy ≡ names };
+
+    fn clone(&self) -> Result<NameSet, AllocError> {
+        Ok(NameSet {
+            texts: self.texts.clone()?,
+            numbers: self.numbers.clone()?,
+        })
     }
 }

@@ -10,8 +10,8 @@ ghost use Rattle.attr_lists.specs.inner.NameSteps.{InsertsNames};
 ghost use Rattle.attr_lists.specs.ListViews.{entry_view, entries_view};
 ghost use Rattle.attr_lists.specs.Numbers.{names_of, names_in, number_of, numbered_item, numbered};
 
+use crate::last_read::LastIndexes;
 use crate::name_table::name_set::NameSet;
-use crate::name_table::recent_numbers::RecentNumbers;
 use crate::types::{Assignments, AttributeId, Metadata, TrackedAssignment, Value, cloned};
 use attr_glob::Pattern;
 use attr_glob::search::pattern::Mapping;
@@ -39,7 +39,7 @@ pub(super) fn number_list(
     ensures macros { IfOk result (λ macros.
         map numbered_body macros.items ≡ macros_defined (entries_view mappings.new)) }
 {
-    let mut recent = RecentNumbers::new();
+    let mut recent = LastIndexes::new();
     let mut macros = Vec::new(alloc);
     for mapping in mappings.iter_mut() {
         if let Some(defined) = number_line(alloc, names, &mut recent, mapping)? {
@@ -53,7 +53,7 @@ pub(super) fn number_list(
 fn number_line(
     alloc: Global,
     names: &mut NameSet,
-    recent: &mut RecentNumbers,
+    recent: &mut LastIndexes,
     mapping: &mut Mapping<Value>,
 ) -> Result<Option<Rc<Metadata>>, AllocError>
     requires { macro_valid (entry_view mapping.old) ≡ true }
@@ -98,7 +98,7 @@ fn shared_macro(
 fn number_items(
     alloc: Global,
     names: &mut NameSet,
-    recent: &mut RecentNumbers,
+    recent: &mut LastIndexes,
     items: &mut [TrackedAssignment],
 ) -> Result<(), AllocError>
     ensures inserted { InsertsNames result
@@ -116,23 +116,31 @@ fn number_items(
 fn number_of(
     alloc: Global,
     names: &mut NameSet,
-    recent: &mut RecentNumbers,
+    recent: &mut LastIndexes,
     name: &str,
 ) -> Result<usize, AllocError>
     requires { IsTrue (is_valid_name name.now) }
     ensures inserted { InsertsNames result (name.now ∷ []) names.old names.new }
     ensures number { IfOk result (λ number. number_of names.new name.now ≡ Some number) }
 {
-    if let Some(number) = recent.number_of(names, name) {
+    let last = recent.get(name.as_bytes());
+    if let Some(known) = names.name(last)
+        && known == name
+    {
+        return Ok(last);
+    }
+    if let Some(number) = names.number_of(name) {
+        recent.set(name.as_bytes(), number);
         return Ok(number);
     }
     let number = names.len();
     names.push(RcStr::from_str(alloc, name)?)?;
-    recent.note(name, number);
+    recent.set(name.as_bytes(), number);
     Ok(number)
 }
 
 // Sets an item's number, which its name has. Its name takes the text that the names have of it, so that all lists share one.
+#[tactic(auto, using(crate::proofs::NamedDefinitions::named_at))]
 fn set_number(names: &NameSet, number: usize, item: &mut TrackedAssignment)
     requires number { number_of names.now item.old.inner.name ≡ Some number }
     requires valid { IsTrue (is_valid_name item.old.inner.name) }

@@ -3,7 +3,7 @@ ghost use Rattle.std.specs.Prelude.{◌≡◌, ◌↔◌, true, length, OnOk, On
 ghost use Rattle.attr_lists.specs.Definitions.{with_list, without_list, HoldsList};
 ghost use Rattle.attr_lists.specs.KeptLists.{macros_valid};
 ghost use Rattle.attr_lists.specs.ListViews.{entries_view};
-ghost use Rattle.attr_lists.specs.Numbers.{numbered_lines};
+ghost use Rattle.attr_lists.specs.inner.EntryViews.{numbered_view};
 ghost use Rattle.attr_lists.specs.inner.Registered.{IsAbove, registered_views};
 ghost use Rattle.attr_lists.specs.inner.NameTableView.{parts_view, AreWhole, IsPartlyAdded};
 ghost use Rattle.attr_lists.specs.declared.name_table.parts.Parts.{Parts};
@@ -61,7 +61,7 @@ impl Parts {
         ensures added { OnOk result (parts_view self.new
             ≡ with_list list_id (entries_view mappings.old) (parts_view self.old)) }
         ensures numbered { OnOk result (entries_view mappings.new
-            ≡ numbered_lines self.new.names (entries_view mappings.old)) }
+            ≡ numbered_view self.new.names mappings.old) }
         ensures whole { OnOk result (AreWhole self.new) }
         ensures err { OnErr result (IsPartlyAdded list_id self.old self.new) }
     {

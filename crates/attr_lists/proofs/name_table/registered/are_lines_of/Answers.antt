@@ -1,27 +1,25 @@
-use Rattle.std.proofs.Common.{arith, ◌∙◌, [], ◌∷◌, ◌++◌, ◌+◌, ap, bytes_eq, drop, map, sym}
-use Rattle.attr_lists.specs.Definitions.{bodies_named}
-use Rattle.attr_lists.specs.inner.Registered.{bodies_of_name, numbered_body}
-use Rattle.attr_lists.specs.Numbers.{number_of}
-use Rattle.attr_lists.specs.ListViews.{entry_view, entries_view, items_in, macro_id}
-use Rattle.attr_lists.proofs.DefinitionLemmas.{bodies_named-none}
-use Rattle.attr_lists.proofs.RegisteredLemmas.{lines_from, more_line}
+use Rattle.std.proofs.Common.{arith, ◌≡◌, true, map}
+use Rattle.attr_lists.specs.ListViews.{entry_view}
+use Rattle.attr_lists.specs.inner.NameSteps.{has_number}
+use Rattle.attr_lists.specs.inner.Registered.{numbered_body}
+use Rattle.attr_lists.proofs.RegisteredLemmas.{line_none, lines_from, more_line}
 use Rattle.attr_lists.proofs.name_table.registered.are_lines_of.Goals as goal
-use Rattle.attr_lists.proofs.name_table.registered.are_lines_of.Goals.{in-MacroAssignments+in-Some+else-not-is_definition, in-Assignments}
+use Rattle.attr_lists.proofs.name_table.registered.are_lines_of.Goals.{in-Some+in-Some-split_first+else-not-has_number+else-not-is_same, in_default}
 
 pub loop-mapping-preserved : goal.loop-mapping-preserved
 loop-mapping-preserved c = λ name h.
-    let names = c.args.names.now in
     let line = entry_view c.mapping-item.result in
-    let behind = entries_view (drop (c.loop-mapping.mapping-index + 1) c.args.mappings.now) in
     let from = lines_from c.args.mappings.now c.loop-mapping.mapping-index c.mapping-item.result name c.loop-mapping-test.true c.mapping-item.is in
-    c.loop-mapping.invariant name (elim c.match-mapping.branch [
-      | in-MacroAssignments+in-Some+else-not-is_definition w ↦
-          let same = w.is_definition.ensures w.if-not-is_definition.false in
-          ap (λ l. bodies_of_name names (map numbered_body l) name) w.in-Some.ensures.cases.0
-          ∙ more_line names line w.in-MacroAssignments.id (numbered_body w.in-Some.first.now)
-          (map numbered_body w.in-Some.others.now) (ap macro_id w.in-MacroAssignments.is) (ap (number_of names) (sym w.deref.ensures.value) ∙ same.0)
-          (same.1 ∙ w.deref-in-MacroAssignments.ensures ∙ sym (ap items_in w.in-MacroAssignments.is)) name
-          ∙ ap (λ l. bodies_named name (line ∷ []) ++ l) (ap (λ r. bodies_of_name names (map numbered_body r.now) name) (sym w.rest-is) ∙ h)
-          ∙ from
-      | in-Assignments w ↦ grind (arith, bodies_named-none, bytes_eq, in-Assignments)
+    c.loop-mapping.invariant name (elim c.match-macro_of.branch [
+      | in-Some+in-Some-split_first+else-not-has_number+else-not-is_same w ↦
+          let known = numbered_body w.in-Some-split_first.known.now in
+          let named : has_number c.args.names.now w.in-Some.name.now known.number ≡ true = grind arith in
+          let same : known.body ≡ w.in-Some.body.now = grind arith in
+          grind (
+            arith,
+            from,
+            more_line c.args.names.now line w.in-Some.name.now w.in-Some.body.now known
+                (map numbered_body w.in-Some-split_first.others.now) w.in-Some.ensures named same name,
+          )
+      | in_default w ↦ grind (arith, line_none line name, from)
     ])

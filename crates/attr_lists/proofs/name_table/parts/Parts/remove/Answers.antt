@@ -4,7 +4,7 @@ use Rattle.std.specs.Vec.{with_items}
 use Rattle.attr_lists.specs.declared.name_table.parts.Parts.{Parts}
 use Rattle.attr_lists.specs.Collections.{RegisteredList}
 use Rattle.attr_lists.specs.inner.EntrySteps.{RemovesListed}
-use Rattle.attr_lists.specs.inner.EntryViews.{AreAllInOrder, AreEntries}
+use Rattle.attr_lists.specs.inner.EntryViews.{AreAllInOrder}
 use Rattle.attr_lists.specs.inner.Registered.{numbered_body, registered_views}
 use Rattle.attr_lists.specs.shared.MacroNumbers.{RemovesUndefined}
 use Rattle.attr_lists.proofs.NameTableSteps.{all_in_order, left, left_whole, none_left, view_at}
@@ -42,11 +42,10 @@ returns-in-Some-clause-whole c =
     ap (map numbered_body) c.deref-in-Some.ensures.value ∙ ap (λ (r : RegisteredList). r.macros) (sym own) in
     left_whole p q c.args.list_id at e.0 c.requires here e.2 refl c.remove-list.ensures.items
     (omega (arith, ap length items, kept, p.entries.ok.0))
-    (subst AreEntries (sym items) (c.remove_list.ensures.entries (subst AreEntries (sym c.deref_mut.ensures.value) c.requires.entries)))
     (subst (λ l. RemovesListed c.args.list_id l p.entries.items entries.items) macros
     (subst (λ l. RemovesListed c.args.list_id (map numbered_body c.deref-in-Some.result.now) l entries.items) c.deref_mut.ensures.value
     (subst (RemovesListed c.args.list_id (map numbered_body c.deref-in-Some.result.now) c.deref_mut.result.now) (sym items)
-    c.remove_list.ensures.removed)))
+    c.remove_list.ensures)))
     (subst (λ l. RemovesUndefined l p.macros c.remove_macros.new.macros) c.deref-in-Some-2.ensures.value c.remove_macros.ensures)
 
 pub returns-in_default-clause-removed : goal.returns-in_default-clause-removed
