@@ -1,5 +1,7 @@
 //! Readers and writers in memory, of which a chosen call fails. `Reader` and `Writer` of `check_attr` count what they do.
 
+ghost use Rattle.std.specs.Prelude.{◌≡◌, false};
+
 use std::io;
 use std::io::{ErrorKind, Read, Write};
 
@@ -42,7 +44,12 @@ pub struct Sink {
 
 impl Sink {
     /// A writer into this buffer, of which no call fails. It takes no memory as long as the buffer has room.
-    pub fn new(bytes: Vec<u8>, most: usize) -> Sink {
+    pub fn new(bytes: Vec<u8>, most: usize) -> Sink
+        ensures written { result.bytes ≡ bytes }
+        ensures most { result.most ≡ most }
+        ensures whole { (result.failing ≡ 0) × (result.fails_flush ≡ false) }
+        ensures unflushed { result.flushes ≡ 0 }
+    {
         Sink {
             bytes,
             most,

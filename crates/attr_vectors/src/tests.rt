@@ -4,33 +4,29 @@ mod memory;
 mod order;
 mod std_devices;
 
+use check_attr::{Reader, Writer, program};
+use gix_attributes::files::Memory;
 use std::alloc::{AllocError, Global};
-use std::io;
-use std::io::{ErrorKind, Read, Write};
-
-// A reader and a writer of which each call fails.
-#[derive(Drop)]
-struct Interrupted;
-
-impl Read for Interrupted {
-    fn read(&mut self, _buf: &mut [u8]) -> io::Result<usize> {
-        Err(io::Error::from(ErrorKind::Interrupted))
-    }
-}
-
-impl Write for Interrupted {
-    fn write(&mut self, _bytes: &[u8]) -> io::Result<usize> {
-        Err(io::Error::from(ErrorKind::Interrupted))
-    }
-
-    fn flush(&mut self) -> io::Result<()> {
-        Err(io::Error::from(ErrorKind::Interrupted))
-    }
-}
+use std::io::{Read, Write};
 
 // The arguments of a call that has one.
 fn argument(alloc: Global, word: &str) -> Result<Vec<String>, AllocError> {
     let mut words = Vec::new(alloc);
     words.push(String::from_str(alloc, word)?)?;
     Ok(words)
+}
+
+// The status of a call that has one argument. There is a global file `g`, of which two lines are dropped.
+fn status_of<R: Read + Drop, W: Write + Drop, E: Write + Drop>(
+    alloc: Global,
+    word: &str,
+    input: R,
+    output: W,
+    errors: E,
+) -> Result<u8, AllocError> {
+    let (mut files, args) = (Memory::new(alloc), argument(alloc, word)?);
+    files.insert("g", b"!a b\n* builtin_c\n* d\n")?;
+    let (reader, writer) = (&mut Reader::new(input), &mut Writer::new(output));
+    let errors = &mut Writer::new(errors);
+    Ok(program(alloc, &mut files, &args, reader, writer, errors))
 }

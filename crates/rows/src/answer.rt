@@ -1,6 +1,7 @@
 //! What a row's call answers, field by field.
 
 use crate::fault::Fault;
+use bstr::BStr;
 use std::alloc::Global;
 use std::fmt::Display;
 use std::io::Write;
@@ -23,8 +24,8 @@ impl Answer {
     }
 
     /// The fields as one text.
-    pub(crate) fn as_slice(&self) -> &[u8] {
-        self.fields.as_slice()
+    pub(crate) fn as_bstr(&self) -> BStr<'_> {
+        BStr::new(&self.fields)
     }
 
     /// Adds a field of these bytes.
@@ -51,11 +52,11 @@ impl Answer {
         }
     }
 
-    /// Adds a field with numbers, between which are blanks.
-    pub(crate) fn numbers(&mut self, numbers: &[usize]) -> Result<(), Fault> {
+    /// Adds a field with values as they are printed, between which are blanks.
+    pub(crate) fn words<T: Display>(&mut self, values: &[T]) -> Result<(), Fault> {
         let mut text = Vec::new(self.alloc);
-        for number in numbers {
-            write!(text, "{number} ")?;
+        for value in values {
+            write!(text, "{value} ")?;
         }
         self.bytes(text.trim_ascii())
     }

@@ -4,9 +4,9 @@
 use crate::answer::Answer;
 use crate::fault::Fault;
 use crate::row::{Row, number_of, words_of};
-use crate::scripts::{built_in, engine};
+use crate::scripts::{ended, engine};
 use attr_vectors::devices::{Sink, Source};
-use check_attr::{Pull, Push, Reader, Writer, lines, play, program, run};
+use check_attr::{Pull, Push, Reader, Writer, play, program};
 use gix_attributes::files::{Files, Memory};
 use std::alloc::{AllocError, Global};
 
@@ -19,10 +19,8 @@ pub(crate) fn left(row: &Row, answer: &mut Answer) -> Result<(), Fault> {
     let mut sink = sink_of(alloc, row.text(4), row.text(5))?;
     let mut writer = Writer::new(&mut sink);
     let ended = match row.text(0) {
-        "lines" => lines(alloc, &mut source, &mut writer),
-        "script" => run(alloc, &mut source, &mut writer, built_in(alloc)?),
         "play" => play(alloc, row.bytes(1), engine(alloc)?, &mut writer),
-        _ => return Err(Fault::NotARow),
+        kind => ended(alloc, kind, &mut source, &mut writer)?,
     };
     match ended {
         Ok(()) => answer.text("whole")?,
@@ -93,21 +91,15 @@ fn files_of(alloc: Global, failing: usize) -> Result<Memory, AllocError> {
 /// many bytes a call as standard output, and does not fail.
 pub(crate) fn left_by_call(row: &Row, answer: &mut Answer) -> Result<(), Fault> {
     let (alloc, words) = (answer.alloc, words_of(answer.alloc, row.text(0))?);
-    let mut files = files_of(alloc, row.number(6)?)?;
+    let files = &mut files_of(alloc, row.number(6)?)?;
     let (most, failing) = (row.text(4), row.text(5));
     let (most, errors_most) = most.split_once(' ').unwrap_or((most, most));
     let (failing, errors_failing) = failing.split_once(' ').unwrap_or((failing, "0"));
     let (mut source, mut sink) = (source_of(row)?, sink_of(alloc, most, failing)?);
     let mut errors = sink_of(alloc, errors_most, errors_failing)?;
     let (mut reader, mut writer) = (Reader::new(&mut source), Writer::new(&mut sink));
-    let status = program(
-        alloc,
-        &mut files,
-        &words,
-        &mut reader,
-        &mut writer,
-        &mut Writer::new(&mut errors),
-    );
+    let err = &mut Writer::new(&mut errors);
+    let status = program(alloc, files, &words, &mut reader, &mut writer, err);
     let counts = [reader.failures(), writer.failures(), writer.stalls()];
     let is_flushed = writer.is_flushed();
     answer.shown(status)?;

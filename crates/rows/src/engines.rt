@@ -22,10 +22,7 @@ impl Stage for Engine {
             "add_below" => self.add_below(alloc, list_below(step, true))?,
             "add_below_without_macros" => self.add_below(alloc, list_below(step, false))?,
             // Removes the last list, and reports whether there was one.
-            "pop" => {
-                out.reserve(6)?;
-                writeln!(out, "{}", self.pop())?;
-            }
+            "pop" => writeln!(out, "{}", self.pop())?,
             // `select | NAME | ..` selects these names, and all if there are none.
             "select" => self.select(alloc, &step.texts(alloc, 1)?)?,
             // `ask | PATH | CASE` reports the number of answers for a path that is no directory.
@@ -108,8 +105,6 @@ fn question(step: &Row, case: Case, is_dir: bool) -> Question<'_> {
 }
 
 fn ask(engine: &mut Engine, question: Question<'_>, out: &mut String) -> Result<(), AllocError> {
-    // The report gets its memory first, so that only the question can be refused.
-    out.reserve(8)?;
     let count = engine.ask(*out.allocator(), question)?;
     writeln!(out, "{count}")
 }

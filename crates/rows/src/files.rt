@@ -4,9 +4,7 @@
 use crate::answer::Answer;
 use crate::fault::Fault;
 use crate::row::Row;
-use crate::scripts::Input;
 use crate::{devices, lines, matches, patterns, plain, scenes, scripts, sources};
-use bstr::BStr;
 use gix_attributes::files::{Disk, Files, ReadError};
 use std::fmt::Write;
 
@@ -65,38 +63,35 @@ impl<'a> File<'a> {
     // A row that finds no memory is asked again, so that `tests/refused_memory.sh` can refuse each request. But a call that takes
     // none is not made again.
     fn compare_row(self, rt: &HostRuntime, text: &str, out: &mut String) -> Result<(), Fault> {
-        let mut answer = Answer::new(rt.alloc());
-        let mut answered = self.answers(rt, text, &mut answer);
-        let is_refused = answered == Err(Fault::OutOfMemory)
-            || answered == Err(Fault::CallOutOfMemory) && !self.is_plain();
-        if is_refused {
-            answer = Answer::new(rt.alloc());
-            answered = self.answers(rt, text, &mut answer);
-        }
-        let (name, answer) = (self.name, BStr::new(answer.as_slice()));
+        let answered = match self.other_answer(rt, text) {
+            Err(Fault::OutOfMemory) => self.other_answer(rt, text),
+            Err(Fault::CallOutOfMemory) if !self.is_plain() => self.other_answer(rt, text),
+            answered => answered,
+        };
+        let name = self.name;
         match answered {
-            Ok(true) => {}
-            Ok(false) => writeln!(out, "{name}: {text}\nanswers {answer}")?,
-            Err(Fault::OutOfMemory) => return Err(Fault::OutOfMemory),
-            Err(fault) => writeln!(out, "{name}: {text}\n{fault}")?,
+            Ok(None) => Ok(()),
+            Ok(Some(answer)) => Ok(writeln!(out, "{name}: {text}\nanswers {}", answer.as_bstr())?),
+            Err(Fault::OutOfMemory) => Err(Fault::OutOfMemory),
+            Err(fault) => Ok(writeln!(out, "{name}: {text}\n{fault}")?),
         }
-        Ok(())
     }
 
-    // Whether a row has the answer that it has to have.
-    fn answers(self, rt: &HostRuntime, text: &str, answer: &mut Answer) -> Result<bool, Fault> {
-        let mut wanted = Answer::new(rt.alloc());
+    // What a row answers, if that is not what it has to answer.
+    fn other_answer(self, rt: &HostRuntime, text: &str) -> Result<Option<Answer>, Fault> {
+        let (mut answer, mut wanted) = (Answer::new(rt.alloc()), Answer::new(rt.alloc()));
         if let Some(asked) = self.asked {
             let row = Row::read(rt.alloc(), text)?;
-            push_answer(rt, self.about, &row, answer)?;
+            push_answer(rt, self.about, &row, &mut answer)?;
             for field in row.rest(asked) {
                 wanted.bytes(field)?;
             }
         } else {
-            scenes::push_report(self.about, text, answer)?;
+            scenes::push_report(self.about, text, &mut answer)?;
             scenes::push_wanted(text, &mut wanted)?;
         }
-        Ok(answer.as_slice() == wanted.as_slice())
+        let differs = answer.as_bstr() != wanted.as_bstr();
+        Ok(differs.then_some(answer))
     }
 }
 
@@ -110,13 +105,11 @@ pub(crate) fn compare_files(
     differences: &mut String,
 ) -> Result<(), Fault> {
     let files = read(rt, "files")?;
-    for line in files.split('\n') {
-        if is_row(line) {
-            let row = Row::read(rt.alloc(), line)?;
-            let file = File::of(&row)?;
-            if file.is_chosen(chosen) {
-                file.compare(rt, differences)?;
-            }
+    for line in files.split('\n').filter(|line| is_row(line)) {
+        let row = Row::read(rt.alloc(), line)?;
+        let file = File::of(&row)?;
+        if file.is_chosen(chosen) {
+            file.compare(rt, differences)?;
         }
     }
     Ok(())
@@ -153,8 +146,8 @@ fn push_answer(rt: &HostRuntime, about: &str, row: &Row, answer: &mut Answer) ->
         "added" => sources::additions(rt, row, answer),
         "disk" => sources::of_disk(rt, row, answer),
         "calls" => scripts::call(rt, row, answer),
-        "scripts" => scripts::run_twice(Input::Script, row, answer),
-        "reports" => scripts::run_twice(Input::Lines, row, answer),
+        "scripts" => scripts::run_twice("script", row, answer),
+        "reports" => scripts::run_twice("lines", row, answer),
         "plays" => scripts::played(row, answer),
         "devices" => devices::left(row, answer),
         "failing_calls" => devices::left_by_call(row, answer),

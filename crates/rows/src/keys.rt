@@ -9,17 +9,10 @@ use attr_keys::line_key::Shape;
 use std::alloc::{AllocError, Global};
 use std::fmt::Write;
 
-/// A line: its text, and what else is known of it.
-#[derive(Drop)]
-struct Line {
-    text: Vec<u8>,
-    rest: Shape<'static>,
-}
-
-/// The lines that were added.
+/// The lines that were added: the text of each, and what else is known of it.
 #[derive(Drop)]
 pub(crate) struct Keys {
-    lines: Vec<Line>,
+    lines: Vec<(Vec<u8>, Shape<'static>)>,
 }
 
 impl Keys {
@@ -31,7 +24,9 @@ impl Keys {
 
     fn push_found(&self, step: &Row, out: &mut String) -> Result<(), Fault> {
         let alloc = *out.allocator();
-        let shapes: Vec<Shape<'_>> = self.lines.iter().map(shape_of).collect(alloc)?;
+        let lines = self.lines.iter();
+        let shapes = lines.map(|(text, rest)| Shape { text, ..*rest });
+        let shapes: Vec<Shape<'_>> = shapes.collect(alloc)?;
         let texts = Texts {
             name: step.bytes(1),
             path: step.bytes(2),
@@ -48,7 +43,10 @@ impl Stage for Keys {
     fn take(&mut self, step: &Row, out: &mut String) -> Result<(), Fault> {
         match step.text(0) {
             // `line | KIND | TEXT | WILDCARD` adds a line, whose first wildcard is at this offset or nowhere.
-            "line" => Ok(self.lines.push(line_of(*out.allocator(), step)?)?),
+            "line" => {
+                let text = Vec::from_slice(*out.allocator(), step.bytes(2))?;
+                Ok(self.lines.push((text, shape_without_text(step)?))?)
+            }
             // `find | NAME | PATH | CASE` reports the lines that are found, last to first.
             "find" => self.push_found(step, out),
             _ => Err(Fault::NotARow),
@@ -60,8 +58,7 @@ impl Stage for Keys {
     }
 }
 
-fn line_of(alloc: Global, step: &Row) -> Result<Line, Fault> {
-    let text = Vec::from_slice(alloc, step.bytes(2))?;
+fn shape_without_text(step: &Row) -> Result<Shape<'static>, Fault> {
     let (is_macro, asks_name, is_end) = match step.text(1) {
         "name" => (false, true, false),
         "path" => (false, false, false),
@@ -69,19 +66,11 @@ fn line_of(alloc: Global, step: &Row) -> Result<Line, Fault> {
         "macro" => (true, true, true),
         _ => return Err(Fault::NotARow),
     };
-    let rest = Shape {
+    Ok(Shape {
         text: b"",
         wildcard: step.index(3)?,
         is_macro,
         asks_name,
         is_end,
-    };
-    Ok(Line { text, rest })
-}
-
-fn shape_of(line: &Line) -> Shape<'_> {
-    Shape {
-        text: line.text.as_slice(),
-        ..line.rest
-    }
+    })
 }

@@ -12,50 +12,40 @@ use attr_glob::wildmatch::{MatchBuffers, count};
 use bstr::BStr;
 use std::alloc::{AllocError, Global};
 
-/// A pattern's text and the tokens that are kept of it, none where a bracket isn't closed.
-#[derive(Drop)]
-struct Pair<'a> {
+/// Whether a pattern's text matches a value, and the number of pairs that are visited. The tokens that are kept of the text have
+/// to answer the same: there are none where a bracket isn't closed, and it matches nothing then.
+fn counted(
     alloc: Global,
-    text: &'a [u8],
-    tokens: Option<Tokens>,
-    buffers: MatchBuffers,
+    text: &[u8],
+    value: &[u8],
+    case: Case,
+    buffers: &mut MatchBuffers,
+) -> Result<(bool, u128), Fault> {
+    let mut kept = (false, 0);
+    if let Some(tokens) = Tokens::read(alloc, text)? {
+        buffers.reserve(tokens.row_len())?;
+        kept = tokens.count(value, case, buffers);
+        // Once there is room for the tokens, nothing takes memory.
+        let is_refused = buffers.reserve(tokens.row_len()).is_err();
+        if is_refused || tokens.matches(value, case, buffers) != kept.0 {
+            return Err(Fault::Changed);
+        }
+    }
+    if kept != count(alloc, text, value, case)? {
+        return Err(Fault::OtherTokens);
+    }
+    Ok(kept)
 }
 
-impl<'a> Pair<'a> {
-    fn read(alloc: Global, text: &'a [u8]) -> Result<Pair<'a>, AllocError> {
-        let (tokens, buffers) = (Tokens::read(alloc, text)?, MatchBuffers::new(alloc));
-        Ok(Pair {
-            alloc,
-            text,
-            tokens,
-            buffers,
-        })
-    }
-
-    /// Whether the text matches a value, and the number of pairs that are visited. The tokens have to answer the same.
-    fn count(&mut self, value: &[u8], case: Case) -> Result<(bool, u128), Fault> {
-        let counted = count(self.alloc, self.text, value, case)?;
-        let (mut kept, buffers) = ((false, 0), &mut self.buffers);
-        if let Some(tokens) = &self.tokens {
-            buffers.reserve(tokens.row_len())?;
-            kept = tokens.count(value, case, buffers);
-            // Once there is room for the tokens, nothing takes memory.
-            let is_refused = buffers.reserve(tokens.row_len()).is_err();
-            if is_refused || tokens.matches(value, case, buffers) != kept.0 {
-                return Err(Fault::Changed);
-            }
-        }
-        if kept != counted {
-            return Err(Fault::OtherTokens);
-        }
-        Ok(counted)
-    }
+// What is counted of the pattern, the value and the case in the first fields.
+fn counted_of(row: &Row, alloc: Global) -> Result<(bool, u128), Fault> {
+    let (text, value, case) = (row.bytes(0), row.bytes(1), row.case(2)?);
+    counted(alloc, text, value, case, &mut MatchBuffers::new(alloc))
 }
 
 /// Whether a pattern's text matches a value.
 pub(crate) fn wildmatch(row: &Row, answer: &mut Answer) -> Result<(), Fault> {
-    let mut pair = Pair::read(answer.alloc, row.bytes(0))?;
-    let (matched, _) = pair.count(row.bytes(1), row.case(2)?)?;
+    let (matched, _) = counted_of(row, answer.alloc)?;
     answer.flag(matched)
 }
 
@@ -63,8 +53,7 @@ pub(crate) fn wildmatch(row: &Row, answer: &mut Answer) -> Result<(), Fault> {
 /// the most.
 pub(crate) fn pairs(row: &Row, answer: &mut Answer) -> Result<(), Fault> {
     let (least, most) = (row.number(3)? as u128, row.number(4)? as u128);
-    let mut pair = Pair::read(answer.alloc, row.bytes(0))?;
-    let (matched, pairs) = pair.count(row.bytes(1), row.case(2)?)?;
+    let (matched, pairs) = counted_of(row, answer.alloc)?;
     answer.flag(matched)?;
     if pairs < least || most < pairs {
         answer.shown(pairs)?;
@@ -89,13 +78,14 @@ const SHORT_VALUES: usize = 121;
 /// Which values of at most four bytes `a`, `b` and `/` a pattern's text matches, with blanks between them. Both cases have to
 /// answer the same.
 pub(crate) fn short_values(row: &Row, answer: &mut Answer) -> Result<(), Fault> {
-    let (mut taken, mut value) = (Vec::new(answer.alloc), Vec::new(answer.alloc));
-    let mut pair = Pair::read(answer.alloc, row.bytes(0))?;
+    let (alloc, text) = (answer.alloc, row.bytes(0));
+    let (mut taken, mut value) = (Vec::new(alloc), Vec::new(alloc));
+    let mut buffers = MatchBuffers::new(alloc);
     for number in 0..SHORT_VALUES {
         value.clear();
         push_short_value(number, &mut value)?;
-        let (exact, _) = pair.count(&value, Case::Sensitive)?;
-        let (folded, _) = pair.count(&value, Case::Fold)?;
+        let (exact, _) = counted(alloc, text, &value, Case::Sensitive, &mut buffers)?;
+        let (folded, _) = counted(alloc, text, &value, Case::Fold, &mut buffers)?;
         if folded != exact {
             return answer.text("another case");
         }
@@ -164,7 +154,7 @@ pub(crate) fn candidates(row: &Row, answer: &mut Answer) -> Result<(), Fault> {
         return answer.text("another index");
     }
     let found = index.candidates(alloc, &list, BStr::new(path), base_name_offset(path), case)?;
-    answer.numbers(&found)
+    answer.words(&found)
 }
 
 /// Whether the index of a file is of its list, and whether it is of the list of another file.

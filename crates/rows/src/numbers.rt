@@ -33,16 +33,14 @@ impl Numbering {
         Ok(Box::new(alloc, numbering)?)
     }
 
-    // Its report gets its memory first, so that only the addition can be refused.
+    // There is room for the list before it is added, so that only the addition can be refused.
     fn add(&mut self, bytes: &[u8], out: &mut String) -> Result<(), Fault> {
         let alloc = *out.allocator();
         let (mut list, _) = Attributes.bytes_to_patterns(alloc, bytes, "")?;
         self.added.reserve(1)?;
-        out.reserve(8)?;
         let list_id = self.table.add(alloc, &mut list)?;
         self.added.push((list_id, list))?;
-        writeln!(out, "{list_id}")?;
-        Ok(())
+        Ok(writeln!(out, "{list_id}")?)
     }
 
     fn remove(&mut self, index: usize, out: &mut String) -> Result<(), Fault> {
@@ -122,14 +120,11 @@ fn remove_if_held(
     list: &[Mapping<Value>],
     out: &mut String,
 ) -> Result<(), Fault> {
-    // The report gets its memory first, so that only what is done before the removal can be refused.
-    out.reserve(6)?;
     let is_held = table.holds(list_id, list);
     if is_held {
         table.remove(list_id);
     }
-    writeln!(out, "{is_held}")?;
-    Ok(())
+    Ok(writeln!(out, "{is_held}")?)
 }
 
 fn expect_bodies_copied(alloc: Global, table: &NameTable) -> Result<(), Fault> {

@@ -39,10 +39,7 @@ impl Row {
 
     /// The text of a field, nothing if that is a hyphen.
     pub(crate) fn optional(&self, index: usize) -> Option<&str> {
-        match self.text(index) {
-            "-" => None,
-            text => Some(text),
-        }
+        Some(self.text(index)).filter(|text| *text != "-")
     }
 
     /// The number in a field.
@@ -57,10 +54,8 @@ impl Row {
 
     /// The number in a field, or 0 if there is no such field.
     pub(crate) fn number_or_zero(&self, index: usize) -> Result<usize, Fault> {
-        match self.fields.get(index) {
-            Some(_) => self.number(index),
-            None => Ok(0),
-        }
+        let field = self.fields.get(index);
+        field.map_or(Ok(0), |_| self.number(index))
     }
 
     /// The case in a field, `exact` or `fold`.
@@ -97,25 +92,15 @@ pub(crate) fn words_of(alloc: Global, text: &str) -> Result<Vec<String>, AllocEr
         .try_collect(alloc)
 }
 
-/// Pushes the bytes that a text stands for.
+/// Pushes the bytes that a text stands for. Between braces stand how often, and what; a text without braces repeats nothing.
 pub(crate) fn push_decoded(text: &str, out: &mut Vec<u8>) -> Result<(), Fault> {
     for piece in text.split('}') {
-        match piece.split_once('{') {
-            Some((once, repeated)) => {
-                push_escaped(once, 0, out)?;
-                push_repeated(repeated, out)?;
-            }
-            None => push_escaped(piece, 0, out)?,
+        let (once, repeated) = piece.split_once('{').unwrap_or((piece, "0 "));
+        let (times, part) = repeated.split_once(' ').ok_or(Fault::NotARow)?;
+        push_escaped(once, 0, out)?;
+        for number in 0..number_of(times)? {
+            push_escaped(part, number, out)?;
         }
-    }
-    Ok(())
-}
-
-// What stands between braces: how often, and what.
-fn push_repeated(text: &str, out: &mut Vec<u8>) -> Result<(), Fault> {
-    let (times, part) = text.split_once(' ').ok_or(Fault::NotARow)?;
-    for number in 0..number_of(times)? {
-        push_escaped(part, number, out)?;
     }
     Ok(())
 }
@@ -127,7 +112,7 @@ fn push_escaped(text: &str, number: usize, out: &mut Vec<u8>) -> Result<(), Faul
         if is_plain {
             out.extend_from_slice(piece.as_bytes())?;
         } else {
-            push_escape(piece.as_bytes(), number, out)?;
+            push_escape(piece, number, out)?;
         }
         is_plain = !is_plain && piece.is_empty();
     }
@@ -138,31 +123,24 @@ fn push_escaped(text: &str, number: usize, out: &mut Vec<u8>) -> Result<(), Faul
     }
 }
 
-// What stands for a backslash and these bytes, of which the first is an escape's. Without any it is a backslash.
-fn push_escape(text: &[u8], number: usize, out: &mut Vec<u8>) -> Result<(), Fault> {
-    if let [b'x', high, low, rest @ ..] = text {
-        out.push(digit(*high)?.wrapping_mul(16).wrapping_add(digit(*low)?))?;
-        return Ok(out.extend_from_slice(rest)?);
-    }
-    let Some((escape, rest)) = text.split_first() else {
-        return Ok(out.push(b'\\')?);
-    };
+// What stands for a backslash and this text, which begins with an escape's character. Without any it is a backslash.
+fn push_escape(text: &str, number: usize, out: &mut Vec<u8>) -> Result<(), Fault> {
+    let length = text.len().min(1);
+    let (escape, mut rest) = text.split_at_checked(length).ok_or(Fault::NotARow)?;
     match escape {
-        b'n' => out.push(b'\n')?,
-        b't' => out.push(b'\t')?,
-        b'r' => out.push(b'\r')?,
-        b'#' => write!(out, "{number}")?,
-        b'+' => write!(out, "{}", number.saturating_add(1))?,
-        b'4' => write!(out, "{number:04}")?,
+        "" => out.push(b'\\')?,
+        "n" => out.push(b'\n')?,
+        "t" => out.push(b'\t')?,
+        "r" => out.push(b'\r')?,
+        "#" => write!(out, "{number}")?,
+        "+" => write!(out, "{}", number.saturating_add(1))?,
+        "4" => write!(out, "{number:04}")?,
+        "x" => {
+            let (digits, behind) = rest.split_at_checked(2).ok_or(Fault::NotARow)?;
+            out.push(u8::from_str_radix(digits, 16).or(Err(Fault::NotARow))?)?;
+            rest = behind;
+        }
         _ => return Err(Fault::NotARow),
     }
-    Ok(out.extend_from_slice(rest)?)
-}
-
-fn digit(byte: u8) -> Result<u8, Fault> {
-    match byte {
-        b'0'..=b'9' => Ok(byte - b'0'),
-        b'A'..=b'F' => Ok(byte - b'A' + 10),
-        _ => Err(Fault::NotARow),
-    }
+    Ok(out.extend_from_slice(rest.as_bytes())?)
 }

@@ -28,10 +28,7 @@ pub(crate) fn push_report(about: &str, scene: &str, answer: &mut Answer) -> Resu
     let mut out = String::new(alloc);
     match about {
         "searches" => take_all(&mut *Scene::new(alloc)?, scene, &mut out)?,
-        "engines" => {
-            let mut engine = Box::new(alloc, Engine::new(alloc)?)?;
-            take_all(&mut *engine, scene, &mut out)?;
-        }
+        "engines" => take_all(&mut *Box::new(alloc, Engine::new(alloc)?)?, scene, &mut out)?,
         "numbers" => take_all(&mut *Numbering::new(alloc)?, scene, &mut out)?,
         "keys" => take_all(&mut Keys::new(alloc), scene, &mut out)?,
         _ => return Err(Fault::NotARow),
@@ -66,10 +63,10 @@ pub(crate) fn push_wanted(scene: &str, wanted: &mut Answer) -> Result<(), Fault>
 const NO_ANSWERS: &str = "0\n";
 
 // A step that finds no memory leaves what it is taken on as it was, and is taken again. But a question to an engine may leave no
-// answers.
+// answers. A short report has its memory before the step, so that none is refused once the step is taken.
 fn take_twice<S: Stage>(stage: &mut S, step: &Row, out: &mut String) -> Result<(), Fault> {
     let alloc = *out.allocator();
-    let (mut before, mut report) = (String::new(alloc), String::new(alloc));
+    let (mut before, mut report) = (String::new(alloc), String::with_capacity(alloc, 64)?);
     stage.push_state(step, &mut before)?;
     let taken = stage.take(step, &mut report);
     if taken != Err(Fault::OutOfMemory) {

@@ -5,29 +5,20 @@ use crate::fault::Fault;
 use crate::files::read_bytes;
 use crate::row::{Row, words_of};
 use attr_vectors::devices::Source;
-use check_attr::{Globals, Pull, Reader, Writer, globals, play, program, run};
+use check_attr::{Pull, Push, Reader, Writer, globals, play, program, run};
 use gix_attributes::engine::{Addition, Engine};
 use gix_attributes::files::{Disk, Memory};
 use std::alloc::{AllocError, Global};
 
-/// What a row's input is.
-#[derive(Clone, Copy)]
-pub(crate) enum Input {
-    /// A script over the built-in list alone.
-    Script,
-    /// An attributes file, of which the lines are reported.
-    Lines,
-}
-
 // The bytes of the longest input that is read byte by byte, too.
 const SHORT: usize = 65_536;
 
-/// What an input writes, and the number of its malformed record or a hyphen. It is read at once and, if it is short, byte by
-/// byte; what it writes then follows if that differs.
-pub(crate) fn run_twice(input: Input, row: &Row, answer: &mut Answer) -> Result<(), Fault> {
+/// What an input of a kind writes, and the number of its malformed record or a hyphen. It is read at once and, if it is short, byte
+/// by byte; what it writes then follows if that differs.
+pub(crate) fn run_twice(kind: &str, row: &Row, answer: &mut Answer) -> Result<(), Fault> {
     let (alloc, bytes) = (answer.alloc, row.bytes(0));
     let (mut written, mut slowly) = (Vec::new(alloc), Vec::new(alloc));
-    let record = run_once(alloc, input, &mut Reader::new(bytes), &mut written)?;
+    let record = run_once(kind, &mut Reader::new(bytes), &mut written)?;
     answer.bytes(&written)?;
     answer.index(record)?;
     if bytes.len() <= SHORT {
@@ -36,7 +27,7 @@ pub(crate) fn run_twice(input: Input, row: &Row, answer: &mut Answer) -> Result<
             most: 1,
             failing: 0,
         });
-        let slow_record = run_once(alloc, input, &mut slow, &mut slowly)?;
+        let slow_record = run_once(kind, &mut slow, &mut slowly)?;
         if slowly != written || slow_record != record {
             answer.bytes(&slowly)?;
         }
@@ -44,23 +35,32 @@ pub(crate) fn run_twice(input: Input, row: &Row, answer: &mut Answer) -> Result<
     Ok(())
 }
 
-// Runs an input, and returns the number of its malformed record, if it has one.
+// Runs an input of a kind, and returns the number of its malformed record, if it has one.
 fn run_once<R: Pull>(
-    alloc: Global,
-    input: Input,
+    kind: &str,
     reader: &mut R,
     written: &mut Vec<u8>,
 ) -> Result<Option<usize>, Fault> {
-    let mut writer = Writer::new(written);
-    match input {
-        Input::Script => record_of(run(alloc, reader, &mut writer, built_in(alloc)?)),
-        Input::Lines => record_of(check_attr::lines(alloc, reader, &mut writer)),
-    }
+    let alloc = *written.allocator();
+    record_of(ended(alloc, kind, reader, &mut Writer::new(written))?)
 }
 
-/// The built-in list alone: there are no global files.
-pub(crate) fn built_in(alloc: Global) -> Result<Globals, Fault> {
-    Ok(globals(alloc, &mut Memory::new(alloc), &[])?)
+/// How the run of an input of a kind ends: of a script over the built-in list alone, as there are no global files, or of the lines
+/// of an attributes file.
+pub(crate) fn ended<R: Pull, W: Push>(
+    alloc: Global,
+    kind: &str,
+    reader: &mut R,
+    writer: &mut W,
+) -> Result<Result<(), check_attr::Fault>, Fault> {
+    match kind {
+        "script" | "malformed" => {
+            let built_in = globals(alloc, &mut Memory::new(alloc), &[])?;
+            Ok(run(alloc, reader, writer, built_in))
+        }
+        "lines" => Ok(check_attr::lines(alloc, reader, writer)),
+        _ => Err(Fault::NotARow),
+    }
 }
 
 fn record_of(ended: Result<(), check_attr::Fault>) -> Result<Option<usize>, Fault> {
@@ -86,14 +86,10 @@ pub(crate) fn played(row: &Row, answer: &mut Answer) -> Result<(), Fault> {
 pub(crate) fn call(rt: &HostRuntime, row: &Row, answer: &mut Answer) -> Result<(), Fault> {
     let (alloc, words) = (answer.alloc, words_of(answer.alloc, row.text(0))?);
     let (mut written, mut errors) = (Vec::new(alloc), Vec::new(alloc));
-    let status = program(
-        alloc,
-        &mut Disk::new(rt),
-        &words,
-        &mut Reader::new(row.bytes(1)),
-        &mut Writer::new(&mut written),
-        &mut Writer::new(&mut errors),
-    );
+    let (files, reader) = (&mut Disk::new(rt), &mut Reader::new(row.bytes(1)));
+    let out = &mut Writer::new(&mut written);
+    let err = &mut Writer::new(&mut errors);
+    let status = program(alloc, files, &words, reader, out, err);
     answer.shown(status)?;
     answer.bytes(&written)?;
     answer.bytes(&errors)
@@ -122,13 +118,8 @@ pub(crate) fn written_beside(
     let (kind, name) = row.text(0).split_once(' ').ok_or(Fault::NotARow)?;
     let script = read_part(rt, name, ".in")?;
     let wanted = read_part(rt, name, ".out")?;
-    let input = match kind {
-        "script" | "malformed" => Input::Script,
-        "lines" => Input::Lines,
-        _ => return Err(Fault::NotARow),
-    };
     let (mut written, mut reader) = (Vec::new(answer.alloc), Reader::new(script.as_slice()));
-    let record = run_once(answer.alloc, input, &mut reader, &mut written)?;
+    let record = run_once(kind, &mut reader, &mut written)?;
     if record.is_some() != (kind == "malformed") || written != wanted {
         answer.text("another text")?;
     }

@@ -1,7 +1,7 @@
 //! Steps of searches: lists are added and removed, outcomes are initialised and searched, and what they have is reported.
 
 use crate::engines::addition;
-use crate::fault::Fault;
+use crate::fault::{Fault, expect_equal};
 use crate::row::Row;
 use crate::scenes::Stage;
 use bstr::BStr;
@@ -10,7 +10,7 @@ use gix_attributes::engine::Addition;
 use gix_attributes::files::Memory;
 use gix_attributes::glob::search::pattern::List;
 use gix_attributes::search::{
-    AttributeId, Attributes, Dropped, Match, MatchKind, MetadataCollection, Outcome,
+    AttributeId, Attributes, Dropped, MatchKind, MetadataCollection, Outcome,
 };
 use std::alloc::{AllocError, Global};
 use std::fmt::Write;
@@ -48,7 +48,7 @@ impl Stage for Scene {
             // Removes the last list, and reports the names of a new collection with that list alone.
             "move" => self.push_moved(out)?,
             // Changes to clones of the collection and of the search.
-            "clone_lists" => self.clone_lists(alloc, out)?,
+            "clone_lists" => self.clone_lists(alloc)?,
             // Changes to the other collection, or to the other search over the same collection.
             "turn_collections" => mem::swap(&mut self.collection, &mut self.other_collection),
             "turn" => mem::swap(&mut self.search, &mut self.other_search),
@@ -178,10 +178,8 @@ impl Scene {
     }
 
     fn pop(&mut self, out: &mut String) -> Result<(), Fault> {
-        out.reserve(8)?;
         let is_popped = self.removed()?.is_some();
-        out.push_str(if is_popped { "removed\n" } else { "no list\n" })?;
-        Ok(())
+        Ok(out.push_str(if is_popped { "removed\n" } else { "no list\n" })?)
     }
 
     fn removed(&mut self) -> Result<Option<List<Attributes>>, Fault> {
@@ -205,23 +203,20 @@ impl Scene {
         Ok(())
     }
 
-    // The report gets its memory before the list is removed.
+    // The collection gets its memory before the list is removed.
     fn push_moved(&mut self, out: &mut String) -> Result<(), Fault> {
         let alloc = *out.allocator();
         let mut collection = Box::new(alloc, MetadataCollection::new(alloc))?;
-        out.reserve(64)?;
         match self.removed()? {
             Some(mut list) => push_numbered(&mut list, &mut collection, out),
             None => Err(Fault::NotARow),
         }
     }
 
-    fn clone_lists(&mut self, alloc: Global, out: &mut String) -> Result<(), AllocError> {
+    fn clone_lists(&mut self, alloc: Global) -> Result<(), Fault> {
         let collection = Box::new(alloc, self.collection.clone(alloc)?)?;
         let search = Box::new(alloc, self.search.clone(alloc)?)?;
-        if *search != *self.search {
-            return out.push_str("another search\n");
-        }
+        expect_equal(&*search, &*self.search)?;
         self.collection = collection;
         self.search = search;
         Ok(())
@@ -252,22 +247,16 @@ impl Scene {
     }
 
     fn find(&mut self, step: &Row, out: &mut String) -> Result<(), Fault> {
-        let (path, case) = (BStr::new(step.bytes(1)), step.case(2)?);
-        if !self.outcome.is_initialized() || !self.outcome.covers(&self.search) {
+        let (alloc, search, outcome) = (*out.allocator(), &self.search, &mut self.outcome);
+        let (path, case, is_dir) = (BStr::new(step.bytes(1)), step.case(2)?, Some(false));
+        if !outcome.is_initialized() || !outcome.covers(search) {
             return Err(Fault::NotARow);
         }
-        // The report of a search gets its memory first, so that only the search can be refused.
-        out.reserve(6)?;
-        let (alloc, is_dir) = (*out.allocator(), Some(false));
-        let searched = self
-            .search
-            .pattern_matching_relative_path(alloc, path, case, is_dir, &mut self.outcome);
-        match searched {
-            Ok(is_found) => writeln!(out, "{is_found}")?,
-            Err(_) if self.is_reset() => return Err(Fault::OutOfMemory),
-            Err(_) => return Err(Fault::Changed),
+        match search.pattern_matching_relative_path(alloc, path, case, is_dir, outcome) {
+            Ok(is_found) => Ok(writeln!(out, "{is_found}")?),
+            Err(_) if self.is_reset() => Err(Fault::OutOfMemory),
+            Err(_) => Err(Fault::Changed),
         }
-        Ok(())
     }
 
     fn is_reset(&self) -> bool {
@@ -282,8 +271,7 @@ impl Scene {
         let (taken, least) = (self.outcome.taken(), step.number_or_zero(1)? as u128);
         let (is_done, tested) = (self.outcome.is_done(), self.outcome.tested().max(least));
         let state = if is_done { "done" } else { "open" };
-        writeln!(out, "{state} {taken} {tested}")?;
-        Ok(())
+        Ok(writeln!(out, "{state} {taken} {tested}")?)
     }
 
     fn fit(&self, out: &mut String) -> Result<(), AllocError> {
@@ -293,38 +281,28 @@ impl Scene {
     }
 }
 
+// `x=1 macro 0 2`: the assignment, the kind, the number of the macro that it comes from, and the line.
 fn push_rows(outcome: &Outcome, first: usize, out: &mut String) -> Result<(), AllocError> {
     for found in outcome.iter().skip(first) {
-        push_row(out, found)?;
+        let is_macro = matches!(found.kind, MatchKind::Macro { .. });
+        let kind = if is_macro { "macro" } else { "attribute" };
+        write!(out, "{} {kind} ", found.assignment)?;
+        match found.kind.source_id() {
+            Some(id) => write!(out, "{}", id.0)?,
+            None => out.push('-')?,
+        }
+        writeln!(out, " {}", found.location.sequence_number)?;
     }
     Ok(())
-}
-
-// `x=1 macro 0 2`: the assignment, the kind, the number of the macro that it comes from, and the line.
-fn push_row(out: &mut String, found: Match<'_>) -> Result<(), AllocError> {
-    let kind = match found.kind {
-        MatchKind::Attribute { macro_id: _ } => "attribute",
-        MatchKind::Macro { parent_macro_id: _ } => "macro",
-    };
-    write!(out, "{} {kind} ", found.assignment)?;
-    match found.kind.source_id() {
-        Some(id) => write!(out, "{}", id.0)?,
-        None => out.push('-')?,
-    }
-    writeln!(out, " {}", found.location.sequence_number)
 }
 
 fn push_origins(outcome: &Outcome, out: &mut String) -> Result<(), AllocError> {
     for found in outcome.iter_selected() {
-        push_origin(out, found)?;
+        let (source, line) = (found.location.source, found.location.sequence_number);
+        let text = found.pattern.write_text(*out.allocator())?;
+        writeln!(out, "{}:{line}:{}", source.unwrap_or("-"), BStr::new(&text))?;
     }
     Ok(())
-}
-
-fn push_origin(out: &mut String, found: Match<'_>) -> Result<(), AllocError> {
-    let (source, line) = (found.location.source, found.location.sequence_number);
-    let text = found.pattern.write_text(*out.allocator())?;
-    writeln!(out, "{}:{line}:{}", source.unwrap_or("-"), BStr::new(&text))
 }
 
 fn push_answered(outcome: &Outcome, out: &mut String) -> Result<(), AllocError> {
@@ -359,14 +337,11 @@ fn push_numbered(
     }
     let before = list.clone(alloc).or_else(|_| list.clone(alloc))?;
     if collection.update_from_list(alloc, list).is_err() {
-        if *list != before {
-            return Err(Fault::Changed);
-        }
+        expect_equal(list, &before)?;
         push_known(collection, out)?;
         collection.update_from_list(alloc, list)?;
     }
-    push_known(collection, out)?;
-    Ok(())
+    Ok(push_known(collection, out)?)
 }
 
 fn push_answers(outcome: &Outcome, out: &mut String) -> Result<(), AllocError> {

@@ -20,32 +20,22 @@ pub(crate) fn location(row: &Row, answer: &mut Answer) -> Result<(), Fault> {
         "Local" => Source::Local,
         _ => return Err(Fault::NotARow),
     };
-    let mut looked_up = String::new(answer.alloc);
-    let path = located(answer.alloc, source, row, &mut looked_up)?;
-    answer.text(looked_up.trim_ascii())?;
-    answer.text(path.as_deref().unwrap_or("-"))
-}
-
-fn located(
-    alloc: Global,
-    source: Source,
-    row: &Row,
-    looked_up: &mut String,
-) -> Result<Option<String>, Fault> {
+    let alloc = answer.alloc;
     let prefixes = Prefixes {
         installation: owned(alloc, row.optional(1))?,
         system: owned(alloc, row.optional(1))?,
     };
-    let (variables, mut is_refused) = (row.text(2), false);
+    let (mut looked_up, mut is_refused) = (String::new(alloc), false);
     let path = source.storage_location(alloc, &prefixes, |name: &str| {
-        let value = looked_up_value(alloc, variables, name, looked_up);
+        let value = looked_up_value(alloc, row.text(2), name, &mut looked_up);
         is_refused |= value.is_err();
         value.unwrap_or(None)
     })?;
     if is_refused {
         return Err(Fault::OutOfMemory);
     }
-    Ok(path)
+    answer.text(looked_up.trim_ascii())?;
+    answer.text(path.as_deref().unwrap_or("-"))
 }
 
 // The value of a name in `NAME=VALUE NAME=VALUE`. The name is noted.
@@ -65,33 +55,22 @@ fn owned(alloc: Global, text: Option<&str>) -> Result<Option<String>, AllocError
     text.map(|text| String::from_str(alloc, text)).transpose()
 }
 
-/// A search, the collection that holds its lists, and the buffer for files.
-#[derive(Drop)]
-struct Lists {
-    search: Box<Search>,
-    collection: Box<MetadataCollection>,
-    buf: Vec<u8>,
-}
-
-fn no_lists(alloc: Global) -> Result<Lists, AllocError> {
+// A search, and the collection that holds its lists.
+fn no_lists(alloc: Global) -> Result<(Box<Search>, Box<MetadataCollection>), AllocError> {
     let search = Box::new(alloc, Search::new(alloc))?;
     let collection = Box::new(alloc, MetadataCollection::new(alloc))?;
-    Ok(Lists {
-        search,
-        collection,
-        buf: Vec::new(alloc),
-    })
+    Ok((search, collection))
 }
 
 /// Of names of files: the number of global lists, whether the collection holds them, and the lines that are dropped of each
 /// file, or the error; then the names that are known.
 pub(crate) fn globals(rt: &HostRuntime, row: &Row, answer: &mut Answer) -> Result<(), Fault> {
-    let (alloc, mut lists) = (answer.alloc, no_lists(answer.alloc)?);
-    let (buf, collection) = (&mut lists.buf, &mut lists.collection);
-    let names = words_of(alloc, row.text(0))?;
-    let read = Search::new_globals_from(alloc, &mut Disk::new(rt), &names, buf, collection);
-    push_search(&read, collection, answer)?;
-    push_names(collection, answer)
+    let (alloc, names) = (answer.alloc, words_of(answer.alloc, row.text(0))?);
+    let (mut files, mut buf) = (Disk::new(rt), Vec::new(alloc));
+    let mut collection = Box::new(alloc, MetadataCollection::new(alloc))?;
+    let read = Search::new_globals_from(alloc, &mut files, &names, &mut buf, &mut collection);
+    push_search(&read, &collection, answer)?;
+    push_names(&collection, answer)
 }
 
 fn push_search(
@@ -115,30 +94,28 @@ fn push_search(
 
 // The names by number.
 fn push_names(collection: &MetadataCollection, answer: &mut Answer) -> Result<(), Fault> {
-    let mut text = String::new(answer.alloc);
-    for (name, _) in collection.iter() {
-        write!(text, "{name} ")?;
-    }
-    answer.text(text.trim_ascii())
+    let names = collection.iter().map(|(name, _)| name);
+    let names: Vec<&str> = names.collect(answer.alloc)?;
+    answer.words(&names)
 }
 
 /// Of each of some files that are added, which may define no macros and have the top as their root: whether it is there, and the
 /// lines that are dropped; then the number of lists, whether the collection holds them, the names that are known, and what is left
 /// in the buffer.
 pub(crate) fn additions(rt: &HostRuntime, row: &Row, answer: &mut Answer) -> Result<(), Fault> {
-    let (alloc, mut lists) = (answer.alloc, no_lists(answer.alloc)?);
+    let (alloc, files, mut buf) = (answer.alloc, &mut Disk::new(rt), Vec::new(answer.alloc));
+    let (mut search, mut names) = no_lists(alloc)?;
     for name in row.text(0).split(' ') {
-        let (source, files, root) = (String::from_str(alloc, name)?, &mut Disk::new(rt), Some(""));
-        let (search, buf, collection) = (&mut lists.search, &mut lists.buf, &mut lists.collection);
+        let (source, root, buf) = (String::from_str(alloc, name)?, Some(""), &mut buf);
         let added = search.add_patterns_file_from(
-            alloc, files, source, root, buf, collection, false,
+            alloc, files, source, root, buf, &mut names, false,
         );
         push_addition(&added, answer)?;
     }
-    answer.shown(lists.search.num_pattern_lists())?;
-    answer.flag(lists.collection.holds(&lists.search))?;
-    push_names(&lists.collection, answer)?;
-    answer.bytes(&lists.buf)
+    answer.shown(search.num_pattern_lists())?;
+    answer.flag(names.holds(&search))?;
+    push_names(&names, answer)?;
+    answer.bytes(&buf)
 }
 
 fn push_addition(added: &Result<Added, AddError>, answer: &mut Answer) -> Result<(), Fault> {
@@ -154,9 +131,9 @@ fn push_addition(added: &Result<Added, AddError>, answer: &mut Answer) -> Result
 
 /// Of the name of a file that the calls read from the disk themselves, as global lists and then as one that is added: the same.
 pub(crate) fn of_disk(rt: &HostRuntime, row: &Row, answer: &mut Answer) -> Result<(), Fault> {
-    let (alloc, mut lists) = (answer.alloc, no_lists(answer.alloc)?);
-    let (search, buf, collection) = (&mut lists.search, &mut lists.buf, &mut lists.collection);
-    let names = words_of(alloc, row.text(0))?;
+    let (alloc, names) = (answer.alloc, words_of(answer.alloc, row.text(0))?);
+    let (mut search, mut collection) = no_lists(alloc)?;
+    let (buf, collection) = (&mut Vec::new(alloc), &mut collection);
     let read = Search::new_globals(rt, alloc, &names, buf, collection);
     push_search(&read, collection, answer)?;
     buf.clear();

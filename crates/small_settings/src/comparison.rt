@@ -1,10 +1,10 @@
 //! Both searches, setting by setting.
 
-use crate::fault::Fault;
 use crate::lists::Lists;
 use crate::parts::{COUNT, SELECTIONS, STARTS, files, short_lists};
 use crate::real_search::RealSearch;
 use crate::setting::{Setting, Slots, bodies_of};
+use anyhow::{Result, ensure};
 use attr_vectors::plain::{Item, Row};
 use std::alloc::Global;
 
@@ -12,7 +12,7 @@ use std::alloc::Global;
 ///
 /// # Errors
 /// The first setting in which they differ; memory is refused.
-pub(crate) fn compare_all(alloc: Global) -> Result<u64, Fault> {
+pub(crate) fn compare_all(alloc: Global) -> Result<u64> {
     let bodies = short_lists(alloc)?;
     let files = files(alloc, &bodies)?;
     let mut compared = 0u64;
@@ -29,7 +29,7 @@ fn compare_bodies<'s, 'r>(
     first: &'s [Item<'static>],
     second: &'s [Item<'static>],
     files: &'s [Vec<Row<'r, 'static>>],
-) -> Result<u64, Fault> {
+) -> Result<u64> {
     let lists = Lists::new(alloc, &bodies_of(first, second), files)?;
     let mut real = RealSearch::new(alloc, &lists)?;
     let mut compared = 0u64;
@@ -45,9 +45,8 @@ fn compare_bodies<'s, 'r>(
                     wanted,
                     start,
                 };
-                if !agrees(alloc, setting, file, &mut real)? {
-                    return Err(Fault::Differs(setting.text(alloc)?));
-                }
+                let is_same = agrees(alloc, setting, file, &mut real)?;
+                ensure!(is_same, "the searches differ\n{}", setting.text(alloc)?);
                 compared = compared.saturating_add(1);
             }
         }
@@ -61,7 +60,7 @@ fn agrees(
     setting: Setting<'_, '_>,
     file: usize,
     real: &mut RealSearch<'_>,
-) -> Result<bool, Fault> {
+) -> Result<bool> {
     let (before, mut after) = (setting.begin(), setting.begin());
     let taken = setting.search(alloc, &mut after)?;
     real.begin(setting.start)?;

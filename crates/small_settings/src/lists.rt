@@ -32,10 +32,17 @@ impl Lists {
         };
         lists.add_macros(alloc, bodies)?;
         for attribute in 0..COUNT {
-            lists.add_start(alloc, attribute)?;
+            let state = State::Unset;
+            let mut text = String::from_str(alloc, START_SPELLING)?;
+            push_items(&mut text, &[Item { attribute, state }])?;
+            let search = lists.search_of(alloc, START_SOURCE, &text)?;
+            lists.starts.push(search)?;
         }
         for rows in files {
-            lists.add_file(alloc, rows)?;
+            let mut text = String::new(alloc);
+            push_rows(&mut text, rows)?;
+            let search = lists.search_of(alloc, SOURCE, &text)?;
+            lists.files.push(search)?;
         }
         Ok(lists)
     }
@@ -44,24 +51,7 @@ impl Lists {
     fn add_macros(&mut self, alloc: Global, bodies: &[&[Item<'static>]]) -> Result<(), AllocError> {
         let mut text = String::from_str(alloc, "* m n a\n")?;
         push_macros(&mut text, bodies)?;
-        let _ = self.search_of(alloc, "macros", text.as_str())?;
-        Ok(())
-    }
-
-    fn add_start(&mut self, alloc: Global, attribute: usize) -> Result<(), AllocError> {
-        let state = State::Unset;
-        let mut text = String::from_str(alloc, START_SPELLING)?;
-        push_items(&mut text, &[Item { attribute, state }])?;
-        let search = self.search_of(alloc, START_SOURCE, text.as_str())?;
-        self.starts.push(search)?;
-        Ok(())
-    }
-
-    fn add_file(&mut self, alloc: Global, rows: &[Row<'_, 'static>]) -> Result<(), AllocError> {
-        let mut text = String::new(alloc);
-        push_rows(&mut text, rows)?;
-        let search = self.search_of(alloc, SOURCE, text.as_str())?;
-        self.files.push(search)?;
+        self.search_of(alloc, "macros", &text)?;
         Ok(())
     }
 

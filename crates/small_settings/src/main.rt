@@ -9,28 +9,16 @@
 #![tactic(auto)]
 
 mod comparison;
-mod fault;
 mod lists;
 mod parts;
 mod real_search;
 mod setting;
 
 use crate::comparison::compare_all;
-use crate::fault::Fault;
-use std::process::ExitCode;
+use anyhow::Result;
 
-fn run(rt: &(impl Print + AllocGlobal)) -> Result<(), Fault> {
+fn main(rt: HostRuntime) -> Result<()> {
     let compared = compare_all(rt.alloc())?;
     println!(rt; "{compared} settings agree")?;
     Ok(())
-}
-
-fn main(rt: HostRuntime) -> ExitCode {
-    match run(&rt) {
-        Ok(()) => ExitCode::SUCCESS,
-        Err(fault) => {
-            let _ = eprintln!(rt; "small_settings: {fault}");
-            ExitCode::FAILURE
-        }
-    }
 }

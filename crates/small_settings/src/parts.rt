@@ -129,12 +129,9 @@ fn row_of<'r>(origin: Origin<'static>, items: &'r Items) -> Row<'r, 'static> {
 /// Appends items as an attributes file spells them, each after a blank, and ends the line.
 pub(crate) fn push_items(text: &mut String, items: &[Item<'static>]) -> Result<(), AllocError> {
     for item in items {
-        text.push_str(if item.state == State::Unset {
-            " -"
-        } else {
-            " "
-        })?;
-        text.push_str(NAMES.get(item.attribute).copied().unwrap_or("?"))?;
+        let mark = if item.state == State::Unset { "-" } else { "" };
+        let name = NAMES.get(item.attribute).unwrap_or(&"?");
+        write!(text, " {mark}{name}")?;
     }
     text.push('\n')
 }
@@ -145,8 +142,7 @@ pub(crate) fn push_macros(
     bodies: &[&[Item<'static>]],
 ) -> Result<(), AllocError> {
     for (name, body) in NAMES.iter().zip(bodies.iter()).take(2) {
-        text.push_str("[attr]")?;
-        text.push_str(name)?;
+        write!(text, "[attr]{name}")?;
         push_items(text, body)?;
     }
     Ok(())

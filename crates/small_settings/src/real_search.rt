@@ -1,9 +1,9 @@
 //! The search of `gix_attributes`, and its answers in the words of the plain one.
 
-use crate::fault::Fault;
 use crate::lists::Lists;
 use crate::parts::{COUNT, NAMES, PATH};
 use crate::setting::Slots;
+use anyhow::{Context, Result, ensure};
 use attr_vectors::plain::{Answer, Item, Origin, State};
 use bitflags::Flags;
 use bstr::BStr;
@@ -46,12 +46,12 @@ impl<'l> RealSearch<'l> {
     }
 
     /// Empties the slots, and fills one of them.
-    pub(crate) fn begin(&mut self, start: Option<usize>) -> Result<(), Fault> {
+    pub(crate) fn begin(&mut self, start: Option<usize>) -> Result<()> {
         self.outcome.reset();
         let Some(attribute) = start else {
             return Ok(());
         };
-        let search = self.lists.starts.get(attribute).ok_or(Fault::NotReady)?;
+        let search = self.lists.starts.get(attribute).context("no such start")?;
         if self.outcome.is_done() {
             self.complete.reset();
             search_into(self.alloc, search, &mut self.complete)?;
@@ -62,19 +62,18 @@ impl<'l> RealSearch<'l> {
     }
 
     // A search for nothing fills no slot, but a copy has those of the outcome that it is made from.
-    fn copy(&mut self) -> Result<(), Fault> {
+    fn copy(&mut self) -> Result<()> {
         let collection = &self.lists.collection;
-        if !self.complete.is_initialized() || !self.complete.is_current(collection) {
-            return Err(Fault::NotReady);
-        }
+        let is_ready = self.complete.is_initialized() && self.complete.is_current(collection);
+        ensure!(is_ready, "the outcome for all attributes is not ready");
         self.complete
             .copy_into(self.alloc, collection, &mut self.outcome)?;
         Ok(())
     }
 
     /// Searches the lines of a file, and reports whether an attribute was found that is looked for.
-    pub(crate) fn search(&mut self, file: usize) -> Result<bool, Fault> {
-        let search = self.lists.files.get(file).ok_or(Fault::NotReady)?;
+    pub(crate) fn search(&mut self, file: usize) -> Result<bool> {
+        let search = self.lists.files.get(file).context("no such file")?;
         search_into(self.alloc, search, &mut self.outcome)
     }
 
@@ -92,10 +91,11 @@ impl<'l> RealSearch<'l> {
     }
 }
 
-fn search_into(alloc: Global, search: &Search, outcome: &mut Outcome) -> Result<bool, Fault> {
-    if !outcome.is_initialized() || !outcome.covers(search) {
-        return Err(Fault::NotReady);
-    }
+fn search_into(alloc: Global, search: &Search, outcome: &mut Outcome) -> Result<bool> {
+    ensure!(
+        outcome.is_initialized() && outcome.covers(search),
+        "an outcome is not ready"
+    );
     let (path, case, is_dir) = (BStr::from(PATH), Case::Sensitive, Some(false));
     Ok(search.pattern_matching_relative_path(alloc, path, case, is_dir, outcome)?)
 }

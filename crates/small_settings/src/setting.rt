@@ -1,7 +1,7 @@
 //! A small setting, and the plain search in it, run with numbers alone.
 
-use crate::fault::Fault;
 use crate::parts::{COUNT, START, push_macros, push_rows};
+use anyhow::{Result, ensure};
 use attr_vectors::plain::{self, Answer, Item, Row, State};
 use std::alloc::{AllocError, Global};
 use std::fmt::Write;
@@ -49,24 +49,20 @@ impl Setting<'_, '_> {
     }
 
     /// Searches the lines, and reports how many items were taken.
-    pub(crate) fn search(&self, alloc: Global, slots: &mut Slots) -> Result<u128, Fault> {
+    pub(crate) fn search(&self, alloc: Global, slots: &mut Slots) -> Result<u128> {
         let (lists, bodies) = ([self.rows], bodies_of(self.first, self.second));
-        if !plain::is_in_range(&lists, &bodies, self.wanted, COUNT) {
-            return Err(Fault::NotReady);
-        }
+        ensure!(
+            plain::is_in_range(&lists, &bodies, self.wanted, COUNT),
+            "a number is too large"
+        );
         Ok(plain::search(alloc, &lists, &bodies, self.wanted, slots)?)
     }
 
     /// How many items the lines and the bodies have.
     pub(crate) fn work(&self) -> u128 {
-        let mut work = 0u128;
-        for row in self.rows {
-            work = work.saturating_add(row.items.len() as u128);
-        }
-        for body in [self.first, self.second] {
-            work = work.saturating_add(body.len() as u128);
-        }
-        work
+        let lines = self.rows.iter().map(|row| row.items.len());
+        let counts = lines.chain([self.first.len(), self.second.len()]);
+        counts.fold(0, |work: u128, count| work.saturating_add(count as u128))
     }
 
     /// The setting as attributes files, with the numbers of what is looked for and of what is filled before.

@@ -73,15 +73,9 @@ impl Worktree {
         ensures added { OnOk result (AddsGlobalFile file.entry self.old self.new) }
         ensures refused { OnErr result (self.new ≡ self.old) }
     {
-        let source = String::from_str(alloc, file.path)?;
-        self.globals.add_patterns_buffer(
-            alloc,
-            file.bytes,
-            source,
-            None,
-            &mut self.collection,
-            true,
-        )?;
+        let (source, collection) = (String::from_str(alloc, file.path)?, &mut self.collection);
+        self.globals
+            .add_patterns_buffer(alloc, file.bytes, source, None, collection, true)?;
         laws::registers::names_stay();
         Ok(())
     }
@@ -122,15 +116,9 @@ impl Worktree {
         ensures entered { OnOk result (EntersDirectory file.entry self.old self.new) }
         ensures refused { OnErr result (self.new ≡ self.old) }
     {
-        let source = String::from_str(alloc, file.path)?;
-        self.directories.add_patterns_buffer(
-            alloc,
-            file.bytes,
-            source,
-            Some(""),
-            &mut self.collection,
-            false,
-        )?;
+        let (source, collection) = (String::from_str(alloc, file.path)?, &mut self.collection);
+        self.directories
+            .add_patterns_buffer(alloc, file.bytes, source, Some(""), collection, false)?;
         laws::registers::names_stay();
         Ok(())
     }

@@ -1,7 +1,7 @@
 //! Runs that pass whichever request for memory is refused.
-use super::argument;
+use super::{argument, status_of};
 use crate::devices::Sink;
-use check_attr::{Fault, Globals, Reader, Writer, globals, lines, program, run};
+use check_attr::{Fault, Globals, Reader, Writer, globals, lines, run};
 use gix_attributes::files::Memory;
 use gix_attributes::search::AddError;
 use std::alloc::{AllocError, Global};
@@ -52,11 +52,8 @@ fn lists_of_a_file(alloc: Global) -> Result<Globals, AddError> {
 // How many lines of that file are dropped.
 fn count_of_dropped(alloc: Global) -> Result<usize, AddError> {
     let lists = lists_of_a_file(alloc)?;
-    let mut count: usize = 0;
-    for lines in lists.dropped() {
-        count = count.saturating_add(lines.len());
-    }
-    Ok(count)
+    let counts = lists.dropped().iter().map(|lines| lines.len());
+    Ok(counts.fold(0, usize::saturating_add))
 }
 
 #[test]
@@ -91,20 +88,12 @@ fn printed_what_it_could(status: u8, written: &[u8], errors: &[u8]) -> bool {
 #[test]
 fn without_memory_the_program_prints_it(rt: HostRuntime) {
     let alloc = rt.alloc();
-    let Ok(args) = argument(alloc, "--lines") else {
-        return;
-    };
     let (Ok(mut writer), Ok(mut errors)) = (with_room(alloc), with_room(alloc)) else {
         return;
     };
-    let status = program(
-        alloc,
-        &mut Memory::new(alloc),
-        &args,
-        &mut Reader::new(INPUT),
-        &mut Writer::new(&mut writer),
-        &mut Writer::new(&mut errors),
-    );
+    let Ok(status) = status_of(alloc, "--lines", INPUT, &mut writer, &mut errors) else {
+        return;
+    };
     let is_right = printed_what_it_could(status, &writer.bytes, &errors.bytes);
     assert!(rt; is_right, "status {status}");
 }

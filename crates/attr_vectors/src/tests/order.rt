@@ -1,9 +1,7 @@
 //! The program prints the lines that global files drop, and flushes them, before it reads its script. A contract knows no order
 //! of calls of two devices, so here a cell tells the reader how much standard error has flushed.
-use super::argument;
-use check_attr::{Reader, Writer, program};
-use gix_attributes::files::Memory;
-use std::alloc::{AllocError, Global};
+use super::status_of;
+use std::alloc::AllocError;
 use std::cell::Cell;
 use std::io;
 use std::io::{ErrorKind, Read, Write};
@@ -47,35 +45,12 @@ impl<'a> Read for Waiting<'a> {
     }
 }
 
-// The status of the program with a global file with two dropped lines.
-fn status(alloc: Global, script: &[u8], text: &mut Vec<u8>) -> Result<u8, AllocError> {
-    let flushed = Cell::new(0);
-    let mut files = Memory::new(alloc);
-    files.insert("g", b"!a b\n* builtin_c\n* d\n")?;
-    let args = argument(alloc, "g")?;
-    let mut reader = Reader::new(Waiting {
-        rest: script,
-        flushed: &flushed,
-    });
-    let mut errors = Writer::new(Errors {
-        held: 0,
-        flushed: &flushed,
-    });
-    let status = program(
-        alloc,
-        &mut files,
-        &args,
-        &mut reader,
-        &mut Writer::new(text),
-        &mut errors,
-    );
-    Ok(status)
-}
-
 #[test]
 fn dropped_lines_are_flushed_before_the_script_is_read(rt: HostRuntime) -> Result<(), AllocError> {
-    let mut text = Vec::new(rt.alloc());
-    let status = status(rt.alloc(), b"ask l s f 1\nf\n", &mut text)?;
+    let (mut text, flushed) = (Vec::new(rt.alloc()), &Cell::new(0));
+    let rest = b"ask l s f 1\nf\n";
+    let (script, errors) = (Waiting { rest, flushed }, Errors { held: 0, flushed });
+    let status = status_of(rt.alloc(), "g", script, &mut text, errors)?;
     assert_eq!(rt; (status, text.as_slice()), (0, b"f: d: set\n".as_slice()));
     Ok(())
 }

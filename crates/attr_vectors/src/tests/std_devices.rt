@@ -1,10 +1,18 @@
 //! Readers and writers of std, and the texts of faults.
-use super::Interrupted;
 use crate::devices::Sink;
 use check_attr::{Fault, Pull, Push, Reader, Writer, lines};
-use std::io;
-use std::io::Write;
+use std::io::{self, ErrorKind, Read, Write};
 use std::test::Fail;
+
+// A reader of which each call fails.
+#[derive(Drop)]
+struct Interrupted;
+
+impl Read for Interrupted {
+    fn read(&mut self, _buf: &mut [u8]) -> io::Result<usize> {
+        Err(io::Error::from(ErrorKind::Interrupted))
+    }
+}
 
 // The count of a call, if it did not fail. An error of std is dropped here and in `is_done` alone.
 fn count_of(outcome: io::Result<usize>) -> Option<usize> {
@@ -21,7 +29,9 @@ fn counts_each_error_of_std(rt: HostRuntime) {
     let mut chunk = [0u8; 4];
     let first = count_of(Pull::read(&mut reader, &mut chunk));
     let second = count_of(Pull::read(&mut reader, &mut chunk));
-    let mut writer = Writer::new(Interrupted);
+    let mut sink = Sink::new(Vec::new(rt.alloc()), usize::MAX);
+    (sink.failing, sink.fails_flush) = (1, true);
+    let mut writer = Writer::new(sink);
     let write = count_of(Push::write(&mut writer, b"a"));
     let is_flushed = is_done(Push::flush(&mut writer));
     let failures = (reader.failures(), writer.failures());
@@ -33,10 +43,8 @@ fn counts_each_error_of_std(rt: HostRuntime) {
 fn write_and_flush<W: Write>(writer: &mut Writer<W>, text: &[u8]) -> Option<(usize, bool, bool)> {
     let count = count_of(Push::write(writer, text))?;
     let is_flushed = writer.is_flushed();
-    if !is_done(Push::flush(writer)) {
-        return None;
-    }
-    Some((count, is_flushed, writer.is_flushed()))
+    let is_done = is_done(Push::flush(writer));
+    is_done.then_some((count, is_flushed, writer.is_flushed()))
 }
 
 #[test]

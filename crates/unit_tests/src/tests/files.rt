@@ -71,16 +71,12 @@ fn counts_what_the_disk_fails(rt: HostRuntime) -> Result<(), AllocError> {
     Ok(())
 }
 
-fn write_memory(files: &mut Memory) -> Result<(), AllocError> {
-    files.insert("g1", b"* gone\n")?;
-    files.insert("g1", b"* a\n!b c\n")?;
-    files.insert("g3", b"* d\n")
-}
-
 #[test]
 fn reads_files_in_memory(rt: HostRuntime) -> Result<(), AllocError> {
     let (mut files, mut out) = (Memory::new(rt.alloc()), Vec::new(rt.alloc()));
-    write_memory(&mut files)?;
+    files.insert("g1", b"* gone\n")?;
+    files.insert("g1", b"* a\n!b c\n")?;
+    files.insert("g3", b"* d\n")?;
     files.fail_read(3);
     for name in ["g2", "g1", "g3", "g3", "g2"] {
         push_read(&mut files, name, &mut out)?;

@@ -8,23 +8,13 @@ const OLD: &[u8] = b"* a\n";
 
 const NEW: &[u8] = b"* b\n* c\n* d\n";
 
-fn has_contents(alloc: Global, files: &mut Memory, wanted: &[u8]) -> Result<bool, AllocError> {
-    let mut buf = Vec::new(alloc);
-    match files.read_into("g", &mut buf) {
-        Ok(_) => Ok(buf.as_slice() == wanted),
-        Err(_) => Err(AllocError),
-    }
-}
-
 // Whether a file has its new contents, or the old ones if there was no memory for the new.
 fn is_replaced(alloc: Global) -> Result<bool, AllocError> {
-    let mut files = Memory::new(alloc);
+    let (mut files, mut buf) = (Memory::new(alloc), Vec::new(alloc));
     files.insert("g", OLD)?;
-    let wanted = match files.insert("g", NEW) {
-        Ok(()) => NEW,
-        Err(_) => OLD,
-    };
-    has_contents(alloc, &mut files, wanted)
+    let is_new = files.insert("g", NEW).is_ok();
+    files.read_into("g", &mut buf).or(Err(AllocError))?;
+    Ok(buf.as_slice() == if is_new { NEW } else { OLD })
 }
 
 #[test]

@@ -176,9 +176,8 @@ fn matches_are_ordered(rt: HostRuntime) -> Result<(), Fail> {
         source: Some("a"),
         sequence_number: 1,
     };
-    kind.kind = MatchKind::Macro {
-        parent_macro_id: None,
-    };
+    let parent_macro_id = None;
+    kind.kind = MatchKind::Macro { parent_macro_id };
     item.assignment = set("b")?;
     pattern.pattern = &b;
     assert!(rt; (least.kind < kind.kind) & (least.location < at.location));
