@@ -1,10 +1,15 @@
 //! Steps of an index of keys: lines are added, and those of a name and a path are looked up.
 
+ghost use Rattle.std.specs.Prelude.{IfOk, map};
+ghost use Rattle.attr_keys.specs.shared.KeyIndexes.{IsKeyIndex};
+ghost use Rattle.attr_keys.specs.shared.LineKeys.{line_content, shape_content};
+
 use crate::fault::Fault;
 use crate::row::Row;
 use crate::scenes::Stage;
 use attr_glob::pattern::Case;
 use attr_keys::key_index::{KeyIndex, Texts};
+use attr_keys::kinds::Kinds;
 use attr_keys::line_key::Shape;
 use std::alloc::{AllocError, Global};
 use std::fmt::Write;
@@ -32,11 +37,23 @@ impl Keys {
             path: step.bytes(2),
             fold: step.case(3)? == Case::Fold,
         };
-        let keys = Box::new(alloc, KeyIndex::of(alloc, &shapes)?)?;
+        let keys = Box::new(alloc, index_of(alloc, &shapes)?)?;
         let (mut buffer, mut found) = (Vec::new(alloc), Vec::new(alloc));
         keys.find(&shapes, texts, &mut buffer, &mut found)?;
         Ok(writeln!(out, "{found:?}")?)
     }
+}
+
+// The index of lines with these shapes.
+fn index_of(alloc: Global, lines: &[Shape<'_>]) -> Result<KeyIndex, AllocError>
+    ensures { IfOk result (IsKeyIndex
+        (map (λ line. line_content (shape_content line)) lines.now)) }
+{
+    let mut kinds = Kinds::new(alloc, lines.len());
+    for (row, line) in lines.iter().enumerate() {
+        kinds.push(line, row)?;
+    }
+    KeyIndex::of(alloc, lines, &kinds)
 }
 
 impl Stage for Keys {

@@ -1,0 +1,7 @@
+use Rattle.std.proofs.Common.{map, take}
+use Rattle.attr_keys.specs.shared.LineKeys.{line_content, shape_content}
+use Rattle.attr_keys.specs.shared.SortedLines.{SortsLines}
+use Rattle.rows.proofs.keys.index_of.Given as goal
+
+abbrev pub invariant-loop-row : goal.invariant-loop-row
+invariant-loop-row l = SortsLines (map (λ line. line_content (shape_content line)) (take l.row l.lines)) l.kinds
