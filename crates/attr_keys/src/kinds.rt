@@ -92,8 +92,8 @@ impl Kinds {
     fn add(&mut self, kind: Kind, row: usize) -> Result<(), AllocError>
         ensures rows { OnOk result ((k : Kind) → is_kept k ≡ true →
             kind_rows k self.new ≡ rows_with kind row k (kind_rows k self.old)) }
-        ensures same { OnOk result (
-            (self.new.are_many ≡ self.old.are_many) × (self.new.has_capitals ≡ self.old.has_capitals)) }
+        ensures many { OnOk result (self.new.are_many ≡ self.old.are_many) }
+        ensures capitals { OnOk result (self.new.has_capitals ≡ self.old.has_capitals) }
     {
         match kind {
             Kind::Name => self.names.push(row)?,

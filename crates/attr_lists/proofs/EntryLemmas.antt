@@ -166,7 +166,8 @@ module _ (list_id at : ℕ) (old new : List NameEntry) (removed : RemovesAt list
         (λ (apart : n ≢ at).
         ⊎_elim (λ e. inl (removed.others n apart ∙ e))
         (λ e. let own = get_or list i known in
-        let none = bodies_of_number-other n (numbered_body own) (λ same. apart (sym same ∙ ap (λ (m : SharedMacro). m.value.id.0) (sym is) ∙ sym at_is)) in
+        let none = bodies_of_number-other n (numbered_body own)
+        (λ same. apart (sym same ∙ ap (λ (m : SharedMacro). m.value.id.0) (sym is) ∙ sym at_is)) in
         inr (grind (arith, take_more list i known lt, map-append, bodies_of_number-append, none), removed.others n apart ∙ e.1))
         (before.definitions n))
         (cases_eq n at);
@@ -209,7 +210,8 @@ pub ids_copied : (number : ℕ) (ds copies : List Definition) → AllZip clone.g
 ids_copied number ds copies same ids =
     let id = λ (d : Definition). d.metadata.value.id.0 in
     all_of_map (λ k. k ≡ number) id copies
-    (subst (All (λ k. k ≡ number)) (sym (map_copied id clone.ghosts.is_clone (λ x y h. grind arith) ds copies same)) (All-map (λ k. k ≡ number) id ds ids))
+    (subst (All (λ k. k ≡ number)) (sym (map_copied id clone.ghosts.is_clone (λ x y h. grind arith) ds copies same))
+    (All-map (λ k. k ≡ number) id ds ids))
 
 -- one more name is copied
 pub copied_step : (entries copy now : List NameEntry) (i : ℕ) (item x : NameEntry) → i < length entries → item ≡ get_or entries i item → now ≡ copy ++

@@ -20,7 +20,7 @@ use Rattle.attr_lists.specs.Numbers.{number_of, IsNumberOf}
 use Rattle.attr_lists.specs.shared.Keeping.{HasMacroNumber}
 use Rattle.attr_lists.specs.declared.types.AttributeId.{AttributeId}
 use Rattle.attr_lists.specs.declared.types.TrackedAssignment.{TrackedAssignment}
-use Rattle.attr_lists.specs.inner.NameSteps.{has_number}
+use Rattle.attr_lists.specs.inner.NameSteps.{has_name_at}
 use Rattle.attr_lists.specs.inner.Registered.{bodies_of_name}
 
 -- the name is among the names
@@ -74,7 +74,7 @@ number_where names name n distinct h =
     ap (number_of names) (sym (get_or_from_slice_get names n name [] h)) ∙ number_at names n distinct (slice_get_within names n name h)
 
 -- of names that differ, each has no number but the one at which it stands
-pub has_only : (names : List (List ℕ)) (name : List ℕ) (k : ℕ) → IsDistinct bytes_eq names → has_number names name k ≡ true
+pub has_only : (names : List (List ℕ)) (name : List ℕ) (k : ℕ) → IsDistinct bytes_eq names → has_name_at names name k ≡ true
     → number_of names name ≡ Some k
 has_only names name k distinct has = at (slice_get names k) refl
   where
@@ -84,10 +84,11 @@ has_only names name k distinct has = at (slice_get names k) refl
         let same : name ≡ text = (bytes_decides name text).0 (sym (ap (λ o. unwrap_or (option_map (bytes_eq name) o) false) e) ∙ has) in
         number_where names name k distinct (e ∙ ap Some (sym same))
 
-has_own : (names : List (List ℕ)) (name : List ℕ) (n : ℕ) → number_of names name ≡ Some n → has_number names name n ≡ true
+has_own : (names : List (List ℕ)) (name : List ℕ) (n : ℕ) → number_of names name ≡ Some n → has_name_at names name n ≡ true
 has_own names name n e =
     let here = number_name names name n e in
-    ap (λ o. unwrap_or (option_map (bytes_eq name) o) false) (slice_get-get_or names n [] here.0) ∙ (bytes_decides name (get_or names n [])).1 (sym here.1)
+    ap (λ o. unwrap_or (option_map (bytes_eq name) o) false) (slice_get-get_or names n [] here.0)
+    ∙ (bytes_decides name (get_or names n [])).1 (sym here.1)
 
 -- so the bodies of a name are those of its number
 pub bodies_by_number : (names : List (List ℕ)) (name : List ℕ) → IsDistinct bytes_eq names → (o : Option ℕ) → number_of names name ≡ o

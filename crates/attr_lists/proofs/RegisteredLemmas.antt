@@ -23,7 +23,7 @@ use Rattle.attr_lists.specs.Collections.{NumberedBody}
 use Rattle.attr_lists.specs.ListViews.{Entry, entry_view, entries_view}
 use Rattle.attr_lists.specs.inner.Registered.{numbered_body, registered_view, registered_views, bodies_of_name, AgreesOn, AreAscending, Defines}
 use Rattle.attr_lists.specs.inner.Registered.{IsAbove, IsIndexOf, SharedMacro}
-use Rattle.attr_lists.specs.inner.NameSteps.{has_number}
+use Rattle.attr_lists.specs.inner.NameSteps.{has_name_at}
 use Rattle.attr_lists.specs.declared.name_table.registered.ListMacros.{ListMacros}
 use Rattle.attr_lists.specs.contracts.name_table.registered.ListMacrosClone.TheImpl as clone
 use Rattle.attr_lists.specs.declared.types.AttributeId.{AttributeId}
@@ -64,12 +64,12 @@ module _ (names : List (List ℕ)) (list : List SharedMacro) (lines : List (Mapp
       (none_or (defines_name name) there (Agrees name) (λ e. in_line name e.pattern.text e.macro) (entries_view lines)
       (All-map there entry_view lines defined)))
       (λ agrees. agrees)
-      (none_or (λ b. has_number names name b.number) here (Agrees name) (λ b. at_number name (slice_get names b.number)) (map numbered_body list)
+      (none_or (λ b. has_name_at names name b.number) here (Agrees name) (λ b. at_number name (slice_get names b.number)) (map numbered_body list)
       (All-map here numbered_body list macros))
 
 -- a line that defines a macro by its name and its body
 pub more_line : (names : List (List ℕ)) (line : Entry) (text : List ℕ) (items : List TrackedAssignment) (known : NumberedBody)
-    (rest : List NumberedBody) → Defines line text items → has_number names text known.number ≡ true → known.body ≡ items → (name : List ℕ)
+    (rest : List NumberedBody) → Defines line text items → has_name_at names text known.number ≡ true → known.body ≡ items → (name : List ℕ)
     → bodies_of_name names (known ∷ rest) name ≡ bodies_named name (line ∷ []) ++ bodies_of_name names rest name
 more_line names line text items known rest defines named same name =
     grind (arith, cond-true, cond-false, cases_Bool, bytes_decides, defines, named)

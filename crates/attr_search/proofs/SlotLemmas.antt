@@ -14,7 +14,7 @@ use Rattle.std.proofs.lemmas.List.Folds.{list_all-map, list_any-append}
 use mathlib.Core.List.{map-map}
 use Rattle.attr_table.specs.Setting.{Origin}
 use Rattle.attr_search.specs.shared.SlotContents.{AreListed, count_remaining, remaining_at, wanted_numbers}
-use Rattle.attr_search.specs.inner.AnswerRefs.{HasItem, KeepsAnswer, RefersTo, IsMatchRef, AreMatchRefs, item_at, line_by_ref}
+use Rattle.attr_search.specs.inner.AnswerRefs.{HasItem, KeepsAnswer, RefersTo, IsMatchRef, AreMatchRefs, kept_item, line_by_ref}
 use Rattle.attr_search.specs.inner.AnswerRefs.{match_by_ref, matches_by_ref}
 use Rattle.attr_search.specs.Slots.{Matched, filled_in, slots_of}
 use Rattle.attr_search.specs.inner.PartsContents.{PartsContent, KeepsOneMore, KeepsParts}
@@ -223,14 +223,14 @@ filled_seen store [] = refl
 pub answer_kept : (line : MatchingLine) (top : PendingItem) (before after : PartsContent) (l i : ℕ) →
     KeepsParts before after → KeepsOneMore before after → after.line ≡ Some l →
     slice_get after.lines l ≡ Some (line_origin line) → HasItem after top.cause i →
-    item_at after top.cause i ≡ pending_item line.items.now before.bodies top →
+    kept_item after top.cause i ≡ pending_item line.items.now before.bodies top →
     KeepsAnswer line top before after (record { line = l; cause = top.cause; item = i })
 answer_kept line top before after l i extends more handed found has same = grind (arith, get_or_from_slice_get, slice_get_within)
 
 -- an item of a body is there
 pub body_has : (items : List TrackedAssignment) (after : PartsContent) (cause : Option ℕ) (index : ℕ) → is_some cause ≡ true →
     index < length (items_beside items after.bodies cause) → HasItem after cause index ×
-    (item_at after cause index ≡ get_or (items_beside items after.bodies cause) index no_item)
+    (kept_item after cause index ≡ get_or (items_beside items after.bodies cause) index no_item)
 body_has items after cause index some inside = grind arith
 
 -- and an item of the line that was kept
@@ -238,5 +238,5 @@ pub own_has : (items : List TrackedAssignment) (bodies : List (List TrackedAssig
     (item own : TrackedAssignment) (before : List TrackedAssignment) → is_some cause ≡ false →
     index < length (items_beside items bodies cause) → item ≡ get_or items index item → own ≡ item →
     after.items ≡ before ++ own ∷ [] → HasItem after cause (length before) ×
-    (item_at after cause (length before) ≡ get_or (items_beside items bodies cause) index no_item)
+    (kept_item after cause (length before) ≡ get_or (items_beside items bodies cause) index no_item)
 own_has items bodies after cause index item own before none inside is same pushed = grind (arith, length-append, get_or-append_seam, get_or_default)

@@ -4,7 +4,7 @@
 ghost use Rattle.std.specs.Prelude.{◌≡◌, ◌<◌, ◌≤◌, ◌+◌, [], ⊤, All, None, Some, IfOk, MatchOption, OnErr, OnOk, length, option_map, slice_get, string_bytes};
 ghost use Rattle.std.specs.Option.{option_copied};
 ghost use Rattle.attr_search.specs.Matches.{cause_of, is_macro_kind, match_view};
-ghost use Rattle.attr_search.specs.inner.AnswerRefs.{HasItem, IsMatchRef, KeepsAnswer, RefersTo, item_at, match_by_ref};
+ghost use Rattle.attr_search.specs.inner.AnswerRefs.{HasItem, IsMatchRef, KeepsAnswer, RefersTo, kept_item, match_by_ref};
 ghost use Rattle.attr_search.specs.shared.BodyChanges.{changed_bodies, sized_bodies};
 ghost use Rattle.attr_search.specs.inner.PartsContents.{Grows};
 ghost use Rattle.attr_search.specs.inner.PartsView.{origins};
@@ -209,7 +209,7 @@ impl AnswerParts {
     // The item that answers.
     fn item(&self, found: MatchRef) -> &TrackedAssignment
         requires { HasItem self.now found.cause found.item }
-        ensures { result.now ≡ item_at self.now found.cause found.item }
+        ensures { result.now ≡ kept_item self.now found.cause found.item }
     {
         match found.cause {
             None => &self.items[found.item],

@@ -5,7 +5,7 @@ ghost use Rattle.std.specs.Io.KnownBytes.{IsAtEnd};
 ghost use Rattle.check_attr.specs.Outcomes.{CountsReads, CountsWrites, ReadsInputFirst};
 ghost use Rattle.check_attr.specs.Program.{Plays};
 ghost use Rattle.check_attr.specs.ScriptText.{AppendsFrontFrom, AppendsTextFrom, WritesText, WritesTextFront};
-ghost use Rattle.check_attr.specs.inner.Whole.{ReadsFirst};
+ghost use Rattle.check_attr.specs.inner.Whole.{ReadsAllFirst};
 ghost use Rattle.check_attr.specs.inner.PassedText.{PassesScript, PlaysInMemory};
 
 use crate::applying::apply;
@@ -66,7 +66,7 @@ pub(crate) fn run_over<R: Pull, W: Push>(
 ) -> Result<(), Fault>
     ensures plays { Plays W.contents W.failed W.stalled W.Flushed engine.old.state
         (R.remaining reader.old) writer.old writer.new result }
-    ensures reader { ReadsFirst R.remaining R.failed reader.old reader.new
+    ensures reader { ReadsAllFirst R.remaining R.failed reader.old reader.new
         writer.old writer.new result }
 {
     let script = read_all(alloc, reader)?;

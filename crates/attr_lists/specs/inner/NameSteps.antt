@@ -13,5 +13,5 @@ pub record AppendsName {X E : Type 0} (result : Result X E) (name : List ℕ) (o
   pub err : OnErr result (new ≡ old)
 
 -- the name stands at this number
-abbrev pub has_number : List (List ℕ) → List ℕ → ℕ → Bool
-has_number names name number = unwrap_or (option_map (bytes_eq name) (slice_get names number)) false
+abbrev pub has_name_at : List (List ℕ) → List ℕ → ℕ → Bool
+has_name_at names name number = unwrap_or (option_map (bytes_eq name) (slice_get names number)) false

@@ -8,7 +8,7 @@ use Rattle.std.specs.declared.rc.Rc.{Rc}
 use Rattle.attr_lists.specs.Collections.{NumberedBody, RegisteredList}
 use Rattle.attr_lists.specs.Definitions.{bodies_named, bodies_of_number}
 use Rattle.attr_lists.specs.ListViews.{Entry}
-use Rattle.attr_lists.specs.inner.NameSteps.{has_number}
+use Rattle.attr_lists.specs.inner.NameSteps.{has_name_at}
 use Rattle.attr_lists.specs.declared.name_table.registered.ListMacros.{ListMacros}
 use Rattle.attr_lists.specs.declared.types.Metadata.{Metadata}
 use Rattle.attr_lists.specs.declared.types.TrackedAssignment.{TrackedAssignment}
@@ -45,7 +45,7 @@ ListsBodies numbers list = (number : ℕ) → contains nat_cmp numbers number �
 
 -- the bodies of the name, line by line
 abbrev pub bodies_of_name : List (List ℕ) → List NumberedBody → List ℕ → List (List TrackedAssignment)
-bodies_of_name names list name = map (λ b. b.body) (filter (λ b. has_number names name b.number) list)
+bodies_of_name names list name = map (λ b. b.body) (filter (λ b. has_name_at names name b.number) list)
 
 -- the name has the same bodies in the list and in the lines
 abbrev pub AgreesOn : List (List ℕ) → List NumberedBody → List Entry → List ℕ → Type 0

@@ -2,7 +2,7 @@
 ghost use Rattle.std.specs.Prelude.{◌≡◌, [], ◌≢◌, ◌↔◌, ◌∷◌, ℕ, List, map, None, All, MatchOption, IfSome, IsTrue};
 ghost use Rattle.attr_lists.specs.Definitions.{bodies_named};
 ghost use Rattle.attr_lists.specs.ListViews.{entry_view, entries_view};
-ghost use Rattle.attr_lists.specs.inner.NameSteps.{has_number};
+ghost use Rattle.attr_lists.specs.inner.NameSteps.{has_name_at};
 ghost use Rattle.attr_lists.specs.inner.Registered.{AgreesOn, AreAscending, Defines, IsAbove, IsIndexOf, numbered_body, registered_views};
 
 use crate::name_table::name_set::NameSet;
@@ -148,7 +148,7 @@ fn macro_of(line: &Mapping<Value>) -> Option<(&[u8], &[TrackedAssignment])>
 
 // Whether the name has this number.
 fn has_number(names: &NameSet, name: &[u8], number: usize) -> bool
-    ensures { result ≡ has_number names.now name.now number }
+    ensures { result ≡ has_name_at names.now name.now number }
 {
     match names.name(number) {
         Some(own) => name == own.as_bytes(),

@@ -16,9 +16,9 @@ abbrev pub line_by_ref : PartsContent → ℕ → Origin
 line_by_ref parts l = slice_index_or parts.lines l no_origin
 
 -- the item with an index: a kept one, or one in the body of the macro that expanded to it
-abbrev pub item_at : PartsContent → Option ℕ → ℕ → TrackedAssignment
-item_at parts None index = slice_index_or parts.items index no_item
-item_at parts (Some cause) index = slice_index_or (slice_index_or parts.bodies cause []) index no_item
+abbrev pub kept_item : PartsContent → Option ℕ → ℕ → TrackedAssignment
+kept_item parts None index = slice_index_or parts.items index no_item
+kept_item parts (Some cause) index = slice_index_or (slice_index_or parts.bodies cause []) index no_item
 
 -- there is one
 abbrev pub HasItem : PartsContent → Option ℕ → ℕ → Type 0
@@ -37,7 +37,7 @@ answer_by parts origin cause item =
 
 -- what is kept of an answer
 abbrev pub match_by_ref : PartsContent → MatchRef → Matched
-match_by_ref parts m = answer_by parts (line_by_ref parts m.line) m.cause (item_at parts m.cause m.item)
+match_by_ref parts m = answer_by parts (line_by_ref parts m.line) m.cause (kept_item parts m.cause m.item)
 
 -- the indexes of an answer are in use
 pub record IsMatchRef (parts : PartsContent) (m : MatchRef) : Type 0 where

@@ -16,7 +16,7 @@ pub record ReadsWhole {R : Type 0} (remaining : R → Option (List ℕ)) (failed
   pub only : IfErr result (λ fault. (fault ≡ Read) ⊎ (fault ≡ OutOfMemory))
 
 -- what a run says of its reader, and that nothing was written, or the whole input was read before
-pub record ReadsFirst {T R W : Type 0} (remaining : R → Option (List ℕ)) (failed : R → ℕ) (old new : R) (before after : W)
+pub record ReadsAllFirst {T R W : Type 0} (remaining : R → Option (List ℕ)) (failed : R → ℕ) (old new : R) (before after : W)
     (outcome : Result T Fault) : Type 0 where
   pub reader : UsesReader remaining failed old new outcome
   pub first : ReadsInputFirst (remaining new) before after

@@ -17,4 +17,5 @@ returns g c =
     let others : (row : ℕ) → has_row c.reverse.new.self.items row ≡ is_about Anything (slice_get keys row) = λ row. sym (list_any-IsPermutation
     (λ r. eqb r row) _ _ c.reverse.ensures.permutation) ∙ (ap (λ l. has_row l row) (c.in_ok-others.ensures.items ∙ c.deref.ensures.value)
     ∙ (c.requires.sorted.kinds c.requires.many kind.Anything refl row ∙ others_are (slice_get keys row))) in
-    grind (arith, nat_tests, then-kinds+in_ok-of, same_Some, else-kinds, c.if-kinds.branch, c.in_ok-exact.ensures, c.requires.sorted.lower c.requires.many)
+    let lower = c.requires.sorted.lower c.requires.many in
+    grind (arith, nat_tests, then-kinds+in_ok-of, same_Some, else-kinds, c.if-kinds.branch, c.in_ok-exact.ensures, lower)

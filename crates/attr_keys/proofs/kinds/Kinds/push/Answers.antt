@@ -19,11 +19,11 @@ returns g c = λ keys at sorted. record {
       ∙ kinds_more k keys before (g.K.Keyed.content c.args.line.now) (sorted.kinds c.if-not-self.false k kept) r;
   lower = λ many none. elim c.if-self.branch [
     | then-self w ↦
-        let no : true ≡ false = sym w.if-self.true ∙ sym w.self-is ∙ sym c.in_ok-add.ensures.same.1 ∙ none in absurd cc
+        let no : true ≡ false = sym w.if-self.true ∙ sym w.self-is ∙ sym c.in_ok-add.ensures.capitals ∙ none in absurd cc
     | else-self w ↦
         let lower = sorted.lower c.if-not-self.false w.if-self.false in
         let own = w.has_capital-self.ensures in
-        let has = sym w.self-is ∙ sym c.in_ok-add.ensures.same.1 ∙ none in
+        let has = sym w.self-is ∙ sym c.in_ok-add.ensures.capitals ∙ none in
         grind (arith, nat_tests, lower_content, map-append, lower, own, has, c.key-key.ensures)
   ];
 }

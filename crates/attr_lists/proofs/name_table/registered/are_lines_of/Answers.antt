@@ -1,6 +1,6 @@
 use Rattle.std.proofs.Common.{arith, ◌≡◌, true, map}
 use Rattle.attr_lists.specs.ListViews.{entry_view}
-use Rattle.attr_lists.specs.inner.NameSteps.{has_number}
+use Rattle.attr_lists.specs.inner.NameSteps.{has_name_at}
 use Rattle.attr_lists.specs.inner.Registered.{numbered_body}
 use Rattle.attr_lists.proofs.RegisteredLemmas.{line_none, lines_from, more_line}
 use Rattle.attr_lists.proofs.name_table.registered.are_lines_of.Goals as goal
@@ -13,7 +13,7 @@ loop-mapping-preserved c = λ name h.
     c.loop-mapping.invariant name (elim c.match-macro_of.branch [
       | in-Some+in-Some-split_first+else-not-has_number+else-not-is_same w ↦
           let known = numbered_body w.in-Some-split_first.known.now in
-          let named : has_number c.args.names.now w.in-Some.name.now known.number ≡ true = grind arith in
+          let named : has_name_at c.args.names.now w.in-Some.name.now known.number ≡ true = grind arith in
           let same : known.body ≡ w.in-Some.body.now = grind arith in
           grind (
             arith,
