@@ -1,4 +1,4 @@
-use Rattle.std.proofs.Common.{arith, ◌≡◌, ◌++◌, ◌∷◌, [], ap, length, map, subst, sym, take, ◌∙◌}
+use Rattle.std.proofs.Common.{arith, ◌≡◌, ap, length, map, subst, sym, take, ◌∙◌}
 use Rattle.std.proofs.lemmas.Bool.Decides.{nat_tests}
 use Rattle.std.proofs.lemmas.List.{length-map, length-take, map_push, take_more}
 use Rattle.attr_keys.specs.shared.KeyContents.{KeyContent}
@@ -12,10 +12,7 @@ loop-row-preserved c =
     let content : Shape → KeyContent = λ line. line_content (shape_content line) in
     let lines = c.args.lines.now in
     let row = c.loop-row.row in
-    let line = c.index-lines-row.result in
-    let before = take row lines in
-    let counted : row ≡ length (map content before) = grind (arith, nat_tests, length-map, length-take, c.loop-row-test.true) in
+    let counted : row ≡ length (map content (take row lines)) = grind (arith, nat_tests, length-map, length-take, c.loop-row-test.true) in
     subst (λ keys. SortsLines keys c.push.new.self)
-    (sym (ap (map content) (take_more lines row line c.loop-row-test.true ∙ ap (λ l. before ++ l ∷ []) (sym c.index-lines-row.is))
-    ∙ map_push content before line))
-    (c.in_ok-push.ensures (map content before) counted c.loop-row.invariant)
+    (sym (ap (map content) (take_more lines row _ c.loop-row-test.true) ∙ map_push content (take row lines) _))
+    (c.in_ok-push.ensures (map content (take row lines)) counted c.loop-row.invariant)
