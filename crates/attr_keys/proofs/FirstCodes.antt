@@ -1,5 +1,5 @@
 -- Keys whose first codes are compared before their texts.
-use Rattle.std.proofs.Common.{◌≡◌, Option, ℕ, Bool, true, false, List, [], ◌∷◌, get_or, refl, ap, ◌∙◌, arith, nat_eq}
+use Rattle.std.proofs.Common.{◌≡◌, ◌≢◌, Option, ℕ, Bool, true, false, List, [], ◌∷◌, get_or, refl, ap, ◌∙◌, arith, nat_eq}
 use Rattle.std.specs.List.{starts_with}
 use Rattle.std.proofs.lemmas.Bool.Decides.{nat_tests}
 use Rattle.attr_keys.specs.shared.KeyContents.{KeyContent}
@@ -19,3 +19,9 @@ first_none text key none = ap (starts_with nat_eq text) (no_codes key none) ∙ 
 
     begins : (t : List ℕ) → starts_with nat_eq t [] ≡ true
     begins t = grind (arith, nat_tests)
+
+-- a key with another first code than the text isn't had, unless it is empty
+pub first_apart : (text codes : List ℕ) → get_or codes 0 0 ≢ 0 → get_or codes 0 0 ≢ get_or text 0 0 → starts_with nat_eq text codes ≡ false
+first_apart text [] some apart = absurd (some refl)
+first_apart [] (c ∷ codes) some apart = refl
+first_apart (t ∷ text) (c ∷ codes) some apart = grind (arith, nat_tests)

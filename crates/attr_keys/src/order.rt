@@ -50,9 +50,8 @@ pub fn fall(rows: &mut Vec<usize>)
     if is_falling(rows) {
         return;
     }
-    rows.sort_unstable();
+    rows.sort_unstable_by(|row, other| other.cmp(row));
     rows.dedup();
-    rows.reverse();
 }
 
 // Whether each row is below the one before it, as in most files, which go from lines of all paths to those of few.

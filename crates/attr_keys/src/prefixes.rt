@@ -77,10 +77,59 @@ impl Prefixes {
             found.old.items found.new.items) }
     {
         if self.rows.len() <= FEW {
-            append_few(keys, &self.rows, &self.firsts, text, found)
+            self.append_few(keys, text, found)
         } else {
             append_linked(keys, &self.rows, &self.links, text, found)
         }
+    }
+
+    // Appends the rows whose keys the text has. Each first code is compared.
+    #[inline(always)]
+    fn append_few<K: Keyed>(
+        &self,
+        keys: Keys<'_, K>,
+        text: &[u8],
+        found: &mut Vec<usize>,
+    ) -> Result<(), AllocError>
+        requires { AreFirsts (keys_seen K.content keys) self.now.rows.items self.now.firsts.items }
+        ensures { OnOk result (AppendsRows (has_row self.now.rows.items)
+            (keys_seen K.content keys.entry) (seen_text keys.entry.view text.now)
+            found.old.items found.new.items) }
+    {
+        let text_first = first_code(keys.view, text, true);
+        for index in 0..self.firsts.len() {
+            if self.is_had(keys, index, text, text_first) {
+                found.push(self.rows[index])?;
+            }
+        }
+        Ok(())
+    }
+
+    // Whether a text with this first code has the key of the row at an index. The first code of an empty key is 0: each text has that.
+    #[inline(always)]
+    fn is_had<K: Keyed>(
+        &self,
+        keys: Keys<'_, K>,
+        index: usize,
+        text: &[u8],
+        text_first: u16,
+    ) -> bool
+        requires firsts { AreFirsts
+            (keys_seen K.content keys) self.now.rows.items self.now.firsts.items }
+        requires index { index < length self.now.firsts.items }
+        requires text_first { text_first
+            ≡ slice_index (codes_of false (seen_text keys.view text.now) true) 0 }
+        ensures { result ≡ text_has (seen_text keys.entry.view text.now)
+            (slice_get (keys_seen K.content keys.entry) (slice_index self.now.rows.items index)) }
+    {
+        let first = self.firsts[index];
+        if first == 0 {
+            return true;
+        }
+        if first != text_first {
+            return false;
+        }
+        has_row_key(keys, self.rows[index], text)
     }
 }
 
@@ -129,29 +178,6 @@ fn link<K: Keyed>(keys: Keys<'_, K>, rows: &[usize], links: &[usize], index: usi
     end
 }
 
-// Appends the rows whose keys the text has. Each first code is compared.
-fn append_few<K: Keyed>(
-    keys: Keys<'_, K>,
-    rows: &[usize],
-    firsts: &[u16],
-    text: &[u8],
-    found: &mut Vec<usize>,
-) -> Result<(), AllocError>
-    requires { AreFirsts (keys_seen K.content keys) rows.now firsts.now }
-    ensures { OnOk result (AppendsRows (has_row rows.now)
-        (keys_seen K.content keys.entry) (seen_text keys.entry.view text.now)
-        found.old.items found.new.items) }
-{
-    let text_first = first_code(keys.view, text, true);
-    for (index, first) in firsts.iter().enumerate() {
-        let row = rows[index];
-        if has_prefix(keys, row, *first, text, text_first) {
-            found.push(row)?;
-        }
-    }
-    Ok(())
-}
-
 // Appends the rows whose keys the text has: the last one that is not after the text, and shorter ones that this begins with.
 fn append_linked<K: Keyed>(
     keys: Keys<'_, K>,
@@ -189,28 +215,4 @@ fn common_end<K: Keyed>(keys: Keys<'_, K>, rows: &[usize], text: &[u8], index: u
 {
     let part = common(keys, rows[index], text);
     rows.partition_point(|row| is_row_up_to(keys, *row, part, false))
-}
-
-// Whether the text has the key of this row and this first code, which is 0 if the key is empty: each text has that.
-#[inline(always)]
-fn has_prefix<K: Keyed>(
-    keys: Keys<'_, K>,
-    row: usize,
-    first: u16,
-    text: &[u8],
-    text_first: u16,
-) -> bool
-    requires first { first ≡ slice_index (row_codes (keys_seen K.content keys) row) 0 }
-    requires text_first { text_first
-        ≡ slice_index (codes_of false (seen_text keys.view text.now) true) 0 }
-    ensures { result ≡ text_has (seen_text keys.entry.view text.now)
-        (slice_get (keys_seen K.content keys.entry) row) }
-{
-    if first == 0 {
-        return true;
-    }
-    if first != text_first {
-        return false;
-    }
-    has_row_key(keys, row, text)
 }
