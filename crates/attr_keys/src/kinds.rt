@@ -1,6 +1,6 @@
 //! Lines by the kinds of their keys.
 
-ghost use Rattle.std.specs.Prelude.{◌≡◌, [], ◌∷◌, ◌++◌, List, OnOk, length, true};
+ghost use Rattle.std.specs.Prelude.{◌≡◌, ◌↔◌, ◌<◌, [], ◌∷◌, ◌++◌, IsTrue, List, OnOk, false, length, true};
 ghost use Rattle.std.specs.Bool.{OnFalse};
 ghost use Rattle.attr_keys.specs.inner.Cases.{in_case};
 ghost use Rattle.attr_keys.specs.inner.Kinds.{is_kept, kind_of, kind_rows, rows_with};
@@ -55,7 +55,9 @@ pub struct Kinds {
 impl Kinds {
     /// No lines yet, of so many. It takes no memory.
     pub fn new(alloc: Global, count: usize) -> Kinds
-        ensures { SortsLines [] result }
+        ensures sorted { SortsLines [] result }
+        ensures many { IsTrue result.are_many ↔ (8 < count) }
+        ensures capitals { result.has_capitals ≡ false }
     {
         Kinds {
             are_many: count > FEW,
@@ -76,8 +78,9 @@ impl Kinds {
     ///
     /// If memory runs out.
     pub fn push<K: Keyed>(&mut self, line: &K, row: usize) -> Result<(), AllocError>
-        ensures { OnOk result ((keys : List KeyContent) → row ≡ length keys →
+        ensures sorted { OnOk result ((keys : List KeyContent) → row ≡ length keys →
             SortsLines keys self.old → SortsLines (keys ++ K.content line.now ∷ []) self.new) }
+        ensures many { OnOk result (self.new.are_many ≡ self.old.are_many) }
     {
         if !self.are_many {
             return Ok(());

@@ -1,6 +1,6 @@
 //! Names and values that were read lately, so that items share the texts of their names and values.
 
-ghost use Rattle.std.specs.Prelude.{◌≡◌, Ok, IfOk};
+ghost use Rattle.std.specs.Prelude.{[], ◌≡◌, Ok, IfOk};
 ghost use Rattle.std.specs.Result.{result_map_both};
 ghost use Rattle.attr_text.specs.Items.{checked_name};
 ghost use Rattle.attr_text.specs.TextViews.{name_text, state_view, value_bytes};
@@ -24,7 +24,10 @@ pub struct KnownTexts {
 
 impl KnownTexts {
     /// No names and values. It takes no memory.
-    pub fn new(alloc: Global) -> KnownTexts {
+    pub fn new(alloc: Global) -> KnownTexts
+        ensures names { result.names.items.items ≡ [] }
+        ensures values { result.values.items.items ≡ [] }
+    {
         KnownTexts {
             names: LastRead::new(alloc),
             values: LastRead::new(alloc),

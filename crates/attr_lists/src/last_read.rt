@@ -1,6 +1,6 @@
 //! What was read of late: in each bucket of texts the one that was read there last.
 
-ghost use Rattle.std.specs.Prelude.{◌<◌};
+ghost use Rattle.std.specs.Prelude.{◌≡◌, ◌<◌, []};
 
 use std::alloc::{AllocError, Global};
 
@@ -41,7 +41,9 @@ pub(crate) struct LastRead<T> {
 
 impl<T: Drop> LastRead<T> {
     /// Nothing was read. It takes no memory.
-    pub(crate) fn new(alloc: Global) -> LastRead<T> {
+    pub(crate) fn new(alloc: Global) -> LastRead<T>
+        ensures { result.items.items ≡ [] }
+    {
         LastRead {
             last: LastIndexes::new(),
             items: Vec::new(alloc),

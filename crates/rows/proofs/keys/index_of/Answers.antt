@@ -15,4 +15,4 @@ loop-row-preserved c =
     let counted : row ≡ length (map content (take row lines)) = grind (arith, nat_tests, length-map, length-take, c.loop-row-test.true) in
     subst (λ keys. SortsLines keys c.push.new.self)
     (sym (ap (map content) (take_more lines row _ c.loop-row-test.true) ∙ map_push content (take row lines) _))
-    (c.in_ok-push.ensures (map content (take row lines)) counted c.loop-row.invariant)
+    (c.in_ok-push.ensures.sorted (map content (take row lines)) counted c.loop-row.invariant)

@@ -7,8 +7,8 @@ use Rattle.attr_keys.proofs.Meetings.{kinds_more, lower_content, rows_noted}
 use Rattle.attr_keys.proofs.kinds.Kinds.push.Goals as goal
 use Rattle.attr_keys.proofs.kinds.Kinds.push.Goals.{then-self, else-self}
 
-pub returns : goal.returns
-returns g c = λ keys at sorted. record {
+pub returns-clause-sorted : goal.returns-clause-sorted
+returns-clause-sorted g c = λ keys at sorted. record {
   kinds = λ many k kept r.
       let before = kind_rows k c.args.self.now in
       let kind = c.kind_of.ensures ∙ ap kind_of c.key-key.ensures in
@@ -28,8 +28,8 @@ returns g c = λ keys at sorted. record {
   ];
 }
 
-pub returns-then-not-self : goal.returns-then-not-self
-returns-then-not-self g c = λ keys at sorted. record {
+pub returns-then-not-self-clause-sorted : goal.returns-then-not-self-clause-sorted
+returns-then-not-self-clause-sorted g c = λ keys at sorted. record {
   kinds = λ many. grind (arith, many, c.if-not-self.true);
   lower = λ many. grind (arith, many, c.if-not-self.true);
 }

@@ -24,7 +24,7 @@ loop-mapping-preserved g c =
           c.in_ok-line.ensures.pattern c.in_ok-line.ensures.number;
       sorted = subst (λ keys. SortsLines keys c.push.new.self)
           (sym (ap indexed_keys c.in_ok-push-2.ensures.items ∙ map_push (λ l. key_of_pattern l.pattern) lines line))
-          (c.in_ok-push.ensures (indexed_keys lines) row c.loop-mapping.invariant.sorted);
+          (c.in_ok-push.ensures.sorted (indexed_keys lines) row c.loop-mapping.invariant.sorted);
     }
 
 pub invariant_of-result : goal.invariant_of-result
