@@ -134,7 +134,7 @@ impl Value {
         ensures { value_bytes result ≡ self.now }
     {
         ValueRef {
-            bytes: self.as_slice(),
+            bytes: self.bytes.as_slice(),
         }
     }
 
@@ -147,12 +147,6 @@ impl Value {
         ensures { IfOk result (λ copy. copy ≡ self.now) }
     {
         Clone::clone(self)
-    }
-
-    fn as_slice(&self) -> &[u8]
-        ensures { result.now ≡ self.now }
-    {
-        self.bytes.as_slice()
     }
 }
 
@@ -172,7 +166,7 @@ impl PartialEq for Value {
     ghost laws = { partial_equiv_from_equiv nat_list_eq_equiv };
 
     fn eq(&self, other: &Value) -> bool {
-        self.as_slice() == other.as_slice()
+        self.bytes.as_slice() == other.bytes.as_slice()
     }
 }
 
@@ -200,7 +194,7 @@ impl Ord for Value {
     ghost matches_eq = { λ x y. texts_ties x y };
 
     fn cmp(&self, other: &Value) -> Ordering {
-        self.as_slice().cmp(other.as_slice())
+        self.bytes.as_slice().cmp(other.bytes.as_slice())
     }
 }
 
@@ -210,7 +204,7 @@ impl Hash for Value {
     ghost respects_eq = { Prim.search (hashing, rules) };
 
     fn hash<H: Hasher>(&self, state: &mut H) {
-        self.as_slice().hash(state);
+        self.bytes.as_slice().hash(state);
     }
 }
 
