@@ -45,13 +45,6 @@ closed-position i (b ∷ bs) j h =
 take-front : (front tail : List ℕ) (n : ℕ) → length front ≡ n → take n (front ++ tail) ≡ front
 take-front front tail n h = rw (← h) (take-append_seam front tail)
 
-record First (bs : List ℕ) (j : ℕ) : Type 0 where
-  front : List ℕ
-  tail : List ℕ
-  whole : bs ≡ front ++ close_bracket ∷ tail
-  taken : take j bs ≡ front
-  unclosed : Unclosed front
-
 -- the bytes up to the first `]`, where there are none
 pub name_in-at_once : (bs : List ℕ) (j : ℕ) → position closes bs ≡ Some j → take j bs ≡ [] → name_in bs ≡ None
 name_in-at_once bs j h e = grind (arith, nat_tests, closed-position, position_from-zero, take-front)

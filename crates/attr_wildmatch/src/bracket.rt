@@ -1,12 +1,11 @@
 //! What is between the brackets of a pattern: single bytes, ranges and classes (gitignore page: the range notation).
 
-ghost use Rattle.std.specs.Prelude.{◌≡◌, ℕ, ◌||◌, ◌+◌, ◌≤◌, ◌<◌, IfSome, IfOk, ◌==◌, ◌&&◌, not, length, option_map, position, true, None, Some};
+ghost use Rattle.std.specs.Prelude.{◌≡◌, ℕ, ◌||◌, ◌+◌, ◌≤◌, ◌<◌, IfSome, IfOk, ◌==◌, ◌&&◌, not, length, option_map, position, true, false, None, Some};
 ghost use Rattle.attr_wildmatch.specs.Bytes.{close_bracket, colon};
 ghost use Rattle.attr_wildmatch.specs.inner.Closing.{from_close};
 ghost use Rattle.attr_wildmatch.specs.inner.ByteSets.{has};
 ghost use Rattle.attr_wildmatch.specs.Brackets.{class_named, class_holds, member_holds, members_hold, set_holds, begins, name_in, span_end, ranged, from_single, from_escape, class_member, from_class, member_at, members as members_at};
 
-use crate::byte_set::ByteSet;
 use crate::case::Case;
 use std::alloc::{AllocError, Global};
 use std::marker::Model;
@@ -92,6 +91,36 @@ impl Member {
             Member::Span(low, high) => low <= byte && byte <= high,
             Member::Named(class) => class.contains(byte),
         }
+    }
+}
+
+// A set of bytes, as a bit for each.
+#[derive(Clone, Copy, Debug)]
+struct ByteSet {
+    words: [u64; 4],
+}
+
+impl ByteSet {
+    // The set without a byte.
+    fn new() -> ByteSet
+        ensures { (b : ℕ) → has result b ≡ false }
+    {
+        ByteSet { words: [0; 4] }
+    }
+
+    // Puts the byte in.
+    #[tactic(auto, using(crate::proofs::ByteSetLemmas::marked, crate::proofs::ByteSetLemmas::with_word))]
+    fn insert(&mut self, byte: u8)
+        ensures { (b : ℕ) → has self.new b ≡ (has self.old b || b == byte) }
+    {
+        self.words[usize::from(byte / 64)] |= 1 << (byte % 64);
+    }
+
+    // Whether the byte is in the set.
+    fn contains(&self, byte: u8) -> bool
+        ensures { result ≡ has self.now byte }
+    {
+        (self.words[usize::from(byte / 64)] >> (byte % 64)) & 1 == 1
     }
 }
 
@@ -227,36 +256,16 @@ fn class_name(bytes: &[u8], close: usize) -> Option<&[u8]>
     None
 }
 
-// The end of a range, given the bytes after its `-`, and what follows it.
-fn range_end(bytes: &[u8]) -> Option<(u8, &[u8])>
-    ensures end { option_map (λ r. (r.0, r.1.now)) result ≡ span_end bytes.now }
-    ensures shorter { IfSome result (λ r. length r.1.now < length bytes.now) }
-{
-    match bytes {
-        [] | [b']', ..] | [b'\\'] => None,
-        [b'\\', end, rest @ ..] => Some((*end, rest)),
-        [end, rest @ ..] => Some((*end, rest)),
-    }
-}
-
 // The single byte, or the range that it begins, given the bytes after it, and what follows.
 fn single_or_range(byte: u8, bytes: &[u8]) -> (Member, &[u8])
     ensures { (result.0, result.1.now) ≡ from_single byte bytes.now }
 {
-    if let [b'-', ends @ ..] = bytes {
-        if let Some((end, rest)) = range_end(ends) {
-            return (Member::Span(byte, end), rest);
-        }
+    match bytes {
+        [b'-', b'\\', end, rest @ ..] => (Member::Span(byte, *end), rest),
+        [b'-', b']' | b'\\', ..] => (Member::Single(byte), bytes),
+        [b'-', end, rest @ ..] => (Member::Span(byte, *end), rest),
+        _ => (Member::Single(byte), bytes),
     }
-    (Member::Single(byte), bytes)
-}
-
-// The member that a backslash begins, given the bytes after the backslash, and what follows the member.
-fn escaped(bytes: &[u8]) -> Option<(Member, &[u8])>
-    ensures { option_map (λ r. (r.0, r.1.now)) result ≡ from_escape bytes.now }
-{
-    let (byte, rest) = bytes.split_first()?;
-    Some(single_or_range(*byte, rest))
 }
 
 // The member that `[:` begins, given the bytes after the `[`, and what follows the member. None for an unknown class.
@@ -282,7 +291,8 @@ fn read_member(byte: u8, bytes: &[u8], close: usize) -> Option<(Member, &[u8])>
     ensures { option_map (λ r. (r.0, r.1.now)) result ≡ member_at byte bytes.now }
 {
     if byte == b'\\' {
-        return escaped(bytes);
+        let (escaped, rest) = bytes.split_first()?;
+        return Some(single_or_range(*escaped, rest));
     }
     if byte == b'[' && bytes.first() == Some(&b':') {
         return class_or_single(bytes, close);
@@ -313,14 +323,12 @@ pub(crate) fn members(alloc: Global, bytes: &[u8]) -> Result<Option<(MemberSet, 
             return Ok(Some((MemberSet::of(list), tail)));
         }
         close = next_close(tail, close);
-        match read_member(*byte, tail, close) {
-            None => return Ok(None),
-            Some((member, tail)) => {
-                list.push(member)?;
-                first = false;
-                rest = tail;
-            }
-        }
+        let Some((member, tail)) = read_member(*byte, tail, close) else {
+            return Ok(None);
+        };
+        list.push(member)?;
+        first = false;
+        rest = tail;
     }
     Ok(None)
 }

@@ -2,7 +2,6 @@
 #![tactic(auto)]
 
 mod bracket;
-mod byte_set;
 pub mod case;
 pub mod slashes;
 pub mod token;

@@ -103,10 +103,7 @@ fn skip_stars(bytes: &[u8]) -> &[u8]
     ensures shorter { length result.now ≤ length bytes.now }
 {
     let mut rest = bytes;
-    while let Some((byte, tail)) = rest.split_first() {
-        if *byte != b'*' {
-            break;
-        }
+    while let [b'*', tail @ ..] = rest {
         rest = tail;
     }
     rest
@@ -140,13 +137,11 @@ fn set(alloc: Global, bytes: &[u8]) -> Result<Option<(Token, &[u8])>, AllocError
         [b'!' | b'^', inside @ ..] => (true, inside),
         _ => (false, bytes),
     };
-    match bracket::members(alloc, inside)? {
-        None => Ok(None),
-        Some((members, rest)) => {
-            let members = Box::new(alloc, members)?;
-            Ok(Some((Token::Set { negated, members }, rest)))
-        }
-    }
+    let Some((members, rest)) = bracket::members(alloc, inside)? else {
+        return Ok(None);
+    };
+    let members = Box::new(alloc, members)?;
+    Ok(Some((Token::Set { negated, members }, rest)))
 }
 
 // The token that begins with the byte, given the bytes after it, and what follows the token.
@@ -206,14 +201,12 @@ impl Tokens {
         let mut border = true;
         let mut rest = text;
         while let Some((byte, tail)) = rest.split_first() {
-            match read_token(alloc, border, *byte, tail)? {
-                None => return Ok(None),
-                Some((token, tail)) => {
-                    border = token.ends_in_slash();
-                    list.push(token)?;
-                    rest = tail;
-                }
-            }
+            let Some((token, tail)) = read_token(alloc, border, *byte, tail)? else {
+                return Ok(None);
+            };
+            border = token.ends_in_slash();
+            list.push(token)?;
+            rest = tail;
         }
 
         // A bracket, an escape or a directory star is one token of several bytes.

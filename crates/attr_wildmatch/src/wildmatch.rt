@@ -13,7 +13,8 @@ ghost use Rattle.attr_wildmatch.specs.Matching.{Match, ReachedAtMost, TextMatche
 ghost use Rattle.attr_wildmatch.specs.Deciding.{matches, text_matches};
 ghost use Rattle.attr_wildmatch.specs.inner.Left.{AreTakenOff};
 ghost use Rattle.attr_wildmatch.specs.inner.Stretches.{front_left};
-ghost use Rattle.attr_wildmatch.specs.inner.RowIndexes.{may_skip, is_dirs_at, stays_on, advances_on, token_before, indexes_below, IsGrowing, IsStep, IsRow, IsUnderway, NoneAlive, HasStayed, HasRoom, IsExtended, MayInsert, IsInserted, KeepsCapacity};
+ghost use Rattle.attr_wildmatch.specs.inner.RowIndexes.{may_skip, is_dirs_at, stays_on, advances_on, token_before, indexes_below, IsGrowing, IsStep, IsRow, IsUnderway, NoneAlive, HasStayed, HasRoom, IsExtended, MayInsert, IsInserted};
+ghost use Rattle.attr_wildmatch.specs.inner.Decided.{IsReady};
 
 use crate::case::Case;
 use crate::token::{Token, Tokens};
@@ -35,20 +36,7 @@ fn may_skip(tokens: &[Token], index: usize) -> bool
     ensures skips { result ≡ may_skip (slice_get (tokens_of tokens.now) index) }
     ensures inside { IsTrue result → index < length tokens.now }
 {
-    match token_at(tokens, index) {
-        None => false,
-        Some(token) => token.may_be_empty(),
-    }
-}
-
-// Adds an index to a row that has room.
-fn push(row: &mut Vec<usize>, index: usize)
-    requires { length row.old.items < vec_capacity row.old }
-    ensures pushed { row.new.items ≡ row.old.items ++ index ∷ [] }
-    ensures longer { length row.new.items ≡ length row.old.items + 1 }
-    ensures capacity { vec_capacity row.old ≤ vec_capacity row.new }
-{
-    let _ = row.push(index);
+    token_at(tokens, index).is_some_and(|token| token.may_be_empty())
 }
 
 // Adds a fresh index to the row, and those after it up to which the tokens may take nothing, unless the row has it. An
@@ -65,10 +53,10 @@ fn insert(tokens: &[Token], row: &mut Vec<usize>, free: usize, index: usize) -> 
         return free;
     }
     let mut last = index;
-    push(row, last);
+    row.push_reserved(last);
     while may_skip(tokens, last) {
         last += 1;
-        push(row, last);
+        row.push_reserved(last);
     }
     last + 1
 }
@@ -85,7 +73,7 @@ fn insert_directory(tokens: &[Token], row: &mut Vec<usize>, free: usize, index: 
     if free > index {
         return free;
     }
-    push(row, index);
+    row.push_reserved(index);
     index + 1
 }
 
@@ -193,56 +181,6 @@ impl Step<'_> {
             free = self.advance(next, kept, *reached);
         }
         free
-    }
-}
-
-// Whether tokens match a value, and how many pairs of an index among the tokens and an offset in the value were visited.
-#[derive(Clone, Copy)]
-struct Counted {
-    is_match: bool,
-    visits: u128,
-}
-
-// Moves the row over the value. The count fits: it is at most (n + 1)(t + 1) for n tokens, fewer than 2^63, and t bytes.
-fn run(
-    tokens: &[Token],
-    value: &[u8],
-    case: Case,
-    row: &mut Vec<usize>,
-    next: &mut Vec<usize>,
-) -> Counted
-    requires few { length tokens.now < 2 ^ 63 }
-    requires bordered { is_bordered true (tokens_of tokens.now) ≡ true }
-    requires room { length tokens.now < vec_capacity row.old }
-    requires room_next { length tokens.now < vec_capacity next.old }
-    ensures matched { IsTrue result.is_match ↔ Match case (tokens_of tokens.now) value.now }
-    ensures at_most { result.visits ≤ (length tokens.now + 1) * (length value.now + 1) }
-    ensures found { IsTrue result.is_match → length tokens.now < result.visits }
-    ensures missed { ReachedAtMost case (tokens_of tokens.now) value.now result.visits }
-    ensures room { KeepsCapacity row.old next.old row.new next.new }
-{
-    row.clear();
-    let mut free = insert(tokens, row, 0, 0);
-    let mut visits = row.len() as u128;
-    for byte in value {
-        if free == 0 {
-            return Counted {
-                is_match: false,
-                visits,
-            };
-        }
-        let step = Step {
-            tokens,
-            byte: *byte,
-            case,
-        };
-        free = step.next_row(row, next);
-        mem::swap(row, next);
-        visits += row.len() as u128;
-    }
-    Counted {
-        is_match: free == tokens.len() + 1,
-        visits,
     }
 }
 
@@ -368,6 +306,35 @@ impl MatchBuffers {
         self.next.reserve(row_len)?;
         Ok(())
     }
+
+    // Moves the row over the value: whether the tokens match it, and how many pairs were visited. The count fits: it is at most
+    // (n + 1)(t + 1) for n tokens, fewer than 2^63, and t bytes.
+    fn run(&mut self, tokens: &[Token], value: &[u8], case: Case) -> (bool, u128)
+        requires { IsReady tokens.now self.old }
+        ensures matched { IsTrue result.0 ↔ Match case (tokens_of tokens.now) value.now }
+        ensures at_most { result.1 ≤ (length tokens.now + 1) * (length value.now + 1) }
+        ensures found { IsTrue result.0 → length tokens.now < result.1 }
+        ensures missed { ReachedAtMost case (tokens_of tokens.now) value.now result.1 }
+        ensures room { self.old ≤ self.new }
+    {
+        self.row.clear();
+        let mut free = insert(tokens, &mut self.row, 0, 0);
+        let mut visits = self.row.len() as u128;
+        for byte in value {
+            if free == 0 {
+                return (false, visits);
+            }
+            let step = Step {
+                tokens,
+                byte: *byte,
+                case,
+            };
+            free = step.next_row(&self.row, &mut self.next);
+            mem::swap(&mut self.row, &mut self.next);
+            visits += self.row.len() as u128;
+        }
+        (free == tokens.len() + 1, visits)
+    }
 }
 
 impl Tokens {
@@ -382,8 +349,7 @@ impl Tokens {
         ensures missed { ReachedAtMost case self.now value.now result.1 }
         ensures room { rows.old ≤ rows.new }
     {
-        let counted = run(self.as_slice(), value, case, &mut rows.row, &mut rows.next);
-        (counted.is_match, counted.visits)
+        rows.run(self.as_slice(), value, case)
     }
 
     /// Whether the tokens match the whole value. Takes no memory. Tokens of one byte at either end are compared

@@ -1,7 +1,7 @@
 -- Sets of bytes as bits, 64 to a word (own).
 use Rattle.std.specs.Prelude.{ℕ, ◌/◌, ◌%◌, Bool, ◌==◌, List, slice_index}
 use Rattle.std.specs.Int.{bit_at}
-use Rattle.attr_wildmatch.specs.declared.byte_set.ByteSet.{ByteSet}
+use Rattle.attr_wildmatch.specs.declared.bracket.ByteSet.{ByteSet}
 
 -- the bit of the byte is set in these words
 abbrev pub is_marked : List ℕ → ℕ → Bool

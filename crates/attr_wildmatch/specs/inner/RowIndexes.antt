@@ -132,8 +132,3 @@ pub record MayInsert {A : Type 0} (n index : ℕ) (row : Vec ℕ A) (free : ℕ)
 pub record IsInserted {A : Type 0} (n index : ℕ) (old new : Vec ℕ A) (free free' : ℕ) : Type 0 where
   pub added : index < free'
   pub extended : IsExtended n index old new free free'
-
--- two rows keep the capacity that both had
-abbrev pub KeepsCapacity : {A : Type 0} → Vec ℕ A → Vec ℕ A → Vec ℕ A → Vec ℕ A → Type 0
-KeepsCapacity row next row' next' =
-    (n : ℕ) → n ≤ vec_capacity row → n ≤ vec_capacity next → (n ≤ vec_capacity row') × (n ≤ vec_capacity next')

@@ -12,7 +12,7 @@ use crate::slashes;
 use crate::token::Token;
 use crate::wildmatch::first_bytes::{first_byte, from_byte, from_pair, may_begin};
 use crate::wildmatch::stretches::match_stretches;
-use crate::wildmatch::{MatchBuffers, run, skip_front};
+use crate::wildmatch::{MatchBuffers, skip_front};
 
 // Whether the token takes the whole value, if it is one that takes any number of bytes.
 fn takes_whole(token: &Token, value: &[u8]) -> Option<bool>
@@ -32,13 +32,11 @@ fn answer_alone(tokens: &[Token], value: &[u8]) -> Option<bool>
     ensures { (case : Case) → IfSome result (λ answer.
         answer ≡ matches case (tokens_of tokens.now) value.now) }
 {
-    let Some((token, tail)) = tokens.split_first() else {
-        return Some(value.is_empty());
-    };
-    if !tail.is_empty() {
-        return None;
+    match tokens {
+        [] => Some(value.is_empty()),
+        [token] => takes_whole(token, value),
+        _ => None,
     }
-    takes_whole(token, value)
 }
 
 // Whether the tokens match the value, if those of one byte at the front decide.
@@ -89,7 +87,7 @@ fn match_directories(
         match answer_front(others, rest, case) {
             Some(true) => return true,
             Some(false) => {}
-            None => return run(tokens, rest, case, &mut rows.row, &mut rows.next).is_match,
+            None => return rows.run(tokens, rest, case).0,
         }
         let Some(below) = next_directory(others, rest, case) else {
             return false;
@@ -117,5 +115,5 @@ pub(crate) fn match_early(
     if let Some(answer) = match_stretches(tokens, value, case) {
         return answer;
     }
-    run(tokens, value, case, &mut rows.row, &mut rows.next).is_match
+    rows.run(tokens, value, case).0
 }

@@ -34,7 +34,7 @@ loop-byte-preserved c =
       omega arith,
       next.0,
       next.1,
-      grind (arith, nat_tests, after, c.in_ok-push-in-Some-read_member.ensures.items),
+      grind (arith, nat_tests, after, c.in_ok-push.ensures.items),
       ends c.next_close-close.result left.0 bs rest left.1 (λ le. c.next_close-close.ensures),
     )
 

@@ -9,10 +9,10 @@ loop-last-init c = (
   omega arith,
   omega arith,
   omega arith,
-  omega (arith, c.push.ensures.capacity),
+  omega (arith, c.push_reserved.ensures.capacity),
   (λ most l m. omega arith),
   (λ fresh alive growing row f quiet. (
-    c.push.ensures.pushed ∙
+    c.push_reserved.ensures.items ∙
         row-push (tokens_of c.args.tokens.now) fresh alive c.args.row.now.items c.args.free c.args.index row (omega arith) quiet
         (growing.living c.args.index f),
     f,

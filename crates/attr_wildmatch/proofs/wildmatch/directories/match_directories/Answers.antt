@@ -10,7 +10,7 @@ returns-in-None c =
     let f = matches c.args.case (tokens_of c.args.others.now) in
     record {
       matched =
-          exact_answer c.args.case (tokens_of c.args.tokens.now) c.loop-rows.rest.now c.run.result.is_match c.run.ensures.matched.0
+          exact_answer c.args.case (tokens_of c.args.tokens.now) c.loop-rows.rest.now c.run.result.0 c.run.ensures.matched.0
           c.run.ensures.matched.1
           ∙ (ap (λ ts. matches c.args.case ts c.loop-rows.rest.now) c.requires.directory ∙ sym c.loop-rows.invariant.0);
       room = grind (arith, nat_tests);

@@ -11,7 +11,7 @@ use Rattle.attr_wildmatch.proofs.Reached.{fresh, alive}
 use Rattle.attr_wildmatch.proofs.ReachedSteps.{growing}
 use Rattle.attr_wildmatch.proofs.RunLemmas.{IsAt, first_bytes, at_start, at_more, step_at, fresh-first, below_free, matched_at_end, missed_at_end}
 use Rattle.attr_wildmatch.proofs.RunLemmas.{unmatched_where_dead, missed_where_dead}
-use Rattle.attr_wildmatch.proofs.wildmatch.run.Goals as goal
+use Rattle.attr_wildmatch.proofs.wildmatch.MatchBuffers.run.Goals as goal
 
 pub loop-byte-init : goal.loop-byte-init
 loop-byte-init c =
@@ -29,17 +29,17 @@ loop-byte-init c =
     let counted : length c.insert-free.new.row.items ≡ c.len-visits.result = omega (arith, c.len-visits.ensures, c.insert-free.new.row.ok) in (
       subst (λ x. IsAt c.args.case ts c.args.value.now c.insert-free.new.row.items c.insert-free.result x 0) counted
           (at_start c.args.case ts c.args.value.now c.insert-free.new.row.items c.insert-free.result row some (omega arith) (omega arith)),
-      (λ n h k. (omega (arith, c.clear.ensures.capacity, c.insert-free.ensures.inserted.extended.capacity), k)),
+      grind (arith, nat_tests, c.clear.ensures.capacity, c.insert-free.ensures.inserted.extended.capacity),
     )
 
 pub returns-then-free-eq0-clause-matched : goal.returns-then-free-eq0-clause-matched
 returns-then-free-eq0-clause-matched c =
     let ts = tokens_of c.args.tokens.now in
     let a = c.loop-byte.invariant.0 in
-    let dead = subst (λ x. IsAt c.args.case ts c.args.value.now c.loop-byte.row.items x c.loop-byte.visits c.loop-byte.byte-index) c.if-free-eq0.true
-    a in (
+    let dead = subst (λ x. IsAt c.args.case ts c.args.value.now c.loop-byte.self-inside.row.items x c.loop-byte.visits c.loop-byte.byte-index)
+    c.if-free-eq0.true a in (
       (λ t. cc),
-      (λ m. absurd (unmatched_where_dead c.args.case ts c.args.value.now c.loop-byte.row.items c.loop-byte.visits c.loop-byte.byte-index
+      (λ m. absurd (unmatched_where_dead c.args.case ts c.args.value.now c.loop-byte.self-inside.row.items c.loop-byte.visits c.loop-byte.byte-index
           c.requires.bordered dead (omega arith) m)),
     )
 
@@ -50,10 +50,10 @@ pub returns-then-free-eq0-clause-missed : goal.returns-then-free-eq0-clause-miss
 returns-then-free-eq0-clause-missed c =
     let ts = tokens_of c.args.tokens.now in
     let a = c.loop-byte.invariant.0 in
-    let dead = subst (λ x. IsAt c.args.case ts c.args.value.now c.loop-byte.row.items x c.loop-byte.visits c.loop-byte.byte-index) c.if-free-eq0.true
-    a in
-    missed_where_dead c.args.case ts c.args.value.now c.loop-byte.row.items c.loop-byte.visits c.loop-byte.byte-index c.requires.bordered dead
-    (omega arith)
+    let dead = subst (λ x. IsAt c.args.case ts c.args.value.now c.loop-byte.self-inside.row.items x c.loop-byte.visits c.loop-byte.byte-index)
+    c.if-free-eq0.true a in
+    missed_where_dead c.args.case ts c.args.value.now c.loop-byte.self-inside.row.items c.loop-byte.visits c.loop-byte.byte-index
+    c.requires.bordered dead (omega arith)
 
 pub next_row-free-requires-clause-capacity : goal.next_row-free-requires-clause-capacity
 next_row-free-requires-clause-capacity c = grind (arith, nat_tests, c.loop-byte.invariant.1)
@@ -67,17 +67,17 @@ next_at c =
     let a = c.loop-byte.invariant.0 in
     let value = c.args.value.now in
     let i = c.loop-byte.byte-index in
-    let row : c.loop-byte.row.items ≡ indexes_below (alive c.args.case ts (first_bytes value i)) (length c.args.tokens.now + 1) =
+    let row : c.loop-byte.self-inside.row.items ≡ indexes_below (alive c.args.case ts (first_bytes value i)) (length c.args.tokens.now + 1) =
     a.row_is ∙ ap (λ x. indexes_below (alive c.args.case ts (first_bytes value i)) (x + 1)) same in
-    let given : c.deref.result.now ≡ c.loop-byte.row.items = c.deref.ensures.value in
+    let given : c.deref.result.now ≡ c.loop-byte.self-inside.row.items = c.deref.ensures.value in
     let known = c.next_row-free.ensures.row (fresh c.args.case ts (first_bytes value (i + 1))) (alive c.args.case ts (first_bytes value (i + 1)))
     (alive c.args.case ts (first_bytes value i)) (step_at c.args.case ts value i c.requires.bordered c.loop-byte-test.true)
     (fresh-first c.args.case ts value i c.loop-byte-test.true) (given ∙ row) in
     let below : All (λ k. k < c.loop-byte.free) c.deref.result.now =
-    subst (All (λ k. k < c.loop-byte.free)) (sym given) (below_free c.args.case ts value c.loop-byte.row.items c.loop-byte.free c.loop-byte.visits i
-    a) in
-    at_more c.args.case ts value c.loop-byte.row.items c.next_row-free.new.next.items c.loop-byte.free c.next_row-free.result c.loop-byte.visits i a
-    c.loop-byte-test.true known.0 (λ k l m. known.1 k l (omega arith)) (omega (arith, c.next_row-free.ensures.bound))
+    subst (All (λ k. k < c.loop-byte.free)) (sym given)
+    (below_free c.args.case ts value c.loop-byte.self-inside.row.items c.loop-byte.free c.loop-byte.visits i a) in
+    at_more c.args.case ts value c.loop-byte.self-inside.row.items c.next_row-free.new.next.items c.loop-byte.free c.next_row-free.result
+    c.loop-byte.visits i a c.loop-byte-test.true known.0 (λ k l m. known.1 k l (omega arith)) (omega (arith, c.next_row-free.ensures.bound))
     (c.next_row-free.ensures.reached c.loop-byte.free below)
 
 pub overflow_add-visits : goal.overflow_add-visits
@@ -89,14 +89,14 @@ loop-byte-preserved c =
     let fact = c.next_row-free.ensures.capacity in
     grind (arith, nat_tests, next_at c, vec_capacity, fact2, c.swap.ensures.x_after, c.len.ensures, c.swap.new.x.ok, c.swap.ensures.y_after, fact)
 
-ended : (c : goal.After-loop-byte) → IsAt c.args.case (tokens_of c.args.tokens.now) c.args.value.now c.loop-byte.row.items c.loop-byte.free
-    c.loop-byte.visits (length c.args.value.now)
+ended : (c : goal.After-loop-byte) → IsAt c.args.case (tokens_of c.args.tokens.now) c.args.value.now
+    c.loop-byte.self-inside.row.items c.loop-byte.free c.loop-byte.visits (length c.args.value.now)
 ended c = grind (arith, nat_tests)
 
 pub returns-clause-matched : goal.returns-clause-matched
 returns-clause-matched c =
-    let m = matched_at_end c.args.case (tokens_of c.args.tokens.now) c.args.value.now c.loop-byte.row.items c.loop-byte.free c.loop-byte.visits
-    (ended c) in
+    let m = matched_at_end c.args.case (tokens_of c.args.tokens.now) c.args.value.now c.loop-byte.self-inside.row.items c.loop-byte.free
+    c.loop-byte.visits (ended c) in
     grind (arith, nat_tests, length_of_tokens, eqb-true, eq-eqb)
 
 pub returns-clause-at_most : goal.returns-clause-at_most
@@ -104,4 +104,5 @@ returns-clause-at_most c = grind (arith, nat_tests, length_of_tokens, ended)
 
 pub returns-clause-missed : goal.returns-clause-missed
 returns-clause-missed c =
-    missed_at_end c.args.case (tokens_of c.args.tokens.now) c.args.value.now c.loop-byte.row.items c.loop-byte.free c.loop-byte.visits (ended c)
+    missed_at_end c.args.case (tokens_of c.args.tokens.now) c.args.value.now c.loop-byte.self-inside.row.items c.loop-byte.free
+    c.loop-byte.visits (ended c)
