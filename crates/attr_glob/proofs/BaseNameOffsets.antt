@@ -1,8 +1,9 @@
 -- The offset of a base name, by recursion from the front of the path, and as it is seen after a front.
 use Rattle.std.proofs.lemmas.Grind.{common_steps}
-use Rattle.std.proofs.Common.{◌≡◌, ℕ, zero, suc, ◌+◌, ◌-◌, ◌<◌, Bool, true, false, not, cond, List, [], ◌∷◌, length, drop, Option}
+use Rattle.std.proofs.Common.{◌≡◌, ℕ, zero, suc, ◌+◌, ◌-◌, ◌<◌, Bool, true, false, not, cond, List, [], ◌∷◌, length, drop, take, Option}
 use Rattle.std.proofs.Common.{Some, None, refl, sym, ap, ◌∙◌, arith}
-use Rattle.std.specs.List.{list_any, suffix_len}
+use Rattle.std.specs.List.{list_any, suffix_len, before_last}
+use Rattle.std.specs.Option.{unwrap_or}
 use Rattle.std.proofs.lemmas.Bool.Decides.{nat_tests}
 use Rattle.std.proofs.lemmas.List.{length-reverse, length-drop, reverse-append}
 use Rattle.std.proofs.lemmas.List.Folds.{prefix_len-append}
@@ -50,6 +51,10 @@ offset-none path none = grind arith
 
 offset-some : (path : List ℕ) → list_any is_slash path ≡ true → base_name_offset path ≡ Some (length path - name_len path)
 offset-some path any = grind (arith, nat_tests, length-drop, suffix_len-le-length)
+
+-- what precedes the last slash, by the offset of the base name
+pub before_name : (path : List ℕ) (end : ℕ) → end ≡ unwrap_or (base_name_offset path) 0 - 1 → take end path ≡ before_last is_slash path
+before_name path end e = grind (arith, nat_tests, name_of path, offset-none path, offset-some path)
 
 offset_within : (b : ℕ) (bs : List ℕ) → Name bs → base_name_offset (b ∷ bs) ≡ offset_onto b (base_name_offset bs)
 offset_within b bs h = grind (arith, nat_tests, name_len-slash, offset-none, name_len-below, offset-some)

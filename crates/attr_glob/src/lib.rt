@@ -6,7 +6,6 @@
 pub mod pattern;
 pub mod quote;
 pub mod search;
-mod tokens;
 
 pub use crate::pattern::Pattern;
 pub use attr_wildmatch::{token, wildmatch};

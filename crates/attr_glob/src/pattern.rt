@@ -1,6 +1,7 @@
 //! Patterns, and how a pattern text is read.
 
-ghost use Rattle.std.specs.Prelude.{⊤, ◌≡◌, ◌↔◌, ℕ, Bool, false, ◌+◌, ◌==◌, ◌||◌, List, [], ◌∷◌, Some, None, IsTrue, IsSome, IfSome, IsOk, IfOk, OnErr, not, option_map, position, codes, drop, take};
+ghost use Rattle.std.specs.Prelude.{⊤, ◌≡◌, ◌↔◌, ◌≤◌, ◌<◌, ℕ, Bool, false, ◌+◌, ◌==◌, ◌||◌, List, [], ◌∷◌, Some, None, IsTrue, IsSome, IfSome, IsOk, IfOk, OnErr, not, option_map, position, codes, drop, take, length};
+ghost use Rattle.std.specs.Option.{option_copied};
 ghost use Rattle.std.specs.List.{list_all, list_any, starts_with, ends_with};
 ghost use Rattle.std.specs.Cmp.Lexicographic.{pointwise};
 ghost use Rattle.bstr.specs.BStr.{bstr_bytes};
@@ -8,16 +9,19 @@ ghost use Rattle.attr_glob.specs.Patterns.{Reading, reading, written, is_space, 
 ghost use Rattle.attr_wildmatch.specs.Slashes.{is_slash};
 ghost use Rattle.attr_wildmatch.specs.Matching.{same_byte};
 ghost use Rattle.attr_wildmatch.specs.Deciding.{text_matches};
+ghost use Rattle.attr_wildmatch.specs.Tokens.{Token as Meaning, tokens as meaning_of_text};
 ghost use Rattle.attr_glob.specs.Folding.{same_text};
 ghost use Rattle.attr_glob.specs.Paths.{matched_part, is_directory, PathMatches, path_matches};
 ghost use Rattle.attr_glob.specs.BaseNames.{base_name, base_name_offset};
+ghost use Rattle.attr_glob.specs.KeptTokens.{kept_tokens};
 ghost use Rattle.attr_glob.specs.Candidates.{is_candidate, matches_base_name};
 ghost use Rattle.attr_glob.specs.Views.{mode_bits, pattern_view};
 ghost use Rattle.attr_glob.specs.inner.StarEnds.{ends_after_star};
 
 pub use attr_wildmatch::Case;
 use attr_wildmatch::slashes::{ends_in_slash, has_slash};
-use attr_wildmatch::wildmatch;
+use attr_wildmatch::token::Tokens;
+use attr_wildmatch::wildmatch::{self, MatchBuffers};
 use bitflags::{Flag, Flags};
 use bstr::{BStr, ByteSlice};
 use std::alloc::{AllocError, Global};
@@ -269,6 +273,61 @@ impl Pattern {
             return Some(is_star_then(value, after_star(text), case));
         }
         None
+    }
+
+    /// Reads the tokens that [`matches_part`](Pattern::matches_part) needs. None if a match needs none, or if the text is
+    /// malformed.
+    ///
+    /// # Errors
+    ///
+    /// If memory runs out.
+    pub fn kept_tokens(&self, alloc: Global) -> Result<Option<Tokens>, AllocError>
+        ensures { IfOk result (λ tokens. tokens ≡ kept_tokens (pattern_view self.now)) }
+    {
+        if self.first_wildcard_pos.is_none() || self.mode.contains(Mode::ENDS_WITH) {
+            return Ok(None);
+        }
+        Tokens::read(alloc, &self.text)
+    }
+
+    /// Whether the text matches the part of a path that it is [matched against](Pattern::matched_part). `tokens` are
+    /// what [`kept_tokens`](Pattern::kept_tokens) read. The answer for a pattern that was not read from a text is not
+    /// specified.
+    ///
+    /// # Errors
+    ///
+    /// If `rows` has no room for the tokens and memory runs out. No other memory is taken.
+    pub fn matches_part(
+        &self,
+        tokens: Option<&Tokens>,
+        part: &[u8],
+        case: Case,
+        rows: &mut MatchBuffers,
+    ) -> Result<bool, AllocError>
+        requires { option_copied tokens ≡ kept_tokens (pattern_view self.now) }
+        ensures matched { IfOk result (λ answer. (text : List ℕ) →
+            reading text ≡ Some (pattern_view self.now) →
+            answer ≡ text_matches case (pattern_view self.now).text part.now) }
+        ensures kept { rows.old ≤ rows.new }
+
+        // No memory is taken if the rows have room, and if no token is looked at.
+        ensures room { let r = pattern_view self.now in (ts : List Meaning) →
+            meaning_of_text r.text ≡ Some ts → length ts < rows.old → IsOk result }
+        ensures malformed { meaning_of_text (pattern_view self.now).text ≡ None → IsOk result }
+        ensures literal { (pattern_view self.now).wildcard ≡ None → IsOk result }
+        ensures suffix { IsTrue (has_flag (pattern_view self.now).mode ends_with_flag) →
+            IsOk result }
+        ensures front { let r = pattern_view self.now in (n : ℕ) → r.wildcard ≡ Some n →
+            starts_with (same_byte case) part.now (take n r.text) ≡ false → IsOk result }
+    {
+        if let Some(answer) = self.answer_by_bytes(part, case) {
+            return Ok(answer);
+        }
+        let Some(tokens) = tokens else {
+            return Ok(false);
+        };
+        rows.reserve(tokens.row_len())?;
+        Ok(tokens.matches(part, case, rows))
     }
 
     /// A copy.

@@ -9,7 +9,7 @@ ghost use Rattle.attr_glob.specs.BaseNames.{base_name_offset};
 ghost use Rattle.attr_glob.specs.Clones.{IsMappingClone, AreMappingClones};
 ghost use Rattle.attr_glob.specs.Views.{base_bytes};
 
-use crate::pattern::{Case, same_text, without_end};
+use crate::pattern::{Case, base_name_offset, same_text, without_end};
 use crate::search;
 pub use crate::search::pattern::index::Index;
 pub use crate::search::pattern::indexed_line::IndexedLine;
@@ -112,9 +112,7 @@ impl<T: search::Pattern> List<T> {
         let rest = rest_below(base, case, path.as_bytes())?;
         Some((BStr::new(rest), offset_after(base.len(), basename_pos)))
     }
-}
 
-impl<T: search::Pattern> List<T> {
     /// A copy. The values are copied by their `Clone`.
     ///
     /// # Errors
@@ -129,8 +127,8 @@ impl<T: search::Pattern> List<T> {
     {
         Ok(List {
             patterns: copies(alloc, &self.patterns)?,
-            source: copy_of_text(alloc, &self.source)?,
-            base: copy_of_bytes(alloc, &self.base)?,
+            source: self.source.clone()?,
+            base: self.base.clone()?,
         })
     }
 }
@@ -146,25 +144,6 @@ fn copies<V: Clone + Drop>(
         copies.push(mapping.clone(alloc)?)?;
     }
     Ok(copies)
-}
-
-fn copy_of_text(alloc: Global, text: &Option<String>) -> Result<Option<String>, AllocError>
-    ensures { IfOk result (λ copy.
-        option_map string_bytes copy ≡ option_map string_bytes text.now) }
-{
-    match text {
-        Some(text) => Ok(Some(String::from_str(alloc, text.as_str())?)),
-        None => Ok(None),
-    }
-}
-
-fn copy_of_bytes(alloc: Global, bytes: &Option<Vec<u8>>) -> Result<Option<Vec<u8>>, AllocError>
-    ensures { IfOk result (λ copy. base_bytes copy ≡ base_bytes bytes.now) }
-{
-    match bytes {
-        Some(bytes) => Ok(Some(Vec::from_slice(alloc, bytes)?)),
-        None => Ok(None),
-    }
 }
 
 /// The base of a list that is read from this source: the directory of the file as it is seen from the root, with a slash after it
@@ -191,14 +170,12 @@ pub fn base_of(
 }
 
 // The bytes before the last slash, and none without one.
+#[tactic(auto, using(crate::proofs::BaseNameOffsets::before_name))]
 fn directory(source: &[u8]) -> &[u8]
     ensures { result.now ≡ directory source.now }
 {
-    let mut end = source.len();
-    while end > 0 && source[end - 1] != b'/' {
-        end -= 1;
-    }
-    &source[..end.saturating_sub(1)]
+    let name_offset = base_name_offset(source).unwrap_or(0);
+    &source[..name_offset.saturating_sub(1)]
 }
 
 fn below_root<'a>(root: &[u8], directory: &'a [u8]) -> Option<&'a [u8]>
@@ -233,15 +210,8 @@ fn rest_below<'a>(base: &[u8], case: Case, path: &'a [u8]) -> Option<&'a [u8]>
     ensures rest { option_copied result ≡ rest_below (Some base.now) case path.now }
     ensures after { IfSome result (λ rest. rest.now ≡ drop (length base.now) path.now) }
 {
-    if path.len() < base.len() {
-        return None;
-    }
-    let (front, rest) = path.split_at(base.len());
-    if same_text(case, base, front) {
-        Some(rest)
-    } else {
-        None
-    }
+    let (front, rest) = path.split_at_checked(base.len())?;
+    same_text(case, base, front).then_some(rest)
 }
 
 // The offset of a base name, counted from the first byte after `taken` bytes. None if the base name begins there or

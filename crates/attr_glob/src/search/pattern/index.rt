@@ -11,8 +11,8 @@ ghost use Rattle.attr_keys.specs.shared.KeyIndexes.{IsKeyIndex};
 ghost use Rattle.attr_keys.specs.shared.LineKeys.{shape_content};
 
 use crate::pattern::{Case, Mode, base_name};
+use crate::search::pattern::List;
 use crate::search::pattern::indexed_line::IndexedLine;
-use crate::search::pattern::{List, copy_of_text};
 use crate::{Pattern, search};
 use attr_keys::key::{Key, Keyed};
 use attr_keys::key_index::KeyIndex;
@@ -59,7 +59,7 @@ impl Index {
             lines.push(line)?;
         }
         let keys = KeyIndex::of(alloc, &lines, &kinds)?;
-        let source = copy_of_text(alloc, &list.source)?;
+        let source = list.source.clone()?;
         Ok(Index {
             lines,
             source,

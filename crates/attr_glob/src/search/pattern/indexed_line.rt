@@ -34,7 +34,10 @@ impl IndexedLine {
             pattern_view line.pattern ≡ pattern_view mapping.now.pattern) }
         ensures number { IfOk result (λ line. line.number ≡ mapping.now.sequence_number) }
     {
-        let tokens = boxed(alloc, mapping.pattern.kept_tokens(alloc)?)?;
+        let tokens = match mapping.pattern.kept_tokens(alloc)? {
+            Some(tokens) => Some(Box::new(alloc, tokens)?),
+            None => None,
+        };
         let pattern = mapping.pattern.clone(alloc)?;
         Ok(IndexedLine {
             pattern,
@@ -47,18 +50,6 @@ impl IndexedLine {
     pub fn tokens(&self) -> Option<&Tokens>
         ensures { option_copied result ≡ kept_tokens (pattern_view self.now.pattern) }
     {
-        match &self.tokens {
-            Some(tokens) => Some(&**tokens),
-            None => None,
-        }
-    }
-}
-
-fn boxed(alloc: Global, tokens: Option<Tokens>) -> Result<Option<Box<Tokens>>, AllocError>
-    ensures { IfOk result (λ kept. unboxed kept ≡ tokens) }
-{
-    match tokens {
-        Some(tokens) => Ok(Some(Box::new(alloc, tokens)?)),
-        None => Ok(None),
+        self.tokens.as_deref()
     }
 }
