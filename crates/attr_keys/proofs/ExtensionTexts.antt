@@ -6,12 +6,10 @@ use Rattle.std.proofs.Math.Seq.{drop-cons}
 use Rattle.std.proofs.lemmas.Grind.{common_steps}
 use Rattle.std.proofs.lemmas.Bool.{eqb-true}
 use Rattle.std.proofs.lemmas.Bool.Decides.{nat_tests}
-use Rattle.std.proofs.lemmas.List.{length_push, reverse-append, reverse-reverse}
+use Rattle.std.proofs.lemmas.List.{length-drop, length_push, reverse-append, reverse-reverse, take_all}
 use Rattle.std.proofs.lemmas.List.Folds.{list_any-append}
 use Rattle.attr_keys.specs.inner.Cases.{in_case}
-use Rattle.attr_keys.specs.inner.Hashes.{hashed_part}
 use Rattle.attr_keys.specs.inner.Extensions.{dot_byte, extension, is_reversed_extension, or_from_dot}
-use Rattle.attr_keys.proofs.Narrowing.{rest_is}
 use Rattle.attr_keys.proofs.RowLemmas.{and_none, by_test}
 
 -- what follows has the extension of the whole
@@ -64,6 +62,9 @@ any_reversed (x ∷ xs) = grind (arith, nat_tests, reversed_snoc, list_any-appen
 pub extension_cons : (b : ℕ) (rest : List ℕ) → eqb b dot_byte && not (any_dot rest) ≡ is_reversed_extension (reverse (b ∷ rest))
 extension_cons b rest = grind (arith, nat_tests, any_reversed, snoc_extension, reversed_snoc)
 
+rest_is : (name : List ℕ) (offset : ℕ) → offset ≤ length name → take (length name - offset) (drop offset name) ≡ drop offset name
+rest_is name offset within = take_all (length name - offset) (drop offset name) (omega (arith, length-drop offset name))
+
 -- the dot before an offset from which on there is none
 pub extension_from_dot_at : (name : List ℕ) (offset : ℕ) → 0 < offset → offset ≤ length name → get_or name (offset - 1) 0 ≡ dot_byte →
     extension (drop offset name) ≡ None → extension name ≡ Some (take (length name - (offset - 1)) (drop (offset - 1) name))
@@ -85,8 +86,7 @@ pub longer_extension : (name text : List ℕ) (offset longest : ℕ) → offset 
     extension (drop offset name) ≡ None → extension name ≡ Some text → longest < length text
 longer_extension name text offset longest le first none is = grind (arith, nat_tests, extension_before name text)
 
--- the part of a text that is hashed, in lower case
-pub part_in_case : (from_end fold : Bool) (text : List ℕ) →
-    hashed_part from_end (in_case fold text) ≡ option_map (in_case fold) (hashed_part from_end text)
-part_in_case true true (b ∷ bs) = grind (arith, nat_tests, part_in_case true true bs)
-part_in_case from_end fold text = grind (arith, nat_tests)
+-- the extension of a text in lower case
+pub extension_in_case : (fold : Bool) (text : List ℕ) → extension (in_case fold text) ≡ option_map (in_case fold) (extension text)
+extension_in_case true (b ∷ bs) = grind (arith, nat_tests, extension_in_case true bs)
+extension_in_case fold text = grind (arith, nat_tests)

@@ -1,134 +1,234 @@
--- Whole keys and extensions, by the hashes of their texts.
-use Rattle.std.proofs.Common.{◌≡◌, ℕ, suc, ◌<◌, ◌≤◌, Bool, true, false, not, ◌&&◌, ◌||◌, List, [], ◌∷◌, ◌++◌, length, get_or, reverse, Option}
-use Rattle.std.proofs.Common.{None, Some, option_map, refl, sym, ap, subst, ◌∙◌, arith, eqb, nat_eq}
-use Rattle.std.specs.Prelude.{All, filter, slice_get, unwrap_or}
-use Rattle.std.specs.List.{starts_with}
-use Rattle.std.specs.List.Sorted.{IsPermutation}
-use Rattle.std.proofs.lemmas.Grind.{common_steps}
-use Rattle.std.proofs.lemmas.List.Sorted.{IsPermutation-map, list_any-IsPermutation}
-use Rattle.std.proofs.lemmas.Bool.{eq-eqb, eqb-true}
-use Rattle.std.proofs.lemmas.List.{map_push}
-use Rattle.std.proofs.lemmas.List.Elements.{All-push}
+-- Rows that are found by the hashes of their keys.
+use Rattle.std.proofs.Common.{◌≡◌, ℕ, zero, suc, ◌<◌, ◌≤◌, ◌⊎◌, inl, inr, Bool, true, false, List, [], ◌∷◌, ◌++◌, length}
+use Rattle.std.proofs.Common.{Some, Option, get_or, refl, sym, ap, subst, ◌∙◌, arith, eqb, ltb, slice_set}
+use Rattle.std.specs.Prelude.{slice_get}
+use Rattle.std.proofs.Math.Bool.{Bool-set}
+use Rattle.std.proofs.Math.ListN.{get_or-append}
+use Rattle.std.proofs.Math.Logic.{∥∥₁_elim, ∥∥₁_map}
+use Rattle.std.proofs.Math.Seq.{get_or-append_seam}
+use Rattle.std.proofs.lemmas.Bool.{eqb-true}
 use Rattle.std.proofs.lemmas.Bool.Decides.{nat_tests}
+use Rattle.std.proofs.lemmas.List.{get_or-set_same, get_or_past, get_or_push, length-set, length_push}
+use Rattle.std.proofs.lemmas.List.Folds.{list_any-append}
+use Rattle.std.proofs.lemmas.Option.{same_Some}
+use Rattle.attr_keys.specs.declared.hashed.HashedRows.{HashedRows}
+use Rattle.attr_keys.specs.declared.key.Key.{Key}
+use Rattle.attr_keys.specs.declared.key.Subject.{Subject}
 use Rattle.attr_keys.specs.shared.KeyContents.{KeyContent}
-use Rattle.attr_keys.specs.declared.hashed.HashedRow.{HashedRow}
-use Rattle.attr_keys.specs.shared.Codes.{codes_of, key_codes, row_codes}
-use Rattle.attr_keys.specs.inner.Extensions.{is_hashed, is_reversed_extension}
-use Rattle.attr_keys.specs.shared.Meeting.{directed}
-use Rattle.attr_keys.specs.inner.Hashes.{AreAmong, AreNoLonger, IsHashOfKey, IsLonger, hash_of_row, hashed_part, hashed_rows, key_text, quick_hash}
-use Rattle.attr_keys.specs.inner.Hashes.{rows_of_hash, text_of_row}
+use Rattle.attr_keys.specs.inner.Cases.{content_in_case, in_case, natural}
+use Rattle.attr_keys.specs.inner.Hashes.{IsBucketOf, IsHashed, IsHashedAt, IsSame, IsSameAs, bucket_of, head_of, longest_of, quick_hash}
+use Rattle.attr_keys.specs.inner.Links.{AreBounded, IsLed, here, on}
+use Rattle.attr_keys.specs.inner.MetRows.{AppendsMet}
+use Rattle.attr_keys.specs.shared.Meeting.{is_end, key_content}
 use Rattle.attr_keys.specs.shared.Rows.{has_row}
-use Rattle.attr_keys.proofs.Cuts.{begin_below}
-use Rattle.attr_keys.proofs.ExtensionTexts.{extension_of_begun, part_in_case}
-use Rattle.attr_keys.proofs.RowLemmas.{and_none, by_test}
-use Rattle.attr_keys.proofs.SeenTexts.{directed_in_case, length-in_case}
-use Rattle.attr_keys.specs.inner.Cases.{in_case}
+use Rattle.attr_keys.proofs.RowLemmas.{by_test}
+use Rattle.attr_keys.proofs.SeenTexts.{directed_in_case, directed_twice}
 
--- a text that has a whole key is the key
-whole_same : (text key : List ℕ) → starts_with nat_eq (codes_of false text true) (codes_of false key true) ≡ true → key ≡ text
-whole_same [] [] h = refl
-whole_same (b ∷ bs) [] h = grind (arith, nat_tests)
-whole_same [] (k ∷ ks) h = grind (arith, nat_tests)
-whole_same (b ∷ bs) (k ∷ ks) h = grind (arith, nat_tests, eqb-true, whole_same bs ks)
+-- no link leads on from none
+led_nowhere : {G : Type 0} {links : List ℕ} {end row : ℕ} → IsLed links end row → end ≡ 0 → G
+led_nowhere here none = absurd (omega (arith, none))
+led_nowhere (on led) none = absurd (omega (arith, none))
 
--- a text that has a key has the key's text where it is hashed
-part_found : (from_end : Bool) (keys : List KeyContent) (h : HashedRow) (key : Option KeyContent) → slice_get keys h.row ≡ key →
-    is_hashed from_end key ≡ true → (text : List ℕ) →
-    starts_with nat_eq (codes_of false (directed from_end text) true) (row_codes keys h.row) ≡ true →
-    hashed_part from_end text ≡ Some (key_text from_end key)
-part_found from_end keys h None at is text has = let no : false ≡ true = is in absurd cc
-part_found false keys h (Some key) at is text has =
-    let same : row_codes keys h.row ≡ codes_of false key.text true = ap key_codes at ∙ ap (codes_of false key.text) is in
-    let whole = whole_same text key.text (sym (ap (starts_with nat_eq (codes_of false text true)) same) ∙ has) in
-    ap Some (sym whole)
-part_found true keys h (Some key) at is text has =
-    let parts = both key.is_whole (is_reversed_extension key.text) is in
-    let same : row_codes keys h.row ≡ codes_of false key.text false = ap key_codes at ∙ ap (codes_of false key.text) parts.0 in
-    let begins = begin_below (reverse text) key.text true false (sym (ap (starts_with nat_eq (codes_of false (reverse text) true)) same) ∙ has) in
-    grind (arith, nat_tests, extension_of_begun)
+-- a row that a link leads to is before it, or the next link leads to it
+led_on : {G : Type 0} {links : List ℕ} {end row : ℕ} → IsLed links end row → (next : ℕ) → end ≡ suc next → (next ≡ row → G) →
+    (IsLed links (get_or links next 0) row → G) → G
+led_on here next is f g = f (omega (arith, is))
+led_on {links = links} {row = row} (on {next = m} led) next is f g =
+    let same : m ≡ next = omega (arith, is) in
+    g (subst (λ n. IsLed links (get_or links n 0) row) same led)
+
+-- one more link leads nowhere else
+led_more : {links : List ℕ} {link row : ℕ} → IsLed links link row → (more : ℕ) → ((k : ℕ) → get_or links k 0 ≤ k) → link ≤ length links →
+    IsLed (links ++ more ∷ []) link row
+led_more here more bounds within = here
+led_more {links = links} {row = row} (on {next = next} led) more bounds within =
+    on (subst (λ l. IsLed (links ++ more ∷ []) l row) (sym (get_or-append links (more ∷ []) 0 next (omega (arith, within))))
+    (led_more led more bounds (omega (arith, bounds next, within))))
+
+-- one more row, by which the others are found as before
+pub hashed_more : (fold : Bool) (key : KeyContent) (hashed hashed' : HashedRows) (link row : ℕ) →
+    AreBounded hashed.heads.items hashed.links.items → hashed'.links.items ≡ hashed.links.items ++ link ∷ [] →
+    ((hash : ℕ) → (head_of hashed' hash ≡ head_of hashed hash)
+    ⊎ ((head_of hashed' hash ≡ suc (length hashed.links.items)) × (link ≡ head_of hashed hash))) →
+    ((subject : Subject) → longest_of subject hashed ≤ longest_of subject hashed') →
+    IsHashed fold key hashed row → IsHashed fold key hashed' row
+hashed_more fold key hashed hashed' link row bounds links heads longer is =
+    let hash = quick_hash (in_case fold (natural key)) in
+    record {
+      kind = is.kind;
+      led = ∥∥₁_map is.led (λ led. subst (λ ls. IsLed ls (head_of hashed' hash) row) (sym links) (lead hash
+          (led_more led link bounds.earlier (bounds.within (bucket_of (length hashed.heads.items) hash))) (heads hash)));
+      short = omega (arith, is.short, longer key.subject);
+    }
   where
-    both : (w e : Bool) → not w && e ≡ true → (w ≡ false) × (e ≡ true)
-    both w e h = grind arith
+    lead : (hash : ℕ) → IsLed (hashed.links.items ++ link ∷ []) (head_of hashed hash) row →
+        (head_of hashed' hash ≡ head_of hashed hash) ⊎ ((head_of hashed' hash ≡ suc (length hashed.links.items)) × (link ≡ head_of hashed hash)) →
+        IsLed (hashed.links.items ++ link ∷ []) (head_of hashed' hash) row
+    lead hash led (inl same) = subst (λ h. IsLed (hashed.links.items ++ link ∷ []) h row) (sym same) led
+    lead hash led (inr other) =
+        subst (λ h. IsLed (hashed.links.items ++ link ∷ []) h row) (sym other.0)
+        (on (subst (λ l. IsLed (hashed.links.items ++ link ∷ []) l row)
+        (sym (get_or-append_seam hashed.links.items link [] 0 ∙ other.1)) led))
 
-has_own : (hashed : List HashedRow) (k : ℕ) (d : HashedRow) → k < length hashed → has_row (hashed_rows hashed) (get_or hashed k d).row ≡ true
-has_own (h ∷ hs) (suc k) d lt = grind (arith, nat_tests, has_own hs k d)
-has_own hashed k d lt = grind (arith, nat_tests, eq-eqb)
+-- the heads after one is set
+pub head_set : (heads : List ℕ) (bucket head i : ℕ) → bucket < length heads →
+    (get_or (slice_set heads bucket head) i 0 ≡ get_or heads i 0)
+    ⊎ ((get_or (slice_set heads bucket head) i 0 ≡ head) × (get_or heads bucket 0 ≡ get_or heads i 0))
+head_set (h ∷ hs) zero head zero lt = inr (refl, refl)
+head_set (h ∷ hs) zero head (suc i) lt = inl refl
+head_set (h ∷ hs) (suc b) head zero lt = inl refl
+head_set (h ∷ hs) (suc b) head (suc i) lt = head_set hs b head i (omega (arith, lt))
+head_set [] bucket head i lt = absurd (omega (arith, lt))
 
--- the hashes of keys that are found by them
-pub all_find : (from_end : Bool) (keys : List KeyContent) (rows : List ℕ) (hashed : List HashedRow) → hashed_rows hashed ≡ rows →
-    ((row : ℕ) → has_row rows row ≡ true → is_hashed from_end (slice_get keys row) ≡ true) →
-    All (λ (h : HashedRow). h.hash ≡ hash_of_row from_end keys h.row) hashed → All (IsHashOfKey from_end keys) hashed
-all_find from_end keys rows hashed are kinds hashes k d lt = grind (arith, nat_tests, has_own, part_found)
+-- the bounds hold with one more row, in its bucket
+pub bounded_more : (heads links heads' links' : List ℕ) (bucket link head : ℕ) → bucket < length heads → link ≡ get_or heads bucket 0 →
+    head ≡ suc (length links) → heads' ≡ slice_set heads bucket head → links' ≡ links ++ link ∷ [] → AreBounded heads links → AreBounded heads' links'
+bounded_more heads links heads' links' bucket link head inside is new set more bounds = record {
+  within = λ b. le_of b (head_set heads bucket head b inside);
+  earlier = λ row. last_link row;
+}
+  where
+    le_of : (b : ℕ) → (get_or (slice_set heads bucket head) b 0 ≡ get_or heads b 0)
+        ⊎ ((get_or (slice_set heads bucket head) b 0 ≡ head) × (get_or heads bucket 0 ≡ get_or heads b 0)) → get_or heads' b 0 ≤ length links'
+    le_of b (inl same) = grind (arith, nat_tests, length_push, bounds.within b)
+    le_of b (inr own) = grind (arith, nat_tests, length_push, own.0)
 
--- rows of a number are kept
-kept_rows : (row : ℕ) (test : HashedRow → Bool) (rows : List HashedRow) → ((k : ℕ) (d : HashedRow) → k < length rows →
-    eqb (get_or rows k d).row row ≡ true → test (get_or rows k d) ≡ true) →
-    has_row (hashed_rows (filter test rows)) row ≡ has_row (hashed_rows rows) row
-kept_rows row test [] kept = refl
-kept_rows row test (h ∷ hs) kept =
-    let rest = kept_rows row test hs (λ k d lt. kept (suc k) d (omega arith)) in
-    by_test (test h)
-    (λ t. rw t (ap (λ b. eqb h.row row || b) rest))
-    (λ f. by_test (eqb h.row row)
-    (λ e. let no : false ≡ true = sym f ∙ kept 0 h (omega arith) e in absurd cc)
-    (λ e. rw (f, e) rest))
+    last_link : (row : ℕ) → get_or links' row 0 ≤ row
+    last_link row =
+        by_test (ltb row (length links))
+        (λ t. let lt : row < length links = grind (arith, nat_tests) in
+        omega (arith, ap (λ l. get_or l row 0) more, get_or-append links (link ∷ []) 0 row lt, bounds.earlier row))
+        (λ f. by_test (eqb row (length links))
+        (λ t. let same : row ≡ length links = eqb-true row (length links) t in
+        omega (arith, ap (λ l. get_or l row 0) more, get_or_push links link 0 row (sym same), same, is, bounds.within bucket))
+        (λ g. let past : length (links ++ link ∷ []) ≤ row = grind (arith, nat_tests, length_push) in
+        omega (arith, ap (λ l. get_or l row 0) more, get_or_past (links ++ link ∷ []) row 0 past)))
 
--- the rows of a hash are all of that hash
-pub of_hash_again : (hash : ℕ) (rows : List HashedRow) → rows_of_hash hash (rows_of_hash hash rows) ≡ rows_of_hash hash rows
-of_hash_again hash [] = refl
-of_hash_again hash (h ∷ hs) = grind (arith, nat_tests, of_hash_again hash hs)
+-- what a hash leads to if there is one more row
+pub heads_more : (hashed hashed' : HashedRows) (bucket link head : ℕ) → bucket < length hashed.heads.items →
+    link ≡ get_or hashed.heads.items bucket 0 → head ≡ suc (length hashed.links.items) →
+    hashed'.heads.items ≡ slice_set hashed.heads.items bucket head → (hash : ℕ) →
+    (head_of hashed' hash ≡ head_of hashed hash)
+    ⊎ ((head_of hashed' hash ≡ suc (length hashed.links.items)) × (link ≡ head_of hashed hash))
+heads_more hashed hashed' bucket link head inside is new set hash =
+    told (head_set hashed.heads.items bucket head (bucket_of (length hashed.heads.items) hash) inside)
+  where
+    at : head_of hashed' hash ≡ get_or (slice_set hashed.heads.items bucket head) (bucket_of (length hashed.heads.items) hash) 0
+    at = grind (arith, nat_tests, length-set)
 
--- no key of another hash is had
-pub alike_rows : (has : ℕ → Bool) (row : ℕ) (rows alike : List HashedRow) (hash : ℕ) →
-    All (λ h. has h.row ≡ true → h.hash ≡ hash) rows → rows_of_hash hash alike ≡ rows_of_hash hash rows →
-    has_row (hashed_rows (rows_of_hash hash alike)) row && has row ≡ has_row (hashed_rows rows) row && has row
-alike_rows has row rows alike hash hashes same = grind (arith, nat_tests, kept_rows, eq-eqb, eqb-true, and_none)
+    told : (get_or (slice_set hashed.heads.items bucket head) (bucket_of (length hashed.heads.items) hash) 0 ≡ head_of hashed hash)
+        ⊎ ((get_or (slice_set hashed.heads.items bucket head) (bucket_of (length hashed.heads.items) hash) 0 ≡ head)
+        × (get_or hashed.heads.items bucket 0 ≡ head_of hashed hash)) →
+        (head_of hashed' hash ≡ head_of hashed hash)
+        ⊎ ((head_of hashed' hash ≡ suc (length hashed.links.items)) × (link ≡ head_of hashed hash))
+    told (inl same) = inl (at ∙ same)
+    told (inr own) = inr (at ∙ (own.0 ∙ new), is ∙ own.1)
 
--- no key is had at all
-pub no_row : (has : ℕ → Bool) (row : ℕ) (rows : List HashedRow) → All (λ h. has h.row ≡ true → ⊥) rows →
-    has_row (hashed_rows rows) row && has row ≡ false
-no_row has row [] none = refl
-no_row has row (h ∷ hs) none =
-    by_test (has row)
-    (λ t. by_test (eqb h.row row)
-    (λ e. absurd (none 0 h (omega arith) (ap has (eqb-true h.row row e) ∙ t)))
-    (λ e. rw e (no_row has row hs (λ k d lt. none (suc k) d (omega arith)))))
-    (λ f. rw f (and_none (eqb h.row row || has_row (hashed_rows hs) row)))
+-- a row that is put into its bucket is found there
+pub hashed_put : (fold : Bool) (key : KeyContent) (hashed hashed' : HashedRows) (bucket head : ℕ) → IsBucketOf fold key hashed bucket →
+    head ≡ suc (length hashed.links.items) → hashed'.heads.items ≡ slice_set hashed.heads.items bucket head →
+    length key.text ≤ longest_of key.subject hashed' → IsHashed fold key hashed' (length hashed.links.items)
+hashed_put fold key hashed hashed' bucket head of new set short = record {
+  kind = of.kind;
+  led = ∣ subst (λ h. IsLed hashed'.links.items h (length hashed.links.items)) (sym at) here ∣₁;
+  short = short;
+}
+  where
+    at : head_of hashed' (quick_hash (in_case fold (natural key))) ≡ suc (length hashed.links.items)
+    at = grind (arith, nat_tests, length-set, get_or-set_same, of.within, of.is)
 
-pub rows_push : (hashed : List HashedRow) (h : HashedRow) → hashed_rows (hashed ++ h ∷ []) ≡ hashed_rows hashed ++ h.row ∷ []
-rows_push hashed h = map_push (λ (r : HashedRow). r.row) hashed h
+-- rows that have a key are sought by links: what was appended, up to the row that a link leads to
+pub record Follows (Met : ℕ → Type 0) (links : List ℕ) (head end : ℕ) (old new : List ℕ) : Type 0 where
+  pub kept : (row : ℕ) → has_row old row ≡ true → has_row new row ≡ true
+  pub sound : (row : ℕ) → has_row new row ≡ true → (has_row old row ≡ true) ⊎ Met row
+  pub all : (row : ℕ) → IsLed links head row → Met row → (has_row new row ≡ true) ⊎ IsLed links end row
+  pub within : end ≤ length links
 
--- the hash of a key is that of the part of a text that has the key
-pub hash_of_part : (part : Option (List ℕ)) (text key : List ℕ) (hash : ℕ) → part ≡ Some text → part ≡ Some key → hash ≡ quick_hash key →
-    hash ≡ quick_hash text
-hash_of_part part text key hash is found hashed = hashed ∙ ap (λ o. quick_hash (unwrap_or o key)) (sym found ∙ is)
+pub follows_head : (Met : ℕ → Type 0) (links : List ℕ) (head : ℕ) (old : List ℕ) → head ≤ length links → Follows Met links head head old old
+follows_head Met links head old within = record {
+  kept = λ row has. has;
+  sound = λ row has. inl has;
+  all = λ row led met. inr led;
+  within = within;
+}
 
-pub no_part : (part : Option (List ℕ)) (key : List ℕ) (longest : ℕ) → IsLonger longest part → length key ≤ longest → part ≡ Some key → ⊥
-no_part part key longest longer short found = omega (arith, longer key found, short)
+pub follows_other : (Met : ℕ → Type 0) (links : List ℕ) (head end next : ℕ) (old new : List ℕ) → end ≡ suc next →
+    get_or links next 0 ≤ next → (Met next → ⊥) → Follows Met links head end old new → Follows Met links head (get_or links next 0) old new
+follows_other Met links head end next old new is earlier lacks before = record {
+  kept = before.kept;
+  sound = before.sound;
+  all = λ row led met. step row met (before.all row led met);
+  within = omega (arith, before.within, is, earlier);
+}
+  where
+    step : (row : ℕ) → Met row → (has_row new row ≡ true) ⊎ IsLed links end row → (has_row new row ≡ true) ⊎ IsLed links (get_or links next 0) row
+    step row met (inl has) = inl has
+    step row met (inr led) = led_on led next is (λ e. absurd (lacks (subst Met (sym e) met))) (λ l. inr l)
 
--- what is hashed of a text that has a key, as both are read
-pub found_in_case : (fold from_end : Bool) (text : List ℕ) (keys : List KeyContent) (h : HashedRow) → IsHashOfKey from_end keys h →
-    starts_with nat_eq (codes_of false (in_case fold (directed from_end text)) true) (row_codes keys h.row) ≡ true →
-    option_map (in_case fold) (hashed_part from_end text) ≡ Some (text_of_row from_end keys h.row)
-found_in_case fold from_end text keys h is has =
-    grind (arith, nat_tests, part_in_case from_end fold text, directed_in_case from_end fold text, nat_eq)
+pub follows_same : (Met : ℕ → Type 0) (links : List ℕ) (head end next : ℕ) (old new new' : List ℕ) → end ≡ suc next →
+    get_or links next 0 ≤ next → Met next → new' ≡ new ++ next ∷ [] → Follows Met links head end old new →
+    Follows Met links head (get_or links next 0) old new'
+follows_same Met links head end next old new new' is earlier own more before = record {
+  kept = λ row has. among row (before.kept row has);
+  sound = λ row has. by_test (has_row new row) (λ t. before.sound row t) (λ f. inr (subst Met (last row has f) own));
+  all = λ row led met. step row (before.all row led met);
+  within = omega (arith, before.within, is, earlier);
+}
+  where
+    among : (row : ℕ) → has_row new row ≡ true → has_row new' row ≡ true
+    among row has = grind (arith, nat_tests, list_any-append)
 
-pub longer_in_case : (fold : Bool) (longest : ℕ) (part : Option (List ℕ)) → IsLonger longest part → IsLonger longest (option_map (in_case fold) part)
-longer_in_case fold longest part longer text is = grind (arith, nat_tests, length-in_case)
+    last : (row : ℕ) → has_row new' row ≡ true → has_row new row ≡ false → next ≡ row
+    last row has f = grind (arith, nat_tests, list_any-append, eqb-true)
 
--- those of some keys of another order, and of some of them
-pub no_longer_push : (from_end : Bool) (keys : List KeyContent) (most more : ℕ) (rows : List HashedRow) (row : HashedRow) →
-    AreNoLonger from_end keys most rows → most ≤ more → length (text_of_row from_end keys row.row) ≤ more →
-    AreNoLonger from_end keys more (rows ++ row ∷ [])
-no_longer_push from_end keys most more rows row short le last = grind (arith, common_steps, All-push)
+    own_row : (row : ℕ) → next ≡ row → has_row new' row ≡ true
+    own_row row e = grind (arith, nat_tests, list_any-append)
 
--- in another order there are the same numbers
-pub rows_moved : (rows moved : List HashedRow) → IsPermutation rows moved → (row : ℕ) →
-    has_row (hashed_rows moved) row ≡ has_row (hashed_rows rows) row
-rows_moved rows moved p row = grind (arith, nat_tests, list_any-IsPermutation, IsPermutation-map)
+    step : (row : ℕ) → (has_row new row ≡ true) ⊎ IsLed links end row → (has_row new' row ≡ true) ⊎ IsLed links (get_or links next 0) row
+    step row (inl has) = inl (among row has)
+    step row (inr led) = led_on led next is (λ e. inl (own_row row e)) (λ l. inr l)
 
--- what is true of each row is true of some
-pub all_among : (P : HashedRow → Type 0) (some all : List HashedRow) → AreAmong some all → All P all → All P some
-all_among P some all among holds k d lt =
-    let one = among k d lt in
-    subst P (sym one.2) (holds one.0 d one.1)
+pub followed : (Met Sought : ℕ → Type 0) (links : List ℕ) (head end : ℕ) (old new : List ℕ) → end ≡ 0 → Follows Met links head end old new →
+    ((row : ℕ) → Sought row → Met row → ∥ IsLed links head row ∥₁) → AppendsMet Met Sought old new
+followed Met Sought links head end old new none before led = record {
+  kept = before.kept;
+  sound = before.sound;
+  all = λ row sought met. ∥∥₁_elim (led row sought met) (Bool-set (has_row new row) true) (λ way. step row (before.all row way met));
+}
+  where
+    step : (row : ℕ) → (has_row new row ≡ true) ⊎ IsLed links end row → has_row new row ≡ true
+    step row (inl has) = has
+    step row (inr led) = led_nowhere led none
+
+-- a key as it stands in its line
+natural_in_case : (fold : Bool) (key : KeyContent) → natural (content_in_case fold key) ≡ in_case fold (natural key)
+natural_in_case fold key = directed_in_case (is_end key.subject) fold key.text
+
+pub natural_key : (key : Key) → natural (key_content key) ≡ key.text.now
+natural_key key = directed_twice (is_end key.subject) key.text.now
+
+-- the links of a bucket lead to a row with the same key
+pub led_to_same : (fold : Bool) (key : Key) (keys : List KeyContent) (hashed : HashedRows) (head row : ℕ) →
+    head ≡ head_of hashed (quick_hash (in_case fold key.text.now)) → IsHashedAt fold keys hashed row → IsSameAs fold (Some key) keys row →
+    ∥ IsLed hashed.links.items head row ∥₁
+led_to_same fold key keys hashed head row at is same =
+    let own : is.0 ≡ same.0 = same_key (sym is.1 ∙ same.1) in
+    let text : in_case fold (natural is.0) ≡ in_case fold key.text.now =
+    sym (natural_in_case fold is.0) ∙ (ap (λ k. natural (content_in_case fold k)) own
+    ∙ (ap natural same.2 ∙ (natural_in_case fold (key_content key) ∙ ap (in_case fold) (natural_key key)))) in
+    ∥∥₁_map is.2.led (subst (λ h. IsLed hashed.links.items h row) (ap (λ t. head_of hashed (quick_hash t)) text ∙ sym at))
+  where
+    same_key : {k l : KeyContent} → Some k ≡ Some l → k ≡ l
+    same_key e = grind (arith, same_Some)
+
+-- the line has the same key
+pub same_at : (fold : Bool) (sought : Option Key) (key : Key) (keys : List KeyContent) (row : ℕ) (own : KeyContent) → sought ≡ Some key →
+    slice_get keys row ≡ Some own → content_in_case fold own ≡ content_in_case fold (key_content key) → IsSameAs fold sought keys row
+same_at fold sought key keys row own is at same = (own, at, subst (λ s. IsSame fold s own) (sym is) same)
+
+pub other_at : (fold : Bool) (sought : Option Key) (key : Key) (keys : List KeyContent) (row : ℕ) (own : KeyContent) → sought ≡ Some key →
+    slice_get keys row ≡ Some own → (content_in_case fold own ≡ content_in_case fold (key_content key) → ⊥) → IsSameAs fold sought keys row → ⊥
+other_at fold sought key keys row own is at other same =
+    let alike : content_in_case fold same.0 ≡ content_in_case fold (key_content key) = subst (λ s. IsSame fold s same.0) is same.2 in
+    let own_key : own ≡ same.0 = grind (arith, same_Some, at, same.1) in
+    other (ap (content_in_case fold) own_key ∙ alike)

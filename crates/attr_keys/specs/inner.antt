@@ -3,5 +3,6 @@ pub mod Cases
 pub mod Extensions
 pub mod Hashes
 pub mod Kinds
+pub mod Links
 pub mod Orders
 pub mod MetRows

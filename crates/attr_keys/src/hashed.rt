@@ -1,47 +1,328 @@
-//! Numbers of keys, found by hashes.
+//! Rows, which are indexes of lines, by the hashes of their keys: of whole keys, and of extensions.
 
-ghost use Rattle.std.specs.Prelude.{◌≡◌, ◌==◌, ◌-◌, ◌/◌, ◌<◌, ◌≤◌, [], IfOk, OnOk, drop, length, take};
-ghost use Rattle.std.specs.List.{AllWithin};
-ghost use Rattle.std.specs.List.Sorted.{IsNonDecreasingBy, IsPermutation};
-ghost use Rattle.attr_keys.specs.inner.Hashes.{AreInBuckets, AreStarts, IsBucketStart, eights_hash, mixed, packed, quick_hash, rows_of_hash};
+ghost use Rattle.std.specs.Prelude.{◌≡◌, ◌<◌, ◌≤◌, ◌+◌, [], ℕ, List, IfOk, IfSome, None, OnOk, Some, length, map, reverse, true};
+ghost use Rattle.std.specs.Bool.{OnFalse};
+ghost use Rattle.attr_keys.specs.inner.Cases.{in_case};
+ghost use Rattle.attr_keys.specs.inner.Extensions.{extension, is_hashed, is_reversed_extension};
+ghost use Rattle.attr_keys.specs.inner.Hashes.{IsBucketOf, IsHashed, IsHashedAt, IsLonger, IsSameAs, IsSoughtOf, bucket_of, eights_hash, head_of, longest_of, mixed, packed, quick_hash};
+ghost use Rattle.attr_keys.specs.inner.Links.{AreBounded};
+ghost use Rattle.attr_keys.specs.inner.MetRows.{AppendsMet, IsMet};
+ghost use Rattle.attr_keys.specs.declared.key.Subject.{Subject};
+ghost use Rattle.attr_keys.specs.declared.key.Subject.TheVariants.{Name, End, Path};
+ghost use Rattle.attr_keys.specs.shared.KeyContents.{KeyContent};
+ghost use Rattle.attr_keys.specs.shared.Meeting.{key_content};
 
+use crate::key::{Key, Keyed, Keys, Subject, Texts, is_same_key};
 use std::alloc::{AllocError, Global};
-use std::marker::Model;
 
-// So few rows, of all or of a bucket, are compared one by one.
-const FEW: usize = 8;
+// So many rows may share a bucket. The others of it are not found by their hashes.
+const MOST: usize = 16;
 
-/// The number of a key, and a hash.
-#[derive(Clone, Copy, Debug)]
-pub struct HashedRow {
-    /// The hash of the key.
-    pub hash: u64,
-    /// The number of the key.
-    pub row: usize,
-}
+// How many hashes there are.
+const HASHES: u128 = 1 << 64;
 
-/// Numbers of keys, which are found by their hashes in a time that does not depend on how many there are.
+/// Rows in about as many buckets, by the hashes of their keys. Each is pushed, also those that are not found here.
 #[derive(Debug, Drop)]
 pub struct HashedRows {
-    // In the order of the hashes, if they are not few.
-    rows: Vec<HashedRow>,
-    // How many hashes a bucket has: that of a hash is its quotient.
-    width: u64,
-    // The index in `rows` where each bucket starts, and after the last bucket the number of rows. Nothing of few rows.
-    starts: Vec<usize>,
+    /// For each bucket the number of rows up to the last one that is in it, and 0 of an empty one.
+    pub heads: Vec<usize>,
+    /// For each row the number of rows up to the last one before it that is in its bucket, and 0 if there is none.
+    pub links: Vec<usize>,
+    /// The bytes of the longest base name that is a key: of a longer one no hash is made.
+    pub longest_name: usize,
+    /// The same of extensions.
+    pub longest_extension: usize,
+    /// The same of paths.
+    pub longest_path: usize,
 }
 
-impl Model for HashedRows {
-    ghost use Rattle.std.specs.Prelude.{List};
-    ghost use Rattle.attr_keys.specs.declared.hashed.HashedRow.{HashedRow};
+impl HashedRows {
+    /// No rows yet, and as many buckets as there will be rows.
+    ///
+    /// # Errors
+    ///
+    /// If memory runs out.
+    pub fn new(alloc: Global, count: usize) -> Result<HashedRows, AllocError>
+        ensures empty { IfOk result (λ hashed. hashed.links.items ≡ []) }
+        ensures bounded { IfOk result (λ hashed.
+            AreBounded hashed.heads.items hashed.links.items) }
+    {
+        let mut heads = Vec::new(alloc);
+        heads.resize(count, 0)?;
+        Ok(HashedRows {
+            heads,
+            links: Vec::with_capacity(alloc, count)?,
+            longest_name: 0,
+            longest_extension: 0,
+            longest_path: 0,
+        })
+    }
 
-    ghost Value = { List HashedRow };
+    /// Adds the next row, with this key, and returns whether it is found by its hash. Prefixes and suffixes are not, and neither is a
+    /// row whose bucket is full. `buffer` is one for the key in lower case, as it is taken if `fold` is set.
+    ///
+    /// # Errors
+    ///
+    /// If memory runs out. The rows are as they were then.
+    pub fn push(
+        &mut self,
+        key: Key<'_>,
+        fold: bool,
+        buffer: &mut Vec<u8>,
+    ) -> Result<bool, AllocError>
+        ensures counted { OnOk result
+            (length self.new.links.items ≡ length self.old.links.items + 1) }
+        ensures bounded { OnOk result (AreBounded self.old.heads.items self.old.links.items →
+            AreBounded self.new.heads.items self.new.links.items) }
+        ensures kept { OnOk result (AreBounded self.old.heads.items self.old.links.items →
+            (other : KeyContent) (row : ℕ) → IsHashed fold other self.old row →
+            IsHashed fold other self.new row) }
+        ensures put { IfOk result (λ put. put ≡ true → IsHashed fold
+            (key_content key.entry) self.new (length self.old.links.items)) }
+    {
+        let Some(bucket) = self.free_bucket(key, fold, buffer)? else {
+            self.links.push(0)?;
+            return Ok(false);
+        };
+        self.links.push(self.heads[bucket])?;
+        self.heads[bucket] = self.links.len();
+        self.note_length(key);
+        Ok(true)
+    }
 
-    ghost use Rattle.attr_keys.specs.inner.Hashes.{AreBuckets, hashed_view};
+    // The bucket of a key that is found by its hash, if it isn't full.
+    fn free_bucket(
+        &self,
+        key: Key<'_>,
+        fold: bool,
+        buffer: &mut Vec<u8>,
+    ) -> Result<Option<usize>, AllocError>
+        ensures { IfOk result (λ free. IfSome free (λ bucket. IsBucketOf fold
+            (key_content key.entry) self.now bucket)) }
+    {
+        if !is_hashed(key) {
+            return Ok(None);
+        }
+        let bucket = self.bucket(hash_in_case(fold, key.text, buffer)?);
+        Ok(if self.is_full(bucket) {
+            None
+        } else {
+            Some(bucket)
+        })
+    }
 
-    ghost view = { hashed_view };
+    // Notes the length of a key, if it is the longest of its subject.
+    fn note_length(&mut self, key: Key<'_>)
+        ensures heads { self.new.heads ≡ self.old.heads }
+        ensures links { self.new.links ≡ self.old.links }
+        ensures longer { (subject : Subject) →
+            longest_of subject self.old ≤ longest_of subject self.new }
+        ensures noted { length key.entry.text.now ≤ longest_of key.entry.subject self.new }
+    {
+        let len = key.text.len();
+        match key.subject {
+            Subject::Name => self.longest_name = self.longest_name.max(len),
+            Subject::End => self.longest_extension = self.longest_extension.max(len),
+            _ => self.longest_path = self.longest_path.max(len),
+        }
+    }
 
-    ghost invariant = { AreBuckets };
+    // The bucket of a hash.
+    #[inline(always)]
+    fn bucket(&self, hash: u64) -> usize
+        ensures { result ≡ bucket_of (length self.now.heads.items) hash }
+    {
+        (u128::from(hash) * self.heads.len() as u128 / HASHES) as usize
+    }
+
+    // Whether a bucket has as many rows as it may.
+    fn is_full(&self, bucket: usize) -> bool
+        ensures { OnFalse result (bucket < length self.now.heads.items) }
+    {
+        let Some(head) = self.heads.get(bucket) else {
+            return true;
+        };
+        let mut end = *head;
+        for _ in 0..MOST {
+            if end == 0 {
+                return false;
+            }
+            end = self.links.get(end - 1).copied().unwrap_or(0);
+        }
+        true
+    }
+
+    /// Appends rows whose keys the texts have: among them all of those that are found by their hashes. `buffer` is one for what is
+    /// hashed, in lower case.
+    ///
+    /// # Errors
+    ///
+    /// If memory runs out. Some of the rows may have been appended then.
+    #[inline(always)]
+    pub fn append<K: Keyed>(
+        &self,
+        keys: Keys<'_, K>,
+        texts: Texts<'_>,
+        buffer: &mut Vec<u8>,
+        found: &mut Vec<usize>,
+    ) -> Result<(), AllocError>
+        requires counted { length self.now.links.items ≡ length keys.lines.now }
+        requires bounded { AreBounded self.now.heads.items self.now.links.items }
+        requires fold { keys.view.fold ≡ texts.fold }
+        ensures { OnOk result (AppendsMet
+            (IsMet texts.entry (map K.content keys.entry.lines.now))
+            (IsHashedAt texts.entry.fold (map K.content keys.entry.lines.now) self.now)
+            found.old.items found.new.items) }
+    {
+        self.append_same(keys, self.name_of(texts), buffer, found)?;
+        self.append_same(keys, self.extension_of(texts), buffer, found)?;
+        self.append_same(keys, self.path_of(texts), buffer, found)
+    }
+
+    // The base name as a key. None if it is longer than each that is a key.
+    #[inline(always)]
+    fn name_of<'a>(&self, texts: Texts<'a>) -> Option<Key<'a>>
+        ensures { IsSoughtOf Name texts.entry self.now result }
+    {
+        if texts.name.len() > self.longest_name {
+            return None;
+        }
+        Some(Key {
+            subject: Subject::Name,
+            text: texts.name,
+            is_whole: true,
+        })
+    }
+
+    // The extension of the base name as a key. None if there is none, or if it is longer than each that is a key.
+    #[inline(always)]
+    fn extension_of<'a>(&self, texts: Texts<'a>) -> Option<Key<'a>>
+        ensures { IsSoughtOf End texts.entry self.now result }
+    {
+        let Some(text) = extension(texts.name, self.longest_extension) else {
+            return None;
+        };
+        Some(Key {
+            subject: Subject::End,
+            text,
+            is_whole: false,
+        })
+    }
+
+    // The path as a key. None if it is longer than each that is a key.
+    #[inline(always)]
+    fn path_of<'a>(&self, texts: Texts<'a>) -> Option<Key<'a>>
+        ensures { IsSoughtOf Path texts.entry self.now result }
+    {
+        if texts.path.len() > self.longest_path {
+            return None;
+        }
+        Some(Key {
+            subject: Subject::Path,
+            text: texts.path,
+            is_whole: true,
+        })
+    }
+
+    // Appends rows that have this key, the last first: among them all of those that are found by their hashes.
+    #[inline(always)]
+    fn append_same<K: Keyed>(
+        &self,
+        keys: Keys<'_, K>,
+        sought: Option<Key<'_>>,
+        buffer: &mut Vec<u8>,
+        found: &mut Vec<usize>,
+    ) -> Result<(), AllocError>
+        requires counted { length self.now.links.items ≡ length keys.lines.now }
+        requires bounded { AreBounded self.now.heads.items self.now.links.items }
+        ensures { OnOk result (AppendsMet
+            (IsSameAs keys.entry.view.fold sought.entry (map K.content keys.entry.lines.now))
+            (IsHashedAt keys.entry.view.fold (map K.content keys.entry.lines.now) self.now)
+            found.old.items found.new.items) }
+    {
+        let Some(key) = sought else {
+            return Ok(());
+        };
+        let fold = keys.view.fold;
+        let mut end = self.head(hash_in_case(fold, key.text, buffer)?);
+        while end > 0 {
+            let row = end - 1;
+            if is_same_key(fold, keys.lines[row].key(), key) {
+                found.push(row)?;
+            }
+            end = self.links[row];
+        }
+        Ok(())
+    }
+
+    // The number of rows up to the last one that is in the bucket of a hash.
+    #[inline(always)]
+    fn head(&self, hash: u64) -> usize
+        ensures { result ≡ head_of self.now hash }
+    {
+        self.heads.get(self.bucket(hash)).copied().unwrap_or(0)
+    }
+}
+
+// Whether a key is found by its hash: it is whole, or an extension.
+#[inline]
+fn is_hashed(key: Key<'_>) -> bool
+    ensures { result ≡ is_hashed (key_content key.entry) }
+{
+    match key.subject {
+        Subject::Name | Subject::Path => key.is_whole,
+        Subject::End => !key.is_whole && is_extension(key.text),
+        Subject::Anything | Subject::Nothing => false,
+    }
+}
+
+// Whether an end is an extension: a dot, and bytes without a dot. A base name has it just if its own extension is this text.
+fn is_extension(text: &[u8]) -> bool
+    ensures { result ≡ is_reversed_extension (reverse text.now) }
+{
+    match text.split_first() {
+        Some((first, rest)) => *first == b'.' && !rest.contains(&b'.'),
+        None => false,
+    }
+}
+
+// The bytes of a base name from its last dot on, if it has a dot and they are no more than the longest.
+#[inline(always)]
+fn extension(name: &[u8], longest: usize) -> Option<&[u8]>
+    ensures none { result ≡ None → IsLonger longest (extension name.now) }
+    ensures some { IfSome result (λ text. extension name.now ≡ Some text.now) }
+{
+    let mut offset = name.len();
+    let first = offset.saturating_sub(longest);
+    while offset > first {
+        offset -= 1;
+        if name[offset] == b'.' {
+            return Some(&name[offset..]);
+        }
+    }
+    None
+}
+
+// The hash of a text, in lower case if `fold` is set. `buffer` is one for that.
+#[inline(always)]
+fn hash_in_case(fold: bool, text: &[u8], buffer: &mut Vec<u8>) -> Result<u64, AllocError>
+    ensures { IfOk result (λ hash. hash ≡ quick_hash (in_case fold text.now)) }
+{
+    if !fold {
+        return Ok(quick_hash(text));
+    }
+    write_lower(text, buffer)?;
+    Ok(quick_hash(buffer))
+}
+
+// The text in lower case, in place of what the buffer had.
+fn write_lower(text: &[u8], buffer: &mut Vec<u8>) -> Result<(), AllocError>
+    ensures { OnOk result (buffer.new.items ≡ in_case true text.now) }
+{
+    buffer.clear();
+    buffer.extend_from_slice(text)?;
+    buffer.make_ascii_lowercase();
+    Ok(())
 }
 
 // An odd number, so that numbers that differ give different hashes, and that each byte changes the first bits.
@@ -60,8 +341,8 @@ fn packed(text: &[u8]) -> u64
     number
 }
 
-/// A hash of a text in few steps, which texts can be made to share: a step for eight bytes, and one for the last eight.
-pub fn quick_hash(text: &[u8]) -> u64
+// A hash of a text in few steps, which texts can be made to share: a step for eight bytes, and one for the last eight.
+fn quick_hash(text: &[u8]) -> u64
     ensures { result ≡ quick_hash text.now }
 {
     let Some(last) = text.last_chunk::<8>() else {
@@ -88,119 +369,4 @@ fn mixed(hash: u64, number: u64) -> u64
     ensures { result ≡ mixed hash number }
 {
     (hash.rotate_left(32) ^ number).wrapping_mul(SPREAD)
-}
-
-impl HashedRows {
-    /// The rows. Few are found one by one, and others in about as many buckets.
-    ///
-    /// # Errors
-    ///
-    /// If memory runs out.
-    pub fn of(alloc: Global, mut rows: Vec<HashedRow>) -> Result<HashedRows, AllocError>
-        ensures { IfOk result (λ hashed. IsPermutation rows.items hashed) }
-    {
-        let mut starts = Vec::new(alloc);
-        if rows.len() <= FEW {
-            return Ok(HashedRows {
-                rows,
-                width: 0,
-                starts,
-            });
-        }
-        rows.sort_unstable_by_key(|row| row.hash);
-        let width = bucket_width(&rows);
-        push_starts(&rows, width, &mut starts)?;
-        Ok(HashedRows {
-            rows,
-            width,
-            starts,
-        })
-    }
-
-    /// All rows. More than a few are in the order of their hashes.
-    pub fn all(&self) -> &[HashedRow]
-        ensures { result.now ≡ self.now }
-    {
-        &self.rows
-    }
-
-    /// Rows with all of this hash among them: those of its bucket. Many in one bucket are halved, so that they cost little.
-    pub fn of_hash(&self, hash: u64) -> &[HashedRow]
-        ensures { rows_of_hash hash result.now ≡ rows_of_hash hash self.now }
-    {
-        if self.starts.is_empty() {
-            return &self.rows;
-        }
-        let index = bucket(hash, self.width);
-        let rows = between(&self.rows, self.starts[index], self.starts[index + 1]);
-        if rows.len() <= FEW {
-            return rows;
-        }
-        halved(rows, hash)
-    }
-}
-
-// Appends where each bucket starts, and the number of rows.
-fn push_starts(rows: &[HashedRow], width: u64, starts: &mut Vec<usize>) -> Result<(), AllocError>
-    requires buckets { AreInBuckets width rows.now }
-    requires starts { starts.old.items ≡ [] }
-    ensures { OnOk result (AreStarts width rows.now starts.new.items) }
-{
-    let count = bucket(u64::MAX, width) + 2;
-    starts.reserve(count)?;
-    let mut start = 0;
-    for index in 0..count {
-        start = bucket_start(rows, width, index, start);
-        starts.push(start)?;
-    }
-    Ok(())
-}
-
-// How many hashes a bucket has, if there are about as many buckets as rows.
-fn bucket_width(rows: &[HashedRow]) -> u64
-    ensures { 2 ≤ result }
-{
-    u64::MAX / (rows.len() as u64 + 2) + 1
-}
-
-// The bucket of a hash.
-fn bucket(hash: u64, width: u64) -> usize
-    requires { 2 ≤ width }
-    ensures { result ≡ hash / width }
-{
-    (hash / width) as usize
-}
-
-// Where a bucket starts, if it does not start before `from` and the hashes don't fall.
-fn bucket_start(rows: &[HashedRow], width: u64, index: usize, from: usize) -> usize
-    requires buckets { AreInBuckets width rows.now }
-    requires from { from ≤ length rows.now }
-    requires before { AllWithin (λ h. h.hash / width < index) rows.now 0 from }
-    ensures { IsBucketStart width rows.now index result }
-{
-    let mut start = from;
-    while start < rows.len() && bucket(rows[start].hash, width) < index {
-        start += 1;
-    }
-    start
-}
-
-// The rows from an index to another one.
-fn between(rows: &[HashedRow], start: usize, end: usize) -> &[HashedRow]
-    requires start { start ≤ end }
-    requires end { end ≤ length rows.now }
-    ensures { result.now ≡ take (end - start) (drop start rows.now) }
-{
-    &rows[start..end]
-}
-
-// Those of this hash, if the hashes don't fall.
-fn halved(rows: &[HashedRow], hash: u64) -> &[HashedRow]
-    requires { IsNonDecreasingBy (λ hashed. hashed.hash) rows.now }
-    ensures { result.now ≡ rows_of_hash hash rows.now }
-{
-    let start = rows.partition_point(|hashed| hashed.hash < hash);
-    let rest = &rows[start..];
-    let len = rest.partition_point(|hashed| hashed.hash <= hash);
-    &rest[..len]
 }

@@ -6,10 +6,9 @@ ghost use Rattle.std.specs.Cmp.Lexicographic.{slice_cmp};
 ghost use Rattle.std.specs.Bool.{OnFalse};
 ghost use Rattle.std.specs.List.{starts_with};
 ghost use Rattle.std.specs.Ordering.{nat_cmp};
-ghost use Rattle.attr_keys.specs.inner.Cases.{byte_in_case, in_case, keys_seen, seen_keys, seen_text, text_standing};
+ghost use Rattle.attr_keys.specs.inner.Cases.{byte_in_case, content_in_case, in_case, keys_seen, seen_keys, seen_text, text_standing};
 ghost use Rattle.attr_keys.specs.shared.Codes.{codes_of, row_codes};
-ghost use Rattle.attr_keys.specs.inner.Hashes.{text_of_row};
-ghost use Rattle.attr_keys.specs.shared.Meeting.{directed, has_content, is_end, is_whole_row, key_content, text_has};
+ghost use Rattle.attr_keys.specs.shared.Meeting.{content_met, directed, same_subject, has_content, is_end, is_whole_row, key_content, text_has};
 ghost use Rattle.attr_keys.specs.shared.Rows.{IsCommon, is_up_to};
 
 use std::cmp::Ordering;
@@ -39,6 +38,34 @@ pub struct Key<'a> {
     pub text: &'a [u8],
     /// Whether the subject has no other bytes.
     pub is_whole: bool,
+}
+
+/// The texts of a path, by which lines are looked up.
+#[derive(Clone, Copy)]
+pub struct Texts<'a> {
+    /// The base name of a path.
+    pub name: &'a [u8],
+    /// The path.
+    pub path: &'a [u8],
+    /// Whether ASCII letters match regardless of case.
+    pub fold: bool,
+}
+
+impl Texts<'_> {
+    /// Whether the texts have the key.
+    #[inline(always)]
+    pub fn have(self, key: Key<'_>) -> bool
+        ensures { result ≡ content_met
+            self.entry.fold self.entry.name.now self.entry.path.now (key_content key.entry) }
+    {
+        match key.subject {
+            Subject::Name => has_text(self.fold, false, self.name, key),
+            Subject::End => has_text(self.fold, true, self.name, key),
+            Subject::Path => has_text(self.fold, false, self.path, key),
+            Subject::Anything => true,
+            Subject::Nothing => false,
+        }
+    }
 }
 
 /// A line, by its key.
@@ -124,14 +151,6 @@ pub fn first_code(view: View, text: &[u8], is_whole: bool) -> u16
         return u16::from(seen_byte(view, text, 0)) + 2;
     }
     if is_whole { 1 } else { 0 }
-}
-
-/// The text of the key of a line, as it stands there, and no text if there is no such line.
-pub fn row_text<K: Keyed>(keys: Keys<'_, K>, row: usize) -> &[u8]
-    ensures { in_case keys.entry.view.fold result.now
-        ≡ text_of_row keys.entry.view.from_end (keys_seen K.content keys.entry) row }
-{
-    parts(keys.lines, row).0
 }
 
 /// The first code of the key of a line, and 0 if there is no such line.
@@ -271,9 +290,9 @@ pub fn has_row_key<K: Keyed>(keys: Keys<'_, K>, row: usize, text: &[u8]) -> bool
     has_part(keys.view, text, part)
 }
 
-/// Whether a text has a key, as both are read. A key of an end is read from its last byte on.
+// Whether a text has a key, as both are read. A key of an end is read from its last byte on.
 #[inline(always)]
-pub fn has_text(fold: bool, from_end: bool, text: &[u8], key: Key<'_>) -> bool
+fn has_text(fold: bool, from_end: bool, text: &[u8], key: Key<'_>) -> bool
     requires { is_end key.subject ≡ from_end }
     ensures { result ≡ has_content fold (directed from_end text.now) (key_content key.entry) }
 {
@@ -296,5 +315,40 @@ fn has_part(view: View, text: &[u8], part: &[u8]) -> bool
         own.eq_ignore_ascii_case(part)
     } else {
         part == own
+    }
+}
+
+/// Whether two keys are the same, as they are read.
+#[inline(always)]
+pub fn is_same_key(fold: bool, key: Key<'_>, other: Key<'_>) -> bool
+    ensures { IsTrue result ↔ (content_in_case fold (key_content key.entry)
+        ≡ content_in_case fold (key_content other.entry)) }
+{
+    is_same_subject(key.subject, other.subject)
+        && key.is_whole == other.is_whole
+        && is_same_text(fold, key.text, other.text)
+}
+
+#[inline(always)]
+fn is_same_text(fold: bool, text: &[u8], other: &[u8]) -> bool
+    ensures { IsTrue result ↔ (in_case fold text.now ≡ in_case fold other.now) }
+{
+    if fold {
+        text.eq_ignore_ascii_case(other)
+    } else {
+        text == other
+    }
+}
+
+#[inline(always)]
+fn is_same_subject(subject: Subject, other: Subject) -> bool
+    ensures { result ≡ same_subject subject other }
+{
+    match subject {
+        Subject::Name => matches!(other, Subject::Name),
+        Subject::End => matches!(other, Subject::End),
+        Subject::Path => matches!(other, Subject::Path),
+        Subject::Anything => matches!(other, Subject::Anything),
+        Subject::Nothing => matches!(other, Subject::Nothing),
     }
 }

@@ -6,7 +6,6 @@
 //! begins with. The texts of keys stand in the lines, which each look-up is given.
 #![tactic(auto)]
 
-mod by_hash;
 mod hashed;
 pub mod key;
 pub mod key_index;

@@ -59,13 +59,32 @@ impl Prefixes {
         })
     }
 
-    /// Appends the rows whose keys the text has.
+    /// Appends the rows whose keys the text has. It costs nothing if there are no rows.
     ///
     /// # Errors
     ///
     /// If memory runs out. Some of the rows may have been appended then.
     #[inline(always)]
     pub fn append<K: Keyed>(
+        &self,
+        keys: Keys<'_, K>,
+        text: &[u8],
+        found: &mut Vec<usize>,
+    ) -> Result<(), AllocError>
+        requires { ArePrefixes (keys_seen K.content keys) self.now }
+        ensures { OnOk result (AppendsRows (has_row self.now.rows.items)
+            (keys_seen K.content keys.entry) (seen_text keys.entry.view text.now)
+            found.old.items found.new.items) }
+    {
+        if self.rows.is_empty() {
+            return Ok(());
+        }
+        self.append_some(keys, text, found)
+    }
+
+    // The same, if there are some.
+    #[inline(never)]
+    fn append_some<K: Keyed>(
         &self,
         keys: Keys<'_, K>,
         text: &[u8],

@@ -23,7 +23,7 @@ use crate::path_query::PathQuery;
 use attr_glob::pattern::base_name;
 use attr_glob::search::pattern::{Index, List};
 use attr_glob::wildmatch::MatchBuffers;
-use attr_keys::key_index::Texts;
+use attr_keys::key::Texts;
 use attr_lists::name_table::NameTable;
 use attr_lists::types::Attributes;
 use std::alloc::{AllocError, Global};

@@ -8,7 +8,8 @@ use crate::fault::Fault;
 use crate::row::Row;
 use crate::scenes::Stage;
 use attr_glob::pattern::Case;
-use attr_keys::key_index::{KeyIndex, Texts};
+use attr_keys::key::Texts;
+use attr_keys::key_index::KeyIndex;
 use attr_keys::kinds::Kinds;
 use attr_keys::line_key::Shape;
 use std::alloc::{AllocError, Global};
@@ -37,9 +38,8 @@ impl Keys {
             path: step.bytes(2),
             fold: step.case(3)? == Case::Fold,
         };
-        let keys = Box::new(alloc, index_of(alloc, &shapes)?)?;
         let (mut buffer, mut found) = (Vec::new(alloc), Vec::new(alloc));
-        keys.find(&shapes, texts, &mut buffer, &mut found)?;
+        index_of(alloc, &shapes)?.find(&shapes, texts, &mut buffer, &mut found)?;
         Ok(writeln!(out, "{found:?}")?)
     }
 }
@@ -49,11 +49,11 @@ fn index_of(alloc: Global, lines: &[Shape<'_>]) -> Result<KeyIndex, AllocError>
     ensures { IfOk result (IsKeyIndex
         (map (λ line. line_content (shape_content line)) lines.now)) }
 {
-    let mut kinds = Kinds::new(alloc, lines.len());
-    for (row, line) in lines.iter().enumerate() {
-        kinds.push(line, row)?;
+    let mut kinds = Kinds::new(alloc, lines.len())?;
+    for line in lines {
+        kinds.push(line)?;
     }
-    KeyIndex::of(alloc, lines, &kinds)
+    KeyIndex::of(alloc, lines, kinds)
 }
 
 impl Stage for Keys {

@@ -1,5 +1,7 @@
 -- Extensions of names (own): a last dot and what follows it.
 use Rattle.std.specs.Prelude.{ℕ, Bool, false, not, ◌&&◌, ◌==◌, List, [], ◌∷◌, length, Option, Some, None, if◌then◌else◌}
+use Rattle.attr_keys.specs.declared.key.Subject.{Subject}
+use Rattle.attr_keys.specs.declared.key.Subject.TheVariants.{Name, End, Path}
 use Rattle.attr_keys.specs.shared.KeyContents.{KeyContent}
 
 abbrev pub dot_byte : ℕ
@@ -20,7 +22,12 @@ abbrev pub is_reversed_extension : List ℕ → Bool
 is_reversed_extension [] = false
 is_reversed_extension (b ∷ bs) = if b == dot_byte then length bs == 0 else is_reversed_extension bs
 
--- the hash of a text tells whether it has the key: this is whole, or read from the end and an extension
-abbrev pub is_hashed : Bool → Option KeyContent → Bool
-is_hashed from_end None = false
-is_hashed from_end (Some key) = if from_end then not key.is_whole && is_reversed_extension key.text else key.is_whole
+-- a key of this kind is found by its hash: it is whole, or an extension
+abbrev pub is_hashed_by : Subject → Bool → List ℕ → Bool
+is_hashed_by Name whole text = whole
+is_hashed_by Path whole text = whole
+is_hashed_by End whole text = not whole && is_reversed_extension text
+is_hashed_by _ whole text = false
+
+abbrev pub is_hashed : KeyContent → Bool
+is_hashed key = is_hashed_by key.subject key.is_whole key.text

@@ -1,61 +1,42 @@
 -- The kinds of lines (own).
-use Rattle.std.specs.Prelude.{◌≡◌, ◌++◌, ◌∷◌, [], ℕ, Bool, true, false, ◌&&◌, not, List, Option, Some, None, slice_get, if◌then◌else◌}
+use Rattle.std.specs.Prelude.{◌≡◌, ◌++◌, ◌∷◌, [], ◌&&◌, ℕ, Bool, true, false, List, Some, length, map, slice_get, if◌then◌else◌}
+use Rattle.attr_keys.specs.declared.hashed.HashedRows.{HashedRows}
 use Rattle.attr_keys.specs.declared.key.Subject.{Subject}
 use Rattle.attr_keys.specs.declared.key.Subject.TheVariants.{Name, End, Path, Anything, Nothing}
-use Rattle.attr_keys.specs.declared.kinds.Kind.{Kind}
-use Rattle.attr_keys.specs.declared.kinds.Kind.TheVariants as kind
-use Rattle.attr_keys.specs.declared.kinds.Kinds.{Kinds}
+use Rattle.attr_keys.specs.declared.kinds.KindRows.{KindRows}
 use Rattle.attr_keys.specs.shared.KeyContents.{KeyContent}
-use Rattle.attr_keys.specs.inner.Extensions.{is_reversed_extension}
+use Rattle.attr_keys.specs.inner.Cases.{content_in_case}
+use Rattle.attr_keys.specs.inner.Hashes.{IsHashed}
+use Rattle.attr_keys.specs.inner.Links.{AreBounded}
+use Rattle.attr_keys.specs.shared.Meeting.{is_about, same_subject}
 use Rattle.attr_keys.specs.shared.Rows.{has_row}
 
-abbrev pub kind_by : Subject → Bool → List ℕ → Kind
-kind_by Name whole text = if whole then kind.Name else kind.NamePrefix
-kind_by End whole text = if not whole && is_reversed_extension text then kind.Extension else kind.Suffix
-kind_by Path whole text = if whole then kind.Path else kind.PathPrefix
-kind_by Anything whole text = kind.Anything
-kind_by Nothing whole text = kind.Nothing
-
--- how a line with this key is found
-abbrev pub kind_of : KeyContent → Kind
-kind_of key = kind_by key.subject key.is_whole key.text
-
-abbrev pub same_kind : Kind → Kind → Bool
-same_kind kind.Name kind.Name = true
-same_kind kind.NamePrefix kind.NamePrefix = true
-same_kind kind.Extension kind.Extension = true
-same_kind kind.Suffix kind.Suffix = true
-same_kind kind.Path kind.Path = true
-same_kind kind.PathPrefix kind.PathPrefix = true
-same_kind kind.Anything kind.Anything = true
-same_kind kind.Nothing kind.Nothing = true
-same_kind _ _ = false
-
--- there is a key, of this kind
-abbrev pub is_of : Kind → Option KeyContent → Bool
-is_of k None = false
-is_of k (Some key) = same_kind k (kind_of key)
-
--- the numbers of lines of a kind
-abbrev pub kind_rows : Kind → Kinds → List ℕ
-kind_rows kind.Name kinds = kinds.names.items
-kind_rows kind.NamePrefix kinds = kinds.name_prefixes.items
-kind_rows kind.Extension kinds = kinds.extensions.items
-kind_rows kind.Suffix kinds = kinds.suffixes.items
-kind_rows kind.Path kinds = kinds.paths.items
-kind_rows kind.PathPrefix kinds = kinds.path_prefixes.items
-kind_rows kind.Anything kinds = kinds.anything.items
-kind_rows kind.Nothing kinds = []
-
--- lines of this kind are kept
-abbrev pub is_kept : Kind → Bool
-is_kept kind.Nothing = false
+-- lines with such keys are kept
+abbrev pub is_kept : Subject → Bool
+is_kept Nothing = false
 is_kept _ = true
 
--- one more line, of this kind, among those of a kind
-abbrev pub rows_with : Kind → ℕ → Kind → List ℕ → List ℕ
-rows_with kind row k rows = if same_kind k kind then rows ++ row ∷ [] else rows
+-- the rows of a subject that are not found by their hashes
+abbrev pub kind_rows : Subject → KindRows → List ℕ
+kind_rows Name rows = rows.names.items
+kind_rows End rows = rows.ends.items
+kind_rows Path rows = rows.paths.items
+kind_rows Anything rows = rows.others.items
+kind_rows Nothing rows = []
 
--- lines with these keys by their kinds
-abbrev pub AreKinds : List KeyContent → Kinds → Type 0
-AreKinds keys kinds = (k : Kind) → is_kept k ≡ true → (row : ℕ) → has_row (kind_rows k kinds) row ≡ is_of k (slice_get keys row)
+-- one more row, of this subject, among those of a subject
+abbrev pub rows_with : Subject → ℕ → Subject → List ℕ → List ℕ
+rows_with subject row s rows = if is_kept s && same_subject s subject then rows ++ row ∷ [] else rows
+
+-- Each of these rows is of its subject, and each line is there or found by its hash, if it is kept.
+pub record AreKinds (fold : Bool) (keys : List KeyContent) (hashed : HashedRows) (rows : Subject → List ℕ) : Type 0 where
+  pub counted : length hashed.links.items ≡ length keys
+  pub bounded : AreBounded hashed.heads.items hashed.links.items
+  pub of : (subject : Subject) (row : ℕ) → has_row (rows subject) row ≡ true → is_about subject (slice_get keys row) ≡ true
+  pub all : (row : ℕ) (key : KeyContent) → slice_get keys row ≡ Some key → is_kept key.subject ≡ true →
+      has_row (rows key.subject) row ≡ false → IsHashed fold key hashed row
+
+-- lines with these keys by their kinds; unless one is noted, no key has a capital letter
+pub record AreKindRows (keys : List KeyContent) (rows : KindRows) : Type 0 where
+  pub kinds : AreKinds rows.fold keys rows.hashed (λ subject. kind_rows subject rows)
+  pub lower : rows.has_capitals ≡ false → map (content_in_case true) keys ≡ keys

@@ -51,14 +51,14 @@ impl Index {
         ensures source { IfOk result (λ index.
             option_map string_bytes index.source ≡ option_map string_bytes list.now.source) }
     {
-        let mut kinds = Kinds::new(alloc, list.patterns.len());
+        let mut kinds = Kinds::new(alloc, list.patterns.len())?;
         let mut lines = Vec::with_capacity(alloc, list.patterns.len())?;
         for mapping in &list.patterns {
             let line = IndexedLine::of(alloc, mapping)?;
-            kinds.push(&line, lines.len())?;
+            kinds.push(&line)?;
             lines.push(line)?;
         }
-        let keys = KeyIndex::of(alloc, &lines, &kinds)?;
+        let keys = KeyIndex::of(alloc, &lines, kinds)?;
         let source = list.source.clone()?;
         Ok(Index {
             lines,

@@ -30,8 +30,8 @@ loop-row-preserved-in-Continue-1 g c = grind (
   c.index-lines-row.is,
   c.key.ensures,
   c.in_ok-push.ensures.items,
-  c.has_key.ensures,
-  c.if-has_key.true,
+  c.have.ensures,
+  c.if-have.true,
   c.loop-row.invariant,
 )
 
@@ -45,7 +45,7 @@ loop-row-preserved g c = grind (
   c.index-lines-row.is,
   c.loop-row.auto.row,
   c.key.ensures,
-  c.has_key.ensures,
-  c.if-has_key.false,
+  c.have.ensures,
+  c.if-have.false,
   c.loop-row.invariant,
 )

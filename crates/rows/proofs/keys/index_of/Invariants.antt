@@ -3,5 +3,5 @@ use Rattle.attr_keys.specs.shared.LineKeys.{line_content, shape_content}
 use Rattle.attr_keys.specs.shared.SortedLines.{SortsLines}
 use Rattle.rows.proofs.keys.index_of.Given as goal
 
-abbrev pub invariant-loop-row : goal.invariant-loop-row
-invariant-loop-row l = SortsLines (map (λ line. line_content (shape_content line)) (take l.row l.lines)) l.kinds
+abbrev pub invariant-loop-line : goal.invariant-loop-line
+invariant-loop-line l = SortsLines (map (λ line. line_content (shape_content line)) (take l.line-index l.lines)) l.kinds

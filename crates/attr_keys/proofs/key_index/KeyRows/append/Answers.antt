@@ -1,19 +1,33 @@
-use Rattle.std.proofs.Common.{arith}
-use Rattle.std.proofs.lemmas.Bool.Decides.{nat_tests}
+use Rattle.std.proofs.Common.{◌≡◌, ◌∙◌, ◌++◌, map, subst, ap, false, true}
+use Rattle.std.specs.Prelude.{slice_get}
 use Rattle.std.proofs.lemmas.Result.{on_ok_weaker}
-use Rattle.attr_keys.specs.declared.key.Subject.TheVariants.{Name, End, Path}
-use Rattle.attr_keys.proofs.Gathering.{seen_by, subject_rows_met}
+use Rattle.attr_keys.specs.inner.Hashes.{IsHashedAt}
+use Rattle.attr_keys.specs.inner.MetRows.{AppendsMet}
+use Rattle.attr_keys.specs.shared.Meeting.{content_met_at}
+use Rattle.attr_keys.proofs.Gathering.{all_met, seen_by, text_seen}
 use Rattle.attr_keys.proofs.key_index.KeyRows.append.Goals as goal
 
 pub returns : goal.returns
 returns g c =
-    let fact5 = subject_rows_met Name in
-    let fact7 = subject_rows_met End in
-    let fact6 = subject_rows_met Path in
-    let fact2 = c.keys_of-keys.ensures in
-    let fact3 = c.keys_of-ends.ensures in
-    let fact = c.in_ok-append-2.ensures in
-    let fact4 = c.in_ok-append.ensures in
-    let fact9 = c.requires.names in
-    let fact8 = c.append-3.ensures in
-    grind (arith, nat_tests, fact5, fact7, fact6, seen_by, on_ok_weaker, fact2, fact3, fact, fact4, fact9, c.requires.ends, c.requires.paths, fact8)
+    let content = g.K.Keyed.content in
+    let lines = c.args.lines.now in
+    let keys = map content lines in
+    let fold = c.args.texts.fold in
+    let name = c.args.texts.name.now in
+    let path = c.args.texts.path.now in
+    let rows = c.args.self.now in
+    let by = c.keys_of-keys.ensures in
+    let by' = c.keys_of-ends.ensures in
+    let seen = seen_by content c.keys_of-keys.result lines fold false by.lines by.fold by.from_end in
+    let seen' = seen_by content c.keys_of-ends.result lines fold true by'.lines by'.fold by'.from_end in
+    let met = subst (λ old. AppendsMet (λ row. content_met_at fold name path (slice_get keys row) ≡ true) (IsHashedAt fold keys rows.hashed) old
+    c.append.new.found.items) c.requires.empty
+    (subst (λ ls. AppendsMet (λ row. content_met_at fold name path (slice_get (map content ls) row) ≡ true)
+    (IsHashedAt fold (map content ls) rows.hashed) c.args.found.now.items c.append.new.found.items) by.lines c.in_ok-append.ensures) in
+    on_ok_weaker c.append-5.result
+    (λ more. all_met fold name path keys rows c.append.new.found.items c.append-2.new.found.items c.append-3.new.found.items
+    c.append-4.new.found.items c.append-5.new.found.items c.requires.sorted met
+    (λ row. c.in_ok-append-2.ensures row ∙ text_seen c.keys_of-keys.result.view fold false name _ _ row _ _ by.fold by.from_end seen)
+    (λ row. c.in_ok-append-3.ensures row ∙ text_seen c.keys_of-ends.result.view fold true name _ _ row _ _ by'.fold by'.from_end seen')
+    (λ row. c.in_ok-append-4.ensures row ∙ text_seen c.keys_of-keys.result.view fold false path _ _ row _ _ by.fold by.from_end seen)
+    (more ∙ ap (λ l. c.append-4.new.found.items ++ l) c.deref.ensures.value)) c.append-5.ensures

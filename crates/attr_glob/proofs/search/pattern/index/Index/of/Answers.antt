@@ -1,6 +1,5 @@
 use Rattle.std.proofs.Common.{arith, ◌≡◌, ◌<◌, ap, get_or, length, ◌≤◌, ◌∙◌, subst, sym}
-use Rattle.std.proofs.lemmas.List.{length-map, map_push}
-use Rattle.std.proofs.lemmas.Bool.Decides.{nat_tests}
+use Rattle.std.proofs.lemmas.List.{map_push}
 use Rattle.attr_keys.specs.shared.KeyIndexes.{IsKeyIndex}
 use Rattle.attr_keys.specs.shared.SortedLines.{SortsLines}
 use Rattle.attr_glob.specs.Indexed.{indexed_lines, listed_lines}
@@ -13,7 +12,6 @@ pub loop-mapping-preserved : goal.loop-mapping-preserved
 loop-mapping-preserved g c =
     let lines = c.loop-mapping.lines.items in
     let line = c.in_ok-line.line in
-    let row : c.len-in-loop-mapping.result ≡ length (indexed_keys lines) = grind (arith, nat_tests, length-map, c.len-in-loop-mapping.ensures) in
     let here : c.loop-mapping.mapping-index < length c.args.list.now.patterns.items =
     grind (arith, c.loop-mapping-test.true, c.deref-mapping-items.ensures.value) in
     record {
@@ -24,7 +22,7 @@ loop-mapping-preserved g c =
           c.in_ok-line.ensures.pattern c.in_ok-line.ensures.number;
       sorted = subst (λ keys. SortsLines keys c.push.new.self)
           (sym (ap indexed_keys c.in_ok-push-2.ensures.items ∙ map_push (λ l. key_of_pattern l.pattern) lines line))
-          (c.in_ok-push.ensures.sorted (indexed_keys lines) row c.loop-mapping.invariant.sorted);
+          (c.in_ok-push.ensures.sorted (indexed_keys lines) c.loop-mapping.invariant.sorted);
     }
 
 pub invariant_of-result : goal.invariant_of-result
