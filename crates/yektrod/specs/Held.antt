@@ -6,7 +6,7 @@ use Rattle.gix_attributes.specs.EngineStates.{EngineContent}
 use Rattle.yektrod.specs.Rows.{text_numbered}
 use Rattle.yektrod.specs.Sourced.{told_content}
 use Rattle.yektrod.specs.SourcedContents.{SourcedContent}
-use Rattle.yektrod.specs.declared.slot.fields.Slot.{Slot}
+use Rattle.yektrod.specs.declared.slot.Slot.{Slot}
 
 -- the contents of the engine, with labels as the sources of its lists, and the sources beside it, if there is an engine
 abbrev pub sourced : Slot → Option SourcedContent

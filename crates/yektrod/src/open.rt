@@ -1,16 +1,15 @@
 //! An engine is made, and freed.
 
-ghost use Rattle.std.specs.Prelude.{◌≡◌, ◌⊎◌, ◌↔◌, IfOk, None, Some};
+ghost use Rattle.std.specs.Prelude.{◌≡◌, ◌⊎◌, ◌↔◌, None, Some};
 ghost use Rattle.gix_attributes.specs.EngineStates.{unasked};
 ghost use Rattle.gix_attributes.specs.EngineView.{started};
 ghost use Rattle.yektrod.specs.Held.{held, sourced};
-ghost use Rattle.yektrod.specs.Sourced.{told_content};
 ghost use Rattle.yektrod.specs.Statuses.{status_done, status_no_memory, status_shut};
 
-use crate::slot::{Slot, put, take};
+use crate::slot::Slot;
 use crate::sourced::SourcedEngine;
 use crate::status::{DONE, NO_MEMORY, SHUT};
-use std::alloc::{AllocError, Global};
+use std::alloc::Global;
 
 /// Makes an engine with the built-in list, and without a selection. Returns 2 if the slot has one already.
 #[unsafe(no_mangle)]
@@ -23,13 +22,14 @@ pub extern "C" fn yektrod_open(alloc: Global, slot: &mut Slot) -> i32
     if slot.live {
         return SHUT;
     }
-    match new_engine(alloc) {
-        Ok(engine) => {
-            put(slot, engine);
-            DONE
-        }
-        Err(_) => NO_MEMORY,
-    }
+    let Ok(engine) = SourcedEngine::new(alloc) else {
+        return NO_MEMORY;
+    };
+    let Ok(engine) = Box::new(alloc, engine) else {
+        return NO_MEMORY;
+    };
+    slot.put(engine);
+    DONE
 }
 
 /// Frees the engine, if the slot has one.
@@ -37,11 +37,5 @@ pub extern "C" fn yektrod_open(alloc: Global, slot: &mut Slot) -> i32
 pub extern "C" fn yektrod_close(alloc: Global, slot: &mut Slot)
     ensures { held slot.new ≡ None }
 {
-    let _engine = take(alloc, slot);
-}
-
-fn new_engine(alloc: Global) -> Result<Box<SourcedEngine>, AllocError>
-    ensures { IfOk result (λ engine. told_content engine.value ≡ unasked started) }
-{
-    Ok(Box::new(alloc, SourcedEngine::new(alloc)?)?)
+    let _engine = slot.take(alloc);
 }
