@@ -1,6 +1,6 @@
 //! The answers to the last question.
 
-ghost use Rattle.std.specs.Prelude.{◌≡◌, ◌⊎◌, ◌↔◌, ◌<◌, ◌++◌, IfSome, MatchOption, None, Some, drop, length, option_and_then, option_map, pos, slice_get};
+ghost use Rattle.std.specs.Prelude.{◌≡◌, ◌⊎◌, ◌↔◌, ◌<◌, ◌++◌, MatchOption, None, Some, drop, length, option_and_then, option_map, pos, slice_get};
 ghost use Rattle.gix_attributes.specs.Matches.{cause_of, match_view};
 ghost use Rattle.gix_attributes.specs.TextViews.{state_view};
 ghost use Rattle.yektrod.specs.Held.{answer_held, answer_in, held, sourced, text_held, text_in};
@@ -98,26 +98,11 @@ pub extern "C" fn yektrod_text(
 fn text_at<'a>(held: &'a SourcedEngine, i: usize, which: i32) -> Option<MarkedText<'a>>
     ensures { option_map marked_text result ≡ text_in (told_content held.now) i which }
 {
-    match held.labelled().answer(i) {
-        Some(found) => text_of_match(held, found, which),
-        None => None,
-    }
-}
-
-fn text_of_match<'a>(
-    held: &'a SourcedEngine,
-    found: Match<'a>,
-    which: i32,
-) -> Option<MarkedText<'a>>
-    ensures { option_map marked_text result ≡ text_told held.now (match_view found.entry) which }
-{
+    let found = held.labelled().answer(i)?;
     if which == 3 {
         return MarkedText::of_pattern(found);
     }
-    match text_of(held, found, which) {
-        Some(text) => Some(MarkedText::plain(text)),
-        None => None,
-    }
+    Some(MarkedText::plain(text_of(held, found, which)?))
 }
 
 fn row_of(held: &SourcedEngine, i: usize) -> Option<AnswerRow>

@@ -1,6 +1,6 @@
 //! The texts of an answer, and how they are laid into a buffer.
 
-ghost use Rattle.std.specs.Prelude.{◌≡◌, ◌⊎◌, ◌<◌, ◌++◌, [], drop, length, option_map, pos, unwrap_or, if◌then◌else◌};
+ghost use Rattle.std.specs.Prelude.{◌≡◌, ◌⊎◌, ◌<◌, ◌++◌, [], drop, length, option_map, pos, unwrap_or};
 ghost use Rattle.attr_glob.specs.Patterns.{mark_where};
 ghost use Rattle.gix_attributes.specs.Matches.{match_view};
 ghost use Rattle.yektrod.specs.inner.Laid.{IsLaidBehind};
@@ -116,10 +116,10 @@ impl<'a> MarkedText<'a> {
     pub fn len(self) -> usize
         ensures { result ≡ length (marked_text self.entry) }
     {
-        length_of_mark(self.is_negative)
-            + length_of_mark(self.is_absolute)
+        usize::from(self.is_negative)
+            + usize::from(self.is_absolute)
             + self.text.len()
-            + length_of_mark(self.must_be_dir)
+            + usize::from(self.must_be_dir)
     }
 
     /// Lays the text behind what is laid, as far as it fits, and returns the length of both.
@@ -161,13 +161,6 @@ fn lay_pattern(buffer: &mut [u8], at: usize, pattern: Option<MarkedText<'_>>) ->
         Some(pattern) => pattern.lay(buffer, at),
         None => at,
     }
-}
-
-#[inline(always)]
-fn length_of_mark(is_there: bool) -> usize
-    ensures { result ≡ (if is_there then 1 else 0) }
-{
-    if is_there { 1 } else { 0 }
 }
 
 #[inline(always)]

@@ -1,6 +1,6 @@
 //! An engine whose lists have sources of any bytes.
 
-ghost use Rattle.std.specs.Prelude.{◌≡◌, ◌↔◌, ◌<◌, IfOk, IsTrue, OnErr, OnOk, Some, false, length, map, option_map, string_bytes};
+ghost use Rattle.std.specs.Prelude.{◌≡◌, ◌↔◌, ◌<◌, IfOk, IsTrue, OnErr, OnOk, Some, false, length, map, option_map};
 ghost use Rattle.std.specs.Fmt.{decimal};
 ghost use Rattle.gix_attributes.specs.EngineStates.{AnswersTo, FindsFor, unasked, with_list_below, with_selection, without_answers, without_last};
 ghost use Rattle.gix_attributes.specs.EngineView.{started};
@@ -80,7 +80,7 @@ impl SourcedEngine {
             ≡ with_list_below (added_list_view list.entry) (told_content self.old)) }
         ensures refused { OnErr result (self.new ≡ self.old) }
     {
-        let label = label_of(alloc, self.sources.len())?;
+        let label = self.sources.len().to_string(alloc)?;
         let source = Vec::from_slice(alloc, list.source)?;
         self.sources.push(source)?;
         let below = Below {
@@ -183,13 +183,6 @@ impl SourcedEngine {
             None => b"",
         }
     }
-}
-
-// The label of the list with this index.
-fn label_of(alloc: Global, index: usize) -> Result<String, AllocError>
-    ensures { IfOk result (λ label. string_bytes label ≡ decimal index) }
-{
-    index.to_string(alloc)
 }
 
 /// The index that a label says, and 0 of one that is no number.

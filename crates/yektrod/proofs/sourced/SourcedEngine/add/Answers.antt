@@ -16,7 +16,7 @@ invariant_of-self-in-Ok c =
     let e = c.self.inside in let n = length e.sources.items in
     let small : n < 2 ^ 64 = omega (arith, e.sources.ok, e.sources.small) in
     let n_is : c.len.result ≡ n = omega (arith, c.len.ensures, e.sources.ok) in
-    let label : c.deref.result.now ≡ decimal n = c.deref.ensures ∙ c.in_ok-label.ensures ∙ ap decimal n_is in
+    let label : c.deref.result.now ≡ decimal n = c.deref.ensures ∙ c.in_ok-label.ensures.ok ∙ ap decimal n_is in
     let a : AddedList = record {
       allow_macros = c.args.list.allow_macros;
       source = c.deref.result.now;
@@ -40,7 +40,7 @@ returns-in-Ok-clause-added c =
     let as_many : length sources ≡ n = length-map e.sources.items f in
     let n_is : c.len.result ≡ length sources = omega (arith, c.len.ensures, e.sources.ok, as_many) in
     let small : length sources < 2 ^ 64 = omega (arith, e.sources.ok, e.sources.small, as_many) in
-    let label : c.deref.result.now ≡ decimal (length sources) = c.deref.ensures ∙ c.in_ok-label.ensures ∙ ap decimal n_is in
+    let label : c.deref.result.now ≡ decimal (length sources) = c.deref.ensures ∙ c.in_ok-label.ensures.ok ∙ ap decimal n_is in
     let a : AddedList = record {
       allow_macros = c.args.list.allow_macros;
       source = c.deref.result.now;
