@@ -13,8 +13,8 @@ wants() {
 
 wants include/yektrod.h "The version of this header, $version:"
 wants include/yektrod.h "#define YEKTROD_VERSION ${number}u"
-wants crates/yektrod/src/version.rt "/// The version, $version:"
-wants crates/yektrod/src/version.rt "    $number"
+wants crates/yektrod/src/lib.rt "/// The version, $version:"
+wants crates/yektrod/src/lib.rt "    $number"
 for package in yektrod check-attr; do wants "clients/rust/$package/Cargo.toml" "version = \"$version\""; done
 wants clients/rust/check-attr/man/check-attr.1 ".TH CHECK-ATTR 1 \"\" \"Yektrod $version\""
 wants tools/release/yektrod-script.1 ".TH YEKTROD-SCRIPT 1 \"\" \"Yektrod $version\""

@@ -3,8 +3,9 @@
 //! `include/yektrod.h` declares these functions for C, and `docs/C.md` says what a caller promises.
 #![tactic(auto)]
 
+ghost use Rattle.std.specs.Prelude.{◌≡◌, ◌+◌, ◌*◌, ◌^◌};
+
 pub mod answers;
-mod directories;
 mod handle;
 pub mod lists;
 pub mod names;
@@ -18,5 +19,11 @@ pub mod script;
 pub mod slot;
 mod sourced;
 mod status;
-mod texts;
-pub mod version;
+
+/// The version, 0.36.0: the major number times 2^16, and the minor number times 2^8, and the patch number.
+#[unsafe(no_mangle)]
+pub extern "C" fn yektrod_version() -> u32
+    ensures { result ≡ 0 * 2 ^ 16 + 36 * 2 ^ 8 + 0 }
+{
+    0x002400
+}

@@ -1,23 +1,22 @@
 //! Lists are added and removed.
 
-ghost use Rattle.std.specs.Prelude.{◌≡◌, ◌⊎◌, ◌↔◌, IfOk, IsUtf8, IfSome, None, Some, [], false, length, option_map};
+ghost use Rattle.std.specs.Prelude.{◌≡◌, ◌⊎◌, ◌↔◌, IfOk, IsUtf8, MatchOption, None, Some, false, length, option_map};
+ghost use Rattle.std.specs.Option.{option_copied};
 ghost use Rattle.gix_attributes.specs.EngineStates.{with_addition, with_list_below, without_last};
 ghost use Rattle.attr_glob.specs.Bases.{with_slash};
 ghost use Rattle.attr_glob.specs.Views.{base_bytes};
 ghost use Rattle.gix_attributes.specs.KeptLists.{dropped_lines};
 ghost use Rattle.yektrod.specs.Held.{HasNoList, dropped_held, held, sourced};
-ghost use Rattle.yektrod.specs.Directories.{names_directory};
-ghost use Rattle.yektrod.specs.Passed.{ReadsRoot, passed_file};
+ghost use Rattle.yektrod.specs.Directories.{is_part, names_directory};
+ghost use Rattle.yektrod.specs.Passed.{ReadsRoot, passed_file, passed_root};
 ghost use Rattle.yektrod.specs.Places.{passed_list};
 ghost use Rattle.yektrod.specs.Rows.{dropped_row, reason_code};
 ghost use Rattle.yektrod.specs.Sourced.{added_list_view};
 ghost use Rattle.yektrod.specs.Statuses.{status_done, status_missing, status_no_list, status_no_memory, status_shut, status_unreadable};
 
-use crate::directories::names_directory;
 use crate::slot::Slot;
 use crate::sourced::SourcedList;
 use crate::status::{DONE, MISSING, NO_LIST, NO_MEMORY, SHUT, UNREADABLE};
-use crate::texts::root_of;
 use gix_attributes::glob::search::pattern::base_of;
 use gix_attributes::search::DropReason;
 use std::alloc::{AllocError, Global};
@@ -75,6 +74,20 @@ pub extern "C" fn yektrod_add(
             DONE
         }
         Err(_) => NO_MEMORY,
+    }
+}
+
+// The root that is passed, if there is one: none if it is no UTF-8.
+fn root_of(root: &[u8], has_root: bool) -> Option<Option<&str>>
+    ensures { MatchOption result (¬ ReadsRoot has_root root.now) (λ text.
+        ReadsRoot has_root root.now × (option_copied text ≡ passed_root has_root root.now)) }
+{
+    if !has_root {
+        return Some(None);
+    }
+    match str::from_utf8(root) {
+        Ok(text) => Some(Some(text)),
+        Err(_) => None,
     }
 }
 
@@ -136,6 +149,21 @@ pub extern "C" fn yektrod_add_in(
     }
 }
 
+// Whether the bytes name a directory of a repository: they are empty, or parts with a slash between each two. No part is empty, `.`
+// or `..`.
+fn names_directory(bytes: &[u8]) -> bool
+    ensures { result ≡ names_directory bytes.now }
+{
+    bytes.is_empty() || bytes.split(|byte| *byte == b'/').all(names_part)
+}
+
+fn names_part(part: &[u8]) -> bool
+    ensures { result ≡ is_part part.now }
+{
+    part.len() > 2 || part.iter().any(|byte| *byte != b'.')
+}
+
+// The list with these parts.
 fn list_of<'a>(
     allow_macros: bool,
     source: &'a [u8],

@@ -4,9 +4,9 @@ ghost use Rattle.std.specs.Prelude.{◌≡◌, ◌⊎◌, ◌↔◌, ◌<◌, �
 ghost use Rattle.yektrod.specs.Held.{held, name_held, sourced};
 ghost use Rattle.yektrod.specs.Statuses.{status_done, status_missing, status_no_room, status_shut};
 
+use crate::row_texts::MarkedText;
 use crate::slot::Slot;
 use crate::status::{DONE, MISSING, SHUT};
-use crate::texts::copy_text;
 use gix_attributes::search::AttributeId;
 
 /// Says how many names there are. Their numbers are those below.
@@ -54,7 +54,7 @@ pub extern "C" fn yektrod_name(
         return SHUT;
     }
     match slot.handle.engine().labelled().name_of(AttributeId(number)) {
-        Some(name) => copy_text(name.as_bytes(), to, needed),
+        Some(name) => MarkedText::plain(name.as_bytes()).copy(to, needed),
         None => MISSING,
     }
 }

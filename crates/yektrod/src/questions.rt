@@ -1,18 +1,15 @@
 //! Names are selected, and paths are asked for.
 
-ghost use Rattle.std.specs.Prelude.{◌≡◌, ◌⊎◌, ◌↔◌, All, IfSome, IsUtf8, MatchOption, None, Some, length, map, option_and_then, option_map};
+ghost use Rattle.std.specs.Prelude.{◌≡◌, ◌⊎◌, ◌↔◌, All, IfOk, IsTrue, IsUtf8, MatchOption, None, Some, length, map, option_and_then, option_map};
 ghost use Rattle.gix_attributes.specs.EngineStates.{AnswersTo, FindsFor, with_selection, without_answers};
 ghost use Rattle.yektrod.specs.Held.{Becomes, held, labelled, sourced};
 ghost use Rattle.yektrod.specs.Passed.{IsDirectoryNumber, directory_flag, passed_case};
 ghost use Rattle.yektrod.specs.Statuses.{status_done, status_no_memory, status_shut, status_unreadable};
 
+use crate::rows::PathQuestion;
 use crate::slot::Slot;
 use crate::status::{DONE, NO_MEMORY, SHUT, UNREADABLE};
-use crate::texts::{are_texts, names_of};
-use bstr::BStr;
-use gix_attributes::engine::Question;
-use gix_attributes::glob::pattern::Case;
-use std::alloc::Global;
+use std::alloc::{AllocError, Global};
 
 /// Selects the names that are looked up, in the order of the answers. No names select all.
 #[unsafe(no_mangle)]
@@ -40,6 +37,35 @@ pub extern "C" fn yektrod_select(alloc: Global, slot: &mut Slot, names: &[&[u8]]
         Ok(None) => UNREADABLE,
         Err(_) => NO_MEMORY,
     }
+}
+
+// Whether all names that are passed are UTF-8. It takes no memory.
+fn are_texts(names: &[&[u8]]) -> bool
+    ensures { IsTrue result ↔ All (λ name. IsUtf8 name.now) names.now }
+{
+    for name in names {
+        let Ok(_) = str::from_utf8(name) else {
+            return false;
+        };
+    }
+    true
+}
+
+// The names that are passed: none if one of them is no UTF-8. It fails if there is no memory.
+fn names_of<'a>(alloc: Global, names: &[&'a [u8]]) -> Result<Option<Vec<&'a str>>, AllocError>
+    ensures { IfOk result (λ read. MatchOption read
+        (¬ All (λ name. IsUtf8 name.now) names.now)
+        (λ texts. All (λ name. IsUtf8 name.now) names.now
+        × (map (λ text. text.now) texts.items ≡ map (λ name. name.now) names.now))) }
+{
+    let mut texts = Vec::with_capacity(alloc, names.len())?;
+    for name in names {
+        let Ok(text) = str::from_utf8(name) else {
+            return Ok(None);
+        };
+        texts.push(text)?;
+    }
+    Ok(Some(texts))
 }
 
 /// Looks a path up, and says how many answers there are.
@@ -76,13 +102,9 @@ pub extern "C" fn yektrod_ask(
     if !slot.live {
         return SHUT;
     }
-    let Some(is_dir) = dir_flag_of(is_dir) else {
+    let asked = PathQuestion { path, fold, is_dir };
+    let Some(question) = asked.question() else {
         return UNREADABLE;
-    };
-    let question = Question {
-        path: BStr::new(path),
-        case: case_of(fold),
-        is_dir,
     };
     match slot.handle.engine().ask(alloc, question) {
         Ok(count) => {
@@ -90,24 +112,5 @@ pub extern "C" fn yektrod_ask(
             DONE
         }
         Err(_) => NO_MEMORY,
-    }
-}
-
-pub(crate) fn case_of(fold: bool) -> Case
-    ensures { result ≡ passed_case fold }
-{
-    if fold { Case::Fold } else { Case::Sensitive }
-}
-
-// Whether the path is a directory, if that is known: none if the number is out of range.
-pub(crate) fn dir_flag_of(is_dir: i32) -> Option<Option<bool>>
-    ensures { MatchOption result (¬ IsDirectoryNumber is_dir) (λ flag.
-        IsDirectoryNumber is_dir × (flag ≡ directory_flag is_dir)) }
-{
-    match is_dir {
-        1 => Some(Some(true)),
-        0 => Some(Some(false)),
-        -1 => Some(None),
-        _ => None,
     }
 }

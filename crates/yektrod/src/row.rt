@@ -2,7 +2,7 @@
 
 ghost use Rattle.std.specs.Prelude.{◌≡◌, is_some, option_map, unwrap_or, if◌then◌else◌};
 ghost use Rattle.gix_attributes.specs.Matches.{match_view};
-ghost use Rattle.yektrod.specs.RowsTold.{flags_by, none, row_with, zero_row};
+ghost use Rattle.yektrod.specs.RowsTold.{flags_by, none, row_with};
 ghost use Rattle.yektrod.specs.Sourced.{list_number};
 ghost use Rattle.yektrod.specs.inner.TextViews.{texts_view};
 
@@ -16,7 +16,7 @@ pub const NONE: usize = usize::MAX;
 
 /// An answer. It has no padding and no `bool`, so any bytes are a row.
 #[repr(C)]
-#[derive(Clone, Copy)]
+#[derive(Clone, Copy, Default)]
 pub struct Row {
     /// The state: 0 if the attribute is unspecified, 1 if it is set, 2 if it is unset, 3 if it has a value.
     pub state: i32,
@@ -45,26 +45,6 @@ pub struct Row {
 }
 
 impl Row {
-    /// A row of zeros.
-    pub(crate) fn zero() -> Row
-        ensures { result ≡ zero_row }
-    {
-        Row {
-            state: 0,
-            flags: 0,
-            line: 0,
-            list: 0,
-            name: 0,
-            cause: 0,
-            at: 0,
-            name_length: 0,
-            value_length: 0,
-            source_length: 0,
-            pattern_length: 0,
-            cause_length: 0,
-        }
-    }
-
     /// The row of an answer for the attribute with this number, whose texts begin there in the buffer.
     #[inline(always)]
     pub(crate) fn of(
@@ -125,18 +105,12 @@ fn list_of(location: MatchLocation<'_>) -> usize
     ensures { result ≡ unwrap_or (option_map (λ label. list_number label.now)
         location.entry.source) none }
 {
-    match location.source {
-        Some(label) => list_index(label),
-        None => NONE,
-    }
+    location.source.map_or(NONE, list_index)
 }
 
 #[inline(always)]
 fn number_or_none(id: Option<AttributeId>) -> usize
     ensures { result ≡ unwrap_or (option_map (λ id. id.0) id) none }
 {
-    match id {
-        Some(id) => id.0,
-        None => NONE,
-    }
+    id.map_or(NONE, |id| id.0)
 }

@@ -1,6 +1,6 @@
 //! All answers at once, as rows and texts.
 
-ghost use Rattle.std.specs.Prelude.{◌≡◌, ◌⊎◌, ◌↔◌, ◌<◌, ◌≤◌, ◌++◌, ◌-◌, IfSome, IfNone, MatchOption, None, Some, [], drop, length, map, min, nat_lt, option_map, slice_set, if◌then◌else◌};
+ghost use Rattle.std.specs.Prelude.{◌≡◌, ◌⊎◌, ◌↔◌, ◌<◌, ◌≤◌, ◌++◌, ◌-◌, IfSome, IfNone, MatchOption, None, Some, drop, length, min, nat_lt, option_map, slice_set, if◌then◌else◌};
 ghost use Rattle.gix_attributes.specs.EngineStates.{AnswersTo, FindsFor, without_answers};
 ghost use Rattle.yektrod.specs.Held.{Becomes, found_held, held, labelled, sourced};
 ghost use Rattle.yektrod.specs.inner.Laid.{IsLaid, IsLaidBehind};
@@ -10,7 +10,6 @@ ghost use Rattle.yektrod.specs.RowsTold.{AreZero, labelled_answer, answers_of, l
 ghost use Rattle.yektrod.specs.Sourced.{AreLabelled};
 ghost use Rattle.yektrod.specs.Statuses.{status_done, status_missing, status_no_memory, status_no_room, status_shut, status_unreadable};
 
-use crate::questions::{case_of, dir_flag_of};
 use crate::row::Row;
 use crate::row_texts::RowTexts;
 use crate::slot::Slot;
@@ -18,6 +17,7 @@ use crate::sourced::SourcedEngine;
 use crate::status::{DONE, MISSING, NO_MEMORY, NO_ROOM, SHUT, UNREADABLE};
 use bstr::BStr;
 use gix_attributes::engine::Question;
+use gix_attributes::glob::pattern::Case;
 use gix_attributes::search::AttributeId;
 use std::alloc::Global;
 
@@ -31,6 +31,33 @@ pub struct PathQuestion<'a> {
     pub fold: bool,
     /// 1 for a directory, 0 for none, and -1 if that is not known.
     pub is_dir: i32,
+}
+
+impl<'a> PathQuestion<'a> {
+    // The question for an engine: none if the number for a directory is out of range.
+    pub(crate) fn question(self) -> Option<Question<'a>>
+        ensures { MatchOption result (¬ IsDirectoryNumber self.entry.is_dir) (λ question.
+            IsDirectoryNumber self.entry.is_dir × (question.path.bytes.now ≡ self.entry.path.now)
+            × (question.case ≡ passed_case self.entry.fold)
+            × (question.is_dir ≡ directory_flag self.entry.is_dir)) }
+    {
+        let is_dir = match self.is_dir {
+            1 => Some(true),
+            0 => Some(false),
+            -1 => None,
+            _ => return None,
+        };
+        let case = if self.fold {
+            Case::Fold
+        } else {
+            Case::Sensitive
+        };
+        Some(Question {
+            path: BStr::new(self.path),
+            case,
+            is_dir,
+        })
+    }
 }
 
 /// How many rows and how many bytes of text the answers to a question take.
@@ -95,15 +122,10 @@ pub extern "C" fn yektrod_ask_into(
     if !slot.live {
         return SHUT;
     }
-    let Some(is_dir) = flag_of(question) else {
+    let Some(asked) = question.question() else {
         return UNREADABLE;
     };
     let held = slot.handle.engine();
-    let asked = Question {
-        path: BStr::new(question.path),
-        case: case_of(question.fold),
-        is_dir,
-    };
     let Ok(count) = held.ask(alloc, asked) else {
         return NO_MEMORY;
     };
@@ -114,7 +136,7 @@ pub extern "C" fn yektrod_ask_into(
         text: length,
     };
     if count > rows.len() || length > text.len() {
-        clear(rows);
+        rows.fill(Row::default());
         return NO_ROOM;
     }
     DONE
@@ -189,7 +211,7 @@ pub extern "C" fn yektrod_found(
     };
     *needed = length;
     if length > text.len() {
-        *row = Row::zero();
+        *row = Row::default();
         return NO_ROOM;
     }
     *row = told;
@@ -209,14 +231,6 @@ fn tell_found(held: &SourcedEngine, number: usize, text: &mut [u8]) -> Option<(R
     let texts = RowTexts::of(held, found);
     let row = Row::of(found, Some(AttributeId(number)), texts, 0);
     Some((row, texts.lay(text, 0)))
-}
-
-// Whether the path is a directory, if that is known: none if the number is out of range.
-fn flag_of(question: &PathQuestion<'_>) -> Option<Option<bool>>
-    ensures { MatchOption result (¬ IsDirectoryNumber question.now.is_dir) (λ flag.
-        IsDirectoryNumber question.now.is_dir × (flag ≡ directory_flag question.now.is_dir)) }
-{
-    dir_flag_of(question.is_dir)
 }
 
 // Tells all answers and their texts, as far as there is room for them, and returns the length of the texts.
@@ -259,15 +273,6 @@ fn put_row(rows: &mut [Row], i: usize, row: Row)
     }
 }
 
-// Makes each row zero.
-fn clear(rows: &mut [Row])
-    ensures { AreZero rows.new }
-{
-    for i in 0..rows.len() {
-        rows[i] = Row::zero();
-    }
-}
-
 // Tells the answers from one on, as far as there is room for them, and returns how many these are.
 fn tell_from(held: &SourcedEngine, from: usize, rows: &mut [Row]) -> usize
     ensures rows { rows.new ≡ laid_rows rows.old (drop from (rows_alone held.now)) }
@@ -292,6 +297,6 @@ fn row_alone(held: &SourcedEngine, i: usize) -> Row
     let engine = held.labelled();
     match engine.answer(i) {
         Some(found) => Row::of(found, engine.number_of(i), RowTexts::of(held, found), 0),
-        None => Row::zero(),
+        None => Row::default(),
     }
 }

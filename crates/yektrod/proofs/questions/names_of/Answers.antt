@@ -1,7 +1,7 @@
 use Rattle.std.proofs.Common.{ℕ, ◌≤◌, All, Bor, IsUtf8, List, [], ◌∷◌, ◌++◌, ap, ◌∙◌, sym, subst, arith, length, map, take}
 use Rattle.std.proofs.lemmas.List.Elements.{All-more}
 use Rattle.std.proofs.lemmas.List.{map-append, take_all, take_more}
-use Rattle.yektrod.proofs.texts.names_of.Goals as goal
+use Rattle.yektrod.proofs.questions.names_of.Goals as goal
 
 abbrev nowhere : Bor (List ℕ)
 nowhere = record { ref_ptr = (0, 0); now = [] }

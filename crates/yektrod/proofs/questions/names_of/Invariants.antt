@@ -1,5 +1,5 @@
 use Rattle.std.proofs.Common.{◌≡◌, All, IsUtf8, map, take}
-use Rattle.yektrod.proofs.texts.names_of.Given as goal
+use Rattle.yektrod.proofs.questions.names_of.Given as goal
 
 -- the names so far are UTF-8, and the texts are theirs
 abbrev pub invariant-loop-name : goal.invariant-loop-name

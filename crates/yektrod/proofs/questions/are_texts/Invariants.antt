@@ -1,5 +1,5 @@
 use Rattle.std.proofs.Common.{All, IsUtf8, take}
-use Rattle.yektrod.proofs.texts.are_texts.Given as goal
+use Rattle.yektrod.proofs.questions.are_texts.Given as goal
 
 -- the names so far are UTF-8
 abbrev pub invariant-loop-name : goal.invariant-loop-name

@@ -1,7 +1,7 @@
 use Rattle.std.proofs.Common.{ℕ, ◌≤◌, All, Bor, IsUtf8, List, [], refl, subst, arith, length}
 use Rattle.std.proofs.lemmas.List.Elements.{All-more}
 use Rattle.std.proofs.lemmas.List.{take_all}
-use Rattle.yektrod.proofs.texts.are_texts.Goals as goal
+use Rattle.yektrod.proofs.questions.are_texts.Goals as goal
 
 abbrev nowhere : Bor (List ℕ)
 nowhere = record { ref_ptr = (0, 0); now = [] }
