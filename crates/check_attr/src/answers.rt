@@ -6,7 +6,7 @@ ghost use Rattle.gix_attributes.specs.TextViews.{state_view};
 ghost use Rattle.gix_attributes.specs.Matches.{match_view, cause_of};
 ghost use Rattle.check_attr.specs.inner.Pieces.{FillsNoPiece, Passes};
 ghost use Rattle.check_attr.specs.inner.MatchText.{match_entry};
-ghost use Rattle.check_attr.specs.ScriptText.{info, cause_text, origin_text, answer_text, entry_text};
+ghost use Rattle.check_attr.specs.ScriptText.{info, cause_text, origin_text, answer_text};
 
 use crate::fault::Fault;
 use crate::held::Held;
@@ -55,8 +55,16 @@ fn push_entry(
 {
     match question.form {
         Form::Line => push_line(held, question.path, one.assignment),
-        Form::Zero => push_fields(held, question.path, one.assignment),
-        Form::Origin => push_line_with_origin(alloc, held, question.path, engine, one),
+        Form::Zero => {
+            push_answer(held, question.path, b"\0", one.assignment)?;
+            held.push(b"\0")
+        }
+        Form::Origin => {
+            push_answer(held, question.path, b": ", one.assignment)?;
+            held.push(b"\t")?;
+            push_origin(alloc, held, engine, one)?;
+            held.push(b"\n")
+        }
     }
 }
 
@@ -73,52 +81,16 @@ fn push_line(held: &mut Held, path: &[u8], assignment: AssignmentRef<'_>) -> Res
         StateRef::Set => held.push(b": set\n"),
         StateRef::Unset => held.push(b": unset\n"),
         StateRef::Unspecified => held.push(b": unspecified\n"),
-        StateRef::Value(value) => push_value(held, value.as_bstr().as_bytes()),
+        StateRef::Value(value) => {
+            held.push(b": ")?;
+            held.push(value.as_bstr().as_bytes())?;
+            held.push(b"\n")
+        }
     }
 }
 
-fn push_value(held: &mut Held, value: &[u8]) -> Result<(), AllocError>
-    ensures { OnOk result (held.new ≡ held.old ++ codes ": " ++ value.now ++ codes "\n") }
-{
-    held.push(b": ")?;
-    held.push(value)?;
-    held.push(b"\n")
-}
-
-// The path, the name and the state, each with NUL behind it.
+// The path, the name and the state. It stays a call, so that the loop over answers is short for those that are lines.
 #[inline(never)]
-fn push_fields(
-    held: &mut Held,
-    path: &[u8],
-    assignment: AssignmentRef<'_>,
-) -> Result<(), AllocError>
-    ensures { OnOk result (held.new
-        ≡ held.old ++ answer_text path.now (codes "\0") assignment.entry.name.text.now
-        (state_view assignment.entry.state) ++ codes "\0") }
-{
-    push_answer(held, path, b"\0", assignment)?;
-    held.push(b"\0")
-}
-
-// The path, the name and the state as a line, with what decided.
-#[inline(never)]
-fn push_line_with_origin(
-    alloc: Global,
-    held: &mut Held,
-    path: &[u8],
-    engine: &Engine,
-    one: Match<'_>,
-) -> Result<(), AllocError>
-    ensures { let m = match_view one.entry in OnOk result (held.new
-        ≡ held.old ++ entry_text Form.Origin engine.now.state.names path.now m) }
-{
-    push_answer(held, path, b": ", one.assignment)?;
-    held.push(b"\t")?;
-    push_origin(alloc, held, engine, one)?;
-    held.push(b"\n")
-}
-
-// The path, the name and the state.
 fn push_answer(
     held: &mut Held,
     path: &[u8],
@@ -148,6 +120,7 @@ fn push_info(held: &mut Held, state: StateRef<'_>) -> Result<(), AllocError>
 }
 
 // The source, line and pattern that decided, and the macro. An attribute that no line assigns has none of these.
+#[inline(never)]
 fn push_origin(
     alloc: Global,
     held: &mut Held,

@@ -6,7 +6,7 @@ ghost use Rattle.gix_attributes.specs.FileReads.{FileRead, names_read};
 ghost use Rattle.check_attr.specs.GlobalFiles.{CountsDevice, ReadsNames, RefusesNames, all_dropped_text, loaded_from};
 ghost use Rattle.check_attr.specs.Outcomes.{ReadsInputFirst, UsesReader, UsesWriter};
 ghost use Rattle.check_attr.specs.inner.Whole.{WritesFlushed};
-ghost use Rattle.check_attr.specs.Program.{IsLinesAlone, Prints, PrintsOutcome, WritesLinesOutcome, WritesOutcome, fault_line, refusal_line, status_after, status_of};
+ghost use Rattle.check_attr.specs.Program.{IsLinesAlone, Prints, PrintsOutcome, WritesLinesOutcome, WritesOutcome, fault_line, refusal_line, status_after};
 
 use crate::dropped_lines::push_dropped;
 use crate::fault::Fault;
@@ -132,15 +132,6 @@ fn is_lines_alone(args: &[String]) -> bool
     }
 }
 
-fn status_of(fault: &Fault) -> u8
-    ensures { result ≡ status_of fault.now }
-{
-    match fault {
-        Fault::Record(_) => 2,
-        Fault::Read | Fault::Write | Fault::OutOfMemory => 1,
-    }
-}
-
 // Prints why a run ended early, if it did, and returns the status.
 fn finish<E: Push>(errors: &mut E, outcome: &Result<(), Fault>) -> u8
     ensures status { result ≡ status_after outcome.now }
@@ -151,7 +142,10 @@ fn finish<E: Push>(errors: &mut E, outcome: &Result<(), Fault>) -> u8
         Ok(()) => 0,
         Err(fault) => {
             print_fault(errors, fault);
-            status_of(fault)
+            match fault {
+                Fault::Record(_) => 2,
+                Fault::Read | Fault::Write | Fault::OutOfMemory => 1,
+            }
         }
     }
 }

@@ -3,7 +3,6 @@
 #![tactic(auto)]
 
 mod answers;
-mod applying;
 mod command;
 mod dropped_lines;
 mod failure_count;

@@ -64,18 +64,10 @@ fn push_line(
 {
     match line {
         Ok((_kind, items, number)) => push_parsed(alloc, held, items, number),
-        Err(
-            parse::Error::MacroName {
-                line,
-                input: _input,
-            },
-        ) => push_refused(held, line, b"! macro-name\n"),
-        Err(
-            parse::Error::NegativePattern {
-                line,
-                input: _input,
-            },
-        ) => push_refused(held, line, b"! negative\n"),
+        Err(parse::Error::MacroName { line, .. }) => push_refused(held, line, b"! macro-name\n"),
+        Err(parse::Error::NegativePattern { line, .. }) => {
+            push_refused(held, line, b"! negative\n")
+        }
         Err(parse::Error::OutOfMemory) => Err(AllocError),
     }
 }
@@ -91,17 +83,10 @@ fn push_parsed(
 {
     held.push_number(number)?;
     held.push(b":")?;
-    push_items(alloc, held, items)?;
-    held.push(b"\n")
-}
-
-fn push_items(alloc: Global, held: &mut Held, items: Iter<'_>) -> Result<(), AllocError>
-    ensures { OnOk result (held.new ≡ held.old ++ flat_map item_text items.entry) }
-{
     for item in items {
         push_item(alloc, held, item)?;
     }
-    Ok(())
+    held.push(b"\n")
 }
 
 fn push_refused(held: &mut Held, number: usize, why: &[u8]) -> Result<(), AllocError>

@@ -1,12 +1,12 @@
 //! The parser of scripts: the records `add`, `pop`, `names` and `ask`, one after the other.
 
-ghost use Rattle.std.specs.Prelude.{◌≡◌, ◌≤◌, ◌==◌, ◌∷◌, [], true, false, Some, None, IfOk, length, position, option_map, map, codes, if◌then◌else◌};
+ghost use Rattle.std.specs.Prelude.{◌≡◌, ◌≤◌, ◌==◌, [], true, false, Some, None, IfOk, length, position, option_map, if◌then◌else◌};
 ghost use Rattle.std.specs.Char.{is_ascii_digit};
 ghost use Rattle.std.specs.List.{list_all};
 ghost use Rattle.std.specs.Option.{option_copied};
 ghost use Rattle.std.specs.Str.{is_utf8};
 ghost use Rattle.gix_attributes.specs.LinesJoined.{line_feed};
-ghost use Rattle.check_attr.specs.inner.ScriptParts.{IsFirstRecord, IsNumberBefore, strip_prefix, choice_of, cases, directory_flags, forms, macro_flags, split_once, split_at, if_text, is_number, digits_value, most_digits, number_before, root_length, root_of, addition_of, add_record, names_record, ask_record, text_lines, ◌then◌};
+ghost use Rattle.check_attr.specs.inner.ScriptParts.{IsFirstRecord, IsNumberBefore, choice_of, cases, directory_flags, forms, macro_flags, split_once, split_at, if_text, is_number, digits_value, most_digits, number_before, root_length, root_of, addition_of, add_record, names_record, ask_record, text_lines, ◌then◌};
 ghost use Rattle.check_attr.specs.inner.ScriptViews.{lines_view, part_view, record_view, with_rest};
 
 use gix_attributes::engine::Addition;
@@ -104,7 +104,7 @@ fn addition_of(
 {
     let (source, rest) = split_text(source_len, bytes)?;
     let (root, rest) = root_of(root_len, rest)?;
-    let (buffer, rest) = split_at(buffer_len, rest)?;
+    let (buffer, rest) = rest.split_at_checked(buffer_len)?;
     let [b'\n', rest @ ..] = rest else {
         return None;
     };
@@ -124,7 +124,7 @@ fn ask_record(bytes: &[u8]) -> Option<(Record<'_>, &[u8])>
     let (case, rest) = case_of(rest)?;
     let (is_dir, rest) = directory_flag(rest)?;
     let (path_len, rest) = number_before(b'\n', rest)?;
-    let (path, rest) = split_at(path_len, rest)?;
+    let (path, rest) = rest.split_at_checked(path_len)?;
     let [b'\n', rest @ ..] = rest else {
         return None;
     };
@@ -256,17 +256,11 @@ fn position_of(separator: u8, bytes: &[u8]) -> Option<usize>
     bytes.iter().position(|byte| *byte == separator)
 }
 
-fn split_at(count: usize, bytes: &[u8]) -> Option<(&[u8], &[u8])>
-    ensures { option_map (with_rest part_view) result ≡ split_at count bytes.now }
-{
-    bytes.split_at_checked(count)
-}
-
 // The first `count` bytes as text, and those after them.
 fn split_text(count: usize, bytes: &[u8]) -> Option<(&str, &[u8])>
     ensures { option_map (with_rest part_view) result ≡ (split_at count bytes.now then if_text) }
 {
-    let (part, rest) = split_at(count, bytes)?;
+    let (part, rest) = bytes.split_at_checked(count)?;
     Some((as_text(part)?, rest))
 }
 

@@ -4,17 +4,22 @@ ghost use Rattle.std.specs.Prelude.{◌≡◌, ◌≢◌, ◌⊎◌, ℕ, [], No
 ghost use Rattle.std.specs.Io.KnownBytes.{IsAtEnd};
 ghost use Rattle.check_attr.specs.Outcomes.{CountsReads, CountsWrites, ReadsInputFirst};
 ghost use Rattle.check_attr.specs.Program.{Plays};
+ghost use Rattle.check_attr.specs.ScriptStates.{next_state};
 ghost use Rattle.check_attr.specs.ScriptText.{AppendsFrontFrom, AppendsTextFrom, WritesText, WritesTextFront};
 ghost use Rattle.check_attr.specs.inner.Whole.{ReadsAllFirst};
-ghost use Rattle.check_attr.specs.inner.PassedText.{PassesScript, PlaysInMemory};
+ghost use Rattle.check_attr.specs.inner.PassedText.{PassesAnswers, PassesRecord, PassesScript, PlaysInMemory};
+ghost use Rattle.check_attr.specs.inner.ScriptViews.{question_view, record_view};
 
-use crate::applying::apply;
+use crate::answers::pass_answers;
+use crate::dropped_lines::pass_dropped;
 use crate::fault::Fault;
 use crate::global_lists::Globals;
 use crate::held::Held;
 use crate::reading::{Pull, read_all};
-use crate::script::record_of;
+use crate::script::{Question, Record, record_of};
 use crate::writing::{Push, write_all};
+use bstr::BStr;
+use gix_attributes::engine;
 use gix_attributes::engine::Engine;
 use std::alloc::Global;
 
@@ -149,4 +154,54 @@ fn answer<W: Push>(
         number += 1;
     }
     Ok(None)
+}
+
+// Applies a record, and passes on the text that it writes, after what is held.
+fn apply<W: Push>(
+    engine: &mut Engine,
+    alloc: Global,
+    next: Record<'_>,
+    writer: &mut W,
+    held: &mut Held,
+) -> Result<(), Fault>
+    ensures state { OnOk result (engine.new.state
+        ≡ next_state (record_view next.entry) engine.old.state) }
+    ensures text { PassesRecord W.contents W.failed W.stalled engine.old.state
+        (record_view next.entry) writer.old writer.new held.old held.new result }
+{
+    match next {
+        Record::Add(addition) => {
+            engine.add(alloc, addition)?;
+            pass_dropped(writer, held, addition.source, engine.dropped())
+        }
+        Record::Pop => {
+            engine.pop();
+            Ok(())
+        }
+        Record::Names(names) => {
+            engine.select(alloc, &names)?;
+            Ok(())
+        }
+        Record::Ask(question) => ask(engine, alloc, question, writer, held),
+    }
+}
+
+fn ask<W: Push>(
+    engine: &mut Engine,
+    alloc: Global,
+    question: Question<'_>,
+    writer: &mut W,
+    held: &mut Held,
+) -> Result<(), Fault>
+    ensures state { OnOk result (engine.new.state ≡ engine.old.state) }
+    ensures text { PassesAnswers W.contents W.failed W.stalled engine.old.state
+        (question_view question.entry) writer.old writer.new held.old held.new result }
+{
+    let asked = engine::Question {
+        path: BStr::from(question.path),
+        case: question.case,
+        is_dir: question.is_dir,
+    };
+    engine.ask(alloc, asked)?;
+    pass_answers(alloc, writer, held, question, engine)
 }

@@ -9,7 +9,7 @@ use Rattle.check_attr.specs.ScriptText.{IsRecordText, dropped_text}
 use Rattle.check_attr.specs.inner.Pieces.{Passes}
 use Rattle.check_attr.specs.inner.ScriptViews.{record_view}
 use Rattle.check_attr.proofs.PieceLemmas.{holds_all, refused_record}
-use Rattle.check_attr.proofs.applying.apply.Goals as goal
+use Rattle.check_attr.proofs.script_run.apply.Goals as goal
 
 pub returns-in_ok-add-in-Add-clause-text : goal.returns-in_ok-add-in-Add-clause-text
 returns-in_ok-add-in-Add-clause-text g c =

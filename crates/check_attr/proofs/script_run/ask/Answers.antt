@@ -7,7 +7,7 @@ use Rattle.check_attr.specs.ScriptText.{entry_text}
 use Rattle.check_attr.specs.inner.ScriptViews.{question_view}
 use Rattle.check_attr.proofs.AnswerLemmas.{answer_text_of}
 use Rattle.check_attr.proofs.PieceLemmas.{refused_record}
-use Rattle.check_attr.proofs.applying.ask.Goals as goal
+use Rattle.check_attr.proofs.script_run.ask.Goals as goal
 
 pub returns-in_err-ask-clause-text : goal.returns-in_err-ask-clause-text
 returns-in_err-ask-clause-text g c =
