@@ -10,10 +10,12 @@ pub use Rattle.attr_lists.proofs.RegistersLemmas.{body_named, body_within, defin
 -- Names. `with_names-extends`: new names are appended. `list_numbered`: the lines of a list that is added have the numbers of their
 -- names. `number_at`: of names that differ, the one at a number has this number.
 pub use Rattle.attr_lists.proofs.NameLemmas.{with_names-extends}
+-- `lines_numbered_by`: lines that were read have the numbers of their names. `names_back`: the first names are those before. `registers_read`:
+-- such lines are registered as those of the buffer.
+pub use Rattle.attr_lists.proofs.FreshNames.{lines_numbered_by, names_back, registers_read}
 pub use Rattle.attr_lists.proofs.NameTableLaws.{list_numbered}
 pub use Rattle.attr_lists.proofs.NamedDefinitions.{number_at}
--- Lists. `kept_macros_valid_where`: the macros that a list keeps of a buffer have valid names. `copied_lines`: a copy has the lines.
+-- Lists. `copied_lines`: a copy has the lines.
 pub use Rattle.attr_lists.proofs.CopiedLines.{copied_lines}
-pub use Rattle.attr_lists.proofs.KeptLaws.{kept_macros_valid_where}
 -- `get_or-map`: an element of a mapped list.
 pub use Rattle.attr_lists.proofs.ListLemmas.{get_or-map}

@@ -1,6 +1,7 @@
 pub mod CopiedLines
 pub mod DefinitionLemmas
 pub mod EntryLemmas
+pub mod FreshNames
 pub mod KeptLaws
 pub mod KeptLemmas
 pub mod LineLaws
@@ -12,6 +13,7 @@ pub mod NameTableLaws
 pub mod NameTableSteps
 pub mod NamedDefinitions
 pub mod NumberLemmas
+pub mod ReadingLemmas
 pub mod RegisteredLemmas
 pub mod RegistersLemmas
 pub mod RunLemmas

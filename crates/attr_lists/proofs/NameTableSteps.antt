@@ -229,11 +229,6 @@ pub partly_added : (p : Parts) (names texts : List (List ℕ)) (entries : Vec Na
     → IsPartlyAdded list_id p (record { names = names; entries = entries; lists = lists; macros = macros })
 partly_added p names texts entries lists macros list_id is count are others same kept = grind (arith, with_names-extends p.names texts)
 
--- the definitions of other lists stay when names and definitions are added
-pub others_kept_on : (list_id : ℕ) (old extended seen now items : List NameEntry) → ((n : ℕ) → definitions_at extended n ≡ definitions_at old n)
-    → seen ≡ extended → KeepsOtherDefinitions list_id seen now → items ≡ now → KeepsOtherDefinitions list_id old items
-others_kept_on list_id old extended seen now items same seen_is others items_is n = grind arith
-
 -- `mid` are the parts when memory runs out, and `now` those that are taken back
 module _ (start mid now : Parts) (list_id count : ℕ) (part : IsPartlyAdded list_id start mid) (count_is : count ≡ length start.names)
     (whole : AreWhole start) (above : IsAbove list_id (registered_views start.lists.items)) (names : now.names ≡ take count mid.names)

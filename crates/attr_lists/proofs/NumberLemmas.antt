@@ -1,17 +1,15 @@
 -- Lines whose items have the numbers of their names.
-use Rattle.std.proofs.Common.{◌≡◌, ℕ, ◌+◌, ◌<◌, ◌≤◌, true, false, ltb, List, [], ◌∷◌, ◌++◌, length, get_or, set, map, drop, take, bytes_eq}
+use Rattle.std.proofs.Common.{◌≡◌, ℕ, ◌+◌, ◌<◌, ◌≤◌, true, false, ltb, List, [], ◌∷◌, ◌++◌, length, get_or, set, map, drop, bytes_eq}
 use Rattle.std.proofs.Common.{Some, None, sym, ap, subst, ◌∙◌, ⊎_elim, true≢false, arith}
 use Rattle.std.specs.List.{list_any, position_or_len}
 use Rattle.std.specs.Cmp.Lexicographic.{bytes_decides}
 use Rattle.std.proofs.lemmas.Bool.{cases_lt, cond-true, lt-ltb}
-use Rattle.std.proofs.lemmas.List.{length-append, length-map, map-append, map-set, take_more_set, get_or_append_left, get_or_default}
-use Rattle.std.proofs.lemmas.Grind.{flat_map-append}
+use Rattle.std.proofs.lemmas.List.{length-append, length-map, map-set, get_or_append_left, get_or_default}
 use Rattle.std.proofs.lemmas.List.Folds.{list_any_at}
 use Rattle.std.proofs.lemmas.List.Quantifiers.{position-Some}
 use Rattle.attr_glob.specs.declared.search.pattern.Mapping.{Mapping}
 use Rattle.attr_lists.specs.declared.types.TrackedAssignment.{TrackedAssignment}
 use Rattle.attr_lists.specs.declared.types.Value.{Value}
-use Rattle.attr_lists.specs.Definitions.{macro_defined, macros_defined}
 use Rattle.attr_lists.specs.KeptLists.{macro_valid, macros_valid}
 use Rattle.attr_lists.specs.ListViews.{entry_view, entries_view}
 use Rattle.attr_lists.specs.Numbers.{names_of, names_in, number_of, id_of, with_name, with_names, numbered_item, numbered}
@@ -88,11 +86,6 @@ module _ (start : List (List ℕ)) (lines : List (Mapping Value)) where
         rest,
         number_list_step all lines done i d line lt e (is ∙ ap (numbered now) here ∙ stays ∙ ap (numbered all) (sym here)),
       )
-
--- the macros of one more line
-pub macros_step : (done : List (Mapping Value)) (i : ℕ) (line : Mapping Value) → i < length done → macros_defined (entries_view (take i done))
-    ++ macro_defined (entry_view line) ≡ macros_defined (entries_view (take (i + 1) (set done i line)))
-macros_step done i line lt = grind (arith, take_more_set, map-append, flat_map-append)
 
 -- the number of a name that was not there
 pub number_of_new : (known : List (List ℕ)) (name : List ℕ) → list_any (bytes_eq name) known ≡ false

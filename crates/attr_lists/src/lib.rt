@@ -1,7 +1,7 @@
 //! Lists of attributes: the mappings of an attributes file, the numbers of attribute names, and the definitions of macros.
 #![tactic(auto)]
 
-pub mod known_texts;
+mod known_values;
 mod last_read;
 pub mod laws;
 pub mod name_table;

@@ -4,7 +4,8 @@
 //! Each list is registered under a list id that no other registered list has. A definition belongs to a list, and is
 //! removed with it.
 ghost use Rattle.std.specs.Prelude.{◌≡◌, true, false, ◌<◌, ◌↔◌, length, All, Some, None, nat_lt, if◌then◌else◌, option_map, IfOk, OnOk, OnErr, IfSome, IsSome, IsTrue, slice_get, option_copied};
-ghost use Rattle.attr_lists.specs.Definitions.{definitions_of, last_defined, macro_body, is_registered, with_list, without_list, HoldsList, IsSoundCollection};
+ghost use Rattle.attr_lists.specs.Definitions.{definitions_of, last_defined, macro_body, is_registered, with_list, without_list, HoldsList, IsSoundCollection, RegistersAs};
+ghost use Rattle.attr_lists.specs.shared.Reading.{IsReadWith, with_first};
 ghost use Rattle.attr_lists.specs.shared.Keeping.{StayRegistered, OthersStayRegistered, IsNumbered};
 ghost use Rattle.attr_lists.specs.shared.MacroNumbers.{ListsMacros};
 ghost use Rattle.std.specs.Iterator.{YieldsFirstBy, item_count};
@@ -16,14 +17,14 @@ ghost use Rattle.attr_lists.specs.Numbers.{AppendsNames, number_of, numbered_lin
 
 mod entry;
 mod macros;
-mod name_set;
+pub(crate) mod name_set;
 mod numbers;
 mod parts;
 mod registered;
 
 use crate::name_table::name_set::NameSet;
 use crate::name_table::parts::Parts;
-use crate::types::{Metadata, Value};
+use crate::types::{Dropped, Metadata, Value};
 use attr_glob::search::pattern::Mapping;
 use std::alloc::{AllocError, Global};
 use std::collections::BTreeSet;
@@ -136,6 +137,76 @@ impl NameTable {
         Some((name, entry.metadata()))
     }
 
+    /// Reads a buffer as the lines of a list, and returns them with the dropped lines. Lines that define a macro are left out unless
+    /// macros are allowed. The lines have the numbers of their names, and new names get the next numbers. A line that is dropped or
+    /// left out numbers none.
+    ///
+    /// # Errors
+    ///
+    /// If memory runs out. The table is then as it was.
+    pub fn read(
+        &mut self,
+        alloc: Global,
+        bytes: &[u8],
+        allow_macros: bool,
+    ) -> Result<(Vec<Mapping<Value>>, Vec<Dropped>), AllocError>
+        ensures read { IfOk result (λ r. IsReadWith
+            allow_macros bytes.now self.old.names self.new.names r.0.items r.1.items) }
+        ensures lists { self.new.lists ≡ self.old.lists }
+        ensures sound { IsSoundCollection self.new }
+        ensures err { OnErr result (self.new ≡ self.old) }
+    {
+        let count = self.len();
+        match self.parts.read(alloc, bytes, allow_macros) {
+            Ok(read) => Ok(read),
+            Err(error) => {
+                self.parts.take_back(count);
+                Err(error)
+            }
+        }
+    }
+
+    /// Removes the names whose numbers are `count` or greater, which no registered list has. It takes no memory.
+    pub fn take_back(&mut self, count: usize)
+        requires { IsSoundCollection (with_first count self.old) }
+        ensures { self.new ≡ with_first count self.old }
+    {
+        self.parts.take_back(count);
+    }
+
+    /// Registers a list whose lines have the numbers of their names, and returns its list id, which no registered list has. Its
+    /// definitions come after those of the other lists.
+    ///
+    /// # Errors
+    ///
+    /// If memory runs out. The table is then as it was.
+    pub fn register(
+        &mut self,
+        alloc: Global,
+        mappings: &[Mapping<Value>],
+    ) -> Result<usize, AllocError>
+        requires numbered { All (IsNumbered self.old.names) (entries_view mappings.now) }
+        ensures registered { IfOk result (λ list_id.
+            RegistersAs list_id (entries_view mappings.now) self.old self.new) }
+        ensures holds { IfOk result
+            (λ list_id. HoldsList self.new list_id (entries_view mappings.now)) }
+        ensures others { OnOk result (StayRegistered self.old self.new) }
+        ensures sound { IsSoundCollection self.new }
+        ensures err { OnErr result (self.new ≡ self.old) }
+    {
+        let Some(list_id) = registered::next_id(&self.parts.lists) else {
+            return Err(AllocError);
+        };
+        let count = self.len();
+        match self.parts.register(alloc, list_id, mappings) {
+            Ok(()) => Ok(list_id),
+            Err(error) => {
+                self.parts.roll_back(count, list_id);
+                Err(error)
+            }
+        }
+    }
+
     /// Registers a list and returns its list id, which no registered list has. The list's new names get the next
     /// numbers, and its items and macros get the numbers of their names. Its definitions come after those of the other
     /// lists.
@@ -205,7 +276,7 @@ impl NameTable {
         ensures content { IfOk result (λ copy. copy ≡ self.now) }
         ensures sound { IsSoundCollection self.now }
     {
-        let names = self.parts.names.clone()?;
+        let names = self.parts.names.clone(alloc)?;
         let entries = entry::clone_entries(alloc, &self.parts.entries)?;
         let lists = self.parts.lists.clone()?;
         let macros = self.parts.macros.clone()?;

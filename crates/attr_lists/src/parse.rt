@@ -296,7 +296,7 @@ pub(crate) fn check_attr<'a>(attr: &'a [u8]) -> Result<NameRef<'a>, AttrError<'a
 
 /// Whether the name is reserved for built-in attributes: it begins with `builtin_` (gitattributes). Most names are told apart by
 /// their first byte, without a comparison of slices.
-fn is_reserved(name: &[u8]) -> bool
+pub(crate) fn is_reserved(name: &[u8]) -> bool
     ensures { result ≡ is_reserved_name name.now }
 {
     !name.is_empty() && name[0] == b'b' && name.starts_with(b"builtin_")

@@ -1,25 +1,27 @@
 //! The lines of an attributes file as the mappings of a list.
 
-ghost use Rattle.std.specs.Prelude.{◌≡◌, ◌++◌, true, Ok, IfOk, OnOk, MatchOption, filter};
-ghost use Rattle.std.specs.Option.{option_to_list};
-ghost use Rattle.std.specs.Result.{result_ok, result_err, result_map_both};
+ghost use Rattle.std.specs.Prelude.{◌≡◌, ◌||◌, map, Ok, IfOk, OnErr};
+ghost use Rattle.std.specs.Result.{result_map_both};
 ghost use Rattle.attr_glob.specs.Patterns.{all_flags};
 ghost use Rattle.attr_glob.specs.Views.{mode_bits, pattern_view};
 ghost use Rattle.attr_text.specs.Items.{checked_name, with_state};
 ghost use Rattle.attr_text.specs.Names.{is_valid_name};
 ghost use Rattle.attr_text.specs.TextViews.{state_view};
 ghost use Rattle.attr_lists.specs.LineViews.{target_view, line_view};
-ghost use Rattle.attr_lists.specs.inner.LineSteps.{given_by, IsLineRead, kept_line_view};
+ghost use Rattle.attr_lists.specs.inner.LineSteps.{given_by, forgotten, item_name, item_names, kept_line_view, numbered_items, target_id, target_names, target_pattern, IsLineReadWith};
+ghost use Rattle.attr_lists.specs.inner.NameSteps.{InsertsNames};
 ghost use Rattle.attr_lists.specs.ListViews.{entry_view, entries_view};
+ghost use Rattle.attr_lists.specs.Numbers.{AppendsNames, names_of, numbered, numbered_item};
 ghost use Rattle.attr_lists.specs.shared.MacroNumbers.{defines_macros};
-ghost use Rattle.attr_lists.specs.KeptLists.{IsReadAs, tracked, reason_of, items_read, macro_pattern, entry_for, line_read, defines_no_macro, macro_valid, macros_valid};
+ghost use Rattle.attr_lists.specs.shared.Reading.{IsReadWith, ReadsNumbered};
+ghost use Rattle.attr_lists.specs.KeptLists.{IsReadAs, tracked, reason_of, items_read, line_read, defines_no_macro, macro_valid, macros_valid};
 
-use crate::known_texts::KnownTexts;
+use crate::name_table::name_set::NameSet;
 use crate::parse::{AttrError, Error, Iter, Kind, parse};
 use crate::types::{Assignments, AttributeId, DropReason, Dropped, TrackedAssignment, Value};
 use attr_glob::pattern::Mode;
-use attr_glob::search;
 use attr_glob::search::pattern::Mapping;
+use attr_glob::{Pattern, search};
 use attr_text::{Assignment, NameRef, StateRef};
 use bitflags::Flags;
 use bstr::BStr;
@@ -44,62 +46,100 @@ impl search::Pattern for Attributes {
         bytes: &[u8],
         _source: &str,
     ) -> Result<(Vec<Mapping<Value>>, Vec<Dropped>), AllocError> {
-        let mut known = KnownTexts::new(alloc);
-        read_buffer(alloc, &mut known, bytes)
+        let mut names = NameSet::new(alloc);
+        let (mut mappings, dropped) = read_buffer(alloc, &mut names, bytes, true)?;
+        forget_all_numbers(&mut mappings);
+        Ok((mappings, dropped))
     }
 }
 
-/// Reads a buffer as the mappings of a list, and returns them with the dropped lines. The items share their names and
-/// values with those that are known.
+fn forget_all_numbers(mappings: &mut [Mapping<Value>])
+    ensures { entries_view mappings.new ≡ map forgotten (entries_view mappings.old) }
+{
+    for mapping in mappings.iter_mut() {
+        forget_numbers(mapping);
+    }
+}
+
+// Takes the numbers from a line, as before it is numbered.
+fn forget_numbers(mapping: &mut Mapping<Value>)
+    ensures { entry_view mapping.new ≡ forgotten (entry_view mapping.old) }
+{
+    match &mut mapping.value {
+        Value::MacroAssignments { id, assignments } => {
+            *id = AttributeId::default();
+            forget_ids(assignments);
+        }
+        Value::Assignments(assignments) => forget_ids(assignments),
+    }
+}
+
+fn forget_ids(items: &mut [TrackedAssignment])
+    ensures { items.new ≡ map (λ item. tracked item.inner) items.old }
+{
+    for item in items.iter_mut() {
+        item.id = AttributeId::default();
+    }
+}
+
+/// Reads a buffer as the mappings of a list, and returns them with the dropped lines. Lines that define a macro are left out unless
+/// macros are allowed. The lines have the numbers of their names, among which new ones are inserted. A line that is dropped or left out
+/// numbers none.
 ///
 /// # Errors
 ///
-/// If memory runs out.
-pub fn read_buffer(
+/// If memory runs out. Some of the names may have been inserted then.
+pub(crate) fn read_buffer(
     alloc: Global,
-    known: &mut KnownTexts,
+    names: &mut NameSet,
     bytes: &[u8],
+    allow_macros: bool,
 ) -> Result<(Vec<Mapping<Value>>, Vec<Dropped>), AllocError>
-    ensures { IfOk result (λ r. IsReadAs bytes.now r.0.items r.1.items) }
+    ensures read { IfOk result (λ r.
+        IsReadWith allow_macros bytes.now names.old names.new r.0.items r.1.items) }
+    ensures err { OnErr result (AppendsNames names.old names.new) }
 {
     let mut mappings = Vec::new(alloc);
     let mut dropped = Vec::new(alloc);
     for line in parse(alloc, bytes) {
-        let read = read_line(alloc, known, line)?;
-        push_line(&mut mappings, &mut dropped, read)?;
+        let count = names.len();
+        match read_line(alloc, names, line)? {
+            Ok(mapping) => {
+                if is_kept(allow_macros, &mapping) {
+                    mappings.push(mapping)?;
+                } else {
+                    names.truncate(count);
+                }
+            }
+            Err(line) => {
+                names.truncate(count);
+                dropped.push(line)?;
+            }
+        }
     }
     mappings.shrink_to_fit();
     Ok((mappings, dropped))
 }
 
-// Pushes a line to the mappings, or to the dropped lines.
-fn push_line(
-    mappings: &mut Vec<Mapping<Value>>,
-    dropped: &mut Vec<Dropped>,
-    line: Result<Mapping<Value>, Dropped>,
-) -> Result<(), AllocError>
-    ensures kept { OnOk result (entries_view mappings.new.items
-        ≡ entries_view mappings.old.items ++ option_to_list (result_ok (kept_line_view line))) }
-    ensures left_out { OnOk result (dropped.new.items
-        ≡ dropped.old.items ++ option_to_list (result_err (kept_line_view line))) }
+// Whether the line defines no macro, or macros are allowed.
+fn is_kept(allow_macros: bool, mapping: &Mapping<Value>) -> bool
+    ensures { result ≡ (allow_macros || defines_no_macro (entry_view mapping.now)) }
 {
-    match line {
-        Ok(mapping) => mappings.push(mapping)?,
-        Err(line) => dropped.push(line)?,
-    }
-    Ok(())
+    allow_macros || defines_no_macro(mapping)
 }
 
-// The mapping of a line, or the line as a dropped one.
+// The mapping of a line, or the line as a dropped one, of whose names some may have been inserted.
 fn read_line(
     alloc: Global,
-    known: &mut KnownTexts,
+    names: &mut NameSet,
     line: Result<(Kind, Iter<'_>, usize), Error>,
 ) -> Result<Result<Mapping<Value>, Dropped>, AllocError>
-    ensures { IfOk result (λ read. IsLineRead (line_view line.entry) (kept_line_view read)) }
+    ensures read { IfOk result (λ read.
+        IsLineReadWith names.old names.new (line_view line.entry) (kept_line_view read)) }
+    ensures err { OnErr result (AppendsNames names.old names.new) }
 {
     match line {
-        Ok((kind, items, number)) => read_given(alloc, known, kind, items, number),
+        Ok((kind, items, number)) => read_given(alloc, names, kind, items, number),
         Err(Error::MacroName { line, .. }) => Ok(Err(Dropped {
             line,
             reason: DropReason::MacroName,
@@ -114,32 +154,60 @@ fn read_line(
 
 fn read_given(
     alloc: Global,
-    known: &mut KnownTexts,
+    names: &mut NameSet,
     kind: Kind,
     items: Iter<'_>,
     line: usize,
 ) -> Result<Result<Mapping<Value>, Dropped>, AllocError>
-    ensures { IfOk result (λ read. kept_line_view read
-        ≡ line_read (Ok (given_by kind items.entry line))) }
+    ensures read { IfOk result (λ read. ReadsNumbered names_of numbered
+        (line_read (Ok (given_by kind items.entry line))) names.old names.new
+        (kept_line_view read)) }
+    ensures err { OnErr result (AppendsNames names.old names.new) }
 {
-    match read_items(alloc, known, items)? {
-        Ok(assignments) => Ok(Ok(mapping_of(alloc, kind, line, assignments)?)),
+    let id = number_macro(alloc, names, &kind)?;
+    match read_items(alloc, names, items)? {
+        Ok(assignments) => Ok(Ok(Mapping {
+            pattern: pattern_of(alloc, kind)?,
+            value: match id {
+                Some(id) => Value::MacroAssignments { id, assignments },
+                None => Value::Assignments(assignments),
+            },
+            sequence_number: line,
+        })),
         Err(reason) => Ok(Err(Dropped { line, reason })),
     }
 }
 
-// The assignments of a line, or why one of its items is refused.
+// The number of the macro that a line defines, if it defines one.
+fn number_macro(
+    alloc: Global,
+    names: &mut NameSet,
+    kind: &Kind,
+) -> Result<Option<AttributeId>, AllocError>
+    ensures inserted { InsertsNames result
+        (target_names (target_view kind.now)) names.old names.new }
+    ensures id { IfOk result (λ id. id ≡ target_id names.new (target_view kind.now)) }
+{
+    match kind {
+        Kind::Pattern(_) => Ok(None),
+        Kind::Macro(name) => Ok(Some(AttributeId(names.number(alloc, name.as_str())?))),
+    }
+}
+
+// The numbered assignments of a line, or why one of its items is refused. Of its names some may have been inserted then.
 fn read_items(
     alloc: Global,
-    known: &mut KnownTexts,
+    names: &mut NameSet,
     mut items: Iter<'_>,
 ) -> Result<Result<Assignments, DropReason>, AllocError>
-    ensures { IfOk result (λ read. result_map_both (λ a. a.items) (λ reason. reason) read
-        ≡ items_read items.entry) }
+    ensures read { IfOk result (λ read. ReadsNumbered item_names numbered_items
+        (items_read items.entry) names.old names.new
+        (result_map_both (λ a. a.items) (λ reason. reason) read)) }
+    ensures err { OnErr result (AppendsNames names.old names.new) }
 {
     let mut assignments = SmallVec::new(alloc);
     while let Some((name, state)) = items.next_parts() {
-        match read_item(alloc, known, name, state)? {
+        match read_item(alloc, names, name, state)? {
             Ok(assignment) => assignments.push(assignment)?,
             Err(reason) => return Ok(Err(reason)),
         }
@@ -149,19 +217,22 @@ fn read_items(
 
 fn read_item(
     alloc: Global,
-    known: &mut KnownTexts,
+    names: &mut NameSet,
     name: &[u8],
     state: StateRef<'_>,
 ) -> Result<Result<TrackedAssignment, DropReason>, AllocError>
-    ensures { IfOk result (λ read. read ≡ result_map_both tracked reason_of
-        (with_state (checked_name name.now) (state_view state.entry))) }
+    ensures read { IfOk result (λ read. ReadsNumbered item_name numbered_item
+        (result_map_both tracked reason_of
+        (with_state (checked_name name.now) (state_view state.entry)))
+        names.old names.new read) }
+    ensures err { OnErr result (AppendsNames names.old names.new) }
 {
-    match known.name(alloc, name)? {
-        Ok(name) => Ok(Ok(TrackedAssignment {
-            id: AttributeId::default(),
+    match names.number_item(alloc, name)? {
+        Ok(number) => Ok(Ok(TrackedAssignment {
+            id: AttributeId(number),
             inner: Assignment {
-                name,
-                state: known.state(alloc, state)?,
+                name: names.share(number)?,
+                state: names.state(alloc, state)?,
             },
         })),
         Err(AttrError::InvalidName(_)) => Ok(Err(DropReason::InvalidName)),
@@ -169,41 +240,18 @@ fn read_item(
     }
 }
 
-fn mapping_of(
-    alloc: Global,
-    kind: Kind,
-    line: usize,
-    assignments: Assignments,
-) -> Result<Mapping<Value>, AllocError>
-    ensures { IfOk result (λ mapping. entry_view mapping
-        ≡ entry_for (target_view kind) line assignments.items) }
+// The pattern of a line. That of a line that defines a macro matches no path (own).
+fn pattern_of(alloc: Global, kind: Kind) -> Result<Pattern, AllocError>
+    ensures { IfOk result (λ pattern. pattern_view pattern ≡ target_pattern (target_view kind)) }
 {
     match kind {
-        Kind::Pattern(pattern) => Ok(Mapping {
-            pattern,
-            value: Value::Assignments(assignments),
-            sequence_number: line,
-        }),
-        Kind::Macro(name) => Ok(Mapping {
-            pattern: macro_pattern(alloc, name.as_str())?,
-            value: Value::MacroAssignments {
-                id: AttributeId::default(),
-                assignments,
-            },
-            sequence_number: line,
+        Kind::Pattern(pattern) => Ok(pattern),
+        Kind::Macro(name) => Ok(Pattern {
+            text: Vec::from_slice(alloc, name.as_str().as_bytes())?,
+            mode: macro_mode(),
+            first_wildcard_pos: None,
         }),
     }
-}
-
-// The pattern of a line that defines a macro, which matches no path (own).
-fn macro_pattern(alloc: Global, name: &str) -> Result<attr_glob::Pattern, AllocError>
-    ensures { IfOk result (λ pattern. pattern_view pattern ≡ macro_pattern name.now) }
-{
-    Ok(attr_glob::Pattern {
-        text: Vec::from_slice(alloc, name.as_bytes())?,
-        mode: macro_mode(),
-        first_wildcard_pos: None,
-    })
 }
 
 // The bits of the five flags.
@@ -213,17 +261,6 @@ fn macro_mode() -> Mode
     ensures { mode_bits result ≡ all_flags }
 {
     Mode::from_bits_retain(ALL_BITS)
-}
-
-/// The mappings that define no macro, in their order. It takes no memory.
-pub fn without_macros(mut mappings: Vec<Mapping<Value>>) -> Vec<Mapping<Value>>
-    ensures left { entries_view result.items
-        ≡ filter defines_no_macro (entries_view mappings.items) }
-    ensures valid { macros_valid (entries_view mappings.items) ≡ true →
-        macros_valid (entries_view result.items) ≡ true }
-{
-    mappings.retain(|mapping| defines_no_macro(mapping));
-    mappings
 }
 
 /// Whether a line defines a macro.

@@ -24,11 +24,6 @@ lines-entries : (mappings : List (Mapping Value)) → listed_lines mappings ≡ 
 lines-entries [] = refl
 lines-entries (m ∷ ms) = ap (λ r. record { pattern = pattern_view m.pattern; number = m.sequence_number } ∷ r) (lines-entries ms)
 
-numbered-entries : (names : List (List ℕ)) (entries : List Entry) → map numbered_pattern (numbered_lines names entries)
-    ≡ map numbered_pattern entries
-numbered-entries names [] = refl
-numbered-entries names (e ∷ es) = ap (λ r. numbered_pattern e ∷ r) (numbered-entries names es)
-
 -- the pattern of the line with an index is that of the line of the list there
 pub entry_pattern : (lines : List IndexedLine) (ms : List (Mapping Value)) (index : ℕ) (line : IndexedLine) →
     indexed_lines lines ≡ listed_lines ms → index < length ms → line ≡ get_or lines index line →
@@ -49,10 +44,6 @@ same_lines before after e = lines-entries after ∙ ap (map numbered_pattern) e 
 pub same_patterns : (before after : List (Mapping Value)) → entries_view after ≡ entries_view before → patterns_of after ≡ patterns_of before
 same_patterns before after e = lines_patterns after ∙ ap (map (λ (entry : Entry). entry.pattern)) e ∙ sym (lines_patterns before)
 
-pub numbered_lines_in : (names : List (List ℕ)) (before after : List (Mapping Value)) → entries_view after ≡ numbered_lines names
-    (entries_view before) → listed_lines after ≡ listed_lines before
-numbered_lines_in names before after e = grind (arith, lines-entries, numbered-entries)
-
 entry-numbered : (names : List (List ℕ)) (pattern : Reading) (items : List _) (line : ℕ) (macro : Option _)
     → IsRead (record { pattern = pattern; macro = macro; items = items; line = line }) → IsRead
     (numbered names (record { pattern = pattern; macro = macro; items = items; line = line }))
@@ -64,12 +55,3 @@ numbered_read names [] h = All-nil IsRead
 numbered_read names (e ∷ es) h =
     All-cons IsRead (numbered names e) (numbered_lines names es) (entry-numbered names e.pattern e.items e.line e.macro (All-head IsRead e es h))
     (numbered_read names es (All-tail IsRead e es h))
-
--- what is written through a slice over all of a vector
-pub written : {X : Type 0} (old new : List X) (n : ℕ) → n ≡ length old → length new ≡ length old → take n (new ++ drop (length new) old) ≡ new
-written old new n e same = ap (λ k. take k (new ++ drop (length new) old)) (e ∙ sym same) ∙ take-append_seam new (drop (length new) old)
-
--- a numbered list is as long as it was
-pub numbered_length : (names : List (List ℕ)) (before after : List (Mapping Value)) → entries_view after ≡ numbered_lines names (entries_view before)
-    → length after ≡ length before
-numbered_length names before after e = grind (arith, length-map)

@@ -1,6 +1,6 @@
 //! A list of a search, with the index of its lines, which is made once.
 
-ghost use Rattle.std.specs.Prelude.{◌≡◌, ◌<◌, None, length, true, false, IfOk, OnOk, OnErr, option_map, string_bytes};
+ghost use Rattle.std.specs.Prelude.{◌≡◌, ◌<◌, None, length, false, All, IfOk, OnOk, OnErr, option_map, string_bytes};
 ghost use Rattle.bstr.specs.BStr.{bstr_bytes};
 ghost use Rattle.std.specs.List.{list_all};
 ghost use Rattle.attr_glob.specs.Candidates.{has_macro_mode};
@@ -10,12 +10,10 @@ ghost use Rattle.attr_search.specs.inner.Trying.{AreTried};
 ghost use Rattle.attr_glob.specs.Views.{base_bytes, patterns_of};
 ghost use Rattle.attr_search.specs.inner.DirectoryKeys.{base_text, keys_of};
 ghost use Rattle.attr_lists.specs.Definitions.{HoldsList, IsSoundCollection, RegistersAs};
-ghost use Rattle.attr_lists.specs.KeptLists.{macros_valid};
 ghost use Rattle.attr_lists.specs.ListViews.{entries_view};
-ghost use Rattle.attr_lists.specs.Numbers.{numbered_lines};
 ghost use Rattle.attr_search.specs.shared.ReadLines.{AreRead};
 ghost use Rattle.attr_glob.specs.Indexed.{indexed_lines, listed_lines};
-ghost use Rattle.attr_lists.specs.shared.Keeping.{StayRegistered};
+ghost use Rattle.attr_lists.specs.shared.Keeping.{IsNumbered};
 
 use crate::directory_keys::{BaseKeys, base_text};
 use crate::macro_lines::are_macros;
@@ -64,34 +62,30 @@ impl IndexedList {
     ghost use Rattle.attr_search.specs.inner.BaseKeys.{is_rooted};
     ghost use Rattle.attr_search.specs.IndexedLists.{listed_view};
 
-    /// Registers a list in the table, under a list id that no registered list has: its items and macros get the numbers
-    /// of their names, and its definitions of macros are active from then on.
+    /// Registers a list in the table, under a list id that no registered list has: its definitions of macros are active from
+    /// then on. Its lines have the numbers of their names.
     ///
     /// # Errors
     ///
     /// If memory runs out. The table is unchanged then.
     pub fn register(
         alloc: Global,
-        mut list: List<Attributes>,
+        list: List<Attributes>,
         names: &mut NameTable,
     ) -> Result<IndexedList, AllocError>
+        requires numbered { All (IsNumbered names.old.names) (entries_view list.patterns.items) }
         requires read { AreRead (entries_view list.patterns.items) }
-        requires valid { macros_valid (entries_view list.patterns.items) ≡ true }
         ensures registered { IfOk result (λ s.
             RegistersAs s.list_id (entries_view list.patterns.items) names.old names.new) }
-        ensures lines { IfOk result (λ s. entries_view s.list.patterns.items
-            ≡ numbered_lines names.new.names (entries_view list.patterns.items)) }
-        ensures source { IfOk result (λ s. s.list.source ≡ list.source) }
-        ensures base { IfOk result (λ s. s.list.base ≡ list.base) }
+        ensures list { IfOk result (λ s. s.list ≡ list) }
         ensures holds { IfOk result (λ s.
-            HoldsList names.new s.list_id (entries_view s.list.patterns.items)) }
-        ensures others { OnOk result (StayRegistered names.old names.new) }
+            HoldsList names.new s.list_id (entries_view list.patterns.items)) }
         ensures sound { OnOk result (IsSoundCollection names.new) }
         ensures refused { OnErr result (names.new ≡ names.old) }
     {
         let index = Rc::new(alloc, Index::of(alloc, &list)?)?;
         let keys_of_base = BaseKeys::of(alloc, base_text(&list.base))?;
-        let list_id = names.add(alloc, &mut list.patterns)?;
+        let list_id = names.register(alloc, &list.patterns)?;
         let is_idle = are_macros(&list.patterns);
         let base_keys = if is_idle { IDLE_KEYS } else { keys_of_base };
         Ok(IndexedList {

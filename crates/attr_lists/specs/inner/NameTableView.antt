@@ -28,6 +28,15 @@ pub record AreWhole (p : Parts) : Type 0 where
 abbrev pub IsNameTable : Inside → Type 0
 IsNameTable table = AreWhole table.parts
 
+-- what is left of reading lines that ran out of memory: some of their names
+pub record IsPartlyRead (old new : Parts) : Type 0 where
+  pub names : AppendsNames old.names new.names
+  pub counted : length old.entries.items ≤ length new.entries.items
+  pub entries : AreEntries new.entries.items
+  pub definitions : (number : ℕ) → definitions_at new.entries.items number ≡ definitions_at old.entries.items number
+  pub lists : new.lists.items ≡ old.lists.items
+  pub macros : new.macros ≡ old.macros
+
 -- what is left of an addition that ran out of memory: some of the list's names and definitions
 pub record IsPartlyAdded (list_id : ℕ) (old new : Parts) : Type 0 where
   pub names : AppendsNames old.names new.names

@@ -1,18 +1,21 @@
 //! The parts of a name table, and the steps that add a list to them and remove one.
-ghost use Rattle.std.specs.Prelude.{◌≡◌, ◌↔◌, true, length, OnOk, OnErr, IsTrue};
+ghost use Rattle.std.specs.Prelude.{◌≡◌, ◌↔◌, true, length, take, All, IfOk, OnOk, OnErr, IsTrue};
 ghost use Rattle.attr_lists.specs.Definitions.{with_list, without_list, HoldsList};
+ghost use Rattle.attr_lists.specs.shared.Keeping.{IsNumbered};
+ghost use Rattle.attr_lists.specs.shared.Reading.{IsReadWith};
 ghost use Rattle.attr_lists.specs.KeptLists.{macros_valid};
 ghost use Rattle.attr_lists.specs.ListViews.{entries_view};
 ghost use Rattle.attr_lists.specs.inner.EntryViews.{numbered_view};
 ghost use Rattle.attr_lists.specs.inner.Registered.{IsAbove, registered_views};
-ghost use Rattle.attr_lists.specs.inner.NameTableView.{parts_view, AreWhole, IsPartlyAdded};
+ghost use Rattle.attr_lists.specs.inner.NameTableView.{parts_view, AreWhole, IsPartlyAdded, IsPartlyRead};
 ghost use Rattle.attr_lists.specs.declared.name_table.parts.Parts.{Parts};
 
 use crate::name_table::entry::NameEntry;
 use crate::name_table::name_set::NameSet;
 use crate::name_table::registered::{ListMacros, has_lines, index_of};
 use crate::name_table::{entry, macros, numbers};
-use crate::types::Value;
+use crate::parser::read_buffer;
+use crate::types::{Dropped, Value};
 use attr_glob::search::pattern::Mapping;
 use std::alloc::{AllocError, Global};
 use std::collections::BTreeSet;
@@ -43,7 +46,31 @@ impl Drop for Parts {
 }
 
 impl Parts {
-    /// Numbers a list, and adds its names and its definitions under a fresh list id.
+    /// Reads a buffer as the lines of a list, with the numbers of their names, and returns them with the dropped lines. New names get
+    /// entries.
+    ///
+    /// # Errors
+    ///
+    /// If memory runs out. Some names may have been added then, which `roll_back` removes.
+    pub(super) fn read(
+        &mut self,
+        alloc: Global,
+        bytes: &[u8],
+        allow_macros: bool,
+    ) -> Result<(Vec<Mapping<Value>>, Vec<Dropped>), AllocError>
+        requires whole { AreWhole self.old }
+        ensures read { IfOk result (λ r. IsReadWith
+            allow_macros bytes.now self.old.names self.new.names r.0.items r.1.items) }
+        ensures whole { OnOk result (AreWhole self.new) }
+        ensures lists { self.new.lists ≡ self.old.lists }
+        ensures err { OnErr result (IsPartlyRead self.old self.new) }
+    {
+        let read = read_buffer(alloc, &mut self.names, bytes, allow_macros)?;
+        entry::extend(alloc, &mut self.entries, self.names.len())?;
+        Ok(read)
+    }
+
+    /// Numbers a list, and registers it under a fresh list id.
     ///
     /// # Errors
     ///
@@ -65,8 +92,32 @@ impl Parts {
         ensures whole { OnOk result (AreWhole self.new) }
         ensures err { OnErr result (IsPartlyAdded list_id self.old self.new) }
     {
-        let macros = numbers::number_list(alloc, &mut self.names, mappings)?;
+        numbers::number_list(alloc, &mut self.names, mappings)?;
         entry::extend(alloc, &mut self.entries, self.names.len())?;
+        self.register(alloc, list_id, mappings)?;
+        Ok(())
+    }
+
+    /// Registers numbered lines under a fresh list id, with the macros that they define.
+    ///
+    /// # Errors
+    ///
+    /// If memory runs out. Some definitions may have been added then, which `roll_back` removes.
+    pub(super) fn register(
+        &mut self,
+        alloc: Global,
+        list_id: usize,
+        mappings: &[Mapping<Value>],
+    ) -> Result<(), AllocError>
+        requires numbered { All (IsNumbered self.old.names) (entries_view mappings.now) }
+        requires whole { AreWhole self.old }
+        requires above { IsAbove list_id (registered_views self.old.lists.items) }
+        ensures added { OnOk result (parts_view self.new
+            ≡ with_list list_id (entries_view mappings.now) (parts_view self.old)) }
+        ensures whole { OnOk result (AreWhole self.new) }
+        ensures err { OnErr result (IsPartlyAdded list_id self.old self.new) }
+    {
+        let macros = numbers::macros_of(alloc, mappings)?;
         macros::insert_macros(&mut self.macros, &macros)?;
         entry::define_list(&mut self.entries, list_id, &macros)?;
         self.lists.push(ListMacros { list_id, macros })?;
@@ -80,9 +131,19 @@ impl Parts {
             IsAbove list_id (registered_views start.lists.items) →
             (parts_view self.new ≡ parts_view start) × AreWhole self.new }
     {
+        self.take_back(count);
+        entry::take_back(&mut self.entries, list_id);
+    }
+
+    /// Removes the names whose numbers are `count` or greater, and their entries.
+    pub(super) fn take_back(&mut self, count: usize)
+        ensures names { self.new.names ≡ take count self.old.names }
+        ensures entries { self.new.entries.items ≡ take count self.old.entries.items }
+        ensures lists { self.new.lists ≡ self.old.lists }
+        ensures macros { self.new.macros ≡ self.old.macros }
+    {
         self.names.truncate(count);
         self.entries.truncate(count);
-        entry::take_back(&mut self.entries, list_id);
     }
 
     /// Removes the list with this list id, and its definitions.

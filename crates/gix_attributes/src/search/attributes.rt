@@ -1,12 +1,10 @@
 //! A search: its lists of patterns, how they are added and removed, and how a path is matched against them.
 
-ghost use Rattle.std.specs.Prelude.{◌≡◌, ◌≤◌, IsTrue, Ok, true, false, [], MatchOption, IfNone, IfSome, option_map, ◌∷◌, ◌++◌, IfOk, OnOk, OnErr, Some, length, filter, string_bytes, if◌then◌else◌};
+ghost use Rattle.std.specs.Prelude.{◌≡◌, ◌≤◌, IsTrue, Ok, true, false, [], MatchOption, IfNone, IfSome, option_map, ◌∷◌, ◌++◌, IfOk, OnOk, OnErr, Some, length, string_bytes};
 ghost use Rattle.std.specs.Option.{option_copied, option_to_list};
 ghost use Rattle.attr_glob.specs.Views.{base_bytes};
-ghost use Rattle.attr_lists.specs.KeptLists.{defines_no_macro, kept_list_where, dropped_lines, macros_valid};
-ghost use Rattle.attr_lists.specs.ListViews.{entries_view};
+ghost use Rattle.attr_lists.specs.KeptLists.{kept_list_where, dropped_lines};
 ghost use Rattle.attr_search.specs.ListView.{list_view};
-ghost use Rattle.attr_search.specs.shared.ReadLines.{AreRead};
 ghost use Rattle.attr_table.specs.Cut.{IsSearched};
 ghost use Rattle.attr_table.specs.Table.{IsStable, OneTable, Table};
 ghost use Rattle.attr_table.specs.Work.{newly_filled, work_of};
@@ -25,9 +23,9 @@ ghost use Rattle.gix_attributes.specs.SearchViews.{lists_in, list_ids_in, Holds,
 
 use crate::search::{MetadataCollection, Outcome};
 use attr_glob::pattern::Case;
-use attr_glob::search::pattern::{List, Mapping, base_of};
-use attr_lists::parser::{defines_macros, without_macros};
-use attr_lists::types::{Attributes, Dropped, Value};
+use attr_glob::search::pattern::{List, base_of};
+use attr_lists::parser::defines_macros;
+use attr_lists::types::{Attributes, Dropped};
 use attr_search::indexed_list::IndexedList;
 use attr_search::indexed_lists::IndexedLists;
 use attr_search::path_query::PathQuery;
@@ -135,13 +133,14 @@ impl Search {
         ensures unchanged { OnErr result (collection.new ≡ collection.old) }
     {
         self.patterns.reserve()?;
-        let (patterns, dropped) = read_lines(alloc, collection, bytes, allow_macros)?;
+        let count = collection.len();
+        let (patterns, dropped) = collection.read_lines(alloc, bytes, allow_macros)?;
         let list = List {
             patterns,
             source: Some(source),
             base,
         };
-        let indexed = collection.register(alloc, list)?;
+        let indexed = collection.register(alloc, list, count)?;
         self.patterns.push_reserved(indexed);
         Ok(dropped)
     }
@@ -270,36 +269,5 @@ impl Search {
         ensures { result.now ≡ self.now.patterns }
     {
         &self.patterns
-    }
-}
-
-// The mappings of a buffer, without numbers so far, and its dropped lines.
-fn read_lines(
-    alloc: Global,
-    collection: &mut MetadataCollection,
-    bytes: &[u8],
-    allow_macros: bool,
-) -> Result<(Vec<Mapping<Value>>, Vec<Dropped>), AllocError>
-    ensures lines { IfOk result (λ r.
-        entries_view r.0.items ≡ kept_list_where allow_macros bytes.now) }
-    ensures dropped { IfOk result (λ r. r.1.items ≡ dropped_lines bytes.now) }
-    ensures read { IfOk result (λ r. AreRead (entries_view r.0.items)) }
-    ensures valid { IfOk result (λ r. macros_valid (entries_view r.0.items) ≡ true) }
-    ensures same { collection.new ≡ collection.old }
-{
-    let (mappings, dropped) = collection.read_buffer(alloc, bytes)?;
-    Ok((allowed(mappings, allow_macros), dropped))
-}
-
-// The mappings, without those that define a macro if macros are not allowed.
-fn allowed(mappings: Vec<Mapping<Value>>, allow_macros: bool) -> Vec<Mapping<Value>>
-    ensures { let entries = entries_view mappings.items in
-        entries_view result.items
-        ≡ (if allow_macros then entries else filter defines_no_macro entries) }
-{
-    if allow_macros {
-        mappings
-    } else {
-        without_macros(mappings)
     }
 }

@@ -1,10 +1,11 @@
 //! The collection of attributes: their names by number, and the definitions of macros of the registered lists.
 
-ghost use Rattle.std.specs.Prelude.{◌≡◌, ◌↔◌, ◌<◌, ℕ, [], length, true, false, IfOk, OnOk, OnErr, IsTrue, nat_eq, ◌==◌, slice_get, option_copied};
+ghost use Rattle.std.specs.Prelude.{◌≡◌, ◌↔◌, ◌<◌, ℕ, [], length, true, false, All, IfOk, OnOk, OnErr, IsTrue, nat_eq, ◌==◌, slice_get, option_copied};
 ghost use Rattle.attr_lists.specs.Collections.{empty_collection};
 ghost use Rattle.attr_lists.specs.Numbers.{AppendsNames, number_of, numbered_lines};
 ghost use Rattle.attr_lists.specs.Definitions.{IsSoundCollection, RegistersAs, macro_body, without_list};
-ghost use Rattle.attr_lists.specs.KeptLists.{macros_valid, IsReadAs};
+ghost use Rattle.attr_lists.specs.KeptLists.{macros_valid};
+ghost use Rattle.attr_lists.specs.shared.Reading.{IsReadWith, with_first};
 ghost use Rattle.attr_lists.specs.ListViews.{entries_view};
 ghost use Rattle.attr_lists.specs.NameViews.{names_from, names_left};
 ghost use Rattle.std.specs.List.{IsDistinct, list_any};
@@ -17,15 +18,14 @@ ghost use Rattle.attr_search.specs.Settings.{LinesAreNamed};
 ghost use Rattle.gix_attributes.specs.Keeping.{KeepsSearches, RegistersLast};
 ghost use Rattle.gix_attributes.specs.Registers.{RegistersExactly};
 ghost use Rattle.gix_attributes.specs.inner.HeldLists.{AreHeldLists};
-ghost use Rattle.attr_lists.specs.shared.Keeping.{OthersStayRegistered};
+ghost use Rattle.attr_lists.specs.shared.Keeping.{IsNumbered, OthersStayRegistered};
 ghost use Rattle.attr_lists.specs.shared.MacroNumbers.{ListsMacros};
 ghost use Rattle.gix_attributes.specs.inner.Registering.{Registers};
 
 use crate::Search;
 use attr_glob::search::pattern::{List, Mapping};
-use attr_lists::known_texts::KnownTexts;
 use attr_lists::name_table::{NameTable, Names};
-use attr_lists::parser::{macros_valid, read_buffer};
+use attr_lists::parser::macros_valid;
 use attr_lists::types::{Assignments, AttributeId, Attributes, Dropped, Metadata, Value};
 use attr_search::indexed_list::IndexedList;
 use attr_search::indexed_lists::IndexedLists;
@@ -40,14 +40,10 @@ use std::rc::Rc;
 /// A name gets the next number when it is first seen, and keeps it for good. The definitions of a list are active as
 /// long as the list is registered, and the body of a macro is that of its last active definition (gitattributes page: a
 /// later definition replaces an earlier one). Each list is registered under a list id of its own. Lists that a search reads
-/// share their names and values with those that were read of late, of which the collection has up to 64 each.
-#[derive(Drop)]
-#[derive_where(Debug)]
+/// share their names with the collection, and their values with those that were read of late, of which it has up to 64.
+#[derive(Debug, Drop)]
 pub struct MetadataCollection {
     numbering: NameTable,
-    // The names and values that lists had of late.
-    #[derive_where(skip)]
-    known: KnownTexts,
 }
 
 impl Model for MetadataCollection {
@@ -71,7 +67,6 @@ impl MetadataCollection {
     {
         MetadataCollection {
             numbering: NameTable::new(alloc),
-            known: KnownTexts::new(alloc),
         }
     }
 
@@ -164,31 +159,44 @@ impl MetadataCollection {
         self.numbering.iter()
     }
 
-    // Reads a buffer as the mappings of a list, and returns them with the dropped lines.
-    pub(crate) fn read_buffer(
+    // Reads a buffer as the lines of a list, with the numbers of their names, and returns them with the dropped lines. Lines that
+    // define a macro are left out unless macros are allowed.
+    pub(crate) fn read_lines(
         &mut self,
         alloc: Global,
         bytes: &[u8],
+        allow_macros: bool,
     ) -> Result<(Vec<Mapping<Value>>, Vec<Dropped>), AllocError>
-        ensures read { IfOk result (λ r. IsReadAs bytes.now r.0.items r.1.items) }
-        ensures same { self.new ≡ self.old }
+        ensures read { IfOk result (λ r. IsReadWith
+            allow_macros bytes.now self.old.names self.new.names r.0.items r.1.items) }
+        ensures lists { self.new.lists ≡ self.old.lists }
+        ensures sound { IsSoundCollection self.old × IsSoundCollection self.new }
+        ensures refused { OnErr result (self.new ≡ self.old) }
     {
-        read_buffer(alloc, &mut self.known, bytes)
+        self.numbering.read(alloc, bytes, allow_macros)
     }
 
-    // Registers a list under a list id that no registered list has, until it is removed.
+    // Registers a list whose lines have the numbers of their names, under a list id that no registered list has, until it is
+    // removed. If memory runs out, the names whose numbers are `count` or greater are removed.
     pub(crate) fn register(
         &mut self,
         alloc: Global,
         list: List<Attributes>,
+        count: usize,
     ) -> Result<IndexedList, AllocError>
+        requires numbered { All (IsNumbered self.old.names) (entries_view list.patterns.items) }
         requires read { AreRead (entries_view list.patterns.items) }
-        requires valid { macros_valid (entries_view list.patterns.items) ≡ true }
+        requires first { IsSoundCollection (with_first count self.old) }
         ensures registered { IfOk result (Registers self.old self.new list) }
-        ensures refused { OnErr result (self.new ≡ self.old) }
+        ensures refused { OnErr result (self.new ≡ with_first count self.old) }
     {
-        let indexed = IndexedList::register(alloc, list, &mut self.numbering)?;
-        Ok(indexed)
+        match IndexedList::register(alloc, list, &mut self.numbering) {
+            Ok(indexed) => Ok(indexed),
+            Err(error) => {
+                self.numbering.take_back(count);
+                Err(error)
+            }
+        }
     }
 
     // Removes the list that is registered under the list id, if there is one, with its definitions.
@@ -237,7 +245,6 @@ impl MetadataCollection {
     {
         Ok(MetadataCollection {
             numbering: self.numbering.clone(alloc)?,
-            known: KnownTexts::new(alloc),
         })
     }
 }

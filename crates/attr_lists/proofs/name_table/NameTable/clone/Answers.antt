@@ -15,7 +15,7 @@ invariant_of-result c =
     let p = c.self.inside.parts in
     let entries = c.in_ok-entries.entries in
     let q : Parts = record { names = c.in_ok-names.names; entries = entries; lists = c.in_ok-lists.lists; macros = c.in_ok-macros.macros } in
-    let names : q.names ≡ p.names = c.in_ok-names.ensures.cases in
+    let names : q.names ≡ p.names = c.in_ok-names.ensures in
     let lists = lists_copied _ _ c.in_ok-lists.ensures.cases.0 in
     let definitions : all_definitions entries.items ≡ all_definitions p.entries.items =
     c.in_ok-entries.ensures.definitions ∙ ap all_definitions c.deref.ensures.value in

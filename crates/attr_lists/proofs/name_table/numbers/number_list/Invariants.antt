@@ -1,6 +1,4 @@
-use Rattle.std.proofs.Common.{◌≡◌, ◌++◌, ℕ, List, drop, map, take}
-use Rattle.attr_lists.specs.Definitions.{macros_defined}
-use Rattle.attr_lists.specs.inner.Registered.{numbered_body}
+use Rattle.std.proofs.Common.{◌≡◌, ◌++◌, ℕ, List, drop}
 use Rattle.attr_lists.specs.ListViews.{entries_view}
 use Rattle.attr_lists.specs.Numbers.{names_in, numbered, with_names}
 use Rattle.attr_lists.proofs.ListLemmas.{front}
@@ -12,6 +10,5 @@ invariant-loop-mapping l = record {
       (names_in (entries_view l.initial.mappings));
   numbered : entries_view l.mappings ≡ front (numbered (with_names l.initial.names (names_in (entries_view l.initial.mappings)))) l.mapping-index
       (entries_view l.initial.mappings);
-  macros : map numbered_body l.macros.items ≡ macros_defined (entries_view (take l.mapping-index l.mappings));
   extends : (more : List (List ℕ)) × (l.names ≡ l.initial.names ++ more);
 }

@@ -1,16 +1,18 @@
-use Rattle.std.proofs.Common.{subst}
+use Rattle.std.proofs.Common.{All, subst, sym, ap, ◌∙◌}
+use Rattle.attr_lists.specs.Collections.{Collection}
+use Rattle.attr_lists.specs.Definitions.{IsSoundCollection}
+use Rattle.attr_lists.specs.ListViews.{entries_view}
+use Rattle.attr_lists.specs.shared.Keeping.{IsNumbered}
+use Rattle.attr_lists.specs.shared.Reading.{with_first}
 use Rattle.gix_attributes.specs.inner.Registering.{Registers}
 use Rattle.gix_attributes.proofs.search.collection.MetadataCollection.register.Goals as goal
 
-pub returns-clause-registered : goal.returns-clause-registered
-returns-clause-registered c =
-    let ensured = c.in_ok-indexed.ensures in
-    subst (λ known. Registers known c.register.new.names c.args.list c.in_ok-indexed.indexed) c.self.view_is (record {
+pub returns-in-Ok-clause-registered : goal.returns-in-Ok-clause-registered
+returns-in-Ok-clause-registered c =
+    let ensured = c.in-Ok.ensures in
+    subst (λ known. Registers known c.register.new.names c.args.list c.in-Ok.indexed) c.self.view_is (record {
       registered = ensured.registered;
-      lines = ensured.lines;
-      source = ensured.source;
-      base = ensured.base;
+      same = ensured.list;
       holds = ensured.holds;
-      others = ensured.others;
       sound = ensured.sound;
     })

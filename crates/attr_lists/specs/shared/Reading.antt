@@ -1,0 +1,28 @@
+-- What is read with the numbers of its names (own).
+use Rattle.std.specs.Prelude.{◌≡◌, ℕ, Bool, List, Result, Ok, Err, MatchResult, take}
+use Rattle.attr_glob.specs.declared.search.pattern.Mapping.{Mapping}
+use Rattle.attr_lists.specs.Collections.{Collection}
+use Rattle.attr_lists.specs.KeptLists.{kept_list_where, dropped_lines}
+use Rattle.attr_lists.specs.ListViews.{entries_view}
+use Rattle.attr_lists.specs.Numbers.{AppendsNames, names_in, numbered_lines, with_names}
+use Rattle.attr_lists.specs.declared.types.Dropped.{Dropped}
+use Rattle.attr_lists.specs.declared.types.Value.{Value}
+
+-- what is read has the numbers of its names, of which new ones were inserted; of what is refused, some may have been
+abbrev pub ReadsNumbered : {X Y : Type 0} → (X → List (List ℕ)) → (List (List ℕ) → X → X) → Result X Y → List (List ℕ) → List (List ℕ)
+    → Result X Y → Type 0
+ReadsNumbered names number plain old new read =
+    MatchResult plain
+    (λ x. (new ≡ with_names old (names x)) × (read ≡ Ok (number new x)))
+    (λ refusal. AppendsNames old new × (read ≡ Err refusal))
+
+-- the lines of a list that are kept of a buffer have the numbers of their names, of which new ones were inserted in order
+pub record IsReadWith (allow_macros : Bool) (bytes : List ℕ) (old new : List (List ℕ)) (mappings : List (Mapping Value))
+    (dropped : List Dropped) : Type 0 where
+  pub names : new ≡ with_names old (names_in (kept_list_where allow_macros bytes))
+  pub lines : entries_view mappings ≡ numbered_lines new (kept_list_where allow_macros bytes)
+  pub left_out : dropped ≡ dropped_lines bytes
+
+-- a collection with the first of its names alone
+abbrev pub with_first : ℕ → Collection → Collection
+with_first count known = record { names = take count known.names; lists = known.lists }
