@@ -15,6 +15,7 @@ use crate::parse::{AttrError, check_attr, is_reserved};
 use attr_text::{Name, State, StateRef};
 use std::alloc::{AllocError, Global};
 use std::collections::BTreeMap;
+use std::fmt;
 use std::marker::Model;
 use std::rc::RcStr;
 
@@ -22,17 +23,14 @@ use std::rc::RcStr;
 /// texts, in a time that grows with the logarithm of their count, whatever names there are. Most are found among those that were read
 /// lately.
 #[derive(Drop)]
-#[derive_where(Debug)]
 pub(crate) struct NameSet {
     // The text of each name, by its number.
     texts: Vec<RcStr>,
     // The number of each name, by its text.
     numbers: BTreeMap<RcStr, usize>,
     // The numbers of names that were read lately. A name may be gone since.
-    #[derive_where(skip)]
     recent: LastIndexes,
     // The values that were read lately.
-    #[derive_where(skip)]
     values: KnownValues,
 }
 
@@ -225,5 +223,15 @@ impl NameSet {
             recent: LastIndexes::new(),
             values: KnownValues::new(alloc),
         })
+    }
+}
+
+// What was read lately is no content.
+impl fmt::Debug for NameSet {
+    fn fmt<W: fmt::Write>(&self, f: &mut fmt::Formatter<W>) -> fmt::Result {
+        f.debug_struct("NameSet")
+            .field("texts", &self.texts)
+            .field("numbers", &self.numbers)
+            .finish()
     }
 }

@@ -51,7 +51,7 @@ impl Parts {
     ///
     /// # Errors
     ///
-    /// If memory runs out. Some names may have been added then, which `roll_back` removes.
+    /// If memory runs out. Some names may have been added then, which `take_back` removes.
     pub(super) fn read(
         &mut self,
         alloc: Global,
